@@ -1,0 +1,10 @@
+pub mod Lengths
+pub mod Good
+pub mod Items
+pub mod Fields
+pub mod Records
+pub mod Decoding
+pub mod Unfinished
+pub mod Stops
+pub mod FaultLemmas
+pub mod StateLemmas

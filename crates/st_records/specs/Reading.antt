@@ -1,0 +1,111 @@
+-- Reading from the left: a value and the bytes after it, or the first fault that is met. The private readers compute these
+-- functions; of public contracts `Gives` alone is a part.
+use Rattle.std.specs.Prelude.{◌≡◌, ℕ, zero, suc, Bool, List, [], ◌∷◌, length, take, drop, Option, Some, None, Result, Ok, Err, nat_lt, ◌==◌, if◌then◌else◌}
+use Rattle.std.specs.Int.{Width, w32, byte_len, from_le_bytes}
+use Rattle.st_records.specs.declared.limits.RecordFault.{RecordFault}
+use Rattle.st_records.specs.declared.decoder.DecodeFault.{DecodeFault}
+use Rattle.st_records.specs.declared.decoder.DecodeFault.TheVariants.{OutOfMemory, Short, BadKind, Check}
+use Rattle.st_records.specs.declared.record.Phase.{Phase}
+use Rattle.st_records.specs.declared.record.Phase.TheVariants as phases
+use Rattle.st_records.specs.declared.record.Entry.{Entry}
+use Rattle.st_records.specs.declared.record.Record.{Record}
+use Rattle.st_records.specs.declared.record.Record.TheVariants as records
+use Rattle.st_records.specs.Limits.{fault_of}
+
+infixl 10 ◌>>=◌
+abbrev pub ◌>>=◌ : {A B : Type 0} → Result A DecodeFault → (A → Result B DecodeFault) → Result B DecodeFault
+(Ok x) >>= f = f x
+(Err e) >>= f = Err e
+
+-- a call answered this fault where reading meets it, or wanted memory, of which reading takes none
+abbrev pub Fails : {Y : Type 0} → DecodeFault → Result Y DecodeFault → Type 0
+Fails OutOfMemory read = Unit {0}
+Fails Short read = read ≡ Err Short
+Fails BadKind read = read ≡ Err BadKind
+Fails (Check fault) read = read ≡ Err (Check fault)
+
+-- what a call answered, seen by view, is what reading gives, unless memory ran out
+abbrev pub Gives : {X Y : Type 0} → (X → Y) → Result X DecodeFault → Result Y DecodeFault → Type 0
+Gives view (Ok x) read = read ≡ Ok (view x)
+Gives view (Err e) read = Fails e read
+
+-- what takes a value from the front of some bytes
+abbrev pub Reader : Type 0 → Type 0
+Reader A = List ℕ → Result (A × List ℕ) DecodeFault
+
+-- one value, then another
+abbrev pub then_at : {A B : Type 0} → Reader A → Reader B → Reader (A × B)
+then_at a b bytes = a bytes >>= λ x. (b x.1 >>= λ y. Ok ((x.0, y.0), y.1))
+
+-- a value made of another
+abbrev pub made_at : {A B : Type 0} → (A → B) → Reader A → Reader B
+made_at f a bytes = a bytes >>= λ x. Ok (f x.0, x.1)
+
+-- a value that passes a test
+abbrev pub tested_at : {A : Type 0} → (A → Bool) → Reader A → Reader A
+tested_at test a bytes = a bytes >>= λ x. (if test x.0 then Ok x else Err BadKind)
+
+-- a number of some width, the lowest byte first
+abbrev pub uint_at : Width → Reader ℕ
+uint_at w bytes = if nat_lt (length bytes) (byte_len w) then Err Short else Ok (from_le_bytes w (take (byte_len w) bytes), drop (byte_len w) bytes)
+
+-- a number of four bytes
+abbrev pub number_at : Reader ℕ
+number_at = uint_at w32
+
+-- so many bytes
+abbrev pub bytes_at : ℕ → Reader (List ℕ)
+bytes_at n bytes = if nat_lt (length bytes) n then Err Short else Ok (take n bytes, drop n bytes)
+
+-- a name or a command
+unfoldable pub string_at : Reader (List ℕ)
+string_at bytes = number_at bytes >>= λ n. bytes_at n.0 n.1
+
+-- so many strings
+unfoldable pub items_at : ℕ → Reader (List (List ℕ))
+items_at zero bytes = Ok ([], bytes)
+items_at (suc n) bytes = string_at bytes >>= λ first. (items_at n first.1 >>= λ others. Ok (first.0 ∷ others.0, others.1))
+
+-- commands or hidden names
+unfoldable pub strings_at : Reader (List (List ℕ))
+strings_at bytes = number_at bytes >>= λ n. items_at n.0 n.1
+
+-- a listed status
+unfoldable pub status_at : Reader ℕ
+status_at = tested_at (λ n. nat_lt n 257) number_at
+
+-- the status of what did not fail
+unfoldable pub no_status_at : Reader ℕ
+no_status_at = tested_at (λ n. n == 0) number_at
+
+-- a phase and its status
+unfoldable pub phase_at : Reader Phase
+phase_at [] = Err Short
+phase_at (zero ∷ rest) = Err BadKind
+phase_at (suc zero ∷ rest) = made_at (λ _. phases.Begun) no_status_at rest
+phase_at (suc (suc zero) ∷ rest) = made_at (λ _. phases.Done) no_status_at rest
+phase_at (suc (suc (suc zero)) ∷ rest) = made_at phases.Failed status_at rest
+phase_at (suc (suc (suc (suc b))) ∷ rest) = Err BadKind
+
+-- what the state knows of a target
+unfoldable pub entry_at : Reader Entry
+entry_at = made_at (λ x. record { phase = x.0; commands = x.1.0; hidden = x.1.1 }) (then_at phase_at (then_at strings_at strings_at))
+
+-- a record, whether good or not
+unfoldable pub record_at : Reader Record
+record_at [] = Err Short
+record_at (zero ∷ rest) = Err BadKind
+record_at (suc zero ∷ rest) = made_at records.Begun string_at rest
+record_at (suc (suc zero) ∷ rest) = made_at (λ x. records.Done x.0 x.1.0 x.1.1) (then_at string_at (then_at strings_at strings_at)) rest
+record_at (suc (suc (suc zero)) ∷ rest) = made_at (λ x. records.Failed x.0 x.1) (then_at string_at status_at) rest
+record_at (suc (suc (suc (suc zero))) ∷ rest) = made_at (λ x. records.Kept x.0 x.1) (then_at string_at entry_at) rest
+record_at (suc (suc (suc (suc (suc b)))) ∷ rest) = Err BadKind
+
+-- a value that has no fault
+abbrev pub judged : Option RecordFault → Record × List ℕ → Result (Record × List ℕ) DecodeFault
+judged None x = Ok x
+judged (Some fault) x = Err (Check fault)
+
+-- a good record: the check comes last
+unfoldable pub good_at : Reader Record
+good_at bytes = record_at bytes >>= λ x. judged (fault_of x.0) x
