@@ -1,0 +1,16 @@
+pub mod Crash
+pub mod CrashLaws
+pub mod Faults
+pub mod FileDisk
+pub mod FileModel
+pub mod Fuse
+pub mod MemDisk
+pub mod Memory
+pub mod MemoryLaws
+pub mod MomentLaws
+pub mod Moments
+pub mod OverwrittenLaws
+pub mod PowerCut
+pub mod PowerCutLaws
+pub mod Replay
+pub mod TornLaws

@@ -1,0 +1,9 @@
+//! Tests of the disks by their public calls.
+#![tactic(auto)]
+
+#[cfg(test)]
+mod failing_disks;
+#[cfg(test)]
+mod file_disk;
+#[cfg(test)]
+mod memory_disk;
