@@ -1,0 +1,118 @@
+//! One batch behind its gate: the body's length, the number of records, and the records.
+
+ghost use Rattle.std.specs.Prelude.{◌≡◌, ◌≢◌, ◌↔◌, ℕ, ◌<◌, ◌≤◌, ◌^◌, List, ◌++◌, length, IsTrue, IfSome, IfNone, IfOk, MatchBool, MatchOption};
+ghost use Rattle.st_records.specs.declared.record.Record.{Record};
+ghost use Rattle.st_records.specs.declared.decoder.DecodeFault.TheVariants as decode_faults;
+ghost use Rattle.st_records.specs.Encoding.{encoding, number};
+ghost use Rattle.st_records.specs.Limits.{IsGood};
+ghost use Rattle.st_file.specs.Sink.{AddsRecords};
+ghost use Rattle.st_file.specs.Batch.{may_stand, framed, FillBatch, IsBody};
+
+use crate::layout::u32_of;
+use crate::sink::RecordSink;
+use st_records::{DecodeFault, Record, decode};
+use std::alloc::{AllocError, Global};
+
+const MAX_BODY_BYTES: usize = 1 << 30;
+
+/// The number of records, the body and what is behind it. None where they aren't all there or the body is too long.
+fn frame_of(bytes: &[u8]) -> Option<(u32, &[u8], &[u8])>
+    ensures found { IfSome result (λ f. (f.0 < 2 ^ 32) × (length f.1.now ≤ 2 ^ 30)
+        × (bytes.now ≡ number (length f.1.now) ++ (number f.0 ++ (f.1.now ++ f.2.now)))) }
+    ensures none { IfNone result ((count : ℕ) (body rest : List ℕ) → length body ≤ 2 ^ 30 → bytes.now
+        ≢ number (length body) ++ (number count ++ (body ++ rest))) }
+{
+    let (length, rest) = u32_of(bytes)?;
+    let (count, rest) = u32_of(rest)?;
+    let length = length as usize;
+    if length > MAX_BODY_BYTES || length > rest.len() {
+        return None;
+    }
+    let (body, rest) = rest.split_at(length);
+    Some((count, body, rest))
+}
+
+/// Whether a decoder ran out of memory.
+fn is_want_of_memory(fault: &DecodeFault) -> bool
+    ensures { IsTrue result ↔ (fault.now ≡ decode_faults.OutOfMemory) }
+{
+    matches!(fault, DecodeFault::OutOfMemory)
+}
+
+/// The record at the front and the bytes behind it. None where no good record begins the bytes.
+fn record_of(alloc: Global, bytes: &[u8]) -> Result<Option<(Record, &[u8])>, AllocError>
+    ensures found { IfOk result (λ o. IfSome o (λ f. IsGood f.0 × (bytes.now ≡ encoding f.0 ++ f.1.now))) }
+    ensures none { IfOk result (λ o. IfNone o ((r : Record) (rest : List ℕ) → IsGood r
+        → bytes.now ≢ encoding r ++ rest)) }
+{
+    match decode(alloc, bytes) {
+        Ok((record, length)) => {
+            let (_text, rest) = bytes.split_at(length);
+            Ok(Some((record, rest)))
+        }
+        Err(fault) => {
+            if is_want_of_memory(&fault) {
+                return Err(AllocError);
+            }
+            Ok(None)
+        }
+    }
+}
+
+/// Whether this record may stand in a batch, a side's first or a later one.
+fn is_allowed(first: bool, event: &Record) -> bool
+    ensures { result ≡ may_stand first event.now }
+{
+    first || !matches!(event, Record::Kept { .. })
+}
+
+/// Reads all of a body and hands its records on. False where the body isn't just so many records that may stand there.
+fn read_body<S: RecordSink>(
+    alloc: Global,
+    first: bool,
+    count: u32,
+    body: &[u8],
+    sink: &mut S,
+) -> Result<bool, AllocError>
+    ensures { IfOk result (λ whole. MatchBool whole
+        ((rs : List Record) × IsBody first count rs body.now × AddsRecords S.has_taken sink.old sink.new rs)
+        ((rs : List Record) → IsBody first count rs body.now → ⊥)) }
+{
+    let mut rest = body;
+    for _ in 0..count {
+        let Some((record, behind)) = record_of(alloc, rest)? else {
+            return Ok(false);
+        };
+        if !is_allowed(first, &record) {
+            return Ok(false);
+        }
+        sink.take(alloc, record)?;
+        rest = behind;
+    }
+    Ok(rest.is_empty())
+}
+
+/// Reads the batch whose gate stands before these bytes, hands its records on and answers the bytes behind it. None
+/// where no batch goes on so.
+pub(crate) fn read_batch<'a, S: RecordSink>(
+    alloc: Global,
+    first: bool,
+    bytes: &'a [u8],
+    sink: &mut S,
+) -> Result<Option<&'a [u8]>, AllocError>
+    ensures found { IfOk result (λ o. IfSome o (λ rest. (rs : List Record) × FillBatch first rs
+        × (bytes.now ≡ framed rs ++ rest.now) × AddsRecords S.has_taken sink.old sink.new rs)) }
+    ensures none { IfOk result (λ o. IfNone o ((rs : List Record) (rest : List ℕ) → FillBatch first rs
+        → bytes.now ≢ framed rs ++ rest)) }
+{
+    let Some((count, body, rest)) = frame_of(bytes) else {
+        return Ok(None);
+    };
+    if count == 0 {
+        return Ok(None);
+    }
+    if !read_body(alloc, first, count, body, sink)? {
+        return Ok(None);
+    }
+    Ok(Some(rest))
+}

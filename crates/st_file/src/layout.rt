@@ -1,0 +1,107 @@
+//! The header of a side, and the numbers of the format: little endian, at the front of some bytes.
+
+ghost use Rattle.std.specs.Prelude.{◌≡◌, ◌≢◌, ◌↔◌, ℕ, ◌<◌, ◌^◌, List, ◌++◌, length, IsTrue, IfSome, IfNone, IfOk, IfErr};
+ghost use Rattle.std.specs.Int.{w16, w32, w64, to_le_bytes};
+ghost use Rattle.st_file.specs.Layout.{magic, IsNamed, HasHeader};
+ghost use Rattle.st_file.specs.Side.{IsVoid, IsForeign, IsRefused};
+
+use crate::fault::OpenFault;
+use st_disk::Which;
+
+const VERSION: u16 = 1;
+
+const VERSION_PLACE: u64 = 9;
+
+const GENERATION_PLACE: u64 = 11;
+
+/// The two bytes at the front as a number, and the bytes after them.
+fn u16_of(bytes: &[u8]) -> Option<(u16, &[u8])>
+    ensures found { IfSome result (λ r. (r.0 < 2 ^ 16) × (bytes.now ≡ to_le_bytes w16 r.0 ++ r.1.now)) }
+    ensures none { IfNone result (length bytes.now < 2) }
+{
+    if bytes.len() < 2 {
+        return None;
+    }
+    let (front, rest) = bytes.split_at(2);
+    Some((u16::from_le_bytes([front[0], front[1]]), rest))
+}
+
+/// The four bytes at the front as a number, and the bytes after them.
+pub(crate) fn u32_of(bytes: &[u8]) -> Option<(u32, &[u8])>
+    ensures found { IfSome result (λ r. (r.0 < 2 ^ 32) × (bytes.now ≡ to_le_bytes w32 r.0 ++ r.1.now)) }
+    ensures none { IfNone result (length bytes.now < 4) }
+{
+    if bytes.len() < 4 {
+        return None;
+    }
+    let (front, rest) = bytes.split_at(4);
+    let number = u32::from_le_bytes([front[0], front[1], front[2], front[3]]);
+    Some((number, rest))
+}
+
+/// The eight bytes at the front as a number, and the bytes after them.
+fn u64_of(bytes: &[u8]) -> Option<(u64, &[u8])>
+    ensures found { IfSome result (λ r. (r.0 < 2 ^ 64) × (bytes.now ≡ to_le_bytes w64 r.0 ++ r.1.now)) }
+    ensures none { IfNone result (length bytes.now < 8) }
+{
+    if bytes.len() < 8 {
+        return None;
+    }
+    let (front, rest) = bytes.split_at(8);
+    let number = u64::from_le_bytes([
+        front[0], front[1], front[2], front[3], front[4], front[5], front[6], front[7],
+    ]);
+    Some((number, rest))
+}
+
+/// The bytes behind the name that a state file begins with, after its gate.
+fn after_name(bytes: &[u8]) -> Option<&[u8]>
+    ensures found { IfSome result (λ rest. bytes.now ≡ magic ++ rest.now) }
+    ensures none { IfNone result ((rest : List ℕ) → bytes.now ≢ magic ++ rest) }
+{
+    match bytes {
+        [b'D', b'M', b'K', b'S', b'T', b'A', b'T', b'E', rest @ ..] => Some(rest),
+        _ => None,
+    }
+}
+
+/// Whether the side holds nothing yet.
+pub(crate) fn is_void(bytes: &[u8]) -> bool
+    ensures { IsTrue result ↔ IsVoid bytes.now }
+{
+    matches!(bytes, [] | [_] | [0, ..])
+}
+
+/// The bytes behind the name of a state file that isn't void.
+fn opened(bytes: &[u8]) -> Option<&[u8]>
+    requires { IsVoid bytes.now → ⊥ }
+    ensures found { IfSome result (λ rest. IsNamed bytes.now rest.now) }
+    ensures none { IfNone result (IsForeign bytes.now) }
+{
+    let (_gate, behind) = bytes.split_at(1);
+    after_name(behind)
+}
+
+/// The generation of a side that isn't void, and the bytes behind its header.
+pub(crate) fn header_of(side: Which, bytes: &[u8]) -> Result<(u64, &[u8]), OpenFault>
+    requires { IsVoid bytes.now → ⊥ }
+    ensures whole { IfOk result (λ h. HasHeader bytes.now h.0 h.1.now) }
+    ensures refused { IfErr result (λ fault. IsRefused side bytes.now fault) }
+{
+    let Some(rest) = opened(bytes) else {
+        return Err(OpenFault::NotState(side));
+    };
+    let Some((version, rest)) = u16_of(rest) else {
+        return Err(OpenFault::Damaged(side, VERSION_PLACE));
+    };
+    if version != VERSION {
+        return Err(OpenFault::UnknownVersion(side, version));
+    }
+    let Some((generation, rest)) = u64_of(rest) else {
+        return Err(OpenFault::Damaged(side, GENERATION_PLACE));
+    };
+    if generation == 0 {
+        return Err(OpenFault::Damaged(side, GENERATION_PLACE));
+    }
+    Ok((generation, rest))
+}

@@ -1,0 +1,126 @@
+//! One side, read from its first byte to its closed gate.
+
+ghost use Rattle.std.specs.Prelude.{◌≡◌, ◌⊎◌, ℕ, List, [], IfSome, IfNone, IfOk, IfErr};
+ghost use Rattle.st_disk.specs.declared.which.Which.{Which};
+ghost use Rattle.st_file.specs.Layout.{HasHeader};
+ghost use Rattle.st_records.specs.declared.record.Record.{Record};
+ghost use Rattle.st_file.specs.declared.fault.OpenFault.TheVariants as faults;
+ghost use Rattle.st_file.specs.Side.{IsVoid, HoldsUpTo, IsRefused, Reading, Reads};
+ghost use Rattle.st_file.specs.Answer.{reading_of};
+
+use crate::batch::read_batch;
+use crate::fault::OpenFault;
+use crate::layout::{header_of, is_void};
+use crate::sink::RecordSink;
+use st_disk::Which;
+use st_records::Record;
+use std::alloc::Global;
+
+/// What a side holds.
+#[derive(Debug, Drop)]
+pub enum Side {
+    /// Nothing yet: the side wasn't created, or its creation was cut short.
+    Void,
+    /// A generation and the records of its batches. The closed gate behind them, where the next batch will stand, is
+    /// at `end`.
+    Holding {
+        generation: u64,
+        records: Vec<Record>,
+        end: u64,
+    },
+}
+
+/// What a side that isn't void has beside its records: its generation, and where the closed gate behind them stands.
+#[derive(Clone, Copy, Debug, PartialEq, Eq)]
+pub struct Extent {
+    pub generation: u64,
+    pub end: u64,
+}
+
+/// Reads the batches that stand behind the header of a side, up to the closed gate.
+fn read_batches<S: RecordSink>(
+    alloc: Global,
+    side: Which,
+    bytes: &[u8],
+    generation: u64,
+    batches: &[u8],
+    sink: &mut S,
+) -> Result<Extent, OpenFault>
+    requires header { HasHeader bytes.now generation batches.now }
+    requires fresh { S.has_taken sink.old [] }
+    ensures held { IfOk result (λ extent. (held : List Record) × HoldsUpTo bytes.now extent.generation held extent.end
+        × S.has_taken sink.new held) }
+    ensures refused { IfErr result (λ fault. (fault ≡ faults.OutOfMemory) ⊎ IsRefused side bytes.now fault) }
+{
+    let mut rest = batches;
+    let mut first = true;
+    while !rest.is_empty() {
+        let place = (bytes.len() - rest.len()) as u64;
+        if rest[0] == 0 {
+            return Ok(Extent {
+                generation,
+                end: place,
+            });
+        }
+        let (_gate, behind) = rest.split_at(1);
+        let Some(after) = read_batch(alloc, first, behind, sink)? else {
+            return Err(OpenFault::Damaged(side, place));
+        };
+        rest = after;
+        first = false;
+    }
+    Err(OpenFault::Damaged(side, bytes.len() as u64))
+}
+
+/// Reads a side and hands its records on as they come; None of a void side, which has none. At an error the sink may
+/// have taken in some of them.
+pub fn read_side<S: RecordSink>(
+    alloc: Global,
+    side: Which,
+    bytes: &[u8],
+    sink: &mut S,
+) -> Result<Option<Extent>, OpenFault>
+    requires { S.has_taken sink.old [] }
+    ensures void { IfOk result (λ found. IfNone found (IsVoid bytes.now × S.has_taken sink.new [])) }
+    ensures held { IfOk result (λ found. IfSome found (λ extent. (held : List Record)
+        × HoldsUpTo bytes.now extent.generation held extent.end × S.has_taken sink.new held)) }
+    ensures refused { IfErr result (λ fault. (fault ≡ faults.OutOfMemory) ⊎ IsRefused side bytes.now fault) }
+{
+    if is_void(bytes) {
+        return Ok(None);
+    }
+    let (generation, batches) = header_of(side, bytes)?;
+    Ok(Some(read_batches(alloc, side, bytes, generation, batches, sink)?))
+}
+
+/// What the bytes of a side hold, or the first fault in them; want of memory is answered only where a growth was
+/// refused. What stands behind the closed gate isn't read. It takes time in proportion to the bytes before it, and
+/// grows for no length or count that the bytes don't bear out.
+pub fn side_of(alloc: Global, side: Which, bytes: &[u8]) -> Result<Side, OpenFault>
+    // What is answered is so.
+    ensures found { IfSome (reading_of result) (Reads side bytes.now) }
+    // What is so is answered, unless memory ran out.
+    ensures only { (r : Reading) → Reads side bytes.now r → IfSome (reading_of result) (λ s. s ≡ r) }
+{
+    collected(alloc, side, bytes)
+}
+
+/// What a side holds, its records in one list.
+fn collected(alloc: Global, side: Which, bytes: &[u8]) -> Result<Side, OpenFault>
+    ensures { IfSome (reading_of result) (Reads side bytes.now) }
+{
+    let mut records = Vec::new(alloc);
+    match read_side(alloc, side, bytes, &mut records)? {
+        None => Ok(Side::Void),
+        Some(extent) => Ok(Side::Holding {
+            generation: extent.generation,
+            records,
+            end: extent.end,
+        }),
+    }
+}
+
+/// The bytes of a side are read in one way at most.
+pub fn one_reading()
+    ensures { (side : Which) (x : List ℕ) (r s : Reading) → Reads side x r → Reads side x s → r ≡ s }
+{}
