@@ -1,0 +1,72 @@
+//! The listing of the state that two sides recover.
+
+ghost use Rattle.std.specs.Prelude.{◌≡◌, ◌⊎◌, MatchResult, OnOk, IfErr};
+ghost use Rattle.std.specs.Io.KnownBytes.{Appends, Keeps};
+ghost use Rattle.st_records.specs.State.{StateMap};
+ghost use Rattle.st_file.specs.declared.fault.OpenFault.{OpenFault};
+ghost use Rattle.st_file.specs.declared.fault.OpenFault.TheVariants as open_faults;
+ghost use Rattle.st_recovery.specs.Recovers.{Recovers, RefusesWith};
+ghost use Rattle.dmk_state.specs.Listing.{listing};
+ghost use Rattle.dmk_state.specs.Writing.{IsCause, LeavesWriter, IsOfMachine};
+ghost use Rattle.dmk_state.specs.declared.listing.ListFault.TheVariants as faults;
+
+use crate::text::listing_text;
+use st_file::OpenFault;
+use st_records::State;
+use st_recovery::recover;
+use std::alloc::{AllocError, Global};
+use std::io::Write;
+use thiserror::Error;
+
+/// Why a state isn't listed, or not as a whole.
+#[derive(Clone, Copy, Debug, PartialEq, Eq, Error)]
+pub enum ListFault {
+    /// The two sides recover no state, or there was no memory. Nothing was written.
+    #[error("{0}")]
+    Open(OpenFault),
+    /// The writer failed. A beginning of the listing may have gone out.
+    #[error("cannot write")]
+    Write,
+}
+
+impl From<AllocError> for ListFault {
+    ghost from_gives = { λ _ e. e ≡ faults.Open open_faults.OutOfMemory };
+
+    fn from(_error: AllocError) -> ListFault {
+        ListFault::Open(OpenFault::OutOfMemory)
+    }
+}
+
+/// Writes the listing of the state that the bytes of the two sides recover.
+pub fn list<W: Write>(alloc: Global, a: &[u8], b: &[u8], writer: &mut W) -> Result<(), ListFault>
+    // A state that is recovered is listed, but for want of memory and the writer's faults.
+    ensures listed { (m : StateMap) → Recovers a.now b.now m → MatchResult result
+        (λ _. Appends (W.contents writer.old) (W.contents writer.new) (listing m)) IsOfMachine }
+    ensures refused { (f : OpenFault) → RefusesWith a.now b.now f → MatchResult result (λ _. ⊥)
+        (λ g. (g ≡ faults.Open f) ⊎ (g ≡ faults.Open open_faults.OutOfMemory)) }
+
+    // What is listed was recovered, and what is answered as a fault is so.
+    ensures found { MatchResult result
+        (λ _. (m : StateMap) × (Recovers a.now b.now m × Appends (W.contents writer.old) (W.contents writer.new) (listing m)))
+        (IsCause a.now b.now) }
+
+    ensures left { IfErr result (λ f. LeavesWriter f (W.contents writer.old) (W.contents writer.new)) }
+{
+    match recover(alloc, a, b) {
+        Ok(state) => write_listing(alloc, &state, writer),
+        Err(fault) => Err(ListFault::Open(fault)),
+    }
+}
+
+// The listing is whole before its first byte is written, so no want of memory comes after that.
+fn write_listing<W: Write>(alloc: Global, state: &State, writer: &mut W) -> Result<(), ListFault>
+    ensures listed { OnOk result (Appends (W.contents writer.old) (W.contents writer.new) (listing state.now)) }
+    ensures cause { IfErr result IsOfMachine }
+    ensures left { IfErr result (λ f. LeavesWriter f (W.contents writer.old) (W.contents writer.new)) }
+{
+    let text = listing_text(alloc, state)?;
+    match writer.write_all(text.as_slice()) {
+        Ok(()) => Ok(()),
+        Err(_) => Err(ListFault::Write),
+    }
+}

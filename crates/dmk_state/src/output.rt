@@ -1,0 +1,74 @@
+//! What the program prints and answers: a listing and 0, or one line with the fault and 2.
+
+ghost use Rattle.std.specs.Prelude.{◌≡◌, ◌⊎◌};
+ghost use Rattle.std.specs.Io.KnownBytes.{Appends, Keeps};
+ghost use Rattle.st_records.specs.State.{StateMap};
+ghost use Rattle.st_file.specs.declared.fault.OpenFault.{OpenFault};
+ghost use Rattle.st_recovery.specs.Recovers.{Recovers, RefusesWith};
+ghost use Rattle.dmk_state.specs.Listing.{listing};
+
+use crate::listing::{ListFault, list};
+use st_disk::Which;
+use st_file::OpenFault;
+use std::alloc::Global;
+use std::fmt;
+use std::io::Write;
+
+/// A fault as the user reads it. `file` is the name of side A.
+#[derive(Drop)]
+pub struct Message<'a> {
+    pub file: &'a str,
+    pub fault: ListFault,
+}
+
+impl fmt::Display for Message<'_> {
+    fn fmt<W: fmt::Write>(&self, f: &mut fmt::Formatter<W>) -> fmt::Result {
+        let file = self.file;
+        let fault = self.fault;
+        match damaged_side(fault) {
+            Some(Which::A) => write!(f, "{file}: {fault}"),
+            Some(Which::B) => write!(f, "{file}.2: {fault}"),
+            None => write!(f, "{fault}"),
+        }
+    }
+}
+
+// The side whose bytes have the fault, which the message names.
+fn damaged_side(fault: ListFault) -> Option<Which> {
+    match fault {
+        ListFault::Open(OpenFault::NotState(side)) => Some(side),
+        ListFault::Open(OpenFault::UnknownVersion(side, _)) => Some(side),
+        ListFault::Open(OpenFault::Damaged(side, _)) => Some(side),
+        ListFault::Open(_) => None,
+        ListFault::Write => None,
+    }
+}
+
+/// Prints the listing of what the two sides hold to `out` and answers 0, or prints one line with the fault to `err`
+/// and answers 2. A line that can't be printed changes nothing of the answer.
+pub fn show<O: Write, E: Write>(
+    alloc: Global,
+    file: &str,
+    a: &[u8],
+    b: &[u8],
+    out: &mut O,
+    err: &mut E,
+) -> u8
+    ensures status { (result ≡ 0) ⊎ (result ≡ 2) }
+    ensures listed { result ≡ 0 → (m : StateMap) × (Recovers a.now b.now m × Appends (O.contents out.old) (O.contents out.new) (listing m)) }
+    ensures quiet { result ≡ 0 → err.new ≡ err.old }
+    ensures refused { (f : OpenFault) → RefusesWith a.now b.now f → (result ≡ 2) × Keeps (O.contents out.old) (O.contents out.new) }
+{
+    match list(alloc, a, b, out) {
+        Ok(()) => 0,
+        Err(fault) => {
+            print_fault(err, Message { file, fault });
+            2
+        }
+    }
+}
+
+/// Prints one line with the fault.
+pub fn print_fault<E: Write>(err: &mut E, message: Message<'_>) {
+    let _ = writeln!(err, "dmk_state: {message}");
+}

@@ -1,0 +1,13 @@
+#!/bin/bash
+# Proves and builds the programs into bin/, and lists the example state file with the new dmk_state.
+set -eu
+cd "$(dirname "$0")/.."
+mkdir -p bin
+for program in dmk_state; do
+    # `rt run` is the command that links a program; what --help prints is of no interest here.
+    (cd "crates/$program" && rt run -- --help) >bin/build.log 2>&1 || { tail -n 40 bin/build.log; exit 1; }
+    cp "crates/$program/out/$program" bin/
+done
+rm -f bin/build.log
+echo "\$ bin/dmk_state examples/hello/make.state"
+exec bin/dmk_state examples/hello/make.state

@@ -1,0 +1,38 @@
+#!/bin/bash
+# Tries each crates/NAME/must-not-compile/*.edit on a copy of the repository's sources: the compiler has to refuse it
+# with the error that its 'error:' line names. The last line is 'N passed, M failed'.
+set -u -o pipefail
+cd "$(dirname "$0")/.." || exit 2
+passed=0 failed=0
+work=$(mktemp -d) || exit 2
+trap 'rm -rf "$work"' EXIT
+
+for edit in crates/*/must-not-compile/*.edit; do
+    [ -f "$edit" ] || continue
+    crate=$(basename "$(dirname "$(dirname "$edit")")")
+    wanted=$(sed -n 's/^error: //p' "$edit")
+    if [ ! -d "$work/crates" ]; then
+        cp -r crates.txt HANDLES crates "$work"
+    fi
+    rm -rf "$work/crates/$crate"
+    cp -r "crates/$crate" "$work/crates/$crate"
+    log=$work/log
+    if ! python3 scripts/apply_edit.py "$edit" "$work/crates/$crate" >"$log" 2>&1; then
+        echo "BAD EDIT $edit: $(cat "$log")"
+        failed=$((failed + 1))
+        continue
+    fi
+    if (cd "$work/crates/$crate" && rt check --only=) >"$log" 2>&1; then
+        echo "COMPILES $edit"
+        failed=$((failed + 1))
+    elif [ -n "$wanted" ] && grep -qF "[$wanted]" "$log"; then
+        echo "refused ($wanted): $edit"
+        passed=$((passed + 1))
+    else
+        echo "REFUSED FOR ANOTHER CAUSE than $wanted: $edit"
+        grep -m 5 -E 'error' "$log"
+        failed=$((failed + 1))
+    fi
+done
+echo "$passed passed, $failed failed"
+[ "$failed" -eq 0 ]

@@ -1,0 +1,27 @@
+#!/bin/bash
+# Every check, from nothing. The last line is 'N passed, M failed'; the status is 0 only where M is 0.
+set -u -o pipefail
+cd "$(dirname "$0")/.." || exit 2
+passed=0 failed=0
+
+# run_part COMMAND..: shows its output, and adds the counts of its last line. A part with no count is one failure.
+run_part() {
+    local log good bad status=0
+    log=$(mktemp) || exit 2
+    "$@" 2>&1 | tee "$log" || status=$?
+    read -r good bad <<<"$(tail -n 1 "$log" | sed -nE 's/^([0-9]+) passed, ([0-9]+) failed$/\1 \2/p')"
+    rm -f "$log"
+    good=${good:-0} bad=${bad:-1}
+    [ "$status" -eq 0 ] || [ "$bad" -gt 0 ] || bad=1
+    passed=$((passed + good)) failed=$((failed + bad))
+}
+
+started=$SECONDS
+run_part rt ci
+if [ "$failed" -eq 0 ]; then
+    run_part bash scripts/must_not_compile.sh
+    run_part bash scripts/cases.sh
+fi
+echo "wall time: $((SECONDS - started)) s"
+echo "$passed passed, $failed failed"
+[ "$failed" -eq 0 ]
