@@ -1,0 +1,6 @@
+pub mod FormLemmas
+pub mod LinesLemmas
+pub mod MakefileLemmas
+pub mod OutcomeLemmas
+pub mod SpellingLemmas
+pub mod WordsLemmas

@@ -1,0 +1,140 @@
+-- What one logical line is: nothing, a recipe line, an include line, a definition, a rule, or refused.
+use Rattle.std.specs.Prelude.{◌≡◌, ℕ, ◌+◌, Bool, true, false, not, ◌&&◌, ◌||◌, ◌==◌, List, [], ◌∷◌, take, drop, Option, Some, None, option_map, Result, Ok, Err, slice_index, codes, bytes_eq, if◌then◌else◌}
+use Rattle.std.specs.List.{before_first, list_any}
+use Rattle.mk_reader.specs.Text.{is_blank, is_hash, is_dollar, is_empty, begins_with, ends_with, without_last, trimmed_start, trimmed, first_word, is_text}
+use Rattle.mk_reader.specs.Special.{special_name, is_refused, takes_no_prerequisites}
+use Rattle.mk_reader.specs.declared.special.SpecialName.{SpecialName}
+use Rattle.mk_reader.specs.declared.item.RecipeLine.{RecipeLine}
+use Rattle.mk_reader.specs.declared.item.Rule.{Rule}
+use Rattle.mk_reader.specs.declared.fault.Feature.TheVariants as feature
+use Rattle.mk_reader.specs.declared.fault.Cause.{Cause}
+use Rattle.mk_reader.specs.declared.fault.Cause.TheVariants.{NotText, MissingSeparator, Unsupported}
+use Rattle.mk_reader.specs.declared.fault.Refusal.{Refusal}
+use Rattle.mk_reader.specs.declared.fault.ReadFault.{ReadFault}
+use Rattle.mk_reader.specs.declared.fault.ReadFault.TheVariants.{OutOfMemory, Refused}
+use Rattle.mk_reader.specs.declared.line.LogicalLine.{LogicalLine}
+use Rattle.mk_reader.specs.declared.form.Place.{Place}
+use Rattle.mk_reader.specs.declared.form.Place.TheVariants.{Outside, Dollar, Within}
+use Rattle.mk_reader.specs.declared.form.Form.{Form}
+use Rattle.mk_reader.specs.declared.form.Form.TheVariants as form
+
+-- this line of the file is refused for this cause
+abbrev pub refusal : List ℕ → ℕ → Cause → Refusal
+refusal file line cause = record { file = file; line = line; cause = cause }
+
+-- the fault is this refusal, unless memory ran out
+abbrev pub Refuses : ReadFault → Refusal → Type 0
+Refuses OutOfMemory r = Unit {0}
+Refuses (Refused q) r = r ≡ q
+
+-- what a function returned is what was to be given, unless memory ran out
+abbrev pub Gives : {A : Type 0} → Result A ReadFault → Result A Refusal → Type 0
+Gives (Ok x) given = given ≡ Ok x
+Gives (Err OutOfMemory) given = Unit {0}
+Gives (Err (Refused q)) given = given ≡ Err q
+
+-- where the byte after this one stands: `$` begins a reference, which is one character, or reaches from a bracket
+-- to the first bracket that closes it
+unfoldable pub next_place : Place → ℕ → Place
+next_place Outside b = if b == 36 then Dollar else Outside
+next_place Dollar b = if b == 40 then Within 41 else (if b == 123 then Within 125 else Outside)
+next_place (Within close) b = if b == close then Outside else Within close
+
+abbrev pub is_outside : Place → Bool
+is_outside Outside = true
+is_outside Dollar = false
+is_outside (Within _) = false
+
+-- the first place of one of two bytes that stands outside references
+abbrev pub first_outside : ℕ → ℕ → Place → List ℕ → Option ℕ
+first_outside one other place [] = None
+first_outside one other place (b ∷ bs) =
+    if is_outside place && (b == one || b == other) then Some 0 else option_map (λ i. i + 1) (first_outside one other (next_place place b) bs)
+
+-- an include line: a reference in it, or no name, is refused
+unfoldable pub include_form : List ℕ → ℕ → List ℕ → Result Form Refusal
+include_form file number line =
+    if list_any is_dollar line || is_empty (trimmed_start (drop 7 line)) then Err (refusal file number (Unsupported feature.Include)) else Ok (form.Include (drop 7 line))
+
+-- a definition: its name is one word
+unfoldable pub named_form : List ℕ → ℕ → List ℕ → Bool → List ℕ → Result Form Refusal
+named_form file number name append value =
+    if is_empty name || list_any is_blank name then Err (refusal file number MissingSeparator)
+    else Ok (form.Definition (record { file = file; line = number; name = name; append = append; value = trimmed value }))
+
+-- what stands around the `=` of a definition: `+` directly before it appends, `?` directly before it is refused
+unfoldable pub definition_form : List ℕ → ℕ → List ℕ → List ℕ → Result Form Refusal
+definition_form file number left right =
+    if ends_with 63 left then Err (refusal file number (Unsupported feature.OptionalDefinition))
+    else (if ends_with 43 left then named_form file number (trimmed (without_last left)) true right
+    else named_form file number (trimmed left) false right)
+
+-- the prerequisites end before the first `;` outside references
+unfoldable pub prerequisites_of : List ℕ → Option ℕ → List ℕ
+prerequisites_of right None = trimmed right
+prerequisites_of right (Some semicolon) = trimmed (take semicolon right)
+
+-- what follows that `;` is the first line of the recipe
+unfoldable pub recipe_of : ℕ → List ℕ → Option ℕ → List RecipeLine
+recipe_of number right None = []
+recipe_of number right (Some semicolon) = record { text = drop (semicolon + 1) right; line = number } ∷ []
+
+-- a rule whose first target is, or isn't, a special name
+unfoldable pub judged_form : Option SpecialName → Rule → Result Form Refusal
+judged_form None rule = Ok (form.Rule (record { special = None; rule = rule }))
+judged_form (Some name) rule =
+    if is_refused name || (takes_no_prerequisites name && not (is_empty rule.prerequisites)) then Err (refusal rule.file rule.line (Unsupported (feature.SpecialName name)))
+    else Ok (form.Rule (record { special = Some name; rule = rule }))
+
+-- a rule: it has a target
+unfoldable pub rule_form : List ℕ → ℕ → List ℕ → List ℕ → Result Form Refusal
+rule_form file number targets right =
+    if is_empty targets then Err (refusal file number MissingSeparator)
+    else judged_form (special_name (first_word targets)) (record {
+      file = file;
+      line = number;
+      targets = targets;
+      prerequisites = prerequisites_of right (first_outside 59 59 Outside right);
+      recipe = recipe_of number right (first_outside 59 59 Outside right);
+    })
+
+-- `sh`, blanks and `=`
+unfoldable pub begins_shell_definition : List ℕ → Bool
+begins_shell_definition right = bytes_eq (take 2 right) (codes "sh") && begins_with 61 (trimmed_start (drop 2 right))
+
+-- what stands around the `:` of a rule; `::`, `:=` and `:sh =` are refused
+unfoldable pub colon_form : List ℕ → ℕ → List ℕ → List ℕ → Result Form Refusal
+colon_form file number left right =
+    if begins_with 58 right then Err (refusal file number (Unsupported feature.DoubleColon))
+    else (if begins_with 61 right then Err (refusal file number (Unsupported feature.ColonDefinition))
+    else (if begins_shell_definition right then Err (refusal file number (Unsupported feature.ShellDefinition))
+    else rule_form file number (trimmed left) right))
+
+-- the first `=` or `:` outside references decides
+unfoldable pub decided_form : List ℕ → ℕ → List ℕ → Option ℕ → Result Form Refusal
+decided_form file number line None = Err (refusal file number MissingSeparator)
+decided_form file number line (Some at) =
+    if slice_index line at == 61 then definition_form file number (take at line) (drop (at + 1) line)
+    else colon_form file number (take at line) (drop (at + 1) line)
+
+-- a line without its comment and the blanks at its ends; the first word `include` comes before `=` and `:`
+unfoldable pub line_form : List ℕ → ℕ → List ℕ → Result Form Refusal
+line_form file number line =
+    if is_empty line then Ok form.Blank
+    else (if bytes_eq (first_word line) (codes "include") then include_form file number line
+    else decided_form file number line (first_outside 61 58 Outside line))
+
+-- a line that is no recipe line: from the first `#` on it is a comment, which may hold any bytes
+unfoldable pub statement_form : List ℕ → ℕ → List ℕ → Result Form Refusal
+statement_form file number text =
+    if is_text (before_first is_hash text) then line_form file number (trimmed (before_first is_hash text)) else Err (refusal file number NotText)
+
+-- a recipe line has no comments; one of blanks alone is passed over
+unfoldable pub recipe_form : List ℕ → ℕ → List ℕ → Result Form Refusal
+recipe_form file number text =
+    if is_text text then (if is_empty (trimmed_start text) then Ok form.Blank else Ok (form.Recipe (record { text = text; line = number })))
+    else Err (refusal file number NotText)
+
+-- the form of a logical line of the file
+unfoldable pub form_of : List ℕ → LogicalLine → Result Form Refusal
+form_of file line = if line.is_recipe then recipe_form file line.number line.text else statement_form file line.number line.text

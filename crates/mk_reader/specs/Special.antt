@@ -1,0 +1,61 @@
+-- The special names of make and dmake: which are used, which have no effect, and which are refused.
+use Rattle.std.specs.Prelude.{ℕ, Bool, true, false, List, [], ◌∷◌, Option, bytes_eq, codes, find}
+use Rattle.mk_reader.specs.declared.special.SpecialName.{SpecialName}
+use Rattle.mk_reader.specs.declared.special.SpecialName.TheVariants.{KeepState, Suffixes, NoParallel, Ignore, Silent, Precious, Posix, Parallel, SccsGet, Local, Init, Done, Failed, Default, KeepStateFile, MakeVersion, GetPosix, SccsGetPosix, Phony}
+
+-- how a special name is written (illumos make(1S); the two with PARALLEL: the dmake manual; PHONY: GNU make)
+abbrev pub name_text : SpecialName → List ℕ
+name_text KeepState = codes ".KEEP_STATE"
+name_text Suffixes = codes ".SUFFIXES"
+name_text NoParallel = codes ".NO_PARALLEL"
+name_text Ignore = codes ".IGNORE"
+name_text Silent = codes ".SILENT"
+name_text Precious = codes ".PRECIOUS"
+name_text Posix = codes ".POSIX"
+name_text Parallel = codes ".PARALLEL"
+name_text SccsGet = codes ".SCCS_GET"
+name_text Local = codes ".LOCAL"
+name_text Init = codes ".INIT"
+name_text Done = codes ".DONE"
+name_text Failed = codes ".FAILED"
+name_text Default = codes ".DEFAULT"
+name_text KeepStateFile = codes ".KEEP_STATE_FILE"
+name_text MakeVersion = codes ".MAKE_VERSION"
+name_text GetPosix = codes ".GET_POSIX"
+name_text SccsGetPosix = codes ".SCCS_GET_POSIX"
+name_text Phony = codes ".PHONY"
+
+abbrev pub all_names : List SpecialName
+all_names = KeepState ∷ Suffixes ∷ NoParallel ∷ Ignore ∷ Silent ∷ Precious ∷ Posix ∷ Parallel ∷ SccsGet ∷ Local ∷ Init ∷ Done ∷ Failed ∷ Default ∷ KeepStateFile ∷ MakeVersion ∷ GetPosix ∷ SccsGetPosix ∷ Phony ∷ []
+
+-- the special name that a word is; any other word is an ordinary name
+unfoldable pub special_name : List ℕ → Option SpecialName
+special_name word = find (λ name. bytes_eq (name_text name) word) all_names
+
+-- a rule of this name is refused
+unfoldable pub is_refused : SpecialName → Bool
+is_refused Init = true
+is_refused Done = true
+is_refused Failed = true
+is_refused Default = true
+is_refused KeepStateFile = true
+is_refused MakeVersion = true
+is_refused GetPosix = true
+is_refused SccsGetPosix = true
+is_refused Phony = true
+is_refused KeepState = false
+is_refused Suffixes = false
+is_refused NoParallel = false
+is_refused Ignore = false
+is_refused Silent = false
+is_refused Precious = false
+is_refused Posix = false
+is_refused Parallel = false
+is_refused SccsGet = false
+is_refused Local = false
+
+-- a rule of this name is refused where it has prerequisites, which would speak of single targets
+unfoldable pub takes_no_prerequisites : SpecialName → Bool
+takes_no_prerequisites Ignore = true
+takes_no_prerequisites Silent = true
+takes_no_prerequisites _ = false

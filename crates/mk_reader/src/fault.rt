@@ -1,0 +1,105 @@
+//! Why a makefile is refused, and the texts of the faults.
+use crate::byte_string::ByteString;
+use crate::special::SpecialName;
+use std::alloc::{AllocError, AllocFailed};
+use std::fmt;
+use thiserror::Error;
+
+/// What some makes have and this one leaves out.
+#[derive(Clone, Copy, Debug, PartialEq, Eq)]
+pub enum Feature {
+    /// An include line with a reference, or without a name.
+    Include,
+    /// `?=`
+    OptionalDefinition,
+    /// `::`, and so `::=`
+    DoubleColon,
+    /// `:=`
+    ColonDefinition,
+    /// `:sh =`
+    ShellDefinition,
+    /// A rule of this special name, or one with prerequisites where they would ask for something else.
+    SpecialName(SpecialName),
+}
+
+impl fmt::Display for Feature {
+    ghost use Rattle.std.specs.Prelude.{Some};
+    ghost use Rattle.mk_reader.specs.Fault.{feature_text};
+
+    ghost output = { λ feature. Some (feature_text feature) };
+
+    fn fmt<W: fmt::Write>(&self, f: &mut fmt::Formatter<W>) -> fmt::Result {
+        match self {
+            Feature::Include => f.write_str("include"),
+            Feature::OptionalDefinition => f.write_str("?="),
+            Feature::DoubleColon => f.write_str("::"),
+            Feature::ColonDefinition => f.write_str(":="),
+            Feature::ShellDefinition => f.write_str(":sh"),
+            Feature::SpecialName(name) => f.write_str(name.as_str()),
+        }
+    }
+}
+
+/// Why a line is refused.
+#[derive(Debug, Drop, Error)]
+pub enum Cause {
+    /// A byte outside comments that isn't UTF-8, or a NUL there.
+    #[error("not text")]
+    NotText,
+    /// A line that is neither an include line, a definition nor a rule.
+    #[error("missing separator")]
+    MissingSeparator,
+    /// A recipe line that no rule line stands above.
+    #[error("recipe line before any rule")]
+    TabFirst,
+    /// An include line in a file that is included sixteen deep.
+    #[error("include too deep")]
+    IncludeDepth,
+    /// The file of this name can't be read.
+    #[error("cannot read include file {0}")]
+    IncludeMissing(ByteString),
+    #[error("not supported: {0}")]
+    Unsupported(Feature),
+}
+
+/// The first line of the text that is refused.
+#[derive(Debug, Drop, Error)]
+#[error("{file}:{line}: {cause}")]
+pub struct Refusal {
+    /// The file that holds the line.
+    pub file: ByteString,
+    /// The number of its first physical line, from 1.
+    pub line: usize,
+    pub cause: Cause,
+}
+
+/// Why no items are given.
+#[derive(Debug, Drop, Error)]
+pub enum ReadFault {
+    #[error("out of memory")]
+    OutOfMemory,
+    #[error("{0}")]
+    Refused(Refusal),
+}
+
+impl From<AllocError> for ReadFault {
+    ghost use Rattle.std.specs.Prelude.{◌≡◌};
+    ghost use Rattle.mk_reader.specs.declared.fault.ReadFault.TheVariants.{OutOfMemory};
+
+    ghost from_gives = { λ _ e. e ≡ OutOfMemory };
+
+    fn from(_error: AllocError) -> ReadFault {
+        ReadFault::OutOfMemory
+    }
+}
+
+impl<T: Drop> From<AllocFailed<T>> for ReadFault {
+    ghost use Rattle.std.specs.Prelude.{◌≡◌};
+    ghost use Rattle.mk_reader.specs.declared.fault.ReadFault.TheVariants.{OutOfMemory};
+
+    ghost from_gives = { λ _ e. e ≡ OutOfMemory };
+
+    fn from(_error: AllocFailed<T>) -> ReadFault {
+        ReadFault::OutOfMemory
+    }
+}

@@ -1,0 +1,32 @@
+//! What one logical line can be, as values.
+use crate::byte_string::ByteString;
+use crate::item::{Definition, RecipeLine, Rule};
+use crate::special::SpecialName;
+
+/// Whether a byte stands outside references.
+#[derive(Clone, Copy)]
+pub enum Place {
+    Outside,
+    /// Directly behind the `$` of a reference.
+    Dollar,
+    /// Before this closing bracket of a reference.
+    Within(u8),
+}
+
+/// A rule, and the special name that its first target is, to which recipe lines may still be added.
+#[derive(Drop)]
+pub struct UnfinishedRule {
+    pub special: Option<SpecialName>,
+    pub rule: Rule,
+}
+
+#[derive(Drop)]
+pub enum Form {
+    /// Nothing but blanks and a comment.
+    Blank,
+    Recipe(RecipeLine),
+    /// What follows the word `include`, with a name in it.
+    Include(ByteString),
+    Definition(Definition),
+    Rule(UnfinishedRule),
+}

@@ -1,0 +1,93 @@
+//! What a makefile holds: definitions, rules and special rules, each with its file and line.
+use crate::byte_string::ByteString;
+use crate::special::SpecialName;
+use std::alloc::{AllocError, Global};
+use std::marker::Model;
+
+/// `NAME = VALUE`, or `NAME += VALUE`. Neither text is expanded.
+#[derive(Debug, Drop)]
+pub struct Definition {
+    /// The file's name as it was given, or as it stands on the include line.
+    pub file: ByteString,
+    /// The number of the first physical line, from 1.
+    pub line: usize,
+    pub name: ByteString,
+    /// Whether `+=` stood there.
+    pub append: bool,
+    pub value: ByteString,
+}
+
+/// A line of a recipe, without its TAB.
+#[derive(Debug, Drop)]
+pub struct RecipeLine {
+    pub text: ByteString,
+    /// The number of the first physical line, from 1, in the rule's file.
+    pub line: usize,
+}
+
+/// The lines of a recipe, in order.
+#[derive(Debug, Drop)]
+pub struct Recipe {
+    lines: Vec<RecipeLine>,
+}
+
+impl Model for Recipe {
+    ghost use Rattle.std.specs.Prelude.{List};
+    ghost use Rattle.mk_reader.specs.declared.item.RecipeLine.{RecipeLine};
+
+    ghost Value = { List RecipeLine };
+
+    ghost view = { λ r. r.lines.items };
+}
+
+impl Recipe {
+    ghost use Rattle.std.specs.Prelude.{◌≡◌, [], ◌∷◌, ◌++◌, OnOk};
+
+    pub fn new(alloc: Global) -> Recipe
+        ensures { result ≡ [] }
+    {
+        Recipe {
+            lines: Vec::new(alloc),
+        }
+    }
+
+    /// Adds the line at the end. After an `Err` the recipe is as it was.
+    pub fn push(&mut self, line: RecipeLine) -> Result<(), AllocError>
+        ensures ok { OnOk result (self.new ≡ self.old ++ line ∷ []) }
+    {
+        self.lines.push(line)?;
+        Ok(())
+    }
+
+    pub fn lines(&self) -> &[RecipeLine]
+        ensures { result.now ≡ self.now }
+    {
+        self.lines.as_slice()
+    }
+}
+
+/// `TARGETS : PREREQUISITES`, with a recipe below it or behind a `;`. The texts aren't expanded, and have no
+/// blanks at their ends.
+#[derive(Debug, Drop)]
+pub struct Rule {
+    pub file: ByteString,
+    /// The number of the first physical line, from 1.
+    pub line: usize,
+    pub targets: ByteString,
+    pub prerequisites: ByteString,
+    pub recipe: Recipe,
+}
+
+/// A rule whose first target is a special name. Its other targets mean nothing.
+#[derive(Debug, Drop)]
+pub struct Special {
+    pub name: SpecialName,
+    pub rule: Rule,
+}
+
+#[derive(Debug, Drop)]
+pub enum Item {
+    Definition(Definition),
+    Rule(Rule),
+    Special(Special),
+}

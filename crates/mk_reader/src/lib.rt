@@ -1,0 +1,24 @@
+//! Makefile text to items: definitions, rules and special rules in the order of the text, or the first fault.
+//! `read_makefile` is the one call; `laws` says in which sense the definition of a text's lines is right.
+#![tactic(auto)]
+
+mod blanks;
+mod byte_string;
+mod fault;
+mod form;
+mod includes;
+mod item;
+pub mod laws;
+mod line;
+mod lines;
+mod makefile;
+mod reference;
+mod special;
+mod statement;
+
+pub use byte_string::ByteString;
+pub use fault::{Cause, Feature, ReadFault, Refusal};
+pub use includes::Includes;
+pub use item::{Definition, Item, Recipe, RecipeLine, Rule, Special};
+pub use makefile::{MAX_INCLUDE_DEPTH, read_makefile};
+pub use special::SpecialName;

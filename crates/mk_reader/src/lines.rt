@@ -1,0 +1,214 @@
+//! Reads a text line by line from its front: physical lines, and the logical lines that they are joined to.
+ghost use Rattle.std.specs.Prelude.{◌≡◌, ◌+◌, ◌<◌, ◌≤◌, ◌==◌, ◌∷◌, ◌++◌, [], length, drop, flat_map, IfOk, IfSome, OnOk, Some, option_copied};
+ghost use Rattle.std.specs.List.{suffix_len, position_or_len};
+ghost use Rattle.mk_reader.specs.Text.{is_newline, is_backslash, begins_with, ends_with, without_last, without_tab};
+ghost use Rattle.mk_reader.specs.Lines.{ended_line, goes_on, body, opening, joint, groups, lines_left, rest_of_group, after_group, logical_line, is_recipe, logical_lines, numbered, number_after, physical, size_left};
+
+use crate::blanks::trim_start;
+use crate::byte_string::ByteString;
+use crate::line::{Ending, LogicalLine, PhysicalLine};
+use std::alloc::{AllocError, Global};
+
+pub fn begins_with(bytes: &[u8], byte: u8) -> bool
+    ensures { result ≡ begins_with byte bytes.now }
+{
+    match bytes.split_first() {
+        Some((first, _)) => *first == byte,
+        None => false,
+    }
+}
+
+#[tactic(auto, unfolding(crate::specs::Text::ends_with))]
+pub fn ends_with(bytes: &[u8], byte: u8) -> bool
+    ensures { result ≡ ends_with byte bytes.now }
+{
+    match bytes.split_last() {
+        Some((last, _)) => *last == byte,
+        None => false,
+    }
+}
+
+pub fn without_last(bytes: &[u8]) -> &[u8]
+    ensures { result.now ≡ without_last bytes.now }
+{
+    match bytes.split_last() {
+        Some((_, front)) => front,
+        None => bytes,
+    }
+}
+
+#[tactic(auto, unfolding(crate::specs::Text::without_tab))]
+fn without_tab(bytes: &[u8]) -> &[u8]
+    ensures { result.now ≡ without_tab bytes.now }
+{
+    match bytes.split_first() {
+        Some((b'\t', rest)) => rest,
+        _ => bytes,
+    }
+}
+
+pub fn without_first(bytes: &[u8]) -> &[u8]
+    ensures { result.now ≡ drop 1 bytes.now }
+{
+    match bytes.split_first() {
+        Some((_, rest)) => rest,
+        None => bytes,
+    }
+}
+
+/// How many backslashes stand at the end.
+fn trailing_backslashes(bytes: &[u8]) -> usize
+    ensures { result ≡ suffix_len is_backslash bytes.now }
+{
+    let mut end = bytes.len();
+    while end > 0 && bytes[end - 1] == b'\\' {
+        end -= 1;
+    }
+    bytes.len() - end
+}
+
+/// The place of the first newline, or the length.
+fn line_len(bytes: &[u8]) -> usize
+    ensures value { result ≡ position_or_len is_newline bytes.now }
+    ensures within { result ≤ length bytes.now }
+{
+    let mut count = 0;
+    while count < bytes.len() && bytes[count] != b'\n' {
+        count += 1;
+    }
+    count
+}
+
+#[tactic(auto, unfolding(crate::specs::Lines::ended_line))]
+fn ended_line(text: &[u8]) -> PhysicalLine<'_>
+    ensures { physical result ≡ ended_line text.now }
+{
+    if ends_with(text, b'\r') {
+        PhysicalLine {
+            text: without_last(text),
+            ending: Ending::ReturnNewline,
+        }
+    } else {
+        PhysicalLine {
+            text,
+            ending: Ending::Newline,
+        }
+    }
+}
+
+/// The first physical line, and what is left behind its newline, if it has one.
+fn next_line(bytes: &[u8]) -> (PhysicalLine<'_>, Option<&[u8]>)
+    ensures lines { lines_left (Some bytes.now) ≡ physical result.0 ∷ lines_left (option_copied result.1) }
+    ensures shorter { size_left (option_copied result.1) ≤ length bytes.now }
+{
+    let (text, rest) = bytes.split_at(line_len(bytes));
+    match rest.split_first() {
+        Some((_, after)) => (ended_line(text), Some(after)),
+        None => {
+            let line = PhysicalLine {
+                text,
+                ending: Ending::EndOfText,
+            };
+            (line, None)
+        }
+    }
+}
+
+#[tactic(auto, unfolding(crate::specs::Lines::goes_on))]
+fn goes_on(line: PhysicalLine<'_>) -> bool
+    ensures { result ≡ goes_on (physical line.entry) }
+{
+    match line.ending {
+        Ending::EndOfText => false,
+        Ending::Newline | Ending::ReturnNewline => trailing_backslashes(line.text) % 2 == 1,
+    }
+}
+
+#[tactic(auto, unfolding(crate::specs::Lines::body))]
+fn body(line: PhysicalLine<'_>) -> &[u8]
+    ensures { result.now ≡ body (physical line.entry) }
+{
+    if goes_on(line) {
+        without_last(line.text)
+    } else {
+        line.text
+    }
+}
+
+#[tactic(auto, unfolding(crate::specs::Lines::joint))]
+fn push_joint(text: &mut Vec<u8>, is_recipe: bool, line: PhysicalLine<'_>) -> Result<(), AllocError>
+    ensures { OnOk result (text.new.items ≡ text.old.items ++ joint is_recipe (physical line.entry)) }
+{
+    if is_recipe {
+        text.extend_from_slice(b"\\\n")?;
+        text.extend_from_slice(without_tab(body(line)))
+    } else {
+        text.push(b' ')?;
+        text.extend_from_slice(trim_start(body(line)))
+    }
+}
+
+#[tactic(auto, unfolding(crate::specs::Lines::opening))]
+fn push_first(text: &mut Vec<u8>, is_recipe: bool, line: PhysicalLine<'_>) -> Result<(), AllocError>
+    ensures { OnOk result (text.new.items ≡ text.old.items ++ opening is_recipe (physical line.entry)) }
+{
+    if is_recipe {
+        text.extend_from_slice(without_first(body(line)))
+    } else {
+        text.extend_from_slice(body(line))
+    }
+}
+
+/// Adds the lines in which `first` goes on. Gives the number of the line behind them, and what is left there.
+fn join_rest<'a>(
+    text: &mut Vec<u8>,
+    is_recipe: bool,
+    first: PhysicalLine<'a>,
+    first_number: usize,
+    left: Option<&'a [u8]>,
+) -> Result<(usize, Option<&'a [u8]>), AllocError>
+    ensures text { let others = rest_of_group (physical first.entry) (lines_left (option_copied left.entry)) in
+        OnOk result (text.new.items ≡ text.old.items ++ flat_map (joint is_recipe) others) }
+    ensures number { let others = rest_of_group (physical first.entry) (lines_left (option_copied left.entry)) in
+        IfOk result (λ found. found.0 ≡ number_after first_number (length (physical first.entry ∷ others))) }
+    ensures left { IfOk result (λ found. lines_left (option_copied found.1)
+        ≡ after_group (physical first.entry) (lines_left (option_copied left.entry))) }
+    ensures shorter { IfOk result (λ found.
+        size_left (option_copied found.1) ≤ size_left (option_copied left.entry)) }
+{
+    let mut last = first;
+    let mut number = first_number.saturating_add(1);
+    let mut left = left;
+    while goes_on(last) {
+        let Some(bytes) = left else { break };
+        let (line, after) = next_line(bytes);
+        push_joint(text, is_recipe, line)?;
+        last = line;
+        left = after;
+        number = number.saturating_add(1);
+    }
+    Ok((number, left))
+}
+
+/// The logical line that the bytes begin with, the number of the line behind it, and what is left there.
+pub fn next_logical_line(
+    alloc: Global,
+    number: usize,
+    bytes: &[u8],
+) -> Result<(LogicalLine, usize, Option<&[u8]>), AllocError>
+    ensures line { IfOk result (λ found. logical_lines number (Some bytes.now)
+        ≡ found.0 ∷ logical_lines found.1 (option_copied found.2)) }
+    ensures shorter { IfOk result (λ found. size_left (option_copied found.2) ≤ length bytes.now) }
+{
+    let (first, left) = next_line(bytes);
+    let is_recipe = begins_with(first.text, b'\t');
+    let mut text = Vec::new(alloc);
+    push_first(&mut text, is_recipe, first)?;
+    let (next_number, left) = join_rest(&mut text, is_recipe, first, number, left)?;
+    let line = LogicalLine {
+        number,
+        is_recipe,
+        text: ByteString::from_vec(text),
+    };
+    Ok((line, next_number, left))
+}

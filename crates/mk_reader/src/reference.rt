@@ -1,0 +1,60 @@
+//! Finds bytes that stand outside references.
+ghost use Rattle.std.specs.Prelude.{◌≡◌, ◌+◌, ◌<◌, ◌==◌, ◌&&◌, ◌||◌, length, IfSome};
+ghost use Rattle.mk_reader.specs.Form.{next_place, is_outside, first_outside};
+ghost use Rattle.mk_reader.specs.declared.form.Place.TheVariants.{Outside};
+
+use crate::form::Place;
+
+#[tactic(auto, unfolding(crate::specs::Form::next_place))]
+fn next_place(place: Place, byte: u8) -> Place
+    ensures { result ≡ next_place place byte }
+{
+    match place {
+        Place::Outside => {
+            if byte == b'$' {
+                Place::Dollar
+            } else {
+                Place::Outside
+            }
+        }
+        Place::Dollar => match byte {
+            b'(' => Place::Within(b')'),
+            b'{' => Place::Within(b'}'),
+            _ => Place::Outside,
+        },
+        Place::Within(close) => {
+            if byte == close {
+                Place::Outside
+            } else {
+                Place::Within(close)
+            }
+        }
+    }
+}
+
+fn is_found(place: Place, byte: u8, one: u8, other: u8) -> bool
+    ensures { result ≡ (is_outside place && (byte == one || byte == other)) }
+{
+    match place {
+        Place::Outside => byte == one || byte == other,
+        Place::Dollar | Place::Within(_) => false,
+    }
+}
+
+/// The first place of one of two bytes outside references. A reference that isn't closed reaches to the end.
+pub fn first_outside(bytes: &[u8], one: u8, other: u8) -> Option<usize>
+    ensures found { result ≡ first_outside one other Outside bytes.now }
+    ensures within { IfSome result (λ at. at < length bytes.now) }
+{
+    let mut place = Place::Outside;
+    let mut at = 0;
+    while at < bytes.len() {
+        let byte = bytes[at];
+        if is_found(place, byte, one, other) {
+            return Some(at);
+        }
+        place = next_place(place, byte);
+        at += 1;
+    }
+    None
+}

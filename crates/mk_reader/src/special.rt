@@ -1,0 +1,130 @@
+//! The special names: which a makefile may use, and which are refused.
+ghost use Rattle.std.specs.Prelude.{◌≡◌};
+ghost use Rattle.mk_reader.specs.Special.{name_text, special_name, is_refused, takes_no_prerequisites};
+
+use std::fmt;
+
+/// A target that changes how make works. The names are make's, and dmake's.
+#[derive(Clone, Copy, Debug, PartialEq, Eq)]
+pub enum SpecialName {
+    // These are used.
+    KeepState,
+    Suffixes,
+    NoParallel,
+    Ignore,
+    Silent,
+    // These are accepted and have no effect.
+    Precious,
+    Posix,
+    Parallel,
+    SccsGet,
+    Local,
+    // These are refused.
+    Init,
+    Done,
+    Failed,
+    Default,
+    KeepStateFile,
+    MakeVersion,
+    GetPosix,
+    SccsGetPosix,
+    Phony,
+}
+
+const ALL: [SpecialName; 19] = [
+    SpecialName::KeepState,
+    SpecialName::Suffixes,
+    SpecialName::NoParallel,
+    SpecialName::Ignore,
+    SpecialName::Silent,
+    SpecialName::Precious,
+    SpecialName::Posix,
+    SpecialName::Parallel,
+    SpecialName::SccsGet,
+    SpecialName::Local,
+    SpecialName::Init,
+    SpecialName::Done,
+    SpecialName::Failed,
+    SpecialName::Default,
+    SpecialName::KeepStateFile,
+    SpecialName::MakeVersion,
+    SpecialName::GetPosix,
+    SpecialName::SccsGetPosix,
+    SpecialName::Phony,
+];
+
+impl SpecialName {
+    /// The name as it stands in a makefile.
+    pub fn as_str(self) -> &'static str
+        ensures { result.now ≡ name_text self }
+    {
+        match self {
+            SpecialName::KeepState => ".KEEP_STATE",
+            SpecialName::Suffixes => ".SUFFIXES",
+            SpecialName::NoParallel => ".NO_PARALLEL",
+            SpecialName::Ignore => ".IGNORE",
+            SpecialName::Silent => ".SILENT",
+            SpecialName::Precious => ".PRECIOUS",
+            SpecialName::Posix => ".POSIX",
+            SpecialName::Parallel => ".PARALLEL",
+            SpecialName::SccsGet => ".SCCS_GET",
+            SpecialName::Local => ".LOCAL",
+            SpecialName::Init => ".INIT",
+            SpecialName::Done => ".DONE",
+            SpecialName::Failed => ".FAILED",
+            SpecialName::Default => ".DEFAULT",
+            SpecialName::KeepStateFile => ".KEEP_STATE_FILE",
+            SpecialName::MakeVersion => ".MAKE_VERSION",
+            SpecialName::GetPosix => ".GET_POSIX",
+            SpecialName::SccsGetPosix => ".SCCS_GET_POSIX",
+            SpecialName::Phony => ".PHONY",
+        }
+    }
+}
+
+impl fmt::Display for SpecialName {
+    ghost use Rattle.std.specs.Prelude.{Some};
+
+    ghost output = { λ name. Some (name_text name) };
+
+    fn fmt<W: fmt::Write>(&self, f: &mut fmt::Formatter<W>) -> fmt::Result {
+        f.write_str(self.as_str())
+    }
+}
+
+/// The special name that the word is, if it is one.
+#[tactic(auto, unfolding(crate::specs::Special::special_name))]
+pub fn special_name(word: &[u8]) -> Option<SpecialName>
+    ensures { result ≡ special_name word.now }
+{
+    ALL.iter()
+        .copied()
+        .find(|name| name.as_str().as_bytes() == word)
+}
+
+/// Whether passing over a rule of this name could change what is built.
+#[tactic(auto, unfolding(crate::specs::Special::is_refused))]
+pub fn is_refused(name: SpecialName) -> bool
+    ensures { result ≡ is_refused name }
+{
+    match name {
+        SpecialName::Init
+        | SpecialName::Done
+        | SpecialName::Failed
+        | SpecialName::Default
+        | SpecialName::KeepStateFile
+        | SpecialName::MakeVersion
+        | SpecialName::GetPosix
+        | SpecialName::SccsGetPosix
+        | SpecialName::Phony => true,
+        _ => false,
+    }
+}
+
+/// Whether the rule speaks of all targets, so that prerequisites would ask for something else.
+#[tactic(auto, unfolding(crate::specs::Special::takes_no_prerequisites))]
+pub fn takes_no_prerequisites(name: SpecialName) -> bool
+    ensures { result ≡ takes_no_prerequisites name }
+{
+    matches!(name, SpecialName::Ignore | SpecialName::Silent)
+}

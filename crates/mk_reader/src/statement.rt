@@ -1,0 +1,309 @@
+//! From one logical line to its form. Each function answers the form, or the line's fault.
+ghost use Rattle.std.specs.Prelude.{◌≡◌, ◌+◌, ◌<◌, ◌==◌, ◌&&◌, IfOk, IfSome, length, take, drop, codes, bytes_eq};
+ghost use Rattle.std.specs.List.{before_first, list_any};
+ghost use Rattle.std.specs.Str.{is_utf8};
+ghost use Rattle.mk_reader.specs.Text.{is_blank, is_hash, is_dollar, is_nul, is_empty, is_text, trimmed_start};
+ghost use Rattle.mk_reader.specs.Form.{Gives, Refuses, refusal, include_form, named_form, definition_form, prerequisites_of, recipe_of, judged_form, rule_form, begins_shell_definition, colon_form, decided_form, line_form, statement_form, recipe_form, form_of, first_outside};
+ghost use Rattle.mk_reader.specs.declared.form.Place.TheVariants.{Outside};
+
+use crate::blanks::{first_word, is_blank, trim, trim_start};
+use crate::byte_string::ByteString;
+use crate::fault::{Cause, Feature, ReadFault, Refusal};
+use crate::form::{Form, UnfinishedRule};
+use crate::item::{Definition, Recipe, RecipeLine, Rule};
+use crate::line::LogicalLine;
+use crate::lines::{begins_with, ends_with, without_first, without_last};
+use crate::reference::first_outside;
+use crate::special::{SpecialName, is_refused, special_name, takes_no_prerequisites};
+use std::alloc::{AllocError, Global};
+use std::str;
+
+/// The fault of a line; its name and the file's are copied.
+pub fn refuse(alloc: Global, file: &[u8], line: usize, cause: Cause) -> ReadFault
+    ensures { Refuses result (refusal file.now line cause) }
+{
+    match ByteString::copied(alloc, file) {
+        Ok(file) => ReadFault::Refused(Refusal { file, line, cause }),
+        Err(_) => ReadFault::OutOfMemory,
+    }
+}
+
+fn is_utf8(bytes: &[u8]) -> bool
+    ensures { result ≡ is_utf8 bytes.now }
+{
+    match str::from_utf8(bytes) {
+        Ok(_) => true,
+        Err(_) => false,
+    }
+}
+
+#[tactic(auto, unfolding(crate::specs::Text::is_text))]
+fn is_text(bytes: &[u8]) -> bool
+    ensures { result ≡ is_text bytes.now }
+{
+    is_utf8(bytes) && !bytes.contains(&0)
+}
+
+fn has_blank(bytes: &[u8]) -> bool
+    ensures { result ≡ list_any is_blank bytes.now }
+{
+    bytes.iter().any(|byte| is_blank(*byte))
+}
+
+fn has_dollar(bytes: &[u8]) -> bool
+    ensures { result ≡ list_any is_dollar bytes.now }
+{
+    bytes.contains(&b'$')
+}
+
+/// What stands before the byte at this place, and what stands behind it.
+fn around(bytes: &[u8], at: usize) -> (&[u8], &[u8])
+    requires { at < length bytes.now }
+    ensures left { result.0.now ≡ take at bytes.now }
+    ensures right { result.1.now ≡ drop (at + 1) bytes.now }
+{
+    let (left, rest) = bytes.split_at(at);
+    (left, without_first(rest))
+}
+
+/// What stands before the first `#`.
+fn before_comment(text: &[u8]) -> &[u8]
+    ensures { result.now ≡ before_first is_hash text.now }
+{
+    let mut count = 0;
+    while count < text.len() && text[count] != b'#' {
+        count += 1;
+    }
+    text.split_at(count).0
+}
+
+#[tactic(auto, unfolding(crate::specs::Form::include_form))]
+fn include_form(alloc: Global, file: &[u8], number: usize, line: &[u8]) -> Result<Form, ReadFault>
+    ensures { Gives result (include_form file.now number line.now) }
+{
+    let names = line.get(7..).unwrap_or(b"".as_slice());
+    if has_dollar(line) || trim_start(names).is_empty() {
+        return Err(refuse(alloc, file, number, Cause::Unsupported(Feature::Include)));
+    }
+    let names = ByteString::copied(alloc, names)?;
+    Ok(Form::Include(names))
+}
+
+#[tactic(auto, unfolding(crate::specs::Form::named_form))]
+fn named_form(
+    alloc: Global,
+    file: &[u8],
+    number: usize,
+    name: &[u8],
+    append: bool,
+    value: &[u8],
+) -> Result<Form, ReadFault>
+    ensures { Gives result (named_form file.now number name.now append value.now) }
+{
+    if name.is_empty() || has_blank(name) {
+        return Err(refuse(alloc, file, number, Cause::MissingSeparator));
+    }
+    Ok(Form::Definition(Definition {
+        file: ByteString::copied(alloc, file)?,
+        line: number,
+        name: ByteString::copied(alloc, name)?,
+        append,
+        value: ByteString::copied(alloc, trim(value))?,
+    }))
+}
+
+#[tactic(auto, unfolding(crate::specs::Form::definition_form))]
+fn definition_form(
+    alloc: Global,
+    file: &[u8],
+    number: usize,
+    left: &[u8],
+    right: &[u8],
+) -> Result<Form, ReadFault>
+    ensures { Gives result (definition_form file.now number left.now right.now) }
+{
+    if ends_with(left, b'?') {
+        let cause = Cause::Unsupported(Feature::OptionalDefinition);
+        return Err(refuse(alloc, file, number, cause));
+    }
+    if ends_with(left, b'+') {
+        return named_form(alloc, file, number, trim(without_last(left)), true, right);
+    }
+    named_form(alloc, file, number, trim(left), false, right)
+}
+
+#[tactic(auto, unfolding(crate::specs::Form::judged_form))]
+fn judged_form(alloc: Global, special: Option<SpecialName>, rule: Rule) -> Result<Form, ReadFault>
+    ensures { Gives result (judged_form special rule) }
+{
+    if let Some(name) = special {
+        let has_prerequisites = !rule.prerequisites.as_bytes().is_empty();
+        if is_refused(name) || (takes_no_prerequisites(name) && has_prerequisites) {
+            let cause = Cause::Unsupported(Feature::SpecialName(name));
+            return Err(refuse(alloc, rule.file.as_bytes(), rule.line, cause));
+        }
+    }
+    Ok(Form::Rule(UnfinishedRule { special, rule }))
+}
+
+#[tactic(auto, unfolding(crate::specs::Form::prerequisites_of))]
+fn prerequisites_of(right: &[u8], semicolon: Option<usize>) -> &[u8]
+    requires { IfSome semicolon (λ at. at < length right.now) }
+    ensures { result.now ≡ prerequisites_of right.now semicolon }
+{
+    match semicolon {
+        Some(at) => trim(right.split_at(at).0),
+        None => trim(right),
+    }
+}
+
+#[tactic(auto, unfolding(crate::specs::Form::recipe_of))]
+fn recipe_of(
+    alloc: Global,
+    number: usize,
+    right: &[u8],
+    semicolon: Option<usize>,
+) -> Result<Recipe, AllocError>
+    requires { IfSome semicolon (λ at. at < length right.now) }
+    ensures { IfOk result (λ recipe. recipe ≡ recipe_of number right.now semicolon) }
+{
+    let mut recipe = Recipe::new(alloc);
+    if let Some(at) = semicolon {
+        let text = ByteString::copied(alloc, around(right, at).1)?;
+        recipe.push(RecipeLine { text, line: number })?;
+    }
+    Ok(recipe)
+}
+
+#[tactic(auto, unfolding(crate::specs::Form::rule_form))]
+fn rule_form(
+    alloc: Global,
+    file: &[u8],
+    number: usize,
+    targets: &[u8],
+    right: &[u8],
+) -> Result<Form, ReadFault>
+    ensures { Gives result (rule_form file.now number targets.now right.now) }
+{
+    if targets.is_empty() {
+        return Err(refuse(alloc, file, number, Cause::MissingSeparator));
+    }
+    let semicolon = first_outside(right, b';', b';');
+    let rule = Rule {
+        file: ByteString::copied(alloc, file)?,
+        line: number,
+        targets: ByteString::copied(alloc, targets)?,
+        prerequisites: ByteString::copied(alloc, prerequisites_of(right, semicolon))?,
+        recipe: recipe_of(alloc, number, right, semicolon)?,
+    };
+    judged_form(alloc, special_name(first_word(targets)), rule)
+}
+
+#[tactic(auto, unfolding(crate::specs::Form::begins_shell_definition))]
+fn begins_shell_definition(right: &[u8]) -> bool
+    ensures { result ≡ begins_shell_definition right.now }
+{
+    match right.strip_prefix(b"sh".as_slice()) {
+        Some(rest) => begins_with(trim_start(rest), b'='),
+        None => false,
+    }
+}
+
+#[tactic(auto, unfolding(crate::specs::Form::colon_form))]
+fn colon_form(
+    alloc: Global,
+    file: &[u8],
+    number: usize,
+    left: &[u8],
+    right: &[u8],
+) -> Result<Form, ReadFault>
+    ensures { Gives result (colon_form file.now number left.now right.now) }
+{
+    if begins_with(right, b':') {
+        let cause = Cause::Unsupported(Feature::DoubleColon);
+        return Err(refuse(alloc, file, number, cause));
+    }
+    if begins_with(right, b'=') {
+        let cause = Cause::Unsupported(Feature::ColonDefinition);
+        return Err(refuse(alloc, file, number, cause));
+    }
+    if begins_shell_definition(right) {
+        let cause = Cause::Unsupported(Feature::ShellDefinition);
+        return Err(refuse(alloc, file, number, cause));
+    }
+    rule_form(alloc, file, number, trim(left), right)
+}
+
+#[tactic(auto, unfolding(crate::specs::Form::decided_form))]
+fn decided_form(alloc: Global, file: &[u8], number: usize, line: &[u8]) -> Result<Form, ReadFault>
+    ensures { Gives result (decided_form file.now number line.now (first_outside 61 58 Outside line.now)) }
+{
+    let Some(at) = first_outside(line, b'=', b':') else {
+        return Err(refuse(alloc, file, number, Cause::MissingSeparator));
+    };
+    let (left, right) = around(line, at);
+    if line[at] == b'=' {
+        definition_form(alloc, file, number, left, right)
+    } else {
+        colon_form(alloc, file, number, left, right)
+    }
+}
+
+#[tactic(auto, unfolding(crate::specs::Form::line_form))]
+fn line_form(alloc: Global, file: &[u8], number: usize, line: &[u8]) -> Result<Form, ReadFault>
+    ensures { Gives result (line_form file.now number line.now) }
+{
+    if line.is_empty() {
+        return Ok(Form::Blank);
+    }
+    if first_word(line) == b"include".as_slice() {
+        return include_form(alloc, file, number, line);
+    }
+    decided_form(alloc, file, number, line)
+}
+
+#[tactic(auto, unfolding(crate::specs::Form::statement_form))]
+fn statement_form(alloc: Global, file: &[u8], number: usize, text: &[u8]) -> Result<Form, ReadFault>
+    ensures { Gives result (statement_form file.now number text.now) }
+{
+    let text = before_comment(text);
+    if !is_text(text) {
+        return Err(refuse(alloc, file, number, Cause::NotText));
+    }
+    line_form(alloc, file, number, trim(text))
+}
+
+#[tactic(auto, unfolding(crate::specs::Form::recipe_form))]
+fn recipe_form(
+    alloc: Global,
+    file: &[u8],
+    number: usize,
+    text: ByteString,
+) -> Result<Form, ReadFault>
+    ensures { Gives result (recipe_form file.now number text) }
+{
+    if !is_text(text.as_bytes()) {
+        return Err(refuse(alloc, file, number, Cause::NotText));
+    }
+    if trim_start(text.as_bytes()).is_empty() {
+        return Ok(Form::Blank);
+    }
+    Ok(Form::Recipe(RecipeLine { text, line: number }))
+}
+
+/// The form of a logical line of the file.
+#[tactic(auto, unfolding(crate::specs::Form::form_of))]
+pub fn form_of(alloc: Global, file: &[u8], line: LogicalLine) -> Result<Form, ReadFault>
+    ensures { Gives result (form_of file.now line) }
+{
+    let LogicalLine {
+        number,
+        is_recipe,
+        text,
+    } = line;
+    if is_recipe {
+        recipe_form(alloc, file, number, text)
+    } else {
+        statement_form(alloc, file, number, text.as_bytes())
+    }
+}

@@ -1,0 +1,20 @@
+//! Tests of `mk_reader` through its public calls. Texts and answers follow illumos make(1S), POSIX make, GNU make's
+//! manual on splitting lines, and this project's own list of what is refused.
+#![tactic(auto)]
+
+#[cfg(test)]
+mod beginnings;
+#[cfg(test)]
+mod includes;
+#[cfg(test)]
+mod lines;
+#[cfg(test)]
+mod recipes;
+#[cfg(test)]
+mod shown;
+#[cfg(test)]
+mod special_names;
+#[cfg(test)]
+mod statements;
+#[cfg(test)]
+mod text;
