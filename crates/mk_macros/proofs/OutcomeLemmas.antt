@@ -1,0 +1,105 @@
+-- A text has one outcome.
+use Rattle.std.proofs.Common.{◌≡◌, ℕ, List, [], ◌∷◌, ◌++◌, length, refl, sym, ap, ◌∙◌, subst, arith}
+use Rattle.mk_macros.specs.Reference.{used, Piece, reference, Front, first}
+use Rattle.mk_macros.specs.Expansion.{Meaning, dynamic, defined, Outcome, gives, fails, Expands, ends, goes_on, is_too_long, meets_fault, Adds, adds_bytes, is_unclosed, is_nested, is_undefined, is_dynamic, is_long_dynamic, is_loop, has_value, has_fault}
+
+pub same_first : {p q : Piece} {r s : List ℕ} {f : Front} → f ≡ first p r → f ≡ first q s → (p ≡ q) × (r ≡ s)
+same_first a b = let e = sym a ∙ b in (cc, cc)
+
+module _ (meaning : List ℕ → Meaning) where
+  mutual
+    pub expands_once : {opened : List (List ℕ)} {made text : List ℕ} {a b : Outcome} → Expands meaning opened made text a → Expands meaning opened made text b → a ≡ b
+    expands_once (ends x) (ends y) = refl
+    expands_once (ends x) (goes_on p r added y ad le e) = let h = sym x ∙ y in cc
+    expands_once (ends x) (is_too_long p r added y ad lt) = let h = sym x ∙ y in cc
+    expands_once (ends x) (meets_fault p r f y ad) = let h = sym x ∙ y in cc
+    expands_once (goes_on p r added x ad le e) (ends y) = let h = sym x ∙ y in cc
+    expands_once {opened} {made} {b} (goes_on p r added x ad le e) (goes_on q s more y bd ge d) =
+        let same = same_first x y in
+        let gave : gives added ≡ gives more = adds_once ad (subst (λ v. Adds meaning opened v (gives more)) (sym same.0) bd) in
+        let added_same : added ≡ more = cc in
+        expands_once e (subst (λ v. Expands meaning opened (made ++ v) r b) (sym added_same) (subst (λ v. Expands meaning opened (made ++ more) v b) (sym same.1) d))
+    expands_once {opened} {made} (goes_on p r added x ad le e) (is_too_long q s more y bd lt) =
+        let same = same_first x y in
+        let gave : gives added ≡ gives more = adds_once ad (subst (λ v. Adds meaning opened v (gives more)) (sym same.0) bd) in
+        let added_same : length (made ++ added) ≡ length (made ++ more) = ap (λ v. length (made ++ v)) (cc) in
+        absurd (omega arith)
+    expands_once {opened} (goes_on p r added x ad le e) (meets_fault q s f y bd) =
+        let same = same_first x y in
+        let gave : gives added ≡ fails f = adds_once ad (subst (λ v. Adds meaning opened v (fails f)) (sym same.0) bd) in cc
+    expands_once (is_too_long p r added x ad lt) (ends y) = let h = sym x ∙ y in cc
+    expands_once {opened} {made} (is_too_long p r added x ad lt) (goes_on q s more y bd ge d) =
+        let same = same_first x y in
+        let gave : gives added ≡ gives more = adds_once ad (subst (λ v. Adds meaning opened v (gives more)) (sym same.0) bd) in
+        let added_same : length (made ++ added) ≡ length (made ++ more) = ap (λ v. length (made ++ v)) (cc) in
+        absurd (omega arith)
+    expands_once (is_too_long p r added x ad lt) (is_too_long q s more y bd gt) = refl
+    expands_once {opened} (is_too_long p r added x ad lt) (meets_fault q s f y bd) =
+        let same = same_first x y in
+        let gave : gives added ≡ fails f = adds_once ad (subst (λ v. Adds meaning opened v (fails f)) (sym same.0) bd) in cc
+    expands_once (meets_fault p r f x ad) (ends y) = let h = sym x ∙ y in cc
+    expands_once {opened} (meets_fault p r f x ad) (goes_on q s more y bd ge d) =
+        let same = same_first x y in
+        let gave : fails f ≡ gives more = adds_once ad (subst (λ v. Adds meaning opened v (gives more)) (sym same.0) bd) in cc
+    expands_once {opened} (meets_fault p r f x ad) (is_too_long q s more y bd gt) =
+        let same = same_first x y in
+        let gave : fails f ≡ gives more = adds_once ad (subst (λ v. Adds meaning opened v (gives more)) (sym same.0) bd) in cc
+    expands_once {opened} (meets_fault p r f x ad) (meets_fault q s g y bd) =
+        let same = same_first x y in
+        adds_once ad (subst (λ v. Adds meaning opened v (fails g)) (sym same.0) bd)
+
+    adds_once : {opened : List (List ℕ)} {piece : Piece} {a b : Outcome} → Adds meaning opened piece a → Adds meaning opened piece b → a ≡ b
+    adds_once adds_bytes adds_bytes = refl
+    adds_once is_unclosed is_unclosed = refl
+    adds_once is_nested is_nested = refl
+    adds_once (is_undefined x) (is_undefined y) = refl
+    adds_once (is_undefined x) (is_dynamic v y l) = let h = sym x ∙ y in cc
+    adds_once (is_undefined x) (is_long_dynamic v y l) = let h = sym x ∙ y in cc
+    adds_once (is_undefined x) (is_loop t y i) = let h = sym x ∙ y in cc
+    adds_once (is_undefined x) (has_value t v y n e) = let h = sym x ∙ y in cc
+    adds_once (is_undefined x) (has_fault t f y n e) = let h = sym x ∙ y in cc
+    adds_once (is_dynamic u x k) (is_undefined y) = let h = sym x ∙ y in cc
+    adds_once (is_dynamic u x k) (is_dynamic v y l) = let h : dynamic u ≡ dynamic v = sym x ∙ y in cc
+    adds_once (is_dynamic u x k) (is_long_dynamic v y l) =
+        let h : dynamic u ≡ dynamic v = sym x ∙ y in let s : length u ≡ length v = ap length (cc) in absurd (omega arith)
+    adds_once (is_dynamic u x k) (is_loop t y i) = let h = sym x ∙ y in cc
+    adds_once (is_dynamic u x k) (has_value t v y n e) = let h = sym x ∙ y in cc
+    adds_once (is_dynamic u x k) (has_fault t f y n e) = let h = sym x ∙ y in cc
+    adds_once (is_long_dynamic u x k) (is_undefined y) = let h = sym x ∙ y in cc
+    adds_once (is_long_dynamic u x k) (is_dynamic v y l) =
+        let h : dynamic u ≡ dynamic v = sym x ∙ y in let s : length u ≡ length v = ap length (cc) in absurd (omega arith)
+    adds_once (is_long_dynamic u x k) (is_long_dynamic v y l) = refl
+    adds_once (is_long_dynamic u x k) (is_loop t y i) = let h = sym x ∙ y in cc
+    adds_once (is_long_dynamic u x k) (has_value t v y n e) = let h = sym x ∙ y in cc
+    adds_once (is_long_dynamic u x k) (has_fault t f y n e) = let h = sym x ∙ y in cc
+    adds_once (is_loop s x j) (is_undefined y) = let h = sym x ∙ y in cc
+    adds_once (is_loop s x j) (is_dynamic v y l) = let h = sym x ∙ y in cc
+    adds_once (is_loop s x j) (is_long_dynamic v y l) = let h = sym x ∙ y in cc
+    adds_once (is_loop s x j) (is_loop t y i) = refl
+    adds_once (is_loop s x j) (has_value t v y n e) = absurd (n j)
+    adds_once (is_loop s x j) (has_fault t f y n e) = absurd (n j)
+    adds_once (has_value s u x m d) (is_undefined y) = let h = sym x ∙ y in cc
+    adds_once (has_value s u x m d) (is_dynamic v y l) = let h = sym x ∙ y in cc
+    adds_once (has_value s u x m d) (is_long_dynamic v y l) = let h = sym x ∙ y in cc
+    adds_once (has_value s u x m d) (is_loop t y i) = absurd (m i)
+    adds_once {opened} {piece = reference name use_of} (has_value s u x m d) (has_value t v y n e) =
+        let h : defined s ≡ defined t = sym x ∙ y in
+        let st : t ≡ s = cc in
+        let uv : gives u ≡ gives v = expands_once d (subst (λ w. Expands meaning (name ∷ opened) [] w (gives v)) st e) in
+        ap (λ w. gives (used use_of w)) (cc)
+    adds_once {opened} {piece = reference name use_of} (has_value s u x m d) (has_fault t f y n e) =
+        let h : defined s ≡ defined t = sym x ∙ y in
+        let st : t ≡ s = cc in
+        let uv : gives u ≡ fails f = expands_once d (subst (λ w. Expands meaning (name ∷ opened) [] w (fails f)) st e) in cc
+    adds_once (has_fault s g x m d) (is_undefined y) = let h = sym x ∙ y in cc
+    adds_once (has_fault s g x m d) (is_dynamic v y l) = let h = sym x ∙ y in cc
+    adds_once (has_fault s g x m d) (is_long_dynamic v y l) = let h = sym x ∙ y in cc
+    adds_once (has_fault s g x m d) (is_loop t y i) = absurd (m i)
+    adds_once {opened} {piece = reference name use_of} (has_fault s g x m d) (has_value t v y n e) =
+        let h : defined s ≡ defined t = sym x ∙ y in
+        let st : t ≡ s = cc in
+        let uv : fails g ≡ gives v = expands_once d (subst (λ w. Expands meaning (name ∷ opened) [] w (gives v)) st e) in cc
+    adds_once {opened} {piece = reference name use_of} (has_fault s g x m d) (has_fault t f y n e) =
+        let h : defined s ≡ defined t = sym x ∙ y in
+        let st : t ≡ s = cc in
+        expands_once d (subst (λ w. Expands meaning (name ∷ opened) [] w (fails f)) st e)

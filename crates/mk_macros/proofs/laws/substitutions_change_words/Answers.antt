@@ -1,0 +1,5 @@
+use Rattle.mk_macros.proofs.PatternLemmas.{changed_word-ending, changed_word-other, changed_word-pattern}
+use Rattle.mk_macros.proofs.laws.substitutions_change_words.Goals as goal
+
+pub returns : goal.returns
+returns c = record { ending = changed_word-ending; other_words = changed_word-other; stem = changed_word-pattern }

@@ -1,0 +1,90 @@
+-- What the expansion of a text is, form by form.
+use Rattle.std.specs.Prelude.{◌≡◌, ℕ, ◌≤◌, ◌<◌, ◌⊎◌, List, [], ◌∷◌, ◌++◌, length, Option, Some, None}
+use Rattle.mk_macros.specs.Reference.{Use, used, Piece, plain, reference, unclosed, nested, nothing, first, front}
+use Rattle.mk_macros.specs.declared.fault.MacroFault.{MacroFault}
+use Rattle.mk_macros.specs.declared.fault.MacroFault.TheVariants.{OutOfMemory, Loop, Unclosed, NestedReference, TooLong}
+
+-- what a name stands for: nothing, bytes that aren't expanded again, or a text that is expanded when it is used
+pub data Meaning : Type 0 where
+  undefined : Meaning
+  dynamic : (value : List ℕ) → Meaning
+  defined : (text : List ℕ) → Meaning
+
+-- why a text has no expansion
+pub data Fault : Type 0 where
+  refers_to_itself : (name : List ℕ) → Fault
+  not_closed : Fault
+  dollar_in_brackets : Fault
+  too_long : Fault
+
+-- the bytes of an expansion, or the fault that is met first
+pub data Outcome : Type 0 where
+  gives : (bytes : List ℕ) → Outcome
+  fails : (fault : Fault) → Outcome
+
+-- no text and no value grows longer
+abbrev pub limit : ℕ
+limit = 1048576
+
+-- the name is one of the list
+abbrev pub IsOneOf : List ℕ → List (List ℕ) → Type 0
+IsOneOf name [] = ⊥
+IsOneOf name (n ∷ names) = (name ≡ n) ⊎ IsOneOf name names
+
+mutual
+  -- the outcome of a text, read from the left, while the macros of these names are being expanded and behind the
+  -- bytes that were made of what stood before it
+  pub data Expands (meaning : List ℕ → Meaning) : (opened : List (List ℕ)) (made text : List ℕ) → Outcome → Type 0 where
+    ends : {opened : List (List ℕ)} {made text : List ℕ} → front text ≡ nothing → Expands meaning opened made text (gives made)
+    goes_on : {opened : List (List ℕ)} {made text : List ℕ} {outcome : Outcome} (piece : Piece) (rest added : List ℕ) →
+        front text ≡ first piece rest → Adds meaning opened piece (gives added) → length (made ++ added) ≤ limit →
+        Expands meaning opened (made ++ added) rest outcome → Expands meaning opened made text outcome
+    is_too_long : {opened : List (List ℕ)} {made text : List ℕ} (piece : Piece) (rest added : List ℕ) →
+        front text ≡ first piece rest → Adds meaning opened piece (gives added) → limit < length (made ++ added) →
+        Expands meaning opened made text (fails too_long)
+    meets_fault : {opened : List (List ℕ)} {made text : List ℕ} (piece : Piece) (rest : List ℕ) (fault : Fault) →
+        front text ≡ first piece rest → Adds meaning opened piece (fails fault) → Expands meaning opened made text (fails fault)
+
+  -- what a piece adds to the bytes before it, or the fault that is met in it
+  pub data Adds (meaning : List ℕ → Meaning) : (opened : List (List ℕ)) → Piece → Outcome → Type 0 where
+    adds_bytes : {opened : List (List ℕ)} {bytes : List ℕ} → Adds meaning opened (plain bytes) (gives bytes)
+    is_unclosed : {opened : List (List ℕ)} → Adds meaning opened unclosed (fails not_closed)
+    is_nested : {opened : List (List ℕ)} → Adds meaning opened nested (fails dollar_in_brackets)
+    is_undefined : {opened : List (List ℕ)} {name : List ℕ} {use_of : Use} →
+        meaning name ≡ undefined → Adds meaning opened (reference name use_of) (gives [])
+    is_dynamic : {opened : List (List ℕ)} {name : List ℕ} {use_of : Use} (value : List ℕ) →
+        meaning name ≡ dynamic value → length value ≤ limit → Adds meaning opened (reference name use_of) (gives (used use_of value))
+    is_long_dynamic : {opened : List (List ℕ)} {name : List ℕ} {use_of : Use} (value : List ℕ) →
+        meaning name ≡ dynamic value → limit < length value → Adds meaning opened (reference name use_of) (fails too_long)
+    is_loop : {opened : List (List ℕ)} {name : List ℕ} {use_of : Use} (text : List ℕ) →
+        meaning name ≡ defined text → IsOneOf name opened → Adds meaning opened (reference name use_of) (fails (refers_to_itself name))
+    has_value : {opened : List (List ℕ)} {name : List ℕ} {use_of : Use} (text value : List ℕ) →
+        meaning name ≡ defined text → (IsOneOf name opened → ⊥) → Expands meaning (name ∷ opened) [] text (gives value) →
+        Adds meaning opened (reference name use_of) (gives (used use_of value))
+    has_fault : {opened : List (List ℕ)} {name : List ℕ} {use_of : Use} (text : List ℕ) (fault : Fault) →
+        meaning name ≡ defined text → (IsOneOf name opened → ⊥) → Expands meaning (name ∷ opened) [] text (fails fault) →
+        Adds meaning opened (reference name use_of) (fails fault)
+
+-- the outcome of a text in which nothing has been read yet
+abbrev pub ExpandsTo : (List ℕ → Meaning) → (text : List ℕ) → Outcome → Type 0
+ExpandsTo meaning text outcome = Expands meaning [] [] text outcome
+
+-- the fault is the text's outcome; want of memory says nothing of the text
+abbrev pub ExpandsToFault : (List ℕ → Meaning) → (text : List ℕ) → MacroFault → Type 0
+ExpandsToFault meaning text OutOfMemory = Unit {0}
+ExpandsToFault meaning text (Loop name) = ExpandsTo meaning text (fails (refers_to_itself name.items))
+ExpandsToFault meaning text Unclosed = ExpandsTo meaning text (fails not_closed)
+ExpandsToFault meaning text NestedReference = ExpandsTo meaning text (fails dollar_in_brackets)
+ExpandsToFault meaning text TooLong = ExpandsTo meaning text (fails too_long)
+
+-- the fault of an appending call that would leave this many bytes
+abbrev pub IsTooLongAt : ℕ → MacroFault → Type 0
+IsTooLongAt total OutOfMemory = Unit {0}
+IsTooLongAt total TooLong = limit < total
+IsTooLongAt total _ = ⊥
+
+-- the fault of a call that gives a value, where there is one
+abbrev pub IsLongValue : Option (List ℕ) → MacroFault → Type 0
+IsLongValue (Some value) fault = IsTooLongAt (length value) fault
+IsLongValue None OutOfMemory = Unit {0}
+IsLongValue None _ = ⊥

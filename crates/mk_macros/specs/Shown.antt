@@ -1,0 +1,39 @@
+-- The crate's own values as the definitions see them.
+use Rattle.std.specs.Prelude.{ℕ, List, Option, Some, None}
+use Rattle.std.specs.Borrow.{Bor}
+use Rattle.mk_macros.specs.Words as word
+use Rattle.mk_macros.specs.Reference as text
+use Rattle.mk_macros.specs.declared.substitution.Pattern.{Pattern}
+use Rattle.mk_macros.specs.declared.substitution.WordChange.{WordChange}
+use Rattle.mk_macros.specs.declared.substitution.WordChange.TheVariants.{ByPattern, Directory, File}
+use Rattle.mk_macros.specs.declared.reference.Use.{Use}
+use Rattle.mk_macros.specs.declared.reference.Use.TheVariants.{Whole, Words}
+use Rattle.mk_macros.specs.declared.reference.Piece.{Piece}
+use Rattle.mk_macros.specs.declared.reference.Piece.TheVariants.{Plain, Reference, Unclosed, Nested}
+
+-- a pattern, by its bytes
+abbrev pub shown_pattern : Pattern → word.Pattern
+shown_pattern p = record { before = p.before.now; after = p.after.now; front = p.front.now; keeps_stem = p.keeps_stem; back = p.back.now }
+
+-- how each word changes
+abbrev pub shown_change : WordChange → word.WordChange
+shown_change (ByPattern p) = word.by_pattern (shown_pattern p)
+shown_change Directory = word.to_directory
+shown_change File = word.to_file
+
+-- what a reference takes
+abbrev pub shown_use : Use → text.Use
+shown_use Whole = text.whole
+shown_use (Words change) = text.words_changed (shown_change change)
+
+-- a piece of a text
+abbrev pub shown_piece : Piece → text.Piece
+shown_piece (Plain bytes) = text.plain bytes.now
+shown_piece (Reference name use_of) = text.reference name.now (shown_use use_of)
+shown_piece Unclosed = text.unclosed
+shown_piece Nested = text.nested
+
+-- what `next_piece` answers
+abbrev pub shown_front : Option (Piece × Bor (List ℕ)) → text.Front
+shown_front None = text.nothing
+shown_front (Some found) = text.first (shown_piece found.0) found.1.now

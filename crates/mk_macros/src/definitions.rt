@@ -1,0 +1,197 @@
+// What is defined for each name, by rank.
+ghost use Rattle.std.specs.Prelude.{◌≡◌, ◌≢◌, ℕ, List, [], ◌∷◌, ◌++◌, None, Some, OnOk, OnErr, IfOk, option_map, option_copied};
+ghost use Rattle.std.specs.Option.{option_map_or};
+ghost use Rattle.mk_macros.specs.Definitions.{ranks_of, ranks_at, no_ranks, in_force, with_rank, base_of, appended, redefined, or_else};
+
+use indexmap::IndexMap;
+use std::alloc::{AllocError, Global};
+
+/// Where a definition stands. An earlier rank hides a later one.
+#[derive(Clone, Copy, Debug, PartialEq, Eq)]
+pub enum Rank {
+    CommandLine,
+    Makefile,
+    Environment,
+    /// The tool's own.
+    Tool,
+}
+
+/// What is defined for one name.
+#[derive(Drop)]
+pub(crate) struct Definition {
+    command_line: Option<Vec<u8>>,
+    makefile: Option<Vec<u8>>,
+    environment: Option<Vec<u8>>,
+    tool: Option<Vec<u8>>,
+}
+
+fn text_of(text: &Option<Vec<u8>>) -> Option<&[u8]>
+    ensures { option_copied result ≡ option_map (λ v. v.items) text.now }
+{
+    match text {
+        Some(text) => Some(text.as_slice()),
+        None => None,
+    }
+}
+
+/// Appends a text behind a space, or alone where nothing stands before it.
+fn append_text(text: &mut Vec<u8>, value: &[u8]) -> Result<(), AllocError>
+    ensures ok { OnOk result (text.new.items ≡ appended (Some text.old.items) value.now) }
+    ensures err { OnErr result (text.new.items ≡ text.old.items) }
+{
+    if text.is_empty() {
+        return text.extend_from_slice(value);
+    }
+    text.reserve(value.len() + 1)?;
+    text.push(b' ').unwrap();
+    text.extend_from_slice(value).unwrap();
+    Ok(())
+}
+
+impl Definition {
+    fn new() -> Definition
+        ensures { ranks_of result ≡ no_ranks }
+    {
+        Definition {
+            command_line: None,
+            makefile: None,
+            environment: None,
+            tool: None,
+        }
+    }
+
+    /// The text in force.
+    fn text(&self) -> Option<&[u8]>
+        ensures { option_copied result ≡ in_force (ranks_of self.now) }
+    {
+        if let Some(text) = &self.command_line {
+            return Some(text.as_slice());
+        }
+        if let Some(text) = &self.makefile {
+            return Some(text.as_slice());
+        }
+        if let Some(text) = &self.environment {
+            return Some(text.as_slice());
+        }
+        text_of(&self.tool)
+    }
+
+    fn put(&mut self, rank: Rank, text: Vec<u8>)
+        ensures { ranks_of self.new ≡ with_rank (ranks_of self.old) rank text.items }
+    {
+        match rank {
+            Rank::CommandLine => self.command_line = Some(text),
+            Rank::Makefile => self.makefile = Some(text),
+            Rank::Environment => self.environment = Some(text),
+            Rank::Tool => self.tool = Some(text),
+        }
+    }
+}
+
+/// Appends to the text at one rank, or, where there is none, to the text that it inherits.
+fn append_rank(
+    alloc: Global,
+    text: &mut Option<Vec<u8>>,
+    inherited: Option<&[u8]>,
+    value: &[u8],
+) -> Result<(), AllocError>
+    ensures ok { OnOk result
+        (option_map (λ v. v.items) text.new
+        ≡ Some (appended (or_else (option_map (λ v. v.items) text.old) (option_copied inherited.entry)) value.now)) }
+    ensures err { OnErr result (option_map (λ v. v.items) text.new ≡ option_map (λ v. v.items) text.old) }
+{
+    if let Some(text) = text {
+        return append_text(text, value);
+    }
+    let mut joined = Vec::from_slice(alloc, inherited.unwrap_or(&[]))?;
+    append_text(&mut joined, value)?;
+    *text = Some(joined);
+    Ok(())
+}
+
+impl Definition {
+    fn append(&mut self, alloc: Global, rank: Rank, value: &[u8]) -> Result<(), AllocError>
+        ensures ok { OnOk result
+            (ranks_of self.new
+            ≡ with_rank (ranks_of self.old) rank (appended (base_of (ranks_of self.old) rank) value.now)) }
+        ensures err { OnErr result (ranks_of self.new ≡ ranks_of self.old) }
+    {
+        match rank {
+            Rank::CommandLine => append_rank(alloc, &mut self.command_line, None, value),
+            Rank::Makefile => {
+                append_rank(alloc, &mut self.makefile, text_of(&self.environment), value)
+            }
+            Rank::Environment => append_rank(alloc, &mut self.environment, None, value),
+            Rank::Tool => append_rank(alloc, &mut self.tool, None, value),
+        }
+    }
+
+    fn define(
+        &mut self,
+        alloc: Global,
+        rank: Rank,
+        value: &[u8],
+        append: bool,
+    ) -> Result<(), AllocError>
+        ensures ok { OnOk result (ranks_of self.new ≡ redefined (ranks_of self.old) rank value.now append) }
+        ensures err { OnErr result (ranks_of self.new ≡ ranks_of self.old) }
+    {
+        if append {
+            return self.append(alloc, rank, value);
+        }
+        let text = Vec::from_slice(alloc, value)?;
+        self.put(rank, text);
+        Ok(())
+    }
+}
+
+/// The definitions that texts are expanded with.
+#[derive(Drop)]
+pub struct Macros {
+    definitions: IndexMap<Vec<u8>, Definition>,
+}
+
+impl Macros {
+    pub fn new(alloc: Global) -> Macros
+        ensures { (name : List ℕ) → ranks_at result name ≡ no_ranks }
+    {
+        Macros {
+            definitions: IndexMap::new(alloc),
+        }
+    }
+
+    /// Defines a name at a rank, in place of what the rank had for it, or at its end where `append` is set. Only
+    /// makefiles append: an appending definition there adds to what the environment has, where no makefile has
+    /// defined the name before.
+    ///
+    /// Where memory is refused, every name has what it had.
+    pub fn define(
+        &mut self,
+        alloc: Global,
+        rank: Rank,
+        name: &[u8],
+        value: &[u8],
+        append: bool,
+    ) -> Result<(), AllocError>
+        ensures ok { OnOk result
+            (ranks_at self.new name.now ≡ redefined (ranks_at self.old name.now) rank value.now append) }
+        ensures others { (n : List ℕ) → n ≢ name.now → ranks_at self.new n ≡ ranks_at self.old n }
+        ensures err { OnErr result (ranks_at self.new name.now ≡ ranks_at self.old name.now) }
+    {
+        if let Some(definition) = self.definitions.get_mut(name) {
+            return definition.define(alloc, rank, value, append);
+        }
+        let mut definition = Definition::new();
+        definition.define(alloc, rank, value, append)?;
+        self.definitions
+            .insert(Vec::from_slice(alloc, name)?, definition)?;
+        Ok(())
+    }
+
+    /// The text in force for a name.
+    pub(crate) fn text(&self, name: &[u8]) -> Option<&[u8]>
+        ensures { option_copied result ≡ in_force (ranks_at self.now name.now) }
+    {
+        self.definitions.get(name)?.text()
+    }
+}

@@ -1,0 +1,132 @@
+// The dynamic macros of a recipe line: `$@`, `$<`, `$*`, `$?`, and their D and F parts.
+ghost use Rattle.std.specs.Prelude.{◌≡◌, ◌≤◌, ◌<◌, [], ◌∷◌, ◌++◌, length, map, option_map, IfOk, IfErr, IfSome};
+ghost use Rattle.std.specs.List.{join_with_byte};
+ghost use Rattle.mk_macros.specs.Words.{changed_words};
+ghost use Rattle.mk_macros.specs.Shown.{shown_change};
+ghost use Rattle.mk_macros.specs.Dynamic.{whole_value, part_value, recipe_value, dynamic_value};
+ghost use Rattle.mk_macros.specs.Expansion.{limit, IsTooLongAt, IsLongValue};
+
+use crate::fault::{MAX_EXPANSION_BYTES, MacroFault};
+use crate::substitution::{WordChange, append_changed_words};
+use std::alloc::{AllocError, Global};
+
+/// What a recipe's dynamic macros stand for. An explicit recipe has no source and no stem: both are empty.
+#[derive(Clone, Copy)]
+pub struct RecipeNames<'a> {
+    pub target: &'a [u8],
+    pub source: &'a [u8],
+    pub stem: &'a [u8],
+    /// The words of `$?`.
+    pub newer: &'a [&'a [u8]],
+}
+
+/// The line whose text is expanded.
+#[derive(Clone, Copy)]
+pub enum Dynamic<'a> {
+    /// There are no dynamic macros: their names are looked up like any other.
+    RuleLine,
+    RecipeLine(RecipeNames<'a>),
+}
+
+/// The words with one space between each two.
+fn joined(alloc: Global, words: &[&[u8]]) -> Result<Vec<u8>, AllocError>
+    ensures { IfOk result (λ v. v.items ≡ join_with_byte 32 (map (λ word. word.now) words.now)) }
+{
+    let mut text = Vec::new(alloc);
+    for (i, word) in words.iter().enumerate() {
+        if i > 0 {
+            text.push(b' ')?;
+        }
+        text.extend_from_slice(*word)?;
+    }
+    Ok(text)
+}
+
+impl<'a> RecipeNames<'a> {
+    fn whole_value(&self, alloc: Global, sign: u8) -> Result<Option<Vec<u8>>, AllocError>
+        ensures { IfOk result (λ found. option_map (λ v. v.items) found ≡ whole_value self.now sign) }
+    {
+        match sign {
+            b'@' => Ok(Some(Vec::from_slice(alloc, self.target)?)),
+            b'<' => Ok(Some(Vec::from_slice(alloc, self.source)?)),
+            b'*' => Ok(Some(Vec::from_slice(alloc, self.stem)?)),
+            b'?' => Ok(Some(joined(alloc, self.newer)?)),
+            _ => Ok(None),
+        }
+    }
+}
+
+/// The value, where it stays within the limit.
+fn checked(value: Vec<u8>) -> Result<Vec<u8>, MacroFault>
+    ensures ok { IfOk result (λ v. (v.items ≡ value.items) × (length v.items ≤ limit)) }
+    ensures err { IfErr result (IsTooLongAt (length value.items)) }
+{
+    if value.len() > MAX_EXPANSION_BYTES {
+        return Err(MacroFault::TooLong);
+    }
+    Ok(value)
+}
+
+/// The value with each of its words cut to its directory or its file.
+fn part_of(alloc: Global, value: &[u8], change: &WordChange<'_>) -> Result<Vec<u8>, MacroFault>
+    ensures ok { IfOk result
+        (λ v. (v.items ≡ changed_words (shown_change change.now) value.now) × (length v.items ≤ limit)) }
+    ensures err { IfErr result (IsTooLongAt (length (changed_words (shown_change change.now) value.now))) }
+{
+    let mut part = Vec::new(alloc);
+    append_changed_words(&mut part, value, change)?;
+    Ok(part)
+}
+
+impl<'a> RecipeNames<'a> {
+    fn part_value(
+        &self,
+        alloc: Global,
+        sign: u8,
+        change: &WordChange<'_>,
+    ) -> Result<Option<Vec<u8>>, MacroFault>
+        ensures ok { IfOk result
+            (λ found. (option_map (λ v. v.items) found
+            ≡ option_map (changed_words (shown_change change.now)) (whole_value self.now sign))
+            × IfSome found (λ v. length v.items ≤ limit)) }
+        ensures err { IfErr result
+            (IsLongValue (option_map (changed_words (shown_change change.now)) (whole_value self.now sign))) }
+    {
+        match self.whole_value(alloc, sign)? {
+            Some(value) => Ok(Some(part_of(alloc, &value, change)?)),
+            None => Ok(None),
+        }
+    }
+
+    fn value(&self, alloc: Global, name: &[u8]) -> Result<Option<Vec<u8>>, MacroFault>
+        ensures ok { IfOk result
+            (λ found. (option_map (λ v. v.items) found ≡ recipe_value self.now name.now)
+            × IfSome found (λ v. length v.items ≤ limit)) }
+        ensures err { IfErr result (IsLongValue (recipe_value self.now name.now)) }
+    {
+        match name {
+            [sign] => match self.whole_value(alloc, *sign)? {
+                Some(value) => Ok(Some(checked(value)?)),
+                None => Ok(None),
+            },
+            [sign, b'D'] => self.part_value(alloc, *sign, &WordChange::Directory),
+            [sign, b'F'] => self.part_value(alloc, *sign, &WordChange::File),
+            _ => Ok(None),
+        }
+    }
+}
+
+impl<'a> Dynamic<'a> {
+    /// The value of a dynamic macro, or none where the name stands for none in this line.
+    pub(crate) fn value(&self, alloc: Global, name: &[u8]) -> Result<Option<Vec<u8>>, MacroFault>
+        ensures ok { IfOk result
+            (λ found. (option_map (λ v. v.items) found ≡ dynamic_value self.now name.now)
+            × IfSome found (λ v. length v.items ≤ limit)) }
+        ensures err { IfErr result (IsLongValue (dynamic_value self.now name.now)) }
+    {
+        match self {
+            Dynamic::RuleLine => Ok(None),
+            Dynamic::RecipeLine(names) => names.value(alloc, name),
+        }
+    }
+}

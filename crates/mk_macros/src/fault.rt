@@ -1,0 +1,45 @@
+// Why a text has no expansion.
+use bstr::BStr;
+use std::alloc::{AllocError, AllocFailed};
+use thiserror::Error;
+
+/// The most bytes that a text or the value of a macro may grow to.
+pub const MAX_EXPANSION_BYTES: usize = 1_048_576;
+
+/// The first fault that a reading from the left meets. `OutOfMemory` alone says nothing of the text.
+#[derive(Debug, Drop, PartialEq, Eq, Error)]
+pub enum MacroFault {
+    #[error("out of memory")]
+    OutOfMemory,
+    #[error("macro {} refers to itself", BStr::new(.0))]
+    Loop(Vec<u8>),
+    #[error("macro reference not closed")]
+    Unclosed,
+    #[error("nested macro reference")]
+    NestedReference,
+    /// Over `MAX_EXPANSION_BYTES`, in the result or in a value on the way.
+    #[error("expansion too long")]
+    TooLong,
+}
+
+impl From<AllocError> for MacroFault {
+    ghost use Rattle.std.specs.Prelude.{◌≡◌};
+    ghost use Rattle.mk_macros.specs.declared.fault.MacroFault.TheVariants.{OutOfMemory};
+
+    ghost from_gives = { λ _ fault. fault ≡ OutOfMemory };
+
+    fn from(_error: AllocError) -> MacroFault {
+        MacroFault::OutOfMemory
+    }
+}
+
+impl<T: Drop> From<AllocFailed<T>> for MacroFault {
+    ghost use Rattle.std.specs.Prelude.{◌≡◌};
+    ghost use Rattle.mk_macros.specs.declared.fault.MacroFault.TheVariants.{OutOfMemory};
+
+    ghost from_gives = { λ _ fault. fault ≡ OutOfMemory };
+
+    fn from(_error: AllocFailed<T>) -> MacroFault {
+        MacroFault::OutOfMemory
+    }
+}

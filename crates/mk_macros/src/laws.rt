@@ -1,0 +1,39 @@
+// What holds of the definitions alone.
+ghost use Rattle.std.specs.Prelude.{◌≡◌, ◌≢◌, ℕ, List, [], ◌∷◌, ◌++◌, None};
+ghost use Rattle.std.specs.List.{join_with_byte};
+ghost use Rattle.mk_macros.specs.Words.{place_of, words, AreWords, pattern_of, by_pattern, changed_word, directory_of, file_of};
+ghost use Rattle.mk_macros.specs.Expansion.{Meaning, Outcome, Expands};
+
+/// A text has one outcome, whatever its names stand for.
+pub fn one_outcome()
+    ensures { (meaning : List ℕ → Meaning) (opened : List (List ℕ)) (made text : List ℕ) (a b : Outcome)
+        → Expands meaning opened made text a → Expands meaning opened made text b → a ≡ b }
+{}
+
+/// A substitution replaces the ending of a word, or what stands before and after its stem, and leaves other words.
+/// The byte 37 is `%`.
+pub fn substitutions_change_words()
+    ensures ending { (old new stem : List ℕ) → place_of 37 old ≡ None
+        → changed_word (by_pattern (pattern_of old new)) (stem ++ old) ≡ stem ++ new }
+    ensures other_words { (old new word : List ℕ) → place_of 37 old ≡ None
+        → ((stem : List ℕ) → word ≢ stem ++ old) → changed_word (by_pattern (pattern_of old new)) word ≡ word }
+    ensures stem { (before after front back stem : List ℕ) → place_of 37 before ≡ None → place_of 37 front ≡ None
+        → changed_word (by_pattern (pattern_of (before ++ 37 ∷ after) (front ++ 37 ∷ back))) (before ++ (stem ++ after))
+        ≡ front ++ (stem ++ back) }
+{}
+
+/// Words joined by one space are the words of the text.
+pub fn words_of_joined_words()
+    ensures { (ws : List (List ℕ)) → AreWords ws → words (join_with_byte 32 ws) ≡ ws }
+{}
+
+/// The directory and the file of a word are what stands before and behind its last slash. The byte 47 is `/`, and 46
+/// is `.`.
+pub fn parts_of_words()
+    ensures directory { (b : ℕ) (before behind : List ℕ) → place_of 47 behind ≡ None
+        → directory_of (b ∷ (before ++ 47 ∷ behind)) ≡ b ∷ before }
+    ensures root { (behind : List ℕ) → place_of 47 behind ≡ None → directory_of (47 ∷ behind) ≡ 47 ∷ [] }
+    ensures file { (before behind : List ℕ) → place_of 47 behind ≡ None → file_of (before ++ 47 ∷ behind) ≡ behind }
+    ensures no_slash { (word : List ℕ) → place_of 47 word ≡ None
+        → (directory_of word ≡ 46 ∷ []) × (file_of word ≡ word) }
+{}

@@ -1,0 +1,15 @@
+// Macros of makefiles: what is defined for a name, by rank, and the expansion of the references in a text.
+#![tactic(auto)]
+
+mod definitions;
+mod dynamic;
+mod expansion;
+mod fault;
+mod laws;
+mod reference;
+mod substitution;
+
+pub use definitions::{Macros, Rank};
+pub use dynamic::{Dynamic, RecipeNames};
+pub use fault::{MAX_EXPANSION_BYTES, MacroFault};
+pub use laws::{one_outcome, parts_of_words, substitutions_change_words, words_of_joined_words};

@@ -1,0 +1,213 @@
+// Words of a value, and how a reference changes each of them.
+ghost use Rattle.std.specs.Prelude.{◌≡◌, ◌≤◌, ◌<◌, [], ◌∷◌, ◌++◌, length, not, position, OnOk, IfErr, IfSome, MatchOption, option_copied};
+ghost use Rattle.mk_macros.specs.Words.{is_blank, place_of, words, pattern_of, stem_of, last_slash, directory_of, file_of, replacement, changed_word, changed_words};
+ghost use Rattle.mk_macros.specs.Shown.{shown_pattern, shown_change};
+ghost use Rattle.mk_macros.specs.Expansion.{limit, IsTooLongAt};
+
+use crate::fault::{MAX_EXPANSION_BYTES, MacroFault};
+
+/// Old and new of a substitution, parted where the stem stands.
+#[derive(Clone, Copy)]
+pub(crate) struct Pattern<'a> {
+    before: &'a [u8],
+    after: &'a [u8],
+    front: &'a [u8],
+    keeps_stem: bool,
+    back: &'a [u8],
+}
+
+/// How each word of a value changes.
+#[derive(Clone, Copy)]
+pub(crate) enum WordChange<'a> {
+    ByPattern(Pattern<'a>),
+    Directory,
+    File,
+}
+
+/// The first place of a byte.
+pub(crate) fn place_of(bytes: &[u8], byte: u8) -> Option<usize>
+    ensures value { result ≡ place_of byte bytes.now }
+    ensures within { IfSome result (λ place. place < length bytes.now) }
+{
+    bytes.iter().position(|b| *b == byte)
+}
+
+fn is_blank(byte: &u8) -> bool
+    ensures { result ≡ is_blank byte.now }
+{
+    *byte == b' ' || *byte == b'\t'
+}
+
+impl<'a> Pattern<'a> {
+    /// Parts old and new at their first `%`.
+    pub(crate) fn new(old: &'a [u8], new: &'a [u8]) -> Pattern<'a>
+        ensures { shown_pattern result ≡ pattern_of old.now new.now }
+    {
+        let Some(stem) = place_of(old, b'%') else {
+            return Pattern {
+                before: &[],
+                after: old,
+                front: &[],
+                keeps_stem: true,
+                back: new,
+            };
+        };
+        let (before, after) = (&old[..stem], &old[stem + 1..]);
+        match place_of(new, b'%') {
+            Some(place) => Pattern {
+                before,
+                after,
+                front: &new[..place],
+                keeps_stem: true,
+                back: &new[place + 1..],
+            },
+            None => Pattern {
+                before,
+                after,
+                front: new,
+                keeps_stem: false,
+                back: &[],
+            },
+        }
+    }
+
+    /// What stands between before and after, in a word of that form.
+    fn stem<'w>(&self, word: &'w [u8]) -> Option<&'w [u8]>
+        ensures { option_copied result ≡ stem_of (shown_pattern self.now) word.now }
+    {
+        word.strip_prefix(self.before)?.strip_suffix(self.after)
+    }
+}
+
+/// Appends bytes, where the whole stays within the limit.
+pub(crate) fn append(out: &mut Vec<u8>, bytes: &[u8]) -> Result<(), MacroFault>
+    requires { length out.old.items ≤ limit }
+    ensures ok { OnOk result ((out.new.items ≡ out.old.items ++ bytes.now) × (length out.new.items ≤ limit)) }
+    ensures err { IfErr result (IsTooLongAt (length (out.old.items ++ bytes.now))) }
+{
+    if bytes.len() > MAX_EXPANSION_BYTES - out.len() {
+        return Err(MacroFault::TooLong);
+    }
+    out.extend_from_slice(bytes)?;
+    Ok(())
+}
+
+fn word_start(text: &[u8]) -> Option<usize>
+    ensures value { result ≡ position (λ b. not (is_blank b)) text.now }
+    ensures within { IfSome result (λ start. start < length text.now) }
+{
+    text.iter().position(|b| !is_blank(b))
+}
+
+fn next_blank(text: &[u8]) -> Option<usize>
+    ensures value { result ≡ position is_blank text.now }
+    ensures within { IfSome result (λ end. end < length text.now) }
+{
+    text.iter().position(|b| is_blank(b))
+}
+
+/// The first word of a text, and what stands behind it.
+fn next_word(text: &[u8]) -> Option<(&[u8], &[u8])>
+    ensures { MatchOption result
+        (words text.now ≡ [])
+        (λ found. (words text.now ≡ found.0.now ∷ words found.1.now) × (length found.1.now < length text.now)) }
+{
+    let start = word_start(text)?;
+    let text = &text[start..];
+    match next_blank(text) {
+        None => Some((text, &[])),
+        Some(end) => Some((&text[..end], &text[end..])),
+    }
+}
+
+fn last_slash(word: &[u8]) -> Option<usize>
+    ensures value { result ≡ last_slash word.now }
+    ensures within { IfSome result (λ slash. slash < length word.now) }
+{
+    let mut last = None;
+    for (i, byte) in word.iter().enumerate() {
+        if *byte == b'/' {
+            last = Some(i);
+        }
+    }
+    last
+}
+
+fn directory_of(word: &[u8]) -> &[u8]
+    ensures { result.now ≡ directory_of word.now }
+{
+    match last_slash(word) {
+        None => b".",
+        Some(0) => b"/",
+        Some(slash) => &word[..slash],
+    }
+}
+
+fn file_of(word: &[u8]) -> &[u8]
+    ensures { result.now ≡ file_of word.now }
+{
+    match last_slash(word) {
+        None => word,
+        Some(slash) => &word[slash + 1..],
+    }
+}
+
+fn append_changed_word(
+    out: &mut Vec<u8>,
+    word: &[u8],
+    change: &WordChange<'_>,
+) -> Result<(), MacroFault>
+    requires { length out.old.items ≤ limit }
+    ensures ok { OnOk result ((out.new.items ≡ out.old.items ++ changed_word (shown_change change.now) word.now)
+        × (length out.new.items ≤ limit)) }
+    ensures err { IfErr result (IsTooLongAt (length (out.old.items ++ changed_word (shown_change change.now) word.now))) }
+{
+    match change {
+        WordChange::Directory => append(out, directory_of(word)),
+        WordChange::File => append(out, file_of(word)),
+        WordChange::ByPattern(pattern) => match pattern.stem(word) {
+            None => append(out, word),
+            Some(stem) => append_replacement(out, pattern, stem),
+        },
+    }
+}
+
+fn append_replacement(
+    out: &mut Vec<u8>,
+    pattern: &Pattern<'_>,
+    stem: &[u8],
+) -> Result<(), MacroFault>
+    requires { length out.old.items ≤ limit }
+    ensures ok { OnOk result ((out.new.items ≡ out.old.items ++ replacement (shown_pattern pattern.now) stem.now)
+        × (length out.new.items ≤ limit)) }
+    ensures err { IfErr result (IsTooLongAt (length (out.old.items ++ replacement (shown_pattern pattern.now) stem.now))) }
+{
+    append(out, pattern.front)?;
+    if pattern.keeps_stem {
+        append(out, stem)?;
+    }
+    append(out, pattern.back)
+}
+
+/// Appends a value with each of its words changed, joined by one space.
+pub(crate) fn append_changed_words(
+    out: &mut Vec<u8>,
+    value: &[u8],
+    change: &WordChange<'_>,
+) -> Result<(), MacroFault>
+    requires { length out.old.items ≤ limit }
+    ensures ok { OnOk result ((out.new.items ≡ out.old.items ++ changed_words (shown_change change.now) value.now)
+        × (length out.new.items ≤ limit)) }
+    ensures err { IfErr result (IsTooLongAt (length (out.old.items ++ changed_words (shown_change change.now) value.now))) }
+{
+    let Some((word, mut rest)) = next_word(value) else {
+        return Ok(());
+    };
+    append_changed_word(out, word, change)?;
+    while let Some((word, behind)) = next_word(rest) {
+        append(out, b" ")?;
+        append_changed_word(out, word, change)?;
+        rest = behind;
+    }
+    Ok(())
+}
