@@ -4,6 +4,8 @@ use clap::{Arg, ArgAction, Command};
 use std::alloc::Global;
 use std::{env, io};
 
+const DEFAULT_FILE: &str = ".make.state";
+
 /// What the words ask for.
 #[derive(Drop)]
 pub enum Request {
@@ -49,13 +51,13 @@ fn file_named(alloc: Global, words: &[String]) -> Result<String, clap::Error> {
     let file = Arg::new(alloc, "FILE")
         .help("The state file; its other side is FILE.2. A file that isn't there is an empty side")
         .action(ArgAction::Set)
-        .default_value(".make.state");
+        .default_value(DEFAULT_FILE);
     let command = Command::new(alloc, "dmk_state")
         .bin_name("dmk_state")?
         .version("0.1.0")
         .about("Lists what a state file of dmk remembers of its targets")
         .arg(file)?;
     let found = command.try_get_matches_from(words)?;
-    let name = found.get_str("FILE").unwrap_or(".make.state");
+    let name = found.get_str("FILE").unwrap_or(DEFAULT_FILE);
     Ok(String::from_str(alloc, name)?)
 }

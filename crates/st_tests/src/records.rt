@@ -1,11 +1,8 @@
-//! Records: their limits, their bytes, and what is answered for bytes that hold none.
+//! Bytes of records, and what is answered for bytes that hold none.
 
+use crate::builders::{list, none};
 use st_records::{ByteStrings, Bytes, DecodeFault, Entry, Phase, Record, RecordFault, decode};
-use std::alloc::{AllocError, Global};
-use std::process::Abort;
 use std::test::Fail;
-
-// ---- worked bytes
 
 const BEGUN: &[u8] = b"\x01\x03\0\0\0a.o";
 
@@ -31,280 +28,95 @@ const WORKED: [(&str, &[u8]); 7] = [
     ("kept failed", KEPT_FAILED),
 ];
 
-// ---- records to test with
-
-fn bytes(alloc: Global, text: &[u8]) -> Result<Bytes, AllocError> {
-    Bytes::from_slice(alloc, text)
-}
-
-fn repeated(alloc: Global, byte: u8, count: usize) -> Result<Bytes, AllocError> {
-    Ok(Bytes::new(vec![in alloc; byte; count]?))
-}
-
-fn list(alloc: Global, texts: &[&[u8]]) -> Result<ByteStrings, AllocError> {
-    let mut strings = ByteStrings::empty(alloc);
-    for text in texts {
-        strings.push(bytes(alloc, text)?)?;
-    }
-    Ok(strings)
-}
-
-/// So many strings of so many bytes `x`.
-fn many(alloc: Global, count: u32, len: usize) -> Result<ByteStrings, AllocError> {
-    let mut strings = ByteStrings::empty(alloc);
-    for _ in 0..count {
-        strings.push(repeated(alloc, b'x', len)?)?;
-    }
-    Ok(strings)
-}
-
-fn begun(alloc: Global, target: &[u8]) -> Result<Record, AllocError> {
-    Ok(Record::Begun {
-        target: bytes(alloc, target)?,
-    })
-}
-
-fn done(
-    alloc: Global,
-    target: &[u8],
-    commands: ByteStrings,
-    hidden: ByteStrings,
-) -> Result<Record, AllocError> {
-    Ok(Record::Done {
-        target: bytes(alloc, target)?,
-        commands,
-        hidden,
-    })
-}
-
-fn none(alloc: Global) -> ByteStrings {
-    ByteStrings::empty(alloc)
-}
-
-fn expect_check(rt: &impl Abort, name: &str, record: Record, want: Result<(), RecordFault>) {
-    let got = record.check();
-    assert_eq!(rt; got, want, "{name}");
-}
-
-// ---- limits
-
-#[test]
-fn names_have_1_to_4096_bytes(rt: HostRuntime) -> Result<(), Fail> {
-    let alloc = rt.alloc();
-    let most = repeated(alloc, b'n', 4096)?;
-    let more = repeated(alloc, b'n', 4097)?;
-    expect_check(
-        &rt,
-        "a target of 4,096 bytes",
-        begun(alloc, most.as_slice())?,
-        Ok(()),
-    );
-    expect_check(
-        &rt,
-        "a target of 4,097 bytes",
-        begun(alloc, more.as_slice())?,
-        Err(RecordFault::TooLong),
-    );
-    expect_check(
-        &rt,
+// Bytes at whose front no good record stands, and the fault of each.
+const NO_RECORDS: [(&str, &[u8], DecodeFault); 22] = [
+    ("nothing", b"", DecodeFault::Short),
+    (
+        "a length far past the end",
+        b"\x01\xff\xff\xff\xffa",
+        DecodeFault::Short,
+    ),
+    ("a kind of 9", b"\x09", DecodeFault::BadKind),
+    ("a kind of 0", b"\0", DecodeFault::BadKind),
+    ("a kind of 5", b"\x05\x01\0\0\0a", DecodeFault::BadKind),
+    (
+        "a status of 257",
+        b"\x03\x01\0\0\0a\x01\x01\0\0",
+        DecodeFault::BadKind,
+    ),
+    (
+        "a status over 65,535",
+        b"\x03\x01\0\0\0a\0\0\x01\0",
+        DecodeFault::BadKind,
+    ),
+    (
+        "three bytes of a status that is not listed",
+        b"\x03\x01\0\0\0a\xff\xff\xff",
+        DecodeFault::Short,
+    ),
+    (
         "an empty target",
-        begun(alloc, b"")?,
-        Err(RecordFault::EmptyName),
-    );
-    expect_check(
-        &rt,
-        "a hidden name of 4,096 bytes",
-        done(alloc, b"a", none(alloc), many(alloc, 1, 4096)?)?,
-        Ok(()),
-    );
-    expect_check(
-        &rt,
-        "a hidden name of 4,097 bytes",
-        done(alloc, b"a", none(alloc), many(alloc, 1, 4097)?)?,
-        Err(RecordFault::TooLong),
-    );
-    expect_check(
-        &rt,
+        b"\x01\0\0\0\0",
+        DecodeFault::Check(RecordFault::EmptyName),
+    ),
+    (
+        "a newline in the target",
+        b"\x01\x01\0\0\0\n",
+        DecodeFault::Check(RecordFault::BadByte),
+    ),
+    (
+        "a count far past the end",
+        b"\x02\x01\0\0\0a\xff\xff\xff\xff\0\0\0\0",
+        DecodeFault::Short,
+    ),
+    (
+        "a count one too large",
+        b"\x02\x01\0\0\0a\x02\0\0\0\x01\0\0\0c\0\0\0\0",
+        DecodeFault::Short,
+    ),
+    ("a phase of 0", b"\x04\x01\0\0\0a\0", DecodeFault::BadKind),
+    ("a phase of 4", b"\x04\x01\0\0\0a\x04", DecodeFault::BadKind),
+    (
+        "a kept begun with a status",
+        b"\x04\x01\0\0\0a\x01\x01\0\0\0",
+        DecodeFault::BadKind,
+    ),
+    (
+        "a kept done with a status",
+        b"\x04\x01\0\0\0a\x02\0\0\0\x01",
+        DecodeFault::BadKind,
+    ),
+    (
+        "a kept failed with a status of 257",
+        b"\x04\x01\0\0\0a\x03\x01\x01\0\0",
+        DecodeFault::BadKind,
+    ),
+    (
+        "a kept begun, its status not all there",
+        b"\x04\x01\0\0\0a\x01\x01\0\0",
+        DecodeFault::Short,
+    ),
+    (
+        "a fault behind the end",
+        b"\x04\x01\0\0\0",
+        DecodeFault::Short,
+    ),
+    (
+        "an empty name, the record not all there",
+        b"\x02\0\0\0\0\0\0\0\0",
+        DecodeFault::Short,
+    ),
+    (
+        "an empty name and a status of 257",
+        b"\x03\0\0\0\0\x01\x01\0\0",
+        DecodeFault::BadKind,
+    ),
+    (
         "an empty hidden name",
-        done(alloc, b"a", none(alloc), list(alloc, &[b"h", b""])?)?,
-        Err(RecordFault::EmptyName),
-    );
-    Ok(())
-}
-
-#[test]
-fn names_and_commands_hold_no_bad_byte(rt: HostRuntime) -> Result<(), Fail> {
-    let alloc = rt.alloc();
-    let bad = Err(RecordFault::BadByte);
-    expect_check(&rt, "NUL in a target", begun(alloc, b"a\0b")?, bad);
-    expect_check(&rt, "newline in a target", begun(alloc, b"a\n")?, bad);
-    expect_check(
-        &rt,
-        "other bytes in a target",
-        begun(alloc, b"\x01 \x7f\xff")?,
-        Ok(()),
-    );
-    let hidden = list(alloc, &[b"h", b"i\n"])?;
-    expect_check(
-        &rt,
-        "newline in a hidden name",
-        done(alloc, b"a", none(alloc), hidden)?,
-        bad,
-    );
-    let commands = list(alloc, &[b"cc", b"\0"])?;
-    expect_check(
-        &rt,
-        "NUL in a command",
-        done(alloc, b"a", commands, none(alloc))?,
-        bad,
-    );
-    let commands = list(alloc, &[b"echo \\\n  two"])?;
-    expect_check(
-        &rt,
-        "newline in a command",
-        done(alloc, b"a", commands, none(alloc))?,
-        Ok(()),
-    );
-    let commands = list(alloc, &[b""])?;
-    expect_check(
-        &rt,
-        "an empty command",
-        done(alloc, b"a", commands, none(alloc))?,
-        Ok(()),
-    );
-    Ok(())
-}
-
-#[test]
-fn commands_have_at_most_65535_bytes(rt: HostRuntime) -> Result<(), Fail> {
-    let alloc = rt.alloc();
-    expect_check(
-        &rt,
-        "a command of 65,535 bytes",
-        done(alloc, b"a", many(alloc, 1, 65_535)?, none(alloc))?,
-        Ok(()),
-    );
-    expect_check(
-        &rt,
-        "a command of 65,536 bytes",
-        done(alloc, b"a", many(alloc, 1, 65_536)?, none(alloc))?,
-        Err(RecordFault::TooLong),
-    );
-    Ok(())
-}
-
-#[test]
-fn a_record_has_at_most_1000_commands_and_4096_hidden_names(rt: HostRuntime) -> Result<(), Fail> {
-    let alloc = rt.alloc();
-    let too_many = Err(RecordFault::TooMany);
-    expect_check(
-        &rt,
-        "1,000 commands",
-        done(alloc, b"a", many(alloc, 1000, 1)?, none(alloc))?,
-        Ok(()),
-    );
-    expect_check(
-        &rt,
-        "1,001 commands",
-        done(alloc, b"a", many(alloc, 1001, 1)?, none(alloc))?,
-        too_many,
-    );
-    expect_check(
-        &rt,
-        "4,096 hidden names",
-        done(alloc, b"a", none(alloc), many(alloc, 4096, 1)?)?,
-        Ok(()),
-    );
-    expect_check(
-        &rt,
-        "4,097 hidden names",
-        done(alloc, b"a", none(alloc), many(alloc, 4097, 1)?)?,
-        too_many,
-    );
-    Ok(())
-}
-
-/// Fifteen commands as long as they may be, and one of so many bytes.
-fn filling(alloc: Global, last: usize) -> Result<ByteStrings, AllocError> {
-    let mut commands = many(alloc, 15, 65_535)?;
-    commands.push(repeated(alloc, b'y', last)?)?;
-    Ok(commands)
-}
-
-#[test]
-fn a_record_has_at_most_a_mebibyte(rt: HostRuntime) -> Result<(), Fail> {
-    let alloc = rt.alloc();
-    // Beside the last command's bytes there are 14 of the other fields, 15 times 4 + 65,535, and 4: 983,103 in all.
-    let last = 65_473;
-    expect_check(
-        &rt,
-        "1,048,576 bytes",
-        done(alloc, b"a", filling(alloc, last)?, none(alloc))?,
-        Ok(()),
-    );
-    expect_check(
-        &rt,
-        "1,048,577 bytes",
-        done(alloc, b"a", filling(alloc, last + 1)?, none(alloc))?,
-        Err(RecordFault::TooLong),
-    );
-    let kept = Record::Kept {
-        target: bytes(alloc, b"a")?,
-        entry: Entry {
-            phase: Phase::Done,
-            commands: filling(alloc, last)?,
-            hidden: none(alloc),
-        },
-    };
-    expect_check(&rt, "the same kept, with five bytes more", kept, Ok(()));
-    let kept = Record::Kept {
-        target: bytes(alloc, b"a")?,
-        entry: Entry {
-            phase: Phase::Done,
-            commands: filling(alloc, last + 1)?,
-            hidden: none(alloc),
-        },
-    };
-    expect_check(
-        &rt,
-        "a kept record with six bytes more",
-        kept,
-        Err(RecordFault::TooLong),
-    );
-    Ok(())
-}
-
-#[test]
-fn of_several_faults_the_first_counts(rt: HostRuntime) -> Result<(), Fail> {
-    let alloc = rt.alloc();
-    expect_check(
-        &rt,
-        "an empty target and 1,001 commands",
-        done(alloc, b"", many(alloc, 1001, 1)?, none(alloc))?,
-        Err(RecordFault::EmptyName),
-    );
-    expect_check(
-        &rt,
-        "a newline in the target and an empty hidden name",
-        done(alloc, b"\n", none(alloc), list(alloc, &[b""])?)?,
-        Err(RecordFault::EmptyName),
-    );
-    expect_check(
-        &rt,
-        "a long command and NUL in the target",
-        done(alloc, b"\0", many(alloc, 1, 65_536)?, none(alloc))?,
-        Err(RecordFault::BadByte),
-    );
-    expect_check(
-        &rt,
-        "1,001 commands and a long hidden name",
-        done(alloc, b"a", many(alloc, 1001, 1)?, many(alloc, 1, 4097)?)?,
-        Err(RecordFault::TooLong),
-    );
-    Ok(())
-}
-
-// ---- bytes of good records
+        b"\x02\x01\0\0\0a\0\0\0\0\x01\0\0\0\0\0\0\0",
+        DecodeFault::Check(RecordFault::EmptyName),
+    ),
+];
 
 #[test]
 fn worked_bytes_are_read_whole_and_written_again(rt: HostRuntime) -> Result<(), Fail> {
@@ -397,99 +209,9 @@ fn fields_come_from_their_places(rt: HostRuntime) -> Result<(), Fail> {
     Ok(())
 }
 
-// ---- bytes of none
-
 #[test]
 fn bytes_that_hold_no_record_are_refused(rt: HostRuntime) {
-    let rows: [(&str, &[u8], DecodeFault); 22] = [
-        ("nothing", b"", DecodeFault::Short),
-        (
-            "a length far past the end",
-            b"\x01\xff\xff\xff\xffa",
-            DecodeFault::Short,
-        ),
-        ("a kind of 9", b"\x09", DecodeFault::BadKind),
-        ("a kind of 0", b"\0", DecodeFault::BadKind),
-        ("a kind of 5", b"\x05\x01\0\0\0a", DecodeFault::BadKind),
-        (
-            "a status of 257",
-            b"\x03\x01\0\0\0a\x01\x01\0\0",
-            DecodeFault::BadKind,
-        ),
-        (
-            "a status over 65,535",
-            b"\x03\x01\0\0\0a\0\0\x01\0",
-            DecodeFault::BadKind,
-        ),
-        (
-            "three bytes of a status that is not listed",
-            b"\x03\x01\0\0\0a\xff\xff\xff",
-            DecodeFault::Short,
-        ),
-        (
-            "an empty target",
-            b"\x01\0\0\0\0",
-            DecodeFault::Check(RecordFault::EmptyName),
-        ),
-        (
-            "a newline in the target",
-            b"\x01\x01\0\0\0\n",
-            DecodeFault::Check(RecordFault::BadByte),
-        ),
-        (
-            "a count far past the end",
-            b"\x02\x01\0\0\0a\xff\xff\xff\xff\0\0\0\0",
-            DecodeFault::Short,
-        ),
-        (
-            "a count one too large",
-            b"\x02\x01\0\0\0a\x02\0\0\0\x01\0\0\0c\0\0\0\0",
-            DecodeFault::Short,
-        ),
-        ("a phase of 0", b"\x04\x01\0\0\0a\0", DecodeFault::BadKind),
-        ("a phase of 4", b"\x04\x01\0\0\0a\x04", DecodeFault::BadKind),
-        (
-            "a kept begun with a status",
-            b"\x04\x01\0\0\0a\x01\x01\0\0\0",
-            DecodeFault::BadKind,
-        ),
-        (
-            "a kept done with a status",
-            b"\x04\x01\0\0\0a\x02\0\0\0\x01",
-            DecodeFault::BadKind,
-        ),
-        (
-            "a kept failed with a status of 257",
-            b"\x04\x01\0\0\0a\x03\x01\x01\0\0",
-            DecodeFault::BadKind,
-        ),
-        (
-            "a kept begun, its status not all there",
-            b"\x04\x01\0\0\0a\x01\x01\0\0",
-            DecodeFault::Short,
-        ),
-        (
-            "a fault behind the end",
-            b"\x04\x01\0\0\0",
-            DecodeFault::Short,
-        ),
-        (
-            "an empty name, the record not all there",
-            b"\x02\0\0\0\0\0\0\0\0",
-            DecodeFault::Short,
-        ),
-        (
-            "an empty name and a status of 257",
-            b"\x03\0\0\0\0\x01\x01\0\0",
-            DecodeFault::BadKind,
-        ),
-        (
-            "an empty hidden name",
-            b"\x02\x01\0\0\0a\0\0\0\0\x01\0\0\0\0\0\0\0",
-            DecodeFault::Check(RecordFault::EmptyName),
-        ),
-    ];
-    for (name, text, want) in rows {
+    for (name, text, want) in NO_RECORDS {
         assert_eq!(rt; decode(rt.alloc(), text).err(), Some(want), "{name}");
     }
 }
@@ -503,8 +225,6 @@ fn each_beginning_of_a_good_record_is_short(rt: HostRuntime) {
         }
     }
 }
-
-// ---- byte strings
 
 #[test]
 fn byte_strings_are_what_they_were_made_of(rt: HostRuntime) -> Result<(), Fail> {
