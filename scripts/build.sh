@@ -4,6 +4,7 @@ set -eu
 cd "$(dirname "$0")/.."
 mkdir -p bin
 for program in dmk_state; do
+    echo "proving and building $program (a few minutes the first time)"
     # `rt run` is the command that links a program; what --help prints is of no interest here.
     (cd "crates/$program" && rt run -- --help) >bin/build.log 2>&1 || { tail -n 40 bin/build.log; exit 1; }
     cp "crates/$program/out/$program" bin/
