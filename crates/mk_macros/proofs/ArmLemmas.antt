@@ -2,7 +2,7 @@
 use Rattle.std.proofs.Common.{◌≡◌, ℕ, List, ◌++◌, length, Option, Some, None}
 use Rattle.mk_macros.specs.Reference.{Use, Piece, reference, first, front}
 use Rattle.mk_macros.specs.Expansion.{Meaning, dynamic, too_long, is_long_dynamic, ExpandsToFault, IsTooLongAt, IsLongValue}
-use Rattle.mk_macros.specs.Definitions.{meaning_from}
+use Rattle.mk_macros.specs.Ranks.{meaning_from}
 use Rattle.mk_macros.specs.declared.fault.MacroFault.{MacroFault}
 use Rattle.mk_macros.specs.declared.fault.MacroFault.TheVariants.{OutOfMemory, Loop, Unclosed, NestedReference, TooLong}
 use Rattle.mk_macros.proofs.ExpansionLemmas.{Progress, Waiting, IsExpanding, AddsAnywhere, piece_too_long, piece_fault}

@@ -1,9 +1,13 @@
--- A definition changes what one name has.
-use Rattle.std.proofs.Common.{◌≡◌, ◌≢◌, ℕ, Bool, true, false, List, [], ◌∷◌, refl, sym, ap, ◌∙◌, nat_eq}
+-- A definition changes what one name has, and a map's entries say what each name has.
+use Rattle.std.proofs.Common.{◌≡◌, ◌≢◌, ℕ, Bool, true, false, cond, List, [], ◌∷◌, map, refl, sym, ap, ◌∙◌, nat_eq, bytes_eq}
+use Rattle.std.proofs.lemmas.Bool.{false≢true}
+use Rattle.std.specs.Option.{option_map_or}
 use Rattle.std.specs.Map.{lookup, set_value}
 use Rattle.std.specs.Cmp.Lexicographic.{pointwise}
 use Rattle.std.proofs.lemmas.Slice.Eq.{bytes_eq-Decides}
 use Rattle.indexmap.specs.IndexMap.{insert_entry}
+use Rattle.mk_macros.specs.Ranks.{Ranks, no_ranks, ranks_at, redefined, with_definition}
+use Rattle.mk_macros.specs.declared.definitions.Rank.{Rank}
 
 -- the key has these bytes
 abbrev pub is_named : {K : Type 0} → (K → List ℕ) → List ℕ → K → Bool
@@ -41,3 +45,44 @@ module _ {K V : Type 0} (bytes_of : K → List ℕ) (n name : List ℕ) (apart :
       lookup (is_named bytes_of n) (insert_entry (λ x y. is_named bytes_of (bytes_of x) y) es k v) ≡ lookup (is_named bytes_of n) es
   lookup-insert_entry [] k v is = let there = other_key bytes_of n name apart k ((bytes_eq-Decides name (bytes_of k)).1 (sym is)) in simp there refl
   lookup-insert_entry (e ∷ es) k v is = insert_at e es k v is (is_named bytes_of (bytes_of k) e.0) refl (lookup-insert_entry es k v is)
+
+module _ {K D : Type 0} (bytes_of : K → List ℕ) (ranks : D → Ranks) where
+  -- the entries of a map as contracts see them
+  abbrev pub shown : List (K × D) → List (List ℕ × Ranks)
+  shown es = map (λ e. (bytes_of e.0, ranks e.1)) es
+
+  -- what the map has for a name
+  abbrev pub found_at : List (K × D) → (name : List ℕ) → Ranks
+  found_at es name = option_map_or ranks (lookup (is_named bytes_of name) es) no_ranks
+
+  shown_at_entry : (e : K × D) (es : List (K × D)) (name : List ℕ) (t : Bool) → is_named bytes_of name e.0 ≡ t →
+      ranks_at (shown es) name ≡ found_at es name → ranks_at (shown (e ∷ es)) name ≡ found_at (e ∷ es) name
+  shown_at_entry e es name true here ih = simp here refl
+  shown_at_entry e es name false here ih = simp here ih
+
+  pub shown_at : (es : List (K × D)) (name : List ℕ) → ranks_at (shown es) name ≡ found_at es name
+  shown_at [] name = refl
+  shown_at (e ∷ es) name = shown_at_entry e es name (is_named bytes_of name e.0) refl (shown_at es name)
+
+  module _ (old new : List (K × D)) (name : List ℕ) (others : (n : List ℕ) → n ≢ name → found_at new n ≡ found_at old n) where
+    defined_at : (rank : Rank) (text : List ℕ) (append : Bool) → found_at new name ≡ redefined (found_at old name) rank text append →
+        (n : List ℕ) (t : Bool) → bytes_eq n name ≡ t → ranks_at (shown new) n ≡ cond t (redefined (ranks_at (shown old) name) rank text append) (ranks_at (shown old) n)
+    defined_at rank text append at n true e =
+        let same : n ≡ name = (bytes_eq-Decides n name).0 e in
+        rw (same, shown_at new name, shown_at old name) at
+    defined_at rank text append at n false e =
+        rw (shown_at new n, shown_at old n) (others n (λ same. absurd (false≢true (sym e ∙ (bytes_eq-Decides n name).1 same))))
+
+    -- a definition, for all names at once
+    pub defines : (rank : Rank) (text : List ℕ) (append : Bool) → found_at new name ≡ redefined (found_at old name) rank text append →
+        ranks_at (shown new) ≡ with_definition (ranks_at (shown old)) rank name text append
+    defines rank text append at = λ i n. defined_at rank text append at n (bytes_eq n name) refl i
+
+    kept_at : found_at new name ≡ found_at old name → (n : List ℕ) (t : Bool) → bytes_eq n name ≡ t → ranks_at (shown new) n ≡ ranks_at (shown old) n
+    kept_at at n true e = let same : n ≡ name = (bytes_eq-Decides n name).0 e in rw (same, shown_at new name, shown_at old name) at
+    kept_at at n false e =
+        rw (shown_at new n, shown_at old n) (others n (λ same. absurd (false≢true (sym e ∙ (bytes_eq-Decides n name).1 same))))
+
+    -- nothing changed, for all names at once
+    pub keeps : found_at new name ≡ found_at old name → ranks_at (shown new) ≡ ranks_at (shown old)
+    keeps at = λ i n. kept_at at n (bytes_eq n name) refl i

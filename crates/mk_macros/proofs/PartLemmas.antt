@@ -1,8 +1,8 @@
--- The parts of a word at its last slash, in terms of what the word is joined from, and the words of joined words.
-use Rattle.std.proofs.Common.{◌≡◌, ℕ, ◌≤◌, Bool, true, false, not, List, [], ◌∷◌, ◌++◌, filter, length, Some, None, refl, ap, ◌∙◌, arith, add-one, one-add}
-use Rattle.std.specs.List.{prefix_len, slice_split, onto_first, join_with_byte}
+-- The parts of a word at its last slash, in terms of what the word is joined from.
+use Rattle.std.proofs.Common.{◌≡◌, ℕ, ◌≤◌, Bool, true, false, not, List, [], ◌∷◌, ◌++◌, length, Some, None, refl, ap, arith, add-one, one-add}
+use Rattle.std.specs.List.{prefix_len}
 use Rattle.std.proofs.lemmas.List.{take_at}
-use Rattle.mk_macros.specs.Words.{place_of, is_blank, is_byte, is_nonempty, words, HasNoBlank, AreWords, last_slash, directory_of, file_of}
+use Rattle.mk_macros.specs.Words.{place_of, is_byte, last_slash, directory_of, file_of}
 use Rattle.mk_macros.proofs.WordLemmas.{position-none}
 use Rattle.mk_macros.proofs.PatternLemmas.{drop-behind}
 
@@ -39,26 +39,3 @@ file_of-behind d f none = rw (last_slash-behind d f (last_slash-none f none)) (d
 
 pub no_slash : (w : List ℕ) → place_of 47 w ≡ None → (directory_of w ≡ 46 ∷ []) × (file_of w ≡ w)
 no_slash w none = let e = last_slash-none w none in (rw e refl, rw e refl)
-
--- a word in front of a space is a part of its own
-split-word : (w rest : List ℕ) → HasNoBlank w → slice_split is_blank (w ++ 32 ∷ rest) ≡ w ∷ slice_split is_blank rest
-split-word [] rest h = refl
-split-word (b ∷ w) rest h =
-    let plain : is_blank b ≡ false = h.0 in
-    simp plain (ap (onto_first b) (split-word w rest h.1))
-
-split-last : (w : List ℕ) → HasNoBlank w → slice_split is_blank w ≡ w ∷ []
-split-last [] h = refl
-split-last (b ∷ w) h =
-    let plain : is_blank b ≡ false = h.0 in
-    simp plain (ap (onto_first b) (split-last w h.1))
-
--- words that are joined by one space are the words of the text
-pub words-joined : (ws : List (List ℕ)) → AreWords ws → words (join_with_byte 32 ws) ≡ ws
-words-joined [] h = refl
-words-joined (w ∷ []) h =
-    let some : is_nonempty w ≡ true = h.0 in
-    ap (filter is_nonempty) (split-last w h.1) ∙ rw some refl
-words-joined (w ∷ v ∷ ws) h =
-    let some : is_nonempty w ≡ true = h.0 in
-    ap (filter is_nonempty) (split-word w (join_with_byte 32 (v ∷ ws)) h.1) ∙ rw some (ap (λ t. w ∷ t) (words-joined (v ∷ ws) h.2))

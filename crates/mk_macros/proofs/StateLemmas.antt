@@ -1,18 +1,16 @@
 -- What the variables of `expand` hold, as the lemmas on its states see them, and how much is left to do.
 use Rattle.std.proofs.Common.{◌≡◌, ℕ, ◌+◌, ◌≤◌, Bool, true, false, cond, List, [], ◌∷◌, ◌++◌, length, map, reverse, Option, Some, None, unwrap_or, refl, sym, ap, ◌∙◌, arith, nat_eq, bytes_eq, Bor}
-use Rattle.std.specs.Option.{option_map_or}
 use Rattle.std.specs.Map.{lookup}
 use Rattle.std.specs.HashMap.{HashMap, get_by, UpdatesBy}
 use Rattle.std.specs.Cmp.Lexicographic.{pointwise}
 use Rattle.std.proofs.lemmas.Bool.{false≢true}
 use Rattle.std.proofs.lemmas.Slice.Eq.{bytes_eq-Decides}
 use Rattle.std.proofs.lemmas.List.{map_push, reverse-append}
-use Rattle.mk_macros.specs.Definitions.{Ranks, no_ranks, in_force}
+use Rattle.mk_macros.specs.Ranks.{Ranks, no_ranks, in_force, ranks_at}
 use Rattle.mk_macros.specs.declared.expansion.Progress as own
 use Rattle.mk_macros.specs.declared.expansion.Progress.TheVariants.{Opened, Known}
 use Rattle.mk_macros.specs.declared.expansion.Caller.{Caller}
 use Rattle.mk_macros.proofs.ExpansionLemmas.{Progress, unseen, opened, known, Waiting, SetsProgress}
-use Rattle.mk_macros.proofs.DefinitionLemmas.{is_named}
 
 abbrev pub shown_progress : Option own.Progress → Progress
 shown_progress None = unseen
@@ -57,65 +55,64 @@ weight unseen n = n
 weight opened n = 0
 weight (known value) n = 0
 
-module _ {K D : Type 0} (bytes_of : K → List ℕ) (ranks : D → Ranks) where
-  abbrev pub text_size : D → ℕ
-  text_size d = length (unwrap_or (in_force (ranks d)) []) + 2
+abbrev pub text_size : Ranks → ℕ
+text_size d = length (unwrap_or (in_force d) []) + 2
 
-  abbrev pub unseen_cost : (List ℕ → Progress) → List (K × D) → ℕ
-  unseen_cost state [] = 0
-  unseen_cost state (e ∷ es) = weight (state (bytes_of e.0)) (text_size e.1) + unseen_cost state es
+abbrev pub unseen_cost : (List ℕ → Progress) → List (List ℕ × Ranks) → ℕ
+unseen_cost state [] = 0
+unseen_cost state (e ∷ es) = weight (state e.0) (text_size e.1) + unseen_cost state es
 
-  pub unseen_cost-falls : (state state' : List ℕ → Progress) → ((n : List ℕ) (k : ℕ) → weight (state' n) k ≤ weight (state n) k) →
-      (es : List (K × D)) → unseen_cost state' es ≤ unseen_cost state es
-  unseen_cost-falls state state' falls [] = omega arith
-  unseen_cost-falls state state' falls (e ∷ es) =
-      omega (arith, falls (bytes_of e.0) (text_size e.1), unseen_cost-falls state state' falls es)
+pub unseen_cost-falls : (state state' : List ℕ → Progress) → ((n : List ℕ) (k : ℕ) → weight (state' n) k ≤ weight (state n) k) →
+    (es : List (List ℕ × Ranks)) → unseen_cost state' es ≤ unseen_cost state es
+unseen_cost-falls state state' falls [] = omega arith
+unseen_cost-falls state state' falls (e ∷ es) =
+    omega (arith, falls e.0 (text_size e.1), unseen_cost-falls state state' falls es)
 
-  pub has_definition : (o : Option D) (text : List ℕ) → in_force (option_map_or ranks o no_ranks) ≡ Some text → (d : D) × (o ≡ Some d) × (in_force (ranks d) ≡ Some text)
-  has_definition None text e = cc
-  has_definition (Some d) text e = (d, refl, e)
+pub has_definition : (o : Option Ranks) (text : List ℕ) → in_force (unwrap_or o no_ranks) ≡ Some text → (d : Ranks) × (o ≡ Some d) × (in_force d ≡ Some text)
+has_definition None text e = cc
+has_definition (Some d) text e = (d, refl, e)
 
-  module _ (state state' : List ℕ → Progress) (name text : List ℕ) (is_new : state name ≡ unseen) (sets : SetsProgress state name opened state') where
-    opens : (n : List ℕ) (k : ℕ) → weight (state' n) k ≤ weight (state n) k
-    opens n k = opens_at n k (bytes_eq n name) refl
-      where
-        opens_at : (n : List ℕ) (k : ℕ) (t : Bool) → bytes_eq n name ≡ t → weight (state' n) k ≤ weight (state n) k
-        opens_at n k true e = let same = (bytes_eq-Decides n name).0 e in rw same (rw (sets.at, is_new) (omega arith))
-        opens_at n k false e = rw (sets.others n (λ same. absurd (false≢true (sym e ∙ (bytes_eq-Decides n name).1 same)))) (omega arith)
-
-    enter_at : (e : K × D) (es : List (K × D)) (d : D) → in_force (ranks d) ≡ Some text → (t : Bool) → is_named bytes_of name e.0 ≡ t →
-        (lookup (is_named bytes_of name) es ≡ Some d → unseen_cost state' es + (length text + 2) ≤ unseen_cost state es) →
-        lookup (is_named bytes_of name) (e ∷ es) ≡ Some d → unseen_cost state' (e ∷ es) + (length text + 2) ≤ unseen_cost state (e ∷ es)
-    enter_at e es d has true here ih found =
-        let first : Some e.1 ≡ Some d = simp here at found in
-        let is_d : e.1 ≡ d = cc in
-        let size : text_size e.1 ≡ length text + 2 = ap text_size is_d ∙ ap (λ o. length (unwrap_or o []) + 2) has in
-        let key : bytes_of e.0 ≡ name = sym ((bytes_eq-Decides name (bytes_of e.0)).0 here) in
-        let before : weight (state (bytes_of e.0)) (text_size e.1) ≡ length text + 2 = rw (key, is_new) size in
-        let after : weight (state' (bytes_of e.0)) (text_size e.1) ≡ 0 = rw (key, sets.at) refl in
-        omega (arith, before, after, unseen_cost-falls state state' opens es)
-    enter_at e es d has false here ih found =
-        let later : lookup (is_named bytes_of name) es ≡ Some d = simp here at found in
-        omega (arith, ih later, opens (bytes_of e.0) (text_size e.1))
-
-    unseen_cost-enter_from : (es : List (K × D)) (d : D) → in_force (ranks d) ≡ Some text → lookup (is_named bytes_of name) es ≡ Some d → unseen_cost state' es + (length text + 2) ≤ unseen_cost state es
-    unseen_cost-enter_from [] d has found = cc
-    unseen_cost-enter_from (e ∷ es) d has found = enter_at e es d has (is_named bytes_of name e.0) refl (unseen_cost-enter_from es d has) found
-
-    -- a macro that is entered pays for its text
-    pub unseen_cost-enter : (es : List (K × D)) → in_force (option_map_or ranks (lookup (is_named bytes_of name) es) no_ranks) ≡ Some text → unseen_cost state' es + (length text + 2) ≤ unseen_cost state es
-    unseen_cost-enter es has =
-        let found = has_definition (lookup (is_named bytes_of name) es) text has in
-        unseen_cost-enter_from es found.0 found.2 found.1
-
-  -- a macro whose value is known costs no more
-  pub unseen_cost-leave : (state state' : List ℕ → Progress) (name value : List ℕ) → SetsProgress state name (known value) state' →
-      (es : List (K × D)) → unseen_cost state' es ≤ unseen_cost state es
-  unseen_cost-leave state state' name value sets es = unseen_cost-falls state state' (λ n k. leaves n k (bytes_eq n name) refl) es
+module _ (state state' : List ℕ → Progress) (name text : List ℕ) (is_new : state name ≡ unseen) (sets : SetsProgress state name opened state') where
+  opens : (n : List ℕ) (k : ℕ) → weight (state' n) k ≤ weight (state n) k
+  opens n k = opens_at n k (bytes_eq n name) refl
     where
-      leaves : (n : List ℕ) (k : ℕ) (t : Bool) → bytes_eq n name ≡ t → weight (state' n) k ≤ weight (state n) k
-      leaves n k true e = let same = (bytes_eq-Decides n name).0 e in rw same (rw sets.at (omega arith))
-      leaves n k false e = rw (sets.others n (λ same. absurd (false≢true (sym e ∙ (bytes_eq-Decides n name).1 same)))) (omega arith)
+      opens_at : (n : List ℕ) (k : ℕ) (t : Bool) → bytes_eq n name ≡ t → weight (state' n) k ≤ weight (state n) k
+      opens_at n k true e = let same = (bytes_eq-Decides n name).0 e in rw same (rw (sets.at, is_new) (omega arith))
+      opens_at n k false e = rw (sets.others n (λ same. absurd (false≢true (sym e ∙ (bytes_eq-Decides n name).1 same)))) (omega arith)
+
+  enter_at : (e : List ℕ × Ranks) (es : List (List ℕ × Ranks)) (d : Ranks) → in_force d ≡ Some text → (t : Bool) → bytes_eq name e.0 ≡ t →
+      (lookup (bytes_eq name) es ≡ Some d → unseen_cost state' es + (length text + 2) ≤ unseen_cost state es) →
+      lookup (bytes_eq name) (e ∷ es) ≡ Some d → unseen_cost state' (e ∷ es) + (length text + 2) ≤ unseen_cost state (e ∷ es)
+  enter_at e es d has true here ih found =
+      let first : Some e.1 ≡ Some d = simp here at found in
+      let is_d : e.1 ≡ d = cc in
+      let size : text_size e.1 ≡ length text + 2 = ap text_size is_d ∙ ap (λ o. length (unwrap_or o []) + 2) has in
+      let key : e.0 ≡ name = sym ((bytes_eq-Decides name e.0).0 here) in
+      let before : weight (state e.0) (text_size e.1) ≡ length text + 2 = rw (key, is_new) size in
+      let after : weight (state' e.0) (text_size e.1) ≡ 0 = rw (key, sets.at) refl in
+      omega (arith, before, after, unseen_cost-falls state state' opens es)
+  enter_at e es d has false here ih found =
+      let later : lookup (bytes_eq name) es ≡ Some d = simp here at found in
+      omega (arith, ih later, opens e.0 (text_size e.1))
+
+  unseen_cost-enter_from : (es : List (List ℕ × Ranks)) (d : Ranks) → in_force d ≡ Some text → lookup (bytes_eq name) es ≡ Some d → unseen_cost state' es + (length text + 2) ≤ unseen_cost state es
+  unseen_cost-enter_from [] d has found = cc
+  unseen_cost-enter_from (e ∷ es) d has found = enter_at e es d has (bytes_eq name e.0) refl (unseen_cost-enter_from es d has) found
+
+  -- a macro that is entered pays for its text
+  pub unseen_cost-enter : (es : List (List ℕ × Ranks)) → in_force (ranks_at es name) ≡ Some text → unseen_cost state' es + (length text + 2) ≤ unseen_cost state es
+  unseen_cost-enter es has =
+      let found = has_definition (lookup (bytes_eq name) es) text has in
+      unseen_cost-enter_from es found.0 found.2 found.1
+
+-- a macro whose value is known costs no more
+pub unseen_cost-leave : (state state' : List ℕ → Progress) (name value : List ℕ) → SetsProgress state name (known value) state' →
+    (es : List (List ℕ × Ranks)) → unseen_cost state' es ≤ unseen_cost state es
+unseen_cost-leave state state' name value sets es = unseen_cost-falls state state' (λ n k. leaves n k (bytes_eq n name) refl) es
+  where
+    leaves : (n : List ℕ) (k : ℕ) (t : Bool) → bytes_eq n name ≡ t → weight (state' n) k ≤ weight (state n) k
+    leaves n k true e = let same = (bytes_eq-Decides n name).0 e in rw same (rw sets.at (omega arith))
+    leaves n k false e = rw (sets.others n (λ same. absurd (false≢true (sym e ∙ (bytes_eq-Decides n name).1 same)))) (omega arith)
 
 -- what the callers still have to read
 abbrev pub callers_cost : List Caller → ℕ

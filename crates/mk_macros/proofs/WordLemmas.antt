@@ -1,100 +1,10 @@
--- How a text is cut into words from the left, and where the last slash of a word stands.
-use Rattle.std.proofs.Common.{map, get_or, ◌≡◌, ℕ, zero, suc, ◌+◌, ◌<◌, ◌≤◌, nat_lt, Bool, true, false, not, cond, List, [], ◌∷◌, ◌++◌, filter, take, drop, length, position, Some, None, refl, sym, ap, ◌∙◌, arith, add-one, one-add, length-drop}
-use Rattle.std.specs.List.{slice_split, onto_first, prefix_len, join_with_byte}
-use Rattle.std.proofs.lemmas.List.{drop_all, take_all, append-nil, append_assoc, take_more, length-take-le, length-map, map_more}
+-- Where the last slash of a word stands, and how changed words are joined.
+use Rattle.std.proofs.Common.{map, get_or, ◌≡◌, ℕ, ◌+◌, ◌<◌, ◌≤◌, nat_lt, Bool, true, false, not, cond, List, [], ◌∷◌, ◌++◌, take, length, position, Some, None, refl, sym, ap, ◌∙◌, arith, add-one}
+use Rattle.std.specs.List.{prefix_len, join_with_byte}
+use Rattle.std.proofs.lemmas.List.{append-nil, append_assoc, take_more, length-take-le, length-map, map_more}
 use Rattle.std.proofs.lemmas.Bool.Decides.{nat_tests}
-use borrow.Author.Tests.{ltb-true}
-use Rattle.mk_macros.specs.Words.{is_blank, is_nonempty, is_byte, words, last_slash, WordChange, changed_word, changed_words}
-
-module _ (p : ℕ → Bool) where
-  -- the parts behind the first separator
-  abbrev later_parts : List ℕ → List (List ℕ)
-  later_parts [] = []
-  later_parts (b ∷ bs) = slice_split p bs
-
-  abbrev start_of : List ℕ → ℕ
-  start_of bs = prefix_len (λ x. not (not (p x))) bs
-
-  abbrev end_of : List ℕ → ℕ
-  end_of bs = prefix_len (λ x. not (p x)) bs
-
-  abbrev AfterDrop : List ℕ → Type 0
-  AfterDrop bs = filter is_nonempty (slice_split p (drop (start_of bs) bs)) ≡ filter is_nonempty (slice_split p bs)
-
-  after_drop_at : (b : ℕ) (bs : List ℕ) (t : Bool) → p b ≡ t → AfterDrop bs → AfterDrop (b ∷ bs)
-  after_drop_at b bs true e ih = simp (e, one-add) ih
-  after_drop_at b bs false e ih = simp e refl
-
-  -- separators in front change no word
-  after_drop : (bs : List ℕ) → AfterDrop bs
-  after_drop [] = refl
-  after_drop (b ∷ bs) = after_drop_at b bs (p b) refl (after_drop bs)
-
-  abbrev InParts : List ℕ → Type 0
-  InParts bs = slice_split p bs ≡ take (end_of bs) bs ∷ later_parts (drop (end_of bs) bs)
-
-  in_parts_at : (b : ℕ) (bs : List ℕ) (t : Bool) → p b ≡ t → InParts bs → InParts (b ∷ bs)
-  in_parts_at b bs true e ih = simp e refl
-  in_parts_at b bs false e ih = simp (e, one-add) (ap (onto_first b) ih)
-
-  in_parts : (bs : List ℕ) → InParts bs
-  in_parts [] = refl
-  in_parts (b ∷ bs) = in_parts_at b bs (p b) refl (in_parts bs)
-
-  abbrev InWords : List ℕ → Type 0
-  InWords bs = filter is_nonempty (later_parts (drop (end_of bs) bs)) ≡ filter is_nonempty (slice_split p (drop (end_of bs) bs))
-
-  in_words_at : (b : ℕ) (bs : List ℕ) (t : Bool) → p b ≡ t → InWords bs → InWords (b ∷ bs)
-  in_words_at b bs true e ih = simp e refl
-  in_words_at b bs false e ih = simp (e, one-add) ih
-
-  in_words : (bs : List ℕ) → InWords bs
-  in_words [] = refl
-  in_words (b ∷ bs) = in_words_at b bs (p b) refl (in_words bs)
-
-  abbrev first_of : List ℕ → List ℕ
-  first_of bs = take (end_of (drop (start_of bs) bs)) (drop (start_of bs) bs)
-
-  abbrev HasFirst : List ℕ → Type 0
-  HasFirst bs = start_of bs < length bs → is_nonempty (first_of bs) ≡ true
-
-  has_first_at : (b : ℕ) (bs : List ℕ) (t : Bool) → p b ≡ t → HasFirst bs → HasFirst (b ∷ bs)
-  has_first_at b bs true e ih h =
-      let h' : start_of bs < length bs = (let g = simp (e, one-add) at h in omega arith) in simp (e, one-add) (ih h')
-  has_first_at b bs false e ih h = simp (e, one-add) refl
-
-  -- the word at the start isn't empty
-  has_first : (bs : List ℕ) → HasFirst bs
-  has_first [] h = absurd (omega arith)
-  has_first (b ∷ bs) h = has_first_at b bs (p b) refl (has_first bs) h
-
--- a text of blanks has no words
-pub words-none : (bs : List ℕ) → length bs ≤ start_of is_blank bs → words bs ≡ []
-words-none bs h = sym (after_drop is_blank bs) ∙ ap words (drop_all (start_of is_blank bs) bs h)
-
--- the first word of a text
-pub words-first : (bs : List ℕ) → start_of is_blank bs < length bs →
-    let text : List ℕ = drop (start_of is_blank bs) bs in
-    words bs ≡ take (end_of is_blank text) text ∷ words (drop (end_of is_blank text) text)
-words-first bs h =
-    let text : List ℕ = drop (start_of is_blank bs) bs in
-    sym (after_drop is_blank bs) ∙ ap (filter is_nonempty) (in_parts is_blank text)
-    ∙ rw (has_first is_blank bs h) (ap (λ ws. take (end_of is_blank text) text ∷ ws) (in_words is_blank text))
-
--- a list whose front of n isn't empty
-nonempty_front : (bs : List ℕ) (n : ℕ) → is_nonempty (take n bs) ≡ true → (0 < n) × (0 < length bs)
-nonempty_front bs zero h = cc
-nonempty_front [] (suc n) h = cc
-nonempty_front (b ∷ bs) (suc n) h = (omega arith, omega arith)
-
--- what stands behind the first word is shorter than the text
-pub length-behind_word : (bs : List ℕ) → start_of is_blank bs < length bs →
-    let text : List ℕ = drop (start_of is_blank bs) bs in length (drop (end_of is_blank text) text) < length bs
-length-behind_word bs h =
-    let text : List ℕ = drop (start_of is_blank bs) bs in
-    let n : ℕ = end_of is_blank text in
-    let some = nonempty_front text n (has_first is_blank bs h) in
-    omega (arith, length-drop n text, length-drop (start_of is_blank bs) bs)
+use Rattle.byte_strings.specs.Blanks.{words}
+use Rattle.mk_macros.specs.Words.{is_byte, last_slash, WordChange, changed_word, changed_words}
 
 abbrev SlashAfterPush : ℕ → List ℕ → Type 0
 SlashAfterPush b bs = last_slash (bs ++ b ∷ []) ≡ cond (is_byte 47 b) (Some (length bs)) (last_slash bs)
@@ -108,44 +18,14 @@ pub last_slash_push : (bs : List ℕ) (b : ℕ) → last_slash (bs ++ b ∷ []) 
 last_slash_push [] b = refl
 last_slash_push (c ∷ bs) b = slash_push_at c bs b (is_byte 47 b) refl (last_slash_push bs b)
 
-some_of_cond : (t : Bool) (n i : ℕ) → cond t (Some n) None ≡ Some i → (t ≡ true) × (n ≡ i)
-some_of_cond true n i e = (refl, cc)
-some_of_cond false n i e = cc
-
 none_of_cond : (t : Bool) (n : ℕ) → cond t (Some n) None ≡ None → t ≡ false
 none_of_cond true n e = cc
 none_of_cond false n e = refl
-
--- the place at which `position` finds something
-pub position-some : (p : ℕ → Bool) (xs : List ℕ) (i : ℕ) → position p xs ≡ Some i → (prefix_len (λ x. not (p x)) xs ≡ i) × (prefix_len (λ x. not (p x)) xs < length xs)
-position-some p xs i e =
-    let parts = some_of_cond (nat_lt (prefix_len (λ x. not (p x)) xs) (length xs)) (prefix_len (λ x. not (p x)) xs) i e in
-    (parts.1, ltb-true _ _ parts.0)
 
 pub position-none : (p : ℕ → Bool) (xs : List ℕ) → position p xs ≡ None → length xs ≤ prefix_len (λ x. not (p x)) xs
 position-none p xs e =
     let test = none_of_cond (nat_lt (prefix_len (λ x. not (p x)) xs) (length xs)) (prefix_len (λ x. not (p x)) xs) e in
     grind (arith, nat_tests)
-
--- `next_word`, where no word is left
-pub next_word-none : (bs : List ℕ) → position (λ b. not (is_blank b)) bs ≡ None → words bs ≡ []
-next_word-none bs e = words-none bs (position-none (λ b. not (is_blank b)) bs e)
-
--- `next_word`, where the word reaches to the end of the text
-pub next_word-last : (bs : List ℕ) (start : ℕ) → position (λ b. not (is_blank b)) bs ≡ Some start → position is_blank (drop start bs) ≡ None → (words bs ≡ drop start bs ∷ words []) × (0 < length bs)
-next_word-last bs start e none =
-    let at = position-some (λ b. not (is_blank b)) bs start e in
-    let found = words-first bs at.1 in
-    let found' = rw at.0 at found in
-    let past = position-none is_blank (drop start bs) none in
-    (found' ∙ (rw (take_all _ (drop start bs) past, drop_all _ (drop start bs) past) refl), omega arith)
-
--- `next_word`, where a blank stands behind the word
-pub next_word-some : (bs : List ℕ) (start end : ℕ) → position (λ b. not (is_blank b)) bs ≡ Some start → position is_blank (drop start bs) ≡ Some end → (words bs ≡ take end (drop start bs) ∷ words (drop end (drop start bs))) × (length (drop end (drop start bs)) < length bs)
-next_word-some bs start end e found =
-    let at = position-some (λ b. not (is_blank b)) bs start e in
-    let behind = position-some is_blank (drop start bs) end found in
-    (rw (at.0, behind.0) at (words-first bs at.1), rw (at.0, behind.0) at (length-behind_word bs at.1))
 
 -- each word with a space in front
 abbrev pub spaced : List (List ℕ) → List ℕ

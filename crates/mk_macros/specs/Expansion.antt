@@ -1,6 +1,7 @@
 -- What the expansion of a text is, form by form.
 use Rattle.std.specs.Prelude.{◌≡◌, ℕ, ◌≤◌, ◌<◌, ◌⊎◌, List, [], ◌∷◌, ◌++◌, length, Option, Some, None}
 use Rattle.mk_macros.specs.Reference.{Use, used, Piece, plain, reference, unclosed, nested, nothing, first, front}
+use Rattle.mk_macros.specs.declared.fault.TheConstants.{MAX_EXPANSION_BYTES}
 use Rattle.mk_macros.specs.declared.fault.MacroFault.{MacroFault}
 use Rattle.mk_macros.specs.declared.fault.MacroFault.TheVariants.{OutOfMemory, Loop, Unclosed, NestedReference, TooLong}
 
@@ -24,7 +25,7 @@ pub data Outcome : Type 0 where
 
 -- no text and no value grows longer
 abbrev pub limit : ℕ
-limit = 1048576
+limit = MAX_EXPANSION_BYTES
 
 -- the name is one of the list
 abbrev pub IsOneOf : List ℕ → List (List ℕ) → Type 0
@@ -72,7 +73,7 @@ ExpandsTo meaning text outcome = Expands meaning [] [] text outcome
 -- the fault is the text's outcome; want of memory says nothing of the text
 abbrev pub ExpandsToFault : (List ℕ → Meaning) → (text : List ℕ) → MacroFault → Type 0
 ExpandsToFault meaning text OutOfMemory = Unit {0}
-ExpandsToFault meaning text (Loop name) = ExpandsTo meaning text (fails (refers_to_itself name.items))
+ExpandsToFault meaning text (Loop name) = ExpandsTo meaning text (fails (refers_to_itself name))
 ExpandsToFault meaning text Unclosed = ExpandsTo meaning text (fails not_closed)
 ExpandsToFault meaning text NestedReference = ExpandsTo meaning text (fails dollar_in_brackets)
 ExpandsToFault meaning text TooLong = ExpandsTo meaning text (fails too_long)

@@ -1,6 +1,13 @@
-pub mod Definitions
+-- The model is Ranks, Dynamic, Reference, Words and Expansion.
+-- Dynamic: what the macros of a recipe line stand for.
 pub mod Dynamic
+-- Expansion: what the outcome of a text is.
 pub mod Expansion
+-- Ranks: what is defined for a name, what is in force, and what a name stands for in a line.
+pub mod Ranks
+-- Reference: the forms that stand at the front of a text.
 pub mod Reference
+-- Shown: how the crate's own values are seen by the model.
 pub mod Shown
+-- Words: how a reference changes each word of a value.
 pub mod Words

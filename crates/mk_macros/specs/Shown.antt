@@ -1,6 +1,12 @@
 -- The crate's own values as the definitions see them.
-use Rattle.std.specs.Prelude.{ℕ, List, Option, Some, None}
+use Rattle.std.specs.Prelude.{ℕ, List, Option, Some, None, option_map, nat_eq, Vec}
 use Rattle.std.specs.Borrow.{Bor}
+use Rattle.std.specs.Option.{option_map_or}
+use Rattle.std.specs.Cmp.Lexicographic.{pointwise}
+use Rattle.std.specs.declared.alloc.Global.{Global}
+use Rattle.indexmap.specs.IndexMap.{IndexMap, get_by}
+use Rattle.mk_macros.specs.Ranks.{Ranks, no_ranks}
+use Rattle.mk_macros.specs.declared.definitions.Definition.{Definition}
 use Rattle.mk_macros.specs.Words as word
 use Rattle.mk_macros.specs.Reference as text
 use Rattle.mk_macros.specs.declared.substitution.Pattern.{Pattern}
@@ -37,3 +43,20 @@ shown_piece Nested = text.nested
 abbrev pub shown_front : Option (Piece × Bor (List ℕ)) → text.Front
 shown_front None = text.nothing
 shown_front (Some found) = text.first (shown_piece found.0) found.1.now
+
+-- the texts that a definition holds
+abbrev pub ranks_of : Definition → Ranks
+ranks_of d = record {
+  command_line = option_map (λ v. v.items) d.command_line;
+  makefile = option_map (λ v. v.items) d.makefile;
+  environment = option_map (λ v. v.items) d.environment;
+  tool = option_map (λ v. v.items) d.tool;
+}
+
+-- a name and its texts
+abbrev pub shown_definition : Vec ℕ Global × Definition → List ℕ × Ranks
+shown_definition e = (e.0.items, ranks_of e.1)
+
+-- what the map has for a name
+abbrev pub texts_at : {S : Type 0} → IndexMap (Vec ℕ Global) Definition S → (name : List ℕ) → Ranks
+texts_at definitions name = option_map_or ranks_of (get_by (λ k. pointwise nat_eq name k.items) definitions) no_ranks

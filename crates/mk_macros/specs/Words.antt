@@ -1,11 +1,8 @@
--- Words of a value, and how a reference changes each of them.
-use Rattle.std.specs.Prelude.{◌≡◌, ℕ, zero, suc, ◌+◌, ◌-◌, Bool, true, false, ◌==◌, ◌||◌, if◌then◌else◌, List, [], ◌∷◌, ◌++◌, length, map, filter, take, drop, position, Option, Some, None, option_and_then, bytes_eq}
-use Rattle.std.specs.List.{slice_split, join_with_byte}
+-- How a reference changes each word of a value.
+use Rattle.std.specs.Prelude.{ℕ, zero, suc, ◌+◌, ◌-◌, Bool, true, false, ◌==◌, if◌then◌else◌, List, [], ◌∷◌, ◌++◌, length, map, take, drop, position, Option, Some, None, option_and_then, bytes_eq}
+use Rattle.std.specs.List.{join_with_byte}
 use Rattle.std.specs.Option.{option_map_or}
-
--- a space or a TAB
-abbrev pub is_blank : ℕ → Bool
-is_blank b = b == 32 || b == 9
+use Rattle.byte_strings.specs.Blanks.{words}
 
 -- the byte b is c
 abbrev pub is_byte : (c b : ℕ) → Bool
@@ -14,25 +11,6 @@ is_byte c b = b == c
 -- the first place of a byte
 abbrev pub place_of : (c : ℕ) → List ℕ → Option ℕ
 place_of c bs = position (is_byte c) bs
-
--- a list of at least one byte
-abbrev pub is_nonempty : List ℕ → Bool
-is_nonempty [] = false
-is_nonempty (b ∷ bs) = true
-
--- the words of a text: what stands between its blanks (make(1S), macro references)
-abbrev pub words : List ℕ → List (List ℕ)
-words text = filter is_nonempty (slice_split is_blank text)
-
--- no byte is a blank
-abbrev pub HasNoBlank : List ℕ → Type 0
-HasNoBlank [] = Unit {0}
-HasNoBlank (b ∷ bs) = (is_blank b ≡ false) × HasNoBlank bs
-
--- each is a word: at least one byte, and none a blank
-abbrev pub AreWords : List (List ℕ) → Type 0
-AreWords [] = Unit {0}
-AreWords (w ∷ ws) = (is_nonempty w ≡ true) × HasNoBlank w × AreWords ws
 
 -- old and new of a substitution, parted where the stem stands: a word of the form before, stem, after becomes
 -- front, stem, back, or front and back alone where new has no place for the stem

@@ -1,10 +1,13 @@
 // What is defined for each name, by rank.
-ghost use Rattle.std.specs.Prelude.{◌≡◌, ◌≢◌, ℕ, List, [], ◌∷◌, ◌++◌, None, Some, OnOk, OnErr, IfOk, option_map, option_copied};
-ghost use Rattle.std.specs.Option.{option_map_or};
-ghost use Rattle.mk_macros.specs.Definitions.{ranks_of, ranks_at, no_ranks, in_force, with_rank, base_of, appended, redefined, or_else};
+ghost use Rattle.std.specs.Prelude.{◌≡◌, ◌≢◌, ℕ, List, [], None, Some, OnOk, OnErr, IfOk, option_map, option_copied};
+ghost use Rattle.mk_macros.specs.Ranks.{ranks_at, no_ranks, in_force, with_rank, base_of, appended, redefined, with_definition, or_else};
+ghost use Rattle.mk_macros.specs.Shown.{ranks_of, texts_at};
 
+use bstr::{BStr, ByteSlice};
 use indexmap::IndexMap;
 use std::alloc::{AllocError, Global};
+use std::fmt;
+use std::marker::Model;
 
 /// Where a definition stands. An earlier rank hides a later one.
 #[derive(Clone, Copy, Debug, PartialEq, Eq)]
@@ -31,6 +34,21 @@ fn text_of(text: &Option<Vec<u8>>) -> Option<&[u8]>
     match text {
         Some(text) => Some(text.as_slice()),
         None => None,
+    }
+}
+
+fn shown(text: &Option<Vec<u8>>) -> Option<BStr<'_>> {
+    Some(text_of(text)?.as_bstr())
+}
+
+impl fmt::Debug for Definition {
+    fn fmt<W: fmt::Write>(&self, f: &mut fmt::Formatter<W>) -> fmt::Result {
+        f.debug_struct("Definition")
+            .field("command_line", &shown(&self.command_line))
+            .field("makefile", &shown(&self.makefile))
+            .field("environment", &shown(&self.environment))
+            .field("tool", &shown(&self.tool))
+            .finish()
     }
 }
 
@@ -145,15 +163,56 @@ impl Definition {
     }
 }
 
-/// The definitions that texts are expanded with.
+/// Defines a name in the map. At an error each name has what it had.
+fn define_in(
+    definitions: &mut IndexMap<Vec<u8>, Definition>,
+    alloc: Global,
+    rank: Rank,
+    name: &[u8],
+    value: &[u8],
+    append: bool,
+) -> Result<(), AllocError>
+    ensures ok { OnOk result
+        (texts_at definitions.new name.now ≡ redefined (texts_at definitions.old name.now) rank value.now append) }
+    ensures others { (n : List ℕ) → n ≢ name.now → texts_at definitions.new n ≡ texts_at definitions.old n }
+    ensures err { OnErr result (texts_at definitions.new name.now ≡ texts_at definitions.old name.now) }
+{
+    if let Some(definition) = definitions.get_mut(name) {
+        return definition.define(alloc, rank, value, append);
+    }
+    let mut definition = Definition::new();
+    definition.define(alloc, rank, value, append)?;
+    definitions.insert(Vec::from_slice(alloc, name)?, definition)?;
+    Ok(())
+}
+
+fn text_in<'a>(definitions: &'a IndexMap<Vec<u8>, Definition>, name: &[u8]) -> Option<&'a [u8]>
+    ensures { option_copied result ≡ in_force (texts_at definitions.now name.now) }
+{
+    definitions.get(name)?.text()
+}
+
+/// The definitions that texts are expanded with. Contracts see each name with its text at each rank.
 #[derive(Drop)]
 pub struct Macros {
     definitions: IndexMap<Vec<u8>, Definition>,
 }
 
+impl Model for Macros {
+    ghost use Rattle.std.specs.Prelude.{ℕ, List, map};
+    ghost use Rattle.mk_macros.specs.Ranks.{Ranks};
+
+    ghost Value = { List (List ℕ × Ranks) };
+
+    ghost use Rattle.mk_macros.specs.Shown.{shown_definition};
+
+    ghost view = { λ m. map shown_definition m.definitions.entries };
+}
+
 impl Macros {
+    /// No definitions, which takes no memory.
     pub fn new(alloc: Global) -> Macros
-        ensures { (name : List ℕ) → ranks_at result name ≡ no_ranks }
+        ensures { result ≡ [] }
     {
         Macros {
             definitions: IndexMap::new(alloc),
@@ -174,24 +233,30 @@ impl Macros {
         append: bool,
     ) -> Result<(), AllocError>
         ensures ok { OnOk result
-            (ranks_at self.new name.now ≡ redefined (ranks_at self.old name.now) rank value.now append) }
-        ensures others { (n : List ℕ) → n ≢ name.now → ranks_at self.new n ≡ ranks_at self.old n }
-        ensures err { OnErr result (ranks_at self.new name.now ≡ ranks_at self.old name.now) }
+            (ranks_at self.new ≡ with_definition (ranks_at self.old) rank name.now value.now append) }
+        ensures err { OnErr result (ranks_at self.new ≡ ranks_at self.old) }
     {
-        if let Some(definition) = self.definitions.get_mut(name) {
-            return definition.define(alloc, rank, value, append);
-        }
-        let mut definition = Definition::new();
-        definition.define(alloc, rank, value, append)?;
-        self.definitions
-            .insert(Vec::from_slice(alloc, name)?, definition)?;
-        Ok(())
+        define_in(&mut self.definitions, alloc, rank, name, value, append)
     }
 
     /// The text in force for a name.
     pub(crate) fn text(&self, name: &[u8]) -> Option<&[u8]>
         ensures { option_copied result ≡ in_force (ranks_at self.now name.now) }
     {
-        self.definitions.get(name)?.text()
+        text_in(&self.definitions, name)
+    }
+}
+
+/// Each name with its texts.
+impl fmt::Debug for Macros {
+    fn fmt<W: fmt::Write>(&self, f: &mut fmt::Formatter<W>) -> fmt::Result {
+        f.debug_map()
+            .entries(
+                self.definitions.iter().map(|(name, definition)| (
+                    name.as_slice().as_bstr(),
+                    definition,
+                )),
+            )
+            .finish()
     }
 }

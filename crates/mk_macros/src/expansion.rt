@@ -3,7 +3,7 @@
 ghost use Rattle.std.specs.Prelude.{◌≡◌, ◌≤◌, ◌++◌, length, IfOk, IfErr, OnOk};
 ghost use Rattle.mk_macros.specs.Reference.{used};
 ghost use Rattle.mk_macros.specs.Shown.{shown_use};
-ghost use Rattle.mk_macros.specs.Definitions.{meaning_of};
+ghost use Rattle.mk_macros.specs.Ranks.{ranks_at, meaning_of};
 ghost use Rattle.mk_macros.specs.Expansion.{gives, limit, ExpandsTo, ExpandsToFault, IsTooLongAt};
 
 use crate::definitions::Macros;
@@ -11,6 +11,7 @@ use crate::dynamic::Dynamic;
 use crate::fault::MacroFault;
 use crate::reference::{Piece, Use, next_piece};
 use crate::substitution::{append, append_changed_words};
+use byte_strings::ByteString;
 use std::alloc::Global;
 use std::collections::HashMap;
 
@@ -52,8 +53,8 @@ impl Macros {
         text: &'a [u8],
         line: &Dynamic<'_>,
     ) -> Result<Vec<u8>, MacroFault>
-        ensures found { IfOk result (λ v. ExpandsTo (meaning_of self.now line.now) text.now (gives v.items)) }
-        ensures fault { IfErr result (ExpandsToFault (meaning_of self.now line.now) text.now) }
+        ensures found { IfOk result (λ v. ExpandsTo (meaning_of (ranks_at self.now) line.now) text.now (gives v.items)) }
+        ensures fault { IfErr result (ExpandsToFault (meaning_of (ranks_at self.now) line.now) text.now) }
     {
         let mut progress: HashMap<&'a [u8], Progress> = HashMap::new(alloc);
         let mut callers: Vec<Caller<'a>> = Vec::new(alloc);
@@ -94,7 +95,7 @@ impl Macros {
                     rest = after;
                 }
                 Some(Progress::Opened) => {
-                    return Err(MacroFault::Loop(Vec::from_slice(alloc, name)?));
+                    return Err(MacroFault::Loop(ByteString::from_slice(alloc, name)?));
                 }
                 None => {
                     progress.insert(name, Progress::Opened)?;

@@ -1,5 +1,5 @@
 // Why a text has no expansion.
-use bstr::BStr;
+use byte_strings::ByteString;
 use std::alloc::{AllocError, AllocFailed};
 use thiserror::Error;
 
@@ -11,8 +11,8 @@ pub const MAX_EXPANSION_BYTES: usize = 1_048_576;
 pub enum MacroFault {
     #[error("out of memory")]
     OutOfMemory,
-    #[error("macro {} refers to itself", BStr::new(.0))]
-    Loop(Vec<u8>),
+    #[error("macro {0} refers to itself")]
+    Loop(ByteString),
     #[error("macro reference not closed")]
     Unclosed,
     #[error("nested macro reference")]

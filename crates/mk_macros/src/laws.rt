@@ -1,7 +1,6 @@
 // What holds of the definitions alone.
 ghost use Rattle.std.specs.Prelude.{◌≡◌, ◌≢◌, ℕ, List, [], ◌∷◌, ◌++◌, None};
-ghost use Rattle.std.specs.List.{join_with_byte};
-ghost use Rattle.mk_macros.specs.Words.{place_of, words, AreWords, pattern_of, by_pattern, changed_word, directory_of, file_of};
+ghost use Rattle.mk_macros.specs.Words.{place_of, pattern_of, by_pattern, changed_word, directory_of, file_of};
 ghost use Rattle.mk_macros.specs.Expansion.{Meaning, Outcome, Expands};
 
 /// A text has one outcome, whatever its names stand for.
@@ -20,11 +19,6 @@ pub fn substitutions_change_words()
     ensures stem { (before after front back stem : List ℕ) → place_of 37 before ≡ None → place_of 37 front ≡ None
         → changed_word (by_pattern (pattern_of (before ++ 37 ∷ after) (front ++ 37 ∷ back))) (before ++ (stem ++ after))
         ≡ front ++ (stem ++ back) }
-{}
-
-/// Words joined by one space are the words of the text.
-pub fn words_of_joined_words()
-    ensures { (ws : List (List ℕ)) → AreWords ws → words (join_with_byte 32 ws) ≡ ws }
 {}
 
 /// The directory and the file of a word are what stands before and behind its last slash. The byte 47 is `/`, and 46

@@ -12,4 +12,4 @@ mod substitution;
 pub use definitions::{Macros, Rank};
 pub use dynamic::{Dynamic, RecipeNames};
 pub use fault::{MAX_EXPANSION_BYTES, MacroFault};
-pub use laws::{one_outcome, parts_of_words, substitutions_change_words, words_of_joined_words};
+pub use laws::{one_outcome, parts_of_words, substitutions_change_words};

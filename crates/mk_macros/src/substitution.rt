@@ -1,10 +1,11 @@
-// Words of a value, and how a reference changes each of them.
-ghost use Rattle.std.specs.Prelude.{◌≡◌, ◌≤◌, ◌<◌, [], ◌∷◌, ◌++◌, length, not, position, OnOk, IfErr, IfSome, MatchOption, option_copied};
-ghost use Rattle.mk_macros.specs.Words.{is_blank, place_of, words, pattern_of, stem_of, last_slash, directory_of, file_of, replacement, changed_word, changed_words};
+// How a reference changes each word of a value.
+ghost use Rattle.std.specs.Prelude.{◌≡◌, ◌≤◌, ◌<◌, ◌++◌, length, OnOk, IfErr, IfSome, option_copied};
+ghost use Rattle.mk_macros.specs.Words.{place_of, pattern_of, stem_of, last_slash, directory_of, file_of, replacement, changed_word, changed_words};
 ghost use Rattle.mk_macros.specs.Shown.{shown_pattern, shown_change};
 ghost use Rattle.mk_macros.specs.Expansion.{limit, IsTooLongAt};
 
 use crate::fault::{MAX_EXPANSION_BYTES, MacroFault};
+use byte_strings::next_word;
 
 /// Old and new of a substitution, parted where the stem stands.
 #[derive(Clone, Copy)]
@@ -30,12 +31,6 @@ pub(crate) fn place_of(bytes: &[u8], byte: u8) -> Option<usize>
     ensures within { IfSome result (λ place. place < length bytes.now) }
 {
     bytes.iter().position(|b| *b == byte)
-}
-
-fn is_blank(byte: &u8) -> bool
-    ensures { result ≡ is_blank byte.now }
-{
-    *byte == b' ' || *byte == b'\t'
 }
 
 impl<'a> Pattern<'a> {
@@ -90,34 +85,6 @@ pub(crate) fn append(out: &mut Vec<u8>, bytes: &[u8]) -> Result<(), MacroFault>
     }
     out.extend_from_slice(bytes)?;
     Ok(())
-}
-
-fn word_start(text: &[u8]) -> Option<usize>
-    ensures value { result ≡ position (λ b. not (is_blank b)) text.now }
-    ensures within { IfSome result (λ start. start < length text.now) }
-{
-    text.iter().position(|b| !is_blank(b))
-}
-
-fn next_blank(text: &[u8]) -> Option<usize>
-    ensures value { result ≡ position is_blank text.now }
-    ensures within { IfSome result (λ end. end < length text.now) }
-{
-    text.iter().position(|b| is_blank(b))
-}
-
-/// The first word of a text, and what stands behind it.
-fn next_word(text: &[u8]) -> Option<(&[u8], &[u8])>
-    ensures { MatchOption result
-        (words text.now ≡ [])
-        (λ found. (words text.now ≡ found.0.now ∷ words found.1.now) × (length found.1.now < length text.now)) }
-{
-    let start = word_start(text)?;
-    let text = &text[start..];
-    match next_blank(text) {
-        None => Some((text, &[])),
-        Some(end) => Some((&text[..end], &text[end..])),
-    }
 }
 
 fn last_slash(word: &[u8]) -> Option<usize>

@@ -1,5 +1,6 @@
 // Each fault, and which of several is answered.
 use crate::rows::{check, makefile};
+use byte_strings::ByteString;
 use mk_macros::{Dynamic, MacroFault, Macros, Rank};
 use std::test::Fail;
 
@@ -58,7 +59,7 @@ fn a_name_that_is_no_text_is_shown(rt: HostRuntime) -> Result<(), Fail> {
                 format!(in alloc; "{fault}")?.as_str(),
                 "macro \u{FFFD} refers to itself"
             );
-            assert!(rt; fault == MacroFault::Loop(Vec::from_slice(alloc, b"\xFF")?));
+            assert!(rt; fault == MacroFault::Loop(ByteString::from_slice(alloc, b"\xFF")?));
         }
         Ok(_) => assert!(rt; false, "expanded"),
     }
@@ -68,7 +69,7 @@ fn a_name_that_is_no_text_is_shown(rt: HostRuntime) -> Result<(), Fail> {
 #[test]
 fn texts_of_faults(rt: HostRuntime) -> Result<(), Fail> {
     let alloc = rt.alloc();
-    let name = Vec::from_slice(alloc, b"CFLAGS")?;
+    let name = ByteString::from_slice(alloc, b"CFLAGS")?;
     assert_eq!(rt;
         format!(in alloc; "{}", MacroFault::Loop(name))?.as_str(),
         "macro CFLAGS refers to itself"

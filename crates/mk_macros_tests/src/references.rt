@@ -1,9 +1,6 @@
 // The forms of a reference.
 use crate::rows::{check, makefile, outcome};
-use mk_macros::{
-    Dynamic, Macros, Rank, one_outcome, parts_of_words, substitutions_change_words,
-    words_of_joined_words,
-};
+use mk_macros::{Dynamic, Macros, Rank, one_outcome, parts_of_words, substitutions_change_words};
 use std::test::Fail;
 
 #[test]
@@ -107,7 +104,6 @@ fn a_byte_that_is_no_text_is_a_name_of_its_own(rt: HostRuntime) -> Result<(), Fa
 #[test]
 fn laws_can_be_called() {
     one_outcome();
-    words_of_joined_words();
     substitutions_change_words();
     parts_of_words();
 }

@@ -3,4 +3,3 @@ pub mod LinesLemmas
 pub mod MakefileLemmas
 pub mod OutcomeLemmas
 pub mod SpellingLemmas
-pub mod WordsLemmas

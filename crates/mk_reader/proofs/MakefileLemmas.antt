@@ -1,7 +1,7 @@
 -- What each name of an include line, and each line of a text, adds to the items that are gathered.
 use Rattle.std.proofs.Common.{◌≡◌, ℕ, suc, false, List, [], ◌∷◌, ◌++◌, refl, sym, ap, subst, ◌∙◌, Option, Some, None, is_some, Result, Ok, Err, append_assoc, append-nil, Vec}
 use Rattle.std.specs.declared.alloc.Global.{Global}
-use Rattle.mk_reader.specs.Text.{words}
+use Rattle.byte_strings.specs.Blanks.{words}
 use Rattle.mk_reader.specs.Form.{refusal, Refuses, Gives, form_of}
 use Rattle.mk_reader.specs.declared.item.RecipeLine.{RecipeLine}
 use Rattle.mk_reader.specs.declared.item.Definition.{Definition}

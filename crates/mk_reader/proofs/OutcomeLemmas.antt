@@ -1,6 +1,6 @@
 -- A text has one outcome.
 use Rattle.std.proofs.Common.{◌≡◌, ℕ, zero, suc, Bool, true, false, List, [], ◌∷◌, sym, ap, subst, ◌∙◌, Option, Some, None, Result, Ok, Err}
-use Rattle.mk_reader.specs.Text.{words}
+use Rattle.byte_strings.specs.Blanks.{words}
 use Rattle.mk_reader.specs.Lines.{logical_lines}
 use Rattle.mk_reader.specs.Form.{form_of}
 use Rattle.mk_reader.specs.declared.item.RecipeLine.{RecipeLine}

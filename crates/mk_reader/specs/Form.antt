@@ -1,7 +1,8 @@
 -- What one logical line is: nothing, a recipe line, an include line, a definition, a rule, or refused.
 use Rattle.std.specs.Prelude.{◌≡◌, ℕ, ◌+◌, Bool, true, false, not, ◌&&◌, ◌||◌, ◌==◌, List, [], ◌∷◌, take, drop, Option, Some, None, option_map, Result, Ok, Err, slice_index, codes, bytes_eq, if◌then◌else◌}
 use Rattle.std.specs.List.{before_first, list_any}
-use Rattle.mk_reader.specs.Text.{is_blank, is_hash, is_dollar, is_empty, begins_with, ends_with, without_last, trimmed_start, trimmed, first_word, is_text}
+use Rattle.byte_strings.specs.Blanks.{is_blank, trimmed_start, trimmed, first_word}
+use Rattle.mk_reader.specs.Text.{is_hash, is_dollar, is_empty, begins_with, ends_with, without_last, is_text}
 use Rattle.mk_reader.specs.Special.{special_name, is_refused, takes_no_prerequisites}
 use Rattle.mk_reader.specs.declared.special.SpecialName.{SpecialName}
 use Rattle.mk_reader.specs.declared.item.RecipeLine.{RecipeLine}

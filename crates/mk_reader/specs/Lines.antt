@@ -1,7 +1,8 @@
 -- The lines of a text: physical lines as they are spelled, and logical lines, which go on behind a backslash.
 use Rattle.std.specs.Prelude.{ℕ, ◌+◌, ◌%◌, min, Bool, true, false, ◌&&◌, ◌==◌, List, [], ◌∷◌, ◌++◌, length, drop, flat_map, Option, Some, None, if◌then◌else◌}
 use Rattle.std.specs.List.{suffix_len, slice_split, onto_first}
-use Rattle.mk_reader.specs.Text.{is_newline, is_backslash, begins_with, ends_with, without_last, without_tab, trimmed_start}
+use Rattle.byte_strings.specs.Blanks.{trimmed_start}
+use Rattle.mk_reader.specs.Text.{is_newline, is_backslash, begins_with, ends_with, without_last, without_tab}
 use Rattle.mk_reader.specs.declared.line.Ending.{Ending}
 use Rattle.mk_reader.specs.declared.line.Ending.TheVariants.{EndOfText, Newline, ReturnNewline}
 use Rattle.mk_reader.specs.declared.line.PhysicalLine.{PhysicalLine}

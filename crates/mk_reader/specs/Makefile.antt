@@ -1,7 +1,7 @@
 -- The items of a text, or the first line of it that is refused; included files are read in place.
 use Rattle.std.specs.Prelude.{◌≡◌, ℕ, zero, suc, Bool, true, false, List, [], ◌∷◌, ◌++◌, Option, Some, None, Result, Ok, Err, Vec}
 use Rattle.std.specs.declared.alloc.Global.{Global}
-use Rattle.mk_reader.specs.Text.{words}
+use Rattle.byte_strings.specs.Blanks.{words}
 use Rattle.mk_reader.specs.Lines.{logical_lines}
 use Rattle.mk_reader.specs.Form.{refusal, form_of}
 use Rattle.mk_reader.specs.declared.special.SpecialName.{SpecialName}

@@ -1,6 +1,6 @@
 //! Why a makefile is refused, and the texts of the faults.
-use crate::byte_string::ByteString;
 use crate::special::SpecialName;
+use byte_strings::ByteString;
 use std::alloc::{AllocError, AllocFailed};
 use std::fmt;
 use thiserror::Error;

@@ -1,7 +1,7 @@
 //! What one logical line can be, as values.
-use crate::byte_string::ByteString;
 use crate::item::{Definition, RecipeLine, Rule};
 use crate::special::SpecialName;
+use byte_strings::ByteString;
 
 /// Whether a byte stands outside references.
 #[derive(Clone, Copy)]

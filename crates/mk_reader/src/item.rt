@@ -1,6 +1,6 @@
 //! What a makefile holds: definitions, rules and special rules, each with its file and line.
-use crate::byte_string::ByteString;
 use crate::special::SpecialName;
+use byte_strings::ByteString;
 use std::alloc::{AllocError, Global};
 use std::marker::Model;
 

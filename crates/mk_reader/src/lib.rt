@@ -2,8 +2,6 @@
 //! `read_makefile` is the one call; `laws` says in which sense the definition of a text's lines is right.
 #![tactic(auto)]
 
-mod blanks;
-mod byte_string;
 mod fault;
 mod form;
 mod includes;
@@ -16,7 +14,6 @@ mod reference;
 mod special;
 mod statement;
 
-pub use byte_string::ByteString;
 pub use fault::{Cause, Feature, ReadFault, Refusal};
 pub use includes::Includes;
 pub use item::{Definition, Item, Recipe, RecipeLine, Rule, Special};

@@ -1,5 +1,5 @@
 //! Physical and logical lines, as values.
-use crate::byte_string::ByteString;
+use byte_strings::ByteString;
 
 /// What ends a physical line.
 #[derive(Clone, Copy)]

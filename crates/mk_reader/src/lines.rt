@@ -4,9 +4,8 @@ ghost use Rattle.std.specs.List.{suffix_len, position_or_len};
 ghost use Rattle.mk_reader.specs.Text.{is_newline, is_backslash, begins_with, ends_with, without_last, without_tab};
 ghost use Rattle.mk_reader.specs.Lines.{ended_line, goes_on, body, opening, joint, groups, lines_left, rest_of_group, after_group, logical_line, is_recipe, logical_lines, numbered, number_after, physical, size_left};
 
-use crate::blanks::trim_start;
-use crate::byte_string::ByteString;
 use crate::line::{Ending, LogicalLine, PhysicalLine};
+use byte_strings::{ByteString, trim_start};
 use std::alloc::{AllocError, Global};
 
 pub fn begins_with(bytes: &[u8], byte: u8) -> bool
@@ -208,7 +207,7 @@ pub fn next_logical_line(
     let line = LogicalLine {
         number,
         is_recipe,
-        text: ByteString::from_vec(text),
+        text: ByteString::new(text),
     };
     Ok((line, next_number, left))
 }

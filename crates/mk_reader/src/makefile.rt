@@ -1,16 +1,15 @@
 //! Reads a whole makefile, with the files that it includes, line by line.
-ghost use Rattle.std.specs.Prelude.{◌≡◌, ◌+◌, ◌∷◌, ◌++◌, [], IfOk, OnOk, ℕ, List, Option, MatchOption, option_copied};
-ghost use Rattle.mk_reader.specs.Text.{words};
+ghost use Rattle.std.specs.Prelude.{◌≡◌, ◌+◌, ◌∷◌, ◌++◌, [], IfOk, OnOk, ℕ, List, Option, option_copied};
+ghost use Rattle.byte_strings.specs.Blanks.{words};
 ghost use Rattle.mk_reader.specs.Makefile.{AnswersAs, GivesItems, TextItems, EachIncluded, IncludedItems, finished, with_lines, with_line};
 
-use crate::blanks::{trim_start, word_len};
-use crate::byte_string::ByteString;
 use crate::fault::{Cause, ReadFault};
 use crate::form::{Form, UnfinishedRule};
 use crate::includes::Includes;
 use crate::item::{Item, RecipeLine, Special};
 use crate::lines::next_logical_line;
 use crate::statement::{form_of, refuse};
+use byte_strings::{ByteString, next_word};
 use std::alloc::{AllocError, Global};
 
 /// How deep includes may be nested.
@@ -42,18 +41,6 @@ fn with_line(unfinished: UnfinishedRule, line: RecipeLine) -> Result<UnfinishedR
     let UnfinishedRule { special, mut rule } = unfinished;
     rule.recipe.push(line)?;
     Ok(UnfinishedRule { special, rule })
-}
-
-/// The first word, and what stands behind it.
-fn next_word(bytes: &[u8]) -> Option<(&[u8], &[u8])>
-    ensures { MatchOption result (words bytes.now ≡ [])
-        (λ found. words bytes.now ≡ found.0.now ∷ words found.1.now) }
-{
-    let bytes = trim_start(bytes);
-    if bytes.is_empty() {
-        return None;
-    }
-    Some(bytes.split_at(word_len(bytes)))
 }
 
 /// Reads one text. Of the files that it includes the first fault in the order of reading is answered.
@@ -89,7 +76,7 @@ fn read_text<I: Includes>(
             Form::Include(names) => {
                 finish(&mut items, unfinished)?;
                 unfinished = None;
-                let names = names.as_bytes();
+                let names = names.as_slice();
                 let mut included = read_each(alloc, levels, file, line_number, names, includes)?;
                 items.append(&mut included)?;
             }
@@ -152,7 +139,7 @@ fn read_included<I: Includes>(
     }
     match includes.read(alloc, name)? {
         None => {
-            let cause = Cause::IncludeMissing(ByteString::copied(alloc, name)?);
+            let cause = Cause::IncludeMissing(ByteString::from_slice(alloc, name)?);
             Err(refuse(alloc, file, number, cause))
         }
         Some(text) => read_text(alloc, levels - 1, name, text.as_slice(), includes),

@@ -2,12 +2,11 @@
 ghost use Rattle.std.specs.Prelude.{◌≡◌, ◌+◌, ◌<◌, ◌==◌, ◌&&◌, IfOk, IfSome, length, take, drop, codes, bytes_eq};
 ghost use Rattle.std.specs.List.{before_first, list_any};
 ghost use Rattle.std.specs.Str.{is_utf8};
-ghost use Rattle.mk_reader.specs.Text.{is_blank, is_hash, is_dollar, is_nul, is_empty, is_text, trimmed_start};
+ghost use Rattle.byte_strings.specs.Blanks.{is_blank, trimmed_start};
+ghost use Rattle.mk_reader.specs.Text.{is_hash, is_dollar, is_nul, is_empty, is_text};
 ghost use Rattle.mk_reader.specs.Form.{Gives, Refuses, refusal, include_form, named_form, definition_form, prerequisites_of, recipe_of, judged_form, rule_form, begins_shell_definition, colon_form, decided_form, line_form, statement_form, recipe_form, form_of, first_outside};
 ghost use Rattle.mk_reader.specs.declared.form.Place.TheVariants.{Outside};
 
-use crate::blanks::{first_word, is_blank, trim, trim_start};
-use crate::byte_string::ByteString;
 use crate::fault::{Cause, Feature, ReadFault, Refusal};
 use crate::form::{Form, UnfinishedRule};
 use crate::item::{Definition, Recipe, RecipeLine, Rule};
@@ -15,6 +14,7 @@ use crate::line::LogicalLine;
 use crate::lines::{begins_with, ends_with, without_first, without_last};
 use crate::reference::first_outside;
 use crate::special::{SpecialName, is_refused, special_name, takes_no_prerequisites};
+use byte_strings::{ByteString, first_word, is_blank, trim, trim_start};
 use std::alloc::{AllocError, Global};
 use std::str;
 
@@ -22,7 +22,7 @@ use std::str;
 pub fn refuse(alloc: Global, file: &[u8], line: usize, cause: Cause) -> ReadFault
     ensures { Refuses result (refusal file.now line cause) }
 {
-    match ByteString::copied(alloc, file) {
+    match ByteString::from_slice(alloc, file) {
         Ok(file) => ReadFault::Refused(Refusal { file, line, cause }),
         Err(_) => ReadFault::OutOfMemory,
     }
@@ -85,7 +85,7 @@ fn include_form(alloc: Global, file: &[u8], number: usize, line: &[u8]) -> Resul
     if has_dollar(line) || trim_start(names).is_empty() {
         return Err(refuse(alloc, file, number, Cause::Unsupported(Feature::Include)));
     }
-    let names = ByteString::copied(alloc, names)?;
+    let names = ByteString::from_slice(alloc, names)?;
     Ok(Form::Include(names))
 }
 
@@ -104,11 +104,11 @@ fn named_form(
         return Err(refuse(alloc, file, number, Cause::MissingSeparator));
     }
     Ok(Form::Definition(Definition {
-        file: ByteString::copied(alloc, file)?,
+        file: ByteString::from_slice(alloc, file)?,
         line: number,
-        name: ByteString::copied(alloc, name)?,
+        name: ByteString::from_slice(alloc, name)?,
         append,
-        value: ByteString::copied(alloc, trim(value))?,
+        value: ByteString::from_slice(alloc, trim(value))?,
     }))
 }
 
@@ -137,10 +137,10 @@ fn judged_form(alloc: Global, special: Option<SpecialName>, rule: Rule) -> Resul
     ensures { Gives result (judged_form special rule) }
 {
     if let Some(name) = special {
-        let has_prerequisites = !rule.prerequisites.as_bytes().is_empty();
+        let has_prerequisites = !rule.prerequisites.as_slice().is_empty();
         if is_refused(name) || (takes_no_prerequisites(name) && has_prerequisites) {
             let cause = Cause::Unsupported(Feature::SpecialName(name));
-            return Err(refuse(alloc, rule.file.as_bytes(), rule.line, cause));
+            return Err(refuse(alloc, rule.file.as_slice(), rule.line, cause));
         }
     }
     Ok(Form::Rule(UnfinishedRule { special, rule }))
@@ -169,7 +169,7 @@ fn recipe_of(
 {
     let mut recipe = Recipe::new(alloc);
     if let Some(at) = semicolon {
-        let text = ByteString::copied(alloc, around(right, at).1)?;
+        let text = ByteString::from_slice(alloc, around(right, at).1)?;
         recipe.push(RecipeLine { text, line: number })?;
     }
     Ok(recipe)
@@ -190,10 +190,10 @@ fn rule_form(
     }
     let semicolon = first_outside(right, b';', b';');
     let rule = Rule {
-        file: ByteString::copied(alloc, file)?,
+        file: ByteString::from_slice(alloc, file)?,
         line: number,
-        targets: ByteString::copied(alloc, targets)?,
-        prerequisites: ByteString::copied(alloc, prerequisites_of(right, semicolon))?,
+        targets: ByteString::from_slice(alloc, targets)?,
+        prerequisites: ByteString::from_slice(alloc, prerequisites_of(right, semicolon))?,
         recipe: recipe_of(alloc, number, right, semicolon)?,
     };
     judged_form(alloc, special_name(first_word(targets)), rule)
@@ -282,10 +282,10 @@ fn recipe_form(
 ) -> Result<Form, ReadFault>
     ensures { Gives result (recipe_form file.now number text) }
 {
-    if !is_text(text.as_bytes()) {
+    if !is_text(text.as_slice()) {
         return Err(refuse(alloc, file, number, Cause::NotText));
     }
-    if trim_start(text.as_bytes()).is_empty() {
+    if trim_start(text.as_slice()).is_empty() {
         return Ok(Form::Blank);
     }
     Ok(Form::Recipe(RecipeLine { text, line: number }))
@@ -304,6 +304,6 @@ pub fn form_of(alloc: Global, file: &[u8], line: LogicalLine) -> Result<Form, Re
     if is_recipe {
         recipe_form(alloc, file, number, text)
     } else {
-        statement_form(alloc, file, number, text.as_bytes())
+        statement_form(alloc, file, number, text.as_slice())
     }
 }

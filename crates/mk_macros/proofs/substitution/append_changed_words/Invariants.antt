@@ -1,5 +1,6 @@
 use Rattle.std.proofs.Common.{◌≡◌, ◌≤◌, length, ◌++◌, map}
-use Rattle.mk_macros.specs.Words.{words, changed_word, changed_words}
+use Rattle.byte_strings.specs.Blanks.{words}
+use Rattle.mk_macros.specs.Words.{changed_word, changed_words}
 use Rattle.mk_macros.specs.Shown.{shown_change}
 use Rattle.mk_macros.specs.Expansion.{limit}
 use Rattle.mk_macros.proofs.WordLemmas.{spaced}

@@ -1,6 +1,6 @@
 use Rattle.std.proofs.Common.{◌≡◌, ◌-◌, refl, false, option_map, ◌∷◌, Some, None, Err, Ok, option_copied, sym, ap, subst, ◌∙◌, arith}
 use Rattle.std.proofs.lemmas.Result.{err_from_is_err_and}
-use Rattle.mk_reader.specs.Text.{words}
+use Rattle.byte_strings.specs.Blanks.{words}
 use Rattle.mk_reader.specs.Lines.{logical_lines}
 use Rattle.mk_reader.specs.Form.{form_of}
 use Rattle.mk_reader.specs.Makefile.{AnswersAs, EachIncluded, IncludedItems, LineItems, TextItems}
@@ -18,7 +18,7 @@ read_each-returns-in_err-included-clause-items g t c =
     (IncludedItems (AnswersAs g.I.Includes.honest (g.I.Includes.files c.loop-name.includes)) c.args.levels c.args.file.now c.args.number c.in-Some.name.now)
     (EachIncluded included (words c.args.names.now))
     c.in_err-included.ensures.items
-    (λ fault h. each_fault included (words c.args.names.now) c.loop-name.items.items _ _ c.in-Some.name.now fault c.loop-name.invariant.gathered c.in-Some.ensures
+    (λ fault h. each_fault included (words c.args.names.now) c.loop-name.items.items _ _ c.in-Some.name.now fault c.loop-name.invariant.gathered c.in-Some.ensures.word
     (subst (λ files. IncludedItems (AnswersAs g.I.Includes.honest files) c.args.levels c.args.file.now c.args.number c.in-Some.name.now (Err fault)) c.loop-name.invariant.same h)) in
     rw (p.1, p.2) told
 
@@ -26,7 +26,7 @@ pub read_each-loop-name-preserved : goal.read_each-loop-name-preserved
 read_each-loop-name-preserved g t c =
     let included = IncludedItems (AnswersAs g.I.Includes.honest (g.I.Includes.files c.args.includes.now)) c.args.levels c.args.file.now c.args.number in
     record {
-      gathered = each_more included (words c.args.names.now) c.loop-name.items.items _ c.in_ok-included.included.items _ _ c.in-Some.name.now c.loop-name.invariant.gathered c.in-Some.ensures
+      gathered = each_more included (words c.args.names.now) c.loop-name.items.items _ c.in_ok-included.included.items _ _ c.in-Some.name.now c.loop-name.invariant.gathered c.in-Some.ensures.word
           (subst (λ files. IncludedItems (AnswersAs g.I.Includes.honest files) c.args.levels c.args.file.now c.args.number c.in-Some.name.now (Ok c.in_ok-included.included.items)) c.loop-name.invariant.same c.in_ok-included.ensures.items)
           c.in_ok-append.ensures.items;
       same = c.read_included.ensures.same ∙ c.loop-name.invariant.same;
@@ -35,7 +35,7 @@ read_each-loop-name-preserved g t c =
 pub read_each-returns-clause-items : goal.read_each-returns-clause-items
 read_each-returns-clause-items g t c =
     each_end (IncludedItems (AnswersAs g.I.Includes.honest (g.I.Includes.files c.args.includes.now)) c.args.levels c.args.file.now c.args.number) (words c.args.names.now)
-    c.loop-name.items.items _ c.loop-name.invariant.gathered c.in_default.ensures
+    c.loop-name.items.items _ c.loop-name.invariant.gathered c.in_default.ensures.word
 
 pub read_included-returns-in-Some-clause-items : goal.read_included-returns-in-Some-clause-items
 read_included-returns-in-Some-clause-items g t c =
@@ -102,7 +102,7 @@ read_text-returns-in_err-included-in-Include-clause-items g t c =
     let at : logical_lines c.loop-left.number (option_copied c.loop-left.left) ≡ c.in_ok-line.line ∷ more = ap (λ left. logical_lines c.loop-left.number (option_copied left)) c.in-Some.is ∙ c.in_ok-line.ensures.line in
     let by = reaches_by included c.args.file.now all c.loop-left.items.items c.loop-left.unfinished (c.loop-left.unfinished) _ more c.in_ok-line.line (Ok (form.Include c.in-Include.names)) c.loop-left.invariant.gathered at (c.in_ok-form_of.ensures ∙ ap Ok c.in-Include.is) refl in
     let told = fault_passed_on c.in_err-included-in-Include.field-0.0
-    (EachIncluded (IncludedItems (AnswersAs g.I.Includes.honest (g.I.Includes.files c.loop-left.includes)) c.args.levels c.args.file.now c.in_ok-line.line.number) (words c.as_bytes-names.result.now))
+    (EachIncluded (IncludedItems (AnswersAs g.I.Includes.honest (g.I.Includes.files c.loop-left.includes)) c.args.levels c.args.file.now c.in_ok-line.line.number) (words c.as_slice-names.result.now))
     (LineItems included c.args.file.now false all)
     c.in_err-included-in-Include.ensures.items
     (λ fault h. include_refused included c.args.file.now all c.loop-left.items.items c.loop-left.unfinished c.in_ok-line.line.number c.in-Include.names fault more by

@@ -1,5 +1,5 @@
 use Rattle.std.proofs.Common.{◌≡◌, ◌+◌, ◌*◌, length, option_copied}
-use Rattle.mk_reader.specs.Text.{words}
+use Rattle.byte_strings.specs.Blanks.{words}
 use Rattle.mk_reader.specs.Lines.{logical_lines, size_left}
 use Rattle.mk_reader.specs.Makefile.{AnswersAs, Outcome, EachIncluded, IncludedItems, with_front}
 use Rattle.mk_reader.proofs.MakefileLemmas.{Reaches}

@@ -1,21 +1,24 @@
-use Rattle.std.proofs.Common.{◌∙◌, ap}
-use Rattle.std.specs.Option.{option_map_or}
-use Rattle.std.specs.Map.{lookup}
-use Rattle.mk_macros.specs.Definitions.{ranks_of, no_ranks}
-use Rattle.mk_macros.proofs.DefinitionLemmas.{is_named, lookup-set_value, lookup-insert_entry}
+use Rattle.std.proofs.Common.{Result, Ok, Err, OnOk, OnErr}
+use Rattle.mk_macros.specs.Shown.{ranks_of}
+use Rattle.mk_macros.proofs.DefinitionLemmas.{defines, keeps}
 use Rattle.mk_macros.proofs.definitions.Macros.define.Goals as goal
 
-pub returns-in-Some-clause-others : goal.returns-in-Some-clause-others
-returns-in-Some-clause-others c = λ n apart.
-    let writes = (c.get_mut.follows.holds c.define.new.self).0 in
-    let same = lookup-set_value (λ k. k.items) n c.args.name.now apart c.args.self.now.definitions.entries c.define.new.self in
-    ap (λ es. option_map_or ranks_of (lookup (is_named (λ k. k.items) n) es) no_ranks) writes
-    ∙ ap (λ found. option_map_or ranks_of found no_ranks) same
+at_ok : {T E : Type 0} {P Q : Type 0} (r : Result T E) → (P → Q) → OnOk r P → OnOk r Q
+at_ok (Ok x) f p = f p
+at_ok (Err e) f p = p
 
-pub returns-clause-others : goal.returns-clause-others
-returns-clause-others c = λ n apart.
-    let entries = c.in_ok-insert.ensures.entries in
-    let same = lookup-insert_entry (λ k. k.items) n c.args.name.now apart c.get_mut.follows.lender-at-none.entries c.in_ok-from_slice.field-0 c.define-2.new.self c.in_ok-from_slice.ensures.items in
-    ap (λ es. option_map_or ranks_of (lookup (is_named (λ k. k.items) n) es) no_ranks) entries
-    ∙ ap (λ found. option_map_or ranks_of found no_ranks) same
-    ∙ ap (λ m. option_map_or ranks_of (lookup (is_named (λ k. k.items) n) m.entries) no_ranks) c.get_mut.follows.holds-at-none
+at_err : {T E : Type 0} {P Q : Type 0} (r : Result T E) → (P → Q) → OnErr r P → OnErr r Q
+at_err (Ok x) f p = p
+at_err (Err e) f p = f p
+
+pub returns-clause-ok : goal.returns-clause-ok
+returns-clause-ok c =
+    rw (← c.self.view_is) (at_ok c.define_in.result
+    (defines (λ k. k.items) ranks_of c.self.inside.definitions.entries c.define_in.new.definitions.entries c.args.name.now c.define_in.ensures.others c.args.rank c.args.value.now c.args.append)
+    c.define_in.ensures.ok)
+
+pub returns-clause-err : goal.returns-clause-err
+returns-clause-err c =
+    rw (← c.self.view_is) (at_err c.define_in.result
+    (keeps (λ k. k.items) ranks_of c.self.inside.definitions.entries c.define_in.new.definitions.entries c.args.name.now c.define_in.ensures.others)
+    c.define_in.ensures.err)

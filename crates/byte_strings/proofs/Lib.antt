@@ -1,0 +1,3 @@
+pub mod EqualLemmas
+pub mod PieceLemmas
+pub mod WordLemmas

@@ -1,0 +1,5 @@
+-- Both are the model.
+-- Blanks: what a blank is, and what the words of a text are.
+pub mod Blanks
+-- Pieces: which strings a text and their ends stand for.
+pub mod Pieces

@@ -1,0 +1,2 @@
+-- Lists has what the callers answer; no model.
+pub mod Lists

@@ -1,0 +1,79 @@
+-- What is defined for a name, by rank, what is in force, and what a name stands for in a line.
+use Rattle.std.specs.Prelude.{ℕ, Bool, true, false, List, [], ◌∷◌, ◌++◌, Option, Some, None, unwrap_or, bytes_eq, if◌then◌else◌}
+use Rattle.std.specs.Map.{lookup}
+use Rattle.mk_macros.specs.Dynamic.{dynamic_value}
+use Rattle.mk_macros.specs.Expansion.{Meaning, undefined, dynamic, defined}
+use Rattle.mk_macros.specs.declared.definitions.Rank.{Rank}
+use Rattle.mk_macros.specs.declared.definitions.Rank.TheVariants.{CommandLine, Makefile, Environment, Tool}
+use Rattle.mk_macros.specs.declared.dynamic.Dynamic.{Dynamic}
+use Rattle.mk_macros.specs.declared.dynamic.Dynamic.TheVariants.{RuleLine}
+
+-- the text of a name at each rank that has one
+pub record Ranks : Type 0 where
+  pub command_line : Option (List ℕ)
+  pub makefile : Option (List ℕ)
+  pub environment : Option (List ℕ)
+  pub tool : Option (List ℕ)
+
+-- nothing is defined
+abbrev pub no_ranks : Ranks
+no_ranks = record { command_line = None; makefile = None; environment = None; tool = None }
+
+-- the first text that there is
+abbrev pub or_else : Option (List ℕ) → Option (List ℕ) → Option (List ℕ)
+or_else None second = second
+or_else (Some text) second = Some text
+
+-- the text that is in force: that of the first rank that has one (POSIX make, "Macros": the command line, the
+-- makefile, the environment, the built-in ones)
+abbrev pub in_force : Ranks → Option (List ℕ)
+in_force r = or_else r.command_line (or_else r.makefile (or_else r.environment r.tool))
+
+-- what is defined once the rank has this text
+abbrev pub with_rank : Ranks → Rank → (text : List ℕ) → Ranks
+with_rank r CommandLine text = record r { command_line = Some text }
+with_rank r Makefile text = record r { makefile = Some text }
+with_rank r Environment text = record r { environment = Some text }
+with_rank r Tool text = record r { tool = Some text }
+
+-- what an appending definition at this rank adds to: in a makefile also what the environment has, where no makefile
+-- defined the name before
+abbrev pub base_of : Ranks → Rank → Option (List ℕ)
+base_of r CommandLine = r.command_line
+base_of r Makefile = or_else r.makefile r.environment
+base_of r Environment = r.environment
+base_of r Tool = r.tool
+
+-- a text behind another and a space; behind nothing it stands alone
+-- (make(1S), appending definitions; that nothing takes no space is our own)
+abbrev pub appended : Option (List ℕ) → (text : List ℕ) → List ℕ
+appended None text = text
+appended (Some []) text = text
+appended (Some (b ∷ bs)) text = b ∷ (bs ++ 32 ∷ text)
+
+-- what is defined after one more definition
+abbrev pub redefined : Ranks → Rank → (text : List ℕ) → (append : Bool) → Ranks
+redefined r rank text false = with_rank r rank text
+redefined r rank text true = with_rank r rank (appended (base_of r rank) text)
+
+-- what a name with these values stands for
+abbrev pub meaning_from : (dynamic_value : Option (List ℕ)) (text : Option (List ℕ)) → Meaning
+meaning_from (Some value) text = dynamic value
+meaning_from None (Some text) = defined text
+meaning_from None None = undefined
+
+-- what is defined for a name
+abbrev pub ranks_at : List (List ℕ × Ranks) → (name : List ℕ) → Ranks
+ranks_at definitions name = unwrap_or (lookup (bytes_eq name) definitions) no_ranks
+
+-- what each name has after one more definition
+abbrev pub with_definition : (List ℕ → Ranks) → Rank → (name text : List ℕ) → (append : Bool) → List ℕ → Ranks
+with_definition ranks rank name text append n = if bytes_eq n name then redefined (ranks name) rank text append else ranks n
+
+-- what a name stands for in a line: dynamic macros hide definitions
+abbrev pub meaning_of : (List ℕ → Ranks) → Dynamic → (name : List ℕ) → Meaning
+meaning_of ranks line name = meaning_from (dynamic_value line name) (in_force (ranks name))
+
+-- what a name stands for in a rule line, which has no dynamic macros
+abbrev pub rule_meaning : (List ℕ → Ranks) → (name : List ℕ) → Meaning
+rule_meaning ranks = meaning_of ranks RuleLine
