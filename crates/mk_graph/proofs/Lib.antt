@@ -1,0 +1,6 @@
+pub mod CountedLemmas
+pub mod NumberingLemmas
+pub mod NameLemmas
+pub mod CycleLemmas
+pub mod RowLemmas
+pub mod PlanLemmas

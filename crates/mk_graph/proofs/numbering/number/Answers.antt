@@ -1,0 +1,118 @@
+use Rattle.std.proofs.Common.{◌≡◌, ℕ, ◌+◌, ◌<◌, true, List, [], ◌∷◌, ◌++◌, length, map, nat_lt, refl, sym, ap, ◌∙◌, subst, arith, length-append}
+use Rattle.std.proofs.lemmas.List.{map-append, length-map}
+use Rattle.std.proofs.lemmas.List.Folds.{list_all-append}
+use Rattle.std.specs.List.{list_all}
+use Rattle.mk_graph.specs.Edges.{is_closed}
+use Rattle.mk_graph.specs.Numbering.{name_at, has_name, all_added}
+use Rattle.mk_graph.proofs.NameLemmas.{Begins, begins_all_added, below_from_begins, row_from_begins, length_from_begins}
+use Rattle.mk_graph.proofs.NumberingLemmas.{Numbers, Numbers-start, Numbers-more, too_many_goals, too_many_found, reached, numbering_at_end, rows_below_from_begins}
+use Rattle.mk_graph.proofs.numbering.number.Goals as goal
+
+pub returns-in_default-clause-fault : goal.returns-in_default-clause-fault
+returns-in_default-clause-fault g c = λ of allowed whole numbering.
+    let goals = map (λ v. v.items) c.args.goals.items in
+    let past = rw c.in_default.is at c.in_ok-goal_numbers.ensures.ok in
+    let P : List (List ℕ) → Type 0 = λ names. c.args.limit < length (all_added names goals) in
+    too_many_goals of goals c.args.limit (subst P c.new-names.ensures past) whole numbering
+
+pub loop-alloc-init : goal.loop-alloc-init
+loop-alloc-init g c =
+    let goals = map (λ v. v.items) c.args.goals.items in
+    let done = rw c.in-Some.is at c.in_ok-goal_numbers.ensures.ok in
+    let within = rw c.in-Some.is at c.in_ok-goal_numbers.ensures.within in
+    let names = c.add_all.new.self in
+    let P : List (List ℕ) → Type 0 = λ rows. (of : List ℕ → List (List ℕ)) → g.R.Dependencies.allows c.args.source.now of → Numbers of goals names rows in
+    let none : map (λ r. r.items) c.new-rows.result.items ≡ [] = ap (map (λ r. r.items)) c.new-rows.ensures.items in
+    record {
+      numbers = subst P (sym none) (λ of allowed. Numbers-start of goals names (done.0 ∙ ap (λ l. all_added l goals) c.new-names.ensures));
+      below = ap (list_all (λ ns. list_all (λ n. nat_lt n (length names)) ns)) none;
+      looked = let z = ap length c.new-rows.ensures.items in omega arith;
+      within = within (let z = ap length c.new-names.ensures in omega arith);
+      goals = done.2;
+      goal_nodes = done.1;
+      grows = λ of allowed. allowed;
+    }
+
+pub returns-in-Err-clause-fault : goal.returns-in-Err-clause-fault
+returns-in-Err-clause-fault g c =
+    let names = c.loop-alloc.names in
+    let rows = map (λ r. r.items) c.loop-alloc.rows.items in
+    let goals = map (λ v. v.items) c.args.goals.items in (
+      c.name.result.now,
+      c.in-Err.ensures.refused,
+      λ of allowed whole numbering.
+          let r = reached of goals names rows c.len-in-loop-alloc-2.result
+          (c.loop-alloc.invariant.numbers of (c.in-Err.ensures.grows of allowed)) (let k = c.loop-alloc-test.true in omega arith) whole numbering in
+          ap (has_name whole) c.name.ensures ∙ r,
+    )
+
+pub returns-in_default-2-clause-fault : goal.returns-in_default-2-clause-fault
+returns-in_default-2-clause-fault g c = λ of allowed whole numbering.
+    let names = c.loop-alloc.names in
+    let rows = map (λ r. r.items) c.loop-alloc.rows.items in
+    let goals = map (λ v. v.items) c.args.goals.items in
+    let found = map (λ v. v.items) c.in-Ok.found.items in
+    let past = rw c.in_default-2.is at c.in_ok-row.ensures.ok in
+    too_many_found of goals names rows found (c.loop-alloc.invariant.numbers of (c.in-Ok.ensures.grows of allowed))
+    (let e = length-map c.loop-alloc.rows.items (λ r. r.items) in omega arith)
+    (c.in-Ok.ensures.list of allowed ∙ ap of (c.name.ensures ∙ ap (name_at names) (let e = length-map c.loop-alloc.rows.items (λ r. r.items) in omega arith))) c.args.limit past whole numbering
+
+-- names and rows once a row was found
+module _ (goals names names' : List (List ℕ)) (rows found : List (List ℕ)) (row : List ℕ) (is : names' ≡ all_added names found)
+    (new_below : list_all (λ n. nat_lt n (length names')) row ≡ true) (here : map (name_at names') row ≡ found)
+    (below : list_all (λ ns. list_all (λ n. nat_lt n (length names)) ns) rows ≡ true) where
+  begins : Begins names names'
+  begins = subst (Begins names) (sym is) (begins_all_added names found)
+
+  numbers_longer : (of : List ℕ → List (List ℕ)) → Numbers of goals names rows → length rows < length names → found ≡ of (name_at names (length rows))
+      → Numbers of goals names' (rows ++ row ∷ [])
+  numbers_longer of before next asked =
+      subst (λ n. Numbers of goals n (rows ++ row ∷ [])) (sym is)
+      (Numbers-more of goals names rows found before next asked row below (subst (λ n. map (name_at n) row ≡ found) is here))
+
+  below_longer : list_all (λ ns. list_all (λ n. nat_lt n (length names')) ns) (rows ++ row ∷ []) ≡ true
+  below_longer = list_all-append (λ ns. list_all (λ n. nat_lt n (length names')) ns) rows (row ∷ []) ∙ rw (rows_below_from_begins names names' rows begins below, new_below) refl
+
+pub loop-alloc-preserved : goal.loop-alloc-preserved
+loop-alloc-preserved g c =
+    let names = c.loop-alloc.names in
+    let names' = c.add_all-in-loop-alloc.new.self in
+    let rows = map (λ r. r.items) c.loop-alloc.rows.items in
+    let row = c.in-Some-2.row.items in
+    let goals = map (λ v. v.items) c.args.goals.items in
+    let found = map (λ v. v.items) c.in-Ok.found.items in
+    let done = rw c.in-Some-2.is at c.in_ok-row.ensures.ok in
+    let within = rw c.in-Some-2.is at c.in_ok-row.ensures.within in
+    let count : length rows ≡ c.len.result = let e = length-map c.loop-alloc.rows.items (λ r. r.items) in omega arith in
+    let next : length rows < length names = let t = c.loop-alloc-test.true in omega arith in
+    let longer : map (λ r. r.items) c.push.new.self.items ≡ rows ++ row ∷ []
+    = ap (map (λ r. r.items)) c.in_ok-push.ensures.items ∙ map-append (λ r. r.items) c.loop-alloc.rows.items (c.in-Some-2.row ∷ []) in
+    let grown : Begins names names' = begins goals names names' rows found row done.0 done.1 done.2 c.loop-alloc.invariant.below in
+    let P : List (List ℕ) → Type 0 = λ rows. (of : List ℕ → List (List ℕ)) → g.R.Dependencies.allows c.prerequisites.new.self of → Numbers of goals names' rows in
+    record {
+      numbers = subst P (sym longer) (λ of allowed.
+          numbers_longer goals names names' rows found row done.0 done.1 done.2 c.loop-alloc.invariant.below of
+          (c.loop-alloc.invariant.numbers of (c.in-Ok.ensures.grows of allowed)) next
+          (c.in-Ok.ensures.list of allowed ∙ ap of (c.name.ensures ∙ ap (name_at names) (omega arith))));
+      below = ap (list_all (λ ns. list_all (λ n. nat_lt n (length names')) ns)) longer ∙ below_longer goals names names' rows found row done.0 done.1 done.2 c.loop-alloc.invariant.below;
+      looked =
+          let e : length c.push.new.self.items ≡ length c.loop-alloc.rows.items + 1 = ap length c.in_ok-push.ensures.items ∙ length-append c.loop-alloc.rows.items (c.in-Some-2.row ∷ []) in
+          let m = length-map c.loop-alloc.rows.items (λ r. r.items) in
+          let l = length_from_begins names names' grown in omega (arith, e, m, l, next);
+      within = within c.loop-alloc.invariant.within;
+      goals = row_from_begins names names' c.in-Some.goal_numbers.items grown c.loop-alloc.invariant.goal_nodes ∙ c.loop-alloc.invariant.goals;
+      goal_nodes = below_from_begins names names' c.in-Some.goal_numbers.items grown c.loop-alloc.invariant.goal_nodes;
+      grows = λ of allowed. c.loop-alloc.invariant.grows of (c.in-Ok.ensures.grows of allowed);
+    }
+
+pub returns-clause-names : goal.returns-clause-names
+returns-clause-names g c = λ of allowed. numbering_at_end of (map (λ v. v.items) c.args.goals.items) c.loop-alloc.names (map (λ r. r.items) c.loop-alloc.rows.items) (c.loop-alloc.invariant.numbers of allowed)
+    (let e = length-map c.loop-alloc.rows.items (λ r. r.items) in omega arith)
+
+pub returns-clause-closed : goal.returns-clause-closed
+returns-clause-closed g c =
+    let rows = map (λ r. r.items) c.loop-alloc.rows.items in
+    let same : length c.loop-alloc.names ≡ length rows = let e = length-map c.loop-alloc.rows.items (λ r. r.items) in let l = c.loop-alloc.invariant.looked in omega arith in
+    let P : ℕ → Type 0 = λ k. list_all (λ ns. list_all (λ n. nat_lt n k) ns) rows ≡ true in
+    let Q : List (List ℕ) → Type 0 = λ r. is_closed r ≡ true in
+    subst Q (sym c.new.ensures) (subst P same c.loop-alloc.invariant.below)

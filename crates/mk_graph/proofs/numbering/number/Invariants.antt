@@ -1,0 +1,20 @@
+use Rattle.std.proofs.Common.{◌≡◌, ℕ, ◌-◌, ◌≤◌, true, List, length, map, nat_lt}
+use Rattle.std.specs.List.{list_all}
+use Rattle.mk_graph.specs.Numbering.{name_at}
+use Rattle.mk_graph.proofs.NumberingLemmas.{Numbers}
+use Rattle.mk_graph.proofs.numbering.number.Given as goal
+
+abbrev pub invariant-loop-alloc : goal.invariant-loop-alloc
+invariant-loop-alloc g l = record {
+  numbers : (of : List ℕ → List (List ℕ)) → g.R.Dependencies.allows l.source of
+      → Numbers of (map (λ v. v.items) l.fn.goals.items) l.names (map (λ r. r.items) l.rows.items);
+  below : list_all (λ ns. list_all (λ n. nat_lt n (length l.names)) ns) (map (λ r. r.items) l.rows.items) ≡ true;
+  looked : length l.rows.items ≤ length l.names;
+  within : length l.names ≤ l.limit;
+  goals : map (name_at l.names) l.goal_numbers.items ≡ map (λ v. v.items) l.fn.goals.items;
+  goal_nodes : list_all (λ n. nat_lt n (length l.names)) l.goal_numbers.items ≡ true;
+  grows : (of : List ℕ → List (List ℕ)) → g.R.Dependencies.allows l.source of → g.R.Dependencies.allows l.fn.source of;
+}
+
+abbrev pub decreases-loop-alloc : goal.decreases-loop-alloc
+decreases-loop-alloc g l = l.limit - length l.rows.items

@@ -1,0 +1,44 @@
+use Rattle.std.proofs.Common.{◌≡◌, ℕ, ◌+◌, ◌<◌, ◌≤◌, List, length, get_or, take, slice_index, arith, rules}
+use Rattle.std.proofs.lemmas.Grind.{common_steps}
+use Rattle.std.specs.Ordering.{nat_cmp}
+use Rattle.std.specs.BTreeSet.{contains}
+use Rattle.mk_graph.specs.Edges.{times}
+use Rattle.mk_graph.proofs.RowLemmas.{times_room, below_from_positive}
+use Rattle.mk_graph.proofs.PlanLemmas.{counted_more, noted_more}
+use Rattle.mk_graph.proofs.planning.count_down.Goals as goal
+use Rattle.mk_graph.proofs.planning.count_down.Goals.{then-missing-user-eq0+in_ok-insert, else-missing-user-eq0}
+
+room : (us ms old : List ℕ) (i : ℕ) → i < length us → ((q : ℕ) → times q us ≤ slice_index old q)
+    → ((q : ℕ) → slice_index ms q + times q (take i us) ≡ slice_index old q) → 1 ≤ get_or ms (get_or us i 0) 0
+room us ms old i h enough counted =
+    let a = enough (get_or us i 0) in let b = counted (get_or us i 0) in let r = times_room us i h in omega arith
+
+pub offset_bounds-missing-user : goal.offset_bounds-missing-user
+offset_bounds-missing-user c =
+    let one = room c.args.users.now c.loop-user.missing c.args.missing.now c.loop-user.user-index c.loop-user-test.true c.requires c.loop-user.invariant.counted in
+    let below = below_from_positive c.loop-user.missing (get_or c.args.users.now c.loop-user.user-index 0) one in
+    search rules
+
+pub bounds-missing-user : goal.bounds-missing-user
+bounds-missing-user c =
+    let one = room c.args.users.now c.loop-user.missing c.args.missing.now c.loop-user.user-index c.loop-user-test.true c.requires c.loop-user.invariant.counted in
+    below_from_positive c.loop-user.missing (get_or c.args.users.now c.loop-user.user-index 0) one
+
+pub overflow_sub-missing : goal.overflow_sub-missing
+overflow_sub-missing c =
+    room c.args.users.now c.loop-user.missing c.args.missing.now c.loop-user.user-index c.loop-user-test.true c.requires c.loop-user.invariant.counted
+
+pub loop-user-preserved : goal.loop-user-preserved
+loop-user-preserved c =
+    let us = c.args.users.now in
+    let ms = c.loop-user.missing in
+    let i = c.loop-user.user-index in
+    let one = room us ms c.args.missing.now i c.loop-user-test.true c.requires c.loop-user.invariant.counted in
+    let place = below_from_positive ms (get_or us i 0) one in
+    record {
+      counted = counted_more us ms c.args.missing.now i c.loop-user-test.true one place c.loop-user.invariant.counted;
+      noted = noted_more us ms c.args.missing.now i c.loop-user-test.true one place
+          (contains nat_cmp c.args.ready.now) (contains nat_cmp c.loop-user.ready) (contains nat_cmp c.if-missing-user-eq0.ready)
+          c.loop-user.invariant.noted
+          (λ q. elim c.if-missing-user-eq0.branch [ then-missing-user-eq0+in_ok-insert w ↦ grind (arith, common_steps, w.in_ok-insert.ensures.updates.0 q) | else-missing-user-eq0 w ↦ grind (arith, common_steps) ]);
+    }

@@ -1,0 +1,12 @@
+use Rattle.std.proofs.Common.{◌≡◌, ℕ, ◌+◌, ◌&&◌, ◌||◌, take, nat_eq, slice_index}
+use Rattle.std.specs.Ordering.{nat_cmp}
+use Rattle.std.specs.BTreeSet.{contains}
+use Rattle.mk_graph.specs.Edges.{has, times}
+use Rattle.mk_graph.proofs.planning.count_down.Given as goal
+
+abbrev pub invariant-loop-user : goal.invariant-loop-user
+invariant-loop-user l = record {
+  counted : (q : ℕ) → slice_index l.missing q + times q (take l.user-index l.users) ≡ slice_index l.fn.missing q;
+  noted : (q : ℕ) → contains nat_cmp l.ready q
+      ≡ (contains nat_cmp l.fn.ready q || (has (take l.user-index l.users) q && nat_eq (slice_index l.missing q) 0));
+}

@@ -1,0 +1,7 @@
+pub mod Counted
+pub mod Cycle
+pub mod Edges
+pub mod Numbering
+pub mod NumberingFault
+pub mod Plan
+pub mod Ring

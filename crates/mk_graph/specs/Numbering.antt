@@ -1,0 +1,28 @@
+-- The numbering of names by first mention. Own.
+use Rattle.std.specs.Prelude.{◌≡◌, ℕ, Bool, true, List, [], ◌∷◌, ◌++◌, slice_index_or, if◌then◌else◌}
+use Rattle.std.specs.List.{list_any, list_all, flat_map}
+use Rattle.std.specs.Str.{bytes_eq}
+
+-- the name with a number; nothing past the end
+abbrev pub name_at : (names : List (List ℕ)) (number : ℕ) → List ℕ
+name_at names number = slice_index_or names number []
+
+-- whether the name has a number
+abbrev pub has_name : (names : List (List ℕ)) (name : List ℕ) → Bool
+has_name names name = list_any (bytes_eq name) names
+
+-- the names once this one is mentioned: a new one comes last
+abbrev pub added : (names : List (List ℕ)) (name : List ℕ) → List (List ℕ)
+added names name = if has_name names name then names else names ++ name ∷ []
+
+-- the names once these are mentioned in turn
+abbrev pub all_added : (names mentioned : List (List ℕ)) → List (List ℕ)
+all_added names [] = names
+all_added names (name ∷ more) = all_added (added names name) more
+
+-- the names in the order of their numbers, where `of` gives the prerequisites of a name: the goals by first mention, then,
+-- name by name in this very order, the prerequisites that are new; and no others than the goals lead to
+pub record IsNumbering (of : List ℕ → List (List ℕ)) (goals names : List (List ℕ)) : Type 0 where
+  pub order : names ≡ all_added [] (goals ++ flat_map of names)
+  pub least : (inside : List ℕ → Bool) → list_all inside goals ≡ true → ((n : List ℕ) → inside n ≡ true → list_all inside (of n) ≡ true)
+      → list_all inside names ≡ true

@@ -1,0 +1,90 @@
+//! The edges that order nodes.
+
+ghost use Rattle.std.specs.Prelude.{◌≡◌, ℕ, ◌<◌, ◌||◌, List, length, map, IfOk, IsTrue, MatchOption};
+ghost use Rattle.std.specs.List.Sorted.{IsStrictlyIncreasing};
+ghost use Rattle.mk_graph.specs.Edges.{row, has, is_closed};
+ghost use Rattle.mk_graph.specs.Cycle.{IsCycle, HasCycle};
+ghost use Rattle.mk_graph.specs.Counted.{joined, AreSets, AreCounted};
+
+use crate::cycles::find_cycle;
+use crate::edges::Edges;
+use std::alloc::{AllocError, Global};
+
+/// What orders the nodes of a graph.
+#[derive(Debug, Drop)]
+pub struct Counted {
+    /// Hard and soft edges, or hard ones alone. Each row has a number once, and the numbers in their order.
+    pub edges: Edges,
+    /// Whether soft edges were dropped, since they would make a cycle.
+    pub dropped: bool,
+    /// A cycle of hard edges: no order gets round it.
+    pub cycle: Option<Vec<usize>>,
+}
+
+/// The numbers of two lists, each once and in their order.
+fn set_of(alloc: Global, first: &[usize], second: &[usize]) -> Result<Vec<usize>, AllocError>
+    ensures members { IfOk result (λ set. (n : ℕ) → has set.items n ≡ (has first.now n || has second.now n)) }
+    ensures ascending { IfOk result (λ set. IsStrictlyIncreasing set.items) }
+{
+    let mut set = Vec::from_slice(alloc, first)?;
+    set.extend_from_slice(second)?;
+    set.sort_unstable();
+    set.dedup();
+    Ok(set)
+}
+
+/// Edges without repeats.
+fn sets(alloc: Global, edges: &Edges) -> Result<Edges, AllocError>
+    ensures { IfOk result (AreSets edges.now) }
+{
+    let mut rows = Vec::with_capacity(alloc, edges.len())?;
+    for node in 0..edges.len() {
+        rows.push(set_of(alloc, edges.row(node), &[])?)?;
+    }
+    Ok(Edges::new(rows))
+}
+
+/// Hard and soft edges together, without repeats.
+fn sets_of_both(alloc: Global, hard: &Edges, soft: &Edges) -> Result<Edges, AllocError>
+    requires { length soft.now ≡ length hard.now }
+    ensures { IfOk result (AreSets (joined hard.now soft.now)) }
+{
+    let mut rows = Vec::with_capacity(alloc, hard.len())?;
+    for node in 0..hard.len() {
+        rows.push(set_of(alloc, hard.row(node), soft.row(node))?)?;
+    }
+    Ok(Edges::new(rows))
+}
+
+/// The edges that order the nodes of a graph: hard and soft ones, or hard ones alone where both together make a cycle
+/// and the hard ones don't. Where hard ones make one, it is answered besides.
+pub fn count_edges(alloc: Global, hard: &Edges, soft: &Edges) -> Result<Counted, AllocError>
+    requires nodes { length soft.now ≡ length hard.now }
+    requires hard { IsTrue (is_closed hard.now) }
+    requires soft { IsTrue (is_closed soft.now) }
+    ensures counted { IfOk result (λ c. AreCounted hard.now soft.now c.edges c.dropped) }
+    ensures cycle { IfOk result (λ c. MatchOption c.cycle (HasCycle hard.now → ⊥) (λ cycle. IsCycle hard.now cycle.items)) }
+    ensures closed { IfOk result (λ c. IsTrue (is_closed c.edges)) }
+{
+    let both = sets_of_both(alloc, hard, soft)?;
+    if find_cycle(alloc, &both)?.is_none() {
+        return Ok(Counted {
+            edges: both,
+            dropped: false,
+            cycle: None,
+        });
+    }
+    let alone = sets(alloc, hard)?;
+    match find_cycle(alloc, &alone)? {
+        None => Ok(Counted {
+            edges: alone,
+            dropped: true,
+            cycle: None,
+        }),
+        Some(cycle) => Ok(Counted {
+            edges: both,
+            dropped: false,
+            cycle: Some(cycle),
+        }),
+    }
+}

@@ -1,0 +1,96 @@
+//! Names by number, in the order in which they were first mentioned.
+
+ghost use Rattle.std.specs.Prelude.{◌≡◌, ℕ, ◌+◌, ◌<◌, ◌≤◌, List, [], length, map, nat_lt, true, Some, is_some, option_copied, IfOk, IfSome, OnOk, OnErr, MatchOption};
+ghost use Rattle.std.specs.List.{list_all, slice_get};
+ghost use Rattle.mk_graph.specs.Numbering.{name_at, has_name, added, all_added};
+
+use indexmap::IndexSet;
+use std::alloc::{AllocError, Global};
+use std::marker::Model;
+
+/// Names, each with a number: the place of its first mention.
+#[derive(Drop)]
+pub struct Names {
+    set: IndexSet<Vec<u8>>,
+}
+
+impl Model for Names {
+    ghost use Rattle.std.specs.Prelude.{ℕ, List, map};
+
+    ghost Value = { List (List ℕ) };
+
+    ghost view = { λ n. map (λ k. k.items) n.set.keys };
+}
+
+impl Names {
+    pub(crate) fn new(alloc: Global) -> Names
+        ensures { result ≡ [] }
+    {
+        Names {
+            set: IndexSet::new(alloc),
+        }
+    }
+
+    /// How many names there are.
+    pub fn len(&self) -> usize
+        ensures { result ≡ length self.now }
+    {
+        self.set.len()
+    }
+
+    /// The name with a number.
+    pub fn name(&self, number: usize) -> &[u8]
+        requires { number < length self.now }
+        ensures { result.now ≡ name_at self.now number }
+    {
+        self.set.get_index(number).unwrap().as_slice()
+    }
+
+    /// The number of a name; None where it has none.
+    pub fn number_of(&self, name: &[u8]) -> Option<usize>
+        ensures number { IfSome result (λ n. (n < length self.now) × (name_at self.now n ≡ name.now)) }
+        ensures none { is_some result ≡ has_name self.now name.now }
+    {
+        self.set.get_index_of(name)
+    }
+
+    /// The number of a name, which is given the next one where it has none; None where that would be past the limit.
+    pub(crate) fn add(&mut self, name: Vec<u8>, limit: usize) -> Result<Option<usize>, AllocError>
+        ensures ok { IfOk result (λ number. MatchOption number (limit < length (added self.old name.items)) (λ n.
+            (self.new ≡ added self.old name.items) × (n < length self.new) × (name_at self.new n ≡ name.items))) }
+        ensures within { IfOk result (λ number. IfSome number (λ _. length self.old ≤ limit → length self.new ≤ limit)) }
+    {
+        if let Some(number) = self.number_of(&name) {
+            return Ok(Some(number));
+        }
+        let number = self.set.len();
+        if number >= limit {
+            return Ok(None);
+        }
+        self.set.insert(name)?;
+        Ok(Some(number))
+    }
+
+    /// The numbers of names, in turn; None where one would be past the limit.
+    pub(crate) fn add_all(
+        &mut self,
+        alloc: Global,
+        mentioned: Vec<Vec<u8>>,
+        limit: usize,
+    ) -> Result<Option<Vec<usize>>, AllocError>
+        ensures ok { IfOk result (λ row. MatchOption row (limit < length (all_added self.old (map (λ v. v.items) mentioned.items))) (λ row.
+            (self.new ≡ all_added self.old (map (λ v. v.items) mentioned.items))
+            × (list_all (λ n. nat_lt n (length self.new)) row.items ≡ true)
+            × (map (name_at self.new) row.items ≡ map (λ v. v.items) mentioned.items))) }
+        ensures within { IfOk result (λ row. IfSome row (λ _. length self.old ≤ limit → length self.new ≤ limit)) }
+    {
+        let mut row = Vec::with_capacity(alloc, mentioned.len())?;
+        for name in mentioned {
+            let Some(number) = self.add(name, limit)? else {
+                return Ok(None);
+            };
+            row.push(number)?;
+        }
+        Ok(Some(row))
+    }
+}
