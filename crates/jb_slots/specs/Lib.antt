@@ -1,0 +1,4 @@
+pub mod Tokens
+pub mod Slots
+pub mod End
+pub mod Auth

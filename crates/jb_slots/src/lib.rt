@@ -1,0 +1,23 @@
+// Job slots: what MAKEFLAGS says of a jobserver, and dmk as its client and as its server.
+#![tactic(auto)]
+
+mod auth;
+mod bank;
+mod banks;
+mod end;
+mod fault;
+mod fifo_bank;
+mod implicit;
+mod laws;
+mod memory_bank;
+mod slots;
+
+pub use auth::{Auth, dry, read_auth};
+pub use bank::Bank;
+pub use banks::Banks;
+pub use end::{End, Pipe};
+pub use fault::BankFault;
+pub use fifo_bank::{Fifo, FifoBank, FifoBanks};
+pub use laws::returns_tokens;
+pub use memory_bank::{MemoryBank, MemoryPipe, MemoryPool};
+pub use slots::{Slot, Slots};
