@@ -13,6 +13,7 @@ for program in crates/*/out; do
 done
 
 for case in cases/*/*/; do
+    [ -d "$case" ] || continue
     place=$work/case got=$work/got why=
     rm -rf "$place" "$got"
     mkdir "$place" "$got"
@@ -38,5 +39,9 @@ sys.stdout.buffer.write(bytes.fromhex(text))' <"$hex" >"${hex%.hex}" || why="bad
         head -n 20 "$got/stdout" "$got/stderr" "$got/status"
     fi
 done
+if [ $((passed + failed)) -eq 0 ]; then
+    echo "no cases were found"
+    failed=1
+fi
 echo "$passed passed, $failed failed"
 [ "$failed" -eq 0 ]

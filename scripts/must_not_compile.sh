@@ -34,5 +34,9 @@ for edit in crates/*/must-not-compile/*.edit; do
         failed=$((failed + 1))
     fi
 done
+if [ $((passed + failed)) -eq 0 ]; then
+    echo "no edits were found"
+    failed=1
+fi
 echo "$passed passed, $failed failed"
 [ "$failed" -eq 0 ]
