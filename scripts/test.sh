@@ -22,6 +22,7 @@ if [ "$failed" -eq 0 ]; then
     run_part bash scripts/must_not_compile.sh
     run_part bash scripts/cases.sh
     run_part bash scripts/guarantees.sh
+    run_part bash scripts/assumptions.sh
 fi
 echo "wall time: $((SECONDS - started)) s"
 echo "$passed passed, $failed failed"

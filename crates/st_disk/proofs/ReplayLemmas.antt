@@ -6,7 +6,7 @@ use Rattle.st_disk.specs.declared.which.Which.TheVariants.{A, B}
 use Rattle.st_disk.specs.declared.call.Call.{Call}
 use Rattle.st_disk.specs.Memory.{MadeCall, blank, size_of, made_call, made, bytes_written, side_of, replay}
 use Rattle.st_disk.specs.PowerCut.{Contents, contents_of, contents_after, replay_contents}
-use Rattle.st_disk.specs.PowerCutLaws.{contents_of-replay}
+use Rattle.st_disk.proofs.PowerCutLaws.{contents_of-replay}
 
 -- before the first call
 pub from_blank : (side : Which) (calls : List MadeCall) (contents : Contents) → contents ≡ record { bytes = []; synced = []; ranges = [] }

@@ -16,12 +16,12 @@ abbrev pub IsWritten : List (ℕ × ℕ) → ℕ → Type 0
 IsWritten [] place = ⊥
 IsWritten (range ∷ ranges) place = ((range.0 ≤ place) × (place < range.0 + range.1)) ⊎ IsWritten ranges place
 
--- a crash may leave these bytes on the side: a length between the two, and at each place below both lengths that
--- wasn't written the byte of the last sync; elsewhere any bytes
+-- a crash may leave these bytes on the side: a length between the two, and at each place of the last sync's bytes that
+-- was neither written nor cut off since that sync's byte; elsewhere any bytes
 pub record IsCrashImage (writes : UnsyncedWrites) (bytes : List ℕ) : Type 0 where
   pub no_shorter : writes.least ≤ length bytes
   pub no_longer : length bytes ≤ writes.greatest
-  pub kept : (place : ℕ) → place < length writes.synced → place < length bytes → (IsWritten writes.ranges place → ⊥)
+  pub kept : (place : ℕ) → place < length writes.synced → place < writes.least → (IsWritten writes.ranges place → ⊥)
       → slice_index bytes place ≡ slice_index writes.synced place
 
 -- after a successful sync of these bytes
@@ -32,7 +32,7 @@ settled bytes = record { synced = bytes; ranges = []; least = length bytes; grea
 abbrev pub written_at : ℕ → ℕ → UnsyncedWrites → UnsyncedWrites
 written_at at n writes = record writes { ranges = writes.ranges ++ (at, n) ∷ []; greatest = max writes.greatest (at + n) }
 
--- after a cut to a length, done or failed
+-- after a cut to a length, done or failed: what stood from there on is open
 abbrev pub cut_to : ℕ → UnsyncedWrites → UnsyncedWrites
 cut_to len writes = record writes { least = min writes.least len }
 

@@ -1,16 +1,12 @@
 -- How a disk counts the calls that failed.
-use Rattle.std.specs.Prelude.{◌⊎◌, ℕ, ◌-◌, ◌^◌, ◌<◌, ◌≤◌, Bool, if◌then◌else◌, Result, OnErr}
+use Rattle.std.specs.Prelude.{◌≡◌, ◌⊎◌, ℕ, ◌+◌, ◌-◌, ◌^◌, ◌≤◌, Result, OnOk, OnErr}
 use Rattle.st_disk.specs.declared.fault.DeviceFault.{DeviceFault}
 
--- the count rose, or has reached its last value
+-- one more; at its last value the count stays
 abbrev pub Rises : ℕ → ℕ → Type 0
-Rises old new = (old < new) ⊎ (2 ^ 64 - 1 ≤ new)
+Rises old new = (new ≡ old + 1) ⊎ ((2 ^ 64 - 1 ≤ old) × (new ≡ old))
 
--- the count doesn't fall, and a fault is answered only where it rose in that call or has reached its last value
+-- a fault counts once, a success not at all
 pub record CountsFaults {T : Type 0} (result : Result T DeviceFault) (old new : ℕ) : Type 0 where
-  pub no_fewer : old ≤ new
-  pub cause : OnErr result (Rises old new)
-
--- one fault, or none
-abbrev pub as_count : Bool → ℕ
-as_count failed = if failed then 1 else 0
+  pub success : OnOk result (new ≡ old)
+  pub fault : OnErr result (Rises old new)

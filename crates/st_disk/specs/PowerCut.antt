@@ -10,7 +10,7 @@ abbrev pub is_written : List (ℕ × ℕ) → ℕ → Bool
 is_written [] place = false
 is_written (range ∷ ranges) place = (nat_le range.0 place && nat_lt place (range.0 + range.1)) || is_written ranges place
 
--- a crash may leave any byte here: the place was written since the last sync, or lies past what was synced
+-- a crash may leave any byte here: the place was written since the last sync, or lies past what is left of its bytes
 abbrev pub is_open : List ℕ → List (ℕ × ℕ) → ℕ → Bool
 is_open synced ranges place = is_written ranges place || nat_le (length synced) place
 
@@ -33,9 +33,9 @@ pub record IsCut (synced : List ℕ) (ranges : List (ℕ × ℕ)) (fill : List �
   pub long : length bytes ≡ len
   pub each : (place : ℕ) → place < len → slice_index bytes place ≡ cut_byte synced ranges fill place
 
--- the same, which is one of the side's crash images
+-- the same of a side, which is one of its crash images: of the bytes of the last sync those that were cut off are open
 pub record IsPowerCut (writes : UnsyncedWrites) (fill : List ℕ) (len : ℕ) (bytes : List ℕ) : Type 0 where
-  pub cut : IsCut writes.synced writes.ranges fill len bytes
+  pub cut : IsCut (take writes.least writes.synced) writes.ranges fill len bytes
   pub image : IsCrashImage writes bytes
 
 -- a crash may leave the side with this length

@@ -1,6 +1,6 @@
 //! A disk of two sides: what a read gives, what a crash may leave now and at every moment so far, and how often a call
 //! has failed. What is said of bytes, lengths and crashes is said of an honest disk.
-ghost use Rattle.std.specs.Prelude.{◌≡◌, ◌+◌, ◌≤◌, ℕ, List, length, take, slice_range, IfOk, OnOk, OnErr};
+ghost use Rattle.std.specs.Prelude.{◌≡◌, ◌+◌, ◌<◌, ◌≤◌, ℕ, List, length, take, slice_range, IfOk, OnOk, OnErr};
 ghost use Rattle.st_disk.specs.Crash.{IsCrashImage, writes_of, other, overwritten};
 ghost use Rattle.st_disk.specs.Moments.{Moments, now, after_write, after_cut, after_sync, Passes, MayPass};
 ghost use Rattle.st_disk.specs.Faults.{CountsFaults};
@@ -50,12 +50,13 @@ pub trait Disk {
             (after_write side at (length bytes.now) (moments self.old)) (moments self.old) (moments self.new) }
         ensures faults { CountsFaults result (faults self.old) (faults self.new) };
 
-    /// Cuts a side to a length. Until a sync a crash may leave it longer; so it may after a cut that failed.
+    /// Cuts a side to a length. Until a sync a crash may leave it longer, with any bytes there; so it may after a cut
+    /// that failed. A cut to the length now may make no call of the device.
     fn cut(&mut self, side: Which, len: usize) -> Result<(), DeviceFault>
         requires { honest → len ≤ length (seen self.old side) }
         ensures cut { honest → OnOk result (seen self.new side ≡ take len (seen self.old side)) }
         ensures other { honest → seen self.new (other side) ≡ seen self.old (other side) }
-        ensures passes { honest → OnOk result (Passes
+        ensures passes { honest → len < length (seen self.old side) → OnOk result (Passes
             (after_cut side len (moments self.old)) (moments self.old) (moments self.new)) }
         ensures moments { honest → MayPass
             (after_cut side len (moments self.old)) (moments self.old) (moments self.new) }

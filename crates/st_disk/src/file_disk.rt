@@ -1,96 +1,120 @@
-//! A disk over two real files. Nothing is claimed of them: what a file gives and keeps is outside every proof.
-ghost use Rattle.std.specs.Prelude.{◌≡◌, ◌++◌, [], IfOk, codes};
-ghost use Rattle.st_disk.specs.Crash.{settled};
-ghost use Rattle.st_disk.specs.FileModel.{FilesKeepModel, nothing_claimed};
+//! A disk over two files, made of the single system calls of a folder. It keeps the disk's model wherever those calls
+//! keep their contracts.
+ghost use Rattle.std.specs.Prelude.{◌≡◌, ◌+◌, true, false};
+ghost use Rattle.st_disk.specs.OpenSide.{Fits};
+ghost use Rattle.st_disk.specs.declared.which.Which.TheVariants.{A, B};
 
-use crate::fault::counted;
-use crate::file_side::FileSide;
-use crate::{DeviceFault, Disk, Which};
-use std::alloc::{AllocError, Global};
+use crate::fault::count_fault;
+use crate::folder::Folder;
+use crate::open_side::OpenSide;
+use crate::{DeviceFault, Disk, Which, side_calls};
 
-/// Side A is the file of a name, side B that of the name with `.2` behind it.
+/// A disk whose sides are the two files of a folder.
 ///
-/// A missing file has length 0, is made by its first write, and until then a sync of it does nothing. A file that is
-/// there but can't be used as one (a folder, a refused permission) is a fault of each call.
+/// A missing file has length 0 and is made by its first write, which fails where another one stands at the name by then;
+/// a sync of it syncs the folder. A file that is there but can't be used as one (a folder, a refused permission) is a
+/// fault of each call. After a write or a cut of a side failed, each later call on that side is a fault; after a sync
+/// failed, each later call.
 #[derive(Drop)]
-pub struct FileDisk {
-    rt: HostRuntime,
-    a: FileSide,
-    b: FileSide,
+pub struct FileDisk<F: Folder + Drop> {
+    pub folder: F,
+    a: OpenSide<F::File>,
+    b: OpenSide<F::File>,
     faults: u64,
+    ghost a_fits: { F.honest → a.failed ≡ false →
+        Fits F.side_of (F.missing folder) (F.durable folder) (F.sound folder) A a.found a.name_synced },
+    ghost b_fits: { F.honest → b.failed ≡ false →
+        Fits F.side_of (F.missing folder) (F.durable folder) (F.sound folder) B b.found b.name_synced },
 }
 
-impl FileDisk {
-    ghost use Rattle.st_disk.specs.FileDisk.{file_name, file_faults};
-
-    /// Touches no file yet.
-    pub fn new(rt: HostRuntime, alloc: Global, name: &str) -> Result<FileDisk, AllocError>
-        ensures a { IfOk result (λ disk. file_name disk Which.A ≡ name.now) }
-        ensures b { IfOk result (λ disk. file_name disk Which.B ≡ name.now ++ codes ".2") }
-        ensures faults { IfOk result (λ disk. file_faults disk ≡ 0) }
+impl<F: Folder + Drop> FileDisk<F> {
+    /// Makes no call yet.
+    pub fn new(folder: F) -> Self
+        requires { F.honest → (F.sound folder A ≡ true) × (F.sound folder B ≡ true) }
+        ensures folder { result.folder ≡ folder }
+        ensures seen { ⟦<FileDisk<F> as Disk>⟧.seen result ≡ F.held folder }
+        ensures moments { ⟦<FileDisk<F> as Disk>⟧.moments result ≡ F.moments folder }
+        ensures faults { ⟦<FileDisk<F> as Disk>⟧.faults result ≡ 0 }
     {
-        Ok(FileDisk {
-            rt,
-            a: FileSide::new(String::from_str(alloc, name)?),
-            b: FileSide::new(format!(in alloc; "{name}.2")?),
+        FileDisk {
+            folder,
+            a: OpenSide::new(),
+            b: OpenSide::new(),
             faults: 0,
-        })
+        }
+    }
+
+    /// How many calls failed.
+    pub fn fault_count(&self) -> u64
+        ensures { result ≡ ⟦<FileDisk<F> as Disk>⟧.faults self.now }
+    {
+        self.faults
     }
 }
 
-impl Disk for FileDisk {
-    ghost honest = { FilesKeepModel };
+impl<F: Folder + Drop> Disk for FileDisk<F> {
+    ghost honest = { F.honest };
 
-    ghost seen = { λ _ _. [] };
+    ghost seen = { λ disk. F.held disk.folder };
 
-    ghost moments = { λ _. record { newest = 0; at = λ _. record { a = settled []; b = settled [] } } };
+    ghost moments = { λ disk. F.moments disk.folder };
 
     ghost faults = { λ disk. disk.faults };
 
-    ghost seen_is_image = { λ _ keeps _. nothing_claimed keeps };
+    ghost seen_is_image = { λ disk honest side. F.held_is_image disk.folder honest side };
 
     fn len(&mut self, side: Which) -> Result<usize, DeviceFault> {
-        let rt = self.rt;
         let answer = match side {
-            Which::A => self.a.len(rt),
-            Which::B => self.b.len(rt),
+            Which::A => side_calls::len(&mut self.folder, &mut self.a, side),
+            Which::B => side_calls::len(&mut self.folder, &mut self.b, side),
         };
-        counted(&mut self.faults, answer)
+        match answer {
+            Ok(value) => Ok(value),
+            Err(_) => Err(count_fault(&mut self.faults)),
+        }
     }
 
     fn read(&mut self, side: Which, at: usize, buf: &mut [u8]) -> Result<(), DeviceFault> {
-        let rt = self.rt;
         let answer = match side {
-            Which::A => self.a.read(rt, at, buf),
-            Which::B => self.b.read(rt, at, buf),
+            Which::A => side_calls::read(&mut self.folder, &mut self.a, side, at, buf),
+            Which::B => side_calls::read(&mut self.folder, &mut self.b, side, at, buf),
         };
-        counted(&mut self.faults, answer)
+        match answer {
+            Ok(value) => Ok(value),
+            Err(_) => Err(count_fault(&mut self.faults)),
+        }
     }
 
     fn write_at(&mut self, side: Which, at: usize, bytes: &[u8]) -> Result<(), DeviceFault> {
-        let rt = self.rt;
         let answer = match side {
-            Which::A => self.a.write(rt, at, bytes),
-            Which::B => self.b.write(rt, at, bytes),
+            Which::A => side_calls::write(&mut self.folder, &mut self.a, side, at, bytes),
+            Which::B => side_calls::write(&mut self.folder, &mut self.b, side, at, bytes),
         };
-        counted(&mut self.faults, answer)
+        match answer {
+            Ok(value) => Ok(value),
+            Err(_) => Err(count_fault(&mut self.faults)),
+        }
     }
 
     fn cut(&mut self, side: Which, len: usize) -> Result<(), DeviceFault> {
-        let rt = self.rt;
         let answer = match side {
-            Which::A => self.a.cut(rt, len),
-            Which::B => self.b.cut(rt, len),
+            Which::A => side_calls::cut(&mut self.folder, &mut self.a, side, len),
+            Which::B => side_calls::cut(&mut self.folder, &mut self.b, side, len),
         };
-        counted(&mut self.faults, answer)
+        match answer {
+            Ok(value) => Ok(value),
+            Err(_) => Err(count_fault(&mut self.faults)),
+        }
     }
 
     fn sync(&mut self, side: Which) -> Result<(), DeviceFault> {
-        let rt = self.rt;
         let answer = match side {
-            Which::A => self.a.sync(rt),
-            Which::B => self.b.sync(rt),
+            Which::A => side_calls::sync(&mut self.folder, &mut self.a, &mut self.b, side),
+            Which::B => side_calls::sync(&mut self.folder, &mut self.b, &mut self.a, side),
         };
-        counted(&mut self.faults, answer)
+        match answer {
+            Ok(value) => Ok(value),
+            Err(_) => Err(count_fault(&mut self.faults)),
+        }
     }
 }

@@ -3,21 +3,30 @@
 
 mod call;
 mod disk;
-mod fail_once;
 mod fault;
+mod faulty_folder;
 mod file_disk;
-mod file_side;
-mod fuse;
+mod folder;
 mod mem_disk;
+mod mem_folder;
 mod mem_side;
+mod open_side;
+mod plan;
+mod planned;
 mod power_cut;
 mod replay;
+mod side_calls;
+mod system_folder;
 mod which;
 
 pub use disk::Disk;
-pub use fail_once::FailOnce;
 pub use fault::DeviceFault;
+pub use faulty_folder::FaultyFolder;
 pub use file_disk::FileDisk;
-pub use fuse::Fuse;
+pub use folder::Folder;
 pub use mem_disk::MemDisk;
+pub use mem_folder::MemFolder;
+pub use plan::{FailsOne, Plan, Stops};
+pub use planned::{FailOnce, Fuse, Planned};
+pub use system_folder::{SystemFile, SystemFolder};
 pub use which::Which;

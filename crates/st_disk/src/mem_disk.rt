@@ -140,8 +140,10 @@ impl MemDisk {
         ensures { IfOk result (λ bytes.
             IsPowerCut (writes_of side (now (memory_moments self.now))) fill.now len bytes.items) }
     {
+        let (least, _) = self.extreme_lengths(side);
         let replay = Replay::of(alloc, side, &self.calls, &self.written)?;
-        let bytes = cut_bytes(alloc, &replay.synced, &replay.ranges, len, fill)?;
+        let kept = &replay.synced[..least.min(replay.synced.len())];
+        let bytes = cut_bytes(alloc, kept, &replay.ranges, len, fill)?;
         Ok(bytes)
     }
 
@@ -232,7 +234,7 @@ fn keep_write(calls: &mut Vec<Call>, written: &mut Vec<u8>, side: Which, at: usi
 
 impl Disk for MemDisk {
     ghost use Rattle.st_disk.specs.MemDisk.{memory_bytes, memory_moments, memory_faults, UsesRoom, KeepsRoom};
-    ghost use Rattle.st_disk.specs.MemoryLaws.{memory_image};
+    ghost use Rattle.st_disk.specs.MemoryImage.{memory_image};
 
     ghost honest = { Unit {0} };
 

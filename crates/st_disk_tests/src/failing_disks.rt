@@ -4,24 +4,15 @@ use std::test::Fail;
 
 const CALLS: u64 = 5;
 
-/// Makes the call of a number, and says whether it failed: a length, a write of `P` at 0, a read, a sync, a cut to 0.
-fn fuse_call_fails(disk: &mut Fuse<MemDisk>, call: u64) -> bool {
-    let mut buf = [0; 1];
-    match call {
-        0 => disk.len(Which::A).is_err(),
-        1 => disk.write_at(Which::A, 0, b"P").is_err(),
-        2 => disk.inner.bytes(Which::A).is_empty() || disk.read(Which::A, 0, &mut buf).is_err(),
-        3 => disk.sync(Which::A).is_err(),
-        _ => disk.cut(Which::A, 0).is_err(),
-    }
-}
+// Within each disk that is tried stands one that counts: it passes more calls than any test makes.
+const COUNTED: u64 = 100;
 
-fn fail_once_call_fails(disk: &mut FailOnce<MemDisk>, call: u64) -> bool {
-    let mut buf = [0; 1];
+/// Makes the call of a number, and says whether it failed: a length, a write of `P` at 0, a read, a sync, a cut to 0.
+fn call_fails<D: Disk>(disk: &mut D, call: u64) -> bool {
     match call {
         0 => disk.len(Which::A).is_err(),
         1 => disk.write_at(Which::A, 0, b"P").is_err(),
-        2 => disk.inner.bytes(Which::A).is_empty() || disk.read(Which::A, 0, &mut buf).is_err(),
+        2 => disk.read(Which::A, 0, &mut []).is_err(),
         3 => disk.sync(Which::A).is_err(),
         _ => disk.cut(Which::A, 0).is_err(),
     }
@@ -40,25 +31,28 @@ fn a_fuse_passes_so_many_calls_and_no_more(rt: HostRuntime) -> Result<(), Fail> 
         (6, ""),
     ];
     for (passing, left) in cases {
-        let mut disk = Fuse::new(MemDisk::holding(rt.alloc(), b"abc", b"")?, passing);
+        let counted = Fuse::new(MemDisk::holding(rt.alloc(), b"abc", b"")?, COUNTED);
+        let mut disk = Fuse::new(counted, passing);
+        let mut made: u64 = 0;
         for call in 0..CALLS {
+            let fails = call_fails(&mut disk, call);
+            assert_eq!(rt; fails, call >= passing, "{passing} pass, call {call}");
+            made = made.saturating_add(u64::from(!fails));
             assert_eq!(rt;
-                fuse_call_fails(&mut disk, call),
-                call >= passing,
-                "{passing} pass, call {call}"
+                disk.inner.plan.calls_left,
+                COUNTED.saturating_sub(made),
+                "{passing} pass, call {call} made once or not at all"
             );
         }
-        assert_eq!(rt;
-            disk.inner.bytes(Which::A),
-            left.as_bytes(),
-            "{passing} pass"
-        );
+        let memory = &disk.inner.inner;
+        assert_eq!(rt; memory.bytes(Which::A), left.as_bytes(), "{passing} pass");
         assert_eq!(rt;
             disk.refused,
             CALLS.saturating_sub(passing),
             "{passing} pass"
         );
-        assert_eq!(rt; disk.inner.fault_count(), 0, "{passing} pass");
+        assert_eq!(rt; disk.inner.refused, 0, "{passing} pass");
+        assert_eq!(rt; memory.fault_count(), 0, "{passing} pass");
     }
     Ok(())
 }
@@ -68,21 +62,24 @@ fn one_call_fails_and_the_others_pass(rt: HostRuntime) -> Result<(), Fail> {
     // the number of calls before the one that fails, and what the side then holds
     let cases = [(0, ""), (1, ""), (2, ""), (3, ""), (4, "Pbc"), (5, "")];
     for (failing, left) in cases {
-        let mut disk = FailOnce::new(MemDisk::holding(rt.alloc(), b"abc", b"")?, failing);
+        let counted = Fuse::new(MemDisk::holding(rt.alloc(), b"abc", b"")?, COUNTED);
+        let mut disk = FailOnce::new(counted, failing);
+        let mut made: u64 = 0;
         for call in 0..CALLS {
+            let fails = call_fails(&mut disk, call);
+            assert_eq!(rt; fails, call == failing, "{failing} fails, call {call}");
+            made = made.saturating_add(u64::from(!fails));
             assert_eq!(rt;
-                fail_once_call_fails(&mut disk, call),
-                call == failing,
-                "{failing} fails, call {call}"
+                disk.inner.plan.calls_left,
+                COUNTED.saturating_sub(made),
+                "{failing} fails, call {call} made once or not at all"
             );
         }
-        assert_eq!(rt;
-            disk.inner.bytes(Which::A),
-            left.as_bytes(),
-            "{failing} fails"
-        );
-        assert_eq!(rt; disk.failed, failing < CALLS, "{failing} fails");
-        assert_eq!(rt; disk.inner.fault_count(), 0, "{failing} fails");
+        let memory = &disk.inner.inner;
+        assert_eq!(rt; memory.bytes(Which::A), left.as_bytes(), "{failing} fails");
+        assert_eq!(rt; disk.plan.failed, failing < CALLS, "{failing} fails");
+        assert_eq!(rt; disk.refused, u64::from(failing < CALLS), "{failing} fails");
+        assert_eq!(rt; memory.fault_count(), 0, "{failing} fails");
     }
     Ok(())
 }

@@ -6,4 +6,10 @@ mod failing_disks;
 #[cfg(test)]
 mod file_disk;
 #[cfg(test)]
+mod folders;
+#[cfg(test)]
 mod memory_disk;
+#[cfg(test)]
+mod system_folder;
+#[cfg(test)]
+mod temporary;

@@ -1,5 +1,5 @@
 //! The memory disk against cases that were worked out by hand from the disk's model: a crash may change what was written
-//! since the last sync and what lies past the end that was synced, and may leave each length since then.
+//! or cut off since the last sync and what lies past the end that was synced, and may leave each length since then.
 use st_disk::{Disk, MemDisk, Which};
 use std::alloc::{AllocError, Global};
 use std::process::Abort;
@@ -82,16 +82,16 @@ const CASES: [Case; 12] = [
         steps: &[Step::Cut(Which::A, 3)],
         seen: b"abc",
         shortest: b"abc",
-        longest: b"abcdef",
-        filled: b"abcdef",
+        longest: b"abc???",
+        filled: b"abc123",
     },
     Case {
         name: "cut and written again",
         steps: &[Step::Cut(Which::A, 3), Step::Write(Which::A, 3, b"PQ")],
         seen: b"abcPQ",
         shortest: b"abc",
-        longest: b"abc??f",
-        filled: b"abc12f",
+        longest: b"abc???",
+        filled: b"abc123",
     },
     Case {
         name: "cut and grown",
@@ -241,7 +241,7 @@ fn the_sides_are_cut_apart(rt: HostRuntime) -> Result<(), Fail> {
     assert_eq!(rt; left.bytes(Which::B), b"x".as_slice());
     let left = disk.power_cut(alloc, least_a, greatest_b, b"!")?;
     assert_eq!(rt; left.bytes(Which::A), b"abcdef".as_slice());
-    assert_eq!(rt; left.bytes(Which::B), b"xy".as_slice());
+    assert_eq!(rt; left.bytes(Which::B), b"x!".as_slice());
     Ok(())
 }
 

@@ -1,6 +1,6 @@
 use Rattle.std.proofs.Common.{sym, ◌∙◌, ap}
 use Rattle.st_disk.specs.Memory.{pick}
-use Rattle.st_disk.specs.MemoryLaws.{memory_least, memory_greatest}
+use Rattle.st_disk.proofs.MemoryLaws.{memory_least, memory_greatest}
 use Rattle.st_disk.proofs.mem_disk.MemDisk.extreme_lengths.Goals as goal
 
 pub returns-in-A-clause-least : goal.returns-in-A-clause-least

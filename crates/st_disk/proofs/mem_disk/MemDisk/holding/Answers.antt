@@ -3,7 +3,7 @@ use Rattle.st_disk.specs.declared.which.Which.TheVariants.{A, B}
 use Rattle.st_disk.specs.Crash.{overwritten, settled, with_writes}
 use Rattle.st_disk.specs.Moments.{now}
 use Rattle.st_disk.specs.MemDisk.{memory_moments}
-use Rattle.st_disk.specs.PowerCutLaws.{settled_both, overwritten-nil}
+use Rattle.st_disk.proofs.PowerCutLaws.{settled_both, overwritten-nil}
 use Rattle.st_disk.proofs.mem_disk.MemDisk.holding.Goals as goal
 
 pub returns-clause-a : goal.returns-clause-a

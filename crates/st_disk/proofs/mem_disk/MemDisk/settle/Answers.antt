@@ -1,6 +1,6 @@
 use Rattle.std.proofs.Common.{refl}
 use Rattle.st_disk.specs.declared.which.Which.TheVariants.{A, B}
-use Rattle.st_disk.specs.MemoryLaws.{replayed-sync, passes_from_sync}
+use Rattle.st_disk.proofs.MemoryLaws.{replayed-sync, passes_from_sync}
 use Rattle.st_disk.proofs.mem_disk.MemDisk.settle.Goals as goal
 
 pub invariant_of-self-in-A : goal.invariant_of-self-in-A

@@ -1,6 +1,6 @@
 use Rattle.std.proofs.Common.{refl}
 use Rattle.st_disk.specs.declared.which.Which.TheVariants.{A, B}
-use Rattle.st_disk.specs.MemoryLaws.{replayed-write, passes_from_write}
+use Rattle.st_disk.proofs.MemoryLaws.{replayed-write, passes_from_write}
 use Rattle.st_disk.proofs.mem_disk.MemDisk.write.Goals as goal
 
 pub invariant_of-self-in-A : goal.invariant_of-self-in-A

@@ -1,0 +1,176 @@
+//! The two files of a state file's name, by the system's own calls. Nothing is claimed of them: what a file gives and
+//! keeps is outside every proof, and CRASH_SAFETY.md says in a sentence a call what is assumed of it.
+ghost use Rattle.std.specs.Prelude.{◌≡◌, ◌++◌, [], true, false, IfOk, codes};
+ghost use Rattle.st_disk.specs.Crash.{settled};
+ghost use Rattle.st_disk.specs.SystemModel.{SystemKeepsModel, nothing_claimed};
+ghost use Rattle.st_disk.specs.declared.which.Which.TheVariants.{A};
+
+use crate::Which;
+use crate::folder::Folder;
+use std::alloc::{AllocError, Global};
+use std::fs::{self, File, OpenOptions};
+use std::io::{self, ErrorKind};
+use std::os::unix::fs::FileExt;
+
+/// Side A is the file of a name, side B that of the name with `.2` behind it. Symbolic links are followed.
+#[derive(Drop)]
+pub struct SystemFolder {
+    rt: HostRuntime,
+    alloc: Global,
+    a: String,
+    b: String,
+}
+
+/// An open file, and the name of the folder that it stands in.
+#[derive(Drop)]
+pub struct SystemFile {
+    file: File,
+    folder: String,
+}
+
+impl SystemFolder {
+    ghost use Rattle.st_disk.specs.SystemFolder.{file_name};
+
+    /// Touches no file.
+    pub fn new(rt: HostRuntime, alloc: Global, name: &str) -> Result<SystemFolder, AllocError>
+        ensures a { IfOk result (λ folder. file_name folder Which.A ≡ name.now) }
+        ensures b { IfOk result (λ folder. file_name folder Which.B ≡ name.now ++ codes ".2") }
+    {
+        Ok(SystemFolder {
+            rt,
+            alloc,
+            a: String::from_str(alloc, name)?,
+            b: format!(in alloc; "{name}.2")?,
+        })
+    }
+
+    fn name(&self, side: Which) -> &str
+        ensures { result.now ≡ file_name self.now side }
+    {
+        match side {
+            Which::A => &self.a,
+            Which::B => &self.b,
+        }
+    }
+
+    // The name, or where it is a link what it leads to: a link has no folder of its own to be synced.
+    fn target(&self, side: Which) -> io::Result<String> {
+        let name = self.name(side);
+        if fs::symlink_metadata(&self.rt, name)?.is_symlink() {
+            return Ok(fs::canonicalize(&self.rt, name)?.into_string());
+        }
+        Ok(String::from_str(self.alloc, name)?)
+    }
+
+    // Opened once, to be written too where that may be, so that no other file is written than was read. A folder can be
+    // opened and a pipe would be waited for, so the kind is asked first.
+    fn open(&self, name: &str) -> io::Result<SystemFile> {
+        if !fs::metadata(&self.rt, name)?.is_file() {
+            return Err(ErrorKind::InvalidInput.into());
+        }
+        let folder = String::from_str(self.alloc, folder_of(name))?;
+        let file = match OpenOptions::new()
+            .read(true)
+            .write(true)
+            .open(&self.rt, name)
+        {
+            Ok(file) => file,
+            Err(_) => File::open(&self.rt, name)?,
+        };
+        Ok(SystemFile { file, folder })
+    }
+
+    fn sync_folder(&self, folder: &str) -> io::Result<()> {
+        File::open(&self.rt, folder)?.sync_all()
+    }
+}
+
+impl SystemFile {
+    ghost use Rattle.st_disk.specs.SystemFolder.{folder_name};
+
+    /// The name of the folder that the file stands in: of a link the one of its target.
+    pub fn folder(&self) -> &str
+        ensures { result.now ≡ folder_name self.now }
+    {
+        &self.folder
+    }
+}
+
+impl Folder for SystemFolder {
+    type File = SystemFile;
+
+    ghost honest = { SystemKeepsModel };
+
+    ghost held = { λ _ _. [] };
+
+    ghost moments = { λ _. record { newest = 0; at = λ _. record { a = settled []; b = settled [] } } };
+
+    ghost missing = { λ _ _. false };
+
+    ghost durable = { λ _ _. true };
+
+    ghost sound = { λ _ _. true };
+
+    ghost side_of = { λ _. A };
+
+    ghost missing_holds_none = { λ _ keeps _ _. nothing_claimed keeps };
+
+    ghost lost = { λ _ keeps _ _. nothing_claimed keeps };
+
+    ghost held_is_image = { λ _ keeps _. nothing_claimed keeps };
+
+    fn find(&mut self, side: Which) -> io::Result<Option<SystemFile>> {
+        match self.target(side) {
+            Ok(name) => Ok(Some(self.open(name.as_str())?)),
+            Err(error) if error.kind() == ErrorKind::NotFound => Ok(None),
+            Err(error) => Err(error),
+        }
+    }
+
+    fn create(&mut self, side: Which) -> io::Result<SystemFile> {
+        let folder = String::from_str(self.alloc, folder_of(self.name(side)))?;
+        let file = OpenOptions::new()
+            .read(true)
+            .write(true)
+            .create_new(true)
+            .open(&self.rt, self.name(side))?;
+        Ok(SystemFile { file, folder })
+    }
+
+    fn len(&mut self, file: &SystemFile) -> io::Result<usize> {
+        Ok(file.file.metadata()?.len() as usize)
+    }
+
+    fn read_at(&mut self, file: &SystemFile, buf: &mut [u8], at: usize) -> io::Result<usize> {
+        file.file.read_exact_at(buf, at as u64)?;
+        Ok(buf.len())
+    }
+
+    fn write_at(&mut self, file: &SystemFile, bytes: &[u8], at: usize) -> io::Result<usize> {
+        file.file.write_at(bytes, at as u64)
+    }
+
+    fn set_len(&mut self, file: &SystemFile, len: usize) -> io::Result<()> {
+        file.file.set_len(len as u64)
+    }
+
+    fn sync(&mut self, file: &SystemFile) -> io::Result<()> {
+        file.file.sync_all()
+    }
+
+    fn sync_name(&mut self, file: &SystemFile) -> io::Result<()> {
+        self.sync_folder(file.folder.as_str())
+    }
+
+    fn sync_missing(&mut self, side: Which) -> io::Result<()> {
+        self.sync_folder(folder_of(self.name(side)))
+    }
+}
+
+fn folder_of(name: &str) -> &str {
+    match name.rsplit_once('/') {
+        None => ".",
+        Some(("", _)) => "/",
+        Some((folder, _)) => folder,
+    }
+}
