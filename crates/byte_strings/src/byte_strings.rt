@@ -43,7 +43,7 @@ impl ByteStrings {
         }
     }
 
-    /// No strings, with room for so many strings of so many bytes in all.
+    /// No strings, with room for so many of so many bytes in all, which saves time; no clause says that pushes then succeed.
     pub fn with_capacity(
         alloc: Global,
         strings: usize,

@@ -1,6 +1,7 @@
 pub mod ArmLemmas
 pub mod DefinitionLemmas
 pub mod ExpansionLemmas
+pub mod MentionLemmas
 pub mod OutcomeLemmas
 pub mod PartLemmas
 pub mod PatternLemmas

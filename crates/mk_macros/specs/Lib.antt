@@ -3,6 +3,8 @@
 pub mod Dynamic
 -- Expansion: what the outcome of a text is.
 pub mod Expansion
+-- Mention: whether a text refers to the list of newer prerequisites.
+pub mod Mention
 -- Ranks: what is defined for a name, what is in force, and what a name stands for in a line.
 pub mod Ranks
 -- Reference: the forms that stand at the front of a text.

@@ -6,6 +6,7 @@ mod dynamic;
 mod expansion;
 mod fault;
 mod laws;
+mod mention;
 mod reference;
 mod substitution;
 
@@ -13,3 +14,4 @@ pub use definitions::{Macros, Rank};
 pub use dynamic::{Dynamic, RecipeNames};
 pub use fault::{MAX_EXPANSION_BYTES, MacroFault};
 pub use laws::{one_outcome, parts_of_words, substitutions_change_words};
+pub use mention::refers_to_newer;

@@ -1,213 +1,216 @@
 // Limits, and inputs made to be slow or deep.
-use crate::rows::outcome;
+use crate::rows::{check_outcome, define_in_makefile};
 use mk_macros::{Dynamic, MAX_EXPANSION_BYTES, MacroFault, Macros, Rank, RecipeNames};
 use std::alloc::{AllocError, Global};
+use std::process::Abort;
 use std::test::Fail;
 
-/// A0 is `first`, and each next macro up to `last` has its number in place of `#` lessened by one in `value`.
-fn numbered(alloc: Global, first: &str, twice: bool, last: usize) -> Result<Macros, AllocError> {
+const TOO_LONG: &[u8] = b"fault: expansion too long";
+
+fn check_length(
+    rt: &impl Abort,
+    alloc: Global,
+    macros: &Macros,
+    text: &[u8],
+    len: usize,
+) -> Result<(), MacroFault> {
+    let given = macros.expand(alloc, text, &Dynamic::RuleLine)?;
+    assert_eq!(rt; given.len(), len);
+    Ok(())
+}
+
+fn define(
+    alloc: Global,
+    macros: &mut Macros,
+    number: usize,
+    value: &str,
+) -> Result<(), AllocError> {
+    let name = format!(in alloc; "A{number}")?;
+    define_in_makefile(alloc, macros, name.as_str(), value, false)
+}
+
+/// A0 is `first`, and each next macro up to `last` refers to the one before it.
+fn chain(alloc: Global, first: &str, last: usize) -> Result<Macros, AllocError> {
     let mut macros = Macros::new(alloc);
-    macros.define(alloc, Rank::Makefile, b"A0", first.as_bytes(), false)?;
+    define(alloc, &mut macros, 0, first)?;
     for i in 0..last {
-        let name = format!(in alloc; "A{}", i.wrapping_add(1))?;
-        let value = if twice {
-            format!(in alloc; "$(A{i})$(A{i})")?
-        } else {
-            format!(in alloc; "$(A{i})")?
-        };
-        macros.define(
-            alloc,
-            Rank::Makefile,
-            name.as_bytes(),
-            value.as_bytes(),
-            false,
-        )?;
+        let value = format!(in alloc; "$(A{i})")?;
+        define(alloc, &mut macros, i + 1, value.as_str())?;
+    }
+    Ok(macros)
+}
+
+/// The same, where each refers to the one before it twice.
+fn doubled(alloc: Global, first: &str, last: usize) -> Result<Macros, AllocError> {
+    let mut macros = Macros::new(alloc);
+    define(alloc, &mut macros, 0, first)?;
+    for i in 0..last {
+        let value = format!(in alloc; "$(A{i})$(A{i})")?;
+        define(alloc, &mut macros, i + 1, value.as_str())?;
     }
     Ok(macros)
 }
 
 #[test]
 fn values_may_grow_to_the_limit(rt: HostRuntime) -> Result<(), Fail> {
-    let alloc = rt.alloc();
-    let macros = numbered(alloc, "x", true, 21)?;
+    let macros = doubled(rt.alloc(), "x", 20)?;
+    check_length(&rt, rt.alloc(), &macros, b"$(A20)", 1_048_576)?;
+    check_length(&rt, rt.alloc(), &macros, b"$(A20)$(E)", 1_048_576)?;
+    check_length(&rt, rt.alloc(), &macros, b"$(A20:%=)", 0)?;
     assert_eq!(rt; MAX_EXPANSION_BYTES, 1_048_576);
-    assert_eq!(rt;
-        macros.expand(alloc, b"$(A20)", &Dynamic::RuleLine)?.len(),
-        1_048_576
-    );
-    assert_eq!(rt;
-        macros
-            .expand(alloc, b"$(A20)$(E)", &Dynamic::RuleLine)?
-            .len(),
-        1_048_576
-    );
-    assert_eq!(rt;
-        macros
-            .expand(alloc, b"$(A20:%=)", &Dynamic::RuleLine)?
-            .len(),
-        0
-    );
-    let too_long: [&'static [u8]; 6] = [
-        b"$(A21)",
-        b"$(A20)x",
-        b"x$(A20)",
-        b"$(A20)$$",
-        // The value passes the limit before its one word is changed.
-        b"$(A21:%=)",
-        b"$(A20:%=%y)",
-    ];
-    for text in too_long {
-        let given = outcome(alloc, &macros, text, &Dynamic::RuleLine)?;
-        assert_eq!(rt; given.as_slice(), b"fault: expansion too long".as_slice());
+    Ok(())
+}
+
+static LONGER: [&str; 6] = [
+    "$(A21)",
+    "$(A20)x",
+    "x$(A20)",
+    "$(A20)$$",
+    // The value passes the limit before its one word is changed.
+    "$(A21:%=)",
+    "$(A20:%=%y)",
+];
+
+#[test]
+fn values_may_not_grow_past_the_limit(rt: HostRuntime) -> Result<(), Fail> {
+    let macros = doubled(rt.alloc(), "x", 21)?;
+    for text in &LONGER {
+        check_outcome(&rt, rt.alloc(), &macros, text.as_bytes(), TOO_LONG)?;
     }
     Ok(())
 }
 
 #[test]
 fn a_plain_text_may_be_as_long_as_the_limit(rt: HostRuntime) -> Result<(), Fail> {
-    let alloc = rt.alloc();
-    let macros = Macros::new(alloc);
-    let mut text = vec![in alloc; b'x'; 1_048_576]?;
-    assert_eq!(rt;
-        macros.expand(alloc, &text, &Dynamic::RuleLine)?.len(),
-        1_048_576
-    );
+    let macros = Macros::new(rt.alloc());
+    let mut text = vec![in rt.alloc(); b'x'; 1_048_576]?;
+    check_length(&rt, rt.alloc(), &macros, &text, 1_048_576)?;
     text.push(b'x')?;
-    assert!(rt; macros.expand(alloc, &text, &Dynamic::RuleLine) == Err(MacroFault::TooLong));
-    Ok(())
+    check_outcome(&rt, rt.alloc(), &macros, &text, TOO_LONG)
+}
+
+/// So many bytes, and `$(A)` behind them.
+fn before_a_reference(alloc: Global, len: usize) -> Result<Vec<u8>, AllocError> {
+    let mut text = vec![in alloc; b'x'; len]?;
+    text.extend_from_slice(b"$(A)")?;
+    Ok(text)
 }
 
 #[test]
 fn the_faults_of_a_reference_come_before_its_length(rt: HostRuntime) -> Result<(), Fail> {
-    let alloc = rt.alloc();
-    let mut macros = Macros::new(alloc);
-    macros.define(alloc, Rank::Makefile, b"A", b"x$(A)", false)?;
-    let mut text = vec![in alloc; b'x'; 1_048_576]?;
-    text.extend_from_slice(b"$(A)")?;
-    let given = outcome(alloc, &macros, &text, &Dynamic::RuleLine)?;
-    assert_eq!(rt;
-        given.as_slice(),
-        b"fault: macro A refers to itself".as_slice()
-    );
-    text.insert(0, b'x')?;
-    let given = outcome(alloc, &macros, &text, &Dynamic::RuleLine)?;
-    assert_eq!(rt; given.as_slice(), b"fault: expansion too long".as_slice());
-    Ok(())
+    let mut macros = Macros::new(rt.alloc());
+    define_in_makefile(rt.alloc(), &mut macros, "A", "x$(A)", false)?;
+    let full = before_a_reference(rt.alloc(), 1_048_576)?;
+    check_outcome(
+        &rt,
+        rt.alloc(),
+        &macros,
+        &full,
+        b"fault: macro A refers to itself",
+    )?;
+    let longer = before_a_reference(rt.alloc(), 1_048_577)?;
+    check_outcome(&rt, rt.alloc(), &macros, &longer, TOO_LONG)
+}
+
+/// So many words `x`, each with a space behind it.
+fn words(alloc: Global, count: usize) -> Result<Vec<u8>, AllocError> {
+    let mut words = Vec::new(alloc);
+    for _ in 0..count {
+        words.extend_from_slice(b"x ")?;
+    }
+    Ok(words)
 }
 
 #[test]
 fn changed_words_may_not_pass_the_limit(rt: HostRuntime) -> Result<(), Fail> {
-    let alloc = rt.alloc();
-    let mut macros = Macros::new(alloc);
-    let mut words = Vec::new(alloc);
-    for _ in 0..300_000 {
-        words.extend_from_slice(b"x ")?;
+    let mut macros = Macros::new(rt.alloc());
+    let words = words(rt.alloc(), 300_000)?;
+    macros.define(rt.alloc(), Rank::Makefile, b"A", &words, false)?;
+    check_length(&rt, rt.alloc(), &macros, b"$(A:x=yy)", 899_999)?;
+    check_outcome(&rt, rt.alloc(), &macros, b"$(A:x=yyy)", TOO_LONG)
+}
+
+/// The length of a text's expansion where `$@` is this name and `$?` is it twice, none where it is too long.
+fn length_of(alloc: Global, text: &[u8], name: &[u8]) -> Result<Option<usize>, MacroFault> {
+    let line = Dynamic::RecipeLine(RecipeNames {
+        target: name,
+        source: b"",
+        stem: b"",
+        newer: &[name, name],
+    });
+    match Macros::new(alloc).expand(alloc, text, &line) {
+        Ok(given) => Ok(Some(given.len())),
+        Err(MacroFault::TooLong) => Ok(None),
+        Err(fault) => Err(fault),
     }
-    macros.define(alloc, Rank::Makefile, b"A", &words, false)?;
-    assert_eq!(rt;
-        macros
-            .expand(alloc, b"$(A:x=yy)", &Dynamic::RuleLine)?
-            .len(),
-        899_999
-    );
-    assert!(rt;
-        macros.expand(alloc, b"$(A:x=yyy)", &Dynamic::RuleLine) == Err(MacroFault::TooLong)
-    );
-    Ok(())
 }
 
 #[test]
 fn a_dynamic_value_may_not_pass_the_limit(rt: HostRuntime) -> Result<(), Fail> {
-    let alloc = rt.alloc();
-    let macros = Macros::new(alloc);
-    let name = vec![in alloc; b'x'; 600_000]?;
-    let one: &[u8] = &name;
-    let line = Dynamic::RecipeLine(RecipeNames {
-        target: one,
-        source: b"",
-        stem: b"",
-        newer: &[one, one],
-    });
-    assert_eq!(rt; macros.expand(alloc, b"$@", &line)?.len(), 600_000);
-    assert!(rt; macros.expand(alloc, b"$?", &line) == Err(MacroFault::TooLong));
-    assert!(rt; macros.expand(alloc, b"$(?:%=)", &line) == Err(MacroFault::TooLong));
+    let name = vec![in rt.alloc(); b'x'; 600_000]?;
+    assert_eq!(rt; length_of(rt.alloc(), b"$@", &name)?, Some(600_000));
+    assert_eq!(rt; length_of(rt.alloc(), b"$?", &name)?, None);
+    assert_eq!(rt; length_of(rt.alloc(), b"$(?:%=)", &name)?, None);
     Ok(())
 }
 
 // Every value is short, and without keeping them the references would be 2^60.
 #[test]
 fn doubled_empty_values_end_at_once(rt: HostRuntime) -> Result<(), Fail> {
-    let alloc = rt.alloc();
-    let macros = numbered(alloc, "", true, 1_000)?;
-    assert_eq!(rt;
-        macros.expand(alloc, b"$(A60)", &Dynamic::RuleLine)?.len(),
-        0
-    );
-    assert_eq!(rt;
-        macros.expand(alloc, b"$(A1000)", &Dynamic::RuleLine)?.len(),
-        0
-    );
-    let mut short = Macros::new(alloc);
-    short.define(alloc, Rank::Makefile, b"A0", b"y", false)?;
-    for i in 0..200 {
-        let name = format!(in alloc; "A{}", i + 1)?;
-        let value = format!(in alloc; "$(A{i}:y=)$(A{i}:y=)y")?;
-        short.define(
-            alloc,
-            Rank::Makefile,
-            name.as_bytes(),
-            value.as_bytes(),
-            false,
-        )?;
-    }
-    assert_eq!(rt;
-        short
-            .expand(alloc, b"$(A200)", &Dynamic::RuleLine)?
-            .as_slice(),
-        b"y".as_slice()
-    );
+    let macros = doubled(rt.alloc(), "", 1_000)?;
+    check_length(&rt, rt.alloc(), &macros, b"$(A60)", 0)?;
+    check_length(&rt, rt.alloc(), &macros, b"$(A1000)", 0)?;
     Ok(())
+}
+
+/// A0 is `y`, and each next macro up to `last` refers to the one before it twice, changed, and adds a byte.
+fn changed(alloc: Global, last: usize) -> Result<Macros, AllocError> {
+    let mut macros = Macros::new(alloc);
+    define(alloc, &mut macros, 0, "y")?;
+    for i in 0..last {
+        let value = format!(in alloc; "$(A{i}:y=)$(A{i}:y=)y")?;
+        define(alloc, &mut macros, i + 1, value.as_str())?;
+    }
+    Ok(macros)
+}
+
+#[test]
+fn doubled_short_values_end_at_once(rt: HostRuntime) -> Result<(), Fail> {
+    let macros = changed(rt.alloc(), 200)?;
+    check_outcome(&rt, rt.alloc(), &macros, b"$(A200)", b"y")
 }
 
 #[test]
 fn a_chain_of_a_hundred_thousand_definitions(rt: HostRuntime) -> Result<(), Fail> {
-    let alloc = rt.alloc();
-    let mut macros = numbered(alloc, "x", false, 99_999)?;
-    assert_eq!(rt;
-        macros
-            .expand(alloc, b"$(A99999)", &Dynamic::RuleLine)?
-            .as_slice(),
-        b"x".as_slice()
-    );
-    macros.define(alloc, Rank::Makefile, b"A0", b"$(A99999)", false)?;
-    let given = outcome(alloc, &macros, b"$(A50000)", &Dynamic::RuleLine)?;
-    assert_eq!(rt;
-        given.as_slice(),
-        b"fault: macro A50000 refers to itself".as_slice()
-    );
-    Ok(())
+    let mut macros = chain(rt.alloc(), "x", 99_999)?;
+    check_outcome(&rt, rt.alloc(), &macros, b"$(A99999)", b"x")?;
+    define(rt.alloc(), &mut macros, 0, "$(A99999)")?;
+    check_outcome(
+        &rt,
+        rt.alloc(),
+        &macros,
+        b"$(A50000)",
+        b"fault: macro A50000 refers to itself",
+    )
+}
+
+fn numbers(alloc: Global, count: usize) -> Result<Macros, AllocError> {
+    let mut macros = Macros::new(alloc);
+    for i in 0..count {
+        let text = format!(in alloc; "{i}")?;
+        define(alloc, &mut macros, i, text.as_str())?;
+    }
+    Ok(macros)
 }
 
 // The cost of one expansion is not the number of all definitions.
 #[test]
 fn each_of_a_hundred_thousand_definitions_is_looked_up(rt: HostRuntime) -> Result<(), Fail> {
-    let alloc = rt.alloc();
-    let mut macros = Macros::new(alloc);
+    let macros = numbers(rt.alloc(), 100_000)?;
     for i in 0..100_000 {
-        let text = format!(in alloc; "{i}")?;
-        macros.define(
-            alloc,
-            Rank::Makefile,
-            text.as_bytes(),
-            text.as_bytes(),
-            false,
-        )?;
-    }
-    for i in 0..100_000 {
-        let text = format!(in alloc; "$({i})")?;
-        let value = format!(in alloc; "{i}")?;
-        let given = macros.expand(alloc, text.as_bytes(), &Dynamic::RuleLine)?;
-        assert_eq!(rt; given.as_slice(), value.as_bytes());
+        let text = format!(in rt.alloc(); "$(A{i})")?;
+        let value = format!(in rt.alloc(); "{i}")?;
+        check_outcome(&rt, rt.alloc(), &macros, text.as_bytes(), value.as_bytes())?;
     }
     Ok(())
 }
@@ -215,16 +218,10 @@ fn each_of_a_hundred_thousand_definitions_is_looked_up(rt: HostRuntime) -> Resul
 // `+=` is no copy of what was there.
 #[test]
 fn a_hundred_thousand_appended_words(rt: HostRuntime) -> Result<(), Fail> {
-    let alloc = rt.alloc();
-    let mut macros = Macros::new(alloc);
+    let mut macros = Macros::new(rt.alloc());
     for _ in 0..100_000 {
-        macros.define(alloc, Rank::Makefile, b"A", b"word.c", true)?;
+        define_in_makefile(rt.alloc(), &mut macros, "A", "word.c", true)?;
     }
-    assert_eq!(rt;
-        macros
-            .expand(alloc, b"$(A:.c=.o)", &Dynamic::RuleLine)?
-            .len(),
-        699_999
-    );
+    check_length(&rt, rt.alloc(), &macros, b"$(A:.c=.o)", 699_999)?;
     Ok(())
 }

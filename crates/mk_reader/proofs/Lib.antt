@@ -1,4 +1,5 @@
 pub mod FormLemmas
+pub mod JoinedLemmas
 pub mod LinesLemmas
 pub mod MakefileLemmas
 pub mod OutcomeLemmas

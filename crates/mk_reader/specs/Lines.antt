@@ -1,5 +1,5 @@
 -- The lines of a text: physical lines as they are spelled, and logical lines, which go on behind a backslash.
-use Rattle.std.specs.Prelude.{ℕ, ◌+◌, ◌%◌, min, Bool, true, false, ◌&&◌, ◌==◌, List, [], ◌∷◌, ◌++◌, length, drop, flat_map, Option, Some, None, if◌then◌else◌}
+use Rattle.std.specs.Prelude.{ℕ, ◌+◌, ◌%◌, min, Bool, true, false, ◌&&◌, ◌==◌, List, [], ◌∷◌, ◌++◌, length, drop, map, flat_map, Option, Some, None, if◌then◌else◌}
 use Rattle.std.specs.List.{suffix_len, slice_split, onto_first}
 use Rattle.byte_strings.specs.Blanks.{trimmed_start}
 use Rattle.mk_reader.specs.Text.{is_newline, is_backslash, begins_with, ends_with, without_last, without_tab}
@@ -110,3 +110,7 @@ numbered number (group ∷ more) = logical_line number group ∷ numbered (numbe
 -- the logical lines of what is left of a text
 unfoldable pub logical_lines : ℕ → Option (List ℕ) → List LogicalLine
 logical_lines number left = numbered number (groups (lines_left left))
+
+-- the lines of what is left of a text, each joined as one that is no recipe line
+unfoldable pub joined_lines : Option (List ℕ) → List (List ℕ)
+joined_lines left = map (joined_text false) (groups (lines_left left))

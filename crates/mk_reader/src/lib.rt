@@ -13,9 +13,12 @@ mod makefile;
 mod reference;
 mod special;
 mod statement;
+mod text;
 
 pub use fault::{Cause, Feature, ReadFault, Refusal};
 pub use includes::Includes;
 pub use item::{Definition, Item, Recipe, RecipeLine, Rule, Special};
+pub use lines::next_joined_line;
 pub use makefile::{MAX_INCLUDE_DEPTH, read_makefile};
 pub use special::SpecialName;
+pub use text::{is_text, is_utf8};

@@ -2,7 +2,7 @@
 ghost use Rattle.std.specs.Prelude.{◌≡◌, ◌+◌, ◌<◌, ◌≤◌, ◌==◌, ◌∷◌, ◌++◌, [], length, drop, flat_map, IfOk, IfSome, OnOk, Some, option_copied};
 ghost use Rattle.std.specs.List.{suffix_len, position_or_len};
 ghost use Rattle.mk_reader.specs.Text.{is_newline, is_backslash, begins_with, ends_with, without_last, without_tab};
-ghost use Rattle.mk_reader.specs.Lines.{ended_line, goes_on, body, opening, joint, groups, lines_left, rest_of_group, after_group, logical_line, is_recipe, logical_lines, numbered, number_after, physical, size_left};
+ghost use Rattle.mk_reader.specs.Lines.{ended_line, goes_on, body, opening, joint, groups, lines_left, rest_of_group, after_group, logical_line, is_recipe, logical_lines, joined_lines, numbered, number_after, physical, size_left};
 
 use crate::line::{Ending, LogicalLine, PhysicalLine};
 use byte_strings::{ByteString, trim_start};
@@ -210,4 +210,18 @@ pub fn next_logical_line(
         text: ByteString::new(text),
     };
     Ok((line, next_number, left))
+}
+
+/// The line that the bytes begin with, joined as one that is no recipe line, and what is left behind it. For other
+/// texts than makefiles that go on behind a backslash.
+pub fn next_joined_line(alloc: Global, bytes: &[u8]) -> Result<(Vec<u8>, Option<&[u8]>), AllocError>
+    ensures line { IfOk result (λ found. joined_lines (Some bytes.now)
+        ≡ found.0.items ∷ joined_lines (option_copied found.1)) }
+    ensures shorter { IfOk result (λ found. size_left (option_copied found.1) ≤ length bytes.now) }
+{
+    let (first, left) = next_line(bytes);
+    let mut text = Vec::new(alloc);
+    push_first(&mut text, false, first)?;
+    let (_, left) = join_rest(&mut text, false, first, 1, left)?;
+    Ok((text, left))
 }

@@ -1,9 +1,8 @@
 //! From one logical line to its form. Each function answers the form, or the line's fault.
 ghost use Rattle.std.specs.Prelude.{◌≡◌, ◌+◌, ◌<◌, ◌==◌, ◌&&◌, IfOk, IfSome, length, take, drop, codes, bytes_eq};
 ghost use Rattle.std.specs.List.{before_first, list_any};
-ghost use Rattle.std.specs.Str.{is_utf8};
 ghost use Rattle.byte_strings.specs.Blanks.{is_blank, trimmed_start};
-ghost use Rattle.mk_reader.specs.Text.{is_hash, is_dollar, is_nul, is_empty, is_text};
+ghost use Rattle.mk_reader.specs.Text.{is_hash, is_dollar, is_empty, is_text};
 ghost use Rattle.mk_reader.specs.Form.{Gives, Refuses, refusal, include_form, named_form, definition_form, prerequisites_of, recipe_of, judged_form, rule_form, begins_shell_definition, colon_form, decided_form, line_form, statement_form, recipe_form, form_of, first_outside};
 ghost use Rattle.mk_reader.specs.declared.form.Place.TheVariants.{Outside};
 
@@ -14,9 +13,9 @@ use crate::line::LogicalLine;
 use crate::lines::{begins_with, ends_with, without_first, without_last};
 use crate::reference::first_outside;
 use crate::special::{SpecialName, is_refused, special_name, takes_no_prerequisites};
+use crate::text::is_text;
 use byte_strings::{ByteString, first_word, is_blank, trim, trim_start};
 use std::alloc::{AllocError, Global};
-use std::str;
 
 /// The fault of a line; its name and the file's are copied.
 pub fn refuse(alloc: Global, file: &[u8], line: usize, cause: Cause) -> ReadFault
@@ -26,22 +25,6 @@ pub fn refuse(alloc: Global, file: &[u8], line: usize, cause: Cause) -> ReadFaul
         Ok(file) => ReadFault::Refused(Refusal { file, line, cause }),
         Err(_) => ReadFault::OutOfMemory,
     }
-}
-
-fn is_utf8(bytes: &[u8]) -> bool
-    ensures { result ≡ is_utf8 bytes.now }
-{
-    match str::from_utf8(bytes) {
-        Ok(_) => true,
-        Err(_) => false,
-    }
-}
-
-#[tactic(auto, unfolding(crate::specs::Text::is_text))]
-fn is_text(bytes: &[u8]) -> bool
-    ensures { result ≡ is_text bytes.now }
-{
-    is_utf8(bytes) && !bytes.contains(&0)
 }
 
 fn has_blank(bytes: &[u8]) -> bool
