@@ -24,3 +24,5 @@ pub mod OpenSide
 pub mod SystemFolder
 -- the assumption that stands for the system
 pub mod SystemModel
+-- which errors refuse to write a file
+pub mod Refusal

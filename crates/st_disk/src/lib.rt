@@ -14,6 +14,7 @@ mod open_side;
 mod plan;
 mod planned;
 mod power_cut;
+mod refusal;
 mod replay;
 mod side_calls;
 mod system_folder;

@@ -7,10 +7,11 @@ ghost use Rattle.st_disk.specs.declared.which.Which.TheVariants.{A};
 
 use crate::Which;
 use crate::folder::Folder;
+use crate::refusal::refuses_writing;
 use std::alloc::{AllocError, Global};
 use std::fs::{self, File, OpenOptions};
 use std::io::{self, ErrorKind};
-use std::os::unix::fs::FileExt;
+use std::os::unix::fs::{FileExt, MetadataExt};
 
 /// Side A is the file of a name, side B that of the name with `.2` behind it. Symbolic links are followed.
 #[derive(Drop)]
@@ -75,9 +76,34 @@ impl SystemFolder {
             .open(&self.rt, name)
         {
             Ok(file) => file,
-            Err(_) => File::open(&self.rt, name)?,
+            Err(error) if refuses_writing(&error) => File::open(&self.rt, name)?,
+            Err(error) => return Err(error),
         };
         Ok(SystemFile { file, folder })
+    }
+
+    // Of two sides in one file, a write of the one would change the other.
+    fn is_other_side(&self, side: Which, file: &File) -> io::Result<bool> {
+        let other = match side {
+            Which::A => &self.b,
+            Which::B => &self.a,
+        };
+        match fs::metadata(&self.rt, other.as_str()) {
+            Ok(theirs) => {
+                let ours = file.metadata()?;
+                Ok(ours.dev() == theirs.dev() && ours.ino() == theirs.ino())
+            }
+            Err(error) if error.kind() == ErrorKind::NotFound => Ok(false),
+            Err(error) => Err(error),
+        }
+    }
+
+    fn open_apart(&self, side: Which, name: &str) -> io::Result<SystemFile> {
+        let opened = self.open(name)?;
+        if self.is_other_side(side, &opened.file)? {
+            return Err(ErrorKind::InvalidInput.into());
+        }
+        Ok(opened)
     }
 
     fn sync_folder(&self, folder: &str) -> io::Result<()> {
@@ -121,7 +147,7 @@ impl Folder for SystemFolder {
 
     fn find(&mut self, side: Which) -> io::Result<Option<SystemFile>> {
         match self.target(side) {
-            Ok(name) => Ok(Some(self.open(name.as_str())?)),
+            Ok(name) => Ok(Some(self.open_apart(side, name.as_str())?)),
             Err(error) if error.kind() == ErrorKind::NotFound => Ok(None),
             Err(error) => Err(error),
         }

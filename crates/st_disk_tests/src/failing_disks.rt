@@ -1,85 +1,67 @@
 //! A disk that stops and a disk that fails one call, over a memory disk, for each place of the failure.
-use st_disk::{Disk, FailOnce, Fuse, MemDisk, Which};
+use crate::script::answers;
+use st_disk::{FailOnce, Fuse, MemDisk, Plan, Planned, Which};
+use std::alloc::{AllocError, Global};
 use std::test::Fail;
 
-const CALLS: u64 = 5;
-
-// Within each disk that is tried stands one that counts: it passes more calls than any test makes.
+// Within each disk that is tried stands one that counts: it passes more calls than are made.
 const COUNTED: u64 = 100;
 
-/// Makes the call of a number, and says whether it failed: a length, a write of `P` at 0, a read, a sync, a cut to 0.
-fn call_fails<D: Disk>(disk: &mut D, call: u64) -> bool {
-    match call {
-        0 => disk.len(Which::A).is_err(),
-        1 => disk.write_at(Which::A, 0, b"P").is_err(),
-        2 => disk.read(Which::A, 0, &mut []).is_err(),
-        3 => disk.sync(Which::A).is_err(),
-        _ => disk.cut(Which::A, 0).is_err(),
-    }
+fn counting(alloc: Global) -> Result<Fuse<MemDisk>, AllocError> {
+    let disk = MemDisk::holding(alloc, b"abc", b"")?;
+    Ok(Fuse::new(disk, COUNTED))
 }
+
+/// The answers of five calls, how many more the disk within would pass, and what it then holds.
+fn shown<P: Plan + Drop>(
+    alloc: Global,
+    mut disk: Planned<Fuse<MemDisk>, P>,
+) -> Result<String, Fail> {
+    let given = answers(alloc, &mut disk, "Al Aw0P Ar As Ac0")?;
+    let left = disk.inner.plan.calls_left;
+    let held = std::str::from_utf8(disk.inner.inner.bytes(Which::A))?;
+    Ok(format!(in alloc; "{given} {left} {held}")?)
+}
+
+static STOPS: [&str; 7] = [
+    "!!!!! 100 abc",
+    "3!!!! 99 abc",
+    "3+!!! 98 Pbc",
+    "3++!! 97 Pbc",
+    "3+++! 96 Pbc",
+    "3++++ 95 ",
+    "3++++ 95 ",
+];
 
 #[test]
 fn a_fuse_passes_so_many_calls_and_no_more(rt: HostRuntime) -> Result<(), Fail> {
-    // the number of calls that pass, and what the side then holds
-    let cases = [
-        (0, "abc"),
-        (1, "abc"),
-        (2, "Pbc"),
-        (3, "Pbc"),
-        (4, "Pbc"),
-        (5, ""),
-        (6, ""),
-    ];
-    for (passing, left) in cases {
-        let counted = Fuse::new(MemDisk::holding(rt.alloc(), b"abc", b"")?, COUNTED);
-        let mut disk = Fuse::new(counted, passing);
-        let mut made: u64 = 0;
-        for call in 0..CALLS {
-            let fails = call_fails(&mut disk, call);
-            assert_eq!(rt; fails, call >= passing, "{passing} pass, call {call}");
-            made = made.saturating_add(u64::from(!fails));
-            assert_eq!(rt;
-                disk.inner.plan.calls_left,
-                COUNTED.saturating_sub(made),
-                "{passing} pass, call {call} made once or not at all"
-            );
-        }
-        let memory = &disk.inner.inner;
-        assert_eq!(rt; memory.bytes(Which::A), left.as_bytes(), "{passing} pass");
-        assert_eq!(rt;
-            disk.refused,
-            CALLS.saturating_sub(passing),
-            "{passing} pass"
-        );
-        assert_eq!(rt; disk.inner.refused, 0, "{passing} pass");
-        assert_eq!(rt; memory.fault_count(), 0, "{passing} pass");
+    let mut passing = 0;
+    for wanted in &STOPS {
+        let disk = Fuse::new(counting(rt.alloc())?, passing);
+        let given = shown(rt.alloc(), disk)?;
+        assert_eq!(rt; given.as_str(), *wanted);
+        passing = passing.saturating_add(1);
     }
     Ok(())
 }
 
+static FAILS_ONE: [&str; 6] = [
+    "!++++ 96 ",
+    "3!+++ 96 ",
+    "3+!++ 96 ",
+    "3++!+ 96 ",
+    "3+++! 96 Pbc",
+    "3++++ 95 ",
+];
+
 #[test]
 fn one_call_fails_and_the_others_pass(rt: HostRuntime) -> Result<(), Fail> {
-    // the number of calls before the one that fails, and what the side then holds
-    let cases = [(0, ""), (1, ""), (2, ""), (3, ""), (4, "Pbc"), (5, "")];
-    for (failing, left) in cases {
-        let counted = Fuse::new(MemDisk::holding(rt.alloc(), b"abc", b"")?, COUNTED);
-        let mut disk = FailOnce::new(counted, failing);
-        let mut made: u64 = 0;
-        for call in 0..CALLS {
-            let fails = call_fails(&mut disk, call);
-            assert_eq!(rt; fails, call == failing, "{failing} fails, call {call}");
-            made = made.saturating_add(u64::from(!fails));
-            assert_eq!(rt;
-                disk.inner.plan.calls_left,
-                COUNTED.saturating_sub(made),
-                "{failing} fails, call {call} made once or not at all"
-            );
-        }
-        let memory = &disk.inner.inner;
-        assert_eq!(rt; memory.bytes(Which::A), left.as_bytes(), "{failing} fails");
-        assert_eq!(rt; disk.plan.failed, failing < CALLS, "{failing} fails");
-        assert_eq!(rt; disk.refused, u64::from(failing < CALLS), "{failing} fails");
-        assert_eq!(rt; memory.fault_count(), 0, "{failing} fails");
+    let mut passing = 0;
+    for wanted in &FAILS_ONE {
+        let disk = FailOnce::new(counting(rt.alloc())?, passing);
+        let given = shown(rt.alloc(), disk)?;
+        assert_eq!(rt; given.as_str(), *wanted);
+        passing = passing.saturating_add(1);
     }
     Ok(())
 }

@@ -1,191 +1,184 @@
 //! The disk over real files, in a temporary folder.
-use crate::temporary::{name_in, new_folder};
-use st_disk::{DeviceFault, Disk, FileDisk, SystemFolder, Which};
+use crate::script::answers;
+use crate::temporary::Place;
+use st_disk::{Disk, FileDisk, SystemFolder};
 use std::alloc::AllocError;
-use std::fs;
-use std::os::unix::fs::symlink;
+use std::io;
+use std::process::Abort;
 use std::test::Fail;
 
-// The calls, within what the disk says of its length.
-fn read<D: Disk>(disk: &mut D, side: Which, at: usize, buf: &mut [u8]) -> Result<(), DeviceFault> {
-    let len = disk.len(side)?;
-    if at > len || buf.len() > len - at {
-        return Err(DeviceFault);
-    }
-    disk.read(side, at, buf)
+/// The answers of a script on the files `state`, which holds a text before, and `state.2`, which is missing; then what
+/// they hold.
+fn shown(rt: HostRuntime, before: &str, script: &str) -> Result<String, Fail> {
+    let place = Place::new(rt, "files")?;
+    place.put("state", before)?;
+    let mut given = answers(rt.alloc(), &mut place.disk()?, script)?;
+    push_texts(&place, &mut given)?;
+    place.remove()?;
+    Ok(given)
 }
 
-fn write<D: Disk>(disk: &mut D, side: Which, at: usize, bytes: &[u8]) -> Result<(), DeviceFault> {
-    if at > disk.len(side)? {
-        return Err(DeviceFault);
-    }
-    disk.write_at(side, at, bytes)
-}
-
-fn cut<D: Disk>(disk: &mut D, side: Which, len: usize) -> Result<(), DeviceFault> {
-    if len > disk.len(side)? {
-        return Err(DeviceFault);
-    }
-    disk.cut(side, len)
-}
-
-fn disk_over(rt: HostRuntime, name: &str) -> Result<FileDisk<SystemFolder>, AllocError> {
-    Ok(FileDisk::new(SystemFolder::new(rt, rt.alloc(), name)?))
-}
-
-#[test]
-fn a_missing_file_is_empty_and_stays_missing(rt: HostRuntime) -> Result<(), Fail> {
-    let folder = new_folder(rt, "missing")?;
-    let name = name_in(rt, folder.as_str(), "state")?;
-    let mut disk = disk_over(rt, name.as_str())?;
-    for side in [Which::A, Which::B] {
-        assert_eq!(rt; disk.len(side)?, 0);
-        disk.sync(side)?;
-        read(&mut disk, side, 0, &mut [])?;
-        cut(&mut disk, side, 0)?;
-    }
-    assert!(rt; !fs::exists(&rt, name.as_str())?);
-    // The folder is empty, or it couldn't be removed so.
-    fs::remove_dir(&rt, folder.as_str())?;
+fn push_texts(place: &Place, out: &mut String) -> io::Result<()> {
+    out.push(' ')?;
+    out.push_str(place.text("state")?.as_str())?;
+    out.push(' ')?;
+    out.push_str(place.text("state.2")?.as_str())?;
     Ok(())
 }
 
-#[test]
-fn the_first_write_makes_the_file(rt: HostRuntime) -> Result<(), Fail> {
-    let folder = new_folder(rt, "made")?;
-    let a = name_in(rt, folder.as_str(), "state")?;
-    let b = name_in(rt, folder.as_str(), "state.2")?;
-    let mut disk = disk_over(rt, a.as_str())?;
-    write(&mut disk, Which::B, 0, b"b")?;
-    assert!(rt; !fs::exists(&rt, a.as_str())?);
-    assert_eq!(rt; fs::read(&rt, b.as_str())?.as_slice(), b"b".as_slice());
-    write(&mut disk, Which::A, 0, b"abcd")?;
-    write(&mut disk, Which::A, 3, b"DE")?;
-    disk.sync(Which::A)?;
-    disk.sync(Which::B)?;
-    assert_eq!(rt; fs::read(&rt, a.as_str())?.as_slice(), b"abcDE".as_slice());
-    assert_eq!(rt; disk.len(Which::A)?, 5);
-    assert_eq!(rt; disk.len(Which::B)?, 1);
-    fs::remove_dir_all(&rt, folder.as_str())?;
+/// Checks a script's answers.
+fn check<D: Disk>(
+    rt: &(impl Abort + AllocGlobal),
+    disk: &mut D,
+    script: &str,
+    wanted: &str,
+) -> Result<(), Fail> {
+    let given = answers(rt.alloc(), disk, script)?;
+    assert_eq!(rt; given.as_str(), wanted, "{script}");
     Ok(())
 }
 
+/// Checks what a file holds.
+fn check_text(rt: &impl Abort, place: &Place, name: &str, wanted: &str) -> Result<(), Fail> {
+    let text = place.text(name)?;
+    assert_eq!(rt; text.as_str(), wanted, "{name}");
+    Ok(())
+}
+
+fn disk_named(rt: HostRuntime, name: &str) -> Result<FileDisk<SystemFolder>, AllocError> {
+    let folder = SystemFolder::new(rt, rt.alloc(), name)?;
+    Ok(FileDisk::new(folder))
+}
+
+static FILES: [(&str, &str, &str, &str); 6] = [
+    (
+        "missing files stay missing",
+        "-",
+        "Al As Ar Ac0 Bl Bs Br Bc0",
+        "0+++0+++ - -",
+    ),
+    ("the first write makes the file", "-", "Bw0b", "+ - b"),
+    (
+        "each side has its own file",
+        "-",
+        "Bw0b Aw0abcd Aw3DE As Bs Al Bl",
+        "+++++51 abcDE b",
+    ),
+    (
+        "read to its end",
+        "abcdef",
+        "Ar4 Ar0 Ar Al",
+        "efab+6 abcdef -",
+    ),
+    ("cut and synced", "abcdef", "Ac3 As Al Ar1", "++3bc abc -"),
+    (
+        "written behind a cut",
+        "abcdef",
+        "Ac3 Aw3XY Al Ar3",
+        "++5XY abcXY -",
+    ),
+];
+
 #[test]
-fn a_file_is_cut_and_read_to_its_end(rt: HostRuntime) -> Result<(), Fail> {
-    let folder = new_folder(rt, "found")?;
-    let name = name_in(rt, folder.as_str(), "state")?;
-    fs::write(&rt, name.as_str(), "abcdef")?;
-    let mut disk = disk_over(rt, name.as_str())?;
-    let mut buf = [0; 2];
-    read(&mut disk, Which::A, 4, &mut buf)?;
-    assert_eq!(rt; buf, *b"ef");
-    cut(&mut disk, Which::A, 3)?;
-    disk.sync(Which::A)?;
-    assert_eq!(rt; disk.len(Which::A)?, 3);
-    read(&mut disk, Which::A, 1, &mut buf)?;
-    assert_eq!(rt; buf, *b"bc");
-    read(&mut disk, Which::A, 3, &mut [])?;
-    write(&mut disk, Which::A, 3, b"XY")?;
-    assert_eq!(rt;
-        fs::read(&rt, name.as_str())?.as_slice(),
-        b"abcXY".as_slice()
-    );
-    fs::remove_dir_all(&rt, folder.as_str())?;
+fn files_hold_what_was_written(rt: HostRuntime) -> Result<(), Fail> {
+    for (name, before, script, wanted) in &FILES {
+        let given = shown(rt, before, script)?;
+        assert_eq!(rt; given.as_str(), *wanted, "{name}");
+    }
     Ok(())
 }
 
 #[test]
 fn a_file_made_meanwhile_is_left_alone(rt: HostRuntime) -> Result<(), Fail> {
-    let folder = new_folder(rt, "meanwhile")?;
-    let name = name_in(rt, folder.as_str(), "state")?;
-    let mut disk = disk_over(rt, name.as_str())?;
-    assert_eq!(rt; disk.len(Which::A)?, 0);
-    fs::write(&rt, name.as_str(), "another's")?;
-    assert_eq!(rt; disk.len(Which::A)?, 0);
-    assert!(rt; disk.write_at(Which::A, 0, b"a").is_err());
-    assert!(rt; disk.len(Which::A).is_err());
-    assert!(rt; disk.sync(Which::A).is_err());
-    assert_eq!(rt;
-        fs::read(&rt, name.as_str())?.as_slice(),
-        b"another's".as_slice()
-    );
-    fs::remove_dir_all(&rt, folder.as_str())?;
-    Ok(())
+    let place = Place::new(rt, "meanwhile")?;
+    let mut disk = place.disk()?;
+    check(&rt, &mut disk, "Al", "0")?;
+    place.put("state", "another's")?;
+    check(&rt, &mut disk, "Al Aw0a Al As", "0!!!")?;
+    check_text(&rt, &place, "state", "another's")?;
+    place.remove()
 }
 
 #[test]
 fn a_file_put_in_its_place_is_left_alone(rt: HostRuntime) -> Result<(), Fail> {
-    let folder = new_folder(rt, "replaced")?;
-    let name = name_in(rt, folder.as_str(), "state")?;
-    let second = name_in(rt, folder.as_str(), "second")?;
-    fs::write(&rt, name.as_str(), "abc")?;
-    fs::write(&rt, second.as_str(), "second")?;
-    let mut disk = disk_over(rt, name.as_str())?;
-    assert_eq!(rt; disk.len(Which::A)?, 3);
-    fs::rename(&rt, second.as_str(), name.as_str())?;
-    write(&mut disk, Which::A, 0, b"X")?;
-    cut(&mut disk, Which::A, 1)?;
-    disk.sync(Which::A)?;
-    assert_eq!(rt;
-        fs::read(&rt, name.as_str())?.as_slice(),
-        b"second".as_slice()
-    );
-    fs::remove_dir_all(&rt, folder.as_str())?;
-    Ok(())
+    let place = Place::new(rt, "replaced")?;
+    place.put("state", "abc")?;
+    let mut disk = place.disk()?;
+    check(&rt, &mut disk, "Al", "3")?;
+    place.replace("state", "second")?;
+    check(&rt, &mut disk, "Aw0X Ac1 As", "+++")?;
+    check_text(&rt, &place, "state", "second")?;
+    place.remove()
 }
 
 #[test]
 fn links_are_followed_and_a_link_to_nothing_is_not_written(rt: HostRuntime) -> Result<(), Fail> {
-    let folder = new_folder(rt, "links")?;
-    let target = name_in(rt, folder.as_str(), "target")?;
-    let link = name_in(rt, folder.as_str(), "state")?;
-    let nothing = name_in(rt, folder.as_str(), "state.2")?;
-    fs::write(&rt, target.as_str(), "abc")?;
-    symlink(&rt, "target", link.as_str())?;
-    symlink(&rt, "nowhere", nothing.as_str())?;
-    let mut disk = disk_over(rt, link.as_str())?;
-    write(&mut disk, Which::A, 3, b"d")?;
-    disk.sync(Which::A)?;
-    assert_eq!(rt;
-        fs::read(&rt, target.as_str())?.as_slice(),
-        b"abcd".as_slice()
-    );
-    assert_eq!(rt; disk.len(Which::B)?, 0);
-    disk.sync(Which::B)?;
-    assert!(rt; disk.write_at(Which::B, 0, b"x").is_err());
-    fs::remove_dir_all(&rt, folder.as_str())?;
-    Ok(())
+    let place = Place::new(rt, "links")?;
+    place.put("target", "abc")?;
+    place.link("target", "state")?;
+    place.link("nowhere", "state.2")?;
+    check(&rt, &mut place.disk()?, "Aw3d As Bl Bs Bw0x", "++0+!")?;
+    check_text(&rt, &place, "target", "abcd")?;
+    place.remove()
 }
 
 #[test]
 fn a_folder_that_takes_no_file_is_a_fault(rt: HostRuntime) -> Result<(), Fail> {
     // In the first no file can be made, also by a user who may do all else; the second isn't there.
-    for name in ["/proc/state", "nowhere/state"] {
-        let mut disk = disk_over(rt, name)?;
-        assert_eq!(rt; disk.len(Which::A)?, 0, "{name}");
-        assert!(rt; disk.write_at(Which::A, 0, b"a").is_err(), "{name}");
-        assert!(rt; disk.sync(Which::B).is_err(), "{name}");
-    }
-    Ok(())
+    check(
+        &rt,
+        &mut disk_named(rt, "/proc/state")?,
+        "Al Aw0a Bs",
+        "0!!",
+    )?;
+    check(
+        &rt,
+        &mut disk_named(rt, "nowhere/state")?,
+        "Al Aw0a Bs",
+        "0!!",
+    )
 }
+
+const EACH_CALL: &str = "Al Ar Aw0a Ac0 As";
 
 #[test]
 fn what_is_no_file_is_a_fault(rt: HostRuntime) -> Result<(), Fail> {
-    let folder = new_folder(rt, "none")?;
-    let plain = name_in(rt, folder.as_str(), "plain")?;
-    let under = name_in(rt, plain.as_str(), "state")?;
-    let circle = name_in(rt, folder.as_str(), "circle")?;
-    fs::write(&rt, plain.as_str(), "abc")?;
-    symlink(&rt, "circle", circle.as_str())?;
-    for name in [folder.as_str(), under.as_str(), circle.as_str()] {
-        let mut disk = disk_over(rt, name)?;
-        assert!(rt; disk.len(Which::A).is_err(), "{name}");
-        assert!(rt; disk.read(Which::A, 0, &mut []).is_err(), "{name}");
-        assert!(rt; disk.write_at(Which::A, 0, b"a").is_err(), "{name}");
-        assert!(rt; disk.cut(Which::A, 0).is_err(), "{name}");
-        assert!(rt; disk.sync(Which::A).is_err(), "{name}");
-        assert_eq!(rt; disk.fault_count(), 5, "{name}");
-    }
-    fs::remove_dir_all(&rt, folder.as_str())?;
-    Ok(())
+    // a device, a folder, and a name below what is no folder
+    check(&rt, &mut disk_named(rt, "/dev/null")?, EACH_CALL, "!!!!!")?;
+    check(&rt, &mut disk_named(rt, "/proc")?, EACH_CALL, "!!!!!")?;
+    check(
+        &rt,
+        &mut disk_named(rt, "/dev/null/state")?,
+        EACH_CALL,
+        "!!!!!",
+    )
+}
+
+#[test]
+fn a_link_to_itself_is_a_fault(rt: HostRuntime) -> Result<(), Fail> {
+    let place = Place::new(rt, "circle")?;
+    place.link("state", "state")?;
+    check(&rt, &mut place.disk()?, EACH_CALL, "!!!!!")?;
+    place.remove()
+}
+
+#[test]
+fn a_side_that_is_a_link_to_the_other_is_a_fault(rt: HostRuntime) -> Result<(), Fail> {
+    let place = Place::new(rt, "one")?;
+    place.put("state", "abc")?;
+    place.link("state", "state.2")?;
+    check(&rt, &mut place.disk()?, BOTH_SIDES, "!!!!")?;
+    place.remove()
+}
+
+const BOTH_SIDES: &str = "Al Aw0X Bl Bw0X";
+
+#[test]
+fn a_file_under_the_names_of_both_sides_is_a_fault(rt: HostRuntime) -> Result<(), Fail> {
+    let place = Place::new(rt, "names")?;
+    place.put("state", "abc")?;
+    place.add_name("state", "state.2")?;
+    check(&rt, &mut place.disk()?, BOTH_SIDES, "!!!!")?;
+    check_text(&rt, &place, "state", "abc")?;
+    place.remove()
 }

@@ -10,6 +10,10 @@ mod folders;
 #[cfg(test)]
 mod memory_disk;
 #[cfg(test)]
+mod script;
+#[cfg(test)]
 mod system_folder;
 #[cfg(test)]
 mod temporary;
+#[cfg(test)]
+mod twin;
