@@ -1,9 +1,11 @@
-"""Writes state files, from the layout in docs/STATE_FILE.md and from nothing else of this repository.
+"""Writes state files of version 2, from the layout in docs/STATE_FILE.md and from nothing else of this repository.
 
-As a program: state_file.py example FILE | pairs FILE | names FILE
+As a program: state_file.py example FILE | pairs FILE | names FILE | begun FILE COUNT
   example  the small state that examples/hello holds
-  pairs    100 MB as builds leave it: 136,000 begun and done pairs over 50,000 targets with 20 hidden names each
+  pairs    100 MB as builds leave it: 125,000 begun and done pairs over 50,000 targets, each with 20 hidden and 3
+           explicit names
   names    4,000,000 targets, each begun once
+  begun    so many targets, each begun once
 """
 import struct
 import sys
@@ -22,8 +24,8 @@ def begun(target):
     return b"\x01" + text(target)
 
 
-def done(target, commands, hidden):
-    return b"\x02" + text(target) + texts(commands) + texts(hidden)
+def done(target, commands, hidden, explicit):
+    return b"\x02" + text(target) + texts(commands) + texts(hidden) + texts(explicit)
 
 
 def failed(target, status):
@@ -31,7 +33,7 @@ def failed(target, status):
 
 
 def header(generation):
-    return b"\x01DMKSTATE" + struct.pack("<HQ", 1, generation)
+    return b"\x01DMKSTATE" + struct.pack("<HQ", 2, generation)
 
 
 def batch(records):
@@ -42,8 +44,8 @@ def batch(records):
 def example():
     yield header(1)
     yield batch([begun("main.o"), begun("parse.o")])
-    yield batch([done("main.o", ["cc -O2 -c main.c"], ["/usr/include/stdio.h", "parse.h"])])
-    yield batch([done("parse.o", ["cc -O2 -c parse.c"], ["parse.h"]), begun("test")])
+    yield batch([done("main.o", ["cc -O2 -c main.c"], ["/usr/include/stdio.h", "parse.h"], ["main.c"])])
+    yield batch([done("parse.o", ["cc -O2 -c parse.c"], ["parse.h"], ["parse.c"]), begun("test")])
     yield batch([begun("hello")])
     yield batch([failed("test", 2)])
     yield b"\x00"
@@ -52,11 +54,12 @@ def example():
 def pairs():
     yield header(1)
     hidden = [f"include/projects/part{k:03d}.hpp" for k in range(19)]
-    for i in range(136_000):
+    for i in range(125_000):
         target = f"obj/module{i % 50_000:05d}/unit.o"
         own = f"src/m{i % 50_000:05d}.h"
+        explicit = [f"src/module{i % 50_000:05d}.c", "include/config.h", "obj/flags"]
         yield batch([begun(target)])
-        yield batch([done(target, [f"cc -O2 -c -o {target}"], hidden + [own])])
+        yield batch([done(target, [f"cc -O2 -c -o {target}"], hidden + [own], explicit)])
     yield b"\x00"
 
 
@@ -69,8 +72,15 @@ def names():
     yield b"\x00"
 
 
+def begun_targets(count):
+    yield header(1)
+    for first in range(0, int(count), 1000):
+        yield batch([begun(f"obj/unit{number}.o") for number in range(first, min(first + 1000, int(count)))])
+    yield b"\x00"
+
+
 if __name__ == "__main__":
-    kind, path = sys.argv[1:]
+    kind, path, *counts = sys.argv[1:]
     with open(path, "wb") as out:
-        for part in {"example": example, "pairs": pairs, "names": names}[kind]():
+        for part in {"example": example, "pairs": pairs, "names": names, "begun": begun_targets}[kind](*counts):
             out.write(part)

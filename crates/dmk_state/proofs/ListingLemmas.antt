@@ -1,10 +1,18 @@
 -- What follows of `recover`'s answer, whose clauses leave one case open: that memory ran out.
-use Rattle.std.proofs.Common.{◌≡◌, ◌⊎◌, Option, inl, inr, ℕ, List, Result, Ok, Err, refl, MatchResult, IfErr, OnOk, IfSome}
+use Rattle.std.proofs.Common.{◌≡◌, ◌∙◌, ◌⊎◌, ◌<◌, Option, inl, inr, ℕ, List, [], ◌∷◌, ◌++◌, ◌-◌, length, take, drop, append_assoc, Result, Ok, Err, refl, sym, subst, MatchResult, IfErr, OnOk, IfSome, IsErrOf, ap, arith}
+use Rattle.std.proofs.lemmas.List.{length-append, take-append-drop, take_rest}
+use Rattle.std.specs.List.{flat_map}
+use Rattle.std.specs.FinMap as map
+use Rattle.std.specs.FinMap.{len-entries}
+use Rattle.st_records.specs.declared.record.Entry.{Entry}
 use Rattle.st_file.specs.declared.fault.OpenFault.{OpenFault}
 use Rattle.st_file.specs.declared.fault.OpenFault.TheVariants as open_faults
 use Rattle.st_records.specs.State.{StateMap}
-use Rattle.st_recovery.specs.Recovers.{Recovers, RefusesWith, Outcome, HasOutcome, outcome_of, recovered, refused}
-use Rattle.dmk_state.specs.Writing.{IsCause, IsOfMachine, LeavesWriter}
+use Rattle.st_recovery.specs.Recovers.{Recovers, RefusesWith, PairComesToRecords, Outcome, HasOutcome, outcome_of, recovered, refused}
+use Rattle.st_recovery.proofs.RecoversLemmas.{one_recovery}
+use Rattle.st_recovery.proofs.MemoryLemmas.{comes_of_state}
+use Rattle.dmk_state.specs.Listing.{entry_lines, listing}
+use Rattle.dmk_state.specs.Writing.{IsCause, IsOfMachine, AppendsPart, LeavesText, LeavesWriter}
 use Rattle.std.specs.Io.KnownBytes.{Keeps}
 use Rattle.dmk_state.specs.declared.listing.ListFault.{ListFault}
 use Rattle.dmk_state.specs.declared.listing.ListFault.TheVariants as faults
@@ -72,7 +80,70 @@ joined (Ok x) P₀ P Q₀ Q at_ok at_err ok err = at_ok ok
 joined (Err f) P₀ P Q₀ Q at_ok at_err ok err = at_err f err
 
 -- a refusal leaves the writer as it was
-pub kept_at_refusal : (f : ListFault) (g : OpenFault) (old new : Option (List ℕ)) → (f ≡ faults.Open g) ⊎ (f ≡ faults.Open open_faults.OutOfMemory) → LeavesWriter f old new → Keeps old new
-kept_at_refusal (faults.Open f) g old new is left = left
-kept_at_refusal faults.Write g old new (inl e) left = cc
-kept_at_refusal faults.Write g old new (inr e) left = cc
+pub kept_at_refusal : (a b : List ℕ) (f : ListFault) (g : OpenFault) (old new : Option (List ℕ)) → (f ≡ faults.Open g) ⊎ (f ≡ faults.Open open_faults.OutOfMemory) → LeavesWriter a b f old new → Keeps old new
+kept_at_refusal a b (faults.Open f) g old new is left = left
+kept_at_refusal a b faults.Write g old new (inl e) left = cc
+kept_at_refusal a b faults.Write g old new (inr e) left = cc
+
+-- the fault that was passed on is the one that was met
+pub met_before : (T : Type 0) (f g : OpenFault) → IsErrOf {T = T} (Err (faults.Open f)) (faults.Open g) → IsErrOf {T = StateMap} (Err f) g
+met_before T f g e =
+    let same : f ≡ g = cc in
+    let wrapped : OpenFault → Result StateMap OpenFault = λ h. Err h in
+    ap wrapped same
+
+-- ---- a state with names, and one without
+
+none_of : (es : List (List ℕ × Entry)) → length es ≡ 0 → flat_map entry_lines es ≡ []
+none_of [] e = refl
+none_of (x ∷ es) e = absurd (omega (arith, e))
+
+some_of : (es : List (List ℕ × Entry)) → 0 < length (flat_map entry_lines es) → 0 < length es
+some_of [] some = absurd (omega (arith, some))
+some_of (x ∷ es) some = omega arith
+
+-- of a state without names nothing is listed
+pub nothing_listed : (m : StateMap) → map.len m ≡ 0 → listing m ≡ []
+nothing_listed m none = none_of (map.entries m) (sym (len-entries m) ∙ none)
+
+some_names : (m : StateMap) (old new : Option (List ℕ)) → AppendsPart old new (listing m) → 0 < map.len m
+some_names m old new part =
+    let some : 0 < length (listing m) = omega (arith, ap length part.parts, length-append part.front part.rest, part.missing) in
+    omega (arith, len-entries m, some_of (map.entries m) some)
+
+-- ---- what is left in the writer
+
+-- a part of what was left of a text has gone out
+pub front_moved : (all done rest : List ℕ) (n : ℕ) → all ≡ done ++ rest → all ≡ (done ++ take n rest) ++ take (length rest - n) (drop n rest)
+front_moved all done rest n e =
+    e
+    ∙ ap (λ (l : List ℕ). done ++ l) (sym (take-append-drop n rest))
+    ∙ sym (append_assoc done (take n rest) (drop n rest))
+    ∙ ap (λ (l : List ℕ). (done ++ take n rest) ++ l) (sym (take_rest rest n))
+
+-- a fault of each kind, of an answer that may be one
+pub at_fault : {T : Type 0} (r : Result T ListFault) (P Q : ListFault → Type 0) → ((f : ListFault) → P f → Q f) → IfErr r P → IfErr r Q
+at_fault (Ok x) P Q f h = tt
+at_fault (Err e) P Q f h = f e h
+
+pub leaves_of_state : (a b : List ℕ) (m : StateMap) → Recovers a b m → (old new : Option (List ℕ)) (f : ListFault) → LeavesText (listing m) f old new → LeavesWriter a b f old new
+leaves_of_state a b m found old new (faults.Open f) left = left
+leaves_of_state a b m found old new faults.Write left = (m, (found, left))
+
+abbrev answered : {T : Type 0} → ListFault → Result T ListFault
+answered f = Err f
+
+-- where a listing is not whole, the sides are refused or come to records
+pub cause_of_fault : {T : Type 0} (a b : List ℕ) (old new : Option (List ℕ)) (f : ListFault) → IsCause a b f → (IsErrOf {T = T} (Err f) (faults.Open open_faults.OutOfMemory) → PairComesToRecords a b) → LeavesWriter a b f old new
+    → ((g : OpenFault) × RefusesWith a b g) ⊎ PairComesToRecords a b
+cause_of_fault a b old new (faults.Open f) (inl is) memory left = inl (f, is)
+cause_of_fault {T} a b old new (faults.Open f) (inr e) memory left =
+    inr (memory (ap (λ (g : OpenFault). answered {T = T} (faults.Open g)) e))
+cause_of_fault a b old new faults.Write cause memory left = inr (comes_of_state a b left.0 left.1.0 (some_names left.0 old new left.1.1))
+
+-- nothing or a part of the listing went out
+pub part_at_fault : (a b : List ℕ) (m : StateMap) (old new : Option (List ℕ)) (f : ListFault) → Recovers a b m → LeavesWriter a b f old new → Keeps old new ⊎ AppendsPart old new (listing m)
+part_at_fault a b m old new (faults.Open f) found left = inl left
+part_at_fault a b m old new faults.Write found left =
+    let one : left.0 ≡ m = same_state left.0 m (one_recovery a b (recovered left.0) (recovered m) left.1.0 found) in
+    inr (subst (λ (n : StateMap). AppendsPart old new (listing n)) one left.1.1)

@@ -1,8 +1,10 @@
--- The listing of a state: for each name, in byte order, a line with its phase, then its commands and hidden names.
+-- The listing of a state: for each name, in byte order, a line with its phase, then its commands, its hidden names and
+-- its explicit names.
 use Rattle.std.specs.Prelude.{ℕ, List, [], ◌∷◌, ◌++◌, codes, ◌==◌, if◌then◌else◌}
 use Rattle.std.specs.List.{flat_map}
 use Rattle.std.specs.Fmt.{decimal}
 use Rattle.std.specs.FinMap as map
+use Rattle.st_records.specs.Parts.{names_known}
 use Rattle.st_records.specs.State.{StateMap}
 use Rattle.st_records.specs.declared.record.Phase.{Phase}
 use Rattle.st_records.specs.declared.record.Phase.TheVariants as phases
@@ -29,14 +31,19 @@ command_text command = codes "    $ " ++ flat_map continued command
 abbrev pub hidden_text : List ℕ → List ℕ
 hidden_text name = codes "    < " ++ name
 
+abbrev pub explicit_text : List ℕ → List ℕ
+explicit_text name = codes "    : " ++ name
+
 -- a line of the listing is a text and a newline
 abbrev pub line : List ℕ → List ℕ
 line text = text ++ newline ∷ []
 
--- what is listed of one name: a line with its phase, then one for each command, then one for each hidden name
+-- what is listed of one name: a line with its phase, then one for each command, then one for each hidden name, then one
+-- for each explicit name, none where these are unknown
 abbrev pub entry_lines : List ℕ × Entry → List ℕ
 entry_lines e =
     line (phase_text e.0 e.1.phase) ++ flat_map (λ c. line (command_text c)) e.1.commands ++ flat_map (λ h. line (hidden_text h)) e.1.hidden
+    ++ flat_map (λ n. line (explicit_text n)) (names_known e.1.explicit)
 
 -- the listing of a state: the lines of each of its names, in byte order of the names (own)
 abbrev pub listing : StateMap → List ℕ

@@ -13,6 +13,7 @@ use command_line::{Request, read_words};
 use listing::ListFault;
 use output::{Message, print_fault, show};
 use sides::read_sides;
+use st_records::HashKey;
 use std::process::ExitCode;
 
 fn main(rt: HostRuntime) -> ExitCode {
@@ -26,6 +27,7 @@ fn list_file(rt: HostRuntime, file: &str) -> u8 {
     match read_sides(rt, file) {
         Ok((a, b)) => show(
             rt.alloc(),
+            HashKey::from_system(&rt),
             file,
             a.as_slice(),
             b.as_slice(),

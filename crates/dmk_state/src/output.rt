@@ -4,12 +4,14 @@ ghost use Rattle.std.specs.Prelude.{◌≡◌, ◌⊎◌};
 ghost use Rattle.std.specs.Io.KnownBytes.{Appends, Keeps};
 ghost use Rattle.st_records.specs.State.{StateMap};
 ghost use Rattle.st_file.specs.declared.fault.OpenFault.{OpenFault};
-ghost use Rattle.st_recovery.specs.Recovers.{Recovers, RefusesWith};
+ghost use Rattle.st_recovery.specs.Recovers.{Recovers, RefusesWith, PairComesToRecords};
 ghost use Rattle.dmk_state.specs.Listing.{listing};
+ghost use Rattle.dmk_state.specs.Writing.{AppendsPart};
 
 use crate::listing::{ListFault, list};
 use st_disk::Which;
 use st_file::OpenFault;
+use st_records::HashKey;
 use std::alloc::Global;
 use std::fmt;
 use std::io::Write;
@@ -48,6 +50,7 @@ fn damaged_side(fault: ListFault) -> Option<Which> {
 /// and answers 2. A line that can't be printed changes nothing of the answer.
 pub fn show<O: Write, E: Write>(
     alloc: Global,
+    key: HashKey,
     file: &str,
     a: &[u8],
     b: &[u8],
@@ -58,8 +61,14 @@ pub fn show<O: Write, E: Write>(
     ensures listed { result ≡ 0 → (m : StateMap) × (Recovers a.now b.now m × Appends (O.contents out.old) (O.contents out.new) (listing m)) }
     ensures quiet { result ≡ 0 → err.new ≡ err.old }
     ensures refused { (f : OpenFault) → RefusesWith a.now b.now f → (result ≡ 2) × Keeps (O.contents out.old) (O.contents out.new) }
+
+    // Sides that aren't refused and have no records to be read are listed, whatever memory there is.
+    ensures cause { result ≡ 2 → ((f : OpenFault) × RefusesWith a.now b.now f) ⊎ PairComesToRecords a.now b.now }
+    // Where a state is recovered and the answer is 2, nothing or a part of its listing went out.
+    ensures part { (m : StateMap) → Recovers a.now b.now m → result ≡ 2 → Keeps (O.contents out.old) (O.contents out.new)
+        ⊎ AppendsPart (O.contents out.old) (O.contents out.new) (listing m) }
 {
-    match list(alloc, a, b, out) {
+    match list(alloc, key, a, b, out) {
         Ok(()) => 0,
         Err(fault) => {
             print_fault(err, Message { file, fault });

@@ -4,6 +4,7 @@ ghost use Rattle.std.specs.Prelude.{◌<◌};
 
 use crate::listing::{ListFault, list};
 use crate::output::show;
+use st_records::HashKey;
 use std::alloc::{AllocError, Global};
 use std::io::{self, Write};
 use std::process::Abort;
@@ -17,7 +18,7 @@ struct Row {
     fault: &'static str,
 }
 
-const ROWS: [Row; 25] = [
+const ROWS: [Row; 33] = [
     Row {
         name: "both sides are empty",
         a: "",
@@ -193,6 +194,62 @@ const ROWS: [Row; 25] = [
         listing: b"",
         fault: ".make.state.2: damaged at byte 36",
     },
+    Row {
+        name: "a done record of version 2 with an explicit name",
+        a: "01 44 4D 4B 53 54 41 54 45 02 00 01 00 00 00 00 00 00 00 01 28 00 00 00 01 00 00 00 02 03 00 00 00 61 2E 6F 01 00 00 00 09 00 00 00 63 63 20 2D 63 20 61 2E 63 00 00 00 00 01 00 00 00 03 00 00 00 61 2E 63 00",
+        b: "",
+        listing: b"done a.o\n    $ cc -c a.c\n    : a.c\n",
+        fault: "",
+    },
+    Row {
+        name: "hidden and explicit names in version 2",
+        a: "01 44 4D 4B 53 54 41 54 45 02 00 01 00 00 00 00 00 00 00 01 22 00 00 00 01 00 00 00 04 01 00 00 00 62 02 00 00 00 00 00 00 00 00 01 00 00 00 01 00 00 00 68 01 01 00 00 00 01 00 00 00 65 00",
+        b: "",
+        listing: b"done b\n    < h\n    : e\n",
+        fault: "",
+    },
+    Row {
+        name: "a kept record of version 2, the explicit names unknown",
+        a: "01 44 4D 4B 53 54 41 54 45 02 00 02 00 00 00 00 00 00 00 01 2A 00 00 00 01 00 00 00 04 03 00 00 00 61 2E 6F 02 00 00 00 00 01 00 00 00 09 00 00 00 63 63 20 2D 63 20 61 2E 63 01 00 00 00 03 00 00 00 61 2E 68 00 00",
+        b: "",
+        listing: b"done a.o\n    $ cc -c a.c\n    < a.h\n",
+        fault: "",
+    },
+    Row {
+        name: "a begun after a done in version 2 forgets the explicit names",
+        a: "01 44 4D 4B 53 54 41 54 45 02 00 01 00 00 00 00 00 00 00 01 28 00 00 00 01 00 00 00 02 03 00 00 00 61 2E 6F 01 00 00 00 09 00 00 00 63 63 20 2D 63 20 61 2E 63 00 00 00 00 01 00 00 00 03 00 00 00 61 2E 63 01 08 00 00 00 01 00 00 00 01 03 00 00 00 61 2E 6F 00",
+        b: "",
+        listing: b"begun a.o\n",
+        fault: "",
+    },
+    Row {
+        name: "side A of version 1, a newer side B of version 2",
+        a: "01 44 4D 4B 53 54 41 54 45 01 00 01 00 00 00 00 00 00 00 01 24 00 00 00 01 00 00 00 02 03 00 00 00 61 2E 6F 01 00 00 00 09 00 00 00 63 63 20 2D 63 20 61 2E 63 01 00 00 00 03 00 00 00 61 2E 68 00",
+        b: "01 44 4D 4B 53 54 41 54 45 02 00 02 00 00 00 00 00 00 00 01 2A 00 00 00 01 00 00 00 04 03 00 00 00 61 2E 6F 02 00 00 00 00 01 00 00 00 09 00 00 00 63 63 20 2D 63 20 61 2E 63 01 00 00 00 03 00 00 00 61 2E 68 00 00",
+        listing: b"done a.o\n    $ cc -c a.c\n    < a.h\n",
+        fault: "",
+    },
+    Row {
+        name: "side A of version 2, a newer side B of version 1",
+        a: "01 44 4D 4B 53 54 41 54 45 02 00 01 00 00 00 00 00 00 00 01 28 00 00 00 01 00 00 00 02 03 00 00 00 61 2E 6F 01 00 00 00 09 00 00 00 63 63 20 2D 63 20 61 2E 63 00 00 00 00 01 00 00 00 03 00 00 00 61 2E 63 00",
+        b: "01 44 4D 4B 53 54 41 54 45 01 00 02 00 00 00 00 00 00 00 01 08 00 00 00 01 00 00 00 01 03 00 00 00 61 2E 6F 00",
+        listing: b"begun a.o\n",
+        fault: "",
+    },
+    Row {
+        name: "a done record of version 1 in a side of version 2",
+        a: "01 44 4D 4B 53 54 41 54 45 02 00 01 00 00 00 00 00 00 00 01 24 00 00 00 01 00 00 00 02 03 00 00 00 61 2E 6F 01 00 00 00 09 00 00 00 63 63 20 2D 63 20 61 2E 63 01 00 00 00 03 00 00 00 61 2E 68 00",
+        b: "",
+        listing: b"",
+        fault: ".make.state: damaged at byte 19",
+    },
+    Row {
+        name: "a version yet to come",
+        a: "01 44 4D 4B 53 54 41 54 45 03 00 01 00 00 00 00 00 00 00 00",
+        b: "",
+        listing: b"",
+        fault: ".make.state: unknown version 3",
+    },
 ];
 
 fn digit(character: u8) -> u8
@@ -224,6 +281,7 @@ fn check_row(rt: &impl Abort, alloc: Global, row: &Row) -> Result<(), Fail> {
     let mut err = Vec::new(alloc);
     let status = show(
         alloc,
+        HashKey::fixed(),
         ".make.state",
         a.as_slice(),
         b.as_slice(),
@@ -275,12 +333,126 @@ fn a_full_device_is_reported(rt: HostRuntime) -> Result<(), Fail> {
         "01 44 4D 4B 53 54 41 54 45 01 00 01 00 00 00 00 00 00 00 01 08 00 00 00 01 00 00 00 01 03 00 00 00 61 2E 6F 00",
     )?;
     let mut err = Vec::new(rt.alloc());
-    let status = show(rt.alloc(), "f", side.as_slice(), &[], &mut Full, &mut err);
+    let status = show(
+        rt.alloc(),
+        HashKey::fixed(),
+        "f",
+        side.as_slice(),
+        &[],
+        &mut Full,
+        &mut err,
+    );
     assert_eq!(rt; status, 2);
     assert_eq!(rt; err.as_slice(), b"dmk_state: cannot write\n".as_slice());
     assert_eq!(rt;
-        list(rt.alloc(), side.as_slice(), &[], &mut Full),
+        list(
+            rt.alloc(),
+            HashKey::fixed(),
+            side.as_slice(),
+            &[],
+            &mut Full
+        ),
         Err(ListFault::Write)
     );
+    Ok(())
+}
+
+// Is interrupted once, and then takes one byte a call.
+#[derive(Drop)]
+struct Slow {
+    taken: Vec<u8>,
+    interrupted: bool,
+}
+
+impl Write for Slow {
+    fn write(&mut self, bytes: &[u8]) -> io::Result<usize> {
+        if !self.interrupted {
+            self.interrupted = true;
+            return Err(io::Error::from(io::ErrorKind::Interrupted));
+        }
+        let Some(byte) = bytes.first() else {
+            return Ok(0);
+        };
+        self.taken.push(*byte)?;
+        Ok(1)
+    }
+
+    fn flush(&mut self) -> io::Result<()> {
+        Ok(())
+    }
+}
+
+#[test]
+fn a_slow_device_gets_the_whole_listing(rt: HostRuntime) -> Result<(), Fail> {
+    let side = begun_of(rt.alloc(), 2, 3)?;
+    let mut slow = Slow {
+        taken: Vec::new(rt.alloc()),
+        interrupted: false,
+    };
+    let listed = list(
+        rt.alloc(),
+        HashKey::fixed(),
+        side.as_slice(),
+        &[],
+        &mut slow,
+    );
+    assert_eq!(rt; listed, Ok(()));
+    assert_eq!(rt; slow.taken.as_slice(), b"begun nnn\n".as_slice());
+    Ok(())
+}
+
+// A side of this version with one begun record, of a target of so many bytes `n`.
+fn begun_of(alloc: Global, version: u8, len: u32) -> Result<Vec<u8>, AllocError> {
+    let mut side = Vec::from_slice(alloc, b"\x01DMKSTATE")?;
+    side.push(version)?;
+    side.extend_from_slice(b"\0\x01\0\0\0\0\0\0\0\x01")?;
+    side.extend_from_slice(&len.saturating_add(5).to_le_bytes())?;
+    side.extend_from_slice(b"\x01\0\0\0\x01")?;
+    side.extend_from_slice(&len.to_le_bytes())?;
+    for _ in 0..len {
+        side.push(b'n')?;
+    }
+    side.push(0)?;
+    Ok(side)
+}
+
+#[test]
+fn the_longest_name_depends_on_the_version(rt: HostRuntime) -> Result<(), Fail> {
+    let rows: [(u8, u32, u8); 6] = [
+        (1, 4_096, 0),
+        (1, 4_097, 2),
+        (2, 4_096, 0),
+        (2, 4_097, 0),
+        (2, 65_535, 0),
+        (2, 65_536, 2),
+    ];
+    for (version, len, want) in rows {
+        let side = begun_of(rt.alloc(), version, len)?;
+        let mut out = Vec::new(rt.alloc());
+        let mut err = Vec::new(rt.alloc());
+        let status = show(
+            rt.alloc(),
+            HashKey::fixed(),
+            "f",
+            side.as_slice(),
+            &[],
+            &mut out,
+            &mut err,
+        );
+        assert_eq!(rt; status, want, "version {version}, {len} bytes");
+        if want == 0 {
+            assert_eq!(rt;
+                out.len(),
+                len as usize + 7,
+                "version {version}, {len} bytes"
+            );
+        } else {
+            assert_eq!(rt;
+                err.as_slice(),
+                b"dmk_state: f: damaged at byte 19\n".as_slice(),
+                "version {version}, {len} bytes"
+            );
+        }
+    }
     Ok(())
 }

@@ -2,12 +2,13 @@
 
 ghost use Rattle.std.specs.Prelude.{◌≡◌, ◌++◌, OnOk, IfOk};
 ghost use Rattle.std.specs.List.{flat_map};
-ghost use Rattle.dmk_state.specs.Listing.{listing, entry_lines, phase_text, command_text, hidden_text, line, continued};
+ghost use Rattle.st_records.specs.Parts.{names_known};
+ghost use Rattle.dmk_state.specs.Listing.{listing, entry_lines, phase_text, command_text, explicit_text, line, continued};
 
-use st_records::{Bytes, Entry, Phase, State};
+use st_records::{ByteStrings, Entry, Explicit, Phase, State};
 use std::alloc::{AllocError, Global};
 
-/// The listing of a state: for each name, in byte order, its phase, its commands and its hidden names.
+/// The listing of a state: for each name, in byte order, its phase, its commands, its hidden and its explicit names.
 pub fn listing_text(alloc: Global, state: &State) -> Result<Vec<u8>, AllocError>
     ensures { IfOk result (λ text. text.items ≡ listing state.now) }
 {
@@ -28,8 +29,9 @@ fn append_entry(
     ensures { OnOk result (text.new.items ≡ text.old.items ++ entry_lines (name.now, entry.now)) }
 {
     append_phase(alloc, text, name, entry.phase)?;
-    append_commands(text, entry.commands.as_slice())?;
-    append_hidden(text, entry.hidden.as_slice())
+    append_commands(text, &entry.commands)?;
+    append_names(text, b"    < ", &entry.hidden)?;
+    append_explicit(text, &entry.explicit)
 }
 
 fn append_phase(
@@ -60,12 +62,12 @@ fn append_phase(
     Ok(())
 }
 
-fn append_commands(text: &mut Vec<u8>, commands: &[Bytes]) -> Result<(), AllocError>
+fn append_commands(text: &mut Vec<u8>, commands: &ByteStrings) -> Result<(), AllocError>
     ensures { OnOk result (text.new.items ≡ text.old.items ++ flat_map (λ c. line (command_text c)) commands.now) }
 {
-    for command in commands {
+    for command in commands.iter() {
         text.extend_from_slice(b"    $ ")?;
-        append_continued(text, command.as_slice())?;
+        append_continued(text, command)?;
         text.push(b'\n')?;
     }
     Ok(())
@@ -83,12 +85,23 @@ fn append_continued(text: &mut Vec<u8>, command: &[u8]) -> Result<(), AllocError
     Ok(())
 }
 
-fn append_hidden(text: &mut Vec<u8>, hidden: &[Bytes]) -> Result<(), AllocError>
-    ensures { OnOk result (text.new.items ≡ text.old.items ++ flat_map (λ n. line (hidden_text n)) hidden.now) }
+fn append_explicit(text: &mut Vec<u8>, explicit: &Explicit) -> Result<(), AllocError>
+    ensures { OnOk result (text.new.items ≡ text.old.items
+        ++ flat_map (λ n. line (explicit_text n)) (names_known explicit.now)) }
 {
-    for name in hidden {
-        text.extend_from_slice(b"    < ")?;
-        text.extend_from_slice(name.as_slice())?;
+    match explicit {
+        Explicit::Unknown => Ok(()),
+        Explicit::Known(names) => append_names(text, b"    : ", names),
+    }
+}
+
+// One line for each name, the mark before it.
+fn append_names(text: &mut Vec<u8>, mark: &[u8], names: &ByteStrings) -> Result<(), AllocError>
+    ensures { OnOk result (text.new.items ≡ text.old.items ++ flat_map (λ n. line (mark.now ++ n)) names.now) }
+{
+    for name in names.iter() {
+        text.extend_from_slice(mark)?;
+        text.extend_from_slice(name)?;
         text.push(b'\n')?;
     }
     Ok(())

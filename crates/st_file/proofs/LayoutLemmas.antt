@@ -1,6 +1,7 @@
 -- The numbers of the format, and the header of a side.
-use Rattle.std.proofs.Common.{◌≡◌, ℕ, zero, suc, ◌<◌, List, refl, subst, arith}
-use Rattle.st_file.specs.Layout.{IsNamed}
+use Rattle.std.proofs.Common.{◌≡◌, ℕ, zero, suc, ◌<◌, ◌^◌, List, ◌∷◌, ◌++◌, refl, subst, arith}
+use Rattle.st_records.specs.declared.version.Version.{Version}
+use Rattle.st_file.specs.Layout.{header_text, IsNamed, HasHeader}
 
 pub positive : (n : ℕ) → (n ≡ 0 → ⊥) → 0 < n
 positive zero h = absurd (h refl)
@@ -9,3 +10,12 @@ positive (suc n) h = omega arith
 -- what stands behind the name, by another spelling
 pub IsNamed-along : (x rest after : List ℕ) → IsNamed x rest → rest ≡ after → IsNamed x after
 IsNamed-along x rest after named e = let P : List ℕ → Type 0 = λ y. IsNamed x y in subst P e named
+
+-- a header's text behind an open gate makes a header of what follows it
+pub HasHeader-of : (x : List ℕ) (v : Version) (generation gate : ℕ) (rest : List ℕ) → 0 < gate → 0 < generation → generation < 2 ^ 64 → x ≡ gate ∷ (header_text v generation ++ rest) → HasHeader x v generation rest
+HasHeader-of x v generation gate rest opened some fits e =
+    record { some = some; fits = fits; named = record { gate = gate; is_open = opened; text = e } }
+
+-- and what has a header begins with its text
+pub HasHeader-text : (x : List ℕ) (v : Version) (generation : ℕ) (rest : List ℕ) (h : HasHeader x v generation rest) → x ≡ h.named.gate ∷ (header_text v generation ++ rest)
+HasHeader-text x v generation rest h = h.named.text

@@ -5,3 +5,5 @@ pub mod FrameLemmas
 pub mod SideLemmas
 pub mod WalkLemmas
 pub mod ReadingLemmas
+pub mod DecisionLemmas
+pub mod TotalLemmas

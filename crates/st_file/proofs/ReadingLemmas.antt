@@ -5,14 +5,15 @@ use Rattle.std.proofs.lemmas.Bool.{le-ltb, ne_eqb}
 use Rattle.std.proofs.lemmas.List.{take_at, drop_at, length-append}
 use Rattle.std.specs.Int.{Width, w16, w64, byte_len, to_le_bytes, from_le_bytes}
 use Rattle.st_disk.specs.declared.which.Which.{Which}
+use Rattle.st_records.specs.declared.version.Version.{Version}
+use Rattle.st_records.specs.declared.version.Version.TheVariants as versions
 use Rattle.st_records.specs.declared.record.Record.{Record}
 use Rattle.st_file.specs.declared.fault.OpenFault.{OpenFault}
 use Rattle.st_file.specs.declared.fault.OpenFault.TheVariants as faults
-use Rattle.st_file.specs.Layout.{IsNamed}
-use Rattle.st_file.specs.Batch.{Batch, records_of}
-use Rattle.st_file.specs.Side.{IsVoid, Reaches, HoldsUpTo, IsForeign, HasVersion, LacksGeneration, IsStuck, is_none, IsBroken, IsDamagedAt, IsRefused, Reading, blank, holding, refused, Reads}
+use Rattle.st_file.specs.Layout.{version_number, IsUnknownVersion, IsNamed}
+use Rattle.st_file.specs.Batch.{Batch, text_of, records_of}
+use Rattle.st_file.specs.Side.{IsVoid, Reaches, HoldsUpTo, IsForeign, HasOtherVersion, LacksGeneration, IsStuck, is_none, IsBroken, IsDamagedAt, IsRefused, Reading, blank, holding, refused, Reads}
 use Rattle.st_file.proofs.FrameLemmas.{IsWide, wide16, wide64}
-use Rattle.st_file.proofs.SideLemmas.{text_of}
 use Rattle.st_file.proofs.WalkLemmas.{IsEnd, IsEnd-closed, IsEnd-stuck, first_after-true, reading_from, Walks, one_end}
 
 -- ---- the beginning: void, no state file, or named
@@ -52,7 +53,7 @@ data Header : Type 0 where
   no_version : Header
   version : ℕ → Header
   no_generation : Header
-  whole : ℕ → List ℕ → Header
+  whole : Version → ℕ → List ℕ → Header
 
 unfoldable number_at : Width → List ℕ → Option (ℕ × List ℕ)
 number_at w bytes = cond (ltb (length bytes) (byte_len w)) None (Some (from_le_bytes w (take (byte_len w) bytes), drop (byte_len w) bytes))
@@ -70,13 +71,35 @@ number_at-again w limit wide n rest lt =
     let long : ltb (length (to_le_bytes w n ++ rest)) (byte_len w) ≡ false = le-ltb _ _ (omega (arith, length-append (to_le_bytes w n) rest)) in
     rw (long, take_at (to_le_bytes w n) rest (byte_len w) len, drop_at (to_le_bytes w n) rest (byte_len w) len, wide.back n lt) refl
 
-abbrev behind_generation : Option (ℕ × List ℕ) → Header
-behind_generation None = no_generation
-behind_generation (Some n) = cond (eqb n.0 0) no_generation (whole n.0 n.1)
+abbrev behind_generation : Version → Option (ℕ × List ℕ) → Header
+behind_generation v None = no_generation
+behind_generation v (Some n) = cond (eqb n.0 0) no_generation (whole v n.0 n.1)
+
+-- the known version of a number
+abbrev known_version : ℕ → Option Version
+known_version zero = None
+known_version (suc zero) = Some versions.One
+known_version (suc (suc zero)) = Some versions.Two
+known_version (suc (suc (suc n))) = None
+
+known_version-number : (v : Version) → known_version (version_number v) ≡ Some v
+known_version-number versions.One = refl
+known_version-number versions.Two = refl
+
+known_version-other : (n : ℕ) → IsUnknownVersion n → known_version n ≡ None
+known_version-other zero other = refl
+known_version-other (suc zero) other = absurd (other versions.One refl)
+known_version-other (suc (suc zero)) other = absurd (other versions.Two refl)
+known_version-other (suc (suc (suc n))) other = refl
+
+-- what follows a version's number, by the version that it is known as
+abbrev by_version_number : Option Version → ℕ → List ℕ → Header
+by_version_number None n rest = version n
+by_version_number (Some v) n rest = behind_generation v (number_at w64 rest)
 
 abbrev behind_version : Option (ℕ × List ℕ) → Header
 behind_version None = no_version
-behind_version (Some n) = cond (eqb n.0 1) (behind_generation (number_at w64 n.1)) (version n.0)
+behind_version (Some n) = by_version_number (known_version n.0) n.0 n.1
 
 abbrev header_at : List ℕ → Header
 header_at rest = behind_version (number_at w16 rest)
@@ -84,23 +107,28 @@ header_at rest = behind_version (number_at w16 rest)
 at_no_version : (rest : List ℕ) → length rest < 2 → header_at rest ≡ no_version
 at_no_version rest lt = ap behind_version (number_at-short w16 rest lt)
 
-at_version : (n : ℕ) (rest : List ℕ) → n < 2 ^ 16 → n ≢ 1 → header_at (to_le_bytes w16 n ++ rest) ≡ version n
+at_version : (n : ℕ) (rest : List ℕ) → n < 2 ^ 16 → IsUnknownVersion n → header_at (to_le_bytes w16 n ++ rest) ≡ version n
 at_version n rest lt other =
-    ap behind_version (number_at-again w16 (2 ^ 16) wide16 n rest lt) ∙ ap (λ (b : Bool). cond b (behind_generation (number_at w64 rest)) (version n)) (ne_eqb n 1 other)
+    ap behind_version (number_at-again w16 (2 ^ 16) wide16 n rest lt) ∙ ap (λ (o : Option Version). by_version_number o n rest) (known_version-other n other)
 
-at_first : (rest : List ℕ) → header_at (to_le_bytes w16 1 ++ rest) ≡ behind_generation (number_at w64 rest)
-at_first rest = ap behind_version (number_at-again w16 (2 ^ 16) wide16 1 rest (omega arith))
+small_version : (v : Version) → version_number v < 2 ^ 16
+small_version versions.One = omega arith
+small_version versions.Two = omega arith
 
-at_short : (rest : List ℕ) → length rest < 8 → header_at (to_le_bytes w16 1 ++ rest) ≡ no_generation
-at_short rest lt = at_first rest ∙ ap behind_generation (number_at-short w64 rest lt)
+at_known : (v : Version) (rest : List ℕ) → header_at (to_le_bytes w16 (version_number v) ++ rest) ≡ behind_generation v (number_at w64 rest)
+at_known v rest =
+    ap behind_version (number_at-again w16 (2 ^ 16) wide16 (version_number v) rest (small_version v)) ∙ ap (λ (o : Option Version). by_version_number o (version_number v) rest) (known_version-number v)
 
-at_zero : (rest : List ℕ) → header_at (to_le_bytes w16 1 ++ (to_le_bytes w64 0 ++ rest)) ≡ no_generation
-at_zero rest = at_first (to_le_bytes w64 0 ++ rest) ∙ ap behind_generation (number_at-again w64 (2 ^ 64) wide64 0 rest (omega arith))
+at_short : (v : Version) (rest : List ℕ) → length rest < 8 → header_at (to_le_bytes w16 (version_number v) ++ rest) ≡ no_generation
+at_short v rest lt = at_known v rest ∙ ap (behind_generation v) (number_at-short w64 rest lt)
 
-at_whole : (n : ℕ) (rest : List ℕ) → 0 < n → n < 2 ^ 64 → header_at (to_le_bytes w16 1 ++ (to_le_bytes w64 n ++ rest)) ≡ whole n rest
-at_whole n rest some lt =
+at_zero : (v : Version) (rest : List ℕ) → header_at (to_le_bytes w16 (version_number v) ++ (to_le_bytes w64 0 ++ rest)) ≡ no_generation
+at_zero v rest = at_known v (to_le_bytes w64 0 ++ rest) ∙ ap (behind_generation v) (number_at-again w64 (2 ^ 64) wide64 0 rest (omega arith))
+
+at_whole : (v : Version) (n : ℕ) (rest : List ℕ) → 0 < n → n < 2 ^ 64 → header_at (to_le_bytes w16 (version_number v) ++ (to_le_bytes w64 n ++ rest)) ≡ whole v n rest
+at_whole v n rest some lt =
     let other : n ≢ 0 = omega arith in
-    at_first (to_le_bytes w64 n ++ rest) ∙ ap behind_generation (number_at-again w64 (2 ^ 64) wide64 n rest lt) ∙ ap (λ (b : Bool). cond b no_generation (whole n rest)) (ne_eqb n 0 other)
+    at_known v (to_le_bytes w64 n ++ rest) ∙ ap (behind_generation v) (number_at-again w64 (2 ^ 64) wide64 n rest lt) ∙ ap (λ (b : Bool). cond b no_generation (whole v n rest)) (ne_eqb n 0 other)
 
 -- ---- a reading by its beginning, its header and its batches
 
@@ -108,13 +136,13 @@ abbrev GoesOn : Which → ℕ → Header → Reading → Type 0
 GoesOn side len no_version r = r ≡ refused (faults.Damaged side 9)
 GoesOn side len (version n) r = r ≡ refused (faults.UnknownVersion side n)
 GoesOn side len no_generation r = r ≡ refused (faults.Damaged side 11)
-GoesOn side len (whole generation rest) r = Walks side len generation rest r
+GoesOn side len (whole v generation rest) r = Walks v side len generation rest r
 
 one_goes_on : (side : Which) (len : ℕ) (h : Header) (r s : Reading) → GoesOn side len h r → GoesOn side len h s → r ≡ s
 one_goes_on side len no_version r s p q = p ∙ sym q
 one_goes_on side len (version n) r s p q = p ∙ sym q
 one_goes_on side len no_generation r s p q = p ∙ sym q
-one_goes_on side len (whole generation rest) r s p q = one_end side len generation rest r s p q
+one_goes_on side len (whole v generation rest) r s p q = one_end v side len generation rest r s p q
 
 abbrev Begins : Which → ℕ → Beginning → Reading → Type 0
 Begins side len empty r = r ≡ blank
@@ -142,10 +170,10 @@ by_name side x rest h r name at goes =
     let P : Header → Type 0 = λ k. GoesOn side (length x) k r in
     record { beginning = named rest; begins_as = name; follows_on = subst P (sym at) goes }
 
-by_walk : (side : Which) (x : List ℕ) (generation : ℕ) (batches : List Batch) (left : List ℕ) (r : Reading) → Reaches x generation batches left → IsEnd (is_none batches) left → r ≡ reading_from side (length x) generation batches left → IsReadBy side x r
-by_walk side x generation batches left r reached ends gives =
-    let P : Bool → Type 0 = λ f. IsEnd f left in
-    by_name side x _ (whole generation (text_of batches ++ left)) r reached.header.named (at_whole generation (text_of batches ++ left) reached.header.some reached.header.fits) (record {
+by_walk : (side : Which) (x : List ℕ) (v : Version) (generation : ℕ) (batches : List Batch) (left : List ℕ) (r : Reading) → Reaches x v generation batches left → IsEnd v (is_none batches) left → r ≡ reading_from v side (length x) generation batches left → IsReadBy side x r
+by_walk side x v generation batches left r reached ends gives =
+    let P : Bool → Type 0 = λ f. IsEnd v f left in
+    by_name side x _ (whole v generation (text_of v batches ++ left)) r reached.header.named (at_whole v generation (text_of v batches ++ left) reached.header.some reached.header.fits) (record {
       batches = batches;
       left = left;
       allowed = reached.allowed;
@@ -154,27 +182,27 @@ by_walk side x generation batches left r reached ends gives =
       gives = gives;
     })
 
-by_holding : (side : Which) (x : List ℕ) (generation : ℕ) (held : List Record) (end : ℕ) → HoldsUpTo x generation held end → IsReadBy side x (holding generation held end)
-by_holding side x generation held end holds =
+by_holding : (side : Which) (x : List ℕ) (v : Version) (generation : ℕ) (held : List Record) (end : ℕ) → HoldsUpTo x v generation held end → IsReadBy side x (holding v generation held end)
+by_holding side x v generation held end holds =
     let place : end ≡ length x - length (0 ∷ holds.after) = omega (arith, holds.place) in
-    let gives : holding generation held end ≡ holding generation (records_of holds.batches) (length x - length (0 ∷ holds.after)) = cc (holds.in_order, place) in
-    by_walk side x generation holds.batches (0 ∷ holds.after) (holding generation held end) holds.reached (IsEnd-closed (is_none holds.batches) holds.after) gives
+    let gives : holding v generation held end ≡ holding v generation (records_of holds.batches) (length x - length (0 ∷ holds.after)) = cc (holds.in_order, place) in
+    by_walk side x v generation holds.batches (0 ∷ holds.after) (holding v generation held end) holds.reached (IsEnd-closed v (is_none holds.batches) holds.after) gives
 
-broken_at : (side : Which) (len generation place : ℕ) (first : Bool) (batches : List Batch) (left : List ℕ) → IsStuck first left → place + length left ≡ len → refused (faults.Damaged side place) ≡ reading_from side len generation batches left
-broken_at side len generation place first batches [] stuck at = let same : place ≡ len = omega arith in cc
-broken_at side len generation place first batches (zero ∷ left) stuck at = absurd (omega (arith, stuck.0))
-broken_at side len generation place first batches (suc gate ∷ left) stuck at = let same : place ≡ len - length (suc gate ∷ left) = omega arith in cc
+broken_at : (side : Which) (len : ℕ) (v : Version) (generation place : ℕ) (first : Bool) (batches : List Batch) (left : List ℕ) → IsStuck v first left → place + length left ≡ len → refused (faults.Damaged side place) ≡ reading_from v side len generation batches left
+broken_at side len v generation place first batches [] stuck at = let same : place ≡ len = omega arith in cc
+broken_at side len v generation place first batches (zero ∷ left) stuck at = absurd (omega (arith, stuck.0))
+broken_at side len v generation place first batches (suc gate ∷ left) stuck at = let same : place ≡ len - length (suc gate ∷ left) = omega arith in cc
 
 by_broken : (side : Which) (x : List ℕ) (place : ℕ) → IsBroken x place → IsReadBy side x (refused (faults.Damaged side place))
 by_broken side x place broken =
-    by_walk side x broken.generation broken.batches broken.rest (refused (faults.Damaged side place)) broken.reached (IsEnd-stuck (is_none broken.batches) broken.rest broken.stuck)
-    (broken_at side (length x) broken.generation place (is_none broken.batches) broken.batches broken.rest broken.stuck broken.at)
+    by_walk side x broken.v broken.generation broken.batches broken.rest (refused (faults.Damaged side place)) broken.reached (IsEnd-stuck broken.v (is_none broken.batches) broken.rest broken.stuck)
+    (broken_at side (length x) broken.v broken.generation place (is_none broken.batches) broken.batches broken.rest broken.stuck broken.at)
 
 by_generation : (side : Which) (x : List ℕ) → LacksGeneration x → IsReadBy side x (refused (faults.Damaged side 11))
 by_generation side x lacks =
     elim lacks.cut [
-      | inl lt ↦ by_name side x _ no_generation _ lacks.named (at_short lacks.rest lt) refl
-      | inr zeros ↦ by_name side x _ no_generation _ lacks.named (ap (λ (r : List ℕ). header_at (to_le_bytes w16 1 ++ r)) zeros.1 ∙ at_zero zeros.0) refl
+      | inl lt ↦ by_name side x _ no_generation _ lacks.named (at_short lacks.v lacks.rest lt) refl
+      | inr zeros ↦ by_name side x _ no_generation _ lacks.named (ap (λ (r : List ℕ). header_at (to_le_bytes w16 (version_number lacks.v) ++ r)) zeros.1 ∙ at_zero lacks.v zeros.0) refl
     ]
 
 by_damage : (side : Which) (x : List ℕ) (place : ℕ) → IsDamagedAt x place → IsReadBy side x (refused (faults.Damaged side place))
@@ -186,7 +214,7 @@ by_damage side x place (inr (inl p)) =
     subst P (sym p.0) (by_generation side x p.1)
 by_damage side x place (inr (inr broken)) = by_broken side x place broken
 
-by_version : (side : Which) (x : List ℕ) (n : ℕ) → HasVersion x n → IsReadBy side x (refused (faults.UnknownVersion side n))
+by_version : (side : Which) (x : List ℕ) (n : ℕ) → HasOtherVersion x n → IsReadBy side x (refused (faults.UnknownVersion side n))
 by_version side x n has = by_name side x (to_le_bytes w16 n ++ has.rest) (version n) (refused (faults.UnknownVersion side n)) has.named (at_version n has.rest has.fits has.other) refl
 
 by_refusal : (side : Which) (x : List ℕ) (fault : OpenFault) → IsRefused side x fault → IsReadBy side x (refused fault)
@@ -205,7 +233,7 @@ by_refusal side x faults.SameGeneration p = absurd p
 
 is_read_by : (side : Which) (x : List ℕ) (r : Reading) → Reads side x r → IsReadBy side x r
 is_read_by side x blank p = record { beginning = empty; begins_as = p; follows_on = refl }
-is_read_by side x (holding generation held end) p = by_holding side x generation held end p
+is_read_by side x (holding v generation held end) p = by_holding side x v generation held end p
 is_read_by side x (refused fault) p = by_refusal side x fault p
 
 -- a side is void, or holds one list of records, or is refused with one fault, and only one of these

@@ -9,7 +9,7 @@ use Rattle.st_file.specs.Side.{Reading, blank, holding, refused}
 -- the reading that was answered; none where memory ran out
 abbrev pub reading_of : Result Side OpenFault → Option Reading
 reading_of (Ok sides.Void) = Some blank
-reading_of (Ok (sides.Holding generation held end)) = Some (holding generation held.items end)
+reading_of (Ok (sides.Holding v generation held end)) = Some (holding v generation held.items end)
 reading_of (Err (faults.NotState s)) = Some (refused (faults.NotState s))
 reading_of (Err (faults.UnknownVersion s version)) = Some (refused (faults.UnknownVersion s version))
 reading_of (Err (faults.Damaged s place)) = Some (refused (faults.Damaged s place))

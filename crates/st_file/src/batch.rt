@@ -1,16 +1,17 @@
 //! One batch behind its gate: the body's length, the number of records, and the records.
 
-ghost use Rattle.std.specs.Prelude.{◌≡◌, ◌≢◌, ◌↔◌, ℕ, ◌<◌, ◌≤◌, ◌^◌, List, ◌++◌, length, IsTrue, IfSome, IfNone, IfOk, MatchBool, MatchOption};
+ghost use Rattle.std.specs.Prelude.{◌≡◌, ◌≢◌, ◌↔◌, ℕ, ◌<◌, ◌≤◌, ◌^◌, List, ◌++◌, length, IsTrue, IfSome, IfNone, IfOk, OnErr, MatchBool, MatchOption};
 ghost use Rattle.st_records.specs.declared.record.Record.{Record};
 ghost use Rattle.st_records.specs.declared.decoder.DecodeFault.TheVariants as decode_faults;
 ghost use Rattle.st_records.specs.Encoding.{encoding, number};
 ghost use Rattle.st_records.specs.Limits.{IsGood};
+ghost use Rattle.st_records.specs.Faults.{HasWholeTarget};
 ghost use Rattle.st_file.specs.Sink.{AddsRecords};
-ghost use Rattle.st_file.specs.Batch.{may_stand, framed, FillBatch, IsBody};
+ghost use Rattle.st_file.specs.Batch.{may_stand, framed, FillBatch, IsBody, IsFramed, ComesToTarget};
 
 use crate::layout::u32_of;
 use crate::sink::RecordSink;
-use st_records::{DecodeFault, Record, decode};
+use st_records::{DecodeFault, Record, Version, decode};
 use std::alloc::{AllocError, Global};
 
 const MAX_BODY_BYTES: usize = 1 << 30;
@@ -39,13 +40,19 @@ fn is_want_of_memory(fault: &DecodeFault) -> bool
     matches!(fault, DecodeFault::OutOfMemory)
 }
 
-/// The record at the front and the bytes behind it. None where no good record begins the bytes.
-fn record_of(alloc: Global, bytes: &[u8]) -> Result<Option<(Record, &[u8])>, AllocError>
-    ensures found { IfOk result (λ o. IfSome o (λ f. IsGood f.0 × (bytes.now ≡ encoding f.0 ++ f.1.now))) }
-    ensures none { IfOk result (λ o. IfNone o ((r : Record) (rest : List ℕ) → IsGood r
-        → bytes.now ≢ encoding r ++ rest)) }
+/// The record of this version at the front, and the bytes behind it. None where no good record begins the bytes.
+fn record_of(
+    alloc: Global,
+    version: Version,
+    bytes: &[u8],
+) -> Result<Option<(Record, &[u8])>, AllocError>
+    ensures found { IfOk result (λ o. IfSome o (λ f. IsGood version f.0
+        × (bytes.now ≡ encoding version f.0 ++ f.1.now))) }
+    ensures none { IfOk result (λ o. IfNone o ((r : Record) (rest : List ℕ) → IsGood version r
+        → bytes.now ≢ encoding version r ++ rest)) }
+    ensures memory { OnErr result (HasWholeTarget bytes.now) }
 {
-    match decode(alloc, bytes) {
+    match decode(alloc, version, bytes) {
         Ok((record, length)) => {
             let (_text, rest) = bytes.split_at(length);
             Ok(Some((record, rest)))
@@ -69,18 +76,20 @@ fn is_allowed(first: bool, event: &Record) -> bool
 /// Reads all of a body and hands its records on. False where the body isn't just so many records that may stand there.
 fn read_body<S: RecordSink>(
     alloc: Global,
+    version: Version,
     first: bool,
     count: u32,
     body: &[u8],
     sink: &mut S,
 ) -> Result<bool, AllocError>
-    ensures { IfOk result (λ whole. MatchBool whole
-        ((rs : List Record) × IsBody first count rs body.now × AddsRecords S.has_taken sink.old sink.new rs)
-        ((rs : List Record) → IsBody first count rs body.now → ⊥)) }
+    ensures whole { IfOk result (λ whole. MatchBool whole
+        ((rs : List Record) × IsBody version first count rs body.now × AddsRecords S.has_taken sink.old sink.new rs)
+        ((rs : List Record) → IsBody version first count rs body.now → ⊥)) }
+    ensures memory { OnErr result (ComesToTarget version first count body.now) }
 {
     let mut rest = body;
     for _ in 0..count {
-        let Some((record, behind)) = record_of(alloc, rest)? else {
+        let Some((record, behind)) = record_of(alloc, version, rest)? else {
             return Ok(false);
         };
         if !is_allowed(first, &record) {
@@ -96,14 +105,16 @@ fn read_body<S: RecordSink>(
 /// where no batch goes on so.
 pub(crate) fn read_batch<'a, S: RecordSink>(
     alloc: Global,
+    version: Version,
     first: bool,
     bytes: &'a [u8],
     sink: &mut S,
 ) -> Result<Option<&'a [u8]>, AllocError>
-    ensures found { IfOk result (λ o. IfSome o (λ rest. (rs : List Record) × FillBatch first rs
-        × (bytes.now ≡ framed rs ++ rest.now) × AddsRecords S.has_taken sink.old sink.new rs)) }
-    ensures none { IfOk result (λ o. IfNone o ((rs : List Record) (rest : List ℕ) → FillBatch first rs
-        → bytes.now ≢ framed rs ++ rest)) }
+    ensures found { IfOk result (λ o. IfSome o (λ rest. (rs : List Record) × FillBatch version first rs
+        × (bytes.now ≡ framed version rs ++ rest.now) × AddsRecords S.has_taken sink.old sink.new rs)) }
+    ensures none { IfOk result (λ o. IfNone o ((rs : List Record) (rest : List ℕ) → FillBatch version first rs
+        → bytes.now ≢ framed version rs ++ rest)) }
+    ensures memory { OnErr result ((frame : IsFramed bytes.now) × ComesToTarget version first frame.count frame.text) }
 {
     let Some((count, body, rest)) = frame_of(bytes) else {
         return Ok(None);
@@ -111,7 +122,7 @@ pub(crate) fn read_batch<'a, S: RecordSink>(
     if count == 0 {
         return Ok(None);
     }
-    if !read_body(alloc, first, count, body, sink)? {
+    if !read_body(alloc, version, first, count, body, sink)? {
         return Ok(None);
     }
     Ok(Some(rest))

@@ -2,13 +2,12 @@
 
 ghost use Rattle.std.specs.Prelude.{◌≡◌, ◌≢◌, ◌↔◌, ℕ, ◌<◌, ◌^◌, List, ◌++◌, length, IsTrue, IfSome, IfNone, IfOk, IfErr};
 ghost use Rattle.std.specs.Int.{w16, w32, w64, to_le_bytes};
-ghost use Rattle.st_file.specs.Layout.{magic, IsNamed, HasHeader};
+ghost use Rattle.st_file.specs.Layout.{magic, version_number, IsUnknownVersion, IsNamed, HasHeader};
 ghost use Rattle.st_file.specs.Side.{IsVoid, IsForeign, IsRefused};
 
 use crate::fault::OpenFault;
 use st_disk::Which;
-
-const VERSION: u16 = 1;
+use st_records::Version;
 
 const VERSION_PLACE: u64 = 9;
 
@@ -82,26 +81,38 @@ fn opened(bytes: &[u8]) -> Option<&[u8]>
     after_name(behind)
 }
 
-/// The generation of a side that isn't void, and the bytes behind its header.
-pub(crate) fn header_of(side: Which, bytes: &[u8]) -> Result<(u64, &[u8]), OpenFault>
+/// The version that has this number.
+fn version_of(number: u16) -> Option<Version>
+    ensures found { IfSome result (λ v. number ≡ version_number v) }
+    ensures none { IfNone result (IsUnknownVersion number) }
+{
+    match number {
+        1 => Some(Version::One),
+        2 => Some(Version::Two),
+        _ => None,
+    }
+}
+
+/// The version and the generation of a side that isn't void, and the bytes behind its header.
+pub(crate) fn header_of(side: Which, bytes: &[u8]) -> Result<(Version, u64, &[u8]), OpenFault>
     requires { IsVoid bytes.now → ⊥ }
-    ensures whole { IfOk result (λ h. HasHeader bytes.now h.0 h.1.now) }
+    ensures whole { IfOk result (λ h. HasHeader bytes.now h.0 h.1 h.2.now) }
     ensures refused { IfErr result (λ fault. IsRefused side bytes.now fault) }
 {
     let Some(rest) = opened(bytes) else {
         return Err(OpenFault::NotState(side));
     };
-    let Some((version, rest)) = u16_of(rest) else {
+    let Some((number, rest)) = u16_of(rest) else {
         return Err(OpenFault::Damaged(side, VERSION_PLACE));
     };
-    if version != VERSION {
-        return Err(OpenFault::UnknownVersion(side, version));
-    }
+    let Some(version) = version_of(number) else {
+        return Err(OpenFault::UnknownVersion(side, number));
+    };
     let Some((generation, rest)) = u64_of(rest) else {
         return Err(OpenFault::Damaged(side, GENERATION_PLACE));
     };
     if generation == 0 {
         return Err(OpenFault::Damaged(side, GENERATION_PLACE));
     }
-    Ok((generation, rest))
+    Ok((version, generation, rest))
 }

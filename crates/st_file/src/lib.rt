@@ -8,5 +8,5 @@ mod side;
 mod sink;
 
 pub use fault::OpenFault;
-pub use side::{Extent, Side, one_reading, read_side, side_of};
+pub use side::{Extent, Side, every_side_has_a_reading, one_reading, read_side, side_of};
 pub use sink::RecordSink;

@@ -1,11 +1,11 @@
 //! One side, read from its first byte to its closed gate.
 
-ghost use Rattle.std.specs.Prelude.{◌≡◌, ◌⊎◌, ℕ, List, [], IfSome, IfNone, IfOk, IfErr};
+ghost use Rattle.std.specs.Prelude.{◌≡◌, ◌⊎◌, ℕ, List, [], IfSome, IfNone, IfOk, IfErr, IsErrOf};
 ghost use Rattle.st_disk.specs.declared.which.Which.{Which};
 ghost use Rattle.st_file.specs.Layout.{HasHeader};
 ghost use Rattle.st_records.specs.declared.record.Record.{Record};
 ghost use Rattle.st_file.specs.declared.fault.OpenFault.TheVariants as faults;
-ghost use Rattle.st_file.specs.Side.{IsVoid, HoldsUpTo, IsRefused, Reading, Reads};
+ghost use Rattle.st_file.specs.Side.{IsVoid, HoldsUpTo, IsRefused, Reading, Reads, ComesToRecords};
 ghost use Rattle.st_file.specs.Answer.{reading_of};
 
 use crate::batch::read_batch;
@@ -13,7 +13,7 @@ use crate::fault::OpenFault;
 use crate::layout::{header_of, is_void};
 use crate::sink::RecordSink;
 use st_disk::Which;
-use st_records::Record;
+use st_records::{Record, Version};
 use std::alloc::Global;
 
 /// What a side holds.
@@ -21,18 +21,21 @@ use std::alloc::Global;
 pub enum Side {
     /// Nothing yet: the side wasn't created, or its creation was cut short.
     Void,
-    /// A generation and the records of its batches. The closed gate behind them, where the next batch will stand, is
-    /// at `end`.
+    /// A version, a generation and the records of its batches. The closed gate behind them, where the next batch will
+    /// stand, is at `end`. No batch is added to a side of version 1.
     Holding {
+        version: Version,
         generation: u64,
         records: Vec<Record>,
         end: u64,
     },
 }
 
-/// What a side that isn't void has beside its records: its generation, and where the closed gate behind them stands.
+/// What a side that isn't void has beside its records: its version, its generation, and where the closed gate behind
+/// them stands.
 #[derive(Clone, Copy, Debug, PartialEq, Eq)]
 pub struct Extent {
+    pub version: Version,
     pub generation: u64,
     pub end: u64,
 }
@@ -42,15 +45,17 @@ fn read_batches<S: RecordSink>(
     alloc: Global,
     side: Which,
     bytes: &[u8],
+    version: Version,
     generation: u64,
     batches: &[u8],
     sink: &mut S,
 ) -> Result<Extent, OpenFault>
-    requires header { HasHeader bytes.now generation batches.now }
+    requires header { HasHeader bytes.now version generation batches.now }
     requires fresh { S.has_taken sink.old [] }
-    ensures held { IfOk result (λ extent. (held : List Record) × HoldsUpTo bytes.now extent.generation held extent.end
+    ensures held { IfOk result (λ extent. (held : List Record) × HoldsUpTo bytes.now extent.version extent.generation held extent.end
         × S.has_taken sink.new held) }
     ensures refused { IfErr result (λ fault. (fault ≡ faults.OutOfMemory) ⊎ IsRefused side bytes.now fault) }
+    ensures memory { IsErrOf result faults.OutOfMemory → ComesToRecords bytes.now }
 {
     let mut rest = batches;
     let mut first = true;
@@ -58,12 +63,13 @@ fn read_batches<S: RecordSink>(
         let place = (bytes.len() - rest.len()) as u64;
         if rest[0] == 0 {
             return Ok(Extent {
+                version,
                 generation,
                 end: place,
             });
         }
         let (_gate, behind) = rest.split_at(1);
-        let Some(after) = read_batch(alloc, first, behind, sink)? else {
+        let Some(after) = read_batch(alloc, version, first, behind, sink)? else {
             return Err(OpenFault::Damaged(side, place));
         };
         rest = after;
@@ -83,14 +89,15 @@ pub fn read_side<S: RecordSink>(
     requires { S.has_taken sink.old [] }
     ensures void { IfOk result (λ found. IfNone found (IsVoid bytes.now × S.has_taken sink.new [])) }
     ensures held { IfOk result (λ found. IfSome found (λ extent. (held : List Record)
-        × HoldsUpTo bytes.now extent.generation held extent.end × S.has_taken sink.new held)) }
+        × HoldsUpTo bytes.now extent.version extent.generation held extent.end × S.has_taken sink.new held)) }
     ensures refused { IfErr result (λ fault. (fault ≡ faults.OutOfMemory) ⊎ IsRefused side bytes.now fault) }
+    ensures memory { IsErrOf result faults.OutOfMemory → ComesToRecords bytes.now }
 {
     if is_void(bytes) {
         return Ok(None);
     }
-    let (generation, batches) = header_of(side, bytes)?;
-    Ok(Some(read_batches(alloc, side, bytes, generation, batches, sink)?))
+    let (version, generation, batches) = header_of(side, bytes)?;
+    Ok(Some(read_batches(alloc, side, bytes, version, generation, batches, sink)?))
 }
 
 /// What the bytes of a side hold, or the first fault in them; want of memory is answered only where a growth was
@@ -101,24 +108,33 @@ pub fn side_of(alloc: Global, side: Which, bytes: &[u8]) -> Result<Side, OpenFau
     ensures found { IfSome (reading_of result) (Reads side bytes.now) }
     // What is so is answered, unless memory ran out.
     ensures only { (r : Reading) → Reads side bytes.now r → IfSome (reading_of result) (λ s. s ≡ r) }
+    // Memory is wanted for records alone: neither for a header nor for a batch's frame.
+    ensures memory { IsErrOf result faults.OutOfMemory → ComesToRecords bytes.now }
 {
     collected(alloc, side, bytes)
 }
 
 /// What a side holds, its records in one list.
 fn collected(alloc: Global, side: Which, bytes: &[u8]) -> Result<Side, OpenFault>
-    ensures { IfSome (reading_of result) (Reads side bytes.now) }
+    ensures found { IfSome (reading_of result) (Reads side bytes.now) }
+    ensures memory { IsErrOf result faults.OutOfMemory → ComesToRecords bytes.now }
 {
     let mut records = Vec::new(alloc);
     match read_side(alloc, side, bytes, &mut records)? {
         None => Ok(Side::Void),
         Some(extent) => Ok(Side::Holding {
+            version: extent.version,
             generation: extent.generation,
             records,
             end: extent.end,
         }),
     }
 }
+
+/// The bytes of a side are read in one way at least, so `side_of` is never without an answer.
+pub fn every_side_has_a_reading(side: Which, bytes: &[u8])
+    ensures { (r : Reading) × Reads side bytes.now r }
+{}
 
 /// The bytes of a side are read in one way at most.
 pub fn one_reading()

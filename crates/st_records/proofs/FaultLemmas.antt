@@ -1,19 +1,28 @@
 -- The fault that reading a record meets, and the one that its bytes have.
-use Rattle.std.proofs.Common.{take, drop, ◌≡◌, ℕ, zero, suc, ◌⊎◌, List, [], ◌∷◌, Option, Some, None, Result, Ok, Err, refl, sym, ap, ◌∙◌, inl, inr}
+use Rattle.std.proofs.Common.{take, drop, length, ◌≡◌, ◌-◌, ◌<◌, ◌≤◌, arith, ℕ, zero, suc, ◌⊎◌, List, [], ◌∷◌, Option, Some, None, Result, Ok, Err, IsOk, refl, sym, ap, ◌∙◌, inl, inr}
+use Rattle.std.specs.List.{All}
+use Rattle.std.proofs.lemmas.Bool.{cases_lt}
+use Rattle.std.proofs.lemmas.List.{get_or_past}
+use Rattle.st_records.specs.declared.version.Version.{Version}
 use Rattle.st_records.specs.declared.limits.RecordFault.{RecordFault}
 use Rattle.st_records.specs.declared.decoder.DecodeFault.{DecodeFault}
 use Rattle.st_records.specs.declared.decoder.DecodeFault.TheVariants.{OutOfMemory, Short, BadKind, Check}
+use Rattle.st_records.specs.declared.record.Phase.{Phase}
 use Rattle.st_records.specs.declared.record.Phase.TheVariants as phases
+use Rattle.st_records.specs.declared.record.Explicit.{Explicit}
+use Rattle.st_records.specs.declared.record.Entry.{Entry}
 use Rattle.st_records.specs.declared.record.Record.{Record}
 use Rattle.st_records.specs.declared.record.Record.TheVariants as records
 use Rattle.st_records.specs.Encoding.{string, phase_fields, FitsString, FitsPhase}
-use Rattle.st_records.specs.Limits.{fault_of, Encodes}
-use Rattle.st_records.specs.Reading.{Fails, then_at, made_at, string_at, strings_at, status_at, no_status_at, phase_at, entry_at, record_at, judged, good_at}
-use Rattle.st_records.specs.Faults.{After, InPair, EndsInNumber, EndsInString, EndsInPhase, EndsInLists, EndsInEntry, EndsInRecord, HasUnlistedStatus, HasNeedlessStatus, HasUnlistedPhase, HasUnlisted, HasFault}
+use Rattle.st_records.specs.Limits.{Encodes}
+use Rattle.st_records.specs.Tests.{fault_of}
+use Rattle.st_records.specs.Reading.{Reader, Fails, target_at, then_at, made_at, string_at, status_at, no_status_at, phase_at, done_explicit_at, kept_explicit_at, lists_at, entry_at, record_at, judged, good_at}
+use Rattle.st_records.specs.Faults.{After, InPair, EndsInNumber, EndsInString, EndsInPhase, EndsInDoneExplicit, EndsInKeptExplicit, EndsInLists, EndsInEntry, EndsInRecord, HasUnlistedStatus, HasNeedlessStatus, HasUnlistedPhase, HasUnlistedKnown, HasUnlistedEntry, HasUnlisted, HasFault, HasWholeTarget}
 use Rattle.st_records.proofs.Fields.{IsBytes, IsBytes-rest, string_reads}
-use Rattle.st_records.proofs.Decoding.{is_read}
+use Rattle.st_records.proofs.TestLemmas.{first_from, some_from}
+use Rattle.st_records.proofs.Decoding.{is_read, read_is}
 use Rattle.st_records.proofs.Records.{phase_reads, record_reads}
-use Rattle.st_records.proofs.Stops.{Stops, Never, Two, bind_err, bind_at_ok, bind_at_err, ok_is_not_err, joined_stops, made_stops, restated, first_alone, second_alone, never_two, status_stops, no_status_stops, string_stops, lists_stops}
+use Rattle.st_records.proofs.Stops.{Stops, Never, Either, bind_err, bind_at_ok, bind_at_err, ok_is_not_err, joined_stops, made_stops, restated, second_alone, AfterLists, status_stops, no_status_stops, string_stops, lists_stops, done_explicit_stops, kept_explicit_stops}
 
 -- ---- phases and entries
 
@@ -74,28 +83,45 @@ phase_unlisted_again (suc (suc (suc (suc b))) ∷ rest) h = refl
 phase_stops : Stops EndsInPhase HasUnlistedPhase phase_at
 phase_stops = record { short = phase_short; unlisted = phase_unlisted; only = phase_only; short_again = phase_short_again; unlisted_again = phase_unlisted_again }
 
-parts_stops : Stops EndsInEntry HasUnlistedPhase (then_at phase_at (then_at strings_at strings_at))
-parts_stops =
-    restated (then_at phase_at (then_at strings_at strings_at)) EndsInEntry (Two HasUnlistedPhase phase_fields FitsPhase Never) HasUnlistedPhase (first_alone HasUnlistedPhase phase_fields FitsPhase) (λ bytes h. inl h)
-    (joined_stops (λ x y. (x, y)) phase_fields FitsPhase phase_at (then_at strings_at strings_at) EndsInPhase HasUnlistedPhase EndsInLists Never phase_reads phase_stops lists_stops)
+abbrev entry_lists_at : Version → Reader (List (List ℕ) × (List (List ℕ) × Explicit))
+entry_lists_at version = lists_at (kept_explicit_at version)
 
-entry_stops : Stops EndsInEntry HasUnlistedPhase entry_at
+parts_stops : (version : Version) → Stops (EndsInEntry version) (HasUnlistedEntry version) (then_at phase_at (entry_lists_at version))
+parts_stops version =
+    joined_stops (λ x y. (x, y)) phase_fields FitsPhase phase_at (entry_lists_at version) EndsInPhase HasUnlistedPhase (EndsInLists (EndsInKeptExplicit version)) (AfterLists (HasUnlistedKnown version)) phase_reads phase_stops
+    (lists_stops (kept_explicit_at version) (EndsInKeptExplicit version) (HasUnlistedKnown version) (kept_explicit_stops version))
+
+abbrev entry_of : Phase × (List (List ℕ) × (List (List ℕ) × Explicit)) → Entry
+entry_of x = record { phase = x.0; commands = x.1.0; hidden = x.1.1.0; explicit = x.1.1.1 }
+
+entry_stops : (version : Version) → Stops (EndsInEntry version) (HasUnlistedEntry version) (entry_at version)
 unfolding entry_at
-entry_stops = made_stops (λ x. record { phase = x.0; commands = x.1.0; hidden = x.1.1 }) (then_at phase_at (then_at strings_at strings_at)) EndsInEntry HasUnlistedPhase parts_stops
+entry_stops version = made_stops entry_of (then_at phase_at (entry_lists_at version)) (EndsInEntry version) (HasUnlistedEntry version) (parts_stops version)
 
 -- ---- records
 
 begun_record_stops : Stops EndsInString Never (made_at records.Begun string_at)
 begun_record_stops = made_stops records.Begun string_at EndsInString Never string_stops
 
-abbrev EndsInDone : List ℕ → Type 0
-EndsInDone bytes = InPair EndsInString string FitsString EndsInLists bytes
+abbrev EndsInDone : Version → List ℕ → Type 0
+EndsInDone version bytes = InPair EndsInString string FitsString (EndsInLists (EndsInDoneExplicit version)) bytes
 
-done_record_stops : Stops EndsInDone Never (made_at (λ x. records.Done x.0 x.1.0 x.1.1) (then_at string_at (then_at strings_at strings_at)))
-done_record_stops =
-    made_stops (λ x. records.Done x.0 x.1.0 x.1.1) (then_at string_at (then_at strings_at strings_at)) EndsInDone Never
-    (restated (then_at string_at (then_at strings_at strings_at)) EndsInDone (Two Never string FitsString Never) Never (never_two string FitsString) (λ bytes h. absurd h)
-    (joined_stops (λ x y. (x, y)) string FitsString string_at (then_at strings_at strings_at) EndsInString Never EndsInLists Never string_reads string_stops lists_stops))
+abbrev done_at : Version → Reader (List ℕ × (List (List ℕ) × (List (List ℕ) × Explicit)))
+done_at version = then_at string_at (lists_at (done_explicit_at version))
+
+abbrev done_of : List ℕ × (List (List ℕ) × (List (List ℕ) × Explicit)) → Record
+done_of x = records.Done x.0 x.1.0 x.1.1.0 x.1.1.1
+
+none_of_lists : (bytes : List ℕ) → Either Never string FitsString (AfterLists Never) bytes → ⊥
+none_of_lists bytes (inl h) = h
+none_of_lists bytes (inr h) = h.holds.holds.holds
+
+done_record_stops : (version : Version) → Stops (EndsInDone version) Never (made_at done_of (done_at version))
+done_record_stops version =
+    made_stops done_of (done_at version) (EndsInDone version) Never
+    (restated (done_at version) (EndsInDone version) (Either Never string FitsString (AfterLists Never)) Never none_of_lists (λ bytes h. absurd h)
+    (joined_stops (λ x y. (x, y)) string FitsString string_at (lists_at (done_explicit_at version)) EndsInString Never (EndsInLists (EndsInDoneExplicit version)) (AfterLists Never) string_reads string_stops
+    (lists_stops (done_explicit_at version) (EndsInDoneExplicit version) Never (done_explicit_stops version))))
 
 abbrev EndsInFailed : List ℕ → Type 0
 EndsInFailed bytes = InPair EndsInString string FitsString EndsInNumber bytes
@@ -106,73 +132,73 @@ HasUnlistedFailed bytes = After string FitsString (λ _. HasUnlistedStatus) byte
 failed_record_stops : Stops EndsInFailed HasUnlistedFailed (made_at (λ x. records.Failed x.0 x.1) (then_at string_at status_at))
 failed_record_stops =
     made_stops (λ x. records.Failed x.0 x.1) (then_at string_at status_at) EndsInFailed HasUnlistedFailed
-    (restated (then_at string_at status_at) EndsInFailed (Two Never string FitsString HasUnlistedStatus) HasUnlistedFailed (second_alone string FitsString HasUnlistedStatus) (λ bytes h. inr h)
+    (restated (then_at string_at status_at) EndsInFailed (Either Never string FitsString HasUnlistedStatus) HasUnlistedFailed (second_alone string FitsString HasUnlistedStatus) (λ bytes h. inr h)
     (joined_stops (λ x y. (x, y)) string FitsString string_at status_at EndsInString Never EndsInNumber HasUnlistedStatus string_reads string_stops status_stops))
 
-abbrev EndsInKept : List ℕ → Type 0
-EndsInKept bytes = InPair EndsInString string FitsString EndsInEntry bytes
+abbrev EndsInKept : Version → List ℕ → Type 0
+EndsInKept version bytes = InPair EndsInString string FitsString (EndsInEntry version) bytes
 
-abbrev HasUnlistedKept : List ℕ → Type 0
-HasUnlistedKept bytes = After string FitsString (λ _. HasUnlistedPhase) bytes
+abbrev HasUnlistedKept : Version → List ℕ → Type 0
+HasUnlistedKept version bytes = After string FitsString (λ _. HasUnlistedEntry version) bytes
 
-kept_record_stops : Stops EndsInKept HasUnlistedKept (made_at (λ x. records.Kept x.0 x.1) (then_at string_at entry_at))
-kept_record_stops =
-    made_stops (λ x. records.Kept x.0 x.1) (then_at string_at entry_at) EndsInKept HasUnlistedKept
-    (restated (then_at string_at entry_at) EndsInKept (Two Never string FitsString HasUnlistedPhase) HasUnlistedKept (second_alone string FitsString HasUnlistedPhase) (λ bytes h. inr h)
-    (joined_stops (λ x y. (x, y)) string FitsString string_at entry_at EndsInString Never EndsInEntry HasUnlistedPhase string_reads string_stops entry_stops))
+abbrev kept_of : List ℕ × Entry → Record
+kept_of x = records.Kept x.0 x.1
 
-record_short : (bytes : List ℕ) → IsBytes bytes → record_at bytes ≡ Err Short → EndsInRecord bytes
+kept_record_stops : (version : Version) → Stops (EndsInKept version) (HasUnlistedKept version) (made_at kept_of (then_at string_at (entry_at version)))
+kept_record_stops version =
+    made_stops kept_of (then_at string_at (entry_at version)) (EndsInKept version) (HasUnlistedKept version)
+    (restated (then_at string_at (entry_at version)) (EndsInKept version) (Either Never string FitsString (HasUnlistedEntry version)) (HasUnlistedKept version) (second_alone string FitsString (HasUnlistedEntry version)) (λ bytes h. inr h)
+    (joined_stops (λ x y. (x, y)) string FitsString string_at (entry_at version) EndsInString Never (EndsInEntry version) (HasUnlistedEntry version) string_reads string_stops (entry_stops version)))
+
+record_short : (version : Version) (bytes : List ℕ) → IsBytes bytes → record_at version bytes ≡ Err Short → EndsInRecord version bytes
 unfolding record_at
-record_short [] fits e = tt
-record_short (zero ∷ rest) fits e = absurd cc
-record_short (suc zero ∷ rest) fits e = (begun_record_stops).short rest (IsBytes-rest 1 rest fits) e
-record_short (suc (suc zero) ∷ rest) fits e = (done_record_stops).short rest (IsBytes-rest 2 rest fits) e
-record_short (suc (suc (suc zero)) ∷ rest) fits e = (failed_record_stops).short rest (IsBytes-rest 3 rest fits) e
-record_short (suc (suc (suc (suc zero))) ∷ rest) fits e = (kept_record_stops).short rest (IsBytes-rest 4 rest fits) e
-record_short (suc (suc (suc (suc (suc b)))) ∷ rest) fits e = absurd cc
+record_short version [] fits e = tt
+record_short version (zero ∷ rest) fits e = absurd cc
+record_short version (suc zero ∷ rest) fits e = (begun_record_stops).short rest (IsBytes-rest 1 rest fits) e
+record_short version (suc (suc zero) ∷ rest) fits e = (done_record_stops version).short rest (IsBytes-rest 2 rest fits) e
+record_short version (suc (suc (suc zero)) ∷ rest) fits e = (failed_record_stops).short rest (IsBytes-rest 3 rest fits) e
+record_short version (suc (suc (suc (suc zero))) ∷ rest) fits e = (kept_record_stops version).short rest (IsBytes-rest 4 rest fits) e
+record_short version (suc (suc (suc (suc (suc b)))) ∷ rest) fits e = absurd cc
 
-record_unlisted : (bytes : List ℕ) → IsBytes bytes → record_at bytes ≡ Err BadKind → HasUnlisted bytes
+record_unlisted : (version : Version) (bytes : List ℕ) → IsBytes bytes → record_at version bytes ≡ Err BadKind → HasUnlisted version bytes
 unfolding record_at
-record_unlisted [] fits e = absurd cc
-record_unlisted (zero ∷ rest) fits e = tt
-record_unlisted (suc zero ∷ rest) fits e = (begun_record_stops).unlisted rest (IsBytes-rest 1 rest fits) e
-record_unlisted (suc (suc zero) ∷ rest) fits e = (done_record_stops).unlisted rest (IsBytes-rest 2 rest fits) e
-record_unlisted (suc (suc (suc zero)) ∷ rest) fits e = (failed_record_stops).unlisted rest (IsBytes-rest 3 rest fits) e
-record_unlisted (suc (suc (suc (suc zero))) ∷ rest) fits e = (kept_record_stops).unlisted rest (IsBytes-rest 4 rest fits) e
-record_unlisted (suc (suc (suc (suc (suc b)))) ∷ rest) fits e = tt
+record_unlisted version [] fits e = absurd cc
+record_unlisted version (zero ∷ rest) fits e = tt
+record_unlisted version (suc zero ∷ rest) fits e = (begun_record_stops).unlisted rest (IsBytes-rest 1 rest fits) e
+record_unlisted version (suc (suc zero) ∷ rest) fits e = (done_record_stops version).unlisted rest (IsBytes-rest 2 rest fits) e
+record_unlisted version (suc (suc (suc zero)) ∷ rest) fits e = (failed_record_stops).unlisted rest (IsBytes-rest 3 rest fits) e
+record_unlisted version (suc (suc (suc (suc zero))) ∷ rest) fits e = (kept_record_stops version).unlisted rest (IsBytes-rest 4 rest fits) e
+record_unlisted version (suc (suc (suc (suc (suc b)))) ∷ rest) fits e = tt
 
-record_only : (bytes : List ℕ) (d : DecodeFault) → record_at bytes ≡ Err d → (d ≡ Short) ⊎ (d ≡ BadKind)
+record_only : (version : Version) (bytes : List ℕ) (d : DecodeFault) → record_at version bytes ≡ Err d → (d ≡ Short) ⊎ (d ≡ BadKind)
 unfolding record_at
-record_only [] d e = inl cc
-record_only (zero ∷ rest) d e = inr cc
-record_only (suc zero ∷ rest) d e = (begun_record_stops).only rest d e
-record_only (suc (suc zero) ∷ rest) d e = (done_record_stops).only rest d e
-record_only (suc (suc (suc zero)) ∷ rest) d e = (failed_record_stops).only rest d e
-record_only (suc (suc (suc (suc zero))) ∷ rest) d e = (kept_record_stops).only rest d e
-record_only (suc (suc (suc (suc (suc b)))) ∷ rest) d e = inr cc
+record_only version [] d e = inl cc
+record_only version (zero ∷ rest) d e = inr cc
+record_only version (suc zero ∷ rest) d e = (begun_record_stops).only rest d e
+record_only version (suc (suc zero) ∷ rest) d e = (done_record_stops version).only rest d e
+record_only version (suc (suc (suc zero)) ∷ rest) d e = (failed_record_stops).only rest d e
+record_only version (suc (suc (suc (suc zero))) ∷ rest) d e = (kept_record_stops version).only rest d e
+record_only version (suc (suc (suc (suc (suc b)))) ∷ rest) d e = inr cc
 
-record_short_again : (bytes : List ℕ) → EndsInRecord bytes → record_at bytes ≡ Err Short
+record_short_again : (version : Version) (bytes : List ℕ) → EndsInRecord version bytes → record_at version bytes ≡ Err Short
 unfolding record_at
-record_short_again [] h = refl
-record_short_again (zero ∷ rest) h = absurd h
-record_short_again (suc zero ∷ rest) h = (begun_record_stops).short_again rest h
-record_short_again (suc (suc zero) ∷ rest) h = (done_record_stops).short_again rest h
-record_short_again (suc (suc (suc zero)) ∷ rest) h = (failed_record_stops).short_again rest h
-record_short_again (suc (suc (suc (suc zero))) ∷ rest) h = (kept_record_stops).short_again rest h
-record_short_again (suc (suc (suc (suc (suc b)))) ∷ rest) h = absurd h
+record_short_again version [] h = refl
+record_short_again version (zero ∷ rest) h = absurd h
+record_short_again version (suc zero ∷ rest) h = (begun_record_stops).short_again rest h
+record_short_again version (suc (suc zero) ∷ rest) h = (done_record_stops version).short_again rest h
+record_short_again version (suc (suc (suc zero)) ∷ rest) h = (failed_record_stops).short_again rest h
+record_short_again version (suc (suc (suc (suc zero))) ∷ rest) h = (kept_record_stops version).short_again rest h
+record_short_again version (suc (suc (suc (suc (suc b)))) ∷ rest) h = absurd h
 
-record_unlisted_again : (bytes : List ℕ) → HasUnlisted bytes → record_at bytes ≡ Err BadKind
+record_unlisted_again : (version : Version) (bytes : List ℕ) → HasUnlisted version bytes → record_at version bytes ≡ Err BadKind
 unfolding record_at
-record_unlisted_again [] h = absurd h
-record_unlisted_again (zero ∷ rest) h = refl
-record_unlisted_again (suc zero ∷ rest) h = (begun_record_stops).unlisted_again rest h
-record_unlisted_again (suc (suc zero) ∷ rest) h = (done_record_stops).unlisted_again rest h
-record_unlisted_again (suc (suc (suc zero)) ∷ rest) h = (failed_record_stops).unlisted_again rest h
-record_unlisted_again (suc (suc (suc (suc zero))) ∷ rest) h = (kept_record_stops).unlisted_again rest h
-record_unlisted_again (suc (suc (suc (suc (suc b)))) ∷ rest) h = refl
-
-record_stops : Stops EndsInRecord HasUnlisted record_at
-record_stops = record { short = record_short; unlisted = record_unlisted; only = record_only; short_again = record_short_again; unlisted_again = record_unlisted_again }
+record_unlisted_again version [] h = absurd h
+record_unlisted_again version (zero ∷ rest) h = refl
+record_unlisted_again version (suc zero ∷ rest) h = (begun_record_stops).unlisted_again rest h
+record_unlisted_again version (suc (suc zero) ∷ rest) h = (done_record_stops version).unlisted_again rest h
+record_unlisted_again version (suc (suc (suc zero)) ∷ rest) h = (failed_record_stops).unlisted_again rest h
+record_unlisted_again version (suc (suc (suc (suc zero))) ∷ rest) h = (kept_record_stops version).unlisted_again rest h
+record_unlisted_again version (suc (suc (suc (suc (suc b)))) ∷ rest) h = refl
 
 -- ---- good records
 
@@ -187,6 +213,16 @@ pair_failing d = Err d
 
 pair_failed : (d e : DecodeFault) → record_failed d ≡ record_failed e → pair_failing d ≡ pair_failing e
 pair_failed d e h = ap pair_failing (record_err d e (sym h))
+
+abbrev failing : {A : Type 0} → DecodeFault → Result A DecodeFault
+failing d = Err d
+
+same_err : {A : Type 0} (d e : DecodeFault) → failing {A = A} d ≡ failing {A = A} e → d ≡ e
+same_err d e h = cc
+
+-- a fault of one call is that of another
+pub err_again : {A B : Type 0} (d e : DecodeFault) → failing {A = A} d ≡ failing {A = A} e → failing {A = B} d ≡ failing {A = B} e
+err_again {A} {B} d e h = ap (failing {A = B}) (same_err d e h)
 
 memory_is_no_check : (g : RecordFault) → OutOfMemory ≡ Check g → ⊥
 memory_is_no_check g e = cc
@@ -207,65 +243,110 @@ check_is_not_bad g e = cc
 one_fault : (f g : RecordFault) → Check f ≡ Check g → f ≡ g
 one_fault f g e = cc
 
+abbrev check_of : Version → Record × List ℕ → Result (Record × List ℕ) DecodeFault
+check_of version x = judged (fault_of version x.0) x
+
 -- the fault that reading meets is in the bytes
-fault_is : (bytes : List ℕ) (d : DecodeFault) → IsBytes bytes → good_at bytes ≡ Err d → HasFault d bytes
+fault_is : (version : Version) (bytes : List ℕ) (d : DecodeFault) → IsBytes bytes → good_at version bytes ≡ Err d → HasFault version d bytes
 unfolding good_at
-fault_is bytes OutOfMemory fits e =
-    elim (bind_err (record_at bytes) (λ x. judged (fault_of x.0) x) OutOfMemory e) [
-      | inl p ↦ elim (record_only bytes OutOfMemory p) [ inl h ↦ absurd cc | inr h ↦ absurd cc ]
-      | inr p ↦ (let j = judged_err (fault_of p.0.0) p.0 OutOfMemory p.2 in absurd (memory_is_no_check j.0 j.2))
+fault_is version bytes OutOfMemory fits e =
+    elim (bind_err (record_at version bytes) (check_of version) OutOfMemory e) [
+      | inl p ↦ elim (record_only version bytes OutOfMemory p) [ inl h ↦ absurd cc | inr h ↦ absurd cc ]
+      | inr p ↦ (let j = judged_err (fault_of version p.0.0) p.0 OutOfMemory p.2 in absurd (memory_is_no_check j.0 j.2))
     ]
-fault_is bytes Short fits e =
-    elim (bind_err (record_at bytes) (λ x. judged (fault_of x.0) x) Short e) [
-      | inl p ↦ record_short bytes fits p
-      | inr p ↦ (let j = judged_err (fault_of p.0.0) p.0 Short p.2 in absurd (check_is_not_short j.0 j.2))
+fault_is version bytes Short fits e =
+    elim (bind_err (record_at version bytes) (check_of version) Short e) [
+      | inl p ↦ record_short version bytes fits p
+      | inr p ↦ (let j = judged_err (fault_of version p.0.0) p.0 Short p.2 in absurd (check_is_not_short j.0 j.2))
     ]
-fault_is bytes BadKind fits e =
-    elim (bind_err (record_at bytes) (λ x. judged (fault_of x.0) x) BadKind e) [
-      | inl p ↦ record_unlisted bytes fits p
-      | inr p ↦ (let j = judged_err (fault_of p.0.0) p.0 BadKind p.2 in absurd (check_is_not_bad j.0 j.2))
+fault_is version bytes BadKind fits e =
+    elim (bind_err (record_at version bytes) (check_of version) BadKind e) [
+      | inl p ↦ record_unlisted version bytes fits p
+      | inr p ↦ (let j = judged_err (fault_of version p.0.0) p.0 BadKind p.2 in absurd (check_is_not_bad j.0 j.2))
     ]
-fault_is bytes (Check g) fits e =
-    elim (bind_err (record_at bytes) (λ x. judged (fault_of x.0) x) (Check g) e) [
-      | inl p ↦ elim (record_only bytes (Check g) p) [ inl h ↦ absurd (check_is_not_short g (sym h)) | inr h ↦ absurd (check_is_not_bad g (sym h)) ]
+fault_is version bytes (Check g) fits e =
+    elim (bind_err (record_at version bytes) (check_of version) (Check g) e) [
+      | inl p ↦ elim (record_only version bytes (Check g) p) [ inl h ↦ absurd (check_is_not_short g (sym h)) | inr h ↦ absurd (check_is_not_bad g (sym h)) ]
       | inr p ↦
-          let j = judged_err (fault_of p.0.0) p.0 (Check g) p.2 in
-          let t = record_reads.takes bytes p.0 fits p.1 in
-          let same : fault_of p.0.0 ≡ Some g = j.1 ∙ ap (λ (h : RecordFault). Some h) (one_fault j.0 g (sym j.2)) in
-          record { value = p.0.0; rest = p.0.1; fits = t.1; bytes_are = t.0.parts; holds = same }
+          let j = judged_err (fault_of version p.0.0) p.0 (Check g) p.2 in
+          let t = (record_reads version).takes bytes p.0 fits p.1 in
+          let same : fault_of version p.0.0 ≡ Some g = j.1 ∙ ap (λ (h : RecordFault). Some h) (one_fault j.0 g (sym j.2)) in
+          record { value = p.0.0; rest = p.0.1; fits = t.1; bytes_are = t.0.parts; holds = first_from version p.0.0 g same }
     ]
 
 -- a fault that is in the bytes is met
-is_fault : (bytes : List ℕ) (d : DecodeFault) → HasFault d bytes → good_at bytes ≡ Err d
+is_fault : (version : Version) (bytes : List ℕ) (d : DecodeFault) → HasFault version d bytes → good_at version bytes ≡ Err d
 unfolding good_at
-is_fault bytes OutOfMemory h = absurd h
-is_fault bytes Short h = bind_at_err (record_at bytes) (λ x. judged (fault_of x.0) x) Short (record_short_again bytes h)
-is_fault bytes BadKind h = bind_at_err (record_at bytes) (λ x. judged (fault_of x.0) x) BadKind (record_unlisted_again bytes h)
-is_fault bytes (Check g) h =
-    bind_at_ok (record_at bytes) (λ x. judged (fault_of x.0) x) (h.value, h.rest) (ap record_at h.bytes_are ∙ record_reads.again h.value h.rest h.fits)
-    ∙ judged_again (fault_of h.value) (h.value, h.rest) g h.holds
+is_fault version bytes OutOfMemory h = absurd h
+is_fault version bytes Short h = bind_at_err (record_at version bytes) (check_of version) Short (record_short_again version bytes h)
+is_fault version bytes BadKind h = bind_at_err (record_at version bytes) (check_of version) BadKind (record_unlisted_again version bytes h)
+is_fault version bytes (Check g) h =
+    bind_at_ok (record_at version bytes) (check_of version) (h.value, h.rest) (ap (record_at version) h.bytes_are ∙ (record_reads version).again h.value h.rest h.fits)
+    ∙ judged_again (fault_of version h.value) (h.value, h.rest) g (some_from version h.value g h.holds)
 
 -- a call that failed as reading does, or for want of memory
-pub cause_is : (bytes : List ℕ) (d : DecodeFault) → IsBytes bytes → Fails d (good_at bytes) → (d ≡ OutOfMemory) ⊎ HasFault d bytes
-cause_is bytes OutOfMemory fits h = inl refl
-cause_is bytes Short fits h = inr (fault_is bytes Short fits h)
-cause_is bytes BadKind fits h = inr (fault_is bytes BadKind fits h)
-cause_is bytes (Check g) fits h = inr (fault_is bytes (Check g) fits h)
+pub cause_is : (version : Version) (bytes : List ℕ) (d : DecodeFault) → IsBytes bytes → Fails d (good_at version bytes) → (d ≡ OutOfMemory) ⊎ HasFault version d bytes
+cause_is version bytes OutOfMemory fits h = inl refl
+cause_is version bytes Short fits h = inr (fault_is version bytes Short fits h)
+cause_is version bytes BadKind fits h = inr (fault_is version bytes BadKind fits h)
+cause_is version bytes (Check g) fits h = inr (fault_is version bytes (Check g) fits h)
 
 -- where the bytes have a fault, the call fails so, or for want of memory
-pub fails_so : (bytes : List ℕ) (d e : DecodeFault) → HasFault d bytes → Fails e (good_at bytes) → Fails {Y = Record × ℕ} e (Err d)
-fails_so bytes d OutOfMemory h failing = tt
-fails_so bytes d Short h failing = pair_failed d Short (sym (is_fault bytes d h) ∙ failing)
-fails_so bytes d BadKind h failing = pair_failed d BadKind (sym (is_fault bytes d h) ∙ failing)
-fails_so bytes d (Check g) h failing = pair_failed d (Check g) (sym (is_fault bytes d h) ∙ failing)
+pub fails_so : (version : Version) (bytes : List ℕ) (d e : DecodeFault) → HasFault version d bytes → Fails e (good_at version bytes) → Fails {Y = Record × ℕ} e (Err d)
+fails_so version bytes d OutOfMemory h failing = tt
+fails_so version bytes d Short h failing = pair_failed d Short (sym (is_fault version bytes d h) ∙ failing)
+fails_so version bytes d BadKind h failing = pair_failed d BadKind (sym (is_fault version bytes d h) ∙ failing)
+fails_so version bytes d (Check g) h failing = pair_failed d (Check g) (sym (is_fault version bytes d h) ∙ failing)
 
-pub never_reads : (bytes : List ℕ) (d : DecodeFault) (x : Record × List ℕ) → HasFault d bytes → good_at bytes ≡ Ok x → ⊥
-never_reads bytes d x h e = ok_is_not_err (good_at bytes) x d e (is_fault bytes d h)
+pub never_reads : (version : Version) (bytes : List ℕ) (d : DecodeFault) (x : Record × List ℕ) → HasFault version d bytes → good_at version bytes ≡ Ok x → ⊥
+never_reads version bytes d x h e = ok_is_not_err (good_at version bytes) x d e (is_fault version bytes d h)
 
 -- bytes have one fault at most
-pub one_fault_lem : (bytes : List ℕ) (f g : DecodeFault) → HasFault f bytes → HasFault g bytes → f ≡ g
-one_fault_lem bytes f g h k = record_err f g (sym (is_fault bytes g k) ∙ is_fault bytes f h)
+pub one_fault_lem : (version : Version) (bytes : List ℕ) (f g : DecodeFault) → HasFault version f bytes → HasFault version g bytes → f ≡ g
+one_fault_lem version bytes f g h k = record_err f g (sym (is_fault version bytes g k) ∙ is_fault version bytes f h)
 
 -- and none where a good record stands at their front
-pub no_fault_lem : (bytes : List ℕ) (f : DecodeFault) (r : Record) (n : ℕ) → HasFault f bytes → Encodes r (take n bytes) → ⊥
-no_fault_lem bytes f r n h stands = never_reads bytes f (r, drop n bytes) h (is_read bytes r n stands)
+pub no_fault_lem : (version : Version) (bytes : List ℕ) (f : DecodeFault) (r : Record) (n : ℕ) → HasFault version f bytes → Encodes version r (take n bytes) → ⊥
+no_fault_lem version bytes f r n h stands = never_reads version bytes f (r, drop n bytes) h (is_read version bytes r n stands)
+
+-- what some bytes answer
+abbrev pub Answer : Version → List ℕ → Type 0
+Answer version bytes = ((r : Record) × (n : ℕ) × (n ≤ length bytes) × Encodes version r (take n bytes)) ⊎ ((f : DecodeFault) × HasFault version f bytes)
+
+answer_from : (version : Version) (bytes : List ℕ) → IsBytes bytes → (read : Result (Record × List ℕ) DecodeFault) → good_at version bytes ≡ read → Answer version bytes
+answer_from version bytes fits (Ok x) e =
+    let is = read_is version bytes x.1 x.0 fits e in
+    inl (x.0, length bytes - length x.1, is.within, is.front)
+answer_from version bytes fits (Err f) e = inr (f, fault_is version bytes f fits e)
+
+all_bytes : (bytes : List ℕ) → All (λ byte. byte < 256) bytes → IsBytes bytes
+all_bytes bytes h i =
+    elim (cases_lt i (length bytes)) [
+      | inl lt ↦ h i 0 lt
+      | inr le ↦ rw (get_or_past bytes i 0 le) (omega arith)
+    ]
+
+pub answer_lem : (version : Version) (bytes : List ℕ) → All (λ byte. byte < 256) bytes → Answer version bytes
+answer_lem version bytes h = answer_from version bytes (all_bytes bytes h) (good_at version bytes) refl
+
+-- ---- where memory may run out
+
+ok_value : {A : Type 0} (r : Result A DecodeFault) → IsOk r → (x : A) × (r ≡ Ok x)
+ok_value (Ok x) ok = (x, refl)
+ok_value (Err f) ok = absurd cc
+
+string_whole : (bytes : List ℕ) → IsBytes bytes → IsOk (string_at bytes) → After string FitsString (λ _ _. Unit {0}) bytes
+string_whole bytes fits ok =
+    let p = ok_value (string_at bytes) ok in
+    let t = (string_reads).takes bytes p.0 fits p.1 in
+    record { value = p.0.0; rest = p.0.1; fits = t.1; bytes_are = t.0.parts; holds = tt }
+
+pub whole_target : (bytes : List ℕ) → IsBytes bytes → IsOk (target_at bytes) → HasWholeTarget bytes
+unfolding target_at
+whole_target [] fits ok = absurd cc
+whole_target (zero ∷ rest) fits ok = absurd cc
+whole_target (suc zero ∷ rest) fits ok = string_whole rest (IsBytes-rest 1 rest fits) ok
+whole_target (suc (suc zero) ∷ rest) fits ok = string_whole rest (IsBytes-rest 2 rest fits) ok
+whole_target (suc (suc (suc zero)) ∷ rest) fits ok = string_whole rest (IsBytes-rest 3 rest fits) ok
+whole_target (suc (suc (suc (suc zero))) ∷ rest) fits ok = string_whole rest (IsBytes-rest 4 rest fits) ok
+whole_target (suc (suc (suc (suc (suc b)))) ∷ rest) fits ok = absurd cc

@@ -1,4 +1,5 @@
 pub mod Lengths
+pub mod TestLemmas
 pub mod Good
 pub mod Items
 pub mod Fields
@@ -8,3 +9,6 @@ pub mod Unfinished
 pub mod Stops
 pub mod FaultLemmas
 pub mod StateLemmas
+pub mod KeepableLemmas
+pub mod RankLemmas
+pub mod Listed

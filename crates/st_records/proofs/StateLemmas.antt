@@ -1,5 +1,5 @@
 -- A list of entries under names, each name once and in any order, seen as a finite map from byte strings.
-use Rattle.std.proofs.Common.{◌≡◌, ◌∙◌, ℕ, ◌+◌, ◌<◌, List, [], ◌∷◌, Bool, true, false, cond, ◌&&◌, sym, ap, subst, refl, Option, None, Some, T, length, get_or, arith, slice_get, inl, inr}
+use Rattle.std.proofs.Common.{Result, Ok, Err, IsOk, OnOk, OnErr, ◌≡◌, ◌∙◌, ℕ, ◌+◌, ◌<◌, List, [], ◌∷◌, Bool, true, false, cond, ◌&&◌, sym, ap, subst, refl, Option, None, Some, T, length, get_or, arith, slice_get, inl, inr}
 use Rattle.std.proofs.Common.{map as list_map}
 use Rattle.std.specs.declared.cmp.Ordering.{Ordering}
 use Rattle.std.specs.declared.cmp.Ordering.TheVariants.{Less, Equal, Greater}
@@ -72,6 +72,14 @@ both false b h _ = absurd h
 pub some_of : {A : Type 0} (o : Option A) (x : A) → Some x ≡ o → IsSome o
 some_of o x e = subst IsSome e refl
 
+pub ok_gives : {A E P : Type 0} (r : Result A E) → IsOk r → OnOk r P → P
+ok_gives (Ok a) _ p = p
+ok_gives (Err e) is p = cc
+
+pub on_err : {A E P : Type 0} (r : Result A E) → P → OnErr r P
+on_err (Ok a) p = tt
+on_err (Err e) p = p
+
 -- entries that answer as one more insertion would are that map
 inserted_from_find : (es fs : List (List ℕ × Entry)) (name : List ℕ) (entry : Entry)
     → ((q : List ℕ) → find by_bytes q fs ≡ cond (eq_by_cmp by_bytes q name) (Some entry) (find by_bytes q es))
@@ -92,6 +100,9 @@ module _ {K : Type 0} (f : K → List ℕ) where
 
   pub get-by_name : (q : List ℕ) (es : List (K × Entry)) → map.get (by_name f es) q ≡ lookup (λ k. bytes_eq q (f k)) es
   get-by_name q es = get-from_entries nat_list_cmp_total (map_keys f es) q ∙ find-map_keys q es
+
+  pub absent-by_name : (q : List ℕ) (es : List (K × Entry)) → None ≡ lookup (λ k. bytes_eq q (f k)) es → map.get (by_name f es) q ≡ None
+  absent-by_name q es missing = get-by_name q es ∙ sym missing
 
   pub known_hidden-some : (q : List ℕ) (es : List (K × Entry)) (entry : Entry) → Some entry ≡ lookup (λ k. bytes_eq q (f k)) es → known_hidden (by_name f es) q ≡ entry.hidden
   known_hidden-some q es entry found = ap hidden_in (get-by_name q es ∙ sym found)

@@ -1,12 +1,16 @@
 -- Where a reader meets a fault, and which.
 use Rattle.std.proofs.Common.{◌≡◌, ℕ, zero, suc, ◌<◌, ◌⊎◌, Bool, true, false, cond, ltb, eqb, List, [], ◌∷◌, length, Result, Ok, Err, refl, sym, ap, ◌∙◌, inl, inr, arith}
 use Rattle.std.proofs.lemmas.Bool.{ltb-false, le-ltb, eqb-false, ne_eqb}
+use Rattle.st_records.specs.declared.version.Version.{Version}
+use Rattle.st_records.specs.declared.version.Version.TheVariants.{One, Two}
+use Rattle.st_records.specs.declared.record.Explicit.{Explicit}
+use Rattle.st_records.specs.declared.record.Explicit.TheVariants.{Unknown, Known}
 use Rattle.st_records.specs.declared.decoder.DecodeFault.{DecodeFault}
 use Rattle.st_records.specs.declared.decoder.DecodeFault.TheVariants.{Short, BadKind}
 use Rattle.st_records.specs.Encoding.{string, strings, FitsString, FitsStrings}
-use Rattle.st_records.specs.Reading.{◌>>=◌, Reader, then_at, made_at, tested_at, number_at, bytes_at, string_at, items_at, strings_at, status_at, no_status_at}
-use Rattle.st_records.specs.Faults.{After, AfterNumber, EndsInNumber, EndsInString, EndsInItems, EndsInStrings, EndsInLists, HasUnlistedStatus, HasNeedlessStatus}
-use Rattle.st_records.proofs.Fields.{IsBytes, Reads, number_reads, string_reads, strings_reads}
+use Rattle.st_records.specs.Reading.{◌>>=◌, Reader, then_at, made_at, tested_at, number_at, bytes_at, string_at, items_at, strings_at, status_at, no_status_at, done_explicit_at, kept_explicit_at, lists_at}
+use Rattle.st_records.specs.Faults.{After, AfterNumber, EndsInNumber, EndsInString, EndsInItems, EndsInStrings, EndsInDoneExplicit, EndsInKeptExplicit, EndsInLists, HasUnlistedStatus, HasNeedlessStatus, HasUnlistedKnown}
+use Rattle.st_records.proofs.Fields.{IsBytes, IsBytes-rest, Reads, number_reads, string_reads, strings_reads}
 use Rattle.st_records.proofs.Unfinished.{number_cases, bytes_cases}
 
 -- a reader that meets no other faults than these two, each just where this holds of the bytes
@@ -43,12 +47,12 @@ joined_at f a b bytes = a bytes >>= λ x. (b x.1 >>= λ y. Ok (f x.0 y.0, y.1))
 abbrev second_of : {A B C : Type 0} → (A → B → C) → Reader B → A × List ℕ → Result (C × List ℕ) DecodeFault
 second_of f b x = b x.1 >>= λ y. Ok (f x.0 y.0, y.1)
 
-abbrev pub Two : {A : Type 0} → (List ℕ → Type 0) → (A → List ℕ) → (A → Type 0) → (List ℕ → Type 0) → List ℕ → Type 0
-Two P s F Q bytes = P bytes ⊎ After s F (λ _. Q) bytes
+abbrev pub Either : {A : Type 0} → (List ℕ → Type 0) → (A → List ℕ) → (A → Type 0) → (List ℕ → Type 0) → List ℕ → Type 0
+Either P s F Q bytes = P bytes ⊎ After s F (λ _. Q) bytes
 
 joined_forward : {A B C : Type 0} (f : A → B → C) (s : A → List ℕ) (F : A → Type 0) (a : Reader A) (b : Reader B) (P Q : List ℕ → Type 0) (d : DecodeFault) → Reads s F a
     → ((bytes : List ℕ) → IsBytes bytes → a bytes ≡ Err d → P bytes) → ((bytes : List ℕ) → IsBytes bytes → b bytes ≡ Err d → Q bytes)
-    → (bytes : List ℕ) → IsBytes bytes → joined_at f a b bytes ≡ Err d → Two P s F Q bytes
+    → (bytes : List ℕ) → IsBytes bytes → joined_at f a b bytes ≡ Err d → Either P s F Q bytes
 joined_forward {A} {B} {C} f s F a b P Q d ra first second bytes fits e =
     elim (bind_err (a bytes) (second_of f b) d e) [
       | inl p ↦ inl (first bytes fits p)
@@ -62,7 +66,7 @@ joined_forward {A} {B} {C} f s F a b P Q d ra first second bytes fits e =
 
 joined_back : {A B C : Type 0} (f : A → B → C) (s : A → List ℕ) (F : A → Type 0) (a : Reader A) (b : Reader B) (P Q : List ℕ → Type 0) (d : DecodeFault) → Reads s F a
     → ((bytes : List ℕ) → P bytes → a bytes ≡ Err d) → ((bytes : List ℕ) → Q bytes → b bytes ≡ Err d)
-    → (bytes : List ℕ) → Two P s F Q bytes → joined_at f a b bytes ≡ Err d
+    → (bytes : List ℕ) → Either P s F Q bytes → joined_at f a b bytes ≡ Err d
 joined_back f s F a b P Q d ra first second bytes (inl p) = bind_at_err (a bytes) (second_of f b) d (first bytes p)
 joined_back f s F a b P Q d ra first second bytes (inr p) =
     bind_at_ok (a bytes) (second_of f b) (p.value, p.rest) (ap a p.bytes_are ∙ ra.again p.value p.rest p.fits)
@@ -79,7 +83,7 @@ joined_only f a b first second bytes d e =
       ]
     ]
 
-pub joined_stops : {A B C : Type 0} (f : A → B → C) (s : A → List ℕ) (F : A → Type 0) (a : Reader A) (b : Reader B) (E U G V : List ℕ → Type 0) → Reads s F a → Stops E U a → Stops G V b → Stops (Two E s F G) (Two U s F V) (joined_at f a b)
+pub joined_stops : {A B C : Type 0} (f : A → B → C) (s : A → List ℕ) (F : A → Type 0) (a : Reader A) (b : Reader B) (E U G V : List ℕ → Type 0) → Reads s F a → Stops E U a → Stops G V b → Stops (Either E s F G) (Either U s F V) (joined_at f a b)
 joined_stops f s F a b E U G V ra sa sb = record {
   short = joined_forward f s F a b E G Short ra sa.short sb.short;
   unlisted = joined_forward f s F a b U V BadKind ra sa.unlisted sb.unlisted;
@@ -115,12 +119,12 @@ restated read E U V to from s = record {
 }
 
 -- where only the first of two fields has unlisted values
-pub first_alone : {A : Type 0} (U : List ℕ → Type 0) (s : A → List ℕ) (F : A → Type 0) (bytes : List ℕ) → Two U s F Never bytes → U bytes
+pub first_alone : {A : Type 0} (U : List ℕ → Type 0) (s : A → List ℕ) (F : A → Type 0) (bytes : List ℕ) → Either U s F Never bytes → U bytes
 first_alone U s F bytes (inl h) = h
 first_alone U s F bytes (inr h) = absurd h.holds
 
 -- where only the second has
-pub second_alone : {A : Type 0} (s : A → List ℕ) (F : A → Type 0) (V : List ℕ → Type 0) (bytes : List ℕ) → Two Never s F V bytes → After s F (λ _. V) bytes
+pub second_alone : {A : Type 0} (s : A → List ℕ) (F : A → Type 0) (V : List ℕ → Type 0) (bytes : List ℕ) → Either Never s F V bytes → After s F (λ _. V) bytes
 second_alone s F V bytes (inl h) = absurd h
 second_alone s F V bytes (inr h) = h
 
@@ -258,7 +262,7 @@ string_stops = record {
 
 -- ---- lists of strings
 
-pub never_two : {A : Type 0} (s : A → List ℕ) (F : A → Type 0) (bytes : List ℕ) → Two Never s F Never bytes → ⊥
+pub never_two : {A : Type 0} (s : A → List ℕ) (F : A → Type 0) (bytes : List ℕ) → Either Never s F Never bytes → ⊥
 never_two s F bytes (inl h) = h
 never_two s F bytes (inr h) = h.holds
 
@@ -272,7 +276,7 @@ items_stops zero = record {
   unlisted_again = λ bytes h. absurd h;
 }
 items_stops (suc n) =
-    restated (items_at (suc n)) (EndsInItems (suc n)) (Two Never string FitsString Never) Never (never_two string FitsString) (λ bytes h. absurd h)
+    restated (items_at (suc n)) (EndsInItems (suc n)) (Either Never string FitsString Never) Never (never_two string FitsString) (λ bytes h. absurd h)
     (joined_stops (λ x xs. x ∷ xs) string FitsString string_at (items_at n) EndsInString Never (EndsInItems n) Never string_reads string_stops (items_stops n))
 
 strings_err : (bytes : List ℕ) (d : DecodeFault) → strings_at bytes ≡ Err d → (number_at bytes ≡ Err d) ⊎ ((x : ℕ × List ℕ) × (number_at bytes ≡ Ok x) × (items_at x.0 x.1 ≡ Err d))
@@ -308,7 +312,77 @@ strings_stops = record {
   unlisted_again = λ bytes h. absurd h;
 }
 
-pub lists_stops : Stops EndsInLists Never (then_at strings_at strings_at)
-lists_stops =
-    restated (then_at strings_at strings_at) EndsInLists (Two Never strings FitsStrings Never) Never (never_two strings FitsStrings) (λ bytes h. absurd h)
-    (joined_stops (λ x y. (x, y)) strings FitsStrings strings_at strings_at EndsInStrings Never EndsInStrings Never strings_reads strings_stops strings_stops)
+-- commands, hidden names, and a last field
+abbrev pub AfterLists : (List ℕ → Type 0) → List ℕ → Type 0
+AfterLists U bytes = After strings FitsStrings (λ _. After strings FitsStrings (λ _. U)) bytes
+
+after_strings_stops : {A : Type 0} (b : Reader A) (G V : List ℕ → Type 0) → Stops G V b → Stops (Either EndsInStrings strings FitsStrings G) (After strings FitsStrings (λ _. V)) (then_at strings_at b)
+after_strings_stops b G V sb =
+    restated (then_at strings_at b) (Either EndsInStrings strings FitsStrings G) (Either Never strings FitsStrings V) (After strings FitsStrings (λ _. V)) (second_alone strings FitsStrings V) (λ bytes h. inr h)
+    (joined_stops (λ x y. (x, y)) strings FitsStrings strings_at b EndsInStrings Never G V strings_reads strings_stops sb)
+
+pub lists_stops : (last : Reader Explicit) (Last U : List ℕ → Type 0) → Stops Last U last → Stops (EndsInLists Last) (AfterLists U) (lists_at last)
+lists_stops last Last U s =
+    after_strings_stops (then_at strings_at last) (Either EndsInStrings strings FitsStrings Last) (After strings FitsStrings (λ _. U)) (after_strings_stops last Last U s)
+
+-- ---- explicit names
+
+none_stops : Stops {A = Explicit} Never Never (λ bytes. Ok (Unknown, bytes))
+none_stops = record {
+  short = λ bytes fits e. ok_is_not_err (Ok (Unknown, bytes)) (Unknown, bytes) Short refl e;
+  unlisted = λ bytes fits e. ok_is_not_err (Ok (Unknown, bytes)) (Unknown, bytes) BadKind refl e;
+  only = λ bytes d e. absurd (ok_is_not_err (Ok (Unknown, bytes)) (Unknown, bytes) d refl e);
+  short_again = λ bytes h. absurd h;
+  unlisted_again = λ bytes h. absurd h;
+}
+
+names_stops : Stops EndsInStrings Never (made_at Known strings_at)
+names_stops = made_stops Known strings_at EndsInStrings Never strings_stops
+
+pub done_explicit_stops : (version : Version) → Stops (EndsInDoneExplicit version) Never (done_explicit_at version)
+unfolding done_explicit_at
+done_explicit_stops One = none_stops
+done_explicit_stops Two = names_stops
+
+kept_short : (version : Version) (bytes : List ℕ) → IsBytes bytes → kept_explicit_at version bytes ≡ Err Short → EndsInKeptExplicit version bytes
+unfolding kept_explicit_at
+kept_short One bytes fits e = (none_stops).short bytes fits e
+kept_short Two [] fits e = tt
+kept_short Two (zero ∷ rest) fits e = absurd cc
+kept_short Two (suc zero ∷ rest) fits e = (names_stops).short rest (IsBytes-rest 1 rest fits) e
+kept_short Two (suc (suc b) ∷ rest) fits e = absurd cc
+
+kept_unlisted : (version : Version) (bytes : List ℕ) → IsBytes bytes → kept_explicit_at version bytes ≡ Err BadKind → HasUnlistedKnown version bytes
+unfolding kept_explicit_at
+kept_unlisted One bytes fits e = (none_stops).unlisted bytes fits e
+kept_unlisted Two [] fits e = absurd cc
+kept_unlisted Two (zero ∷ rest) fits e = absurd cc
+kept_unlisted Two (suc zero ∷ rest) fits e = (names_stops).unlisted rest (IsBytes-rest 1 rest fits) e
+kept_unlisted Two (suc (suc b) ∷ rest) fits e = tt
+
+kept_only : (version : Version) (bytes : List ℕ) (d : DecodeFault) → kept_explicit_at version bytes ≡ Err d → (d ≡ Short) ⊎ (d ≡ BadKind)
+unfolding kept_explicit_at
+kept_only One bytes d e = (none_stops).only bytes d e
+kept_only Two [] d e = inl cc
+kept_only Two (zero ∷ rest) d e = absurd cc
+kept_only Two (suc zero ∷ rest) d e = (names_stops).only rest d e
+kept_only Two (suc (suc b) ∷ rest) d e = inr cc
+
+kept_short_again : (version : Version) (bytes : List ℕ) → EndsInKeptExplicit version bytes → kept_explicit_at version bytes ≡ Err Short
+unfolding kept_explicit_at
+kept_short_again One bytes h = absurd h
+kept_short_again Two [] h = refl
+kept_short_again Two (zero ∷ rest) h = absurd h
+kept_short_again Two (suc zero ∷ rest) h = (names_stops).short_again rest h
+kept_short_again Two (suc (suc b) ∷ rest) h = absurd h
+
+kept_unlisted_again : (version : Version) (bytes : List ℕ) → HasUnlistedKnown version bytes → kept_explicit_at version bytes ≡ Err BadKind
+unfolding kept_explicit_at
+kept_unlisted_again One bytes h = absurd h
+kept_unlisted_again Two [] h = absurd h
+kept_unlisted_again Two (zero ∷ rest) h = absurd h
+kept_unlisted_again Two (suc zero ∷ rest) h = absurd h
+kept_unlisted_again Two (suc (suc b) ∷ rest) h = refl
+
+pub kept_explicit_stops : (version : Version) → Stops (EndsInKeptExplicit version) (HasUnlistedKnown version) (kept_explicit_at version)
+kept_explicit_stops version = record { short = kept_short version; unlisted = kept_unlisted version; only = kept_only version; short_again = kept_short_again version; unlisted_again = kept_unlisted_again version }

@@ -1,34 +1,48 @@
 -- The parts of a record, whatever its kind.
-use Rattle.std.specs.Prelude.{ℕ, List, [], ◌∷◌}
+use Rattle.std.specs.Prelude.{ℕ, List, [], ◌∷◌, ◌++◌}
 use Rattle.st_records.specs.declared.record.Phase.{Phase}
 use Rattle.st_records.specs.declared.record.Phase.TheVariants as phases
+use Rattle.st_records.specs.declared.record.Explicit.{Explicit}
+use Rattle.st_records.specs.declared.record.Explicit.TheVariants.{Unknown, Known}
 use Rattle.st_records.specs.declared.record.Record.{Record}
 use Rattle.st_records.specs.declared.record.Record.TheVariants as records
 
 -- the target of which a record speaks
 abbrev pub target_of : Record → List ℕ
 target_of (records.Begun target) = target
-target_of (records.Done target commands hidden) = target
+target_of (records.Done target commands hidden explicit) = target
 target_of (records.Failed target status) = target
 target_of (records.Kept target entry) = target
 
 -- the commands that a record holds
 abbrev pub commands_of : Record → List (List ℕ)
 commands_of (records.Begun target) = []
-commands_of (records.Done target commands hidden) = commands
+commands_of (records.Done target commands hidden explicit) = commands
 commands_of (records.Failed target status) = []
 commands_of (records.Kept target entry) = entry.commands
 
 -- the hidden names that a record holds
 abbrev pub hidden_of : Record → List (List ℕ)
 hidden_of (records.Begun target) = []
-hidden_of (records.Done target commands hidden) = hidden
+hidden_of (records.Done target commands hidden explicit) = hidden
 hidden_of (records.Failed target status) = []
 hidden_of (records.Kept target entry) = entry.hidden
 
--- the names in a record: its target, then its hidden names
+-- what a record says of the explicit prerequisites: nothing of those of a recipe that was not run to its end
+abbrev pub explicit_of : Record → Explicit
+explicit_of (records.Begun target) = Unknown
+explicit_of (records.Done target commands hidden explicit) = explicit
+explicit_of (records.Failed target status) = Unknown
+explicit_of (records.Kept target entry) = entry.explicit
+
+-- explicit names as a list, empty where they are unknown
+abbrev pub names_known : Explicit → List (List ℕ)
+names_known Unknown = []
+names_known (Known names) = names
+
+-- the names in a record: its target, its hidden names, and its explicit ones
 abbrev pub names_of : Record → List (List ℕ)
-names_of r = target_of r ∷ hidden_of r
+names_of r = target_of r ∷ (hidden_of r ++ names_known (explicit_of r))
 
 -- the status of a phase, 0 where nothing failed
 abbrev pub phase_status : Phase → ℕ
@@ -39,6 +53,6 @@ phase_status (phases.Failed status) = status
 -- the status that a record holds, 0 where nothing failed
 abbrev pub status_of : Record → ℕ
 status_of (records.Begun target) = 0
-status_of (records.Done target commands hidden) = 0
+status_of (records.Done target commands hidden explicit) = 0
 status_of (records.Failed target status) = status
 status_of (records.Kept target entry) = phase_status entry.phase

@@ -10,7 +10,11 @@ use Rattle.st_records.specs.declared.record.Phase.TheVariants as phases
 use Rattle.st_records.specs.declared.record.Entry.{Entry}
 use Rattle.st_records.specs.declared.record.Record.{Record}
 use Rattle.st_records.specs.declared.record.Record.TheVariants as records
-use Rattle.st_records.specs.Limits.{fault_of}
+use Rattle.st_records.specs.declared.version.Version.{Version}
+use Rattle.st_records.specs.declared.version.Version.TheVariants.{One, Two}
+use Rattle.st_records.specs.declared.record.Explicit.{Explicit}
+use Rattle.st_records.specs.declared.record.Explicit.TheVariants.{Unknown, Known}
+use Rattle.st_records.specs.Tests.{fault_of}
 
 infixl 10 ◌>>=◌
 abbrev pub ◌>>=◌ : {A B : Type 0} → Result A DecodeFault → (A → Result B DecodeFault) → Result B DecodeFault
@@ -87,19 +91,49 @@ phase_at (suc (suc zero) ∷ rest) = made_at (λ _. phases.Done) no_status_at re
 phase_at (suc (suc (suc zero)) ∷ rest) = made_at phases.Failed status_at rest
 phase_at (suc (suc (suc (suc b))) ∷ rest) = Err BadKind
 
+-- the explicit names of a done record
+unfoldable pub done_explicit_at : Version → Reader Explicit
+done_explicit_at One bytes = Ok (Unknown, bytes)
+done_explicit_at Two bytes = made_at Known strings_at bytes
+
+-- the explicit names of a kept record
+unfoldable pub kept_explicit_at : Version → Reader Explicit
+kept_explicit_at One bytes = Ok (Unknown, bytes)
+kept_explicit_at Two [] = Err Short
+kept_explicit_at Two (zero ∷ rest) = Ok (Unknown, rest)
+kept_explicit_at Two (suc zero ∷ rest) = made_at Known strings_at rest
+kept_explicit_at Two (suc (suc b) ∷ rest) = Err BadKind
+
+-- commands, hidden names, and what comes after them
+abbrev pub lists_at : Reader Explicit → Reader (List (List ℕ) × (List (List ℕ) × Explicit))
+lists_at last = then_at strings_at (then_at strings_at last)
+
 -- what the state knows of a target
-unfoldable pub entry_at : Reader Entry
-entry_at = made_at (λ x. record { phase = x.0; commands = x.1.0; hidden = x.1.1 }) (then_at phase_at (then_at strings_at strings_at))
+unfoldable pub entry_at : Version → Reader Entry
+entry_at version =
+    made_at (λ x. record { phase = x.0; commands = x.1.0; hidden = x.1.1.0; explicit = x.1.1.1 })
+    (then_at phase_at (lists_at (kept_explicit_at version)))
 
 -- a record, whether good or not
-unfoldable pub record_at : Reader Record
-record_at [] = Err Short
-record_at (zero ∷ rest) = Err BadKind
-record_at (suc zero ∷ rest) = made_at records.Begun string_at rest
-record_at (suc (suc zero) ∷ rest) = made_at (λ x. records.Done x.0 x.1.0 x.1.1) (then_at string_at (then_at strings_at strings_at)) rest
-record_at (suc (suc (suc zero)) ∷ rest) = made_at (λ x. records.Failed x.0 x.1) (then_at string_at status_at) rest
-record_at (suc (suc (suc (suc zero))) ∷ rest) = made_at (λ x. records.Kept x.0 x.1) (then_at string_at entry_at) rest
-record_at (suc (suc (suc (suc (suc b)))) ∷ rest) = Err BadKind
+unfoldable pub record_at : Version → Reader Record
+record_at version [] = Err Short
+record_at version (zero ∷ rest) = Err BadKind
+record_at version (suc zero ∷ rest) = made_at records.Begun string_at rest
+record_at version (suc (suc zero) ∷ rest) =
+    made_at (λ x. records.Done x.0 x.1.0 x.1.1.0 x.1.1.1) (then_at string_at (lists_at (done_explicit_at version))) rest
+record_at version (suc (suc (suc zero)) ∷ rest) = made_at (λ x. records.Failed x.0 x.1) (then_at string_at status_at) rest
+record_at version (suc (suc (suc (suc zero))) ∷ rest) = made_at (λ x. records.Kept x.0 x.1) (then_at string_at (entry_at version)) rest
+record_at version (suc (suc (suc (suc (suc b)))) ∷ rest) = Err BadKind
+
+-- the target of a record of a listed kind
+unfoldable pub target_at : Reader (List ℕ)
+target_at [] = Err Short
+target_at (zero ∷ rest) = Err BadKind
+target_at (suc zero ∷ rest) = string_at rest
+target_at (suc (suc zero) ∷ rest) = string_at rest
+target_at (suc (suc (suc zero)) ∷ rest) = string_at rest
+target_at (suc (suc (suc (suc zero))) ∷ rest) = string_at rest
+target_at (suc (suc (suc (suc (suc b)))) ∷ rest) = Err BadKind
 
 -- a value that has no fault
 abbrev pub judged : Option RecordFault → Record × List ℕ → Result (Record × List ℕ) DecodeFault
@@ -107,5 +141,5 @@ judged None x = Ok x
 judged (Some fault) x = Err (Check fault)
 
 -- a good record: the check comes last
-unfoldable pub good_at : Reader Record
-good_at bytes = record_at bytes >>= λ x. judged (fault_of x.0) x
+unfoldable pub good_at : Version → Reader Record
+good_at version bytes = record_at version bytes >>= λ x. judged (fault_of version x.0) x

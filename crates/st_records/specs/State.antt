@@ -7,6 +7,8 @@ use Rattle.std.specs.FinMap as map
 use Rattle.std.proofs.lemmas.Map.Lookups.{map_keys}
 use Rattle.st_records.specs.declared.record.Phase.{Phase}
 use Rattle.st_records.specs.declared.record.Phase.TheVariants as phases
+use Rattle.st_records.specs.declared.record.Explicit.{Explicit}
+use Rattle.st_records.specs.declared.record.Explicit.TheVariants.{Unknown, Known}
 use Rattle.st_records.specs.declared.record.Entry.{Entry}
 use Rattle.st_records.specs.declared.record.Record.{Record}
 use Rattle.st_records.specs.declared.record.Record.TheVariants as records
@@ -23,19 +25,27 @@ hidden_in (Some entry) = entry.hidden
 abbrev pub known_hidden : StateMap → List ℕ → List (List ℕ)
 known_hidden m name = hidden_in (map.get m name)
 
--- what is left of a target whose recipe is not done: no commands, and the hidden names as last known
+-- what is left of a target whose recipe is not done: no commands, the hidden names as last known, and no explicit
+-- names that count
 abbrev pub unfinished : Phase → List (List ℕ) → Entry
-unfinished phase hidden = record { phase = phase; commands = []; hidden = hidden }
+unfinished phase hidden = record { phase = phase; commands = []; hidden = hidden; explicit = Unknown }
 
 -- the state after one more record, which sets its target's entry and leaves every other name (make(1S), .KEEP_STATE:
--- what the state remembers; own: a begun takes a done away)
+-- what the state remembers; own: a begun takes a done away, and the explicit names with it)
 abbrev pub apply_record : StateMap → Record → StateMap
 apply_record m (records.Begun target) = map.insert m target (unfinished phases.Begun (known_hidden m target))
-apply_record m (records.Done target commands hidden) =
-    map.insert m target (record { phase = phases.Done; commands = commands; hidden = hidden })
+apply_record m (records.Done target commands hidden explicit) =
+    map.insert m target (record { phase = phases.Done; commands = commands; hidden = hidden; explicit = explicit })
 apply_record m (records.Failed target status) =
     map.insert m target (unfinished (phases.Failed status) (known_hidden m target))
 apply_record m (records.Kept target entry) = map.insert m target entry
+
+-- a record that says all of its target's entry, strings among it
+abbrev pub SetsEntry : Record → Type 0
+SetsEntry (records.Begun target) = ⊥
+SetsEntry (records.Done target commands hidden explicit) = Unit {0}
+SetsEntry (records.Failed target status) = ⊥
+SetsEntry (records.Kept target entry) = Unit {0}
 
 -- the state after these records, taken in from the first to the last (own)
 abbrev pub replay : StateMap → List Record → StateMap
@@ -62,13 +72,26 @@ numbered_phase-phase_number phases.Begun = refl
 numbered_phase-phase_number phases.Done = refl
 numbered_phase-phase_number (phases.Failed status) = refl
 
+-- explicit names as strings or none
+abbrev pub known_names : Explicit → Option (List (List ℕ))
+known_names Unknown = None
+known_names (Known names) = Some names
+
+abbrev pub named_explicit : Option (List (List ℕ)) → Explicit
+named_explicit None = Unknown
+named_explicit (Some names) = Known names
+
+pub named_explicit-known_names : (e : Explicit) → named_explicit (known_names e) ≡ e
+named_explicit-known_names Unknown = refl
+named_explicit-known_names (Known names) = refl
+
 abbrev pub entry_code : Coded Entry
 entry_code =
-    code_by (Option (Option ℕ) × (List (List ℕ) × List (List ℕ)))
-    (coded× (coded_option (coded_option coded_ℕ)) (coded× (coded_list (coded_list coded_ℕ)) (coded_list (coded_list coded_ℕ))))
-    (λ e. (phase_number e.phase, (e.commands, e.hidden)))
-    (λ p. record { phase = numbered_phase p.0; commands = (p.1).0; hidden = (p.1).1 })
-    (λ e i. record { phase = numbered_phase-phase_number e.phase i; commands = e.commands; hidden = e.hidden })
+    code_by (Option (Option ℕ) × (List (List ℕ) × (List (List ℕ) × Option (List (List ℕ)))))
+    (coded× (coded_option (coded_option coded_ℕ)) (coded× (coded_list (coded_list coded_ℕ)) (coded× (coded_list (coded_list coded_ℕ)) (coded_option (coded_list (coded_list coded_ℕ))))))
+    (λ e. (phase_number e.phase, (e.commands, (e.hidden, known_names e.explicit))))
+    (λ p. record { phase = numbered_phase p.0; commands = (p.1).0; hidden = ((p.1).1).0; explicit = named_explicit ((p.1).1).1 })
+    (λ e i. record { phase = numbered_phase-phase_number e.phase i; commands = e.commands; hidden = e.hidden; explicit = named_explicit-known_names e.explicit i })
 
 abbrev pub state_code : Coded StateMap
 state_code = map.code (coded_list coded_ℕ) entry_code

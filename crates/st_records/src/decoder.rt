@@ -1,16 +1,17 @@
 //! From bytes to the record at their front, field by field from the left.
 
-ghost use Rattle.std.specs.Prelude.{◌≡◌, ◌≤◌, ◌⊎◌, ℕ, length, take, IfOk, IfErr, Ok, Err};
+ghost use Rattle.std.specs.Prelude.{◌≡◌, ◌≤◌, ◌⊎◌, ℕ, length, take, IfOk, IfErr, IsOk, IsErrOf, Ok, Err};
 ghost use Rattle.st_records.specs.declared.decoder.DecodeFault.{DecodeFault};
 ghost use Rattle.st_records.specs.declared.decoder.DecodeFault.TheVariants as faults;
 ghost use Rattle.st_records.specs.declared.record.Record.{Record};
 ghost use Rattle.st_records.specs.Limits.{Encodes};
-ghost use Rattle.st_records.specs.Faults.{HasFault};
-ghost use Rattle.st_records.specs.Reading.{Gives, number_at, string_at, items_at, strings_at, no_status_at, status_at, phase_at, entry_at, record_at, good_at};
+ghost use Rattle.st_records.specs.Faults.{HasFault, HasWholeTarget};
+ghost use Rattle.st_records.specs.Reading.{Gives, target_at, number_at, string_at, items_at, strings_at, no_status_at, status_at, phase_at, done_explicit_at, kept_explicit_at, entry_at, record_at, good_at};
 
-use crate::byte_strings::{ByteStrings, Bytes};
 use crate::limits::RecordFault;
-use crate::record::{Entry, Phase, Record};
+use crate::record::{Entry, Explicit, Phase, Record};
+use crate::version::Version;
+use byte_strings::{ByteString, ByteStrings};
 use std::alloc::{AllocError, Global};
 use thiserror::Error;
 
@@ -22,7 +23,7 @@ pub enum DecodeFault {
     /// The bytes end before the fields do.
     #[error("the bytes end inside a record")]
     Short,
-    /// A kind, a phase or a status that is not listed.
+    /// A kind, a phase or a status that is not listed, or a byte other than 0 and 1 for whether explicit names are known.
     #[error("a byte that no record has there")]
     BadKind,
     /// The fields are whole, but such a record may not stand in a state file.
@@ -38,37 +39,41 @@ impl From<AllocError> for DecodeFault {
     }
 }
 
-/// The record at the front of the bytes, and how many bytes it has.
+/// The record at the front of the bytes of a file of this version, and how many bytes it has.
 ///
-/// Fields are read from the left, and the check comes last. A length or a count is compared with the bytes that are there
-/// before memory is taken for it.
-pub fn decode(alloc: Global, bytes: &[u8]) -> Result<(Record, usize), DecodeFault>
+/// Fields are read from the left, and the check by the version's limits comes last. A length or a count is compared with
+/// the bytes that are there before memory is taken for it.
+pub fn decode(alloc: Global, version: Version, bytes: &[u8]) -> Result<(Record, usize), DecodeFault>
     // What is read stands there.
-    ensures found { IfOk result (λ x. (x.1 ≤ length bytes.now) × Encodes x.0 (take x.1 bytes.now)) }
+    ensures found { IfOk result (λ x. (x.1 ≤ length bytes.now) × Encodes version x.0 (take x.1 bytes.now)) }
     // What stands there is read, unless memory runs out.
-    ensures only { (r : Record) (n : ℕ) → n ≤ length bytes.now → Encodes r (take n bytes.now) → Gives (λ x. x) result (Ok (r, n)) }
+    ensures only { (r : Record) (n : ℕ) → n ≤ length bytes.now → Encodes version r (take n bytes.now) → Gives (λ x. x) result (Ok (r, n)) }
     // Nothing is read only where memory runs out or the bytes have that fault, and a fault that they have is answered.
-    ensures cause { IfErr result (λ f. (f ≡ faults.OutOfMemory) ⊎ HasFault f bytes.now) }
-    ensures refused { (f : DecodeFault) → HasFault f bytes.now → Gives (λ x. x) result (Err f) }
+    ensures cause { IfErr result (λ f. (f ≡ faults.OutOfMemory) ⊎ HasFault version f bytes.now) }
+    ensures refused { (f : DecodeFault) → HasFault version f bytes.now → Gives (λ x. x) result (Err f) }
+    // Memory may run out only where the first text is whole.
+    ensures memory { IsErrOf result faults.OutOfMemory → HasWholeTarget bytes.now }
 {
-    let (record, rest) = good_of(alloc, bytes)?;
+    let (record, rest) = good_of(alloc, version, bytes)?;
     Ok((record, bytes.len() - rest.len()))
 }
 
 #[tactic(auto, unfolding(crate::specs::Reading::good_at))]
-fn good_of(alloc: Global, bytes: &[u8]) -> Result<(Record, &[u8]), DecodeFault>
-    ensures { Gives (λ x. (x.0, x.1.now)) result (good_at bytes.now) }
+fn good_of(alloc: Global, version: Version, bytes: &[u8]) -> Result<(Record, &[u8]), DecodeFault>
+    ensures gives { Gives (λ x. (x.0, x.1.now)) result (good_at version bytes.now) }
+    ensures memory { IsErrOf result faults.OutOfMemory → IsOk (target_at bytes.now) }
 {
-    let (record, rest) = record_of(alloc, bytes)?;
-    match record.check() {
-        Ok(()) => Ok((record, rest)),
-        Err(fault) => Err(DecodeFault::Check(fault)),
+    let (record, rest) = record_of(alloc, version, bytes)?;
+    match record.fault(version) {
+        None => Ok((record, rest)),
+        Some(fault) => Err(DecodeFault::Check(fault)),
     }
 }
 
-#[tactic(auto, unfolding(crate::specs::Reading::record_at))]
-fn record_of(alloc: Global, bytes: &[u8]) -> Result<(Record, &[u8]), DecodeFault>
-    ensures { Gives (λ x. (x.0, x.1.now)) result (record_at bytes.now) }
+#[tactic(auto, unfolding(crate::specs::Reading::record_at, crate::specs::Reading::target_at))]
+fn record_of(alloc: Global, version: Version, bytes: &[u8]) -> Result<(Record, &[u8]), DecodeFault>
+    ensures gives { Gives (λ x. (x.0, x.1.now)) result (record_at version bytes.now) }
+    ensures memory { IsErrOf result faults.OutOfMemory → IsOk (target_at bytes.now) }
 {
     match bytes {
         [] => Err(DecodeFault::Short),
@@ -80,10 +85,12 @@ fn record_of(alloc: Global, bytes: &[u8]) -> Result<(Record, &[u8]), DecodeFault
             let (target, rest) = string_of(alloc, rest)?;
             let (commands, rest) = strings_of(alloc, rest)?;
             let (hidden, rest) = strings_of(alloc, rest)?;
+            let (explicit, rest) = done_explicit_of(alloc, version, rest)?;
             let record = Record::Done {
                 target,
                 commands,
                 hidden,
+                explicit,
             };
             Ok((record, rest))
         }
@@ -94,7 +101,7 @@ fn record_of(alloc: Global, bytes: &[u8]) -> Result<(Record, &[u8]), DecodeFault
         }
         [4, rest @ ..] => {
             let (target, rest) = string_of(alloc, rest)?;
-            let (entry, rest) = entry_of(alloc, rest)?;
+            let (entry, rest) = entry_of(alloc, version, rest)?;
             Ok((Record::Kept { target, entry }, rest))
         }
         [_, ..] => Err(DecodeFault::BadKind),
@@ -102,18 +109,59 @@ fn record_of(alloc: Global, bytes: &[u8]) -> Result<(Record, &[u8]), DecodeFault
 }
 
 #[tactic(auto, unfolding(crate::specs::Reading::entry_at))]
-fn entry_of(alloc: Global, bytes: &[u8]) -> Result<(Entry, &[u8]), DecodeFault>
-    ensures { Gives (λ x. (x.0, x.1.now)) result (entry_at bytes.now) }
+fn entry_of(alloc: Global, version: Version, bytes: &[u8]) -> Result<(Entry, &[u8]), DecodeFault>
+    ensures { Gives (λ x. (x.0, x.1.now)) result (entry_at version bytes.now) }
 {
     let (phase, rest) = phase_of(bytes)?;
     let (commands, rest) = strings_of(alloc, rest)?;
     let (hidden, rest) = strings_of(alloc, rest)?;
+    let (explicit, rest) = kept_explicit_of(alloc, version, rest)?;
     let entry = Entry {
         phase,
         commands,
         hidden,
+        explicit,
     };
     Ok((entry, rest))
+}
+
+#[tactic(auto, unfolding(crate::specs::Reading::done_explicit_at))]
+fn done_explicit_of(
+    alloc: Global,
+    version: Version,
+    bytes: &[u8],
+) -> Result<(Explicit, &[u8]), DecodeFault>
+    ensures { Gives (λ x. (x.0, x.1.now)) result (done_explicit_at version bytes.now) }
+{
+    match version {
+        Version::One => Ok((Explicit::Unknown, bytes)),
+        Version::Two => {
+            let (names, rest) = strings_of(alloc, bytes)?;
+            Ok((Explicit::Known(names), rest))
+        }
+    }
+}
+
+#[tactic(auto, unfolding(crate::specs::Reading::kept_explicit_at))]
+fn kept_explicit_of(
+    alloc: Global,
+    version: Version,
+    bytes: &[u8],
+) -> Result<(Explicit, &[u8]), DecodeFault>
+    ensures { Gives (λ x. (x.0, x.1.now)) result (kept_explicit_at version bytes.now) }
+{
+    match version {
+        Version::One => Ok((Explicit::Unknown, bytes)),
+        Version::Two => match bytes {
+            [] => Err(DecodeFault::Short),
+            [0, rest @ ..] => Ok((Explicit::Unknown, rest)),
+            [1, rest @ ..] => {
+                let (names, rest) = strings_of(alloc, rest)?;
+                Ok((Explicit::Known(names), rest))
+            }
+            [_, ..] => Err(DecodeFault::BadKind),
+        },
+    }
 }
 
 #[tactic(auto, unfolding(crate::specs::Reading::phase_at))]
@@ -173,7 +221,7 @@ fn items_of(alloc: Global, count: u32, bytes: &[u8]) -> Result<(ByteStrings, &[u
     let mut items = ByteStrings::empty(alloc);
     let mut rest = bytes;
     for _ in 0..count {
-        let (item, after) = string_of(alloc, rest)?;
+        let (item, after) = text_of(rest)?;
         items.push(item)?;
         rest = after;
     }
@@ -181,20 +229,30 @@ fn items_of(alloc: Global, count: u32, bytes: &[u8]) -> Result<(ByteStrings, &[u
 }
 
 #[tactic(auto, unfolding(crate::specs::Reading::string_at))]
-fn string_of(alloc: Global, bytes: &[u8]) -> Result<(Bytes, &[u8]), DecodeFault>
-    ensures { Gives (λ x. (x.0, x.1.now)) result (string_at bytes.now) }
+fn string_of(alloc: Global, bytes: &[u8]) -> Result<(ByteString, &[u8]), DecodeFault>
+    ensures gives { Gives (λ x. (x.0, x.1.now)) result (string_at bytes.now) }
+    ensures memory { IsErrOf result faults.OutOfMemory → IsOk (string_at bytes.now) }
+{
+    let (text, rest) = text_of(bytes)?;
+    Ok((ByteString::from_slice(alloc, text)?, rest))
+}
+
+#[tactic(auto, unfolding(crate::specs::Reading::string_at))]
+fn text_of(bytes: &[u8]) -> Result<(&[u8], &[u8]), DecodeFault>
+    ensures gives { Gives (λ x. (x.0.now, x.1.now)) result (string_at bytes.now) }
+    ensures memory { IfErr result (λ f. f ≡ faults.Short) }
 {
     let (len, rest) = number_of(bytes)?;
     let len = len as usize;
     if rest.len() < len {
         return Err(DecodeFault::Short);
     }
-    let (text, rest) = rest.split_at(len);
-    Ok((Bytes::from_slice(alloc, text)?, rest))
+    Ok(rest.split_at(len))
 }
 
 fn number_of(bytes: &[u8]) -> Result<(u32, &[u8]), DecodeFault>
-    ensures { Gives (λ x. (x.0, x.1.now)) result (number_at bytes.now) }
+    ensures gives { Gives (λ x. (x.0, x.1.now)) result (number_at bytes.now) }
+    ensures memory { IfErr result (λ f. f ≡ faults.Short) }
 {
     if bytes.len() < 4 {
         return Err(DecodeFault::Short);

@@ -1,35 +1,37 @@
 //! From a record to its bytes.
 
 ghost use Rattle.std.specs.Prelude.{◌≡◌, ◌+◌, ◌<◌, ◌≤◌, ◌++◌, length, take, IfOk, OnOk, OnErr, vec_len, vec_capacity};
-ghost use Rattle.st_records.specs.Encoding.{number, string, strings, phase_fields, entry_fields, encoding, FitsString, FitsStrings, FitsPhase, FitsEntry, FitsRecord};
+ghost use Rattle.st_records.specs.declared.version.Version.TheVariants as versions;
+ghost use Rattle.st_records.specs.Parts.{names_known};
+ghost use Rattle.st_records.specs.Encoding.{number, string, strings, lists, phase_fields, kept_explicit, entry_fields, encoding, FitsString, FitsStrings, FitsEntry, FitsRecord};
 ghost use Rattle.st_records.specs.Limits.{IsGood};
 
-use crate::byte_strings::Bytes;
-use crate::record::{Entry, Phase, Record};
+use crate::record::{Entry, Explicit, Phase, Record};
+use byte_strings::Iter;
 use byteorder::{ByteOrder, LittleEndian};
 use std::alloc::{AllocError, Global};
 
 impl Record {
-    /// The bytes of a good record.
+    /// The bytes of a good record in a file of version 2.
     pub fn encode(&self, alloc: Global) -> Result<Vec<u8>, AllocError>
-        requires { IsGood self.now }
-        ensures { IfOk result (λ bytes. bytes.items ≡ encoding self.now) }
+        requires { IsGood versions.Two self.now }
+        ensures { IfOk result (λ bytes. bytes.items ≡ encoding versions.Two self.now) }
     {
         let mut out = Vec::new(alloc);
         self.append_to(&mut out)?;
         Ok(out)
     }
 
-    /// Adds the bytes of a good record at the end.
+    /// Adds the bytes of a good record in a file of version 2 at the end.
     ///
     /// With room for all of them it cannot fail, so a caller that must not fail later reserves first. After a failure a
     /// part of the record may stand behind the bytes that were there.
     pub fn append_to(&self, out: &mut Vec<u8>) -> Result<(), AllocError>
-        requires { IsGood self.now }
-        ensures ok { OnOk result (out.new.items ≡ out.old.items ++ encoding self.now) }
+        requires { IsGood versions.Two self.now }
+        ensures ok { OnOk result (out.new.items ≡ out.old.items ++ encoding versions.Two self.now) }
 
         // It fails only where room was missing, and what stood there stays.
-        ensures full { OnErr result (vec_capacity out.old < vec_len out.old + length (encoding self.now)) }
+        ensures full { OnErr result (vec_capacity out.old < vec_len out.old + length (encoding versions.Two self.now)) }
         ensures front { take (vec_len out.old) out.new.items ≡ out.old.items }
         ensures room { vec_capacity out.old ≤ vec_capacity out.new }
     {
@@ -38,53 +40,72 @@ impl Record {
 }
 
 fn put_record(out: &mut Vec<u8>, of: &Record) -> Result<(), AllocError>
-    requires { FitsRecord of.now }
-    ensures ok { OnOk result (out.new.items ≡ out.old.items ++ encoding of.now) }
-    ensures len { OnOk result (vec_len out.new ≡ vec_len out.old + length (encoding of.now)) }
+    requires { FitsRecord versions.Two of.now }
+    ensures ok { OnOk result (out.new.items ≡ out.old.items ++ encoding versions.Two of.now) }
+    ensures len { OnOk result (vec_len out.new ≡ vec_len out.old + length (encoding versions.Two of.now)) }
     ensures room { vec_capacity out.old ≤ vec_capacity out.new }
     ensures front { take (vec_len out.old) out.new.items ≡ out.old.items }
-    ensures full { OnErr result (vec_capacity out.old < vec_len out.old + length (encoding of.now)) }
+    ensures full { OnErr result (vec_capacity out.old < vec_len out.old + length (encoding versions.Two of.now)) }
 {
     match of {
         Record::Begun { target } => {
             out.push(1)?;
-            put_string(out, target)?;
+            put_string(out, target.as_slice())?;
         }
         Record::Done {
             target,
             commands,
             hidden,
+            explicit,
         } => {
             out.push(2)?;
-            put_string(out, target)?;
-            put_strings(out, commands.as_slice())?;
-            put_strings(out, hidden.as_slice())?;
+            put_string(out, target.as_slice())?;
+            put_lists(out, commands.iter(), hidden.iter(), explicit.names())?;
         }
         Record::Failed { target, status } => {
             out.push(3)?;
-            put_string(out, target)?;
+            put_string(out, target.as_slice())?;
             put_number(out, *status)?;
         }
         Record::Kept { target, entry } => {
             out.push(4)?;
-            put_string(out, target)?;
+            put_string(out, target.as_slice())?;
             put_entry(out, entry)?;
         }
     }
     Ok(())
 }
 
-fn put_entry(out: &mut Vec<u8>, of: &Entry) -> Result<(), AllocError>
-    requires { FitsEntry of.now }
-    ensures ok { OnOk result (out.new.items ≡ out.old.items ++ entry_fields of.now) }
-    ensures len { OnOk result (vec_len out.new ≡ vec_len out.old + length (entry_fields of.now)) }
+pub(crate) fn put_entry(out: &mut Vec<u8>, of: &Entry) -> Result<(), AllocError>
+    requires { FitsEntry versions.Two of.now }
+    ensures ok { OnOk result (out.new.items ≡ out.old.items ++ entry_fields versions.Two of.now) }
+    ensures len { OnOk result (vec_len out.new ≡ vec_len out.old + length (entry_fields versions.Two of.now)) }
     ensures room { vec_capacity out.old ≤ vec_capacity out.new }
     ensures front { take (vec_len out.old) out.new.items ≡ out.old.items }
-    ensures full { OnErr result (vec_capacity out.old < vec_len out.old + length (entry_fields of.now)) }
+    ensures full { OnErr result (vec_capacity out.old < vec_len out.old + length (entry_fields versions.Two of.now)) }
 {
     put_phase(out, of.phase)?;
-    put_strings(out, of.commands.as_slice())?;
-    put_strings(out, of.hidden.as_slice())
+    put_strings(out, of.commands.iter())?;
+    put_strings(out, of.hidden.iter())?;
+    put_kept_explicit(out, &of.explicit)
+}
+
+fn put_kept_explicit(out: &mut Vec<u8>, of: &Explicit) -> Result<(), AllocError>
+    requires { FitsStrings (names_known of.now) }
+    ensures ok { OnOk result (out.new.items ≡ out.old.items ++ kept_explicit versions.Two of.now) }
+    ensures len { OnOk result (vec_len out.new ≡ vec_len out.old + length (kept_explicit versions.Two of.now)) }
+    ensures room { vec_capacity out.old ≤ vec_capacity out.new }
+    ensures front { take (vec_len out.old) out.new.items ≡ out.old.items }
+    ensures full { OnErr result (vec_capacity out.old < vec_len out.old + length (kept_explicit versions.Two of.now)) }
+{
+    match of {
+        Explicit::Unknown => out.push(0)?,
+        Explicit::Known(names) => {
+            out.push(1)?;
+            put_strings(out, names.iter())?;
+        }
+    }
+    Ok(())
 }
 
 fn put_phase(out: &mut Vec<u8>, of: Phase) -> Result<(), AllocError>
@@ -103,13 +124,31 @@ fn put_phase(out: &mut Vec<u8>, of: Phase) -> Result<(), AllocError>
     put_number(out, status)
 }
 
-fn put_strings(out: &mut Vec<u8>, items: &[Bytes]) -> Result<(), AllocError>
-    requires { FitsStrings items.now }
-    ensures ok { OnOk result (out.new.items ≡ out.old.items ++ strings items.now) }
-    ensures len { OnOk result (vec_len out.new ≡ vec_len out.old + length (strings items.now)) }
+fn put_lists(
+    out: &mut Vec<u8>,
+    commands: Iter<'_>,
+    hidden: Iter<'_>,
+    explicit: Iter<'_>,
+) -> Result<(), AllocError>
+    requires { FitsStrings commands × (FitsStrings hidden × FitsStrings explicit) }
+    ensures ok { OnOk result (out.new.items ≡ out.old.items ++ lists commands.entry hidden.entry explicit.entry) }
+    ensures len { OnOk result (vec_len out.new ≡ vec_len out.old + length (lists commands.entry hidden.entry explicit.entry)) }
     ensures room { vec_capacity out.old ≤ vec_capacity out.new }
     ensures front { take (vec_len out.old) out.new.items ≡ out.old.items }
-    ensures full { OnErr result (vec_capacity out.old < vec_len out.old + length (strings items.now)) }
+    ensures full { OnErr result (vec_capacity out.old < vec_len out.old + length (lists commands.entry hidden.entry explicit.entry)) }
+{
+    put_strings(out, commands)?;
+    put_strings(out, hidden)?;
+    put_strings(out, explicit)
+}
+
+fn put_strings(out: &mut Vec<u8>, items: Iter<'_>) -> Result<(), AllocError>
+    requires { FitsStrings items }
+    ensures ok { OnOk result (out.new.items ≡ out.old.items ++ strings items.entry) }
+    ensures len { OnOk result (vec_len out.new ≡ vec_len out.old + length (strings items.entry)) }
+    ensures room { vec_capacity out.old ≤ vec_capacity out.new }
+    ensures front { take (vec_len out.old) out.new.items ≡ out.old.items }
+    ensures full { OnErr result (vec_capacity out.old < vec_len out.old + length (strings items.entry)) }
 {
     put_number(out, items.len() as u32)?;
     for item in items {
@@ -118,15 +157,14 @@ fn put_strings(out: &mut Vec<u8>, items: &[Bytes]) -> Result<(), AllocError>
     Ok(())
 }
 
-fn put_string(out: &mut Vec<u8>, item: &Bytes) -> Result<(), AllocError>
-    requires { FitsString item.now }
-    ensures ok { OnOk result (out.new.items ≡ out.old.items ++ string item.now) }
-    ensures len { OnOk result (vec_len out.new ≡ vec_len out.old + length (string item.now)) }
+pub(crate) fn put_string(out: &mut Vec<u8>, bytes: &[u8]) -> Result<(), AllocError>
+    requires { FitsString bytes.now }
+    ensures ok { OnOk result (out.new.items ≡ out.old.items ++ string bytes.now) }
+    ensures len { OnOk result (vec_len out.new ≡ vec_len out.old + length (string bytes.now)) }
     ensures room { vec_capacity out.old ≤ vec_capacity out.new }
     ensures front { take (vec_len out.old) out.new.items ≡ out.old.items }
-    ensures full { OnErr result (vec_capacity out.old < vec_len out.old + length (string item.now)) }
+    ensures full { OnErr result (vec_capacity out.old < vec_len out.old + length (string bytes.now)) }
 {
-    let bytes = item.as_slice();
     put_number(out, bytes.len() as u32)?;
     out.extend_from_slice(bytes)
 }

@@ -1,20 +1,48 @@
 //! What holds of records and their bytes, beside what a call answers. Nothing here runs: each body is empty.
 
-ghost use Rattle.std.specs.Prelude.{◌≡◌, List, ℕ, ◌++◌, take};
+ghost use Rattle.std.specs.Prelude.{◌≡◌, ◌<◌, ◌≤◌, ◌⊎◌, List, ℕ, ◌++◌, All, length, take};
+ghost use Rattle.std.specs.List.{AllByRecursion};
+ghost use Rattle.std.specs.FinMap as map;
+ghost use Rattle.st_records.specs.declared.version.Version.{Version};
+ghost use Rattle.st_records.specs.declared.version.Version.TheVariants as versions;
+ghost use Rattle.st_records.specs.declared.limits.TheConstants as limits;
 ghost use Rattle.st_records.specs.declared.decoder.DecodeFault.{DecodeFault};
 ghost use Rattle.st_records.specs.declared.record.Record.{Record};
 ghost use Rattle.st_records.specs.Encoding.{encoding};
 ghost use Rattle.st_records.specs.Faults.{HasFault};
-ghost use Rattle.st_records.specs.Limits.{IsGood, Encodes};
+ghost use Rattle.st_records.specs.Keepable.{AllCanBeKept};
+ghost use Rattle.st_records.specs.Limits.{max_name_bytes, max_record_bytes, IsGood, Encodes};
+ghost use Rattle.st_records.specs.State.{StateMap, apply_record, replay};
 
-/// No two good records have one encoding, and none begins another: whatever stands behind them, the front of some
-/// bytes is the encoding of one good record at most.
+/// Within a version no two good records have one encoding, and none begins another: whatever stands behind them, the
+/// front of some bytes is the encoding of one good record at most.
 pub fn one_encoding()
-    ensures { (r s : Record) (x y : List ℕ) → IsGood r → IsGood s → encoding r ++ x ≡ encoding s ++ y → (r ≡ s) × (x ≡ y) }
+    ensures { (version : Version) (r s : Record) (x y : List ℕ) → IsGood version r → IsGood version s → encoding version r ++ x ≡ encoding version s ++ y → (r ≡ s) × (x ≡ y) }
 {}
 
 /// Bytes have one fault at most, and none where a good record stands at their front.
 pub fn one_fault()
-    ensures one { (bytes : List ℕ) (f g : DecodeFault) → HasFault f bytes → HasFault g bytes → f ≡ g }
-    ensures none { (bytes : List ℕ) (f : DecodeFault) (r : Record) (n : ℕ) → HasFault f bytes → Encodes r (take n bytes) → ⊥ }
+    ensures one { (version : Version) (bytes : List ℕ) (f g : DecodeFault) → HasFault version f bytes → HasFault version g bytes → f ≡ g }
+    ensures none { (version : Version) (bytes : List ℕ) (f : DecodeFault) (r : Record) (n : ℕ) → HasFault version f bytes → Encodes version r (take n bytes) → ⊥ }
+{}
+
+/// Bytes have an answer: a good record stands at their front, or they have a fault.
+pub fn each_answered()
+    ensures { (version : Version) (bytes : List ℕ) → All (λ byte. byte < 256) bytes → ((r : Record) × (n : ℕ) × (n ≤ length bytes) × Encodes version r (take n bytes)) ⊎ ((f : DecodeFault) × HasFault version f bytes) }
+{}
+
+/// Whatever good records are taken in, of either version, each entry of the state can be written as a good kept record of
+/// version 2: the bytes that a kept record has more than the records that left its entry don't count.
+pub fn entries_can_be_kept()
+    ensures empty { AllCanBeKept map.empty }
+    ensures one { (version : Version) (m : StateMap) (r : Record) → AllCanBeKept m → IsGood version r → AllCanBeKept (apply_record m r) }
+    ensures all { (version : Version) (m : StateMap) (rs : List Record) → AllCanBeKept m → AllByRecursion (IsGood version) rs → AllCanBeKept (replay m rs) }
+{}
+
+/// The limits in numbers.
+pub fn limits_in_numbers()
+    ensures names { (max_name_bytes versions.One ≡ 4096) × (max_name_bytes versions.Two ≡ 65535) }
+    ensures records { (max_record_bytes versions.One ≡ 1048576) × (max_record_bytes versions.Two ≡ 16777216) }
+    ensures commands { (limits.MAX_COMMAND_BYTES ≡ 65535) × (limits.MAX_COMMANDS ≡ 1000) }
+    ensures lists { (limits.MAX_HIDDEN_NAMES ≡ 4096) × (limits.MAX_EXPLICIT_NAMES ≡ 65536) }
 {}

@@ -1,26 +1,55 @@
 //! What may stand in a record: names that are not empty and hold neither NUL nor newline, commands without NUL, and
 //! not too much of each.
 
-ghost use Rattle.std.specs.Prelude.{◌≡◌, ◌+◌, ◌^◌, ◌<◌, ◌||◌, ◌==◌, nat_lt, length, MatchOption, MatchResult, Some, None};
+ghost use Rattle.std.specs.Prelude.{◌≡◌, ◌+◌, ◌<◌, nat_lt, length, MatchOption, MatchResult};
 ghost use Rattle.std.specs.List.{list_any, flat_map};
+ghost use Rattle.st_records.specs.declared.version.Version.TheVariants as versions;
 ghost use Rattle.st_records.specs.Encoding.{string};
-ghost use Rattle.st_records.specs.Parts.{names_of, commands_of, hidden_of};
-ghost use Rattle.st_records.specs.Limits.{has_byte, has_empty_name, has_bad_name, has_bad_command, has_long_name, has_long_command, fixed_length, counted_length, has_too_many, fault_of};
+ghost use Rattle.st_records.specs.Limits.{max_name_bytes, max_record_bytes, IsWithin, IsFirstFault};
+ghost use Rattle.st_records.specs.Tests.{any_name, has_byte, is_empty_name, is_bad_name, is_long_name, has_bad_command, has_long_command, is_overlong, fixed_length, has_too_many, fault_of};
 
-use crate::byte_strings::Bytes;
-use crate::record::Record;
+use crate::record::{Explicit, Record};
+use crate::version::Version;
+use byte_strings::Iter;
 use thiserror::Error;
 
-/// The bytes of a target or a hidden name.
-pub const MAX_NAME_BYTES: usize = 4096;
+/// The bytes of a target, a hidden name or an explicit one.
+pub const MAX_NAME_BYTES: usize = 65_535;
+/// The bytes of a name in version 1.
+pub const MAX_NAME_BYTES_IN_ONE: usize = 4096;
 /// The bytes of a command.
 pub const MAX_COMMAND_BYTES: usize = 65_535;
-/// The bytes of a record in the file; a kept record's phase and status do not count.
-pub const MAX_RECORD_BYTES: usize = 1_048_576;
+/// The bytes of a record in the file; a kept record's phase and status do not count, nor the byte that says whether its
+/// explicit names are known.
+pub const MAX_RECORD_BYTES: usize = 16_777_216;
+/// The bytes of a record in a file of version 1.
+pub const MAX_RECORD_BYTES_IN_ONE: usize = 1_048_576;
 /// The commands of a record.
 pub const MAX_COMMANDS: usize = 1000;
 /// The hidden names of a record.
 pub const MAX_HIDDEN_NAMES: usize = 4096;
+/// The explicit names of a record.
+pub const MAX_EXPLICIT_NAMES: usize = 65_536;
+
+impl Version {
+    fn max_name_bytes(self) -> usize
+        ensures { result ≡ max_name_bytes self }
+    {
+        match self {
+            Version::One => MAX_NAME_BYTES_IN_ONE,
+            Version::Two => MAX_NAME_BYTES,
+        }
+    }
+
+    fn max_record_bytes(self) -> usize
+        ensures { result ≡ max_record_bytes self }
+    {
+        match self {
+            Version::One => MAX_RECORD_BYTES_IN_ONE,
+            Version::Two => MAX_RECORD_BYTES,
+        }
+    }
+}
 
 /// Why a record may not stand in a state file. Of several faults the first in this order counts.
 #[derive(Clone, Copy, Debug, PartialEq, Eq, Error)]
@@ -32,40 +61,56 @@ pub enum RecordFault {
     BadByte,
     #[error("a name, a command or the record is too long")]
     TooLong,
-    #[error("too many commands or hidden names")]
+    #[error("too many commands, hidden names or explicit names")]
     TooMany,
 }
 
 impl Record {
-    /// The first fault of the record, or none. It takes no memory.
+    /// The first fault of the record by the limits of version 2, or none. It takes no memory.
+    ///
+    /// A done record whose explicit names are unknown is measured as one that has none.
     pub fn check(&self) -> Result<(), RecordFault>
-        ensures { MatchResult result (λ _. fault_of self.now ≡ None) (λ f. fault_of self.now ≡ Some f) }
+        ensures { MatchResult result (λ _. IsWithin versions.Two self.now) (λ fault. IsFirstFault versions.Two self.now fault) }
+    {
+        match self.fault(Version::Two) {
+            None => Ok(()),
+            Some(fault) => Err(fault),
+        }
+    }
+
+    /// The first fault by the limits of a version.
+    pub(crate) fn fault(&self, version: Version) -> Option<RecordFault>
+        ensures { result ≡ fault_of version self.now }
     {
         if self.has_empty_name() {
-            return Err(RecordFault::EmptyName);
+            return Some(RecordFault::EmptyName);
         }
         if self.has_bad_name() || self.has_bad_command() {
-            return Err(RecordFault::BadByte);
+            return Some(RecordFault::BadByte);
         }
-        if self.has_long_name() || self.has_long_command() || self.is_overlong() {
-            return Err(RecordFault::TooLong);
+        if self.has_long_name(version) || self.has_long_command() || self.is_overlong(version) {
+            return Some(RecordFault::TooLong);
         }
         if self.has_too_many() {
-            return Err(RecordFault::TooMany);
+            return Some(RecordFault::TooMany);
         }
-        Ok(())
+        None
     }
 
     fn has_empty_name(&self) -> bool
-        ensures { result ≡ has_empty_name self.now }
+        ensures { result ≡ any_name is_empty_name self.now }
     {
-        is_empty_name(self.target()) || any_empty_name(self.hidden())
+        self.target().as_slice().is_empty()
+            || any_empty_name(self.hidden())
+            || any_empty_name(self.explicit())
     }
 
     fn has_bad_name(&self) -> bool
-        ensures { result ≡ has_bad_name self.now }
+        ensures { result ≡ any_name is_bad_name self.now }
     {
-        is_bad_name(self.target()) || any_bad_name(self.hidden())
+        is_bad_name(self.target().as_slice())
+            || any_bad_name(self.hidden())
+            || any_bad_name(self.explicit())
     }
 
     fn has_bad_command(&self) -> bool
@@ -74,115 +119,108 @@ impl Record {
         any_bad_command(self.commands())
     }
 
-    fn has_long_name(&self) -> bool
-        ensures { result ≡ has_long_name self.now }
+    fn has_long_name(&self, version: Version) -> bool
+        ensures { result ≡ any_name (is_long_name version) self.now }
     {
-        is_long_name(self.target()) || any_long_name(self.hidden())
+        let limit = version.max_name_bytes();
+        self.target().as_slice().len() > limit
+            || any_longer(self.hidden(), limit)
+            || any_longer(self.explicit(), limit)
     }
 
     fn has_long_command(&self) -> bool
         ensures { result ≡ has_long_command self.now }
     {
-        any_long_command(self.commands())
+        any_longer(self.commands(), MAX_COMMAND_BYTES)
     }
 
     fn has_too_many(&self) -> bool
         ensures { result ≡ has_too_many self.now }
     {
-        self.commands().len() > MAX_COMMANDS || self.hidden().len() > MAX_HIDDEN_NAMES
+        self.commands().len() > MAX_COMMANDS
+            || self.hidden().len() > MAX_HIDDEN_NAMES
+            || self.explicit().len() > MAX_EXPLICIT_NAMES
     }
 
-    /// More than the bytes that a record may have.
-    fn is_overlong(&self) -> bool
-        ensures { result ≡ nat_lt (2 ^ 20) (counted_length self.now) }
+    /// More than the bytes that a record may have in a file of this version.
+    fn is_overlong(&self, version: Version) -> bool
+        ensures { result ≡ is_overlong version self.now }
     {
-        let room = MAX_RECORD_BYTES - self.fixed_len();
+        let room = version.max_record_bytes() - self.fixed_len(version);
         let Some(room) = room.checked_sub(self.target().as_slice().len()) else {
             return true;
         };
         let Some(room) = room_after(self.commands(), room) else {
             return true;
         };
-        room_after(self.hidden(), room).is_none()
+        let Some(room) = room_after(self.hidden(), room) else {
+            return true;
+        };
+        match version {
+            Version::One => false,
+            Version::Two => room_after(self.explicit(), room).is_none(),
+        }
     }
 
-    /// The bytes of a record that are there whatever its fields hold, without a kept record's phase and status.
-    fn fixed_len(&self) -> usize
-        ensures { result ≡ fixed_length self.now }
+    /// The bytes that count and are there whatever a record's names and commands hold.
+    fn fixed_len(&self, version: Version) -> usize
+        ensures { result ≡ fixed_length version self.now }
     {
         match self {
             Record::Begun { .. } => 5,
-            Record::Done { .. } => 13,
+            Record::Done { .. } => match version {
+                Version::One => 13,
+                Version::Two => 17,
+            },
             Record::Failed { .. } => 9,
-            Record::Kept { .. } => 13,
+            Record::Kept { entry, .. } => match version {
+                Version::One => 13,
+                Version::Two => match &entry.explicit {
+                    Explicit::Unknown => 13,
+                    Explicit::Known(_) => 17,
+                },
+            },
         }
     }
 }
 
-fn is_empty_name(name: &Bytes) -> bool
-    ensures { result ≡ (length name.now == 0) }
+fn any_empty_name(mut names: Iter<'_>) -> bool
+    ensures { result ≡ list_any is_empty_name names.entry }
 {
-    name.as_slice().is_empty()
+    names.any(|name| name.is_empty())
 }
 
-fn any_empty_name(names: &[Bytes]) -> bool
-    ensures { result ≡ list_any (λ name. length name == 0) names.now }
+fn is_bad_name(name: &[u8]) -> bool
+    ensures { result ≡ is_bad_name name.now }
 {
-    names.iter().any(|name| is_empty_name(name))
+    name.contains(&0) || name.contains(&b'\n')
 }
 
-fn is_bad_name(name: &Bytes) -> bool
-    ensures { result ≡ (has_byte 0 name.now || has_byte 10 name.now) }
+fn any_bad_name(mut names: Iter<'_>) -> bool
+    ensures { result ≡ list_any is_bad_name names.entry }
 {
-    let bytes = name.as_slice();
-    bytes.contains(&0) || bytes.contains(&b'\n')
+    names.any(|name| is_bad_name(name))
 }
 
-fn any_bad_name(names: &[Bytes]) -> bool
-    ensures { result ≡ list_any (λ name. has_byte 0 name || has_byte 10 name) names.now }
+fn any_bad_command(mut commands: Iter<'_>) -> bool
+    ensures { result ≡ list_any (λ command. has_byte 0 command) commands.entry }
 {
-    names.iter().any(|name| is_bad_name(name))
+    commands.any(|command| command.contains(&0))
 }
 
-fn is_bad_command(command: &Bytes) -> bool
-    ensures { result ≡ has_byte 0 command.now }
+fn any_longer(mut strings: Iter<'_>, limit: usize) -> bool
+    ensures { result ≡ list_any (λ bytes. nat_lt limit (length bytes)) strings.entry }
 {
-    command.as_slice().contains(&0)
-}
-
-fn any_bad_command(commands: &[Bytes]) -> bool
-    ensures { result ≡ list_any (λ command. has_byte 0 command) commands.now }
-{
-    commands.iter().any(|command| is_bad_command(command))
-}
-
-fn is_long_name(name: &Bytes) -> bool
-    ensures { result ≡ nat_lt 4096 (length name.now) }
-{
-    name.as_slice().len() > MAX_NAME_BYTES
-}
-
-fn any_long_name(names: &[Bytes]) -> bool
-    ensures { result ≡ list_any (λ name. nat_lt 4096 (length name)) names.now }
-{
-    names.iter().any(|name| is_long_name(name))
-}
-
-fn any_long_command(commands: &[Bytes]) -> bool
-    ensures { result ≡ list_any (λ command. nat_lt 65535 (length command)) commands.now }
-{
-    commands
-        .iter()
-        .any(|command| command.as_slice().len() > MAX_COMMAND_BYTES)
+    strings.any(|bytes| bytes.len() > limit)
 }
 
 /// What is left of `room` after the items, each with the four bytes of its length; none where they do not fit.
-fn room_after(items: &[Bytes], room: usize) -> Option<usize>
-    ensures { MatchOption result (room < length (flat_map string items.now)) (λ left. left + length (flat_map string items.now) ≡ room) }
+fn room_after(items: Iter<'_>, room: usize) -> Option<usize>
+    ensures { MatchOption result (room < length (flat_map string items.entry)) (λ left. left + length (flat_map string items.entry) ≡ room) }
 {
     let mut left = room;
     for item in items {
-        left = left.checked_sub(4)?.checked_sub(item.as_slice().len())?;
+        left = left.checked_sub(4)?.checked_sub(item.len())?;
     }
     Some(left)
 }

@@ -1,9 +1,9 @@
 //! A record says what happened to one target; an entry is what the state knows of it.
 
 ghost use Rattle.std.specs.Prelude.{◌≡◌, IfOk};
-ghost use Rattle.st_records.specs.Parts.{target_of, commands_of, hidden_of};
+ghost use Rattle.st_records.specs.Parts.{names_known, target_of, commands_of, hidden_of, explicit_of};
 
-use crate::byte_strings::{ByteStrings, Bytes};
+use byte_strings::{ByteString, ByteStrings, Iter};
 use std::alloc::{AllocError, Global};
 
 /// How far the last run of a target's recipe came.
@@ -15,6 +15,35 @@ pub enum Phase {
     Failed(u32),
 }
 
+/// The prerequisites that the makefile named for a target when its recipe was run to its end, in order.
+#[derive(Debug, Drop)]
+pub enum Explicit {
+    /// No record says them: the last one is of version 1, or the recipe was not run to its end.
+    Unknown,
+    Known(ByteStrings),
+}
+
+impl Explicit {
+    /// The names in order, none where they are unknown.
+    pub fn names(&self) -> Iter<'_>
+        ensures { result ≡ names_known self.now }
+    {
+        match self {
+            Explicit::Unknown => Iter::empty(),
+            Explicit::Known(names) => names.iter(),
+        }
+    }
+
+    pub fn copy(&self, alloc: Global) -> Result<Explicit, AllocError>
+        ensures { IfOk result (λ copied. copied ≡ self.now) }
+    {
+        match self {
+            Explicit::Unknown => Ok(Explicit::Unknown),
+            Explicit::Known(names) => Ok(Explicit::Known(names.copy(alloc)?)),
+        }
+    }
+}
+
 /// What the state knows of a target.
 #[derive(Debug, Drop)]
 pub struct Entry {
@@ -23,6 +52,7 @@ pub struct Entry {
     pub commands: ByteStrings,
     /// Files that the commands read beside the prerequisites which the makefile names.
     pub hidden: ByteStrings,
+    pub explicit: Explicit,
 }
 
 impl Entry {
@@ -33,6 +63,7 @@ impl Entry {
             phase: self.phase,
             commands: self.commands.copy(alloc)?,
             hidden: self.hidden.copy(alloc)?,
+            explicit: self.explicit.copy(alloc)?,
         })
     }
 }
@@ -42,29 +73,31 @@ impl Entry {
 pub enum Record {
     /// Its recipe is about to be run.
     Begun {
-        target: Bytes,
+        target: ByteString,
     },
     /// Its recipe was run to its end.
     Done {
-        target: Bytes,
+        target: ByteString,
         commands: ByteStrings,
         hidden: ByteStrings,
+        /// Known in version 2, and unknown in version 1.
+        explicit: Explicit,
     },
     /// Its recipe failed with this status.
     Failed {
-        target: Bytes,
+        target: ByteString,
         status: u32,
     },
     /// All that was known of it when the file was written anew.
     Kept {
-        target: Bytes,
+        target: ByteString,
         entry: Entry,
     },
 }
 
 impl Record {
     /// The target of which the record speaks.
-    pub fn target(&self) -> &Bytes
+    pub fn target(&self) -> &ByteString
         ensures { result.now ≡ target_of self.now }
     {
         match self {
@@ -75,25 +108,36 @@ impl Record {
         }
     }
 
-    pub(crate) fn commands(&self) -> &[Bytes]
-        ensures { result.now ≡ commands_of self.now }
+    pub(crate) fn commands(&self) -> Iter<'_>
+        ensures { result ≡ commands_of self.now }
     {
         match self {
-            Record::Done { commands, .. } => commands.as_slice(),
-            Record::Kept { entry, .. } => entry.commands.as_slice(),
-            Record::Begun { .. } => &[],
-            Record::Failed { .. } => &[],
+            Record::Done { commands, .. } => commands.iter(),
+            Record::Kept { entry, .. } => entry.commands.iter(),
+            Record::Begun { .. } => Iter::empty(),
+            Record::Failed { .. } => Iter::empty(),
         }
     }
 
-    pub(crate) fn hidden(&self) -> &[Bytes]
-        ensures { result.now ≡ hidden_of self.now }
+    pub(crate) fn hidden(&self) -> Iter<'_>
+        ensures { result ≡ hidden_of self.now }
     {
         match self {
-            Record::Done { hidden, .. } => hidden.as_slice(),
-            Record::Kept { entry, .. } => entry.hidden.as_slice(),
-            Record::Begun { .. } => &[],
-            Record::Failed { .. } => &[],
+            Record::Done { hidden, .. } => hidden.iter(),
+            Record::Kept { entry, .. } => entry.hidden.iter(),
+            Record::Begun { .. } => Iter::empty(),
+            Record::Failed { .. } => Iter::empty(),
+        }
+    }
+
+    pub(crate) fn explicit(&self) -> Iter<'_>
+        ensures { result ≡ names_known (explicit_of self.now) }
+    {
+        match self {
+            Record::Done { explicit, .. } => explicit.names(),
+            Record::Kept { entry, .. } => entry.explicit.names(),
+            Record::Begun { .. } => Iter::empty(),
+            Record::Failed { .. } => Iter::empty(),
         }
     }
 
@@ -108,10 +152,12 @@ impl Record {
                 target,
                 commands,
                 hidden,
+                explicit,
             } => Ok(Record::Done {
                 target: target.copy(alloc)?,
                 commands: commands.copy(alloc)?,
                 hidden: hidden.copy(alloc)?,
+                explicit: explicit.copy(alloc)?,
             }),
             Record::Failed { target, status } => Ok(Record::Failed {
                 target: target.copy(alloc)?,

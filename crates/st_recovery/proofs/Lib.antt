@@ -1,1 +1,2 @@
 pub mod RecoversLemmas
+pub mod MemoryLemmas

@@ -1,1 +1,4 @@
+-- Recovers is the whole model: what comes of a pair, and which side counts.
+
+-- the state that two sides recover, or their one fault
 pub mod Recovers

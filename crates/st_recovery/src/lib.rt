@@ -1,6 +1,8 @@
 //! The state that two sides recover: the records of the side of the greater generation, taken in one after another.
 #![tactic(auto)]
 
+mod laws;
 mod recovery;
 
-pub use recovery::{one_recovery, recover};
+pub use laws::{every_pair_has_an_outcome, one_recovery};
+pub use recovery::{Chosen, choose, recover};

@@ -2,11 +2,27 @@
 #![tactic(auto)]
 
 #[cfg(test)]
-mod builders;
+mod batches;
+#[cfg(test)]
+mod beginnings;
+#[cfg(test)]
+mod expected;
+#[cfg(test)]
+mod faults;
+#[cfg(test)]
+mod hash_keys;
 #[cfg(test)]
 mod limits;
 #[cfg(test)]
 mod listing;
+#[cfg(test)]
+mod long;
+#[cfg(test)]
+mod long_sides;
+#[cfg(test)]
+mod longest;
+#[cfg(test)]
+mod notation;
 #[cfg(test)]
 mod records;
 #[cfg(test)]
@@ -15,3 +31,7 @@ mod recovery;
 mod sides;
 #[cfg(test)]
 mod state;
+#[cfg(test)]
+mod state_queries;
+#[cfg(test)]
+mod written;

@@ -1,228 +1,216 @@
-//! What may stand in a record: each limit on both sides, and the order of faults.
+//! What a record may hold at most, each limit on both sides.
 
-use crate::builders::{begun, bytes, done, list, many, none, repeated};
-use st_records::{ByteStrings, Bytes, Entry, Phase, Record, RecordFault};
+use crate::expected::expect;
+use crate::long::{many, repeated};
+use st_records::{Entry, Explicit, Phase, Record};
 use std::alloc::{AllocError, Global};
 use std::process::Abort;
 use std::test::Fail;
 
-fn expect_check(rt: &impl Abort, name: &str, record: Record, want: Result<(), RecordFault>) {
-    let got = record.check();
-    assert_eq!(rt; got, want, "{name}");
-}
+// How many strings, and how many bytes each has.
+type Strings = (u32, usize);
 
-#[test]
-fn names_have_1_to_4096_bytes(rt: HostRuntime) -> Result<(), Fail> {
-    let alloc = rt.alloc();
-    let most = repeated(alloc, b'n', 4096)?;
-    let more = repeated(alloc, b'n', 4097)?;
-    expect_check(
-        &rt,
-        "a target of 4,096 bytes",
-        begun(alloc, most.as_slice())?,
-        Ok(()),
-    );
-    expect_check(
-        &rt,
-        "a target of 4,097 bytes",
-        begun(alloc, more.as_slice())?,
-        Err(RecordFault::TooLong),
-    );
-    expect_check(
-        &rt,
-        "an empty target",
-        begun(alloc, b"")?,
-        Err(RecordFault::EmptyName),
-    );
-    expect_check(
-        &rt,
-        "a hidden name of 4,096 bytes",
-        done(alloc, b"a", none(alloc), many(alloc, 1, 4096)?)?,
-        Ok(()),
-    );
-    expect_check(
-        &rt,
-        "a hidden name of 4,097 bytes",
-        done(alloc, b"a", none(alloc), many(alloc, 1, 4097)?)?,
-        Err(RecordFault::TooLong),
-    );
-    expect_check(
-        &rt,
-        "an empty hidden name",
-        done(alloc, b"a", none(alloc), list(alloc, &[b"h", b""])?)?,
-        Err(RecordFault::EmptyName),
-    );
-    Ok(())
-}
+// A name, the target's bytes, the commands, the hidden names and the explicit ones of a record, and what `check` answers.
+type Row = (&'static str, usize, Strings, Strings, Strings, &'static str);
 
-#[test]
-fn names_and_commands_hold_no_bad_byte(rt: HostRuntime) -> Result<(), Fail> {
-    let alloc = rt.alloc();
-    let bad = Err(RecordFault::BadByte);
-    expect_check(&rt, "NUL in a target", begun(alloc, b"a\0b")?, bad);
-    expect_check(&rt, "newline in a target", begun(alloc, b"a\n")?, bad);
-    expect_check(
-        &rt,
-        "other bytes in a target",
-        begun(alloc, b"\x01 \x7f\xff")?,
-        Ok(()),
-    );
-    let hidden = list(alloc, &[b"h", b"i\n"])?;
-    expect_check(
-        &rt,
-        "newline in a hidden name",
-        done(alloc, b"a", none(alloc), hidden)?,
-        bad,
-    );
-    let commands = list(alloc, &[b"cc", b"\0"])?;
-    expect_check(
-        &rt,
-        "NUL in a command",
-        done(alloc, b"a", commands, none(alloc))?,
-        bad,
-    );
-    let commands = list(alloc, &[b"echo \\\n  two"])?;
-    expect_check(
-        &rt,
-        "newline in a command",
-        done(alloc, b"a", commands, none(alloc))?,
-        Ok(()),
-    );
-    let commands = list(alloc, &[b""])?;
-    expect_check(
-        &rt,
-        "an empty command",
-        done(alloc, b"a", commands, none(alloc))?,
-        Ok(()),
-    );
-    Ok(())
-}
+const NONE: Strings = (0, 0);
 
-#[test]
-fn commands_have_at_most_65535_bytes(rt: HostRuntime) -> Result<(), Fail> {
-    let alloc = rt.alloc();
-    expect_check(
-        &rt,
+static ROWS: [Row; 22] = [
+    (
+        "a target of 65,535 bytes",
+        65_535,
+        NONE,
+        NONE,
+        NONE,
+        "Ok(())",
+    ),
+    (
+        "a target of 65,536 bytes",
+        65_536,
+        NONE,
+        NONE,
+        NONE,
+        "Err(TooLong)",
+    ),
+    (
+        "a hidden name of 65,535 bytes",
+        1,
+        NONE,
+        (1, 65_535),
+        NONE,
+        "Ok(())",
+    ),
+    (
+        "a hidden name of 65,536 bytes",
+        1,
+        NONE,
+        (1, 65_536),
+        NONE,
+        "Err(TooLong)",
+    ),
+    (
+        "an explicit name of 65,535 bytes",
+        1,
+        NONE,
+        NONE,
+        (1, 65_535),
+        "Ok(())",
+    ),
+    (
+        "an explicit name of 65,536 bytes",
+        1,
+        NONE,
+        NONE,
+        (1, 65_536),
+        "Err(TooLong)",
+    ),
+    (
         "a command of 65,535 bytes",
-        done(alloc, b"a", many(alloc, 1, 65_535)?, none(alloc))?,
-        Ok(()),
-    );
-    expect_check(
-        &rt,
+        1,
+        (1, 65_535),
+        NONE,
+        NONE,
+        "Ok(())",
+    ),
+    (
         "a command of 65,536 bytes",
-        done(alloc, b"a", many(alloc, 1, 65_536)?, none(alloc))?,
-        Err(RecordFault::TooLong),
-    );
-    Ok(())
-}
-
-#[test]
-fn a_record_has_at_most_1000_commands_and_4096_hidden_names(rt: HostRuntime) -> Result<(), Fail> {
-    let alloc = rt.alloc();
-    let too_many = Err(RecordFault::TooMany);
-    expect_check(
-        &rt,
-        "1,000 commands",
-        done(alloc, b"a", many(alloc, 1000, 1)?, none(alloc))?,
-        Ok(()),
-    );
-    expect_check(
-        &rt,
-        "1,001 commands",
-        done(alloc, b"a", many(alloc, 1001, 1)?, none(alloc))?,
-        too_many,
-    );
-    expect_check(
-        &rt,
-        "4,096 hidden names",
-        done(alloc, b"a", none(alloc), many(alloc, 4096, 1)?)?,
-        Ok(()),
-    );
-    expect_check(
-        &rt,
+        1,
+        (1, 65_536),
+        NONE,
+        NONE,
+        "Err(TooLong)",
+    ),
+    ("1,000 commands", 1, (1000, 1), NONE, NONE, "Ok(())"),
+    ("1,001 commands", 1, (1001, 1), NONE, NONE, "Err(TooMany)"),
+    ("4,096 hidden names", 1, NONE, (4096, 1), NONE, "Ok(())"),
+    (
         "4,097 hidden names",
-        done(alloc, b"a", none(alloc), many(alloc, 4097, 1)?)?,
-        too_many,
-    );
-    Ok(())
-}
-
-/// Fifteen commands as long as they may be, and one of so many bytes.
-fn filling(alloc: Global, last: usize) -> Result<ByteStrings, AllocError> {
-    let mut commands = many(alloc, 15, 65_535)?;
-    commands.push(repeated(alloc, b'y', last)?)?;
-    Ok(commands)
-}
-
-#[test]
-fn a_record_has_at_most_a_mebibyte(rt: HostRuntime) -> Result<(), Fail> {
-    let alloc = rt.alloc();
-    // Beside the last command's bytes there are 14 of the other fields, 15 times 4 + 65,535, and 4: 983,103 in all.
-    let last = 65_473;
-    expect_check(
-        &rt,
-        "1,048,576 bytes",
-        done(alloc, b"a", filling(alloc, last)?, none(alloc))?,
-        Ok(()),
-    );
-    expect_check(
-        &rt,
-        "1,048,577 bytes",
-        done(alloc, b"a", filling(alloc, last + 1)?, none(alloc))?,
-        Err(RecordFault::TooLong),
-    );
-    let kept = Record::Kept {
-        target: bytes(alloc, b"a")?,
-        entry: Entry {
-            phase: Phase::Done,
-            commands: filling(alloc, last)?,
-            hidden: none(alloc),
-        },
-    };
-    expect_check(&rt, "the same kept, with five bytes more", kept, Ok(()));
-    let kept = Record::Kept {
-        target: bytes(alloc, b"a")?,
-        entry: Entry {
-            phase: Phase::Done,
-            commands: filling(alloc, last + 1)?,
-            hidden: none(alloc),
-        },
-    };
-    expect_check(
-        &rt,
-        "a kept record with six bytes more",
-        kept,
-        Err(RecordFault::TooLong),
-    );
-    Ok(())
-}
-
-#[test]
-fn of_several_faults_the_first_counts(rt: HostRuntime) -> Result<(), Fail> {
-    let alloc = rt.alloc();
-    expect_check(
-        &rt,
+        1,
+        NONE,
+        (4097, 1),
+        NONE,
+        "Err(TooMany)",
+    ),
+    (
+        "65,536 explicit names",
+        1,
+        NONE,
+        NONE,
+        (65_536, 1),
+        "Ok(())",
+    ),
+    (
+        "65,537 explicit names",
+        1,
+        NONE,
+        NONE,
+        (65_537, 1),
+        "Err(TooMany)",
+    ),
+    ("an empty command", 1, (1, 0), NONE, NONE, "Ok(())"),
+    ("an empty target", 0, NONE, NONE, NONE, "Err(EmptyName)"),
+    (
+        "an empty hidden name",
+        1,
+        NONE,
+        (1, 0),
+        NONE,
+        "Err(EmptyName)",
+    ),
+    (
+        "two empty explicit names",
+        1,
+        NONE,
+        NONE,
+        (2, 0),
+        "Err(EmptyName)",
+    ),
+    // Of several faults the first counts.
+    (
         "an empty target and 1,001 commands",
-        done(alloc, b"", many(alloc, 1001, 1)?, none(alloc))?,
-        Err(RecordFault::EmptyName),
-    );
-    expect_check(
-        &rt,
-        "a newline in the target and an empty hidden name",
-        done(alloc, b"\n", none(alloc), list(alloc, &[b""])?)?,
-        Err(RecordFault::EmptyName),
-    );
-    expect_check(
-        &rt,
-        "a long command and NUL in the target",
-        done(alloc, b"\0", many(alloc, 1, 65_536)?, none(alloc))?,
-        Err(RecordFault::BadByte),
-    );
-    expect_check(
-        &rt,
+        0,
+        (1001, 1),
+        NONE,
+        NONE,
+        "Err(EmptyName)",
+    ),
+    (
+        "an empty target and a long command",
+        0,
+        (1, 65_536),
+        NONE,
+        NONE,
+        "Err(EmptyName)",
+    ),
+    (
         "1,001 commands and a long hidden name",
-        done(alloc, b"a", many(alloc, 1001, 1)?, many(alloc, 1, 4097)?)?,
-        Err(RecordFault::TooLong),
-    );
+        1,
+        (1001, 1),
+        (1, 65_536),
+        NONE,
+        "Err(TooLong)",
+    ),
+    (
+        "a long target and 1,001 commands",
+        65_536,
+        (1001, 1),
+        NONE,
+        NONE,
+        "Err(TooLong)",
+    ),
+];
+
+fn entry_of(alloc: Global, row: &Row) -> Result<Entry, AllocError> {
+    let (_, _, commands, hidden, explicit, _) = row;
+    Ok(Entry {
+        phase: Phase::Done,
+        commands: many(alloc, commands.0, commands.1)?,
+        hidden: many(alloc, hidden.0, hidden.1)?,
+        explicit: Explicit::Known(many(alloc, explicit.0, explicit.1)?),
+    })
+}
+
+fn done_of(alloc: Global, row: &Row) -> Result<Record, AllocError> {
+    let entry = entry_of(alloc, row)?;
+    Ok(Record::Done {
+        target: repeated(alloc, row.1)?,
+        commands: entry.commands,
+        hidden: entry.hidden,
+        explicit: entry.explicit,
+    })
+}
+
+fn check_done(rt: &impl Abort, alloc: Global, rows: &[Row]) -> Result<(), Fail> {
+    for row in rows {
+        let answer = done_of(alloc, row)?.check();
+        let got = format!(in alloc; "{answer:?}")?;
+        expect(rt, row.0, got.as_str(), row.5);
+    }
     Ok(())
+}
+
+#[test]
+fn what_a_done_may_hold(rt: HostRuntime) -> Result<(), Fail> {
+    check_done(&rt, rt.alloc(), &ROWS)
+}
+
+fn kept_of(alloc: Global, row: &Row) -> Result<Record, AllocError> {
+    Ok(Record::Kept {
+        target: repeated(alloc, row.1)?,
+        entry: entry_of(alloc, row)?,
+    })
+}
+
+fn check_kept(rt: &impl Abort, alloc: Global, rows: &[Row]) -> Result<(), Fail> {
+    for row in rows {
+        let answer = kept_of(alloc, row)?.check();
+        let got = format!(in alloc; "{answer:?}")?;
+        expect(rt, row.0, got.as_str(), row.5);
+    }
+    Ok(())
+}
+
+#[test]
+fn what_a_kept_may_hold(rt: HostRuntime) -> Result<(), Fail> {
+    check_kept(&rt, rt.alloc(), &ROWS)
 }

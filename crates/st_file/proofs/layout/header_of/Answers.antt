@@ -1,15 +1,15 @@
-use Rattle.std.proofs.Common.{refl, rules}
+use Rattle.std.proofs.Common.{refl}
 use Rattle.st_file.proofs.LayoutLemmas.{IsNamed-along}
 use Rattle.st_file.proofs.layout.header_of.Goals as goal
 
-pub returns-then-version-ne-VERSION-clause-refused :
-    goal.returns-then-version-ne-VERSION-clause-refused
-returns-then-version-ne-VERSION-clause-refused c = (
+pub returns-in_default-version_of-clause-refused :
+    goal.returns-in_default-version_of-clause-refused
+returns-in_default-version_of-clause-refused c = (
   refl,
   record {
     rest = c.in-Some-u16_of.rest.now;
     named = IsNamed-along _ _ _ c.in-Some.ensures.found c.in-Some-u16_of.ensures.found.1;
     fits = c.in-Some-u16_of.ensures.found.0;
-    other = search rules;
+    other = rw c.in_default-version_of.is at c.version_of.ensures.none;
   },
 )

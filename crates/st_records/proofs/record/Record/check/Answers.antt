@@ -1,0 +1,10 @@
+use Rattle.std.proofs.Common.{sym, ◌∙◌}
+use Rattle.st_records.specs.declared.version.Version.TheVariants as versions
+use Rattle.st_records.proofs.TestLemmas.{within_from, first_from}
+use Rattle.st_records.proofs.record.Record.check.Goals as goal
+
+pub returns-in-None : goal.returns-in-None
+returns-in-None c = within_from versions.Two c.args.self.now (sym c.fault.ensures ∙ c.in-None.is)
+
+pub returns-in-Some : goal.returns-in-Some
+returns-in-Some c = first_from versions.Two c.args.self.now c.in-Some.fault (sym c.fault.ensures ∙ c.in-Some.is)
