@@ -1,8 +1,12 @@
 //! The words of the command line.
 
+ghost use Rattle.std.specs.Prelude.{◌≡◌};
+
+use clap::error::ErrorKind;
 use clap::{Arg, ArgAction, Command};
-use std::alloc::Global;
+use std::alloc::{AllocError, Global};
 use std::{env, io};
+use thiserror::Error;
 
 const DEFAULT_FILE: &str = ".make.state";
 
@@ -15,35 +19,54 @@ pub enum Request {
     Leave(u8),
 }
 
-/// Reads the words, and prints the help, the version or what is wrong with them.
-pub fn read_words(rt: HostRuntime) -> Request {
-    let words = match env::args(&rt) {
-        Ok(words) => words.collect::<Vec<String>>(rt.alloc()),
-        Err(fault) => {
-            let text = match fault.kind() {
-                io::ErrorKind::OutOfMemory => "out of memory",
-                _ => "a word of the command line isn't UTF-8",
-            };
-            let _ = eprintln!(rt; "dmk_state: {text}");
-            return Request::Leave(2);
-        }
-    };
-    match words {
-        Ok(words) => parsed(rt, words.as_slice()),
-        Err(_) => {
-            let _ = eprintln!(rt; "dmk_state: out of memory");
-            Request::Leave(2)
+/// Why the words aren't followed, where nothing was said of it yet.
+#[derive(Clone, Copy, Debug, PartialEq, Eq, Error)]
+pub enum WordsFault {
+    #[error("out of memory")]
+    OutOfMemory,
+    #[error("a word of the command line isn't UTF-8")]
+    NotText,
+    /// The help or the version was asked for and couldn't be printed.
+    #[error("cannot write")]
+    Write,
+}
+
+impl From<io::Error> for WordsFault {
+    fn from(fault: io::Error) -> WordsFault {
+        match fault.kind() {
+            io::ErrorKind::OutOfMemory => WordsFault::OutOfMemory,
+            _ => WordsFault::NotText,
         }
     }
 }
 
-fn parsed(rt: HostRuntime, words: &[String]) -> Request {
-    match file_named(rt.alloc(), words) {
-        Ok(file) => Request::List(file),
-        Err(fault) => {
-            let _ = fault.print(&rt);
-            Request::Leave(if fault.use_stderr() { 2 } else { 0 })
-        }
+impl From<AllocError> for WordsFault {
+    fn from(_fault: AllocError) -> WordsFault {
+        WordsFault::OutOfMemory
+    }
+}
+
+/// Reads the words, and prints the help, the version or what is wrong with them.
+pub fn read_words(rt: HostRuntime) -> Result<Request, WordsFault> {
+    let words = env::args(&rt)?.collect::<Vec<String>>(rt.alloc())?;
+    match file_named(rt.alloc(), words.as_slice()) {
+        Ok(file) => Ok(Request::List(file)),
+        Err(answer) => say(rt, answer),
+    }
+}
+
+// Prints what clap answers in place of matches. That a mistake can't be printed changes nothing.
+fn say(rt: HostRuntime, answer: clap::Error) -> Result<Request, WordsFault> {
+    if answer.kind() == ErrorKind::OutOfMemory {
+        return Err(WordsFault::OutOfMemory);
+    }
+    let printed = answer.print(&rt);
+    if answer.use_stderr() {
+        return Ok(Request::Leave(2));
+    }
+    match printed {
+        Ok(()) => Ok(Request::Leave(0)),
+        Err(_) => Err(WordsFault::Write),
     }
 }
 

@@ -18,8 +18,12 @@ use std::process::ExitCode;
 
 fn main(rt: HostRuntime) -> ExitCode {
     match read_words(rt) {
-        Request::List(file) => ExitCode::from(list_file(rt, file.as_str())),
-        Request::Leave(status) => ExitCode::from(status),
+        Ok(Request::List(file)) => ExitCode::from(list_file(rt, file.as_str())),
+        Ok(Request::Leave(status)) => ExitCode::from(status),
+        Err(fault) => {
+            let _ = eprintln!(rt; "dmk_state: {fault}");
+            ExitCode::from(2)
+        }
     }
 }
 

@@ -7,3 +7,8 @@ pub mod WalkLemmas
 pub mod ReadingLemmas
 pub mod DecisionLemmas
 pub mod TotalLemmas
+pub mod GatedLemmas
+pub mod CreatedLemmas
+pub mod LogLemmas
+pub mod CommitLemmas
+pub mod AnswerLemmas

@@ -10,3 +10,9 @@ pub mod Batch
 pub mod Side
 -- what a call answered, as a reading
 pub mod Answer
+-- a text put behind a closed gate
+pub mod Gated
+-- a side that is created
+pub mod Created
+-- what one more batch makes of a side
+pub mod Grown

@@ -1,9 +1,9 @@
 //! Why a side, or a pair of sides, can't be read.
 
 ghost use Rattle.std.specs.Prelude.{◌≡◌};
-ghost use Rattle.st_file.specs.declared.fault.OpenFault.TheVariants.{OutOfMemory};
+ghost use Rattle.st_file.specs.declared.fault.OpenFault.TheVariants.{OutOfMemory, Device};
 
-use st_disk::Which;
+use st_disk::{DeviceFault, Which};
 use std::alloc::{AllocError, AllocFailed};
 use thiserror::Error;
 
@@ -43,5 +43,13 @@ impl<T: Drop> From<AllocFailed<T>> for OpenFault {
 
     fn from(_fault: AllocFailed<T>) -> OpenFault {
         OpenFault::OutOfMemory
+    }
+}
+
+impl From<DeviceFault> for OpenFault {
+    ghost from_gives = { λ _ e. e ≡ Device };
+
+    fn from(_fault: DeviceFault) -> OpenFault {
+        OpenFault::Device
     }
 }

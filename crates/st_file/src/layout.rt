@@ -1,13 +1,17 @@
 //! The header of a side, and the numbers of the format: little endian, at the front of some bytes.
 
-ghost use Rattle.std.specs.Prelude.{◌≡◌, ◌≢◌, ◌↔◌, ℕ, ◌<◌, ◌^◌, List, ◌++◌, length, IsTrue, IfSome, IfNone, IfOk, IfErr};
+ghost use Rattle.std.specs.Prelude.{◌≡◌, ◌≢◌, ◌↔◌, ℕ, ◌<◌, ◌^◌, List, [], ◌∷◌, ◌++◌, length, IsTrue, IfSome, IfNone, IfOk, IfErr};
 ghost use Rattle.std.specs.Int.{w16, w32, w64, to_le_bytes};
-ghost use Rattle.st_file.specs.Layout.{magic, version_number, IsUnknownVersion, IsNamed, HasHeader};
+ghost use Rattle.st_records.specs.declared.version.Version.TheVariants as versions;
+ghost use Rattle.st_file.specs.Layout.{magic, version_number, header_text, IsUnknownVersion, IsNamed, HasHeader};
 ghost use Rattle.st_file.specs.Side.{IsVoid, IsForeign, IsRefused};
 
 use crate::fault::OpenFault;
 use st_disk::Which;
 use st_records::Version;
+
+/// The bytes of a header, its gate among them.
+pub const HEADER_BYTES: usize = 19;
 
 const VERSION_PLACE: u64 = 9;
 
@@ -115,4 +119,16 @@ pub(crate) fn header_of(side: Which, bytes: &[u8]) -> Result<(Version, u64, &[u8
         return Err(OpenFault::Damaged(side, GENERATION_PLACE));
     }
     Ok((version, generation, rest))
+}
+
+/// What stands behind the gate of a side of version 2 that holds no records: the header, and the closed gate of its first
+/// batch.
+pub(crate) fn new_header(generation: u64) -> [u8; HEADER_BYTES]
+    ensures { result ≡ header_text versions.Two generation ++ 0 ∷ [] }
+{
+    let g = generation.to_le_bytes();
+    [
+        b'D', b'M', b'K', b'S', b'T', b'A', b'T', b'E', 2, 0, g[0], g[1], g[2], g[3], g[4], g[5],
+        g[6], g[7], 0,
+    ]
 }

@@ -2,11 +2,23 @@
 #![tactic(auto)]
 
 mod batch;
+mod batch_writer;
+mod commit_fault;
+mod creation;
 mod fault;
+mod from_disk;
+mod gated;
 mod layout;
+mod log;
 mod side;
 mod sink;
 
+pub use commit_fault::CommitFault;
+pub use creation::create;
 pub use fault::OpenFault;
+pub use from_disk::{read_log, read_whole};
+pub use gated::append_gated;
+pub use layout::HEADER_BYTES;
+pub use log::{Log, MAX_SIDE_BYTES};
 pub use side::{Extent, Side, every_side_has_a_reading, one_reading, read_side, side_of};
 pub use sink::RecordSink;

@@ -59,6 +59,18 @@ fixed_length version (records.Failed target status) = 9
 fixed_length One (records.Kept target known) = 13
 fixed_length Two (records.Kept target known) = known_length known.explicit
 
+-- of a kept record's bytes beside its strings these: the count of its explicit names is written where they are known
+abbrev pub kept_length : Explicit → ℕ
+kept_length Unknown = 19
+kept_length (Known names) = 23
+
+-- the bytes of a record in version 2 beside those of its strings: kind, lengths and counts, phase and status
+abbrev pub plain_length : Record → ℕ
+plain_length (records.Begun target) = 5
+plain_length (records.Done target commands hidden explicit) = 17
+plain_length (records.Failed target status) = 9
+plain_length (records.Kept target known) = kept_length known.explicit
+
 -- there are too many commands, hidden names or explicit ones
 abbrev pub has_too_many : Record → Bool
 has_too_many r =

@@ -7,6 +7,7 @@ mod hash_key;
 mod kept;
 mod laws;
 mod limits;
+mod measure;
 mod name_order;
 mod record;
 mod staged;

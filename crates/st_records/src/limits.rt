@@ -215,7 +215,7 @@ fn any_longer(mut strings: Iter<'_>, limit: usize) -> bool
 }
 
 /// What is left of `room` after the items, each with the four bytes of its length; none where they do not fit.
-fn room_after(items: Iter<'_>, room: usize) -> Option<usize>
+pub(crate) fn room_after(items: Iter<'_>, room: usize) -> Option<usize>
     ensures { MatchOption result (room < length (flat_map string items.entry)) (λ left. left + length (flat_map string items.entry) ≡ room) }
 {
     let mut left = room;

@@ -1,2 +1,3 @@
 pub mod RecoversLemmas
+pub mod StoredLemmas
 pub mod MemoryLemmas

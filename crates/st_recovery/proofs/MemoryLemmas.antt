@@ -1,5 +1,5 @@
 -- Where a pair recovers a state that knows some name, reading it came to records.
-use Rattle.std.proofs.Common.{◌≡◌, ◌∙◌, ◌<◌, ℕ, List, [], ◌∷◌, length, ap, inl, inr, arith}
+use Rattle.std.proofs.Common.{◌<◌, ℕ, List, [], ◌∷◌, length, ap, inl, inr, arith}
 use Rattle.std.specs.FinMap as map
 use Rattle.std.specs.FinMap.{len-empty}
 use Rattle.st_records.specs.declared.record.Record.{Record}

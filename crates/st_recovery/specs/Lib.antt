@@ -2,3 +2,5 @@
 
 -- the state that two sides recover, or their one fault
 pub mod Recovers
+-- a store, and what every pair of crash images recovers
+pub mod Stored

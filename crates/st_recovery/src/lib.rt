@@ -2,7 +2,11 @@
 #![tactic(auto)]
 
 mod laws;
+mod opening;
 mod recovery;
+mod store;
 
 pub use laws::{every_pair_has_an_outcome, one_recovery};
+pub use opening::open;
 pub use recovery::{Chosen, choose, recover};
+pub use store::Store;

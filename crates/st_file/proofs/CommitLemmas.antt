@@ -1,0 +1,74 @@
+-- What a commit leaves on its side, in the words of its clauses.
+use Rattle.std.proofs.Common.{◌≡◌, ◌↔◌, ℕ, ◌+◌, ◌≤◌, ◌^◌, false, Result, Ok, Err, IsErrOf, List, [], ◌∷◌, ◌++◌, length, take, sym, ap, subst, ◌∙◌, arith, inl, inr}
+use Rattle.std.proofs.lemmas.List.{append-nil, nil_from_length}
+use Rattle.st_disk.specs.declared.which.Which.{Which}
+use Rattle.st_disk.specs.Crash.{UnsyncedWrites, writes_of, other, SideHas}
+use Rattle.st_disk.specs.Moments.{Moments, now, Throughout}
+use Rattle.st_disk.proofs.CrashLaws.{side_map}
+use Rattle.st_disk.proofs.MomentLaws.{throughout_map}
+use Rattle.st_disk.proofs.DeviceCalls.{at_first, settled_seen}
+use Rattle.st_records.specs.declared.version.Version.{Version}
+use Rattle.st_records.specs.declared.version.Version.TheVariants as versions
+use Rattle.st_records.specs.declared.record.Record.{Record}
+use Rattle.st_file.specs.Batch.{body, framed, FillBatch}
+use Rattle.st_file.specs.Side.{HoldsUpTo}
+use Rattle.st_file.specs.Gated.{IsReady, IsClosedOrOpen, IsOpened, EndsClosed}
+use Rattle.st_file.specs.Grown.{IsFull, HoldsWithOrWithout}
+use Rattle.st_file.proofs.LogLemmas.{holds_closed, holds_open}
+
+-- the text of a batch ends in a closed gate
+pub ends_closed : (text : List ℕ) (rs : List Record) → text ≡ framed versions.Two rs ++ 0 ∷ [] → EndsClosed text
+ends_closed text rs is = record { front = framed versions.Two rs; ends = is }
+
+-- where the gate is closed or open before a batch's text, the side holds the records before or the batch's too
+pub holds_either : {s text : List ℕ} {v : Version} {generation end : ℕ} {held rs : List Record} → HoldsUpTo s v generation held end → v ≡ versions.Two → FillBatch versions.Two false rs → text ≡ framed versions.Two rs ++ 0 ∷ []
+    → (x : List ℕ) → IsClosedOrOpen (take end s) text x → HoldsWithOrWithout v generation held rs x
+holds_either {s} {text} {v} {generation} {end} {held} {rs} holds two fills is x (inl closed) = inl (end, holds_closed s x v generation end held holds closed)
+holds_either {s} {text} {v} {generation} {end} {held} {rs} holds two fills is x (inr opened) =
+    let fills_v = subst (λ (w : Version). FillBatch w false rs) (sym two) fills in
+    let is_v : text ≡ framed v rs ++ 0 ∷ [] = is ∙ ap (λ (w : Version). framed w rs ++ 0 ∷ []) (sym two) in
+    inr (end + length text, holds_open s x text v generation end held rs holds fills_v is_v opened)
+
+pub grown_by : {side : Which} {away : UnsyncedWrites} {m0 m1 : Moments} {s text : List ℕ} {v : Version} {generation end : ℕ} {held rs : List Record} → HoldsUpTo s v generation held end → v ≡ versions.Two → FillBatch versions.Two false rs
+    → text ≡ framed versions.Two rs ++ 0 ∷ [] → Throughout m0 m1 (SideHas side away (IsClosedOrOpen (take end s) text)) → Throughout m0 m1 (SideHas side away (HoldsWithOrWithout v generation held rs))
+grown_by holds two fills is gated = throughout_map gated (λ sides has. side_map sides (holds_either holds two fills is) has)
+
+-- before the first call the side holds the records before
+pub not_grown : {side : Which} {m0 : Moments} {s : List ℕ} {v : Version} {generation end : ℕ} {held : List Record} (rs : List Record) → IsReady s (writes_of side (now m0)) end → HoldsUpTo s v generation held end
+    → Throughout m0 m0 (SideHas side (writes_of (other side) (now m0)) (HoldsWithOrWithout v generation held rs))
+not_grown {side} {m0} {s} {v} {generation} {end} {held} rs ready holds =
+    at_first m0 (λ x image. inl (end, subst (λ (y : List ℕ). HoldsUpTo y v generation held end) (sym (settled_seen ready.on_disk image)) holds))
+
+-- after the last one it holds the batch's too
+pub grown : {s text seen : List ℕ} {writes : UnsyncedWrites} {v : Version} {generation end later : ℕ} {held rs : List Record} → HoldsUpTo s v generation held end → v ≡ versions.Two → FillBatch versions.Two false rs
+    → text ≡ framed versions.Two rs ++ 0 ∷ [] → IsOpened (take end s) text seen writes → later ≡ end + length text → HoldsUpTo seen v generation (held ++ rs) later
+grown {s} {text} {seen} {writes} {v} {generation} {end} {later} {held} {rs} holds two fills is opened place =
+    let fills_v = subst (λ (w : Version). FillBatch w false rs) (sym two) fills in
+    let is_v : text ≡ framed v rs ++ 0 ∷ [] = is ∙ ap (λ (w : Version). framed w rs ++ 0 ∷ []) (sym two) in
+    subst (λ (n : ℕ). HoldsUpTo seen v generation (held ++ rs) n) (sym place) (holds_open s seen text v generation end held rs holds fills_v is_v opened.opened)
+
+-- no records add nothing
+pub grown_by_none : {s : List ℕ} {v : Version} {generation end : ℕ} {held : List Record} (rs : List Record) → length rs ≡ 0 → HoldsUpTo s v generation held end → HoldsUpTo s v generation (held ++ rs) end
+grown_by_none {s} {v} {generation} {end} {held} rs none holds =
+    let same : held ≡ held ++ rs = sym (append-nil held) ∙ ap (λ (y : List Record). held ++ y) (sym (nil_from_length rs none)) in
+    subst (λ (h : List Record). HoldsUpTo s v generation h end) same holds
+
+-- a batch that fits isn't full
+pub not_full : (end n : ℕ) (rs : List Record) → n ≡ length (body versions.Two rs) → n ≤ 2 ^ 30 → end + (9 + n) ≤ 2 ^ 40 → IsFull end rs → ⊥
+not_full end n rs is short room (inl long) = omega (arith, is, short, long)
+not_full end n rs is short room (inr past) = omega (arith, is, room, past)
+
+-- a refusal passed on, in an answer of another type
+pub same_refusal : {S T E P : Type 0} (f g : E) → (IsErrOf {T = S} (Err f) g ↔ P) → IsErrOf {T = T} (Err f) g ↔ P
+same_refusal {S} {T} {E} f g iff =
+    let told : E → Result S E = λ h. Err h in
+    let tells : E → Result T E = λ h. Err h in
+    (λ e. let same : f ≡ g = cc in iff.0 (ap told same), λ p. let e = iff.1 p in let same : f ≡ g = cc in ap tells same)
+
+-- where there was none there is none
+pub no_refusal : {S T E P : Type 0} (x : S) (y : T) (g : E) → (IsErrOf (Ok x) g ↔ P) → IsErrOf (Ok y) g ↔ P
+no_refusal x y g iff = (λ e. absurd cc, λ p. let e = iff.1 p in absurd cc)
+
+-- nor another one
+pub other_refusal : {S T E P : Type 0} (x : S) (f g : E) → (f ≡ g → ⊥) → (IsErrOf (Ok x) g ↔ P) → IsErrOf {T = T} (Err f) g ↔ P
+other_refusal x f g differ iff = (λ e. let same : f ≡ g = cc in absurd (differ same), λ p. let e = iff.1 p in absurd cc)

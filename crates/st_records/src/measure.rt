@@ -1,0 +1,39 @@
+//! How many bytes a record takes in the file, before a byte of it is written.
+
+ghost use Rattle.std.specs.Prelude.{◌≡◌, ◌+◌, ◌<◌, length, MatchOption};
+ghost use Rattle.st_records.specs.declared.version.Version.TheVariants as versions;
+ghost use Rattle.st_records.specs.Encoding.{encoding};
+ghost use Rattle.st_records.specs.Tests.{plain_length};
+
+use crate::limits::room_after;
+use crate::record::{Explicit, Record};
+
+impl Record {
+    /// What is left of `room` after the bytes of the record in a file of version 2; None where they do not fit. It takes
+    /// no memory.
+    pub fn room_left(&self, room: usize) -> Option<usize>
+        ensures { MatchOption result (room < length (encoding versions.Two self.now))
+            (λ left. left + length (encoding versions.Two self.now) ≡ room) }
+    {
+        let room = room.checked_sub(self.plain_len())?;
+        let room = room.checked_sub(self.target().as_slice().len())?;
+        let room = room_after(self.commands(), room)?;
+        let room = room_after(self.hidden(), room)?;
+        room_after(self.explicit(), room)
+    }
+
+    /// The bytes beside those of names and commands: kind, lengths and counts, phase and status.
+    fn plain_len(&self) -> usize
+        ensures { result ≡ plain_length self.now }
+    {
+        match self {
+            Record::Begun { .. } => 5,
+            Record::Done { .. } => 17,
+            Record::Failed { .. } => 9,
+            Record::Kept { entry, .. } => match &entry.explicit {
+                Explicit::Unknown => 19,
+                Explicit::Known(_) => 23,
+            },
+        }
+    }
+}

@@ -1,0 +1,214 @@
+-- What a store's commits and its opening leave on both sides.
+use Rattle.std.proofs.Common.{◌≡◌, ◌⊎◌, ℕ, ◌+◌, Bool, false, Result, Ok, Err, OnOk, List, [], ◌∷◌, ◌++◌, length, take, refl, sym, ap, subst, ◌∙◌, inl, inr}
+use Rattle.std.proofs.Props.{props}
+use Rattle.std.proofs.Math.Logic.{∥∥₁_elim, ∥∥₁_map}
+use Rattle.std.specs.FinMap as map
+use Rattle.st_disk.specs.declared.which.Which.{Which}
+use Rattle.st_disk.specs.declared.which.Which.TheVariants as which
+use Rattle.st_disk.specs.Crash.{UnsyncedWrites, IsCrashImage, settled, Sides, writes_of, with_writes, other, EachPair, SideHas}
+use Rattle.st_disk.specs.Moments.{Moments, now, Throughout, MayPass, after_sync}
+use Rattle.st_disk.proofs.CrashLaws.{only_image, pair_has_a, pair_has_b}
+use Rattle.st_disk.proofs.MomentLaws.{started, goes_on, then_goes, at_end, throughout_map, Throughout-prop}
+use Rattle.st_disk.proofs.DeviceCalls.{settled_seen}
+use Rattle.st_records.specs.declared.version.Version.{Version}
+use Rattle.st_records.specs.declared.version.Version.TheVariants as versions
+use Rattle.st_records.specs.declared.record.Record.{Record}
+use Rattle.st_records.specs.State.{StateMap, replay}
+use Rattle.st_file.specs.Batch.{framed, FillBatch}
+use Rattle.st_file.specs.Side.{IsVoid, HoldsUpTo, holding, blank}
+use Rattle.st_file.specs.Gated.{IsReady, IsClosedOrOpen, IsOpened}
+use Rattle.st_file.specs.Grown.{HoldsInVersion, HoldsWithOrWithout}
+use Rattle.st_file.specs.Created.{IsVoidOrNew, IsCreated}
+use Rattle.st_file.specs.declared.layout.TheConstants.{HEADER_BYTES}
+use Rattle.st_file.proofs.ReadingLemmas.{one_reading}
+use Rattle.st_file.proofs.LogLemmas.{ready_to_grow}
+use Rattle.st_file.proofs.CommitLemmas.{grown_by, grown}
+use Rattle.st_recovery.specs.Recovers.{Wins, IsChosen, Recovers}
+use Rattle.st_recovery.specs.Stored.{GivesWay, IsStored, AllRecover, AllRecoverEither, ArePossible, ArePossibleOrNew}
+
+-- taking in one list of records and then another
+pub replay-append : (m : StateMap) (rs ss : List Record) → replay m (rs ++ ss) ≡ replay (replay m rs) ss
+replay-append m [] ss = refl
+replay-append m (r ∷ rs) ss = replay-append (replay m (r ∷ [])) rs ss
+
+-- ---- one side that counts
+
+-- a side that holds records wins over one that gives way
+wins : (x y : List ℕ) (v : Version) (generation : ℕ) (held : List Record) (m : StateMap) → HoldsInVersion x v generation held → GivesWay generation y → m ≡ replay map.empty held → Wins x y m
+wins x y v generation held m holds over is =
+    record { v = v; generation = generation; end = holds.0; counts = record { held = held; holds = holds.1; over = over; state_is = is } }
+
+wins_either : (x y : List ℕ) (v : Version) (generation : ℕ) (held batch : List Record) (m : StateMap) → HoldsWithOrWithout v generation held batch x → GivesWay generation y → m ≡ replay map.empty held → Wins x y m ⊎ Wins x y (replay m batch)
+wins_either x y v generation held batch m (inl holds) over is = inl (wins x y v generation held m holds over is)
+wins_either x y v generation held batch m (inr holds) over is =
+    inr (wins x y v generation (held ++ batch) (replay m batch) holds over (ap (λ (n : StateMap). replay n batch) is ∙ sym (replay-append map.empty held batch)))
+
+by_a : (a b : List ℕ) (m n : StateMap) → Wins a b m ⊎ Wins a b n → Recovers a b m ⊎ Recovers a b n
+by_a a b m n (inl w) = inl (inr (inl w))
+by_a a b m n (inr w) = inr (inr (inl w))
+
+by_b : (a b : List ℕ) (m n : StateMap) → Wins b a m ⊎ Wins b a n → Recovers a b m ⊎ Recovers a b n
+by_b a b m n (inl w) = inl (inr (inr w))
+by_b a b m n (inr w) = inr (inr (inr w))
+
+-- so each pair recovers the state before or the state after
+pub pairs_either : (side : Which) {away : UnsyncedWrites} (v : Version) (generation : ℕ) (held batch : List Record) (m : StateMap) (sides : Sides) → SideHas side away (HoldsWithOrWithout v generation held batch) sides
+    → ((x : List ℕ) → IsCrashImage away x → GivesWay generation x) → m ≡ replay map.empty held → AllRecoverEither m (replay m batch) sides
+pairs_either which.A {away} v generation held batch m sides has over is = λ a b is_a is_b.
+    let both = pair_has_a sides has over a b is_a is_b in
+    ∣ by_a a b m (replay m batch) (wins_either a b v generation held batch m both.0 both.1 is) ∣₁
+pairs_either which.B {away} v generation held batch m sides has over is = λ a b is_a is_b.
+    let both = pair_has_b sides has over a b is_a is_b in
+    ∣ by_b a b m (replay m batch) (wins_either b a v generation held batch m both.1 both.0 is) ∣₁
+
+-- and of a store that is on the disk each pair recovers its state
+pub pairs_stored : (side : Which) {seen : List ℕ} {v : Version} {generation end : ℕ} {m : StateMap} (sides : Sides) → IsStored seen (writes_of side sides) (writes_of (other side) sides) v generation end m → AllRecover m sides
+pairs_stored which.A {seen} {v} {generation} {end} {m} sides stored = λ a b is_a is_b.
+    let holds : HoldsUpTo a v generation stored.held end = subst (λ (x : List ℕ). HoldsUpTo x v generation stored.held end) (sym (settled_seen stored.on_disk is_a)) stored.holds in
+    ∣ inr (inl (wins a b v generation stored.held m (end, holds) (stored.over b is_b) stored.state_is)) ∣₁
+pairs_stored which.B {seen} {v} {generation} {end} {m} sides stored = λ a b is_a is_b.
+    let holds : HoldsUpTo b v generation stored.held end = subst (λ (x : List ℕ). HoldsUpTo x v generation stored.held end) (sym (settled_seen stored.on_disk is_b)) stored.holds in
+    ∣ inr (inr (wins b a v generation stored.held m (end, holds) (stored.over a is_a) stored.state_is)) ∣₁
+
+-- both statements have one proof at most
+pub AllRecover-prop : (m : StateMap) (sides : Sides) → IsProp (AllRecover m sides)
+AllRecover-prop m sides = hlevel props
+
+pub AllRecoverEither-prop : (m n : StateMap) (sides : Sides) → IsProp (AllRecoverEither m n sides)
+AllRecoverEither-prop m n sides = hlevel props
+
+pub all_recover : (side : Which) {seen : List ℕ} {v : Version} {generation end : ℕ} {m : StateMap} (sides : Sides) → ∥ IsStored seen (writes_of side sides) (writes_of (other side) sides) v generation end m ∥₁ → AllRecover m sides
+all_recover side {m = m} sides stored = ∥∥₁_elim stored (AllRecover-prop m sides) (λ st. pairs_stored side sides st)
+
+-- ---- commit
+
+-- the text of a batch put behind a store's closed gate
+pub commits : {side : Which} {s text : List ℕ} {v : Version} {generation end : ℕ} {m : StateMap} {rs : List Record} {m0 m1 : Moments}
+    → ∥ IsStored s (writes_of side (now m0)) (writes_of (other side) (now m0)) v generation end m ∥₁ → v ≡ versions.Two → FillBatch versions.Two false rs → text ≡ framed versions.Two rs ++ 0 ∷ []
+    → Throughout m0 m1 (SideHas side (writes_of (other side) (now m0)) (IsClosedOrOpen (take end s) text)) → Throughout m0 m1 (AllRecoverEither m (replay m rs))
+commits {side} {s} {text} {v} {generation} {end} {m} {rs} stored two fills is gated =
+    ∥∥₁_elim stored (Throughout-prop (AllRecoverEither-prop m (replay m rs))) (λ st.
+    throughout_map (grown_by st.holds two fills is gated) (λ sides has. pairs_either side v generation st.held rs m sides has st.over st.state_is))
+
+-- nothing was called
+pub uncommitted : (side : Which) {s : List ℕ} {v : Version} {generation end : ℕ} {m : StateMap} (n : StateMap) (m0 : Moments) → ∥ IsStored s (writes_of side (now m0)) (writes_of (other side) (now m0)) v generation end m ∥₁ → Throughout m0 m0 (AllRecoverEither m n)
+uncommitted side {m = m} n m0 stored =
+    started m0 (λ a b is_a is_b. ∥∥₁_map (all_recover side (now m0) stored a b is_a is_b) (λ r. inl r))
+
+-- after the batch the store holds it too
+stored_again : (side : Which) (m0 m1 : Moments) {s seen text : List ℕ} {v : Version} {generation end later : ℕ} {m n : StateMap} {rs : List Record}
+    → ∥ IsStored s (writes_of side (now m0)) (writes_of (other side) (now m0)) v generation end m ∥₁ → v ≡ versions.Two → FillBatch versions.Two false rs → text ≡ framed versions.Two rs ++ 0 ∷ [] → IsOpened (take end s) text seen (writes_of side (now m1))
+    → writes_of (other side) (now m1) ≡ writes_of (other side) (now m0) → later ≡ end + length text → n ≡ replay m rs → ∥ IsStored seen (writes_of side (now m1)) (writes_of (other side) (now m1)) v generation later n ∥₁
+stored_again side m0 m1 {s} {seen} {text} {v} {generation} {end} {later} {m} {n} {rs} stored two fills is opened away place state_is =
+    ∥∥₁_map stored (λ st. record {
+      on_disk = opened.on_disk;
+      held = st.held ++ rs;
+      holds = grown st.holds two fills is opened place;
+      state_is = state_is ∙ ap (λ (k : StateMap). replay k rs) st.state_is ∙ sym (replay-append map.empty st.held rs);
+      over = λ x image. st.over x (subst (λ (w : UnsyncedWrites). IsCrashImage w x) away image);
+    })
+
+-- also where the log's side, version and generation are only known to be those before
+pub stored_after : {side side1 : Which} (seen : Which → List ℕ) (m0 m1 : Moments) {s text : List ℕ} {v v1 : Version} {generation generation1 end later : ℕ} {m n : StateMap} {rs : List Record}
+    → ∥ IsStored s (writes_of side (now m0)) (writes_of (other side) (now m0)) v generation end m ∥₁ → v ≡ versions.Two → FillBatch versions.Two false rs → text ≡ framed versions.Two rs ++ 0 ∷ [] → IsOpened (take end s) text (seen side) (writes_of side (now m1))
+    → writes_of (other side) (now m1) ≡ writes_of (other side) (now m0) → later ≡ end + length text → n ≡ replay m rs → side1 ≡ side → v1 ≡ v → generation1 ≡ generation
+    → ∥ IsStored (seen side1) (writes_of side1 (now m1)) (writes_of (other side1) (now m1)) v1 generation1 later n ∥₁
+stored_after {side} {side1} seen m0 m1 {s} {text} {v} {v1} {generation} {generation1} {end} {later} {m} {n} {rs} stored two fills is opened away place state_is same_side same_version same_generation =
+    let base : ∥ IsStored (seen side) (writes_of side (now m1)) (writes_of (other side) (now m1)) v generation later n ∥₁ = stored_again side m0 m1 stored two fills is opened away place state_is in
+    let by_generation = subst (λ (k : ℕ). ∥ IsStored (seen side) (writes_of side (now m1)) (writes_of (other side) (now m1)) v k later n ∥₁) (sym same_generation) base in
+    let by_version = subst (λ (w : Version). ∥ IsStored (seen side) (writes_of side (now m1)) (writes_of (other side) (now m1)) w generation1 later n ∥₁) (sym same_version) by_generation in
+    subst (λ (w : Which). ∥ IsStored (seen w) (writes_of w (now m1)) (writes_of (other w) (now m1)) v1 generation1 later n ∥₁) (sym same_side) by_version
+
+-- what a call leaves of a store that isn't dead
+pub done_so : {T E : Type 0} (result : Result T E) (A : Type 0) (side : Which) (sides : Sides) {dead : Bool} {seen : List ℕ} {v : Version} {generation end : ℕ} {m : StateMap} → OnOk result (A × (dead ≡ false))
+    → (dead ≡ false → ∥ IsStored seen (writes_of side sides) (writes_of (other side) sides) v generation end m ∥₁) → OnOk result (AllRecover m sides)
+done_so (Ok x) A side sides alive stored = all_recover side sides (stored alive.1)
+done_so (Err e) A side sides alive stored = tt
+
+-- ---- open
+
+pub possible_first : (sides : Sides) → ArePossible sides sides
+possible_first sides = λ a b is_a is_b. (is_a, is_b)
+
+-- a sync leaves what was possible
+pub possible_synced : (side : Which) (start sides : Sides) (seen : List ℕ) → ArePossible start sides → IsCrashImage (writes_of side sides) seen → ArePossible start (with_writes side (settled seen) sides)
+possible_synced which.A start sides seen has image = λ a b is_a is_b. has a b (subst (λ (x : List ℕ). IsCrashImage sides.a x) (sym (only_image is_a)) image) is_b
+possible_synced which.B start sides seen has image = λ a b is_a is_b. has a b is_a (subst (λ (x : List ℕ). IsCrashImage sides.b x) (sym (only_image is_b)) image)
+
+-- a sync more, whatever it answered
+pub synced_one : (side : Which) (start : Sides) {m0 m1 m2 : Moments} {seen : List ℕ} → Throughout m0 m1 (ArePossible start) → MayPass (after_sync side seen m1) m1 m2 → IsCrashImage (writes_of side (now m1)) seen → Throughout m0 m2 (ArePossible start)
+synced_one side start {m0} {m1} {m2} {seen} so_far may image = goes_on so_far may (possible_synced side start (now m1) seen (at_end so_far) image)
+
+-- a run of calls of which the last one left no moment
+pub throughout_same : {P : Sides → Type 0} {m0 m1 m2 : Moments} → m2 ≡ m1 → Throughout m0 m1 P → Throughout m0 m2 P
+throughout_same {P} {m0} same so_far = subst (λ (m : Moments). Throughout m0 m P) (sym same) so_far
+
+-- a side that holds records isn't void
+holds_something : (side : Which) (x : List ℕ) (v : Version) (generation end : ℕ) (held : List Record) → HoldsUpTo x v generation held end → IsVoid x → ⊥
+holds_something side x v generation end held holds void =
+    let same : holding v generation held end ≡ blank = one_reading side x (holding v generation held end) blank holds void in
+    absurd cc
+
+-- the side that was chosen, both sides being on the disk
+pub stored_of : (seen : Which → List ℕ) (side : Which) (v : Version) (generation end : ℕ) (m : StateMap) (sides : Sides) → IsChosen (seen which.A) (seen which.B) side v generation end m
+    → writes_of which.A sides ≡ settled (seen which.A) → writes_of which.B sides ≡ settled (seen which.B) → IsStored (seen side) (writes_of side sides) (writes_of (other side) sides) v generation end m
+stored_of seen which.A v generation end m sides chosen on_a on_b = record {
+  on_disk = on_a;
+  held = chosen.held;
+  holds = chosen.holds;
+  state_is = chosen.state_is;
+  over = λ x image. subst (GivesWay generation) (sym (settled_seen on_b image)) chosen.over;
+}
+stored_of seen which.B v generation end m sides chosen on_a on_b = record {
+  on_disk = on_b;
+  held = chosen.held;
+  holds = chosen.holds;
+  state_is = chosen.state_is;
+  over = λ x image. subst (GivesWay generation) (sym (settled_seen on_a image)) chosen.over;
+}
+
+-- side A was created, side B being void and on the disk
+pub stored_new : {seen seen_b : List ℕ} {generation : ℕ} {m : StateMap} (sides : Sides) → IsCreated generation seen sides.a → sides.b ≡ settled seen_b → IsVoid seen_b → m ≡ map.empty → IsStored seen sides.a sides.b versions.Two generation HEADER_BYTES m
+stored_new {seen} {seen_b} {generation} sides created on_b void is_empty = record {
+  on_disk = created.on_disk;
+  held = [];
+  holds = created.fresh;
+  state_is = is_empty;
+  over = λ x image. inl (subst IsVoid (sym (settled_seen on_b image)) void);
+}
+
+-- while it is created each pair recovers the empty state
+pub new_pairs : {seen_b : List ℕ} {away : UnsyncedWrites} {generation : ℕ} (sides : Sides) → SideHas which.A away (IsVoidOrNew generation) sides → away ≡ settled seen_b → IsVoid seen_b → EachPair (λ a b. Recovers a b map.empty) sides
+new_pairs {seen_b} {away} {generation} sides has on_b void = λ a b is_a is_b.
+    let both = pair_has_a {Q = IsVoid} sides has (λ x image. subst IsVoid (sym (settled_seen on_b image)) void) a b is_a is_b in
+    by_first a b both.0 both.1
+  where
+    by_first : (a b : List ℕ) → IsVoidOrNew generation a → IsVoid b → Recovers a b map.empty
+    by_first a b (inl none) other_none = inl (none, other_none, refl)
+    by_first a b (inr fresh) other_none = inr (inl (wins a b versions.Two generation [] map.empty (HEADER_BYTES, fresh) (inl other_none) refl))
+
+-- a side that was chosen isn't void
+pub not_both_void : (a b : List ℕ) (side : Which) (v : Version) (generation end : ℕ) (m : StateMap) → IsChosen a b side v generation end m → IsVoid a → IsVoid b → ⊥
+not_both_void a b which.A v generation end m chosen void_a void_b = holds_something which.A a v generation end chosen.held chosen.holds void_a
+not_both_void a b which.B v generation end m chosen void_a void_b = holds_something which.B b v generation end chosen.held chosen.holds void_b
+
+-- a side that was chosen or created is ready for a batch
+pub ready_of : (seen : Which → List ℕ) (side : Which) (v : Version) (generation end : ℕ) (m : StateMap) (sides : Sides) → IsChosen (seen which.A) (seen which.B) side v generation end m
+    → writes_of which.A sides ≡ settled (seen which.A) → writes_of which.B sides ≡ settled (seen which.B) → IsReady (seen side) (writes_of side sides) end
+ready_of seen side v generation end m sides chosen on_a on_b =
+    let st = stored_of seen side v generation end m sides chosen on_a on_b in
+    ready_to_grow (seen side) (writes_of side sides) v generation end st.held st.holds st.on_disk
+
+pub ready_new : {generation : ℕ} {seen : List ℕ} {writes : UnsyncedWrites} → IsCreated generation seen writes → IsReady seen writes HEADER_BYTES
+ready_new {generation} {seen} {writes} created = ready_to_grow seen writes versions.Two generation HEADER_BYTES [] created.fresh created.on_disk
+
+-- the moments of an opening
+pub creating : {seen_b : List ℕ} {away : UnsyncedWrites} {generation : ℕ} {m1 m2 : Moments} → Throughout m1 m2 (SideHas which.A away (IsVoidOrNew generation)) → away ≡ settled seen_b → IsVoid seen_b → Throughout m1 m2 (EachPair (λ a b. Recovers a b map.empty))
+creating so_far on_b void = throughout_map so_far (λ sides has. new_pairs sides has on_b void)
+
+pub possible_or_new : (seen_a seen_b : List ℕ) (start : Sides) {m0 m1 : Moments} → Throughout m0 m1 (ArePossible start) → Throughout m0 m1 (ArePossibleOrNew seen_a seen_b start)
+possible_or_new seen_a seen_b start so_far = throughout_map so_far (λ sides has. λ a b is_a is_b. inl (has a b is_a is_b))
+
+pub then_created : (seen_a seen_b : List ℕ) (start : Sides) {m0 m1 m2 : Moments} → Throughout m0 m1 (ArePossible start) → IsVoid seen_a → IsVoid seen_b → Throughout m1 m2 (EachPair (λ a b. Recovers a b map.empty)) → Throughout m0 m2 (ArePossibleOrNew seen_a seen_b start)
+then_created seen_a seen_b start so_far void_a void_b more =
+    then_goes (possible_or_new seen_a seen_b start so_far) (throughout_map more (λ sides has. λ a b is_a is_b. inr (void_a, (void_b, has a b is_a is_b))))

@@ -1,0 +1,30 @@
+use Rattle.std.proofs.Common.{◌≡◌, ℕ, List, ◌∙◌, ap}
+use Rattle.st_disk.specs.declared.which.Which.{Which}
+use Rattle.st_disk.specs.declared.which.Which.TheVariants as which
+use Rattle.st_recovery.proofs.StoredLemmas.{throughout_same}
+use Rattle.st_recovery.proofs.opening.find.Goals as goal
+
+pub returns-in_err-a-clause-any_moment : goal.returns-in_err-a-clause-any_moment
+returns-in_err-a-clause-any_moment g c = λ honest. throughout_same (c.read_whole.ensures.moments honest) (c.settle_both.ensures.any_moment honest)
+
+pub returns-in_err-b-clause-any_moment : goal.returns-in_err-b-clause-any_moment
+returns-in_err-b-clause-any_moment g c = λ honest.
+    throughout_same (c.read_whole-2.ensures.moments honest) (throughout_same (c.read_whole.ensures.moments honest) (c.settle_both.ensures.any_moment honest))
+
+pub returns-clause-any_moment : goal.returns-clause-any_moment
+returns-clause-any_moment g c = λ honest.
+    throughout_same (c.read_whole-2.ensures.moments honest) (throughout_same (c.read_whole.ensures.moments honest) (c.settle_both.ensures.any_moment honest))
+
+pub returns-clause-chosen : goal.returns-clause-chosen
+returns-clause-chosen g c = λ honest.
+    let a_is : c.deref.result.now ≡ g.D.Disk.seen c.args.disk.now which.A = c.deref.ensures.value ∙ c.in_ok-a.ensures.bytes honest ∙ ap (λ (f : Which → List ℕ). f which.A) (c.settle_both.ensures.seen honest) in
+    let b_is : c.deref-2.result.now ≡ g.D.Disk.seen c.args.disk.now which.B =
+    c.deref-2.ensures.value ∙ c.in_ok-b.ensures.bytes honest ∙ ap (λ (f : Which → List ℕ). f which.B) (c.read_whole.ensures.seen honest ∙ c.settle_both.ensures.seen honest) in
+    rw (a_is, b_is) at c.choose.ensures.chosen
+
+pub returns-clause-void : goal.returns-clause-void
+returns-clause-void g c = λ honest.
+    let a_is : c.deref.result.now ≡ g.D.Disk.seen c.args.disk.now which.A = c.deref.ensures.value ∙ c.in_ok-a.ensures.bytes honest ∙ ap (λ (f : Which → List ℕ). f which.A) (c.settle_both.ensures.seen honest) in
+    let b_is : c.deref-2.result.now ≡ g.D.Disk.seen c.args.disk.now which.B =
+    c.deref-2.ensures.value ∙ c.in_ok-b.ensures.bytes honest ∙ ap (λ (f : Which → List ℕ). f which.B) (c.read_whole.ensures.seen honest ∙ c.settle_both.ensures.seen honest) in
+    rw (a_is, b_is) at c.choose.ensures.void

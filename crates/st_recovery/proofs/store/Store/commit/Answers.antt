@@ -1,0 +1,20 @@
+use Rattle.std.proofs.Common.{◌≡◌, false, rules}
+use Rattle.st_disk.specs.Moments.{now}
+use Rattle.st_file.proofs.CommitLemmas.{grown_by_none}
+use Rattle.st_recovery.proofs.StoredLemmas.{all_recover, uncommitted, done_so}
+use Rattle.st_recovery.proofs.store.Store.commit.Goals as goal
+
+pub returns-then-is_empty-clause-any_moment : goal.returns-then-is_empty-clause-any_moment
+returns-then-is_empty-clause-any_moment g c = λ honest alive. uncommitted c.args.self.now.log.side _ _ (c.args.self.now.stored honest alive)
+
+pub returns-then-is_empty-clause-done : goal.returns-then-is_empty-clause-done
+returns-then-is_empty-clause-done g c = λ honest.
+    let alive : c.args.self.now.log.dead ≡ false = search rules in
+    all_recover c.args.self.now.log.side (now (g.D.Disk.moments c.args.self.now.log.disk)) (c.args.self.now.stored honest alive)
+
+pub returns-clause-done : goal.returns-clause-done
+returns-clause-done g c = λ honest.
+    done_so c.commit_parts.result (c.args.self.now.log.dead ≡ false) c.commit_parts.new.log.side (now (g.D.Disk.moments c.commit_parts.new.log.disk)) c.commit_parts.ensures.alive (c.commit_parts.ensures.stored honest)
+
+pub returns-then-is_empty-clause-held : goal.returns-then-is_empty-clause-held
+returns-then-is_empty-clause-held g c = λ honest held holds. grown_by_none c.args.records.now (search rules) holds

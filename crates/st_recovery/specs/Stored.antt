@@ -1,0 +1,55 @@
+-- A store on a disk, and what every pair of crash images of it recovers. The rule is this project's own.
+use Rattle.std.specs.Prelude.{◌≡◌, ◌⊎◌, ℕ, ◌<◌, List}
+use Rattle.std.specs.FinMap as map
+use Rattle.st_disk.specs.declared.which.Which.{Which}
+use Rattle.st_disk.specs.declared.which.Which.TheVariants.{A}
+use Rattle.st_disk.specs.Crash.{UnsyncedWrites, IsCrashImage, settled, Sides, writes_of, other, EachPair}
+use Rattle.st_records.specs.declared.version.Version.{Version}
+use Rattle.st_records.specs.declared.version.Version.TheVariants as versions
+use Rattle.st_records.specs.declared.record.Record.{Record}
+use Rattle.st_records.specs.State.{StateMap, replay}
+use Rattle.st_file.specs.declared.layout.TheConstants.{HEADER_BYTES}
+use Rattle.st_file.specs.Side.{IsVoid, HoldsUpTo}
+use Rattle.st_recovery.specs.Recovers.{HoldsGeneration, Recovers}
+
+-- a side of this generation counts over a side of these bytes
+abbrev pub GivesWay : ℕ → List ℕ → Type 0
+GivesWay generation x = IsVoid x ⊎ ((smaller : ℕ) × HoldsGeneration x smaller × (smaller < generation))
+
+-- the side that counts is on the disk just as reads give it, and holds up to its end records that make this state of the
+-- empty one; the other side gives way, whatever a crash leaves of it
+pub record IsStored (seen : List ℕ) (writes away : UnsyncedWrites) (v : Version) (generation end : ℕ) (m : StateMap) : Type 0 where
+  pub on_disk : writes ≡ settled seen
+  pub held : List Record
+  pub holds : HoldsUpTo seen v generation held end
+  pub state_is : m ≡ replay map.empty held
+  pub over : (x : List ℕ) → IsCrashImage away x → GivesWay generation x
+
+-- so it is of this side of a disk, by what reads give and what a crash may leave
+abbrev pub IsStoredOn : (Which → List ℕ) → Sides → Which → Version → ℕ → ℕ → StateMap → Type 0
+IsStoredOn seen sides side v generation end m =
+    ∥ IsStored (seen side) (writes_of side sides) (writes_of (other side) sides) v generation end m ∥₁
+
+-- every pair of crash images recovers this state
+abbrev pub AllRecover : StateMap → Sides → Type 0
+AllRecover m = EachPair (λ a b. ∥ Recovers a b m ∥₁)
+
+-- every pair of crash images recovers the one state or the other
+abbrev pub AllRecoverEither : StateMap → StateMap → Sides → Type 0
+AllRecoverEither m n = EachPair (λ a b. ∥ Recovers a b m ⊎ Recovers a b n ∥₁)
+
+-- every pair of crash images was one at this start
+abbrev pub ArePossible : Sides → Sides → Type 0
+ArePossible start = EachPair (λ a b. IsCrashImage start.a a × IsCrashImage start.b b)
+
+-- every pair of crash images was one at this start or, both sides being void there, recovers the empty state
+abbrev pub ArePossibleOrNew : (seen_a seen_b : List ℕ) → Sides → Sides → Type 0
+ArePossibleOrNew seen_a seen_b start = EachPair (λ a b. (IsCrashImage start.a a × IsCrashImage start.b b)
+    ⊎ (IsVoid seen_a × (IsVoid seen_b × Recovers a b map.empty)))
+
+-- the log of a store that was created: on side A, of version 2 and generation 1, behind the header
+pub record IsNewLog (side : Which) (v : Version) (generation end : ℕ) : Type 0 where
+  pub on_a : side ≡ A
+  pub is_two : v ≡ versions.Two
+  pub first : generation ≡ 1
+  pub empty : end ≡ HEADER_BYTES

@@ -1,0 +1,151 @@
+//! The opening of a disk.
+
+ghost use Rattle.std.specs.Prelude.{◌≡◌, ◌⊎◌, false, IfOk, IfErr, IfSome, IfNone, OnOk, IsErrOf};
+ghost use Rattle.std.specs.FinMap as map;
+ghost use Rattle.st_disk.specs.Crash.{writes_of, settled, EachPair};
+ghost use Rattle.st_disk.specs.Moments.{now, Throughout};
+ghost use Rattle.st_disk.specs.Faults.{CountsFaults, Rises};
+ghost use Rattle.st_file.specs.Side.{IsVoid};
+ghost use Rattle.st_file.specs.declared.fault.OpenFault.TheVariants as faults;
+ghost use Rattle.st_recovery.specs.Recovers.{Recovers, RefusesWith, IsChosen};
+ghost use Rattle.st_recovery.specs.Stored.{AllRecover, IsNewLog, ArePossible, ArePossibleOrNew};
+
+use crate::recovery::{Chosen, choose};
+use crate::store::Store;
+use st_disk::{DeviceFault, Disk, Which};
+use st_file::{HEADER_BYTES, Log, OpenFault, create, read_whole};
+use st_records::{HashKey, State, Version};
+use std::alloc::Global;
+
+/// Opens the store that a disk holds: both sides are synced and read, both before either is judged, and the side of the
+/// greater generation is opened. Where both are void, side A is created with generation 1; nothing else is written. A
+/// refusal hands the disk back. Names are hashed under the key, which changes nothing of what is answered.
+pub fn open<D: Disk + Drop>(
+    alloc: Global,
+    key: HashKey,
+    disk: D,
+) -> Result<Store<D>, (OpenFault, D)>
+    // At every moment each pair was possible at the start or, both sides being void, recovers the empty state.
+    ensures any_moment { IfOk result (λ store. D.honest → Throughout (D.moments disk) (D.moments store.log.disk)
+        (ArePossibleOrNew (D.seen disk Which.A) (D.seen disk Which.B) (now (D.moments disk)))) }
+    ensures any_moment_refused { IfErr result (λ e. D.honest → Throughout (D.moments disk) (D.moments e.1)
+        (ArePossibleOrNew (D.seen disk Which.A) (D.seen disk Which.B) (now (D.moments disk)))) }
+    ensures found { IfOk result (λ store. D.honest → Recovers (D.seen disk Which.A) (D.seen disk Which.B) store.state) }
+    ensures recovers { IfOk result (λ store. D.honest → AllRecover store.state (now (D.moments store.log.disk))) }
+    ensures alive { IfOk result (λ store. store.log.dead ≡ false) }
+    ensures created { IfOk result (λ store. D.honest → IsVoid (D.seen disk Which.A) → IsVoid (D.seen disk Which.B)
+        → IsNewLog store.log.side store.log.version store.log.generation store.log.end) }
+    ensures refused { IfErr result (λ e. D.honest → (e.0 ≡ faults.Device) ⊎ ((e.0 ≡ faults.OutOfMemory)
+        ⊎ RefusesWith (D.seen disk Which.A) (D.seen disk Which.B) e.0)) }
+    ensures device { IfErr result (λ e. e.0 ≡ faults.Device → Rises (D.faults disk) (D.faults e.1)) }
+{
+    let mut disk = disk;
+    match find(alloc, key, &mut disk) {
+        Ok(found) => match found {
+            Some(chosen) => Ok(store_of(disk, chosen)),
+            None => open_new(alloc, key, disk),
+        },
+        Err(fault) => Err((fault, disk)),
+    }
+}
+
+/// The store of the side that was chosen.
+fn store_of<D: Disk + Drop>(disk: D, chosen: Chosen) -> Store<D>
+    requires on_a { D.honest → writes_of Which.A (now (D.moments disk)) ≡ settled (D.seen disk Which.A) }
+    requires on_b { D.honest → writes_of Which.B (now (D.moments disk)) ≡ settled (D.seen disk Which.B) }
+    requires chosen { D.honest → IsChosen (D.seen disk Which.A) (D.seen disk Which.B) chosen.side chosen.extent.version
+        chosen.extent.generation chosen.extent.end chosen.state }
+    ensures disk { result.log.disk ≡ disk }
+    ensures alive { result.log.dead ≡ false }
+    ensures state { result.state ≡ chosen.state }
+{
+    let Chosen {
+        side,
+        extent,
+        state,
+    } = chosen;
+    let log = Log {
+        disk,
+        side,
+        version: extent.version,
+        generation: extent.generation,
+        end: extent.end as usize,
+        dead: false,
+    };
+    Store { log, state }
+}
+
+/// The store of two void sides: side A is created.
+fn open_new<D: Disk + Drop>(
+    alloc: Global,
+    key: HashKey,
+    disk: D,
+) -> Result<Store<D>, (OpenFault, D)>
+    requires on_a { D.honest → writes_of Which.A (now (D.moments disk)) ≡ settled (D.seen disk Which.A) }
+    requires on_b { D.honest → writes_of Which.B (now (D.moments disk)) ≡ settled (D.seen disk Which.B) }
+    requires void_a { D.honest → IsVoid (D.seen disk Which.A) }
+    requires void_b { D.honest → IsVoid (D.seen disk Which.B) }
+    ensures any_moment { IfOk result (λ store. D.honest → Throughout (D.moments disk) (D.moments store.log.disk)
+        (EachPair (λ a b. Recovers a b map.empty))) }
+    ensures any_moment_refused { IfErr result (λ e. D.honest → Throughout (D.moments disk) (D.moments e.1)
+        (EachPair (λ a b. Recovers a b map.empty))) }
+    ensures recovers { IfOk result (λ store. D.honest → AllRecover store.state (now (D.moments store.log.disk))) }
+    ensures created { IfOk result (λ store. IsNewLog store.log.side store.log.version store.log.generation store.log.end) }
+    ensures state { IfOk result (λ store. store.state ≡ map.empty) }
+    ensures alive { IfOk result (λ store. store.log.dead ≡ false) }
+    ensures device { IfErr result (λ e. (e.0 ≡ faults.Device) × Rises (D.faults disk) (D.faults e.1)) }
+{
+    let mut disk = disk;
+    match create(&mut disk, Which::A, 1) {
+        Ok(()) => {
+            let log = Log {
+                disk,
+                side: Which::A,
+                version: Version::Two,
+                generation: 1,
+                end: HEADER_BYTES,
+                dead: false,
+            };
+            let state = State::with_key(alloc, key);
+            Ok(Store { log, state })
+        }
+        Err(_) => Err((OpenFault::Device, disk)),
+    }
+}
+
+/// Syncs both sides, reads them and chooses the one that counts; None where both are void. It writes nothing.
+fn find<D: Disk + Drop>(
+    alloc: Global,
+    key: HashKey,
+    disk: &mut D,
+) -> Result<Option<Chosen>, OpenFault>
+    ensures any_moment { D.honest → Throughout (D.moments disk.old) (D.moments disk.new) (ArePossible (now (D.moments disk.old))) }
+    ensures on_a { D.honest → OnOk result (writes_of Which.A (now (D.moments disk.new)) ≡ settled (D.seen disk.old Which.A)) }
+    ensures on_b { D.honest → OnOk result (writes_of Which.B (now (D.moments disk.new)) ≡ settled (D.seen disk.old Which.B)) }
+    ensures seen { D.honest → D.seen disk.new ≡ D.seen disk.old }
+    ensures chosen { D.honest → IfOk result (λ o. IfSome o (λ c. IsChosen (D.seen disk.old Which.A) (D.seen disk.old Which.B)
+        c.side c.extent.version c.extent.generation c.extent.end c.state)) }
+    ensures void { D.honest → IfOk result (λ o. IfNone o (IsVoid (D.seen disk.old Which.A) × IsVoid (D.seen disk.old Which.B))) }
+    ensures refused { D.honest → IfErr result (λ fault. (fault ≡ faults.Device) ⊎ ((fault ≡ faults.OutOfMemory)
+        ⊎ RefusesWith (D.seen disk.old Which.A) (D.seen disk.old Which.B) fault)) }
+    ensures success { OnOk result (D.faults disk.new ≡ D.faults disk.old) }
+    ensures device { IsErrOf result faults.Device → Rises (D.faults disk.old) (D.faults disk.new) }
+{
+    settle_both(disk)?;
+    let a = read_whole(alloc, disk, Which::A)?;
+    let b = read_whole(alloc, disk, Which::B)?;
+    choose(alloc, key, &a, &b)
+}
+
+/// Syncs both sides.
+fn settle_both<D: Disk + Drop>(disk: &mut D) -> Result<(), DeviceFault>
+    ensures any_moment { D.honest → Throughout (D.moments disk.old) (D.moments disk.new) (ArePossible (now (D.moments disk.old))) }
+    ensures on_a { D.honest → OnOk result (writes_of Which.A (now (D.moments disk.new)) ≡ settled (D.seen disk.old Which.A)) }
+    ensures on_b { D.honest → OnOk result (writes_of Which.B (now (D.moments disk.new)) ≡ settled (D.seen disk.old Which.B)) }
+    ensures seen { D.honest → D.seen disk.new ≡ D.seen disk.old }
+    ensures faults { CountsFaults result (D.faults disk.old) (D.faults disk.new) }
+{
+    disk.sync(Which::A)?;
+    disk.sync(Which::B)?;
+    Ok(())
+}

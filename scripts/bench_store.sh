@@ -1,0 +1,38 @@
+#!/bin/bash
+# bench_store.sh [FOLDER]: measures commits of one record to stores of 10, 1,000 and 100,000 entries, in memory and over
+# files, beside plain writes and syncs of as many bytes in the same run; and what a sync costs that leaves the file's
+# times to later. The files stand in a folder of their own in FOLDER (the current one). Nothing is tested.
+set -eu
+folder=$(cd "${1:-.}" && pwd)
+cd "$(dirname "$0")/.."
+(cd crates/store_bench && rt run >/dev/null 2>&1) || [ -x crates/store_bench/out/store_bench ]
+work=$(mktemp -d -p "$folder")
+trap 'rm -rf "$work"' EXIT
+for entries in 10 1000 100000; do
+    for run in 1 2 3; do
+        rm -f "$work"/*
+        python3 scripts/state_file.py begun "$work/state" "$entries"
+        cp "$work/state" "$work/plain"
+        echo "$entries entries, run $run: $(crates/store_bench/out/store_bench "$work/state" "$work/plain")"
+    done
+done
+python3 - "$work/syncs" <<'END'
+import os, statistics, sys, time
+
+# 200 pairs of a write behind the end and one of a byte that is there, each with a sync of the given kind
+def times(sync):
+    file = os.open(sys.argv[1], os.O_RDWR | os.O_CREAT | os.O_TRUNC)
+    behind, within = [], []
+    for n in range(200):
+        for took, text, at in ((behind, bytes(27), 1 + 27 * n), (within, b"\1", 27 * n)):
+            start = time.monotonic_ns()
+            os.pwrite(file, text, at)
+            sync(file)
+            took.append(time.monotonic_ns() - start)
+    os.close(file)
+    return statistics.median(behind), statistics.median(within)
+
+for name, sync in (("fsync", os.fsync), ("fdatasync", os.fdatasync)):
+    behind, within = times(sync)
+    print(f"{name}: {behind:.0f} ns where the file grows, {within:.0f} ns where it does not")
+END
