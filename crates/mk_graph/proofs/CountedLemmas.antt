@@ -140,3 +140,10 @@ has-dedup xs n = same_answer (has (dedup nat_eq xs) n) (has xs n)
 pub has_of_both : (first second both : List ℕ) (n : ℕ) → IsPermutation (first ++ second) both → has (dedup nat_eq both) n ≡ (has first n || has second n)
 has_of_both first second both n moved =
     has-dedup both n ∙ sym (list_any-IsPermutation (nat_eq n) (first ++ second) both moved) ∙ list_any-append (nat_eq n) first second
+
+-- a graph and its rows as sets have the same cycles
+pub no_cycle_in : (g sets : List (List ℕ)) → AreSets g sets → (HasCycle sets → ⊥) → HasCycle g → ⊥
+no_cycle_in g sets are none c = none (HasCycle-wider g sets (wider_sets g sets are) c)
+
+pub cycle_in : (g sets : List (List ℕ)) → AreSets g sets → HasCycle sets → HasCycle g
+cycle_in g sets are = HasCycle-wider sets g (wider_from_sets g sets are)

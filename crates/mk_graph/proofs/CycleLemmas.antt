@@ -133,7 +133,7 @@ abbrev pub LeadsTo : (g : List (List ℕ)) (path : List ℕ) (at : ℕ) → Type
 LeadsTo g [] at = Unit {0}
 LeadsTo g (n ∷ more) at = IsChain g n (more ++ at ∷ [])
 
-leads_on : (g : List (List ℕ)) (path : List ℕ) (at next : ℕ) → LeadsTo g path at → has (row g at) next ≡ true → LeadsTo g (path ++ at ∷ []) next
+pub leads_on : (g : List (List ℕ)) (path : List ℕ) (at next : ℕ) → LeadsTo g path at → has (row g at) next ≡ true → LeadsTo g (path ++ at ∷ []) next
 leads_on g [] at next leads h = (h, tt)
 leads_on g (n ∷ more) at next leads h = subst (IsChain g n) (sym (append_assoc more (at ∷ []) (next ∷ []))) (chain_join g n more at (next ∷ []) leads (h, tt))
 

@@ -1,10 +1,12 @@
 -- Names by first mention: what adding does to them, and that earlier numbers stay.
-use Rattle.std.proofs.Common.{◌≡◌, ℕ, ◌+◌, ◌<◌, ◌≤◌, Bool, true, false, cond, not, ◌||◌, nat_lt, List, [], ◌∷◌, ◌++◌, length, map, position, Some, None, suc, zero, refl, sym, ap, ◌∙◌, arith, lt-ltb, ltb-true, append_assoc, append-nil, length-append}
+use Rattle.std.proofs.Common.{◌≡◌, ℕ, ◌+◌, ◌<◌, ◌≤◌, Bool, true, false, cond, not, ◌||◌, nat_lt, List, [], ◌∷◌, ◌++◌, length, map, take, position, Some, None, suc, zero, refl, sym, ap, ◌∙◌, arith, lt-ltb, ltb-true, append_assoc, append-nil, length-append}
 use Rattle.std.proofs.lemmas.Bool.{and_parts}
 use Rattle.std.proofs.lemmas.List.{get_or_append_left, length-map, map-append}
 use Rattle.std.proofs.lemmas.List.Quantifiers.{position-Some}
 use Rattle.std.specs.Bool.{if◌then◌else◌}
-use Rattle.std.specs.List.{list_any, list_all, prefix_len}
+use Rattle.std.proofs.lemmas.Map.Keys.{IsDistinct-push, IsDistinct-tail, apart_from_distinct}
+use Rattle.std.specs.Cmp.{IsEquivalence}
+use Rattle.std.specs.List.{list_any, list_all, prefix_len, IsDistinct}
 use Rattle.std.specs.Str.{bytes_eq}
 use Rattle.std.specs.Cmp.Lexicographic.{bytes_decides}
 use Rattle.mk_graph.specs.Numbering.{name_at, has_name, added, all_added}
@@ -122,3 +124,41 @@ added-map f b ks k names e h = by b ∙ ap (λ c. if c then names else names ++ 
     by : (b : Bool) → map f (if b then ks else ks ++ k ∷ []) ≡ (if b then names else names ++ f k ∷ [])
     by true = e
     by false = map-append f ks (k ∷ []) ∙ ap (λ l. l ++ f k ∷ []) e
+
+-- ---- names are distinct
+
+both_ways : (a b : Bool) → (a ≡ true → b ≡ true) → (b ≡ true → a ≡ true) → a ≡ b
+both_ways true true f g = refl
+both_ways true false f g = sym (f refl)
+both_ways false true f g = g refl
+both_ways false false f g = refl
+
+bytes_equiv : IsEquivalence bytes_eq
+bytes_equiv = record {
+  refl = λ a. bytes_same a a (λ _. a);
+  symm = λ a b. both_ways (bytes_eq a b) (bytes_eq b a) (λ e. bytes_same b a (sym (same_bytes a b e))) (λ e. bytes_same a b (sym (same_bytes b a e)));
+  congr = λ a b other e. ap (λ l. bytes_eq l other) (same_bytes a b e);
+}
+
+pub distinct_none : IsDistinct bytes_eq []
+unfolding IsDistinct
+distinct_none = tt
+
+distinct_added : (names : List (List ℕ)) (name : List ℕ) → IsDistinct bytes_eq names → IsDistinct bytes_eq (added names name)
+distinct_added names name d = by (has_name names name) refl
+  where
+    by : (b : Bool) → has_name names name ≡ b → IsDistinct bytes_eq (if b then names else names ++ name ∷ [])
+    by true e = d
+    by false e = IsDistinct-push bytes_equiv names name d e
+
+pub distinct_all_added : (names mentioned : List (List ℕ)) → IsDistinct bytes_eq names → IsDistinct bytes_eq (all_added names mentioned)
+distinct_all_added names [] d = d
+distinct_all_added names (name ∷ more) d = distinct_all_added (added names name) more (distinct_added names name d)
+
+-- of distinct names none is among those before it
+pub new_at : (names : List (List ℕ)) (k : ℕ) → IsDistinct bytes_eq names → k < length names → has_name (take k names) (name_at names k) ≡ false
+new_at [] k d h = absurd (omega arith)
+new_at (x ∷ names) zero d h = refl
+new_at (x ∷ names) (suc k) d h =
+    rw (bytes_equiv.symm (name_at names k) x ∙ apart_from_distinct bytes_eq (x ∷ names) 0 (suc k) [] d (omega arith) h)
+    (new_at names k (IsDistinct-tail bytes_eq x names d) (omega arith))

@@ -1,11 +1,14 @@
 -- What is kept while names are numbered.
-use Rattle.std.proofs.Common.{◌≡◌, ℕ, ◌+◌, ◌<◌, ◌≤◌, Bool, true, nat_lt, List, [], ◌∷◌, ◌++◌, length, take, drop, map, suc, zero, refl, sym, ap, ◌∙◌, subst, arith, append_assoc, append-nil, length-append}
-use Rattle.std.proofs.lemmas.Bool.{and_parts}
-use Rattle.std.proofs.lemmas.List.{take_more, take_all, take-append-le, take-append-drop, map-append}
+use Rattle.std.proofs.Common.{◌≡◌, ℕ, ◌+◌, ◌<◌, ◌≤◌, ◌⊎◌, Bool, true, false, ◌||◌, nat_lt, List, [], ◌∷◌, ◌++◌, length, get_or, take, drop, map, Some, slice_get, suc, zero, refl, sym, ap, ◌∙◌, subst, ⊎_elim, arith, append_assoc, append-nil, length-append}
+use Rattle.std.proofs.lemmas.Bool.{and_parts, cases_lt}
+use Rattle.std.proofs.lemmas.List.{take_more, take_all, take-append-le, take-append-drop, map-append, get_or_append_left, get_or_push}
+use Rattle.std.proofs.lemmas.List.Folds.{list_any-append}
+use Rattle.std.proofs.lemmas.Option.{slice_get_within, slice_get-get_or, get_or_from_slice_get}
 use Rattle.std.proofs.lemmas.Grind.{flat_map-append}
 use Rattle.std.specs.List.{list_all, flat_map}
-use Rattle.mk_graph.specs.Numbering.{name_at, has_name, all_added, IsNumbering}
-use Rattle.mk_graph.proofs.NameLemmas.{Begins, begins_all_added, length_from_begins, name_at-begins, below_from_begins, row_from_begins, all_added-append, list_all-all_added, has_name_at}
+use Rattle.std.specs.Str.{bytes_eq}
+use Rattle.mk_graph.specs.Numbering.{name_at, has_name, all_added, IsNumbering, AreDescribed}
+use Rattle.mk_graph.proofs.NameLemmas.{Begins, begins_all_added, length_from_begins, name_at-begins, below_from_begins, row_from_begins, all_added-append, list_all-all_added, has_name_at, bytes_same}
 
 -- names so far, of which the first `done` were looked at: `of` gives prerequisites
 pub record Numbers (of : List ℕ → List (List ℕ)) (goals names : List (List ℕ)) (rows : List (List ℕ)) : Type 0 where
@@ -124,3 +127,52 @@ numbering_at_end of goals names rows before end = record {
 
 pub rows_at_end : (of : List ℕ → List (List ℕ)) (goals names : List (List ℕ)) (rows : List (List ℕ)) → Numbers of goals names rows → length names ≤ length rows → map (map (name_at names)) rows ≡ map of names
 rows_at_end of goals names rows before end = before.rows_are ∙ ap (map of) (take_all (length rows) names end)
+
+-- ---- what was asked for, and nodes
+
+-- the names that were looked at once there is one more
+take_next : (names whole : List (List ℕ)) (k : ℕ) → Begins names whole → k < length names → take (k + 1) whole ≡ take k names ++ name_at names k ∷ []
+take_next names whole k x next = ap (take (k + 1)) (sym x.1) ∙ take-append-le (k + 1) names x.0 (omega arith) ∙ take_more names k [] next
+
+pub asked_more : (names whole : List (List ℕ)) (k : ℕ) (other : List ℕ) → Begins names whole → k < length names
+    → (has_name (take k names) other ≡ true) ⊎ (other ≡ name_at names k) → has_name (take (k + 1) whole) other ≡ true
+asked_more names whole k other x next = ⊎_elim before here
+  where
+    parts : has_name (take (k + 1) whole) other ≡ (has_name (take k names) other || (bytes_eq other (name_at names k) || false))
+    parts = ap (λ l. has_name l other) (take_next names whole k x next) ∙ list_any-append (bytes_eq other) (take k names) (name_at names k ∷ [])
+
+    or_true : (b : Bool) → (b || true) ≡ true
+    or_true true = refl
+    or_true false = refl
+
+    before : has_name (take k names) other ≡ true → has_name (take (k + 1) whole) other ≡ true
+    before h = parts ∙ rw h refl
+
+    here : other ≡ name_at names k → has_name (take (k + 1) whole) other ≡ true
+    here e = parts ∙ rw (bytes_same other (name_at names k) e) (or_true (has_name (take k names) other))
+
+pub described_none : {N : Type 0} (describes : List ℕ → N → Type 0) (names : List (List ℕ)) (nodes : List N) → nodes ≡ [] → AreDescribed describes names nodes
+described_none describes names nodes none = λ n node at.
+    let within = slice_get_within nodes n node at in let z = ap length none in absurd (omega arith)
+
+pub described_more : {N : Type 0} (describes after : List ℕ → N → Type 0) (names whole : List (List ℕ)) (nodes : List N) (new : N)
+    → ((name : List ℕ) (node : N) → describes name node → after name node) → Begins names whole → length nodes < length names
+    → AreDescribed describes names nodes → after (name_at names (length nodes)) new
+    → (n : ℕ) (node : N) → slice_get (nodes ++ new ∷ []) n ≡ Some node → after (name_at whole n) node
+described_more describes after names whole nodes new kept begins next so_far here n node at = ⊎_elim before last (cases_lt n (length nodes))
+  where
+    found : get_or (nodes ++ new ∷ []) n node ≡ node
+    found = get_or_from_slice_get (nodes ++ new ∷ []) n node node at
+
+    before : n < length nodes → after (name_at whole n) node
+    before lt =
+        let same : slice_get nodes n ≡ Some node = slice_get-get_or nodes n node lt ∙ ap Some (sym (get_or_append_left nodes (new ∷ []) node n lt) ∙ found) in
+        subst (λ name. after name node) (sym (name_at-begins names whole n begins (omega arith))) (kept (name_at names n) node (so_far n node same))
+
+    last : length nodes ≤ n → after (name_at whole n) node
+    last past =
+        let within = slice_get_within (nodes ++ new ∷ []) n node at in
+        let longer = length-append nodes (new ∷ []) in
+        let e : length nodes ≡ n = omega arith in
+        let is : new ≡ node = sym (get_or_push nodes new node n e) ∙ found in
+        subst (λ name. after name node) (sym (name_at-begins names whole n begins (omega arith))) (subst (after (name_at names n)) is (subst (λ k. after (name_at names k) new) e here))

@@ -1,9 +1,11 @@
 -- Membership, multiplicity and rows.
-use Rattle.std.proofs.Common.{◌≡◌, ◌≢◌, ℕ, ◌+◌, ◌<◌, ◌≤◌, Bool, true, false, cond, ◌&&◌, ◌||◌, nat_eq, List, [], ◌∷◌, ◌++◌, length, get_or, take, set, map, get_or-set_same, get_or-set_other, refl, sym, ap, ◌∙◌, ⊎_elim, arith, suc, zero, eq-eqb, ne_eqb, eqb-true, true≢false}
-use Rattle.std.proofs.lemmas.Bool.{cases_eq, cases_lt}
-use Rattle.std.proofs.lemmas.List.{get_or_past, get_or-take, length-take-le}
-use Rattle.std.proofs.lemmas.List.Sums.{sum_by-cons, sum_by_more, sum_by_push, sum_by-take-le}
-use Rattle.std.proofs.lemmas.List.Folds.{list_any-append, list_any_more}
+use Rattle.std.proofs.Common.{◌≡◌, ◌≢◌, ℕ, ◌+◌, ◌-◌, ◌*◌, ◌<◌, ◌≤◌, Bool, true, false, cond, ◌&&◌, ◌||◌, nat_eq, nat_lt, nat_le, List, [], ◌∷◌, ◌++◌, length, get_or, take, set, map, replicate, get_or-set_same, get_or-set_other, append_assoc, append-nil, refl, sym, ap, ◌∙◌, subst, ⊎_elim, arith, suc, zero, eq-eqb, ne_eqb, eqb-true, ltb-true, lt-ltb, leb-true, le-leb, true≢false}
+use Rattle.std.proofs.lemmas.Bool.{cases_eq, cases_lt, and_parts}
+use Rattle.std.proofs.lemmas.List.{get_or_past, get_or-take, length-take-le, replicate-append-replicate}
+use Rattle.std.proofs.lemmas.List.Sums.{sum_by-cons, sum_by_more, sum_by_push, sum_by-take-le, sum_by-append}
+use Rattle.std.proofs.lemmas.List.Folds.{list_any-append, list_any_more, list_all-append, sum_by-replicate}
+use Rattle.std.proofs.lemmas.List.Sorted.{IsNonDecreasingBy-short, IsNonDecreasingBy-push}
+use Rattle.std.specs.List.Sorted.{IsNonDecreasing}
 use Rattle.std.specs.List.{list_all}
 use Rattle.mk_graph.specs.Edges.{row, has, times}
 
@@ -72,41 +74,6 @@ below_from_positive xs i h = ⊎_elim (λ lt. lt) (λ past. let z = get_or_past 
 pub has-more : (xs : List ℕ) (i n : ℕ) → i < length xs → has (take (i + 1) xs) n ≡ (has (take i xs) n || nat_eq n (get_or xs i 0))
 has-more xs i n h = list_any_more (nat_eq n) xs i 0 h
 
--- one more prerequisite noted: us are the users so far, base those at the start
-module _ (base us : List (List ℕ)) (node : ℕ) (ps : List ℕ) (i : ℕ) (within : i < length ps)
-    (noted : (n m : ℕ) → m < length base → times n (row us m) ≡ times n (row base m) + cond (nat_eq n node) (times m (take i ps)) 0) where
-  one_more : (b : Bool) (m t : ℕ) → cond b (times m (take i ps)) 0 + cond b t 0 ≡ cond b (times m (take i ps) + t) 0
-  one_more true m t = refl
-  one_more false m t = refl
-
-  noted_apart : (us' : List (List ℕ)) (n m : ℕ) → m < length base → m ≢ get_or ps i 0 → row us' m ≡ row us m
-      → times n (row us' m) ≡ times n (row base m) + cond (nat_eq n node) (times m (take (i + 1) ps)) 0
-  noted_apart us' n m below apart same =
-      let t : times m (take (i + 1) ps) ≡ times m (take i ps) = times-more m ps i within ∙ rw (ne_eqb m (get_or ps i 0) apart) (omega arith) in
-      ap (times n) same ∙ noted n m below ∙ ap (λ k. times n (row base m) + cond (nat_eq n node) k 0) (sym t)
-
-  pub noted_in : length us ≡ length base → get_or ps i 0 < length us → (n m : ℕ) → m < length base
-      → times n (row (set us (get_or ps i 0) (row us (get_or ps i 0) ++ node ∷ [])) m) ≡ times n (row base m) + cond (nat_eq n node) (times m (take (i + 1) ps)) 0
-  noted_in nodes place n m below = ⊎_elim same other (cases_eq m (get_or ps i 0))
-    where
-      same : m ≡ get_or ps i 0 → times n (row (set us (get_or ps i 0) (row us (get_or ps i 0) ++ node ∷ [])) m) ≡ times n (row base m) + cond (nat_eq n node) (times m (take (i + 1) ps)) 0
-      same e =
-          let t : times m (take (i + 1) ps) ≡ times m (take i ps) + 1 = times-more m ps i within ∙ rw (eq-eqb m (get_or ps i 0) e) refl in
-          let at : row (set us (get_or ps i 0) (row us (get_or ps i 0) ++ node ∷ [])) m ≡ row us m ++ node ∷ []
-          = ap (row (set us (get_or ps i 0) (row us (get_or ps i 0) ++ node ∷ []))) e ∙ get_or-set_same us (get_or ps i 0) (row us (get_or ps i 0) ++ node ∷ []) [] place ∙ ap (λ k. row us k ++ node ∷ []) (sym e) in
-          let before = noted n m below in
-          let joined = one_more (nat_eq n node) m 1 in
-          ap (times n) at ∙ times-push n (row us m) node ∙ rw t (omega arith)
-
-      other : m ≢ get_or ps i 0 → times n (row (set us (get_or ps i 0) (row us (get_or ps i 0) ++ node ∷ [])) m) ≡ times n (row base m) + cond (nat_eq n node) (times m (take (i + 1) ps)) 0
-      other apart =
-          noted_apart (set us (get_or ps i 0) (row us (get_or ps i 0) ++ node ∷ [])) n m below apart
-          (get_or-set_other us (get_or ps i 0) m (row us (get_or ps i 0) ++ node ∷ []) [] apart)
-
-  pub noted_past : length base ≤ get_or ps i 0 → (n m : ℕ) → m < length base
-      → times n (row us m) ≡ times n (row base m) + cond (nat_eq n node) (times m (take (i + 1) ps)) 0
-  noted_past past n m below = noted_apart us n m below (λ e. absurd (omega arith)) refl
-
 -- a row of a beginning that is one longer
 pub times-row_more : (g : List (List ℕ)) (i m n : ℕ) → i < length g
     → times m (row (take (i + 1) g) n) ≡ times m (row (take i g) n) + cond (nat_eq n i) (times m (row g i)) 0
@@ -128,3 +95,109 @@ times-row_more g i m n h = ⊎_elim same other (cases_eq n i)
         (λ le. get_or_past (take (i + 1) g) n [] (omega arith) ∙ sym (get_or_past (take i g) n [] (omega arith)))
         (cases_lt n i) in
         ap (times m) at ∙ rw (ne_eqb n i apart) (omega arith)
+
+-- one more prerequisite noted: us are the users so far, base those at the start
+module _ (base us : List (List ℕ)) (node : ℕ) (ps : List ℕ) (i : ℕ) (within : i < length ps)
+    (noted : (m : ℕ) → m < length base → row us m ≡ row base m ++ replicate (times m (take i ps)) node) where
+  noted_apart : (us' : List (List ℕ)) (m : ℕ) → m < length base → m ≢ get_or ps i 0 → row us' m ≡ row us m
+      → row us' m ≡ row base m ++ replicate (times m (take (i + 1) ps)) node
+  noted_apart us' m below apart same =
+      let t : times m (take (i + 1) ps) ≡ times m (take i ps) = times-more m ps i within ∙ rw (ne_eqb m (get_or ps i 0) apart) (omega arith) in
+      same ∙ noted m below ∙ ap (λ k. row base m ++ replicate k node) (sym t)
+
+  pub noted_in : length us ≡ length base → get_or ps i 0 < length us → (m : ℕ) → m < length base
+      → row (set us (get_or ps i 0) (row us (get_or ps i 0) ++ node ∷ [])) m ≡ row base m ++ replicate (times m (take (i + 1) ps)) node
+  noted_in nodes place m below = ⊎_elim same other (cases_eq m (get_or ps i 0))
+    where
+      same : m ≡ get_or ps i 0 → row (set us (get_or ps i 0) (row us (get_or ps i 0) ++ node ∷ [])) m ≡ row base m ++ replicate (times m (take (i + 1) ps)) node
+      same e =
+          let t : times m (take (i + 1) ps) ≡ times m (take i ps) + 1 = times-more m ps i within ∙ rw (eq-eqb m (get_or ps i 0) e) refl in
+          ap (row (set us (get_or ps i 0) (row us (get_or ps i 0) ++ node ∷ []))) e
+          ∙ get_or-set_same us (get_or ps i 0) (row us (get_or ps i 0) ++ node ∷ []) [] place ∙ ap (λ k. row us k ++ node ∷ []) (sym e)
+          ∙ ap (λ l. l ++ node ∷ []) (noted m below)
+          ∙ append_assoc (row base m) (replicate (times m (take i ps)) node) (node ∷ [])
+          ∙ ap (λ l. row base m ++ l) (replicate-append-replicate (times m (take i ps)) 1 node ∙ ap (λ k. replicate k node) (sym t))
+
+      other : m ≢ get_or ps i 0 → row (set us (get_or ps i 0) (row us (get_or ps i 0) ++ node ∷ [])) m ≡ row base m ++ replicate (times m (take (i + 1) ps)) node
+      other apart =
+          noted_apart (set us (get_or ps i 0) (row us (get_or ps i 0) ++ node ∷ [])) m below apart
+          (get_or-set_other us (get_or ps i 0) m (row us (get_or ps i 0) ++ node ∷ []) [] apart)
+
+  pub noted_past : length base ≤ get_or ps i 0 → (m : ℕ) → m < length base → row us m ≡ row base m ++ replicate (times m (take (i + 1) ps)) node
+  noted_past past m below = noted_apart us m below (λ e. absurd (omega arith)) refl
+
+-- a node at the end of a row, so often
+times_noted : (n : ℕ) (xs : List ℕ) (k node : ℕ) → times n (xs ++ replicate k node) ≡ times n xs + cond (nat_eq n node) k 0
+times_noted n xs k node =
+    sum_by-append (λ y. cond (nat_eq n y) 1 0) xs (replicate k node) ∙ ap (λ t. times n xs + t) (sum_by-replicate (λ y. cond (nat_eq n y) 1 0) k node ∙ by (nat_eq n node))
+  where
+    by : (b : Bool) → k * cond b 1 0 ≡ cond b k 0
+    by true = omega arith
+    by false = omega arith
+
+-- a test that all pass, at a place
+pub list_all_place : {X : Type 0} (p : X → Bool) (xs : List X) (i : ℕ) (d : X) → i < length xs → list_all p xs ≡ true → p (get_or xs i d) ≡ true
+list_all_place p [] i d h all = absurd (omega arith)
+list_all_place p (x ∷ xs) zero d h all = (and_parts (p x) (list_all p xs) all).0
+list_all_place p (x ∷ xs) (suc i) d h all = list_all_place p xs i d (omega arith) (and_parts (p x) (list_all p xs) all).1
+
+pub list_all_weaker : (p q : ℕ → Bool) → ((n : ℕ) → p n ≡ true → q n ≡ true) → (xs : List ℕ) → list_all p xs ≡ true → list_all q xs ≡ true
+list_all_weaker p q then [] all = refl
+list_all_weaker p q then (x ∷ xs) all =
+    let parts = and_parts (p x) (list_all p xs) all in
+    rw (then x parts.0, list_all_weaker p q then xs parts.1) refl
+
+list_all_replicate : (p : ℕ → Bool) (k node : ℕ) → p node ≡ true → list_all p (replicate k node) ≡ true
+list_all_replicate p zero node h = refl
+list_all_replicate p (suc k) node h = rw (h, list_all_replicate p k node h) refl
+
+pub row_replicate : (k m : ℕ) → row (replicate k []) m ≡ []
+row_replicate zero m = refl
+row_replicate (suc k) zero = refl
+row_replicate (suc k) (suc m) = row_replicate k m
+
+-- what is kept of a row while nodes are noted in their order
+pub record Rises (limit : ℕ) (xs : List ℕ) : Type 0 where
+  pub below : list_all (λ n. nat_lt n limit) xs ≡ true
+  pub ascending : IsNonDecreasing xs
+
+pub rises_none : (xs : List ℕ) → xs ≡ [] → Rises 0 xs
+rises_none xs none = record {
+  below = ap (list_all (λ n. nat_lt n 0)) none;
+  ascending = IsNonDecreasingBy-short (λ x. x) xs (let z = ap length none in omega arith);
+}
+
+ascending_longer : (xs : List ℕ) (k node : ℕ) → list_all (λ n. nat_le n node) xs ≡ true → IsNonDecreasing xs → IsNonDecreasing (xs ++ replicate k node)
+ascending_longer xs zero node all rises = subst IsNonDecreasing (sym (append-nil xs)) rises
+ascending_longer xs (suc k) node all rises =
+    subst IsNonDecreasing (append_assoc xs (node ∷ []) (replicate k node))
+    (ascending_longer (xs ++ node ∷ []) k node
+    (list_all-append (λ n. nat_le n node) xs (node ∷ []) ∙ rw (all, le-leb node node (omega arith)) refl)
+    (IsNonDecreasingBy-push (λ x. x) xs node rises
+    (λ d some. leb-true (get_or xs (length xs - 1) d) node (list_all_place (λ n. nat_le n node) xs (length xs - 1) d (omega arith) all))))
+
+pub rises_more : (node k : ℕ) (xs : List ℕ) → Rises node xs → Rises (node + 1) (xs ++ replicate k node)
+rises_more node k xs before = record {
+  below =
+      list_all-append (λ n. nat_lt n (node + 1)) xs (replicate k node)
+      ∙ rw (list_all_weaker (λ n. nat_lt n node) (λ n. nat_lt n (node + 1)) (λ n h. let lt = ltb-true n node h in lt-ltb n (node + 1) (omega arith)) xs before.below)
+      (list_all_replicate (λ n. nat_lt n (node + 1)) k node (lt-ltb node (node + 1) (omega arith)));
+  ascending = ascending_longer xs k node
+      (list_all_weaker (λ n. nat_lt n node) (λ n. nat_le n node) (λ n h. let lt = ltb-true n node h in le-leb n node (omega arith)) xs before.below) before.ascending;
+}
+
+-- one more node noted in the rows of its prerequisites
+module _ (g us us' : List (List ℕ)) (node : ℕ) (within : node < length g) (m : ℕ)
+    (noted : row us' m ≡ row us m ++ replicate (times m (row g node)) node) where
+  pub counts_more : (n : ℕ) → times n (row us m) ≡ times m (row (take node g) n) → times n (row us' m) ≡ times m (row (take (node + 1) g) n)
+  counts_more n so_far =
+      ap (times n) noted ∙ times_noted n (row us m) (times m (row g node)) node
+      ∙ ap (λ k. k + cond (nat_eq n node) (times m (row g node)) 0) so_far ∙ sym (times-row_more g node m n within)
+
+  pub rises_in_row : Rises node (row us m) → Rises (node + 1) (row us' m)
+  rises_in_row so_far = subst (Rises (node + 1)) (sym noted) (rises_more node (times m (row g node)) (row us m) so_far)
+
+-- rows within a graph rise, and past its end there are none
+pub ascending_everywhere : (us : List (List ℕ)) (nodes limit : ℕ) → length us ≡ nodes → ((m : ℕ) → m < nodes → Rises limit (row us m)) → (m : ℕ) → IsNonDecreasing (row us m)
+ascending_everywhere us nodes limit same rise m =
+    ⊎_elim (λ lt. (rise m lt).ascending) (λ past. (rises_none (row us m) (get_or_past us m [] (omega arith))).ascending) (cases_lt m nodes)

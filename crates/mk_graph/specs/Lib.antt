@@ -3,5 +3,7 @@ pub mod Cycle
 pub mod Edges
 pub mod Numbering
 pub mod NumberingFault
+pub mod Order
 pub mod Plan
 pub mod Ring
+pub mod Waits

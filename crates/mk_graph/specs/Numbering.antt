@@ -1,6 +1,6 @@
 -- The numbering of names by first mention. Own.
-use Rattle.std.specs.Prelude.{◌≡◌, ℕ, Bool, true, List, [], ◌∷◌, ◌++◌, slice_index_or, if◌then◌else◌}
-use Rattle.std.specs.List.{list_any, list_all, flat_map}
+use Rattle.std.specs.Prelude.{◌≡◌, ℕ, Bool, true, List, [], ◌∷◌, ◌++◌, Some, slice_get, slice_index_or, if◌then◌else◌}
+use Rattle.std.specs.List.{list_any, list_all, flat_map, IsDistinct}
 use Rattle.std.specs.Str.{bytes_eq}
 
 -- the name with a number; nothing past the end
@@ -26,3 +26,11 @@ pub record IsNumbering (of : List ℕ → List (List ℕ)) (goals names : List (
   pub order : names ≡ all_added [] (goals ++ flat_map of names)
   pub least : (inside : List ℕ → Bool) → list_all inside goals ≡ true → ((n : List ℕ) → inside n ≡ true → list_all inside (of n) ≡ true)
       → list_all inside names ≡ true
+
+-- each node is that of the name with its number
+abbrev pub AreDescribed : {N : Type 0} (describes : (name : List ℕ) → N → Type 0) (names : List (List ℕ)) (nodes : List N) → Type 0
+AreDescribed {N} describes names nodes = (n : ℕ) (node : N) → slice_get nodes n ≡ Some node → describes (name_at names n) node
+
+-- no name has two numbers
+abbrev pub DistinctNames : Type 0
+DistinctNames = (of : List ℕ → List (List ℕ)) (goals names : List (List ℕ)) → IsNumbering of goals names → IsDistinct bytes_eq names

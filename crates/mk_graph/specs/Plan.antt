@@ -1,7 +1,8 @@
 -- The order in which the nodes of a graph are passed. Own.
-use Rattle.std.specs.Prelude.{◌≡◌, ℕ, ◌<◌, Bool, true, false, not, ◌&&◌, nat_lt, List, [], ◌∷◌, ◌++◌, length}
+use Rattle.std.specs.Prelude.{◌≡◌, ℕ, ◌<◌, Bool, true, false, not, ◌&&◌, nat_lt, List, [], ◌∷◌, ◌++◌, length, if◌then◌else◌}
 use Rattle.std.specs.List.{list_all}
-use Rattle.mk_graph.specs.Edges.{row, has}
+use Rattle.mk_graph.specs.Edges.{row, has, times, is_closed}
+use Rattle.mk_graph.specs.Cycle.{HasCycle}
 
 -- whether a node can be passed next: it wasn't passed yet, and all its prerequisites were
 abbrev pub is_ready : (g : List (List ℕ)) (passed : List ℕ) (n : ℕ) → Bool
@@ -25,3 +26,8 @@ IsPlan g order = IsPlanAfter g [] order
 -- a graph has one plan at most
 abbrev pub OnePlan : Type 0
 OnePlan = (g : List (List ℕ)) (order other : List ℕ) → IsPlan g order → IsPlan g other → order ≡ other
+
+-- the plan of a graph without a cycle has each node once, and no other number
+abbrev pub WholePlan : Type 0
+WholePlan = (g : List (List ℕ)) (order : List ℕ) → is_closed g ≡ true → (HasCycle g → ⊥) → IsPlan g order
+    → (n : ℕ) → times n order ≡ (if nat_lt n (length g) then 1 else 0)

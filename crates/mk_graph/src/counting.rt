@@ -1,12 +1,13 @@
 //! The edges that order nodes.
 
-ghost use Rattle.std.specs.Prelude.{◌≡◌, ℕ, ◌<◌, ◌||◌, List, length, map, IfOk, IsTrue, MatchOption};
+ghost use Rattle.std.specs.Prelude.{◌≡◌, ℕ, ◌<◌, ◌||◌, List, length, IfOk, IsTrue};
 ghost use Rattle.std.specs.List.Sorted.{IsStrictlyIncreasing};
 ghost use Rattle.mk_graph.specs.Edges.{row, has, is_closed};
-ghost use Rattle.mk_graph.specs.Cycle.{IsCycle, HasCycle};
+ghost use Rattle.mk_graph.specs.Cycle.{HasCycle};
 ghost use Rattle.mk_graph.specs.Counted.{joined, AreSets, AreCounted};
+ghost use Rattle.mk_graph.specs.Order.{IsCountedOrder};
 
-use crate::cycles::find_cycle;
+use crate::cycles::{Order, order_nodes};
 use crate::edges::Edges;
 use std::alloc::{AllocError, Global};
 
@@ -17,8 +18,8 @@ pub struct Counted {
     pub edges: Edges,
     /// Whether soft edges were dropped, since they would make a cycle.
     pub dropped: bool,
-    /// A cycle of hard edges: no order gets round it.
-    pub cycle: Option<Vec<usize>>,
+    /// The order of the nodes by these edges, or a cycle of hard ones.
+    pub order: Order,
 }
 
 /// The numbers of two lists, each once and in their order.
@@ -56,35 +57,48 @@ fn sets_of_both(alloc: Global, hard: &Edges, soft: &Edges) -> Result<Edges, Allo
     Ok(Edges::new(rows))
 }
 
+/// What orders the nodes where hard and soft edges together make a cycle.
+fn count_hard(alloc: Global, hard: &Edges, soft: &Edges, both: Edges) -> Result<Counted, AllocError>
+    requires hard { IsTrue (is_closed hard.now) }
+    requires both { AreSets (joined hard.now soft.now) both }
+    requires closed { IsTrue (is_closed both) }
+    requires cycle { HasCycle both }
+    ensures counted { IfOk result (λ c. AreCounted hard.now soft.now c.edges c.dropped) }
+    ensures order { IfOk result (λ c. IsCountedOrder hard.now c.edges c.order) }
+    ensures closed { IfOk result (λ c. IsTrue (is_closed c.edges)) }
+{
+    let alone = sets(alloc, hard)?;
+    match order_nodes(alloc, &alone)? {
+        Order::Plan(order) => Ok(Counted {
+            edges: alone,
+            dropped: true,
+            order: Order::Plan(order),
+        }),
+        Order::Cycle(cycle) => Ok(Counted {
+            edges: both,
+            dropped: false,
+            order: Order::Cycle(cycle),
+        }),
+    }
+}
+
 /// The edges that order the nodes of a graph: hard and soft ones, or hard ones alone where both together make a cycle
-/// and the hard ones don't. Where hard ones make one, it is answered besides.
+/// and the hard ones don't; and the order that they make. Where hard ones make a cycle, it is answered instead.
 pub fn count_edges(alloc: Global, hard: &Edges, soft: &Edges) -> Result<Counted, AllocError>
     requires nodes { length soft.now ≡ length hard.now }
     requires hard { IsTrue (is_closed hard.now) }
     requires soft { IsTrue (is_closed soft.now) }
     ensures counted { IfOk result (λ c. AreCounted hard.now soft.now c.edges c.dropped) }
-    ensures cycle { IfOk result (λ c. MatchOption c.cycle (HasCycle hard.now → ⊥) (λ cycle. IsCycle hard.now cycle.items)) }
+    ensures order { IfOk result (λ c. IsCountedOrder hard.now c.edges c.order) }
     ensures closed { IfOk result (λ c. IsTrue (is_closed c.edges)) }
 {
     let both = sets_of_both(alloc, hard, soft)?;
-    if find_cycle(alloc, &both)?.is_none() {
-        return Ok(Counted {
+    match order_nodes(alloc, &both)? {
+        Order::Plan(order) => Ok(Counted {
             edges: both,
             dropped: false,
-            cycle: None,
-        });
-    }
-    let alone = sets(alloc, hard)?;
-    match find_cycle(alloc, &alone)? {
-        None => Ok(Counted {
-            edges: alone,
-            dropped: true,
-            cycle: None,
+            order: Order::Plan(order),
         }),
-        Some(cycle) => Ok(Counted {
-            edges: both,
-            dropped: false,
-            cycle: Some(cycle),
-        }),
+        Order::Cycle(_) => count_hard(alloc, hard, soft, both),
     }
 }

@@ -4,6 +4,7 @@ ghost use Rattle.std.specs.Prelude.{◌≡◌, ℕ, ◌<◌, Bool, true, false, 
 ghost use Rattle.std.specs.List.{IsDistinct, list_all};
 ghost use Rattle.mk_graph.specs.Edges.{row, has, is_closed};
 ghost use Rattle.mk_graph.specs.Cycle.{IsCycle, HasCycle};
+ghost use Rattle.mk_graph.specs.Order.{IsOrder};
 ghost use Rattle.mk_graph.specs.Ring.{IsRing};
 
 use crate::edges::Edges;
@@ -130,17 +131,38 @@ fn from_least(alloc: Global, ring: &[usize]) -> Result<Vec<usize>, AllocError>
     Ok(cycle)
 }
 
+/// What orders the nodes of a graph.
+#[derive(Debug, Drop)]
+pub enum Order {
+    /// Their plan. The graph has no cycle, so each node is there.
+    Plan(Vec<usize>),
+    /// A cycle, round which there is no order: from its least node on and back to it, each node followed by one of its
+    /// prerequisites.
+    Cycle(Vec<usize>),
+}
+
+/// The plan of a graph, or a cycle where it has one. Of several cycles any may be given.
+pub fn order_nodes(alloc: Global, edges: &Edges) -> Result<Order, AllocError>
+    requires { IsTrue (is_closed edges.now) }
+    ensures { IfOk result (IsOrder edges.now) }
+{
+    let order = plan(alloc, edges)?;
+    let passed = marks(alloc, edges.len(), &order)?;
+    let Some(start) = first_unmarked(&passed) else {
+        return Ok(Order::Plan(order));
+    };
+    let ring = walk(alloc, edges, &passed, start)?;
+    Ok(Order::Cycle(from_least(alloc, &ring)?))
+}
+
 /// A cycle of the graph, from its least node on, each node followed by one of its prerequisites; None where there is
 /// none. Of several cycles any may be given.
 pub fn find_cycle(alloc: Global, edges: &Edges) -> Result<Option<Vec<usize>>, AllocError>
     requires { IsTrue (is_closed edges.now) }
     ensures { IfOk result (λ found. MatchOption found (HasCycle edges.now → ⊥) (λ cycle. IsCycle edges.now cycle.items)) }
 {
-    let order = plan(alloc, edges)?;
-    let passed = marks(alloc, edges.len(), &order)?;
-    let Some(start) = first_unmarked(&passed) else {
-        return Ok(None);
-    };
-    let ring = walk(alloc, edges, &passed, start)?;
-    Ok(Some(from_least(alloc, &ring)?))
+    match order_nodes(alloc, edges)? {
+        Order::Plan(_) => Ok(None),
+        Order::Cycle(cycle) => Ok(Some(cycle)),
+    }
 }

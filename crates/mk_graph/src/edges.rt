@@ -1,6 +1,6 @@
 //! A graph: the prerequisites of each node.
 
-ghost use Rattle.std.specs.Prelude.{◌≡◌, ℕ, ◌+◌, ◌<◌, [], length, map, replicate, IfOk, OnOk, nat_eq, nat_lt, if◌then◌else◌};
+ghost use Rattle.std.specs.Prelude.{◌≡◌, ℕ, ◌<◌, [], ◌++◌, length, map, replicate, IfOk, OnOk, nat_lt};
 ghost use Rattle.mk_graph.specs.Edges.{row, times, is_closed, AreUsers};
 ghost use Rattle.std.specs.List.{list_all};
 
@@ -31,16 +31,15 @@ fn empty_rows(alloc: Global, nodes: usize) -> Result<Vec<Vec<usize>>, AllocError
     Ok(rows)
 }
 
-/// Notes a node in the row of each of its prerequisites.
+/// Notes a node at the end of the row of each of its prerequisites, as often as it names it.
 fn note_user(
     users: &mut Vec<Vec<usize>>,
     node: usize,
     prerequisites: &[usize],
 ) -> Result<(), AllocError>
     ensures nodes { OnOk result (length users.new.items ≡ length users.old.items) }
-    ensures counts { OnOk result ((n m : ℕ) → m < length users.old.items
-        → times n (row (map (λ r. r.items) users.new.items) m)
-        ≡ times n (row (map (λ r. r.items) users.old.items) m) + (if nat_eq n node then times m prerequisites.now else 0)) }
+    ensures rows { OnOk result ((m : ℕ) → m < length users.old.items → row (map (λ r. r.items) users.new.items) m
+        ≡ row (map (λ r. r.items) users.old.items) m ++ replicate (times m prerequisites.now) node) }
 {
     for prerequisite in prerequisites {
         if *prerequisite < users.len() {
@@ -97,7 +96,8 @@ impl Edges {
         rows_below(&self.rows, self.rows.len())
     }
 
-    /// The users of each node: a node has one for each time that a row names it. Numbers past the end have none.
+    /// The users of each node in their order: a node has one for each time that a row names it. Numbers past the end
+    /// have none.
     pub fn reversed(&self, alloc: Global) -> Result<Edges, AllocError>
         ensures { IfOk result (AreUsers self.now) }
     {

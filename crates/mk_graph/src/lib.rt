@@ -8,10 +8,12 @@ mod edges;
 mod names;
 mod numbering;
 mod planning;
+mod waiting;
 
 pub use counting::{Counted, count_edges};
-pub use cycles::find_cycle;
+pub use cycles::{Order, find_cycle, order_nodes};
 pub use edges::Edges;
 pub use names::Names;
-pub use numbering::{Dependencies, Numbered, NumberingFault, number};
-pub use planning::{one_plan, plan};
+pub use numbering::{Dependencies, Found, Numbered, NumberingFault, distinct_names, number};
+pub use planning::{one_plan, plan, whole_plan};
+pub use waiting::add_waits;

@@ -1,9 +1,10 @@
 //! Names by number, in the order in which they were first mentioned.
 
-ghost use Rattle.std.specs.Prelude.{◌≡◌, ℕ, ◌+◌, ◌<◌, ◌≤◌, List, [], length, map, nat_lt, true, Some, is_some, option_copied, IfOk, IfSome, OnOk, OnErr, MatchOption};
-ghost use Rattle.std.specs.List.{list_all, slice_get};
+ghost use Rattle.std.specs.Prelude.{◌≡◌, ℕ, ◌<◌, ◌≤◌, List, [], ◌∷◌, ◌++◌, length, map, nat_lt, true, false, not, is_some, IfOk, IfSome, OnOk, OnErr, MatchOption};
+ghost use Rattle.std.specs.List.{list_all};
 ghost use Rattle.mk_graph.specs.Numbering.{name_at, has_name, added, all_added};
 
+use byte_strings::ByteStrings;
 use indexmap::IndexSet;
 use std::alloc::{AllocError, Global};
 use std::marker::Model;
@@ -23,7 +24,8 @@ impl Model for Names {
 }
 
 impl Names {
-    pub(crate) fn new(alloc: Global) -> Names
+    /// No names, which takes no memory.
+    pub fn new(alloc: Global) -> Names
         ensures { result ≡ [] }
     {
         Names {
@@ -54,20 +56,48 @@ impl Names {
         self.set.get_index_of(name)
     }
 
+    /// Gives the next number to a name that has none.
+    fn push(&mut self, alloc: Global, name: &[u8]) -> Result<(), AllocError>
+        requires { has_name self.old name.now ≡ false }
+        ensures ok { OnOk result (self.new ≡ self.old ++ name.now ∷ []) }
+        ensures err { OnErr result (self.new ≡ self.old) }
+    {
+        let _new = self.set.insert(Vec::from_slice(alloc, name)?)?;
+        Ok(())
+    }
+
+    /// Takes in that a name is mentioned, and tells whether it is new.
+    pub fn mention(&mut self, alloc: Global, name: &[u8]) -> Result<bool, AllocError>
+        ensures fresh { IfOk result (λ is_new. is_new ≡ not (has_name self.old name.now)) }
+        ensures ok { OnOk result (self.new ≡ added self.old name.now) }
+        ensures err { OnErr result (self.new ≡ self.old) }
+    {
+        if self.number_of(name).is_some() {
+            return Ok(false);
+        }
+        self.push(alloc, name)?;
+        Ok(true)
+    }
+
     /// The number of a name, which is given the next one where it has none; None where that would be past the limit.
-    pub(crate) fn add(&mut self, name: Vec<u8>, limit: usize) -> Result<Option<usize>, AllocError>
-        ensures ok { IfOk result (λ number. MatchOption number (limit < length (added self.old name.items)) (λ n.
-            (self.new ≡ added self.old name.items) × (n < length self.new) × (name_at self.new n ≡ name.items))) }
+    pub(crate) fn add(
+        &mut self,
+        alloc: Global,
+        name: &[u8],
+        limit: usize,
+    ) -> Result<Option<usize>, AllocError>
+        ensures ok { IfOk result (λ number. MatchOption number (limit < length (added self.old name.now)) (λ n.
+            (self.new ≡ added self.old name.now) × (n < length self.new) × (name_at self.new n ≡ name.now))) }
         ensures within { IfOk result (λ number. IfSome number (λ _. length self.old ≤ limit → length self.new ≤ limit)) }
     {
-        if let Some(number) = self.number_of(&name) {
+        if let Some(number) = self.number_of(name) {
             return Ok(Some(number));
         }
-        let number = self.set.len();
+        let number = self.len();
         if number >= limit {
             return Ok(None);
         }
-        self.set.insert(name)?;
+        self.push(alloc, name)?;
         Ok(Some(number))
     }
 
@@ -75,18 +105,18 @@ impl Names {
     pub(crate) fn add_all(
         &mut self,
         alloc: Global,
-        mentioned: Vec<Vec<u8>>,
+        mentioned: &ByteStrings,
         limit: usize,
     ) -> Result<Option<Vec<usize>>, AllocError>
-        ensures ok { IfOk result (λ row. MatchOption row (limit < length (all_added self.old (map (λ v. v.items) mentioned.items))) (λ row.
-            (self.new ≡ all_added self.old (map (λ v. v.items) mentioned.items))
+        ensures ok { IfOk result (λ row. MatchOption row (limit < length (all_added self.old mentioned.now)) (λ row.
+            (self.new ≡ all_added self.old mentioned.now)
             × (list_all (λ n. nat_lt n (length self.new)) row.items ≡ true)
-            × (map (name_at self.new) row.items ≡ map (λ v. v.items) mentioned.items))) }
+            × (map (name_at self.new) row.items ≡ mentioned.now))) }
         ensures within { IfOk result (λ row. IfSome row (λ _. length self.old ≤ limit → length self.new ≤ limit)) }
     {
         let mut row = Vec::with_capacity(alloc, mentioned.len())?;
-        for name in mentioned {
-            let Some(number) = self.add(name, limit)? else {
+        for name in mentioned.iter() {
+            let Some(number) = self.add(alloc, name, limit)? else {
                 return Ok(None);
             };
             row.push(number)?;

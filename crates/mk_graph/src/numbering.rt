@@ -1,32 +1,61 @@
 //! The numbering of all names that goals lead to.
 
-ghost use Rattle.std.specs.Prelude.{◌≡◌, ℕ, ◌<◌, ◌≤◌, List, [], length, map, nat_lt, true, IfOk, IfErr, IsTrue};
+ghost use Rattle.std.specs.Prelude.{◌≡◌, ℕ, ◌≤◌, ◌⊎◌, List, length, map, nat_lt, true, IfOk, IfErr, IsTrue};
 ghost use Rattle.std.specs.List.{list_all};
 ghost use Rattle.mk_graph.specs.Edges.{is_closed};
-ghost use Rattle.mk_graph.specs.Numbering.{IsNumbering, name_at};
+ghost use Rattle.mk_graph.specs.Numbering.{IsNumbering, AreDescribed, DistinctNames, name_at, has_name};
 ghost use Rattle.mk_graph.specs.NumberingFault.{IsNumberingFault};
 
 use crate::edges::Edges;
 use crate::names::Names;
+use byte_strings::ByteStrings;
 use std::alloc::{AllocError, AllocFailed, Global};
 
-/// What gives the prerequisites of a name.
+/// What is found of a name.
+#[derive(Drop)]
+pub struct Found<N> {
+    /// Its prerequisites, in order; a name may stand there more than once.
+    pub prerequisites: ByteStrings,
+    pub node: N,
+}
+
+/// What gives the prerequisites of a name. It is asked for a name once at most.
 pub trait Dependencies {
     /// Why prerequisites can't be given.
     type Fault;
 
+    /// What is found of a name beside its prerequisites.
+    type Node: Drop;
+
     /// Which functions from a name to its prerequisites agree with all that was answered so far.
     ghost allows: { Self → (List ℕ → List (List ℕ)) → Type 0 };
+
+    /// That a name was asked for.
+    ghost asked: { Self → List ℕ → Type 0 };
+
+    /// That the node is that of the name.
+    ghost describes: { Self → List ℕ → Self.Node → Type 0 };
 
     /// That the prerequisites of a name can't be given, for this cause.
     ghost refuses: { Self → List ℕ → Self.Fault → Type 0 };
 
-    /// The prerequisites of a name, in order. An answer narrows what is still possible and never widens it.
-    fn prerequisites(&mut self, alloc: Global, name: &[u8]) -> Result<Vec<Vec<u8>>, Self::Fault>
+    /// The prerequisites of a name, and its node. An answer narrows what is still possible and never widens it.
+    fn prerequisites(
+        &mut self,
+        alloc: Global,
+        name: &[u8],
+    ) -> Result<Found<Self::Node>, Self::Fault>
+        requires { ¬ (asked self.old name.now) }
         ensures list { IfOk result (λ found. (of : List ℕ → List (List ℕ)) → allows self.new of
-            → map (λ v. v.items) found.items ≡ of name.now) }
+            → found.prerequisites ≡ of name.now) }
         ensures grows { (of : List ℕ → List (List ℕ)) → allows self.new of → allows self.old of }
+        ensures node { IfOk result (λ found. describes self.new name.now found.node) }
+        ensures kept { (other : List ℕ) (node : Self.Node) → describes self.old other node → describes self.new other node }
+        ensures asks { (other : List ℕ) → asked self.new other → (asked self.old other) ⊎ (other ≡ name.now) }
         ensures refused { IfErr result (refuses self.new name.now) };
+
+    // Something is always possible.
+    ghost possible: { (source : Self) → (of : List ℕ → List (List ℕ)) × allows source of };
 }
 
 /// Why names aren't numbered.
@@ -61,39 +90,46 @@ impl<F, T: Drop> From<AllocFailed<T>> for NumberingFault<F> {
     }
 }
 
-/// Names by number and the prerequisites of each.
+/// Names by number, with what was found of each.
 #[derive(Drop)]
-pub struct Numbered {
+pub struct Numbered<N> {
     pub names: Names,
     /// The numbers of the goals, in turn.
     pub goals: Vec<usize>,
     /// The numbers of each name's prerequisites, in turn.
     pub rows: Edges,
+    /// The node of each name.
+    pub nodes: Vec<N>,
 }
 
 /// Numbers the goals and all names that they lead to: the goals by first mention, then, name by name in the order of
 /// their numbers, the prerequisites that are new.
 ///
-/// `TooMany` where there are more names than the limit. Each name's prerequisites are asked for once.
+/// `TooMany` where there are more names than the limit. The source is asked for each name that is numbered, and for no
+/// other.
 pub fn number<R: Dependencies>(
     alloc: Global,
     source: &mut R,
-    goals: Vec<Vec<u8>>,
+    goals: &ByteStrings,
     limit: usize,
-) -> Result<Numbered, NumberingFault<R::Fault>>
+) -> Result<Numbered<R::Node>, NumberingFault<R::Fault>>
+    requires { (name : List ℕ) → ¬ (R.asked source.old name) }
     ensures names { IfOk result (λ n. (of : List ℕ → List (List ℕ)) → R.allows source.new of
-        → IsNumbering of (map (λ v. v.items) goals.items) n.names) }
+        → IsNumbering of goals.now n.names) }
     ensures rows { IfOk result (λ n. (of : List ℕ → List (List ℕ)) → R.allows source.new of
         → map (map (name_at n.names)) n.rows ≡ map of n.names) }
-    ensures goals { IfOk result (λ n. map (name_at n.names) n.goals.items ≡ map (λ v. v.items) goals.items) }
+    ensures goals { IfOk result (λ n. map (name_at n.names) n.goals.items ≡ goals.now) }
+    ensures described { IfOk result (λ n. AreDescribed (R.describes source.new) n.names n.nodes.items) }
+    ensures asked { IfOk result (λ n. (name : List ℕ) → R.asked source.new name → has_name n.names name ≡ true) }
 
-    // Each number is that of a name, and there is a row for each name.
-    ensures nodes { IfOk result (λ n. length n.rows ≡ length n.names) }
+    // There is a row and a node for each name, and each number is that of a name.
+    ensures row_count { IfOk result (λ n. length n.rows ≡ length n.names) }
+    ensures node_count { IfOk result (λ n. length n.nodes.items ≡ length n.names) }
     ensures closed { IfOk result (λ n. IsTrue (is_closed n.rows)) }
-    ensures goal_nodes { IfOk result (λ n. list_all (λ m. nat_lt m (length n.names)) n.goals.items ≡ true) }
+    ensures goal_numbers { IfOk result (λ n. list_all (λ m. nat_lt m (length n.names)) n.goals.items ≡ true) }
     ensures within { IfOk result (λ n. length n.names ≤ limit) }
 
-    ensures fault { IfErr result (IsNumberingFault (R.allows source.new) (R.refuses source.new) (map (λ v. v.items) goals.items) limit) }
+    ensures fault { IfErr result (IsNumberingFault (R.allows source.new) (R.refuses source.new) goals.now limit) }
     ensures grows { (of : List ℕ → List (List ℕ)) → R.allows source.new of → R.allows source.old of }
 {
     let mut names = Names::new(alloc);
@@ -101,19 +137,27 @@ pub fn number<R: Dependencies>(
         return Err(NumberingFault::TooMany);
     };
     let mut rows: Vec<Vec<usize>> = Vec::new(alloc);
+    let mut nodes = Vec::new(alloc);
     while rows.len() < names.len() {
         let found = match source.prerequisites(alloc, names.name(rows.len())) {
             Ok(found) => found,
             Err(cause) => return Err(NumberingFault::Source(cause)),
         };
-        let Some(row) = names.add_all(alloc, found, limit)? else {
+        let Some(row) = names.add_all(alloc, &found.prerequisites, limit)? else {
             return Err(NumberingFault::TooMany);
         };
         rows.push(row)?;
+        nodes.push(found.node)?;
     }
     Ok(Numbered {
         names,
         goals: goal_numbers,
         rows: Edges::new(rows),
+        nodes,
     })
 }
+
+/// No name has two numbers.
+pub fn distinct_names()
+    ensures { DistinctNames }
+{}

@@ -5,7 +5,7 @@ ghost use Rattle.std.specs.List.{IsDistinct, list_all};
 ghost use Rattle.std.specs.Ordering.{nat_cmp};
 ghost use Rattle.std.specs.BTreeSet.{contains};
 ghost use Rattle.mk_graph.specs.Edges.{row, has, times};
-ghost use Rattle.mk_graph.specs.Plan.{is_ready, IsPlan, OnePlan};
+ghost use Rattle.mk_graph.specs.Plan.{IsPlan, OnePlan, WholePlan};
 
 use crate::edges::Edges;
 use std::alloc::{AllocError, Global};
@@ -77,4 +77,9 @@ pub fn plan(alloc: Global, edges: &Edges) -> Result<Vec<usize>, AllocError>
 /// A graph has one plan.
 pub fn one_plan()
     ensures { OnePlan }
+{}
+
+/// The plan of a graph without a cycle has each node once.
+pub fn whole_plan()
+    ensures { WholePlan }
 {}

@@ -3,8 +3,8 @@ use mk_graph::Edges;
 use std::alloc::{AllocError, Global};
 use std::test::Fail;
 
-/// The graph with these rows.
-pub fn graph(alloc: Global, text: &str) -> Result<Edges, Fail> {
+/// Rows of numbers, with a `/` behind each.
+pub fn text_rows(alloc: Global, text: &str) -> Result<Vec<Vec<usize>>, Fail> {
     let mut rows = Vec::new(alloc);
     for row in text.split('/') {
         let mut numbers = Vec::new(alloc);
@@ -14,7 +14,12 @@ pub fn graph(alloc: Global, text: &str) -> Result<Edges, Fail> {
         rows.push(numbers)?;
     }
     let _ = rows.pop();
-    Ok(Edges::new(rows))
+    Ok(rows)
+}
+
+/// The graph with these rows.
+pub fn graph(alloc: Global, text: &str) -> Result<Edges, Fail> {
+    Ok(Edges::new(text_rows(alloc, text)?))
 }
 
 /// Numbers with a space between each two.

@@ -1,9 +1,14 @@
 // Graphs of the size that a make has to bear.
-use mk_graph::{Dependencies, Edges, NumberingFault, find_cycle, number, plan};
-use std::alloc::{AllocError, Global};
+use crate::table::{Rule, Table};
+use byte_strings::ByteStrings;
+use indexmap::IndexMap;
+use mk_graph::{Edges, find_cycle, number, plan};
+use std::alloc::Global;
 use std::test::Fail;
 
 const NODES: usize = 100_000;
+
+const NAMES: usize = 20_000;
 
 /// A chain: each node needs the next one, and the last one needs `last`.
 fn chain(alloc: Global, nodes: usize, last: Option<usize>) -> Result<Edges, Fail> {
@@ -71,48 +76,48 @@ fn a_million_edges(rt: HostRuntime) -> Result<(), Fail> {
     Ok(())
 }
 
-/// Names that are numbers, each of which needs the next one, up to the last.
-#[derive(Drop)]
-pub struct Count {
-    next: usize,
-    last: usize,
+/// Names that are numbers, each of which needs the next one.
+fn chain_of_names(alloc: Global, nodes: usize) -> Result<IndexMap<Vec<u8>, Rule>, Fail> {
+    let mut rules = IndexMap::new(alloc);
+    for node in 1..nodes {
+        let mut prerequisites = ByteStrings::with_capacity(alloc, 1, 8)?;
+        prerequisites.push(&node.to_le_bytes())?;
+        let rule = Rule {
+            prerequisites,
+            broken: false,
+        };
+        let before = node - 1;
+        rules.insert(Vec::from_slice(alloc, &before.to_le_bytes())?, rule)?;
+    }
+    Ok(rules)
 }
 
-impl Dependencies for Count {
-    type Fault = AllocError;
-
-    // What it gives is told by the tests alone.
-    ghost allows = { λ _ _. ⊥ };
-
-    ghost refuses = { λ _ _ _. Unit {0} };
-
-    fn prerequisites(&mut self, alloc: Global, _name: &[u8]) -> Result<Vec<Vec<u8>>, AllocError> {
-        let mut found = Vec::new(alloc);
-        if self.next < self.last {
-            self.next = self.next.saturating_add(1);
-            let next = self.next;
-            let name = format!(in alloc; "{next}")?;
-            found.push(Vec::from_slice(alloc, name.as_bytes())?)?;
-        }
-        Ok(found)
-    }
-}
-
-fn numbered_up_to(alloc: Global, last: usize) -> Result<&'static str, Fail> {
-    let mut source = Count { next: 1, last };
-    let mut goals = Vec::new(alloc);
-    goals.push(Vec::from_slice(alloc, b"1")?)?;
-    match number(alloc, &mut source, goals, NODES) {
-        Ok(_) => Ok("numbered"),
-        Err(NumberingFault::TooMany) => Ok("too many"),
-        Err(_) => Ok("out of memory"),
-    }
+/// How many names a numbering from name 0 on has, and the rules again.
+fn numbered(
+    alloc: Global,
+    rules: IndexMap<Vec<u8>, Rule>,
+    limit: usize,
+) -> Result<(Option<usize>, IndexMap<Vec<u8>, Rule>), Fail> {
+    let mut goals = ByteStrings::empty(alloc);
+    goals.push(&0usize.to_le_bytes())?;
+    let mut source = Table {
+        rules,
+        asked: ByteStrings::empty(alloc),
+    };
+    let count = match number(alloc, &mut source, &goals, limit) {
+        Ok(given) => Some(given.names.len()),
+        Err(_) => None,
+    };
+    Ok((count, source.rules))
 }
 
 #[test]
-fn as_many_names_as_the_limit(rt: HostRuntime) -> Result<(), Fail> {
+fn a_chain_of_names_as_long_as_the_limit(rt: HostRuntime) -> Result<(), Fail> {
     let alloc = rt.alloc();
-    assert_eq!(rt; numbered_up_to(alloc, NODES)?, "numbered");
-    assert_eq!(rt; numbered_up_to(alloc, NODES + 1)?, "too many");
+    let rules = chain_of_names(alloc, NAMES)?;
+    let (too_many, rules) = numbered(alloc, rules, NAMES - 1)?;
+    assert_eq!(rt; too_many, None);
+    let (count, _rules) = numbered(alloc, rules, NAMES)?;
+    assert_eq!(rt; count, Some(NAMES));
     Ok(())
 }

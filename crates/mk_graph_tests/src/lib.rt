@@ -2,6 +2,8 @@
 #![tactic(auto)]
 
 #[cfg(test)]
+mod below;
+#[cfg(test)]
 mod counted_edges;
 #[cfg(test)]
 mod graphs;
@@ -11,3 +13,6 @@ mod large_graphs;
 mod names;
 #[cfg(test)]
 mod orders;
+pub mod table;
+#[cfg(test)]
+mod waits;

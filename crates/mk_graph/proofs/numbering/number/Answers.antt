@@ -1,23 +1,24 @@
-use Rattle.std.proofs.Common.{◌≡◌, ℕ, ◌+◌, ◌<◌, true, List, [], ◌∷◌, ◌++◌, length, map, nat_lt, refl, sym, ap, ◌∙◌, subst, arith, length-append}
-use Rattle.std.proofs.lemmas.List.{map-append, length-map}
+use Rattle.std.proofs.Common.{◌≡◌, ℕ, ◌+◌, ◌<◌, true, List, [], ◌∷◌, ◌++◌, length, take, map, slice_get, nat_lt, inl, inr, refl, sym, ap, ◌∙◌, subst, ⊎_elim, true≢false, arith, length-append}
+use Rattle.std.proofs.lemmas.List.{map-append, length-map, take_all}
 use Rattle.std.proofs.lemmas.List.Folds.{list_all-append}
-use Rattle.std.specs.List.{list_all}
+use Rattle.std.specs.List.{list_all, IsDistinct}
+use Rattle.std.specs.Str.{bytes_eq}
 use Rattle.mk_graph.specs.Edges.{is_closed}
 use Rattle.mk_graph.specs.Numbering.{name_at, has_name, all_added}
-use Rattle.mk_graph.proofs.NameLemmas.{Begins, begins_all_added, below_from_begins, row_from_begins, length_from_begins}
-use Rattle.mk_graph.proofs.NumberingLemmas.{Numbers, Numbers-start, Numbers-more, too_many_goals, too_many_found, reached, numbering_at_end, rows_below_from_begins}
+use Rattle.mk_graph.proofs.NameLemmas.{Begins, begins_all_added, below_from_begins, row_from_begins, length_from_begins, distinct_none, distinct_all_added, new_at}
+use Rattle.mk_graph.proofs.NumberingLemmas.{Numbers, Numbers-start, Numbers-more, too_many_goals, too_many_found, reached, numbering_at_end, rows_below_from_begins, asked_more, described_none, described_more}
 use Rattle.mk_graph.proofs.numbering.number.Goals as goal
 
 pub returns-in_default-clause-fault : goal.returns-in_default-clause-fault
 returns-in_default-clause-fault g c = λ of allowed whole numbering.
-    let goals = map (λ v. v.items) c.args.goals.items in
+    let goals = c.args.goals.now in
     let past = rw c.in_default.is at c.in_ok-goal_numbers.ensures.ok in
     let P : List (List ℕ) → Type 0 = λ names. c.args.limit < length (all_added names goals) in
     too_many_goals of goals c.args.limit (subst P c.new-names.ensures past) whole numbering
 
 pub loop-alloc-init : goal.loop-alloc-init
 loop-alloc-init g c =
-    let goals = map (λ v. v.items) c.args.goals.items in
+    let goals = c.args.goals.now in
     let done = rw c.in-Some.is at c.in_ok-goal_numbers.ensures.ok in
     let within = rw c.in-Some.is at c.in_ok-goal_numbers.ensures.within in
     let names = c.add_all.new.self in
@@ -31,13 +32,26 @@ loop-alloc-init g c =
       goals = done.2;
       goal_nodes = done.1;
       grows = λ of allowed. allowed;
+      distinct = subst (IsDistinct bytes_eq) (sym (done.0 ∙ ap (λ l. all_added l goals) c.new-names.ensures)) (distinct_all_added [] goals distinct_none);
+      asked = λ name asked. absurd (c.requires name asked);
+      nodes = ap length c.new-nodes.ensures.items ∙ sym (ap length c.new-rows.ensures.items);
+      described = described_none (g.R.Dependencies.describes c.args.source.now) names c.new-nodes.result.items c.new-nodes.ensures.items;
     }
+
+pub prerequisites-requires : goal.prerequisites-requires
+prerequisites-requires g c = λ asked.
+    let names = c.loop-alloc.names in
+    let k = c.len-in-loop-alloc-2.result in
+    let next : k < length names = let t = c.loop-alloc-test.true in omega arith in
+    let before = c.loop-alloc.invariant.asked c.name.result.now asked in
+    let e : length c.loop-alloc.rows.items ≡ k = omega arith in
+    true≢false (sym before ∙ ap (λ n. has_name (take n names) c.name.result.now) e ∙ ap (has_name (take k names)) c.name.ensures ∙ new_at names k c.loop-alloc.invariant.distinct next)
 
 pub returns-in-Err-clause-fault : goal.returns-in-Err-clause-fault
 returns-in-Err-clause-fault g c =
     let names = c.loop-alloc.names in
     let rows = map (λ r. r.items) c.loop-alloc.rows.items in
-    let goals = map (λ v. v.items) c.args.goals.items in (
+    let goals = c.args.goals.now in (
       c.name.result.now,
       c.in-Err.ensures.refused,
       λ of allowed whole numbering.
@@ -50,8 +64,8 @@ pub returns-in_default-2-clause-fault : goal.returns-in_default-2-clause-fault
 returns-in_default-2-clause-fault g c = λ of allowed whole numbering.
     let names = c.loop-alloc.names in
     let rows = map (λ r. r.items) c.loop-alloc.rows.items in
-    let goals = map (λ v. v.items) c.args.goals.items in
-    let found = map (λ v. v.items) c.in-Ok.found.items in
+    let goals = c.args.goals.now in
+    let found = c.in-Ok.found.prerequisites in
     let past = rw c.in_default-2.is at c.in_ok-row.ensures.ok in
     too_many_found of goals names rows found (c.loop-alloc.invariant.numbers of (c.in-Ok.ensures.grows of allowed))
     (let e = length-map c.loop-alloc.rows.items (λ r. r.items) in omega arith)
@@ -79,8 +93,8 @@ loop-alloc-preserved g c =
     let names' = c.add_all-in-loop-alloc.new.self in
     let rows = map (λ r. r.items) c.loop-alloc.rows.items in
     let row = c.in-Some-2.row.items in
-    let goals = map (λ v. v.items) c.args.goals.items in
-    let found = map (λ v. v.items) c.in-Ok.found.items in
+    let goals = c.args.goals.now in
+    let found = c.in-Ok.found.prerequisites in
     let done = rw c.in-Some-2.is at c.in_ok-row.ensures.ok in
     let within = rw c.in-Some-2.is at c.in_ok-row.ensures.within in
     let count : length rows ≡ c.len.result = let e = length-map c.loop-alloc.rows.items (λ r. r.items) in omega arith in
@@ -103,10 +117,28 @@ loop-alloc-preserved g c =
       goals = row_from_begins names names' c.in-Some.goal_numbers.items grown c.loop-alloc.invariant.goal_nodes ∙ c.loop-alloc.invariant.goals;
       goal_nodes = below_from_begins names names' c.in-Some.goal_numbers.items grown c.loop-alloc.invariant.goal_nodes;
       grows = λ of allowed. c.loop-alloc.invariant.grows of (c.in-Ok.ensures.grows of allowed);
+      distinct = subst (IsDistinct bytes_eq) (sym done.0) (distinct_all_added names found c.loop-alloc.invariant.distinct);
+      asked = λ other asked.
+          let longer = ap length c.in_ok-push.ensures.items ∙ length-append c.loop-alloc.rows.items (c.in-Some-2.row ∷ []) in
+          let at : name_at names c.len-in-loop-alloc-2.result ≡ name_at names (length c.loop-alloc.rows.items) = ap (name_at names) (omega arith) in
+          subst (λ n. has_name (take n names') other ≡ true) (sym longer)
+          (asked_more names names' (length c.loop-alloc.rows.items) other grown (omega arith)
+          (⊎_elim (λ before. inl (c.loop-alloc.invariant.asked other before)) (λ e. inr (e ∙ c.name.ensures ∙ at)) (c.in-Ok.ensures.asks other asked)));
+      nodes =
+          let more = ap length c.in_ok-push-2.ensures.items ∙ length-append c.loop-alloc.nodes.items (c.in-Ok.found.node ∷ []) in
+          let longer = ap length c.in_ok-push.ensures.items ∙ length-append c.loop-alloc.rows.items (c.in-Some-2.row ∷ []) in
+          let before = c.loop-alloc.invariant.nodes in omega arith;
+      described = λ n node at.
+          let before = c.loop-alloc.invariant.nodes in
+          let place : c.len-in-loop-alloc-2.result ≡ length c.loop-alloc.nodes.items = omega arith in
+          described_more (g.R.Dependencies.describes c.loop-alloc.source) (g.R.Dependencies.describes c.prerequisites.new.self) names names' c.loop-alloc.nodes.items c.in-Ok.found.node
+          c.in-Ok.ensures.kept grown (omega arith) c.loop-alloc.invariant.described
+          (subst (λ name. g.R.Dependencies.describes c.prerequisites.new.self name c.in-Ok.found.node) (c.name.ensures ∙ ap (name_at names) place) c.in-Ok.ensures.node)
+          n node (ap (λ l. slice_get l n) (sym c.in_ok-push-2.ensures.items) ∙ at);
     }
 
 pub returns-clause-names : goal.returns-clause-names
-returns-clause-names g c = λ of allowed. numbering_at_end of (map (λ v. v.items) c.args.goals.items) c.loop-alloc.names (map (λ r. r.items) c.loop-alloc.rows.items) (c.loop-alloc.invariant.numbers of allowed)
+returns-clause-names g c = λ of allowed. numbering_at_end of c.args.goals.now c.loop-alloc.names (map (λ r. r.items) c.loop-alloc.rows.items) (c.loop-alloc.invariant.numbers of allowed)
     (let e = length-map c.loop-alloc.rows.items (λ r. r.items) in omega arith)
 
 pub returns-clause-closed : goal.returns-clause-closed
@@ -116,3 +148,7 @@ returns-clause-closed g c =
     let P : ℕ → Type 0 = λ k. list_all (λ ns. list_all (λ n. nat_lt n k) ns) rows ≡ true in
     let Q : List (List ℕ) → Type 0 = λ r. is_closed r ≡ true in
     subst Q (sym c.new.ensures) (subst P same c.loop-alloc.invariant.below)
+
+pub returns-clause-asked : goal.returns-clause-asked
+returns-clause-asked g c = λ name asked.
+    subst (λ l. has_name l name ≡ true) (take_all (length c.loop-alloc.rows.items) c.loop-alloc.names (omega arith)) (c.loop-alloc.invariant.asked name asked)

@@ -1,19 +1,23 @@
-use Rattle.std.proofs.Common.{◌≡◌, ℕ, ◌-◌, ◌≤◌, true, List, length, map, nat_lt}
-use Rattle.std.specs.List.{list_all}
-use Rattle.mk_graph.specs.Numbering.{name_at}
+use Rattle.std.proofs.Common.{◌≡◌, ℕ, ◌-◌, ◌≤◌, true, List, length, take, map, nat_lt}
+use Rattle.std.specs.List.{list_all, IsDistinct}
+use Rattle.std.specs.Str.{bytes_eq}
+use Rattle.mk_graph.specs.Numbering.{name_at, has_name, AreDescribed}
 use Rattle.mk_graph.proofs.NumberingLemmas.{Numbers}
 use Rattle.mk_graph.proofs.numbering.number.Given as goal
 
 abbrev pub invariant-loop-alloc : goal.invariant-loop-alloc
 invariant-loop-alloc g l = record {
-  numbers : (of : List ℕ → List (List ℕ)) → g.R.Dependencies.allows l.source of
-      → Numbers of (map (λ v. v.items) l.fn.goals.items) l.names (map (λ r. r.items) l.rows.items);
+  numbers : (of : List ℕ → List (List ℕ)) → g.R.Dependencies.allows l.source of → Numbers of l.goals l.names (map (λ r. r.items) l.rows.items);
   below : list_all (λ ns. list_all (λ n. nat_lt n (length l.names)) ns) (map (λ r. r.items) l.rows.items) ≡ true;
   looked : length l.rows.items ≤ length l.names;
   within : length l.names ≤ l.limit;
-  goals : map (name_at l.names) l.goal_numbers.items ≡ map (λ v. v.items) l.fn.goals.items;
+  goals : map (name_at l.names) l.goal_numbers.items ≡ l.goals;
   goal_nodes : list_all (λ n. nat_lt n (length l.names)) l.goal_numbers.items ≡ true;
   grows : (of : List ℕ → List (List ℕ)) → g.R.Dependencies.allows l.source of → g.R.Dependencies.allows l.fn.source of;
+  distinct : IsDistinct bytes_eq l.names;
+  asked : (name : List ℕ) → g.R.Dependencies.asked l.source name → has_name (take (length l.rows.items) l.names) name ≡ true;
+  nodes : length l.nodes.items ≡ length l.rows.items;
+  described : AreDescribed (g.R.Dependencies.describes l.source) l.names l.nodes.items;
 }
 
 abbrev pub decreases-loop-alloc : goal.decreases-loop-alloc

@@ -8,12 +8,12 @@ use Rattle.mk_graph.proofs.names.Names.add_all.Goals as goal
 
 pub returns-in_default-clause-ok : goal.returns-in_default-clause-ok
 returns-in_default-clause-ok c =
-    let step = c.in-Some.ensures.steps.0 in
+    let step = c.in-Some.ensures.steps in
     let past = rw c.in_default.is at c.in_ok-number.ensures.ok in
-    let names = added c.loop-name.self c.in-Some.name.items in
-    let rest = map (λ v. v.items) c.next.new.self.rest.items in
-    let whole : all_added names rest ≡ all_added c.args.self.now (map (λ v. v.items) c.args.mentioned.items)
-    = ap (λ l. all_added c.loop-name.self (map (λ v. v.items) l)) (sym step) ∙ c.loop-name.invariant.names in
+    let names = added c.loop-name.self c.in-Some.name.now in
+    let rest = c.next.new.self in
+    let whole : all_added names rest ≡ all_added c.args.self.now c.args.mentioned.now
+    = ap (all_added c.loop-name.self) (sym step) ∙ c.loop-name.invariant.names in
     let longer = length_from_begins names (all_added names rest) (begins_all_added names rest) in
     subst (λ l. c.args.limit < length l) whole (omega arith)
 
@@ -33,21 +33,21 @@ below_longer old new row n name is below lt =
 
 pub loop-name-preserved : goal.loop-name-preserved
 loop-name-preserved c =
-    let step = c.in-Some.ensures.steps.0 in
+    let step = c.in-Some.ensures.steps in
     let n = c.in-Some-2.number in
     let old = c.loop-name.self in
     let new = c.add.new.self in
-    let name = c.in-Some.name.items in
+    let name = c.in-Some.name.now in
     let done = rw c.in-Some-2.is at c.in_ok-number.ensures.ok in
     let within = rw c.in-Some-2.is at c.in_ok-number.ensures.within in
-    let rest = map (λ v. v.items) c.next.new.self.rest.items in
-    let whole = map (λ v. v.items) c.args.mentioned.items in
+    let rest = c.next.new.self in
+    let whole = c.args.mentioned.now in
     record {
-      names = ap (λ l. all_added l rest) done.0 ∙ ap (λ l. all_added old (map (λ v. v.items) l)) (sym step) ∙ c.loop-name.invariant.names;
+      names = ap (λ l. all_added l rest) done.0 ∙ ap (all_added old) (sym step) ∙ c.loop-name.invariant.names;
       below = subst (λ l. list_all (λ m. nat_lt m (length new)) l ≡ true) (sym c.in_ok-push.ensures.items)
           (below_longer old new c.loop-name.row.items n name done.0 c.loop-name.invariant.below done.1);
       row = ap (λ l. map (name_at new) l ++ rest) c.in_ok-push.ensures.items
           ∙ row_longer old new c.loop-name.row.items n name rest whole done.0 c.loop-name.invariant.below
-          (ap (λ l. map (name_at old) c.loop-name.row.items ++ map (λ v. v.items) l) (sym step) ∙ c.loop-name.invariant.row) done.2;
+          (ap (λ l. map (name_at old) c.loop-name.row.items ++ l) (sym step) ∙ c.loop-name.invariant.row) done.2;
       within = λ h. within (c.loop-name.invariant.within h);
     }

@@ -3,16 +3,18 @@ use Rattle.std.specs.List.{IsDistinct, list_all}
 use Rattle.mk_graph.specs.Edges.{row, has}
 use Rattle.mk_graph.specs.Ring.{IsRing}
 use Rattle.mk_graph.proofs.CycleLemmas.{no_cycle, onward, cycle_from_ring}
-use Rattle.mk_graph.proofs.cycles.find_cycle.Goals as goal
+use Rattle.mk_graph.proofs.cycles.order_nodes.Goals as goal
 
 pub returns-in_default : goal.returns-in_default
-returns-in_default c =
-    no_cycle c.args.edges.now c.in_ok-order.order.items c.in_ok-order.ensures.plan
-    (λ q lt.
-    ap (λ l. has l q) (sym c.deref.ensures.value)
-    ∙ sym (c.in_ok-passed.ensures.set q (omega arith))
-    ∙ ap (λ l. get_or l q false) (sym c.deref-2.ensures.value)
-    ∙ c.in_default.ensures.none q (let e : length c.deref-2.result.now ≡ length c.args.edges.now = ap length c.deref-2.ensures.value ∙ c.in_ok-passed.ensures.len ∙ c.len.ensures in omega arith))
+returns-in_default c = (
+  no_cycle c.args.edges.now c.in_ok-order.order.items c.in_ok-order.ensures.plan
+      (λ q lt.
+      ap (λ l. has l q) (sym c.deref.ensures.value)
+      ∙ sym (c.in_ok-passed.ensures.set q (omega arith))
+      ∙ ap (λ l. get_or l q false) (sym c.deref-2.ensures.value)
+      ∙ c.in_default.ensures.none q (let e : length c.deref-2.result.now ≡ length c.args.edges.now = ap length c.deref-2.ensures.value ∙ c.in_ok-passed.ensures.len ∙ c.len.ensures in omega arith)),
+  c.in_ok-order.ensures.plan,
+)
 
 pub walk-requires-clause-onward : goal.walk-requires-clause-onward
 walk-requires-clause-onward c =
