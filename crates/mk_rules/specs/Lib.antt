@@ -1,0 +1,10 @@
+pub mod Explicit
+pub mod Forms
+pub mod Goals
+pub mod Lines
+pub mod Rules
+pub mod Source
+pub mod Stamps
+pub mod Supported
+pub mod Table
+pub mod Tree

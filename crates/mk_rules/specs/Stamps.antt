@@ -1,0 +1,20 @@
+-- The times of files that are known so far.
+use Rattle.std.specs.Prelude.{◌≡◌, ℕ, ℤ, List, Option, IfSome, bytes_eq}
+use Rattle.indexmap.specs.IndexMap.{get_by}
+use Rattle.mk_rules.specs.declared.stamps.Stamps.{Stamps}
+use Rattle.mk_rules.specs.declared.fault.RuleFault.{RuleFault}
+use Rattle.mk_rules.specs.declared.fault.RuleFault.TheVariants as fault
+
+-- what is known of a name: nothing, that it has no file, or its time
+abbrev pub known_stamp : Stamps → (name : List ℕ) → Option (Option ℤ)
+known_stamp stamps name = get_by (λ k. bytes_eq name k.items) stamps.known
+
+-- what is known is what these times say
+abbrev pub AgreesWith : Stamps → (times : List ℕ → Option ℤ) → Type 0
+AgreesWith stamps times = (name : List ℕ) → IfSome (known_stamp stamps name) (λ stamp. times name ≡ stamp)
+
+-- the fault of looking at a name: it is one that the tree refuses
+abbrev pub IsLookFault : (refuses : List ℕ → Type 0) → (name : List ℕ) → RuleFault → Type 0
+IsLookFault refuses name fault.OutOfMemory = Unit {0}
+IsLookFault refuses name (fault.Tree n) = (n ≡ name) × refuses n
+IsLookFault refuses name _ = ⊥

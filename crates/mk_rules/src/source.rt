@@ -1,0 +1,68 @@
+//! The implicit source of a name.
+ghost use Rattle.std.specs.Prelude.{◌≡◌, ℕ, ℤ, List, Option, false, IfOk, IfErr, IsErr};
+ghost use Rattle.mk_rules.specs.Source.{source_of, IsSourceFault};
+ghost use Rattle.mk_rules.specs.Stamps.{AgreesWith, IsLookFault};
+ghost use Rattle.mk_rules.specs.Table.{is_named, is_there, named_at};
+
+use crate::fault::RuleFault;
+use crate::form::{Form, Source};
+use crate::stamps::Stamps;
+use crate::table::TargetTable;
+use crate::tree::Tree;
+use std::alloc::Global;
+
+/// Whether some line makes the name, or it has a file.
+fn is_there<T: Tree>(
+    alloc: Global,
+    targets: &TargetTable,
+    tree: &mut T,
+    stamps: &mut Stamps,
+    name: &[u8],
+) -> Result<bool, RuleFault>
+    ensures there { IfOk result (λ there. (times : List ℕ → Option ℤ)
+        → AgreesWith stamps.new times → there ≡ is_there targets.now times name.now) }
+    ensures grows { (times : List ℕ → Option ℤ) → AgreesWith stamps.new times → AgreesWith stamps.old times }
+    ensures honest { T.honest → AgreesWith stamps.old (T.stamps tree.old) → AgreesWith stamps.new (T.stamps tree.new) }
+    ensures same { T.stamps tree.new ≡ T.stamps tree.old }
+    ensures kept { (n : List ℕ) → T.refuses tree.old n → T.refuses tree.new n }
+    ensures fault { IfErr result (IsLookFault (T.refuses tree.new) name.now) }
+    ensures asked { IsErr result → is_named (named_at targets.now name.now) ≡ false }
+{
+    if targets.is_target(name) {
+        return Ok(true);
+    }
+    let stamp = stamps.stamp(alloc, tree, name)?;
+    Ok(stamp.is_some())
+}
+
+/// What an implicit rule makes the name from: the first of all candidates, in the order of the forms, that some line
+/// makes or that has a file.
+///
+/// What the tree answered stands in `stamps`, and the answer is right for any times that agree with them.
+pub fn source_of<T: Tree>(
+    alloc: Global,
+    targets: &TargetTable,
+    tree: &mut T,
+    stamps: &mut Stamps,
+    forms: &[Form],
+    name: &[u8],
+) -> Result<Option<Source>, RuleFault>
+    ensures source { IfOk result (λ found. (times : List ℕ → Option ℤ)
+        → AgreesWith stamps.new times → found ≡ source_of (is_there targets.now times) forms.now name.now) }
+    ensures grows { (times : List ℕ → Option ℤ) → AgreesWith stamps.new times → AgreesWith stamps.old times }
+    ensures honest { T.honest → AgreesWith stamps.old (T.stamps tree.old) → AgreesWith stamps.new (T.stamps tree.new) }
+    ensures same { T.stamps tree.new ≡ T.stamps tree.old }
+    ensures kept { (n : List ℕ) → T.refuses tree.old n → T.refuses tree.new n }
+    ensures fault { IfErr result (IsSourceFault targets.now stamps.new (T.refuses tree.new) forms.now name.now) }
+{
+    for form in forms {
+        let Some(stem) = form.stem(name) else {
+            continue;
+        };
+        let source = form.source(alloc, stem)?;
+        if is_there(alloc, targets, tree, stamps, source.name.as_slice())? {
+            return Ok(Some(source));
+        }
+    }
+    Ok(None)
+}
