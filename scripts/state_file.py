@@ -1,11 +1,12 @@
 """Writes state files of version 2, from the layout in docs/STATE_FILE.md and from nothing else of this repository.
 
-As a program: state_file.py example FILE | pairs FILE | names FILE | begun FILE COUNT
+As a program: state_file.py example FILE | pairs FILE | names FILE | begun FILE COUNT | done FILE COUNT
   example  the small state that examples/hello holds
   pairs    100 MB as builds leave it: 125,000 begun and done pairs over 50,000 targets, each with 20 hidden and 3
            explicit names
   names    4,000,000 targets, each begun once
   begun    so many targets, each begun once
+  done     so many targets, each done once, with one command, 20 hidden and 3 explicit names
 """
 import struct
 import sys
@@ -79,8 +80,18 @@ def begun_targets(count):
     yield b"\x00"
 
 
+def done_targets(count):
+    yield header(1)
+    hidden = [f"include/projects/part{k:03d}.hpp" for k in range(19)]
+    for i in range(int(count)):
+        target, own = f"obj/module{i:06d}/unit.o", f"src/m{i:06d}.h"
+        explicit = [f"src/module{i:06d}.c", "include/config.h", "obj/flags"]
+        yield batch([done(target, [f"cc -O2 -c -o {target}"], hidden + [own], explicit)])
+    yield b"\x00"
+
+
 if __name__ == "__main__":
     kind, path, *counts = sys.argv[1:]
     with open(path, "wb") as out:
-        for part in {"example": example, "pairs": pairs, "names": names, "begun": begun_targets}[kind](*counts):
+        for part in {"example": example, "pairs": pairs, "names": names, "begun": begun_targets, "done": done_targets}[kind](*counts):
             out.write(part)

@@ -8,16 +8,72 @@ ghost use Rattle.dmk_state.specs.Listing.{listing, entry_lines, phase_text, comm
 use st_records::{ByteStrings, Entry, Explicit, Phase, State};
 use std::alloc::{AllocError, Global};
 
+// How many entries are looked at before their lines are written.
+const BLOCK: usize = 64;
+
+// The bytes of a line for a command or a prerequisite, as most are.
+const USUAL_LINE: usize = 32;
+
 /// The listing of a state: for each name, in byte order, its phase, its commands, its hidden and its explicit names.
 pub fn listing_text(alloc: Global, state: &State) -> Result<Vec<u8>, AllocError>
     ensures { IfOk result (λ text. text.items ≡ listing state.now) }
 {
     let entries = state.in_byte_order(alloc)?;
     let mut text = Vec::new(alloc);
-    for (name, entry) in entries.iter() {
-        append_entry(alloc, &mut text, name, entry)?;
-    }
+    append_blocks(alloc, &mut text, entries.as_slice())?;
     Ok(text)
+}
+
+fn append_blocks(
+    alloc: Global,
+    text: &mut Vec<u8>,
+    entries: &[(&[u8], &Entry)],
+) -> Result<(), AllocError>
+    ensures { OnOk result (text.new.items ≡ text.old.items ++ flat_map (λ e. entry_lines (e.0.now, e.1.now)) entries.now) }
+{
+    let mut at = 0;
+    while at < entries.len() {
+        let end = at + BLOCK.min(entries.len() - at);
+        append_block(alloc, text, &entries[at..end])?;
+        at = end;
+    }
+    Ok(())
+}
+
+fn append_block(
+    alloc: Global,
+    text: &mut Vec<u8>,
+    block: &[(&[u8], &Entry)],
+) -> Result<(), AllocError>
+    ensures { OnOk result (text.new.items ≡ text.old.items ++ flat_map (λ e. entry_lines (e.0.now, e.1.now)) block.now) }
+{
+    text.reserve(usual_len(block))?;
+    for (name, entry) in block.iter() {
+        append_entry(alloc, text, name, entry)?;
+    }
+    Ok(())
+}
+
+// How many bytes the lines of these entries usually take. It decides nothing but how much room is made at once.
+//
+// Names and entries lie all over memory, and to fetch one takes longer than to write its lines. Looked at here one right
+// after another, many are fetched at a time; the first byte of a name is read for that alone.
+fn usual_len(block: &[(&[u8], &Entry)]) -> usize {
+    let mut len: usize = 0;
+    for (name, entry) in block.iter() {
+        let mark = match entry.phase {
+            Phase::Begun => 7,
+            Phase::Done => 6,
+            Phase::Failed(_) => 10,
+        };
+        let first = usize::from(name.first() == Some(&b'/'));
+        let below = entry.commands.len().saturating_add(entry.hidden.len());
+        len = len
+            .saturating_add(mark + first)
+            .saturating_add(name.len())
+            .saturating_add(below.saturating_mul(USUAL_LINE));
+    }
+    len
 }
 
 fn append_entry(

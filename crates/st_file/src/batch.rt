@@ -14,7 +14,8 @@ use crate::sink::RecordSink;
 use st_records::{DecodeFault, Record, Version, decode};
 use std::alloc::{AllocError, Global};
 
-pub(crate) const MAX_BODY_BYTES: usize = 1 << 30;
+/// The bytes that the body of a batch may have.
+pub const MAX_BODY_BYTES: usize = 1 << 30;
 
 /// The number of records, the body and what is behind it. None where they aren't all there or the body is too long.
 fn frame_of(bytes: &[u8]) -> Option<(u32, &[u8], &[u8])>

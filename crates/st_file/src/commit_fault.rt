@@ -1,4 +1,4 @@
-//! Why a batch isn't committed.
+//! Why a batch isn't committed, or a state isn't written anew.
 
 ghost use Rattle.std.specs.Prelude.{◌≡◌};
 ghost use Rattle.st_file.specs.declared.commit_fault.CommitFault.TheVariants.{Device, OutOfMemory};
@@ -7,7 +7,8 @@ use st_disk::DeviceFault;
 use std::alloc::{AllocError, AllocFailed};
 use thiserror::Error;
 
-/// Why a batch isn't committed. Of several the first of `Dead`, `OldVersion`, `Full`, `OutOfMemory` and `Device` counts.
+/// Why a batch isn't committed, or a state isn't written anew. Of several the first of `Dead`, `GenerationsSpent`,
+/// `OldVersion`, `Full`, `OutOfMemory` and `Device` counts.
 #[derive(Clone, Copy, Debug, PartialEq, Eq, Error)]
 pub enum CommitFault {
     /// A call of the device failed. The batch may or may not be found after a power cut, and nothing more is committed.
@@ -25,6 +26,9 @@ pub enum CommitFault {
     /// No batch is added to a side of version 1.
     #[error("old version")]
     OldVersion,
+    /// The side that counts has the greatest generation, so that no other can count over it. No batch meets it.
+    #[error("generations spent")]
+    GenerationsSpent,
 }
 
 impl From<AllocError> for CommitFault {

@@ -29,7 +29,7 @@ pub fn create<D: Disk>(disk: &mut D, side: Which, generation: u64) -> Result<(),
 }
 
 /// Sees to it that a void side begins with a closed gate: without one, a byte is written and synced.
-fn close_gate<D: Disk>(disk: &mut D, side: Which) -> Result<(), DeviceFault>
+pub fn close_gate<D: Disk>(disk: &mut D, side: Which) -> Result<(), DeviceFault>
     requires void { D.honest → IsVoid (D.seen disk.old side) }
     requires on_disk { D.honest → writes_of side (now (D.moments disk.old)) ≡ settled (D.seen disk.old side) }
     ensures any_moment { D.honest → Throughout (D.moments disk.old) (D.moments disk.new)
@@ -46,7 +46,7 @@ fn close_gate<D: Disk>(disk: &mut D, side: Which) -> Result<(), DeviceFault>
 }
 
 /// Whether a side begins with a closed gate.
-fn has_closed_gate<D: Disk>(disk: &mut D, side: Which) -> Result<bool, DeviceFault>
+pub fn has_closed_gate<D: Disk>(disk: &mut D, side: Which) -> Result<bool, DeviceFault>
     ensures gate { D.honest → IfOk result (λ closed. IsTrue closed ↔ HasClosedGate (D.seen disk.old side)) }
     ensures seen { D.honest → D.seen disk.new ≡ D.seen disk.old }
     ensures moments { D.honest → D.moments disk.new ≡ D.moments disk.old }

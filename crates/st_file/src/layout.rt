@@ -123,7 +123,7 @@ pub(crate) fn header_of(side: Which, bytes: &[u8]) -> Result<(Version, u64, &[u8
 
 /// What stands behind the gate of a side of version 2 that holds no records: the header, and the closed gate of its first
 /// batch.
-pub(crate) fn new_header(generation: u64) -> [u8; HEADER_BYTES]
+pub fn new_header(generation: u64) -> [u8; HEADER_BYTES]
     ensures { result ≡ header_text versions.Two generation ++ 0 ∷ [] }
 {
     let g = generation.to_le_bytes();

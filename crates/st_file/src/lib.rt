@@ -13,12 +13,13 @@ mod log;
 mod side;
 mod sink;
 
+pub use batch::MAX_BODY_BYTES;
 pub use commit_fault::CommitFault;
-pub use creation::create;
+pub use creation::{close_gate, create, has_closed_gate};
 pub use fault::OpenFault;
 pub use from_disk::{read_log, read_whole};
 pub use gated::append_gated;
-pub use layout::HEADER_BYTES;
+pub use layout::{HEADER_BYTES, new_header};
 pub use log::{Log, MAX_SIDE_BYTES};
 pub use side::{Extent, Side, every_side_has_a_reading, one_reading, read_side, side_of};
 pub use sink::RecordSink;

@@ -88,6 +88,7 @@ impl<D: Disk + Drop> Log<D> {
         ensures full { IsErrOf result faults.Full ↔
             ((self.now.dead ≡ false) × ((self.now.version ≡ versions.Two) × IsFull self.now.end records.now)) }
         ensures device { IsErrOf result faults.Device → ⊥ }
+        ensures spent { IsErrOf result faults.GenerationsSpent → ⊥ }
     {
         if self.dead {
             return Err(CommitFault::Dead);
@@ -129,6 +130,7 @@ impl<D: Disk + Drop> Log<D> {
             ↔ ((self.old.dead ≡ false) × ((0 < length records.now) × (self.old.version ≡ versions.One))) }
         ensures full { IsErrOf result faults.Full ↔ ((self.old.dead ≡ false) × ((0 < length records.now)
             × ((self.old.version ≡ versions.Two) × IsFull self.old.end records.now))) }
+        ensures spent { IsErrOf result faults.GenerationsSpent → ⊥ }
         ensures side { self.new.side ≡ self.old.side }
         ensures version { self.new.version ≡ self.old.version }
         ensures generation { self.new.generation ≡ self.old.generation }

@@ -10,5 +10,6 @@ pub mod Stops
 pub mod FaultLemmas
 pub mod StateLemmas
 pub mod KeepableLemmas
+pub mod KeptLemmas
 pub mod RankLemmas
 pub mod Listed

@@ -11,7 +11,7 @@ use Rattle.std.specs.Map.{lookup, set_value, keys_of}
 use Rattle.std.specs.FinMap as map
 use Rattle.std.specs.FinMap.{find, get-from_entries, get-insert, same_map, get-from_sorted, entries-from_sorted, len-insert, len-empty, get-empty, is_sorted, slice_cmp-IsAntisymmetric, nat_cmp-IsAntisymmetric}
 use Rattle.std.specs.FinMap.Entries.{below_all}
-use Rattle.std.specs.Option.{IsSome, is_some}
+use Rattle.std.specs.Option.{IsSome, is_some, unwrap_or}
 use Rattle.std.specs.List.{AllByRecursion, IsDistinct, Contains}
 use Rattle.std.specs.List.Sorted.{IsStrictlySortedBy, IsPermutation}
 use Rattle.indexmap.specs.IndexMap.{insert_entry}
@@ -38,7 +38,7 @@ level Less e = cc
 level Equal e = refl
 level Greater e = cc
 
-by_bytes-same : (x : List ℕ) → is_eq (by_bytes x x) ≡ true
+pub by_bytes-same : (x : List ℕ) → is_eq (by_bytes x x) ≡ true
 by_bytes-same x = level (by_bytes x x) (nat_list_cmp_total.antisymm x x)
 
 equal_of : (r : Ordering) → is_eq r ≡ true → r ≡ Equal
@@ -46,7 +46,7 @@ equal_of Less e = cc
 equal_of Equal e = refl
 equal_of Greater e = cc
 
-same_bytes : (x y : List ℕ) → is_eq (by_bytes x y) ≡ true → x ≡ y
+pub same_bytes : (x y : List ℕ) → is_eq (by_bytes x y) ≡ true → x ≡ y
 same_bytes x y e = by_bytes-exact x y (equal_of _ e)
 
 shadowed : {A : Type 0} (b : Bool) (x y z : A) → cond b x z ≡ cond b x (cond b y z)
@@ -91,6 +91,10 @@ inserted_from_find es fs name entry is =
     ∙ ap (cond (eq_by_cmp by_bytes q name) (Some entry)) (sym (get-from_entries nat_list_cmp_total es q))
     ∙ sym (get-insert nat_list_cmp_total (map.from_entries es) name entry q))
 
+read : (found : Option Entry) (none : Entry) → none.hidden ≡ [] → (unwrap_or found none).hidden ≡ hidden_in found
+read None none new = new
+read (Some entry) none new = refl
+
 module _ {K : Type 0} (f : K → List ℕ) where
   find-map_keys : (q : List ℕ) (es : List (K × Entry)) → find by_bytes q (map_keys f es) ≡ lookup (λ k. bytes_eq q (f k)) es
   find-map_keys q [] = refl
@@ -109,6 +113,9 @@ module _ {K : Type 0} (f : K → List ℕ) where
 
   pub known_hidden-none : (q : List ℕ) (es : List (K × Entry)) → None ≡ lookup (λ k. bytes_eq q (f k)) es → known_hidden (by_name f es) q ≡ []
   known_hidden-none q es missing = ap hidden_in (get-by_name q es ∙ sym missing)
+
+  pub hidden_or_none : (q : List ℕ) (es : List (K × Entry)) (none : Entry) → none.hidden ≡ [] → (unwrap_or (lookup (λ k. bytes_eq q (f k)) es) none).hidden ≡ known_hidden (by_name f es) q
+  hidden_or_none q es none new = read (lookup (λ k. bytes_eq q (f k)) es) none new ∙ ap hidden_in (sym (get-by_name q es))
 
   -- the entry at the first name that is the same, changed in its place: `rest` is what becomes of the entries behind it
   changed : (name : List ℕ) (entry : Entry) (q : List ℕ) (e : K × Entry) (es rest : List (K × Entry))
@@ -257,7 +264,7 @@ entries-sorted see es xs apart moved up =
 
 -- ---- how many names
 
-absent : (name : List ℕ) (es : List (List ℕ × Entry)) → AllByRecursion (λ y. eq_by_cmp by_bytes name y ≡ false) (keys_of es) → find by_bytes name es ≡ None
+pub absent : (name : List ℕ) (es : List (List ℕ × Entry)) → AllByRecursion (λ y. eq_by_cmp by_bytes name y ≡ false) (keys_of es) → find by_bytes name es ≡ None
 absent name [] h = refl
 absent name (e ∷ es) h = ap (λ b. cond b (Some e.1) (find by_bytes name es)) h.0 ∙ absent name es h.1
 

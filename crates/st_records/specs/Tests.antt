@@ -1,6 +1,6 @@
 -- The tests of a record one by one, each as a value. The private functions compute these; `Limits` says what they mean.
-use Rattle.std.specs.Prelude.{ℕ, Bool, ◌||◌, ◌==◌, nat_lt, if◌then◌else◌, List, length, Option, Some, None}
-use Rattle.std.specs.List.{list_any}
+use Rattle.std.specs.Prelude.{ℕ, ◌+◌, Bool, ◌||◌, ◌==◌, nat_lt, if◌then◌else◌, List, length, Option, Some, None}
+use Rattle.std.specs.List.{list_any, flat_map}
 use Rattle.st_records.specs.declared.version.Version.{Version}
 use Rattle.st_records.specs.declared.version.Version.TheVariants.{One, Two}
 use Rattle.st_records.specs.declared.limits.RecordFault.{RecordFault}
@@ -11,6 +11,7 @@ use Rattle.st_records.specs.declared.record.Explicit.TheVariants.{Unknown, Known
 use Rattle.st_records.specs.declared.record.Record.{Record}
 use Rattle.st_records.specs.declared.record.Record.TheVariants as records
 use Rattle.st_records.specs.Parts.{target_of, names_known, commands_of, hidden_of, explicit_of}
+use Rattle.st_records.specs.Encoding.{string}
 use Rattle.st_records.specs.Limits.{max_name_bytes, max_record_bytes, counted_length}
 
 -- a name passes a test: the target, a hidden name or an explicit one
@@ -70,6 +71,13 @@ plain_length (records.Begun target) = 5
 plain_length (records.Done target commands hidden explicit) = 17
 plain_length (records.Failed target status) = 9
 plain_length (records.Kept target known) = kept_length known.explicit
+
+-- the bytes of the names and commands in a file of a version, those of their lengths among them but for the target's
+abbrev pub strings_length : Version → Record → ℕ
+strings_length One r = length (target_of r) + length (flat_map string (commands_of r)) + length (flat_map string (hidden_of r))
+strings_length Two r =
+    length (target_of r) + length (flat_map string (commands_of r)) + length (flat_map string (hidden_of r))
+    + length (flat_map string (names_known (explicit_of r)))
 
 -- there are too many commands, hidden names or explicit ones
 abbrev pub has_too_many : Record → Bool

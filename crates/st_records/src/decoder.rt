@@ -215,10 +215,25 @@ fn strings_of(alloc: Global, bytes: &[u8]) -> Result<(ByteStrings, &[u8]), Decod
     items_of(alloc, count, rest)
 }
 
+// How many bytes so many strings have in all, as far as they are there. It only decides how much memory is taken at once.
+fn bytes_in_all(count: u32, bytes: &[u8]) -> usize {
+    let mut total: usize = 0;
+    let mut rest = bytes;
+    for _ in 0..count {
+        let Ok((item, after)) = text_of(rest) else {
+            return total;
+        };
+        total = total.saturating_add(item.len());
+        rest = after;
+    }
+    total
+}
+
 fn items_of(alloc: Global, count: u32, bytes: &[u8]) -> Result<(ByteStrings, &[u8]), DecodeFault>
     ensures { Gives (λ x. (x.0, x.1.now)) result (items_at count bytes.now) }
 {
-    let mut items = ByteStrings::empty(alloc);
+    let room = bytes_in_all(count, bytes);
+    let mut items = ByteStrings::with_capacity(alloc, count as usize, room)?;
     let mut rest = bytes;
     for _ in 0..count {
         let (item, after) = text_of(rest)?;

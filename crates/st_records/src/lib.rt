@@ -12,6 +12,7 @@ mod name_order;
 mod record;
 mod staged;
 mod state;
+mod taking;
 mod version;
 
 pub use byte_strings::{ByteString, ByteStrings, Iter};

@@ -6,7 +6,7 @@ ghost use Rattle.std.specs.List.{list_any, flat_map};
 ghost use Rattle.st_records.specs.declared.version.Version.TheVariants as versions;
 ghost use Rattle.st_records.specs.Encoding.{string};
 ghost use Rattle.st_records.specs.Limits.{max_name_bytes, max_record_bytes, IsWithin, IsFirstFault};
-ghost use Rattle.st_records.specs.Tests.{any_name, has_byte, is_empty_name, is_bad_name, is_long_name, has_bad_command, has_long_command, is_overlong, fixed_length, has_too_many, fault_of};
+ghost use Rattle.st_records.specs.Tests.{any_name, has_byte, is_empty_name, is_bad_name, is_long_name, has_bad_command, has_long_command, is_overlong, fixed_length, strings_length, has_too_many, fault_of};
 
 use crate::record::{Explicit, Record};
 use crate::version::Version;
@@ -147,23 +147,25 @@ impl Record {
         ensures { result ≡ is_overlong version self.now }
     {
         let room = version.max_record_bytes() - self.fixed_len(version);
-        let Some(room) = room.checked_sub(self.target().as_slice().len()) else {
-            return true;
-        };
-        let Some(room) = room_after(self.commands(), room) else {
-            return true;
-        };
-        let Some(room) = room_after(self.hidden(), room) else {
-            return true;
-        };
+        self.room_after_strings(version, room).is_none()
+    }
+
+    /// What is left of `room` after the names and commands as a file of this version has them; none where they do not
+    /// fit.
+    pub(crate) fn room_after_strings(&self, version: Version, room: usize) -> Option<usize>
+        ensures { MatchOption result (room < strings_length version self.now) (λ left. left + strings_length version self.now ≡ room) }
+    {
+        let room = room.checked_sub(self.target().as_slice().len())?;
+        let room = room_after(self.commands(), room)?;
+        let room = room_after(self.hidden(), room)?;
         match version {
-            Version::One => false,
-            Version::Two => room_after(self.explicit(), room).is_none(),
+            Version::One => Some(room),
+            Version::Two => room_after(self.explicit(), room),
         }
     }
 
     /// The bytes that count and are there whatever a record's names and commands hold.
-    fn fixed_len(&self, version: Version) -> usize
+    pub(crate) fn fixed_len(&self, version: Version) -> usize
         ensures { result ≡ fixed_length version self.now }
     {
         match self {

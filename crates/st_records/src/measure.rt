@@ -5,8 +5,11 @@ ghost use Rattle.st_records.specs.declared.version.Version.TheVariants as versio
 ghost use Rattle.st_records.specs.Encoding.{encoding};
 ghost use Rattle.st_records.specs.Tests.{plain_length};
 
-use crate::limits::room_after;
-use crate::record::{Explicit, Record};
+use crate::record::Record;
+use crate::version::Version;
+
+// The phase, the status and whether explicit names are known, which no limit counts.
+const UNCOUNTED_BYTES_OF_KEPT: usize = 6;
 
 impl Record {
     /// What is left of `room` after the bytes of the record in a file of version 2; None where they do not fit. It takes
@@ -16,10 +19,7 @@ impl Record {
             (λ left. left + length (encoding versions.Two self.now) ≡ room) }
     {
         let room = room.checked_sub(self.plain_len())?;
-        let room = room.checked_sub(self.target().as_slice().len())?;
-        let room = room_after(self.commands(), room)?;
-        let room = room_after(self.hidden(), room)?;
-        room_after(self.explicit(), room)
+        self.room_after_strings(Version::Two, room)
     }
 
     /// The bytes beside those of names and commands: kind, lengths and counts, phase and status.
@@ -27,13 +27,8 @@ impl Record {
         ensures { result ≡ plain_length self.now }
     {
         match self {
-            Record::Begun { .. } => 5,
-            Record::Done { .. } => 17,
-            Record::Failed { .. } => 9,
-            Record::Kept { entry, .. } => match &entry.explicit {
-                Explicit::Unknown => 19,
-                Explicit::Known(_) => 23,
-            },
+            Record::Kept { .. } => self.fixed_len(Version::Two) + UNCOUNTED_BYTES_OF_KEPT,
+            _ => self.fixed_len(Version::Two),
         }
     }
 }

@@ -1,15 +1,18 @@
 //! The state: what the records so far say of each target, as a map from names to entries.
 
-ghost use Rattle.std.specs.Prelude.{◌≡◌, ◌<◌, ◌⊎◌, None, OnOk, OnErr, IfOk, length, map as list_map};
+ghost use Rattle.std.specs.Prelude.{◌≡◌, ◌+◌, ◌<◌, ◌⊎◌, None, OnOk, OnErr, IfOk, MatchOption, length, map as list_map};
 ghost use Rattle.std.specs.Option.{option_copied};
 ghost use Rattle.std.specs.FinMap as map;
+ghost use Rattle.st_records.specs.Keepable.{kept_bytes};
 ghost use Rattle.st_records.specs.Parts.{target_of};
 ghost use Rattle.st_records.specs.State.{SetsEntry, apply_record, known_hidden, unfinished};
 
 use crate::hash_key::HashKey;
+use crate::kept::room_after_kept;
 use crate::name_order::{with_ranks, without_ranks};
 use crate::record::{Entry, Explicit, Phase, Record};
 use crate::staged::Staged;
+use crate::taking::take_in;
 use byte_strings::ByteStrings;
 use indexmap::IndexMap;
 use std::alloc::{AllocError, Global};
@@ -79,6 +82,18 @@ impl State {
         let mut ranked = with_ranks(alloc, &self.entries)?;
         ranked.sort_unstable_by_key(|named| (named.rank, named.name));
         without_ranks(alloc, ranked.as_slice())
+    }
+
+    /// What is left of `room` after the bytes of a kept record for each entry, in a file of version 2; None where they do
+    /// not fit. It takes no memory.
+    pub fn room_after_kept(&self, room: usize) -> Option<usize>
+        ensures { MatchOption result (room < kept_bytes self.now) (λ left. left + kept_bytes self.now ≡ room) }
+    {
+        let mut left = room;
+        for (name, entry) in self.entries.iter() {
+            left = room_after_kept(name.as_slice(), entry, left)?;
+        }
+        Some(left)
     }
 
     /// An equal state. To copy one without names takes no memory.
@@ -153,27 +168,7 @@ impl State {
         // Any record takes memory for a new target alone.
         ensures memory { OnErr result (map.get self.old (target_of event) ≡ None) }
     {
-        match event {
-            Record::Begun { target } => self.set_unfinished(alloc, target.as_slice(), Phase::Begun),
-            Record::Done {
-                target,
-                commands,
-                hidden,
-                explicit,
-            } => {
-                let entry = Entry {
-                    phase: Phase::Done,
-                    commands,
-                    hidden,
-                    explicit,
-                };
-                self.set(alloc, target.as_slice(), entry)
-            }
-            Record::Failed { target, status } => {
-                self.set_unfinished(alloc, target.as_slice(), Phase::Failed(status))
-            }
-            Record::Kept { target, entry } => self.set(alloc, target.as_slice(), entry),
-        }
+        take_in(alloc, &mut self.entries, event)
     }
 
     pub(crate) fn from_entries(entries: Entries) -> State

@@ -1,3 +1,4 @@
 pub mod RecoversLemmas
 pub mod StoredLemmas
+pub mod AnewLemmas
 pub mod MemoryLemmas

@@ -33,6 +33,10 @@ replay-append m (r ∷ rs) ss = replay-append (replay m (r ∷ [])) rs ss
 
 -- ---- one side that counts
 
+-- a side that is on the disk holds what was synced
+pub settled_by : {writes : UnsyncedWrites} {bytes : List ℕ} → writes ≡ settled bytes → writes ≡ settled writes.synced
+settled_by on_disk = on_disk ∙ ap settled (sym (ap (λ (w : UnsyncedWrites). w.synced) on_disk))
+
 -- a side that holds records wins over one that gives way
 wins : (x y : List ℕ) (v : Version) (generation : ℕ) (held : List Record) (m : StateMap) → HoldsInVersion x v generation held → GivesWay generation y → m ≡ replay map.empty held → Wins x y m
 wins x y v generation held m holds over is =
@@ -105,6 +109,7 @@ stored_again side m0 m1 {s} {seen} {text} {v} {generation} {end} {later} {m} {n}
       held = st.held ++ rs;
       holds = grown st.holds two fills is opened place;
       state_is = state_is ∙ ap (λ (k : StateMap). replay k rs) st.state_is ∙ sym (replay-append map.empty st.held rs);
+      away_on_disk = subst (λ (w : UnsyncedWrites). w ≡ settled w.synced) (sym away) st.away_on_disk;
       over = λ x image. st.over x (subst (λ (w : UnsyncedWrites). IsCrashImage w x) away image);
     })
 
@@ -157,6 +162,7 @@ stored_of seen which.A v generation end m sides chosen on_a on_b = record {
   held = chosen.held;
   holds = chosen.holds;
   state_is = chosen.state_is;
+  away_on_disk = settled_by on_b;
   over = λ x image. subst (GivesWay generation) (sym (settled_seen on_b image)) chosen.over;
 }
 stored_of seen which.B v generation end m sides chosen on_a on_b = record {
@@ -164,6 +170,7 @@ stored_of seen which.B v generation end m sides chosen on_a on_b = record {
   held = chosen.held;
   holds = chosen.holds;
   state_is = chosen.state_is;
+  away_on_disk = settled_by on_a;
   over = λ x image. subst (GivesWay generation) (sym (settled_seen on_a image)) chosen.over;
 }
 
@@ -174,6 +181,7 @@ stored_new {seen} {seen_b} {generation} sides created on_b void is_empty = recor
   held = [];
   holds = created.fresh;
   state_is = is_empty;
+  away_on_disk = settled_by on_b;
   over = λ x image. inl (subst IsVoid (sym (settled_seen on_b image)) void);
 }
 

@@ -17,12 +17,13 @@ abbrev pub GivesWay : ℕ → List ℕ → Type 0
 GivesWay generation x = IsVoid x ⊎ ((smaller : ℕ) × HoldsGeneration x smaller × (smaller < generation))
 
 -- the side that counts is on the disk just as reads give it, and holds up to its end records that make this state of the
--- empty one; the other side gives way, whatever a crash leaves of it
+-- empty one; the other side is on the disk too, and gives way
 pub record IsStored (seen : List ℕ) (writes away : UnsyncedWrites) (v : Version) (generation end : ℕ) (m : StateMap) : Type 0 where
   pub on_disk : writes ≡ settled seen
   pub held : List Record
   pub holds : HoldsUpTo seen v generation held end
   pub state_is : m ≡ replay map.empty held
+  pub away_on_disk : away ≡ settled away.synced
   pub over : (x : List ℕ) → IsCrashImage away x → GivesWay generation x
 
 -- so it is of this side of a disk, by what reads give and what a crash may leave

@@ -5,6 +5,7 @@ ghost use Rattle.std.specs.FinMap as map;
 ghost use Rattle.st_disk.specs.Crash.{writes_of, settled, EachPair};
 ghost use Rattle.st_disk.specs.Moments.{now, Throughout};
 ghost use Rattle.st_disk.specs.Faults.{CountsFaults, Rises};
+ghost use Rattle.st_records.specs.Keepable.{AllCanBeKept};
 ghost use Rattle.st_file.specs.Side.{IsVoid};
 ghost use Rattle.st_file.specs.declared.fault.OpenFault.TheVariants as faults;
 ghost use Rattle.st_recovery.specs.Recovers.{Recovers, RefusesWith, IsChosen};
@@ -55,6 +56,7 @@ fn store_of<D: Disk + Drop>(disk: D, chosen: Chosen) -> Store<D>
     requires on_b { D.honest → writes_of Which.B (now (D.moments disk)) ≡ settled (D.seen disk Which.B) }
     requires chosen { D.honest → IsChosen (D.seen disk Which.A) (D.seen disk Which.B) chosen.side chosen.extent.version
         chosen.extent.generation chosen.extent.end chosen.state }
+    requires keepable { AllCanBeKept chosen.state }
     ensures disk { result.log.disk ≡ disk }
     ensures alive { result.log.dead ≡ false }
     ensures state { result.state ≡ chosen.state }
@@ -125,6 +127,7 @@ fn find<D: Disk + Drop>(
     ensures seen { D.honest → D.seen disk.new ≡ D.seen disk.old }
     ensures chosen { D.honest → IfOk result (λ o. IfSome o (λ c. IsChosen (D.seen disk.old Which.A) (D.seen disk.old Which.B)
         c.side c.extent.version c.extent.generation c.extent.end c.state)) }
+    ensures keepable { IfOk result (λ o. IfSome o (λ c. AllCanBeKept c.state)) }
     ensures void { D.honest → IfOk result (λ o. IfNone o (IsVoid (D.seen disk.old Which.A) × IsVoid (D.seen disk.old Which.B))) }
     ensures refused { D.honest → IfErr result (λ fault. (fault ≡ faults.Device) ⊎ ((fault ≡ faults.OutOfMemory)
         ⊎ RefusesWith (D.seen disk.old Which.A) (D.seen disk.old Which.B) fault)) }

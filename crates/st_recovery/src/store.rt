@@ -6,6 +6,7 @@ ghost use Rattle.st_disk.specs.Moments.{now, Throughout};
 ghost use Rattle.st_disk.specs.Faults.{Rises};
 ghost use Rattle.st_records.specs.declared.version.Version.TheVariants as versions;
 ghost use Rattle.st_records.specs.declared.record.Record.{Record};
+ghost use Rattle.st_records.specs.Keepable.{AllCanBeKept};
 ghost use Rattle.st_records.specs.Limits.{IsGood};
 ghost use Rattle.st_records.specs.State.{replay};
 ghost use Rattle.st_records.specs.Staged.{staged_state, staged_records};
@@ -30,6 +31,8 @@ pub struct Store<D: Disk + Drop> {
     /// The open side holds records that make the state, and the other side gives way.
     pub ghost stored: { D.honest → log.dead ≡ false → IsStoredOn (D.seen log.disk) (now (D.moments log.disk)) log.side
         log.version log.generation log.end state },
+    /// Each entry of the state can be written as a kept record.
+    pub ghost keepable: { AllCanBeKept state },
 }
 
 impl<D: Disk + Drop> Store<D> {
@@ -74,6 +77,7 @@ impl<D: Disk + Drop> Store<D> {
             × ((0 < length records.now) × (self.old.log.version ≡ versions.One))) }
         ensures full { IsErrOf result faults.Full ↔ ((self.old.log.dead ≡ false) × ((0 < length records.now)
             × ((self.old.log.version ≡ versions.Two) × IsFull self.old.log.end records.now))) }
+        ensures spent { IsErrOf result faults.GenerationsSpent → ⊥ }
         ensures side { self.new.log.side ≡ self.old.log.side }
         ensures version { self.new.log.version ≡ self.old.log.version }
         ensures generation { self.new.log.generation ≡ self.old.log.generation }
@@ -118,6 +122,7 @@ fn commit_parts<D: Disk + Drop>(
     ensures old_version { IsErrOf result faults.OldVersion ↔ ((log.old.dead ≡ false) × (log.old.version ≡ versions.One)) }
     ensures full { IsErrOf result faults.Full ↔ ((log.old.dead ≡ false)
         × ((log.old.version ≡ versions.Two) × IsFull log.old.end records.now)) }
+    ensures spent { IsErrOf result faults.GenerationsSpent → ⊥ }
     ensures side { log.new.side ≡ log.old.side }
     ensures version { log.new.version ≡ log.old.version }
     ensures generation { log.new.generation ≡ log.old.generation }

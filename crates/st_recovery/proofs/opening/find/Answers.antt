@@ -2,6 +2,7 @@ use Rattle.std.proofs.Common.{◌≡◌, ℕ, List, ◌∙◌, ap}
 use Rattle.st_disk.specs.declared.which.Which.{Which}
 use Rattle.st_disk.specs.declared.which.Which.TheVariants as which
 use Rattle.st_recovery.proofs.StoredLemmas.{throughout_same}
+use Rattle.st_recovery.proofs.AnewLemmas.{found_keepable}
 use Rattle.st_recovery.proofs.opening.find.Goals as goal
 
 pub returns-in_err-a-clause-any_moment : goal.returns-in_err-a-clause-any_moment
@@ -21,6 +22,9 @@ returns-clause-chosen g c = λ honest.
     let b_is : c.deref-2.result.now ≡ g.D.Disk.seen c.args.disk.now which.B =
     c.deref-2.ensures.value ∙ c.in_ok-b.ensures.bytes honest ∙ ap (λ (f : Which → List ℕ). f which.B) (c.read_whole.ensures.seen honest ∙ c.settle_both.ensures.seen honest) in
     rw (a_is, b_is) at c.choose.ensures.chosen
+
+pub returns-clause-keepable : goal.returns-clause-keepable
+returns-clause-keepable g c = found_keepable _ _ c.choose.result c.choose.ensures.chosen
 
 pub returns-clause-void : goal.returns-clause-void
 returns-clause-void g c = λ honest.

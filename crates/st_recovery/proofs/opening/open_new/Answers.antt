@@ -3,6 +3,7 @@ use Rattle.st_disk.specs.declared.which.Which.TheVariants as which
 use Rattle.st_disk.specs.Moments.{now}
 use Rattle.st_disk.proofs.MomentLaws.{at_end}
 use Rattle.st_recovery.proofs.StoredLemmas.{creating, stored_new, ready_new, pairs_stored}
+use Rattle.st_recovery.proofs.AnewLemmas.{keepable_empty}
 use Rattle.st_recovery.proofs.opening.open_new.Goals as goal
 
 pub returns-in-Ok-clause-any_moment : goal.returns-in-Ok-clause-any_moment
@@ -19,6 +20,7 @@ invariant_of-result g c =
     let sides = now (g.D.Disk.moments c.create.new.disk) in
     record {
       stored = λ honest alive. ∣ stored_new sides (c.in-Ok.ensures.created honest) ((at_end (c.create.ensures.any_moment honest)).away_same ∙ c.requires.on_b honest) (c.requires.void_b honest) c.with_key-state.ensures ∣₁;
+      keepable = keepable_empty _ c.with_key-state.ensures;
     }
 
 pub returns-in-Ok-clause-recovers : goal.returns-in-Ok-clause-recovers

@@ -12,4 +12,5 @@ pub invariant_of-result : goal.invariant_of-result
 invariant_of-result g c = record {
   stored = λ honest alive.
       ∣ stored_of (g.D.Disk.seen c.args.disk) c.args.chosen.side _ _ _ _ (now (g.D.Disk.moments c.args.disk)) (c.requires.chosen honest) (c.requires.on_a honest) (c.requires.on_b honest) ∣₁;
+  keepable = c.requires.keepable;
 }

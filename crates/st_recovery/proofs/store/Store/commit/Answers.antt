@@ -2,7 +2,14 @@ use Rattle.std.proofs.Common.{◌≡◌, false, rules}
 use Rattle.st_disk.specs.Moments.{now}
 use Rattle.st_file.proofs.CommitLemmas.{grown_by_none}
 use Rattle.st_recovery.proofs.StoredLemmas.{all_recover, uncommitted, done_so}
+use Rattle.st_recovery.proofs.AnewLemmas.{keepable_still}
 use Rattle.st_recovery.proofs.store.Store.commit.Goals as goal
+
+pub invariant_of-self : goal.invariant_of-self
+invariant_of-self g c = record {
+  stored = c.commit_parts.ensures.stored;
+  keepable = keepable_still c.commit_parts.result _ _ c.args.records.now c.commit_parts.ensures.ok c.commit_parts.ensures.err c.requires.good c.args.self.now.keepable;
+}
 
 pub returns-then-is_empty-clause-any_moment : goal.returns-then-is_empty-clause-any_moment
 returns-then-is_empty-clause-any_moment g c = λ honest alive. uncommitted c.args.self.now.log.side _ _ (c.args.self.now.stored honest alive)
