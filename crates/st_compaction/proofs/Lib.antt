@@ -1,0 +1,3 @@
+pub mod ClearingLemmas
+pub mod CompactedLemmas
+pub mod NamedLemmas
