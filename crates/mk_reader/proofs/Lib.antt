@@ -1,6 +1,10 @@
+pub mod BlankLemmas
 pub mod FormLemmas
+pub mod GrammarLemmas
 pub mod JoinedLemmas
 pub mod LinesLemmas
 pub mod MakefileLemmas
 pub mod OutcomeLemmas
+pub mod ReferenceLemmas
 pub mod SpellingLemmas
+pub mod StepLemmas

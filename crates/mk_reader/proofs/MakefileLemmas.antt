@@ -15,7 +15,8 @@ use Rattle.mk_reader.specs.declared.line.LogicalLine.{LogicalLine}
 use Rattle.mk_reader.specs.declared.form.UnfinishedRule.{UnfinishedRule}
 use Rattle.mk_reader.specs.declared.form.Form.{Form}
 use Rattle.mk_reader.specs.declared.form.Form.TheVariants as form
-use Rattle.mk_reader.specs.Makefile.{Outcome, GivesItems, with_front, with_lines, with_line, item_of, finished, recipe_below, recipe_from, EachIncluded, FormItems, LineItems, AnswerItems, IncludedItems}
+use Rattle.mk_reader.specs.Makefile.{Outcome, GivesItems, with_front, with_lines, item_of, recipe_from, EachIncluded, FormItems}
+use Rattle.mk_reader.specs.Steps.{with_line, finished, recipe_below, LineItems, AnswerItems, IncludedItems}
 
 with_front-append : (xs ys : List Item) (o : Outcome) → with_front xs (with_front ys o) ≡ with_front (xs ++ ys) o
 with_front-append xs ys (Ok items) = ap Ok (sym (append_assoc xs ys items))

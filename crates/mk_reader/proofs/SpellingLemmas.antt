@@ -9,7 +9,7 @@ use Rattle.mk_reader.specs.declared.line.Ending.TheVariants.{Newline, ReturnNewl
 use Rattle.mk_reader.specs.Lines.{Physical, spelling, physical_lines, ended_line, goes_on, groups, lines_left}
 
 -- a text that ends in a byte is all but its last, and that byte
-ends_at : (byte : ℕ) (text front : List ℕ) → reverse text ≡ front → begins_with byte front ≡ true → text ≡ without_last text ++ byte ∷ []
+pub ends_at : (byte : ℕ) (text front : List ℕ) → reverse text ≡ front → begins_with byte front ≡ true → text ≡ without_last text ++ byte ∷ []
 ends_at byte text [] e h = absurd (cc h)
 ends_at byte text (b ∷ bs) e h =
     let same : b ≡ byte = (Decides-eqb b byte).0 h in

@@ -1,13 +1,17 @@
--- The model is Lines, Form, Special and Makefile.
+-- The model is Lines, Grammar, Special and Makefile; Form and Steps are what the code does.
 -- Fault: how faults name what isn't supported.
 pub mod Fault
--- Form: what one logical line is.
+-- Form: the form of a line, branch by branch.
 pub mod Form
+-- Grammar: how the text of a line is spelled, form by form, and why a line is refused.
+pub mod Grammar
 -- Lines: the physical and the logical lines of a text.
 pub mod Lines
 -- Makefile: what a text gives with the files that it includes.
 pub mod Makefile
 -- Special: the special names.
 pub mod Special
+-- Steps: a text read line by line.
+pub mod Steps
 -- Text: the bytes that mean something, and what counts as text.
 pub mod Text

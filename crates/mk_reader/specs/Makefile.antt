@@ -3,7 +3,7 @@ use Rattle.std.specs.Prelude.{◌≡◌, ℕ, zero, suc, Bool, true, false, List
 use Rattle.std.specs.declared.alloc.Global.{Global}
 use Rattle.byte_strings.specs.Blanks.{words}
 use Rattle.mk_reader.specs.Lines.{logical_lines}
-use Rattle.mk_reader.specs.Form.{refusal, form_of}
+use Rattle.mk_reader.specs.Grammar.{refusal, IsForm}
 use Rattle.mk_reader.specs.declared.special.SpecialName.{SpecialName}
 use Rattle.mk_reader.specs.declared.item.RecipeLine.{RecipeLine}
 use Rattle.mk_reader.specs.declared.item.Rule.{Rule}
@@ -55,9 +55,11 @@ recipe_from (Ok (form.Definition definition)) below = []
 recipe_from (Ok (form.Rule unfinished)) below = []
 recipe_from (Err fault) below = []
 
-abbrev pub recipe_below : List ℕ → List LogicalLine → List RecipeLine
-recipe_below file [] = []
-recipe_below file (line ∷ more) = recipe_from (form_of file line) (recipe_below file more)
+-- these are the recipe lines at the front of the lines, down to the next line that is neither a recipe line nor blank
+abbrev pub RecipeBelow : List ℕ → List LogicalLine → List RecipeLine → Type 0
+RecipeBelow file [] below = below ≡ []
+RecipeBelow file (line ∷ more) below =
+    (told : Result Form Refusal) × IsForm file line told × (rest : List RecipeLine) × RecipeBelow file more rest × (below ≡ recipe_from told rest)
 
 -- a recipe line is a part of the rule above it, and there has to be one
 abbrev pub BelowRule : List ℕ → ℕ → Bool → (Bool → Outcome → Type 0) → Outcome → Type 0
@@ -85,7 +87,8 @@ FormItems Included file number above (Ok (form.Rule unfinished)) below Rest outc
 abbrev pub LineItems : (ℕ → List ℕ → Outcome → Type 0) → List ℕ → Bool → List LogicalLine → Outcome → Type 0
 LineItems Included file above [] outcome = outcome ≡ Ok []
 LineItems Included file above (line ∷ more) outcome =
-    FormItems Included file line.number above (form_of file line) (recipe_below file more) (λ now. LineItems Included file now more) outcome
+    (told : Result Form Refusal) × IsForm file line told × (below : List RecipeLine) × RecipeBelow file more below
+    × FormItems Included file line.number above told below (λ now. LineItems Included file now more) outcome
 
 -- how files answer: where their contents can be told, with their content; else in any way
 abbrev pub AnswersAs : Type 0 → (List ℕ → Option (List ℕ)) → List ℕ → Option (List ℕ) → Type 0
@@ -106,11 +109,6 @@ IncludedItems Answers (suc levels) file number name outcome =
 abbrev pub TextItems : (List ℕ → Option (List ℕ) → Type 0) → ℕ → List ℕ → List ℕ → Outcome → Type 0
 TextItems Answers levels file text outcome = LineItems (IncludedItems Answers levels file) file false (logical_lines 1 (Some text)) outcome
 
--- the item of a rule that may be unfinished, with more lines of its recipe
-abbrev pub finished : Option UnfinishedRule → List RecipeLine → List Item
-finished None more = []
-finished (Some unfinished) more = with_lines unfinished more ∷ []
-
--- the rule with one more line of its recipe
-abbrev pub with_line : UnfinishedRule → RecipeLine → UnfinishedRule
-with_line unfinished line = record unfinished { rule = record unfinished.rule { recipe = unfinished.rule.recipe ++ line ∷ [] } }
+-- how deep includes may be nested (own)
+abbrev pub depth : ℕ
+depth = 16

@@ -1,7 +1,9 @@
 //! Reads a whole makefile, with the files that it includes, line by line.
 ghost use Rattle.std.specs.Prelude.{◌≡◌, ◌+◌, ◌∷◌, ◌++◌, [], IfOk, OnOk, ℕ, List, Option, option_copied};
 ghost use Rattle.byte_strings.specs.Blanks.{words};
-ghost use Rattle.mk_reader.specs.Makefile.{AnswersAs, GivesItems, TextItems, EachIncluded, IncludedItems, finished, with_lines, with_line};
+ghost use Rattle.mk_reader.specs.Makefile as makefile;
+ghost use Rattle.mk_reader.specs.Makefile.{depth, AnswersAs, GivesItems, EachIncluded, with_lines};
+ghost use Rattle.mk_reader.specs.Steps.{TextItems, IncludedItems, finished, with_line};
 
 use crate::fault::{Cause, ReadFault};
 use crate::form::{Form, UnfinishedRule};
@@ -157,7 +159,7 @@ pub fn read_makefile<I: Includes>(
     includes: &mut I,
 ) -> Result<Vec<Item>, ReadFault>
     ensures items { GivesItems result
-        (TextItems (AnswersAs I.honest (I.files includes.old)) MAX_INCLUDE_DEPTH file.now bytes.now) }
+        (makefile.TextItems (AnswersAs I.honest (I.files includes.old)) depth file.now bytes.now) }
     ensures same { I.files includes.new ≡ I.files includes.old }
 {
     read_text(alloc, MAX_INCLUDE_DEPTH, file, bytes, includes)

@@ -3,7 +3,8 @@ use Rattle.std.proofs.lemmas.Result.{err_from_is_err_and}
 use Rattle.byte_strings.specs.Blanks.{words}
 use Rattle.mk_reader.specs.Lines.{logical_lines}
 use Rattle.mk_reader.specs.Form.{form_of}
-use Rattle.mk_reader.specs.Makefile.{AnswersAs, EachIncluded, IncludedItems, LineItems, TextItems}
+use Rattle.mk_reader.specs.Makefile.{AnswersAs, EachIncluded}
+use Rattle.mk_reader.specs.Steps.{IncludedItems, LineItems, TextItems}
 use Rattle.mk_reader.specs.declared.form.Form.TheVariants as form
 use Rattle.mk_reader.proofs.LinesLemmas.{no_lines_left}
 use Rattle.mk_reader.proofs.MakefileLemmas.{included_deeper, each_fault, each_more, each_end, reaches_by, recipe_added, recipe_alone, line_refused, include_refused, include_added, definition_added, rule_added, lines_end, fault_passed_on, form_passed_on, refused_here, items_passed_on}

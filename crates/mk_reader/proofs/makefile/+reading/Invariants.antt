@@ -1,7 +1,8 @@
 use Rattle.std.proofs.Common.{◌≡◌, ◌+◌, ◌*◌, length, option_copied}
 use Rattle.byte_strings.specs.Blanks.{words}
 use Rattle.mk_reader.specs.Lines.{logical_lines, size_left}
-use Rattle.mk_reader.specs.Makefile.{AnswersAs, Outcome, EachIncluded, IncludedItems, with_front}
+use Rattle.mk_reader.specs.Makefile.{AnswersAs, Outcome, EachIncluded, with_front}
+use Rattle.mk_reader.specs.Steps.{IncludedItems}
 use Rattle.mk_reader.proofs.MakefileLemmas.{Reaches}
 use Rattle.mk_reader.proofs.makefile.+reading.Given as goal
 

@@ -1,0 +1,253 @@
+-- What a line of a makefile is, told by how its text is spelled: each form by its parts, each refusal by what stands
+-- there (make(1S), "Macros" and "Targets and Rules"; the refusals are own). Blanks at its ends and its comment are off.
+use Rattle.std.specs.Prelude.{◌≡◌, ◌⊎◌, ℕ, Bool, true, false, not, ◌&&◌, ◌||◌, ◌==◌, List, [], ◌∷◌, ◌++◌, reverse, flat_map, Option, Some, None, Result, Ok, Err, codes}
+use Rattle.std.specs.List.{list_any, list_all}
+use Rattle.byte_strings.specs.Blanks.{is_blank}
+use Rattle.mk_reader.specs.Text.{is_dollar, is_empty, begins_with, is_text}
+use Rattle.mk_reader.specs.Special.{name_text, is_refused, takes_no_prerequisites}
+use Rattle.mk_reader.specs.declared.special.SpecialName.{SpecialName}
+use Rattle.mk_reader.specs.declared.item.RecipeLine.{RecipeLine}
+use Rattle.mk_reader.specs.declared.fault.Feature.TheVariants as feature
+use Rattle.mk_reader.specs.declared.fault.Cause.{Cause}
+use Rattle.mk_reader.specs.declared.fault.Cause.TheVariants as cause
+use Rattle.mk_reader.specs.declared.fault.Refusal.{Refusal}
+use Rattle.mk_reader.specs.declared.line.LogicalLine.{LogicalLine}
+use Rattle.mk_reader.specs.declared.form.Form.{Form}
+use Rattle.mk_reader.specs.declared.form.Form.TheVariants as form
+
+-- References
+
+-- a piece of a line: a byte that stands for itself, or a reference to a macro, which is `$` and a byte, or reaches from
+-- `$(` to the first `)`, or from `${` to the first `}`
+pub data Piece : Type 0 where
+  plain : ℕ → Piece
+  short : ℕ → Piece
+  round : (inside : List ℕ) → Piece
+  curly : (inside : List ℕ) → Piece
+
+abbrev pub piece_text : Piece → List ℕ
+piece_text (plain b) = b ∷ []
+piece_text (short b) = 36 ∷ b ∷ []
+piece_text (round inside) = 36 ∷ 40 ∷ (inside ++ 41 ∷ [])
+piece_text (curly inside) = 36 ∷ 123 ∷ (inside ++ 125 ∷ [])
+
+abbrev pub Lacks : (byte : ℕ) (text : List ℕ) → Type 0
+Lacks byte text = list_any (λ b. b == byte) text ≡ false
+
+-- the piece is spelled right, and is neither of these two bytes
+abbrev pub IsPiece : (one other : ℕ) → Piece → Type 0
+IsPiece one other (plain b) = ((b == 36) ≡ false) × ((b == one || b == other) ≡ false)
+IsPiece one other (short b) = ((b == 40) ≡ false) × ((b == 123) ≡ false)
+IsPiece one other (round inside) = Lacks 41 inside
+IsPiece one other (curly inside) = Lacks 125 inside
+
+abbrev pub ArePieces : (one other : ℕ) → List Piece → Type 0
+ArePieces one other [] = Unit {0}
+ArePieces one other (piece ∷ pieces) = IsPiece one other piece × ArePieces one other pieces
+
+-- the text is made of whole pieces, and neither byte stands outside its references
+abbrev pub Whole : (one other : ℕ) (text : List ℕ) → Type 0
+Whole one other text = (pieces : List Piece) × (text ≡ flat_map piece_text pieces) × ArePieces one other pieces
+
+-- the end of a line: nothing, or a reference that isn't closed
+pub data Tail : Type 0 where
+  nothing : Tail
+  lone : Tail
+  open_round : (inside : List ℕ) → Tail
+  open_curly : (inside : List ℕ) → Tail
+
+abbrev pub tail_text : Tail → List ℕ
+tail_text nothing = []
+tail_text lone = 36 ∷ []
+tail_text (open_round inside) = 36 ∷ 40 ∷ inside
+tail_text (open_curly inside) = 36 ∷ 123 ∷ inside
+
+abbrev pub IsTail : Tail → Type 0
+IsTail nothing = Unit {0}
+IsTail lone = Unit {0}
+IsTail (open_round inside) = Lacks 41 inside
+IsTail (open_curly inside) = Lacks 125 inside
+
+-- neither byte stands outside the references of the text, the last of which may be unfinished
+abbrev pub Without : (one other : ℕ) (text : List ℕ) → Type 0
+Without one other text =
+    (pieces : List Piece) × (tail : Tail) × (text ≡ flat_map piece_text pieces ++ tail_text tail) × ArePieces one other pieces × IsTail tail
+
+-- Blanks
+
+abbrev pub AllBlank : List ℕ → Type 0
+AllBlank text = list_all is_blank text ≡ true
+
+-- blanks may stand around this, which begins and ends with none
+abbrev pub begins_blank : List ℕ → Bool
+begins_blank [] = false
+begins_blank (b ∷ bs) = is_blank b
+
+abbrev pub Padded : (text core : List ℕ) → Type 0
+Padded text core =
+    (front : List ℕ) × (back : List ℕ) × (text ≡ front ++ (core ++ back)) × AllBlank front × AllBlank back
+    × (begins_blank core ≡ false) × (begins_blank (reverse core) ≡ false)
+
+-- the word of at least one byte with which a text begins, or nothing where it begins with a blank
+abbrev pub BeginsWithWord : (text word : List ℕ) → Type 0
+BeginsWithWord text word =
+    (rest : List ℕ) × (text ≡ word ++ rest) × (list_any is_blank word ≡ false) × ((is_empty rest || begins_blank rest) ≡ true)
+
+-- Include lines
+
+-- the first word is `include`, and this follows
+abbrev pub IsInclude : (line names : List ℕ) → Type 0
+IsInclude line names = (line ≡ codes "include" ++ names) × ((is_empty names || begins_blank names) ≡ true)
+
+abbrev pub IsNoInclude : (line : List ℕ) → Type 0
+IsNoInclude line = (names : List ℕ) → IsInclude line names → ⊥
+
+-- Definitions
+
+-- what stands before the `=`: a name, or a name and `+` directly before the `=`, which appends
+abbrev pub SpellsName : (left name : List ℕ) (append : Bool) → Type 0
+SpellsName left name true = (rest : List ℕ) × (left ≡ rest ++ 43 ∷ []) × Padded rest name
+SpellsName left name false = (begins_with 43 (reverse left) ≡ false) × Padded left name
+
+-- the first `=` outside references comes before any `:`; no `?` stands directly before it
+abbrev pub SpellsAssignment : (line left right : List ℕ) → Type 0
+SpellsAssignment line left right = (line ≡ left ++ 61 ∷ right) × Whole 61 58 left × (begins_with 63 (reverse left) ≡ false)
+
+abbrev pub SpellsDefinition : (line name : List ℕ) (append : Bool) (value : List ℕ) → Type 0
+SpellsDefinition line name append value =
+    (left : List ℕ) × (right : List ℕ) × SpellsAssignment line left right
+    × SpellsName left name append × (is_empty name ≡ false) × (list_any is_blank name ≡ false) × Padded right value
+
+-- Rules
+
+-- the first `:` outside references comes before any `=`
+abbrev pub SpellsColon : (line left right : List ℕ) → Type 0
+SpellsColon line left right = (line ≡ left ++ 58 ∷ right) × Whole 61 58 left
+
+-- behind the `:` of `NAME:sh =`
+abbrev pub IsShell : (right : List ℕ) → Type 0
+IsShell right = (blanks : List ℕ) × (rest : List ℕ) × (right ≡ codes "sh" ++ (blanks ++ 61 ∷ rest)) × AllBlank blanks
+
+-- the `:` is a rule's: no `::`, `:=` or `:sh =`
+abbrev pub IsRuleEnd : (right : List ℕ) → Type 0
+IsRuleEnd right = (begins_with 58 right ≡ false) × (begins_with 61 right ≡ false) × (IsShell right → ⊥)
+
+-- the prerequisites, and behind the first `;` outside references, where there is one, the recipe's first line
+abbrev pub SpellsEnd : (right prerequisites : List ℕ) (recipe : Option (List ℕ)) → Type 0
+SpellsEnd right prerequisites None = Without 59 59 right × Padded right prerequisites
+SpellsEnd right prerequisites (Some recipe) =
+    (before : List ℕ) × (right ≡ before ++ 59 ∷ recipe) × Whole 59 59 before × Padded before prerequisites
+
+abbrev pub SpellsRule : (line targets prerequisites : List ℕ) (recipe : Option (List ℕ)) → Type 0
+SpellsRule line targets prerequisites recipe =
+    (left : List ℕ) × (right : List ℕ) × SpellsColon line left right × IsRuleEnd right
+    × Padded left targets × (is_empty targets ≡ false) × SpellsEnd right prerequisites recipe
+
+-- the first target is this special name, or none
+abbrev pub HasSpecial : (targets : List ℕ) → Option SpecialName → Type 0
+HasSpecial targets None = (name : SpecialName) → BeginsWithWord targets (name_text name) → ⊥
+HasSpecial targets (Some name) = BeginsWithWord targets (name_text name)
+
+-- such a rule is refused
+abbrev pub is_refused_with : (prerequisites : List ℕ) → Option SpecialName → Bool
+is_refused_with prerequisites None = false
+is_refused_with prerequisites (Some name) = is_refused name || (takes_no_prerequisites name && not (is_empty prerequisites))
+
+-- Refusals
+
+-- a definition whose name isn't one word
+abbrev pub NamesNoWord : (line : List ℕ) → Type 0
+NamesNoWord line =
+    (left : List ℕ) × (right : List ℕ) × SpellsAssignment line left right
+    × (name : List ℕ) × (append : Bool) × SpellsName left name append × ((is_empty name || list_any is_blank name) ≡ true)
+
+-- a rule without a target
+abbrev pub HasNoTarget : (line : List ℕ) → Type 0
+HasNoTarget line = (left : List ℕ) × (right : List ℕ) × SpellsColon line left right × IsRuleEnd right × AllBlank left
+
+-- why a line is refused that isn't empty and is no include line
+abbrev pub IsRefused : (line : List ℕ) → Cause → Type 0
+IsRefused line cause.MissingSeparator = Without 61 58 line ⊎ (NamesNoWord line ⊎ HasNoTarget line)
+IsRefused line (cause.Unsupported feature.OptionalDefinition) =
+    (left : List ℕ) × (right : List ℕ) × (line ≡ left ++ 61 ∷ right) × Whole 61 58 left × (begins_with 63 (reverse left) ≡ true)
+IsRefused line (cause.Unsupported feature.DoubleColon) =
+    (left : List ℕ) × (right : List ℕ) × SpellsColon line left right × (begins_with 58 right ≡ true)
+IsRefused line (cause.Unsupported feature.ColonDefinition) =
+    (left : List ℕ) × (right : List ℕ) × SpellsColon line left right × (begins_with 61 right ≡ true)
+IsRefused line (cause.Unsupported feature.ShellDefinition) = (left : List ℕ) × (right : List ℕ) × SpellsColon line left right × IsShell right
+IsRefused line (cause.Unsupported (feature.SpecialName name)) =
+    (targets : List ℕ) × (prerequisites : List ℕ) × (recipe : Option (List ℕ)) × SpellsRule line targets prerequisites recipe
+    × HasSpecial targets (Some name) × (is_refused_with prerequisites (Some name) ≡ true)
+IsRefused line (cause.Unsupported feature.Include) = ⊥
+IsRefused line cause.NotText = ⊥
+IsRefused line cause.TabFirst = ⊥
+IsRefused line cause.IncludeDepth = ⊥
+IsRefused line (cause.IncludeMissing name) = ⊥
+
+-- Lines
+
+-- this line of the file is refused for this cause
+abbrev pub refusal : (file : List ℕ) (number : ℕ) (why : Cause) → Refusal
+refusal file number why = record { file = file; line = number; cause = why }
+
+abbrev pub IsRefusal : (file : List ℕ) (number : ℕ) → Refusal → Type 0
+IsRefusal file number refused = (refused.file ≡ file) × (refused.line ≡ number)
+
+-- the first line of a recipe that stands behind a `;`
+abbrev pub first_line : (number : ℕ) → Option (List ℕ) → List RecipeLine
+first_line number None = []
+first_line number (Some text) = record { text = text; line = number } ∷ []
+
+-- what a line is that isn't empty and is no include line: a definition, a rule, or refused
+abbrev pub IsStatement : (file : List ℕ) (number : ℕ) (line : List ℕ) → Result Form Refusal → Type 0
+IsStatement file number line (Ok (form.Definition d)) = (d.file ≡ file) × (d.line ≡ number) × SpellsDefinition line d.name d.append d.value
+IsStatement file number line (Ok (form.Rule u)) =
+    (u.rule.file ≡ file) × (u.rule.line ≡ number) × (recipe : Option (List ℕ)) × (u.rule.recipe ≡ first_line number recipe)
+    × SpellsRule line u.rule.targets u.rule.prerequisites recipe
+    × HasSpecial u.rule.targets u.special × (is_refused_with u.rule.prerequisites u.special ≡ false)
+IsStatement file number line (Ok form.Blank) = ⊥
+IsStatement file number line (Ok (form.Recipe recipe)) = ⊥
+IsStatement file number line (Ok (form.Include names)) = ⊥
+IsStatement file number line (Err refused) = IsRefusal file number refused × IsRefused line refused.cause
+
+-- an include line names files; one with a reference, or without a name, is refused
+abbrev pub is_bad_include : (names : List ℕ) → Bool
+is_bad_include names = list_any is_dollar names || list_all is_blank names
+
+abbrev pub IsIncludeForm : (file : List ℕ) (number : ℕ) (names : List ℕ) → Result Form Refusal → Type 0
+IsIncludeForm file number names told =
+    ((is_bad_include names ≡ false) × (told ≡ Ok (form.Include names)))
+    ⊎ ((is_bad_include names ≡ true) × (told ≡ Err (refusal file number (cause.Unsupported feature.Include))))
+
+-- what a line is, without its comment and the blanks at its ends; the word `include` comes before `=` and `:`
+abbrev pub IsLine : (file : List ℕ) (number : ℕ) (line : List ℕ) → Result Form Refusal → Type 0
+IsLine file number line told =
+    ((line ≡ []) × (told ≡ Ok form.Blank))
+    ⊎ (((names : List ℕ) × IsInclude line names × IsIncludeForm file number names told)
+    ⊎ ((is_empty line ≡ false) × IsNoInclude line × IsStatement file number line told))
+
+-- a comment reaches from the first `#` to the end, and may hold any bytes
+abbrev pub HasContent : (text content : List ℕ) → Type 0
+HasContent text content =
+    (comment : List ℕ) × (text ≡ content ++ comment) × Lacks 35 content × ((is_empty comment || begins_with 35 comment) ≡ true)
+
+abbrev pub IsTextLine : (file : List ℕ) (number : ℕ) (text : List ℕ) → Result Form Refusal → Type 0
+IsTextLine file number text told =
+    (content : List ℕ) × HasContent text content
+    × (((is_text content ≡ false) × (told ≡ Err (refusal file number cause.NotText)))
+    ⊎ ((is_text content ≡ true) × ((line : List ℕ) × Padded content line × IsLine file number line told)))
+
+-- a recipe line has no comments; one of blanks alone is passed over
+abbrev pub IsRecipeLine : (file : List ℕ) (number : ℕ) (text : List ℕ) → Result Form Refusal → Type 0
+IsRecipeLine file number text told =
+    ((is_text text ≡ false) × (told ≡ Err (refusal file number cause.NotText)))
+    ⊎ (((is_text text ≡ true) × AllBlank text × (told ≡ Ok form.Blank))
+    ⊎ ((is_text text ≡ true) × (list_all is_blank text ≡ false) × (told ≡ Ok (form.Recipe (record { text = text; line = number })))))
+
+abbrev pub IsOfKind : (is_recipe : Bool) (file : List ℕ) (number : ℕ) (text : List ℕ) → Result Form Refusal → Type 0
+IsOfKind true file number text told = IsRecipeLine file number text told
+IsOfKind false file number text told = IsTextLine file number text told
+
+-- what a logical line of the file is, or why it is refused
+abbrev pub IsForm : (file : List ℕ) (line : LogicalLine) → Result Form Refusal → Type 0
+IsForm file line told = IsOfKind line.is_recipe file line.number line.text told
