@@ -1,5 +1,7 @@
 //! What holds of the definitions alone. The functions do nothing: what they ensure is the law.
-ghost use Rattle.std.specs.Prelude.{◌≡◌, ℕ, Bool, true, List, Option, Some};
+ghost use Rattle.std.specs.Prelude.{◌≡◌, ℕ, Bool, true, not, ◌&&◌, List, ◌∷◌, Option, Some, bytes_eq};
+ghost use Rattle.std.specs.List.{IsDistinct};
+ghost use Rattle.mk_reader.specs.Lines.{joined_lines};
 ghost use Rattle.st_records.specs.declared.record.Entry.{Entry};
 ghost use Rattle.st_records.specs.declared.record.Phase.TheVariants as phase;
 ghost use Rattle.mk_recipe.specs.declared.verdict.Target.{Target};
@@ -11,6 +13,7 @@ ghost use Rattle.mk_recipe.specs.declared.line_status.LineStatus.{LineStatus};
 ghost use Rattle.mk_recipe.specs.declared.line_status.Outcome.{Outcome};
 ghost use Rattle.mk_recipe.specs.Line.{Records};
 ghost use Rattle.mk_recipe.specs.Outcome.{IsOutcome};
+ghost use Rattle.mk_recipe.specs.Report.{has, mentioned, AreHidden};
 ghost use Rattle.mk_recipe.specs.Verdict.{IsVerdict};
 
 /// The lines of a recipe have one list of commands that the state keeps.
@@ -39,4 +42,14 @@ pub fn begun_is_out_of_date()
 /// Each target has a verdict.
 pub fn each_judged()
     ensures { (keeping : Bool) (entry : Option Entry) (target : Target) → (a : Verdict) × IsVerdict keeping entry target a }
+{}
+
+/// A name is hidden just where a line of the report says it of the target, and it is neither the target nor known. None
+/// is hidden twice.
+pub fn hidden_as_mentioned()
+    ensures each { (report target : List ℕ) (known names : List (List ℕ)) (name : List ℕ)
+        → AreHidden report target known names
+        → has name names ≡ (has name (mentioned target (joined_lines (Some report))) && not (has name (target ∷ known))) }
+    ensures once { (report target : List ℕ) (known names : List (List ℕ))
+        → AreHidden report target known names → IsDistinct bytes_eq names }
 {}

@@ -11,4 +11,8 @@ mod outcomes;
 #[cfg(test)]
 mod reasons;
 #[cfg(test)]
+mod reports;
+#[cfg(test)]
 mod verdicts;
+#[cfg(test)]
+mod worked;

@@ -115,8 +115,8 @@ static STATES: [(&str, Option<Known>, &[&str], &[&str], Verdict); 13] = [
     ),
     (
         "one prerequisite more",
-        Some((Phase::Done, &["cc"], Some(&["a.c"]))),
-        &["cc"],
+        Some((Phase::Done, &["cc -c a.c"], Some(&["a.c"]))),
+        &["cc -c a.c"],
         &["a.c", "b.c"],
         Verdict::OutOfDate(Reason::PrerequisitesChanged),
     ),
@@ -129,8 +129,8 @@ static STATES: [(&str, Option<Known>, &[&str], &[&str], Verdict); 13] = [
     ),
     (
         "an unknown list isn't compared",
-        Some((Phase::Done, &["cc"], None)),
-        &["cc"],
+        Some((Phase::Done, &["cc -c a.c"], None)),
+        &["cc -c a.c"],
         &["a.c", "b.c"],
         Verdict::UpToDate,
     ),

@@ -1,0 +1,149 @@
+//! The report of a target: the files that its commands have read beside those that the makefile names.
+ghost use Rattle.std.specs.Prelude.{◌≡◌, ℕ, ◌∷◌, [], List, Some, IfOk, IfErr};
+ghost use Rattle.byte_strings.specs.Blanks.{words};
+ghost use Rattle.mk_reader.specs.Lines.{joined_lines};
+ghost use Rattle.mk_recipe.specs.Report.{has, mentioned, AreHidden, IsReportFault};
+ghost use Rattle.mk_recipe.specs.Reading.{Reads, Stops};
+
+use crate::name_set::NameSet;
+use crate::report_line::names_on;
+use byte_strings::{ByteStrings, Words};
+use mk_reader::{is_text, next_joined_line};
+use st_records::{HashKey, MAX_HIDDEN_NAMES, MAX_NAME_BYTES};
+use std::alloc::{AllocError, Global};
+use thiserror::Error;
+
+/// Why a report isn't taken. Of several faults the first in this order counts.
+#[derive(Clone, Copy, Debug, PartialEq, Eq, Error)]
+pub enum ReportFault {
+    #[error("out of memory")]
+    OutOfMemory,
+    /// Bytes that aren't UTF-8, or a NUL, anywhere in the report.
+    #[error("not text")]
+    NotText,
+    /// A hidden name is over [`MAX_NAME_BYTES`].
+    #[error("a name is too long")]
+    TooLong,
+    /// The hidden names are over [`MAX_HIDDEN_NAMES`].
+    #[error("too many names")]
+    TooMany,
+}
+
+impl From<AllocError> for ReportFault {
+    ghost use Rattle.std.specs.Prelude.{◌≡◌};
+    ghost use Rattle.mk_recipe.specs.declared.report.ReportFault.TheVariants.{OutOfMemory};
+
+    ghost from_gives = { λ _ fault. fault ≡ OutOfMemory };
+
+    fn from(_error: AllocError) -> ReportFault {
+        ReportFault::OutOfMemory
+    }
+}
+
+/// The names that are no hidden prerequisites.
+fn known_names(
+    alloc: Global,
+    key: HashKey,
+    target: &[u8],
+    known: &ByteStrings,
+) -> Result<NameSet, AllocError>
+    ensures { IfOk result (λ names. (name : List ℕ) → has name names ≡ has name (target.now ∷ known.now)) }
+{
+    let mut names = NameSet::new(alloc, key);
+    names.add(alloc, target)?;
+    for name in known {
+        names.add(alloc, name)?;
+    }
+    Ok(names)
+}
+
+/// Takes in a name that the report mentions. Says whether it is left out, since there are as many as may be.
+fn read_name(
+    alloc: Global,
+    seen: &mut NameSet,
+    hidden: &mut ByteStrings,
+    name: &[u8],
+) -> Result<bool, ReportFault>
+    ensures ok { IfOk result (Reads (name.now ∷ []) seen.old hidden.old seen.new hidden.new) }
+    ensures fault { IfErr result (Stops (name.now ∷ []) seen.old) }
+{
+    if seen.contains(name) {
+        return Ok(false);
+    }
+    if name.len() > MAX_NAME_BYTES {
+        return Err(ReportFault::TooLong);
+    }
+    if hidden.len() >= MAX_HIDDEN_NAMES {
+        return Ok(true);
+    }
+    hidden.push(name)?;
+    seen.add(alloc, name)?;
+    Ok(false)
+}
+
+/// Takes in the words of a text. Says whether one is left out.
+fn read_names(
+    alloc: Global,
+    seen: &mut NameSet,
+    hidden: &mut ByteStrings,
+    text: &[u8],
+) -> Result<bool, ReportFault>
+    ensures ok { IfOk result (Reads (words text.now) seen.old hidden.old seen.new hidden.new) }
+    ensures fault { IfErr result (Stops (words text.now) seen.old) }
+{
+    let mut left_out = false;
+    for name in Words::new(text) {
+        let is_left_out = read_name(alloc, seen, hidden, name)?;
+        left_out |= is_left_out;
+    }
+    Ok(left_out)
+}
+
+/// Takes in all names that the lines of a report say of the target. Says whether one is left out.
+fn read_lines(
+    alloc: Global,
+    seen: &mut NameSet,
+    hidden: &mut ByteStrings,
+    report: &[u8],
+    target: &[u8],
+) -> Result<bool, ReportFault>
+    ensures ok { IfOk result (Reads (mentioned target.now (joined_lines (Some report.now)))
+        seen.old hidden.old seen.new hidden.new) }
+    ensures fault { IfErr result (Stops (mentioned target.now (joined_lines (Some report.now))) seen.old) }
+{
+    let mut left_out = false;
+    let mut left = Some(report);
+    while let Some(bytes) = left {
+        let (line, after) = next_joined_line(alloc, bytes)?;
+        let is_left_out = read_names(alloc, seen, hidden, names_on(target, line.as_slice()))?;
+        left_out |= is_left_out;
+        left = after;
+    }
+    Ok(left_out)
+}
+
+/// The hidden prerequisites that a target's report names, in order of their first mention: neither the target nor one
+/// of the names in `known`, which are its source and its explicit prerequisites.
+///
+/// Lines for other targets are passed over. An `Err` gives no names, and of several faults the first is answered.
+/// `key` hides from the report's writer which names collide in a table.
+pub fn read_report(
+    alloc: Global,
+    key: HashKey,
+    report: &[u8],
+    target: &[u8],
+    known: &ByteStrings,
+) -> Result<ByteStrings, ReportFault>
+    ensures names { IfOk result (AreHidden report.now target.now known.now) }
+    ensures fault { IfErr result (IsReportFault report.now target.now known.now) }
+{
+    if !is_text(report) {
+        return Err(ReportFault::NotText);
+    }
+    let mut seen = known_names(alloc, key, target, known)?;
+    let mut hidden = ByteStrings::empty(alloc);
+    if read_lines(alloc, &mut seen, &mut hidden, report, target)? {
+        return Err(ReportFault::TooMany);
+    }
+    Ok(hidden)
+}
