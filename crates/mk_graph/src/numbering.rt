@@ -39,6 +39,9 @@ pub trait Dependencies {
     /// That the prerequisites of a name can't be given, for this cause.
     ghost refuses: { Self → List ℕ → Self.Fault → Type 0 };
 
+    /// What a call leaves true of the source, from before it to behind it.
+    ghost follows: { Self → Self → Type 0 };
+
     /// The prerequisites of a name, and its node. An answer narrows what is still possible and never widens it.
     fn prerequisites(
         &mut self,
@@ -52,10 +55,16 @@ pub trait Dependencies {
         ensures node { IfOk result (λ found. describes self.new name.now found.node) }
         ensures kept { (other : List ℕ) (node : Self.Node) → describes self.old other node → describes self.new other node }
         ensures asks { (other : List ℕ) → asked self.new other → (asked self.old other) ⊎ (other ≡ name.now) }
+        ensures follows { follows self.old self.new }
         ensures refused { IfErr result (refuses self.new name.now) };
 
     // Something is always possible.
     ghost possible: { (source : Self) → (of : List ℕ → List (List ℕ)) × allows source of };
+
+    // No call, and one after the other.
+    ghost stays: { (source : Self) → follows source source };
+
+    ghost through: { (a b c : Self) → follows a b → follows b c → follows a c };
 }
 
 /// Why names aren't numbered.
@@ -131,6 +140,7 @@ pub fn number<R: Dependencies>(
 
     ensures fault { IfErr result (IsNumberingFault (R.allows source.new) (R.refuses source.new) goals.now limit) }
     ensures grows { (of : List ℕ → List (List ℕ)) → R.allows source.new of → R.allows source.old of }
+    ensures follows { R.follows source.old source.new }
 {
     let mut names = Names::new(alloc);
     let Some(goal_numbers) = names.add_all(alloc, goals, limit)? else {

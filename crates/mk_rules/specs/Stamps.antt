@@ -18,3 +18,11 @@ abbrev pub IsLookFault : (refuses : List ℕ → Type 0) → (name : List ℕ) �
 IsLookFault refuses name fault.OutOfMemory = Unit {0}
 IsLookFault refuses name (fault.Tree n) = (n ≡ name) × refuses n
 IsLookFault refuses name _ = ⊥
+
+-- what looking at names leaves true: what is known grows, and where a tree can be told beforehand it is what the tree
+-- tells; what it tells stays, and so does what it refuses
+pub record Looks (honest : Type 0) (before after : Stamps) (told told_after : List ℕ → Option ℤ) (refuses refuses_after : List ℕ → Type 0) : Type 0 where
+  pub grows : (times : List ℕ → Option ℤ) → AgreesWith after times → AgreesWith before times
+  pub answers : honest → AgreesWith before told → AgreesWith after told_after
+  pub same : told_after ≡ told
+  pub kept : (n : List ℕ) → refuses n → refuses_after n

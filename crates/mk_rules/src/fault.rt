@@ -1,7 +1,10 @@
 //! Why a makefile's rules make no graph.
-use byte_strings::ByteString;
+use bstr::ByteSlice;
+use byte_strings::{ByteString, ByteStrings};
+use mk_graph::Names;
 use mk_macros::MacroFault;
-use std::alloc::{AllocError, AllocFailed};
+use std::alloc::{AllocError, AllocFailed, Global};
+use std::fmt;
 use thiserror::Error;
 
 /// What a rule line may not hold.
@@ -18,7 +21,48 @@ pub enum Unsupported {
     PatternRule,
 }
 
-/// Why rule lines are refused.
+/// Names of which each is a prerequisite of the one before. The last is the first again.
+#[derive(Debug, Drop)]
+pub struct CycleNames {
+    pub names: ByteStrings,
+}
+
+impl CycleNames {
+    ghost use Rattle.std.specs.Prelude.{◌≡◌, true, length, map, nat_lt, IfOk};
+    ghost use Rattle.std.specs.List.{list_all};
+    ghost use Rattle.mk_graph.specs.Numbering.{name_at};
+
+    /// The names of a cycle's nodes.
+    pub(crate) fn of_nodes(
+        alloc: Global,
+        names: &Names,
+        cycle: &[usize],
+    ) -> Result<CycleNames, AllocError>
+        requires { list_all (λ n. nat_lt n (length names.now)) cycle.now ≡ true }
+        ensures { IfOk result (λ told. told.names ≡ map (name_at names.now) cycle.now) }
+    {
+        let mut list = ByteStrings::empty(alloc);
+        for node in cycle {
+            list.push(names.name(*node))?;
+        }
+        Ok(CycleNames { names: list })
+    }
+}
+
+impl fmt::Display for CycleNames {
+    fn fmt<W: fmt::Write>(&self, f: &mut fmt::Formatter<W>) -> fmt::Result {
+        let mut is_first = true;
+        for name in self.names.iter() {
+            if !is_first {
+                f.write_str(" ")?;
+            }
+            is_first = false;
+            fmt::Display::fmt(&name.as_bstr(), f)?;
+        }
+        Ok(())
+    }
+}
+
 #[derive(Debug, Drop, Error)]
 pub enum RuleFault {
     #[error("out of memory")]
@@ -26,9 +70,17 @@ pub enum RuleFault {
     /// No goal is named, and no rule gives one.
     #[error("no target")]
     NoTarget,
+    /// The name has no file, and nothing makes it.
+    #[error("no rule for {0}")]
+    NoRule(ByteString),
     /// The name, and the number of the rule line whose recipe is its second.
     #[error("two recipes for {0} (line {1})")]
     TwoRecipes(ByteString, usize),
+    #[error("cycle: {0}")]
+    Cycle(CycleNames),
+    /// There are more names than a graph holds.
+    #[error("too many targets")]
+    TooMany,
     /// In the targets or the prerequisites of a rule.
     #[error("{0}")]
     Macro(MacroFault),

@@ -12,7 +12,7 @@ use crate::tree::Tree;
 use std::alloc::Global;
 
 /// Whether some line makes the name, or it has a file.
-fn is_there<T: Tree>(
+pub(crate) fn is_there<T: Tree>(
     alloc: Global,
     targets: &TargetTable,
     tree: &mut T,

@@ -3,10 +3,29 @@
 #![tactic(auto)]
 
 #[cfg(test)]
+mod expected;
+#[cfg(test)]
+mod goals;
+#[cfg(test)]
+mod graphs;
+#[cfg(test)]
+mod implicit_rules;
+#[cfg(test)]
+mod makefiles;
+#[cfg(test)]
+mod nodes;
+#[cfg(test)]
+mod prerequisites;
+#[cfg(test)]
+mod refused_lines;
+#[cfg(test)]
 mod rule_lines;
+#[cfg(test)]
+mod settings;
 #[cfg(test)]
 mod shown;
 #[cfg(test)]
 mod sources;
 #[cfg(test)]
 mod targets;
+pub mod times;

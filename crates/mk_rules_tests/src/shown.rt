@@ -1,7 +1,7 @@
 //! Makefiles to rule lines, and trees in memory.
 use byte_strings::ByteStrings;
 use mk_macros::{Macros, Rank};
-use mk_reader::{Includes, read_makefile};
+use mk_reader::{Includes, Item, read_makefile};
 use mk_rules::{RuleFault, RuleLine, Tree, TreeFault, rule_lines};
 use std::alloc::{AllocError, Global};
 use std::test::Fail;
@@ -51,9 +51,14 @@ impl Tree for Files {
     }
 }
 
+/// The items of a makefile that includes no other.
+pub fn items_of(alloc: Global, text: &str) -> Result<Vec<Item>, Fail> {
+    Ok(read_makefile(alloc, b"makefile", text.as_bytes(), &mut NoFiles)?)
+}
+
 /// The rule lines of a makefile, where the environment has `E` as `env`.
 pub fn lines_of(alloc: Global, text: &str) -> Result<Result<Vec<RuleLine>, RuleFault>, Fail> {
-    let items = read_makefile(alloc, b"makefile", text.as_bytes(), &mut NoFiles)?;
+    let items = items_of(alloc, text)?;
     let mut macros = Macros::new(alloc);
     macros.define(alloc, Rank::Environment, b"E", b"env", false)?;
     Ok(rule_lines(alloc, items, &mut macros))

@@ -36,6 +36,7 @@ loop-alloc-init g c =
       asked = λ name asked. absurd (c.requires name asked);
       nodes = ap length c.new-nodes.ensures.items ∙ sym (ap length c.new-rows.ensures.items);
       described = described_none (g.R.Dependencies.describes c.args.source.now) names c.new-nodes.result.items c.new-nodes.ensures.items;
+      follows = g.met.R.Dependencies.stays c.args.source.now;
     }
 
 pub prerequisites-requires : goal.prerequisites-requires
@@ -135,6 +136,7 @@ loop-alloc-preserved g c =
           c.in-Ok.ensures.kept grown (omega arith) c.loop-alloc.invariant.described
           (subst (λ name. g.R.Dependencies.describes c.prerequisites.new.self name c.in-Ok.found.node) (c.name.ensures ∙ ap (name_at names) place) c.in-Ok.ensures.node)
           n node (ap (λ l. slice_get l n) (sym c.in_ok-push-2.ensures.items) ∙ at);
+      follows = g.met.R.Dependencies.through c.args.source.now c.loop-alloc.source c.prerequisites.new.self c.loop-alloc.invariant.follows c.in-Ok.ensures.follows;
     }
 
 pub returns-clause-names : goal.returns-clause-names
@@ -152,3 +154,15 @@ returns-clause-closed g c =
 pub returns-clause-asked : goal.returns-clause-asked
 returns-clause-asked g c = λ name asked.
     subst (λ l. has_name l name ≡ true) (take_all (length c.loop-alloc.rows.items) c.loop-alloc.names (omega arith)) (c.loop-alloc.invariant.asked name asked)
+
+-- each refusal before the loop, and within it
+pub returns-in_default-clause-follows : goal.returns-in_default-clause-follows
+returns-in_default-clause-follows g c = g.met.R.Dependencies.stays c.args.source.now
+
+pub returns-in-Err-clause-follows : goal.returns-in-Err-clause-follows
+returns-in-Err-clause-follows g c =
+    g.met.R.Dependencies.through c.args.source.now c.loop-alloc.source c.prerequisites.new.self c.loop-alloc.invariant.follows c.in-Err.ensures.follows
+
+pub returns-in_default-2-clause-follows : goal.returns-in_default-2-clause-follows
+returns-in_default-2-clause-follows g c =
+    g.met.R.Dependencies.through c.args.source.now c.loop-alloc.source c.prerequisites.new.self c.loop-alloc.invariant.follows c.in-Ok.ensures.follows

@@ -1,0 +1,81 @@
+-- A graph of its parts.
+use Rattle.std.proofs.Common.{◌≡◌, ℕ, List, length, map, refl, sym, ap, subst, ◌∙◌}
+use Rattle.mk_graph.specs.Counted.{AreCounted}
+use Rattle.mk_graph.specs.Cycle.{HasCycle}
+use Rattle.mk_graph.specs.Edges.{row}
+use Rattle.mk_graph.specs.Numbering.{IsNumbering, name_at}
+use Rattle.mk_graph.specs.Plan.{IsPlan}
+use Rattle.mk_graph.specs.declared.numbering.Numbered.{Numbered}
+use Rattle.mk_rules.specs.Assembly.{IsPutTogether}
+use Rattle.mk_rules.specs.Faults.{HasUnmade, HasNamedCycle}
+use Rattle.mk_rules.specs.Found.{AreFound, IsUnmadeFault, IsGraphlessFault}
+use Rattle.mk_rules.specs.Goals.{goals_of, settings_of}
+use Rattle.mk_rules.specs.Graph.{IsGraph, IsNode, AreMade, AreHard, AreSoft}
+use Rattle.mk_rules.specs.Ordering.{IsCycleFault}
+use Rattle.mk_rules.specs.Prerequisites.{Inputs, prerequisites_of}
+use Rattle.mk_rules.specs.Rows.{EachRow, IsHardRow}
+use Rattle.mk_rules.specs.Taken.{AreTaken}
+use Rattle.mk_rules.specs.declared.fault.RuleFault.{RuleFault}
+use Rattle.mk_rules.specs.declared.fault.RuleFault.TheVariants as fault
+use Rattle.mk_rules.specs.declared.graph.Graph.{Graph}
+use Rattle.mk_rules.specs.declared.known.Known.{Known}
+use Rattle.mk_rules.specs.declared.ordering.Ordered.{Ordered}
+use Rattle.mk_rules.specs.declared.rule_line.RuleLine.{RuleLine}
+use Rattle.mk_rules.proofs.RowLaws.{are_hard, nodes_are}
+
+module _ (inputs : Inputs) (named : List (List ℕ)) (lines : List RuleLine) (lines_are : inputs.lines ≡ lines) (n : Numbered Known)
+    (found : AreFound inputs (goals_of inputs.lines named) n) (node_count : length n.nodes.items ≡ length n.names) where
+  module _ (o : Ordered) (hard_count : length o.hard ≡ length n.names) (rows : EachRow (IsHardRow n.rows n.nodes.items) o.hard) (taken : AreTaken lines)
+      (made : AreMade inputs n.names) (soft : AreSoft inputs n.names o.soft) (counted : AreCounted o.hard o.soft o.counted o.soft_dropped)
+      (acyclic : HasCycle o.hard → ⊥) (order : IsPlan o.counted o.order.items) (graph : Graph) (p : IsPutTogether lines n o graph) where
+    hard_is : AreHard inputs n.names o.hard
+    hard_is = are_hard inputs n.names n.rows n.nodes.items found.rows_are found.known node_count o.hard (hard_count ∙ sym node_count) rows
+
+    counted_is : AreCounted graph.hard graph.soft graph.counted graph.soft_dropped
+    counted_is =
+        subst (λ h. AreCounted h graph.soft graph.counted graph.soft_dropped) (sym p.hard)
+        (subst (λ s. AreCounted o.hard s graph.counted graph.soft_dropped) (sym p.soft)
+        (subst (λ c. AreCounted o.hard o.soft c graph.soft_dropped) (sym p.counted)
+        (subst (λ d. AreCounted o.hard o.soft o.counted d) (sym p.dropped) counted)))
+
+    pub assembled : IsGraph inputs named graph
+    assembled = record {
+      lines = p.lines_are ∙ sym lines_are;
+      taken = subst AreTaken (sym lines_are) taken;
+      names = subst (IsNumbering (prerequisites_of inputs) (goals_of inputs.lines named)) (sym p.names) found.names_are;
+      goals = ap (λ ns. map (name_at ns) graph.goals.items) p.names ∙ ap (map (name_at n.names)) p.goals ∙ found.goals_are;
+      made = subst (AreMade inputs) (sym p.names) made;
+      nodes = p.count ∙ node_count ∙ ap length (sym p.names);
+      node = λ k node at.
+          subst (λ ns. IsNode inputs ns (row graph.hard k) (name_at ns k) node) (sym p.names)
+          (subst (λ h. IsNode inputs n.names (row h k) (name_at n.names k) node) (sym p.hard)
+          (nodes_are inputs n.names n.rows n.nodes.items found.rows_are found.known node_count o.hard (hard_count ∙ sym node_count) rows graph.nodes.items p.nodes k node at));
+      hard = subst (λ ns. AreHard inputs ns graph.hard) (sym p.names) (subst (AreHard inputs n.names) (sym p.hard) hard_is);
+      soft = subst (λ ns. AreSoft inputs ns graph.soft) (sym p.names) (subst (AreSoft inputs n.names) (sym p.soft) soft);
+      counted = counted_is;
+      acyclic = subst (λ h. HasCycle h → ⊥) (sym p.hard) acyclic;
+      order = subst (λ c. IsPlan c graph.order.items) (sym p.counted) (subst (IsPlan o.counted) (sym p.order) order);
+      settings = p.settings ∙ ap settings_of (sym lines_are);
+    }
+
+  -- the faults that are met on the way
+  pub unmade_fault : (f : RuleFault) → IsUnmadeFault inputs n.names f → IsGraphlessFault inputs named f
+  unmade_fault fault.OutOfMemory meets = tt
+  unmade_fault (fault.NoRule name) meets = record { names = n.names; are_names = found.names_are; is_name = meets.0; unmade = meets.1 }
+  unmade_fault (fault.Cycle cycle) meets = absurd meets
+  unmade_fault _ meets = absurd meets
+
+  pub cycle_fault : (hard : List (List ℕ)) → length hard ≡ length n.names → EachRow (IsHardRow n.rows n.nodes.items) hard → (f : RuleFault) →
+      IsCycleFault hard n.names f → IsGraphlessFault inputs named f
+  cycle_fault hard count rows fault.OutOfMemory meets = tt
+  cycle_fault hard count rows (fault.Cycle cycle) meets = record {
+    names = n.names;
+    are_names = found.names_are;
+    hard = hard;
+    are_hard = are_hard inputs n.names n.rows n.nodes.items found.rows_are found.known node_count hard (count ∙ sym node_count) rows;
+    numbers = meets.numbers;
+    is_cycle = meets.is_cycle;
+    told = meets.told;
+  }
+  cycle_fault hard count rows (fault.NoRule name) meets = absurd meets
+  cycle_fault hard count rows _ meets = absurd meets

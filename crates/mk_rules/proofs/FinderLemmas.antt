@@ -1,0 +1,71 @@
+-- What is looked up of a name, put together.
+use Rattle.std.proofs.Common.{◌≡◌, ℕ, List, [], ◌++◌, length, filter, map, drop, inl, inr, Option, Some, None, refl, sym, ap, ◌∙◌}
+use Rattle.std.specs.Prelude.{option_map, option_to_list}
+use Rattle.mk_graph.specs.Numbering.{all_added}
+use Rattle.st_records.specs.declared.record.Entry.{Entry}
+use Rattle.mk_rules.specs.Explicit.{explicit_of}
+use Rattle.mk_rules.specs.Hidden.{HasHidden, IsNamesFault}
+use Rattle.mk_rules.specs.Known.{IsKnown, IsAsked, IsLookUpFault, nodes_among}
+use Rattle.mk_rules.specs.Prerequisites.{Inputs, distinct, source_names, implicit_source, hard_of, hidden_in, is_node, prerequisites_of, judged_of, own_recipes, recipe_of, first_or}
+use Rattle.mk_rules.specs.Source.{IsSourceFault}
+use Rattle.mk_rules.specs.Stamps.{IsLookFault}
+use Rattle.mk_rules.specs.declared.fault.RuleFault.{RuleFault}
+use Rattle.mk_rules.specs.declared.fault.RuleFault.TheVariants as fault
+use Rattle.mk_rules.specs.declared.form.Form.{Form}
+use Rattle.mk_rules.specs.declared.form.Source.{Source}
+use Rattle.mk_rules.specs.declared.known.Known.{Known}
+use Rattle.mk_rules.specs.declared.mentioned.Mentioned.{Mentioned}
+use Rattle.mk_rules.specs.declared.stamps.Stamps.{Stamps}
+use Rattle.mk_rules.specs.declared.table.TargetTable.{TargetTable}
+
+module _ (inputs : Inputs) (name : List ℕ) (source : Option Source) (explicit : List (List ℕ)) (entry : Option Entry) (hard : List (List ℕ)) (m : Mentioned)
+    (source_is : source ≡ implicit_source inputs name) (explicit_is : explicit ≡ explicit_of inputs.lines name) (entry_is : entry ≡ inputs.entries name)
+    (hard_is : hard ≡ distinct (source_names source ++ explicit)) (hidden : HasHidden (is_node inputs) hard (hidden_in entry) m) where
+  hard_are : hard ≡ hard_of inputs name
+  hard_are =
+      hard_is ∙ ap (λ (s : Option Source). distinct (source_names s ++ explicit)) source_is
+      ∙ ap (λ (e : List (List ℕ)). distinct (source_names (implicit_source inputs name) ++ e)) explicit_is
+
+  pub nodes_are : m.nodes ≡ prerequisites_of inputs name
+  nodes_are =
+      hidden.nodes ∙ ap (λ (h : List (List ℕ)). all_added h (filter (is_node inputs) (hidden_in entry))) hard_are
+      ∙ ap (λ (e : Option Entry). all_added (hard_of inputs name) (filter (is_node inputs) (hidden_in e))) entry_is
+
+  judged_are : m.judged ≡ judged_of inputs name
+  judged_are =
+      hidden.judged ∙ ap (λ (h : List (List ℕ)). all_added h (hidden_in entry)) hard_are
+      ∙ ap (λ (e : Option Entry). all_added (hard_of inputs name) (hidden_in e)) entry_is
+
+  -- what was found of the name is what the inputs say of it
+  pub known_is : (k : Known) (own : Option ℕ) → k.stamp ≡ inputs.times name → k.stem ≡ option_map (λ s. s.stem) source →
+      k.recipe ≡ first_or (option_to_list own) (option_map (λ s. s.rule) source) → option_to_list own ≡ own_recipes inputs.lines name →
+      k.hard ≡ length hard → k.hidden.items ≡ m.hidden.items → k.entry ≡ entry → IsKnown inputs name k
+  known_is k own stamp stem recipe own_is count among entry_of = record {
+    stamp = stamp;
+    stem = stem ∙ ap (option_map (λ (s : Source). s.stem)) source_is;
+    recipe =
+        recipe ∙ ap (λ (ns : List ℕ). first_or ns (option_map (λ (s : Source). s.rule) source)) own_is
+        ∙ ap (λ (s : Option Source). first_or (own_recipes inputs.lines name) (option_map (λ (t : Source). t.rule) s)) source_is;
+    hard = count ∙ ap length hard_are;
+    hidden =
+        among ∙ hidden.among ∙ ap (λ (n : ℕ). map (is_node inputs) (drop n m.judged)) (sym count)
+        ∙ ap (λ (ns : List (List ℕ)). map (is_node inputs) (drop k.hard ns)) judged_are;
+    entry = entry_of ∙ entry_is;
+  }
+
+module _ (targets : TargetTable) (stamps : Stamps) (refuses : List ℕ → Type 0) (forms : List Form) (hidden : List (List ℕ)) (name : List ℕ) where
+  -- each look that fails is one of looking up the name
+  pub own_look : (f : RuleFault) → IsLookFault refuses name f → IsLookUpFault targets stamps refuses forms hidden name f
+  own_look fault.OutOfMemory meets = tt
+  own_look (fault.Tree n) meets = (inl meets.0, meets.1)
+  own_look _ meets = meets
+
+  pub source_look : (f : RuleFault) → IsSourceFault targets stamps refuses forms name f → IsLookUpFault targets stamps refuses forms hidden name f
+  source_look fault.OutOfMemory meets = tt
+  source_look (fault.Tree n) meets = (inr (inr meets.0), meets.1)
+  source_look _ meets = meets
+
+  pub hidden_look : (f : RuleFault) → IsNamesFault refuses hidden f → IsLookUpFault targets stamps refuses forms hidden name f
+  hidden_look fault.OutOfMemory meets = tt
+  hidden_look (fault.Tree n) meets = (inr (inl meets.0), meets.1)
+  hidden_look _ meets = meets

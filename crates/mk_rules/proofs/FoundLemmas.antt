@@ -1,0 +1,113 @@
+-- What is found of all names, in terms of the inputs.
+use Rattle.std.proofs.Common.{◌≡◌, ℕ, ℤ, ◌<◌, Bool, true, false, not, List, [], length, inl, inr, Option, Some, None, refl, sym, ap, subst, ◌∙◌}
+use Rattle.std.specs.Prelude.{Result, Ok, Err, IfErr, ◌⊎◌, IfSome, unwrap_or, take, slice_get}
+use Rattle.mk_graph.specs.Numbering.{IsNumbering, AreDescribed, has_name}
+use Rattle.mk_graph.specs.NumberingFault.{IsNumberingFault}
+use Rattle.mk_graph.specs.declared.numbering.NumberingFault.{NumberingFault}
+use Rattle.mk_graph.specs.declared.numbering.NumberingFault.TheVariants.{TooMany, Source}
+use Rattle.mk_reader.specs.Text.{is_empty}
+use Rattle.st_records.specs.declared.record.Entry.{Entry}
+use Rattle.mk_rules.specs.Explicit.{explicit_targets}
+use Rattle.mk_rules.specs.Faults.{AreTold, IsReachedFrom}
+use Rattle.mk_rules.specs.Forms.{forms_of}
+use Rattle.mk_rules.specs.Found.{times_with, IsAskedFor, IsFindingFault}
+use Rattle.mk_rules.specs.Known.{IsKnown, IsAsked, IsLookUpFault}
+use Rattle.mk_rules.specs.Prerequisites.{Inputs, inputs_of, is_target, is_there, hidden_in, hidden_of, prerequisites_of}
+use Rattle.mk_rules.specs.Rules.{has, places, targets_by, suffixes_of}
+use Rattle.mk_rules.specs.Source.{IsReached, source_of}
+use Rattle.mk_rules.specs.Stamps.{AgreesWith, Looks, known_stamp}
+use Rattle.mk_rules.specs.Table as table
+use Rattle.mk_rules.specs.declared.fault.RuleFault.{RuleFault}
+use Rattle.mk_rules.specs.declared.fault.RuleFault.TheVariants as fault
+use Rattle.mk_rules.specs.declared.form.Form.{Form}
+use Rattle.mk_rules.specs.declared.rule_line.RuleLine.{RuleLine}
+use Rattle.mk_rules.specs.declared.stamps.Stamps.{Stamps}
+use Rattle.mk_rules.specs.declared.table.TargetTable.{TargetTable}
+use Rattle.mk_rules.proofs.LookupLemmas.{same_there}
+use Rattle.mk_rules.proofs.RuleLemmas.{any_place}
+
+-- a fact of the fault gives what follows from it
+pub if_err : {T E : Type 0} (r : Result T E) (P Q : E → Type 0) → ((f : E) → P f → Q f) → IfErr r P → IfErr r Q
+if_err (Ok v) P Q f h = h
+if_err (Err e) P Q f h = f e h
+
+known_at : (known : Option (Option ℤ)) (t : Option ℤ) → IfSome known (λ s. unwrap_or known t ≡ s)
+known_at None t = tt
+known_at (Some s) t = refl
+
+told_at : (known : Option (Option ℤ)) (t : Option ℤ) → IfSome known (λ s. t ≡ s) → unwrap_or known t ≡ t
+told_at None t is = refl
+told_at (Some s) t is = sym is
+
+-- the times that are known, with others, agree with what is known
+pub with_agrees : (stamps : Stamps) (told : List ℕ → Option ℤ) → AgreesWith stamps (times_with stamps told)
+with_agrees stamps told name = known_at (known_stamp stamps name) (told name)
+
+nothing_known : (known : Option (Option ℤ)) (t : Option ℤ) → known ≡ None → IfSome known (λ s. t ≡ s)
+nothing_known None t none = tt
+nothing_known (Some s) t none = cc
+
+-- where nothing was known before, they are the times that the tree tells, where it does
+pub with_told : (honest : Type 0) (a b : Stamps) (told told_b : List ℕ → Option ℤ) (refuses refuses_b : List ℕ → Type 0) →
+    Looks honest a b told told_b refuses refuses_b → ((name : List ℕ) → known_stamp a name ≡ None) → AreTold honest told (times_with b told)
+with_told honest a b told told_b refuses refuses_b looks none = λ is name.
+    told_at (known_stamp b name) (told name)
+    (subst (AgreesWith b) looks.same (looks.answers is (λ n. nothing_known (known_stamp a n) (told n) (none n))) name)
+
+module _ (lines : List RuleLine) (targets : TargetTable)
+    (named : (name : List ℕ) → (table.named_at targets name).lines ≡ places (λ l. has name (targets_by false (suffixes_of lines) l)) 0 lines) where
+  -- a name is a target in the table where it is one of the lines
+  pub target_is : (name : List ℕ) → table.is_named (table.named_at targets name) ≡ is_target lines name
+  target_is name =
+      ap (λ (ns : List ℕ). not (is_empty ns)) (named name) ∙ any_place (λ (l : RuleLine). has name (explicit_targets lines l)) 0 lines
+
+module _ (lines : List RuleLine) (targets : TargetTable)
+    (named : (name : List ℕ) → (table.named_at targets name).lines ≡ places (λ l. has name (targets_by false (suffixes_of lines) l)) 0 lines)
+    (forms : List Form) (all_forms : forms ≡ forms_of (suffixes_of lines) lines) (entries : (name : List ℕ) → Option Entry)
+    (stamps : Stamps) (times : List ℕ → Option ℤ) (agrees : AgreesWith stamps times) where
+  reached : (node name : List ℕ) → IsReached targets stamps forms node name → IsReachedFrom (inputs_of lines entries times) node name
+  reached node name r = record {
+    place = r.place;
+    form = r.form;
+    stem = r.stem;
+    at = subst (λ (fs : List Form). slice_get fs r.place ≡ Some r.form) all_forms r.at;
+    fits = r.fits;
+    is = r.is;
+    no_target = sym (target_is lines targets named name) ∙ r.no_target;
+    earlier =
+        ap (λ (there : List ℕ → Bool). source_of there (take r.place (forms_of (suffixes_of lines) lines)) node) (sym (same_there lines targets named entries times))
+        ∙ ap (λ (fs : List Form). source_of (table.is_there targets times) (take r.place fs) node) (sym all_forms) ∙ r.earlier times agrees;
+  }
+
+  asked : (node name : List ℕ) → IsAsked targets stamps forms (hidden_in (entries node)) node name →
+      (name ≡ node) ⊎ ((has name (hidden_of (inputs_of lines entries times) node) ≡ true) ⊎ IsReachedFrom (inputs_of lines entries times) node name)
+  asked node name (inl own) = inl own
+  asked node name (inr (inl hidden)) = inr (inl hidden)
+  asked node name (inr (inr r)) = inr (inr (reached node name r))
+
+  -- a name that can't be looked up is one that the goals lead to
+  pub finding_fault : (refuses : List ℕ → Type 0) (goals : List (List ℕ)) (limit : ℕ) (node : List ℕ) (f : RuleFault) →
+      IsLookUpFault targets stamps refuses forms (hidden_in (entries node)) node f →
+      ((names : List (List ℕ)) → IsNumbering (prerequisites_of (inputs_of lines entries times)) goals names → has_name names node ≡ true) →
+      IsFindingFault (inputs_of lines entries times) refuses goals limit f
+  finding_fault refuses goals limit node fault.OutOfMemory meets is = tt
+  finding_fault refuses goals limit node (fault.Tree name) meets is =
+      (record { node = node; is_name = is; asked = asked node name meets.0 }, meets.1)
+  finding_fault refuses goals limit node fault.TooMany meets is = λ names are. absurd meets
+  finding_fault refuses goals limit node _ meets is = meets
+
+-- what the faults of the numbering say
+module _ {F : Type 0} (allowed : (List ℕ → List (List ℕ)) → Type 0) (refuses : List ℕ → F → Type 0) (goals : List (List ℕ)) (limit : ℕ) (f : NumberingFault F) where
+  pub too_many : f ≡ TooMany → IsNumberingFault allowed refuses goals limit f → (of : List ℕ → List (List ℕ)) → allowed of → (names : List (List ℕ)) →
+      IsNumbering of goals names → limit < length names
+  too_many is meets = subst (IsNumberingFault allowed refuses goals limit) is meets
+
+  pub of_source : (cause : F) → f ≡ Source cause → IsNumberingFault allowed refuses goals limit f →
+      (name : List ℕ) × refuses name cause
+      × ((of : List ℕ → List (List ℕ)) → allowed of → (names : List (List ℕ)) → IsNumbering of goals names → has_name names name ≡ true)
+  of_source cause is meets = subst (IsNumberingFault allowed refuses goals limit) is meets
+
+-- what is known of each name for all times that agree is known for these
+pub described_at : {N : Type 0} (P Q : List ℕ → N → Type 0) (names : List (List ℕ)) (nodes : List N) →
+    ((name : List ℕ) (node : N) → P name node → Q name node) → AreDescribed P names nodes → AreDescribed Q names nodes
+described_at P Q names nodes follows are = λ n node at. follows _ node (are n node at)

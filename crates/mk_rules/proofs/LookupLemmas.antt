@@ -1,0 +1,54 @@
+-- What is looked up of a name, in terms of the inputs.
+use Rattle.std.proofs.Common.{◌≡◌, ℕ, ℤ, Bool, true, false, not, List, [], Option, Some, None, refl, sym, ap, ◌∙◌}
+use Rattle.std.specs.Prelude.{Result, Ok, Err, IfOk, ◌&&◌, ◌||◌, is_some, option_to_list}
+use Rattle.std.specs.List.{list_any}
+use Rattle.std.specs.Str.{is_utf8}
+use Rattle.mk_reader.specs.Text.{is_empty}
+use Rattle.st_records.specs.declared.record.Entry.{Entry}
+use Rattle.mk_rules.specs.Explicit.{explicit_targets}
+use Rattle.mk_rules.specs.Forms.{forms_of}
+use Rattle.mk_rules.specs.Prerequisites as inputs
+use Rattle.mk_rules.specs.Rules.{has, places, targets_by, suffixes_of}
+use Rattle.mk_rules.specs.Source.{source_of}
+use Rattle.mk_rules.specs.Table as table
+use Rattle.mk_rules.specs.declared.form.Form.{Form}
+use Rattle.mk_rules.specs.declared.form.Source.{Source}
+use Rattle.mk_rules.specs.declared.rule_line.RuleLine.{RuleLine}
+use Rattle.mk_rules.specs.declared.table.TargetTable.{TargetTable}
+use Rattle.mk_rules.proofs.RuleLemmas.{any_place}
+
+-- a fact of the value at Ok gives what follows from it
+pub if_ok : {T E : Type 0} (r : Result T E) (P Q : T → Type 0) → ((v : T) → P v → Q v) → IfOk r P → IfOk r Q
+if_ok (Ok v) P Q f h = f v h
+if_ok (Err e) P Q f h = h
+
+-- a table without a recipe for a name
+pub no_own : (recipe : Option ℕ) → is_some recipe ≡ false → option_to_list recipe ≡ []
+no_own None none = refl
+no_own (Some n) none = cc
+
+module _ (lines : List RuleLine) (targets : TargetTable)
+    (named : (name : List ℕ) → (table.named_at targets name).lines ≡ places (λ l. has name (targets_by false (suffixes_of lines) l)) 0 lines)
+    (entries : (name : List ℕ) → Option Entry) (times : List ℕ → Option ℤ) where
+  there_at : (name : List ℕ) → table.is_there targets times name ≡ inputs.is_there (inputs.inputs_of lines entries times) name
+  there_at name =
+      ap (λ (ns : List ℕ). not (is_empty ns) || is_some (times name)) (named name)
+      ∙ ap (λ (t : Bool). t || is_some (times name)) (any_place (λ (l : RuleLine). has name (explicit_targets lines l)) 0 lines)
+
+  -- the table says of each name what the lines say
+  pub same_there : table.is_there targets times ≡ inputs.is_there (inputs.inputs_of lines entries times)
+  same_there = λ i name. there_at name i
+
+  -- a name that is text is a node where it is there
+  pub node_there : (name : List ℕ) → is_utf8 name ≡ true → table.is_there targets times name ≡ inputs.is_node (inputs.inputs_of lines entries times) name
+  node_there name text = there_at name ∙ sym (ap (λ (t : Bool). t && inputs.is_there (inputs.inputs_of lines entries times) name) text)
+
+  -- where no line has a recipe for the name
+  pub implicit_is : (forms : List Form) (name : List ℕ) (recipe : Option ℕ) (found : Option Source) → forms ≡ forms_of (suffixes_of lines) lines →
+      option_to_list recipe ≡ inputs.own_recipes lines name → is_some recipe ≡ false → found ≡ source_of (table.is_there targets times) forms name →
+      found ≡ inputs.implicit_source (inputs.inputs_of lines entries times) name
+  implicit_is forms name recipe found all own none is =
+      let there = inputs.is_there (inputs.inputs_of lines entries times) in
+      let source = source_of there (forms_of (suffixes_of lines) lines) name in
+      is ∙ ap (λ (f : List ℕ → Bool). source_of f forms name) same_there ∙ ap (λ (fs : List Form). source_of there fs name) all
+      ∙ ap (λ (ns : List ℕ). inputs.unless_any ns source) (sym (no_own recipe none) ∙ own)

@@ -1,0 +1,273 @@
+-- What the rows of numbered names say of the names.
+use Rattle.std.proofs.Common.{arith, ◌≡◌, ℕ, ◌<◌, ◌≤◌, nat_eq, lt-ltb, suc, zero, true≢false, ⊎_elim, Bool, true, false, not, ◌&&◌, ◌||◌, cond, List, [], ◌∷◌, ◌++◌, length, map, take, drop, filter, get_or, Option, Some, None, refl, sym, ap, subst, ◌∙◌}
+use Rattle.std.specs.Prelude.{option_map, slice_get, bytes_eq, nat_lt}
+use Rattle.std.specs.List.{list_any, list_all, flat_map, IsDistinct}
+use Rattle.std.proofs.lemmas.List.{map-append, take-map, drop-map, length-map}
+use Rattle.std.proofs.lemmas.Bool.{cases_lt, and_parts, and_from}
+use Rattle.std.proofs.lemmas.List.{get_or_past, get_or-map}
+use Rattle.std.proofs.lemmas.Option.{slice_get-get_or, slice_get_within}
+use Rattle.mk_graph.specs.Edges.{row, is_closed, has as has_number}
+use Rattle.mk_graph.proofs.CountedLemmas.{below_from_closed, closed_from_below}
+use Rattle.mk_graph.proofs.CycleLemmas.{closed_row}
+use Rattle.mk_graph.proofs.NameLemmas.{distinct_all_added, distinct_none}
+use Rattle.mk_graph.specs.Cycle.{IsChain, IsCycle}
+use Rattle.std.proofs.lemmas.List.Folds.{list_all-append}
+use Rattle.mk_graph.specs.Numbering.{name_at, all_added, AreDescribed, IsNumbering}
+use Rattle.mk_rules.specs.Graph.{judged, judged_name, AreHard, IsNode}
+use Rattle.mk_rules.specs.Known.{IsKnown, nodes_among}
+use Rattle.mk_rules.specs.Prerequisites.{Inputs, prerequisites_of, judged_of, hard_of, hidden_of, hidden_nodes, is_node}
+use Rattle.mk_rules.specs.Rows.{EachRow, IsHardRow, IsHiddenRow, spread}
+use Rattle.mk_rules.specs.Nodes.{AreMadeOf}
+use Rattle.mk_rules.specs.Rules.{has}
+use Rattle.mk_rules.specs.declared.graph.Node.{Node}
+use Rattle.mk_rules.specs.declared.known.Known.{Known}
+use Rattle.mk_rules.proofs.HiddenLemmas.{has_first, has_later}
+use Rattle.mk_rules.proofs.PartsLaws.{source_is, explicit_is}
+use Rattle.mk_rules.proofs.WaitLemmas.{are_below, has_named}
+use Rattle.mk_rules.proofs.FreshLemmas.{fresh, added_fresh, front_added, behind_added, has_fresh, has_filtered, filter_fresh}
+
+-- the prerequisites that are nodes are the hard ones, and behind them the hidden ones that are judged and are nodes
+pub prerequisites_parted : (inputs : Inputs) (name : List ℕ) →
+    prerequisites_of inputs name ≡ hard_of inputs name ++ filter (is_node inputs) (drop (length (hard_of inputs name)) (judged_of inputs name))
+prerequisites_parted inputs name =
+    added_fresh (hard_of inputs name) (filter (is_node inputs) (hidden_of inputs name))
+    ∙ ap (λ l. hard_of inputs name ++ l)
+    (sym (filter_fresh (is_node inputs) (hard_of inputs name) (hidden_of inputs name))
+    ∙ ap (filter (is_node inputs)) (sym (behind_added (hard_of inputs name) (hidden_of inputs name))))
+
+-- ---- a number for each that is a node
+
+abbrev spread_names : (are_nodes : List Bool) (names : List (List ℕ)) → List (Option (List ℕ))
+spread_names [] ns = []
+spread_names (false ∷ bs) ns = None ∷ spread_names bs ns
+spread_names (true ∷ bs) [] = None ∷ spread_names bs []
+spread_names (true ∷ bs) (n ∷ ns) = Some n ∷ spread_names bs ns
+
+map-spread : (f : ℕ → List ℕ) (bs : List Bool) (ns : List ℕ) → map (option_map f) (spread bs ns) ≡ spread_names bs (map f ns)
+map-spread f [] ns = refl
+map-spread f (false ∷ bs) ns = ap (λ l. None ∷ l) (map-spread f bs ns)
+map-spread f (true ∷ bs) [] = ap (λ l. None ∷ l) (map-spread f bs [])
+map-spread f (true ∷ bs) (n ∷ ns) = ap (λ l. Some (f n) ∷ l) (map-spread f bs ns)
+
+module _ (p : List ℕ → Bool) where
+  abbrev if_node : List ℕ → Option (List ℕ)
+  if_node q = cond (p q) (Some q) None
+
+  spread_at : (x : List ℕ) (xs : List (List ℕ)) (b : Bool) → p x ≡ b → spread_names (map p xs) (filter p xs) ≡ map if_node xs →
+      spread_names (map p (x ∷ xs)) (filter p (x ∷ xs)) ≡ map if_node (x ∷ xs)
+  spread_at x xs true e more = simp e (ap (λ l. Some x ∷ l) more)
+  spread_at x xs false e more = simp e (ap (λ l. None ∷ l) more)
+
+  spread-filter : (xs : List (List ℕ)) → spread_names (map p xs) (filter p xs) ≡ map if_node xs
+  spread-filter [] = refl
+  spread-filter (x ∷ xs) = spread_at x xs (p x) refl (spread-filter xs)
+
+module _ (inputs : Inputs) (hard : List (List ℕ)) where
+  judged_at : (q : List ℕ) (b : Bool) → has q hard ≡ b → not b ≡ true → judged_name inputs hard q ≡ if_node (is_node inputs) q
+  judged_at q true e gone = cc
+  judged_at q false e gone = simp e refl
+
+  -- behind the hard ones each is judged by whether it is a node
+  behind_judged : (xs : List (List ℕ)) → ((q : List ℕ) → has q xs ≡ true → not (has q hard) ≡ true) → map (judged_name inputs hard) xs ≡ map (if_node (is_node inputs)) xs
+  behind_judged [] new = refl
+  behind_judged (x ∷ xs) new =
+      ap (λ o. o ∷ map (judged_name inputs hard) xs) (judged_at x (has x hard) refl (new x (has_first x xs)))
+      ∙ ap (λ l. if_node (is_node inputs) x ∷ l) (behind_judged xs (λ q is. new q (has_later q x xs is)))
+
+  hard_judged : (xs : List (List ℕ)) → ((q : List ℕ) → has q xs ≡ true → has q hard ≡ true) → map (judged_name inputs hard) xs ≡ map Some xs
+  hard_judged [] inside = refl
+  hard_judged (x ∷ xs) inside =
+      let here : has x hard ≡ true = inside x (has_first x xs) in
+      ap (λ o. o ∷ map (judged_name inputs hard) xs) (ap (λ b. cond (b || is_node inputs x) (Some x) None) here)
+      ∙ ap (λ l. Some x ∷ l) (hard_judged xs (λ q is. inside q (has_later q x xs is)))
+
+-- ---- a node's row
+
+map-some : (f : ℕ → List ℕ) (ns : List ℕ) → map (option_map f) (map Some ns) ≡ map Some (map f ns)
+map-some f [] = refl
+map-some f (n ∷ ns) = ap (λ l. Some (f n) ∷ l) (map-some f ns)
+
+and_second : (a b : Bool) → (a && b) ≡ true → b ≡ true
+and_second true b e = e
+and_second false b e = cc
+
+module _ (inputs : Inputs) (names : List (List ℕ)) (name : List ℕ) (k : Known) (is : IsKnown inputs name k) (r : List ℕ)
+    (row_is : map (name_at names) r ≡ prerequisites_of inputs name) where
+  abbrev passed : List (List ℕ)
+  passed = filter (is_node inputs) (hidden_of inputs name)
+
+  -- its front is that of the hard prerequisites
+  pub hard_names : map (name_at names) (take k.hard r) ≡ hard_of inputs name
+  hard_names = sym (take-map (name_at names) k.hard r) ∙ ap (take k.hard) row_is ∙ ap (λ n. take n (prerequisites_of inputs name)) is.hard ∙ front_added (hard_of inputs name) passed
+
+  behind_names : map (name_at names) (drop k.hard r) ≡ fresh (hard_of inputs name) passed
+  behind_names = sym (drop-map (name_at names) k.hard r) ∙ ap (drop k.hard) row_is ∙ ap (λ n. drop n (prerequisites_of inputs name)) is.hard ∙ behind_added (hard_of inputs name) passed
+
+  -- what is behind are the hidden prerequisites that are nodes
+  pub hidden_members : (q : List ℕ) → has q (map (name_at names) (drop k.hard r)) ≡ has q (hidden_nodes inputs name)
+  hidden_members q =
+      ap (has q) behind_names ∙ has_fresh (hard_of inputs name) q passed
+      ∙ sym (has_filtered (λ h. not (has h (hard_of inputs name))) q passed)
+
+  gone_or_not : map (name_at names) (drop k.hard r) ≡ filter (is_node inputs) (fresh (hard_of inputs name) (hidden_of inputs name))
+  gone_or_not = behind_names ∙ sym (filter_fresh (is_node inputs) (hard_of inputs name) (hidden_of inputs name))
+
+  known_nodes : k.hidden.items ≡ map (is_node inputs) (fresh (hard_of inputs name) (hidden_of inputs name))
+  known_nodes =
+      is.hidden ∙ ap (λ n. nodes_among inputs n (judged_of inputs name)) is.hard
+      ∙ ap (map (is_node inputs)) (behind_added (hard_of inputs name) (hidden_of inputs name))
+
+  -- the prerequisites as they are judged
+  pub judged_names : map (option_map (name_at names)) (judged (take k.hard r) (spread k.hidden.items (drop k.hard r)))
+      ≡ map (judged_name inputs (hard_of inputs name)) (judged_of inputs name)
+  judged_names =
+      let new = fresh (hard_of inputs name) (hidden_of inputs name) in
+      map-append (option_map (name_at names)) (map Some (take k.hard r)) (spread k.hidden.items (drop k.hard r))
+      ∙ ap (λ l. l ++ map (option_map (name_at names)) (spread k.hidden.items (drop k.hard r))) (map-some (name_at names) (take k.hard r) ∙ ap (map Some) hard_names)
+      ∙ ap (λ l. map Some (hard_of inputs name) ++ l)
+      (map-spread (name_at names) k.hidden.items (drop k.hard r)
+      ∙ ap (λ l. spread_names k.hidden.items l) gone_or_not
+      ∙ ap (λ bs. spread_names bs (filter (is_node inputs) new)) known_nodes
+      ∙ spread-filter (is_node inputs) new
+      ∙ sym (behind_judged inputs (hard_of inputs name) new (λ q there. and_second (has q (hidden_of inputs name)) (not (has q (hard_of inputs name))) (sym (has_fresh (hard_of inputs name) q (hidden_of inputs name)) ∙ there))))
+      ∙ ap (λ l. l ++ map (judged_name inputs (hard_of inputs name)) new) (sym (hard_judged inputs (hard_of inputs name) (hard_of inputs name) (λ q there. there)))
+      ∙ sym (map-append (judged_name inputs (hard_of inputs name)) (hard_of inputs name) new)
+      ∙ ap (map (judged_name inputs (hard_of inputs name))) (sym (added_fresh (hard_of inputs name) (hidden_of inputs name)))
+
+-- ---- rows whose numbers stand in other rows
+
+has_later_number : (b : Bool) (xs : List ℕ) (m : ℕ) → has_number xs m ≡ true → (b || has_number xs m) ≡ true
+has_later_number true xs m e = refl
+has_later_number false xs m e = e
+
+take_at : (b : Bool) (front xs : List ℕ) (m : ℕ) → (has_number front m ≡ true → has_number xs m ≡ true) → (b || has_number front m) ≡ true → (b || has_number xs m) ≡ true
+take_at true front xs m more is = refl
+take_at false front xs m more is = more is
+
+has_take : (k : ℕ) (xs : List ℕ) (m : ℕ) → has_number (take k xs) m ≡ true → has_number xs m ≡ true
+has_take zero xs m is = absurd (true≢false (sym is))
+has_take (suc k) [] m is = is
+has_take (suc k) (x ∷ xs) m is = take_at (nat_eq m x) (take k xs) xs m (λ there. has_take k xs m there) is
+
+has_drop : (k : ℕ) (xs : List ℕ) (m : ℕ) → has_number (drop k xs) m ≡ true → has_number xs m ≡ true
+has_drop zero xs m is = is
+has_drop (suc k) [] m is = is
+has_drop (suc k) (x ∷ xs) m is = has_later_number (nat_eq m x) xs m (has_drop k xs m is)
+
+-- rows of which each holds numbers of the row with its number
+closed_within : (g rows : List (List ℕ)) → length rows ≡ length g → ((n m : ℕ) → n < length rows → has_number (row rows n) m ≡ true → has_number (row g n) m ≡ true) →
+    is_closed g ≡ true → is_closed rows ≡ true
+closed_within g rows same within closed =
+    closed_from_below rows (λ n m there.
+    ⊎_elim
+    (λ (inside : n < length rows). subst (λ k. m < k) (sym same) (below_from_closed g closed n m (within n m inside there)))
+    (λ (past : length rows ≤ n). absurd (true≢false (sym (subst (λ l. has_number l m ≡ true) (get_or_past rows n [] past) there))))
+    (cases_lt n (length rows)))
+
+abbrev IsRead : (known : List Known) (n : ℕ) → Type 0
+IsRead known n = (k : Known) × (slice_get known n ≡ Some k)
+
+-- there is something known of each number below
+known_at : (known : List Known) (n : ℕ) → n < length known → IsRead known n
+known_at [] n within = absurd (omega arith)
+known_at (k ∷ known) n within = (get_or (k ∷ known) n k, slice_get-get_or (k ∷ known) n k within)
+
+pub closed_hard : (g : List (List ℕ)) (known : List Known) (hard : List (List ℕ)) → length g ≡ length known → length hard ≡ length known →
+    EachRow (IsHardRow g known) hard → is_closed g ≡ true → is_closed hard ≡ true
+closed_hard g known hard rows count each closed =
+    closed_within g hard (count ∙ sym rows) (λ n m inside there.
+    let k = known_at known n (subst (λ l. n < l) count inside) in
+    has_take k.0.hard (row g n) m (subst (λ l. has_number l m ≡ true) (each n inside k.0 k.1) there)) closed
+
+pub closed_hidden : (g : List (List ℕ)) (known : List Known) (hidden : List (List ℕ)) → length g ≡ length known → length hidden ≡ length known →
+    EachRow (IsHiddenRow g known) hidden → is_closed g ≡ true → is_closed hidden ≡ true
+closed_hidden g known hidden rows count each closed =
+    closed_within g hidden (count ∙ sym rows) (λ n m inside there.
+    let k = known_at known n (subst (λ l. n < l) count inside) in
+    has_drop k.0.hard (row g n) m (subst (λ l. has_number l m ≡ true) (each n inside k.0 k.1) there)) closed
+
+-- ---- the rows of a graph's names
+
+module _ (inputs : Inputs) (names : List (List ℕ)) (g : List (List ℕ)) (known : List Known) (rows_are : map (map (name_at names)) g ≡ map (prerequisites_of inputs) names)
+    (described : AreDescribed (IsKnown inputs) names known) (count : length known ≡ length names) where
+  rows_count : length g ≡ length names
+  rows_count = sym (length-map g (map (name_at names))) ∙ ap length rows_are ∙ length-map names (prerequisites_of inputs)
+
+  row_at : (n : ℕ) → n < length names → map (name_at names) (row g n) ≡ prerequisites_of inputs (name_at names n)
+  row_at n within =
+      sym (get_or-map (map (name_at names)) g n [] [] (subst (λ l. n < l) (sym rows_count) within))
+      ∙ ap (λ (rs : List (List (List ℕ))). get_or rs n []) rows_are
+      ∙ get_or-map (prerequisites_of inputs) names n [] [] within
+
+  -- the hard rows
+  pub are_hard : (hard : List (List ℕ)) → length hard ≡ length known → EachRow (IsHardRow g known) hard → AreHard inputs names hard
+  are_hard hard rows each = (
+    rows ∙ count,
+    λ n within.
+        let k = known_at known n (subst (λ l. n < l) (sym count) within) in
+        ap (map (name_at names)) (each n (subst (λ l. n < l) (sym (rows ∙ count)) within) k.0 k.1)
+        ∙ hard_names inputs names (name_at names n) k.0 (described n k.0 k.1) (row g n) (row_at n within),
+  )
+
+  -- the hidden rows
+  pub are_hidden : (hidden : List (List ℕ)) → length hidden ≡ length known → EachRow (IsHiddenRow g known) hidden → is_closed g ≡ true → IsDistinct bytes_eq names →
+      (n m : ℕ) → n < length names → m < length names → has_number (row hidden n) m ≡ has (name_at names m) (hidden_nodes inputs (name_at names n))
+  are_hidden hidden rows each closed distinct n m n_in m_in =
+      let k = known_at known n (subst (λ l. n < l) (sym count) n_in) in
+      let inside : n < length hidden = subst (λ l. n < l) (sym (rows ∙ count)) n_in in
+      let all = closed_hidden g known hidden (rows_count ∙ sym count) rows each closed in
+      let below : are_below names (row hidden n) ≡ true = ap (λ l. list_all (λ x. nat_lt x l) (row hidden n)) (sym (rows ∙ count)) ∙ closed_row hidden all n inside in
+      has_named names distinct (row hidden n) m m_in below
+      ∙ ap (λ r. has (name_at names m) (map (name_at names) r)) (each n inside k.0 k.1)
+      ∙ hidden_members inputs names (name_at names n) k.0 (described n k.0 k.1) (row g n) (row_at n n_in) (name_at names m)
+
+  -- the prerequisites of a node as they are judged
+  pub node_judged : (n : ℕ) (k : Known) → n < length names → slice_get known n ≡ Some k →
+      map (option_map (name_at names)) (judged (take k.hard (row g n)) (spread k.hidden.items (drop k.hard (row g n))))
+      ≡ map (judged_name inputs (hard_of inputs (name_at names n))) (judged_of inputs (name_at names n))
+  node_judged n k within at = judged_names inputs names (name_at names n) k (described n k at) (row g n) (row_at n within)
+
+-- ---- what a graph is put together from
+
+pub distinct_names : (of : List ℕ → List (List ℕ)) (goals names : List (List ℕ)) → IsNumbering of goals names → IsDistinct bytes_eq names
+distinct_names of goals names is = subst (IsDistinct bytes_eq) (sym is.order) (distinct_all_added [] (goals ++ flat_map of names) distinct_none)
+
+chain_below : (g : List (List ℕ)) → is_closed g ≡ true → (n : ℕ) (ms : List ℕ) → IsChain g n ms → list_all (λ m. nat_lt m (length g)) ms ≡ true
+chain_below g closed n [] chain = refl
+chain_below g closed n (m ∷ ms) chain =
+    and_from (nat_lt m (length g)) (list_all (λ k. nat_lt k (length g)) ms) (lt-ltb m (length g) (below_from_closed g closed n m chain.0)) (chain_below g closed m ms chain.1)
+
+-- the nodes of a cycle are nodes of the graph
+pub cycle_below : (g : List (List ℕ)) → is_closed g ≡ true → (cycle : List ℕ) → IsCycle g cycle → list_all (λ m. nat_lt m (length g)) cycle ≡ true
+cycle_below g closed cycle is =
+    let behind = chain_below g closed is.first (is.between ++ is.first ∷ []) is.chain in
+    let parts = and_parts (list_all (λ m. nat_lt m (length g)) is.between) (nat_lt is.first (length g) && true)
+    (sym (list_all-append (λ m. nat_lt m (length g)) is.between (is.first ∷ [])) ∙ behind) in
+    let first = and_parts (nat_lt is.first (length g)) true parts.1 in
+    ap (list_all (λ m. nat_lt m (length g))) is.whole ∙ and_from (nat_lt is.first (length g)) (list_all (λ m. nat_lt m (length g)) (is.between ++ is.first ∷ [])) first.0 behind
+
+module _ (inputs : Inputs) (names : List (List ℕ)) (g : List (List ℕ)) (known : List Known) (rows_are : map (map (name_at names)) g ≡ map (prerequisites_of inputs) names)
+    (described : AreDescribed (IsKnown inputs) names known) (count : length known ≡ length names) where
+  -- the nodes that are made of what is known of all names
+  pub nodes_are : (hard : List (List ℕ)) → length hard ≡ length known → EachRow (IsHardRow g known) hard → (nodes : List Node) → AreMadeOf known g nodes →
+      (n : ℕ) (node : Node) → slice_get nodes n ≡ Some node → IsNode inputs names (row hard n) (name_at names n) node
+  nodes_are hard rows each nodes made n node at =
+      let from = made n node at in
+      let k = from.0 in
+      let is = from.2 in
+      let known_is = described n k from.1 in
+      let within : n < length known = slice_get_within known n k from.1 in
+      let row_is : map (name_at names) (row hard n) ≡ hard_of inputs (name_at names n) = (are_hard inputs names g known rows_are described count hard rows each).1 n (subst (λ l. n < l) count within) in
+      let hard_is : row hard n ≡ take k.hard (row g n) = each n (subst (λ l. n < l) (sym rows) within) k from.1 in
+      record {
+        stamp = is.stamp ∙ known_is.stamp;
+        stem = is.stem ∙ known_is.stem;
+        source = source_is inputs names (name_at names n) node.stem (is.stem ∙ known_is.stem) (row hard n) row_is;
+        explicit = explicit_is inputs names (name_at names n) node.stem (is.stem ∙ known_is.stem) (row hard n) row_is;
+        recipe = is.recipe ∙ known_is.recipe;
+        prerequisites =
+            ap (λ r. map (option_map (name_at names)) (judged r node.hidden.items)) hard_is
+            ∙ ap (λ h. map (option_map (name_at names)) (judged (take k.hard (row g n)) h)) is.hidden
+            ∙ node_judged inputs names g known rows_are described count n k (subst (λ l. n < l) count within) from.1;
+        entry = is.entry ∙ known_is.entry;
+      }

@@ -1,0 +1,18 @@
+use Rattle.std.proofs.Common.{◌≡◌, true, ◌∙◌}
+use Rattle.std.specs.FinMap as map
+use Rattle.std.specs.Str.{is_utf8}
+use Rattle.mk_rules.proofs.LookupLemmas.{if_ok, node_there}
+use Rattle.mk_rules.proofs.lookup.is_node.Goals as goal
+
+pub returns-clause-node : goal.returns-clause-node
+returns-clause-node g c =
+    let rules = c.args.rules.now in
+    let name = c.args.name.now in
+    let text : is_utf8 name ≡ true = cc in
+    if_ok c.is_there.result _ _ (λ there is. λ times agrees. is times agrees ∙ node_there rules.lines.now rules.targets.now rules.named (map.get rules.state.now) times name text)
+    c.is_there.ensures.there
+
+pub returns-clause-looks : goal.returns-clause-looks
+returns-clause-looks g c =
+    let tells = c.is_there.ensures in
+    record { grows = tells.grows; answers = tells.honest; same = tells.same; kept = tells.kept }

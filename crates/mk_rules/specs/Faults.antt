@@ -1,0 +1,90 @@
+-- What each refusal says of a makefile, its files and its state.
+use Rattle.std.specs.Prelude.{◌≡◌, ℕ, ℤ, ◌<◌, ◌⊎◌, Bool, true, false, List, [], length, map, take, slice_get, Option, Some, None, IsTrue}
+use Rattle.mk_graph.specs.Cycle.{IsCycle}
+use Rattle.mk_graph.specs.Edges.{is_closed}
+use Rattle.mk_graph.specs.Numbering.{IsNumbering, name_at, has_name}
+use Rattle.mk_reader.specs.declared.item.Item.{Item}
+use Rattle.st_records.specs.declared.record.Entry.{Entry}
+use Rattle.mk_rules.specs.Forms.{forms_of}
+use Rattle.mk_rules.specs.Goals.{goals_of}
+use Rattle.mk_rules.specs.Graph.{AreHard}
+use Rattle.mk_rules.specs.Lines.{Defined, AreRuleLines, IsLinesFault}
+use Rattle.mk_rules.specs.Prerequisites.{Inputs, is_target, is_there, hidden_of, prerequisites_of, is_made}
+use Rattle.mk_rules.specs.Rules.{has, targets_by, suffixes_of}
+use Rattle.mk_rules.specs.Source.{stem_of, source_at, source_of}
+use Rattle.mk_rules.specs.Supported.{HasRefusedLine}
+use Rattle.mk_rules.specs.Table.{HasTwoRecipes}
+use Rattle.mk_rules.specs.declared.fault.RuleFault.{RuleFault}
+use Rattle.mk_rules.specs.declared.fault.RuleFault.TheVariants as fault
+use Rattle.mk_rules.specs.declared.form.Form.{Form}
+use Rattle.mk_rules.specs.declared.rule_line.RuleLine.{RuleLine}
+
+-- the names of the graph for these goals
+abbrev pub AreNames : Inputs → (named names : List (List ℕ)) → Type 0
+AreNames inputs named names = IsNumbering (prerequisites_of inputs) (goals_of inputs.lines named) names
+
+-- a name of the graph that has no file, and that nothing makes
+pub record HasUnmade (inputs : Inputs) (named : List (List ℕ)) (name : List ℕ) : Type 0 where
+  pub names : List (List ℕ)
+  pub are_names : AreNames inputs named names
+  pub is_name : has_name names name ≡ true
+  pub unmade : is_made inputs name ≡ false
+
+-- these names are a cycle of hard prerequisites in the graph, from its name of least number on
+pub record HasNamedCycle (inputs : Inputs) (named cycle : List (List ℕ)) : Type 0 where
+  pub names : List (List ℕ)
+  pub are_names : AreNames inputs named names
+  pub hard : List (List ℕ)
+  pub are_hard : AreHard inputs names hard
+  pub numbers : List ℕ
+  pub is_cycle : IsCycle hard numbers
+  pub told : cycle ≡ map (name_at names) numbers
+
+-- the search for a source of the node reaches the name: no line makes it, it is that of a candidate, and no candidate of
+-- an earlier form is there
+pub record IsReachedFrom (inputs : Inputs) (node name : List ℕ) : Type 0 where
+  pub place : ℕ
+  pub form : Form
+  pub stem : List ℕ
+  pub at : slice_get (forms_of (suffixes_of inputs.lines) inputs.lines) place ≡ Some form
+  pub fits : stem_of form node ≡ Some stem
+  pub is : name ≡ (source_at form stem).name
+  pub no_target : is_target inputs.lines name ≡ false
+  pub earlier : source_of (is_there inputs) (take place (forms_of (suffixes_of inputs.lines) inputs.lines)) node ≡ None
+
+-- the name is one of the graph, a hidden prerequisite of one, or the candidate that the search for a source of one reaches
+pub record IsLookedAt (inputs : Inputs) (named : List (List ℕ)) (name : List ℕ) : Type 0 where
+  pub node : List ℕ
+  pub is_name : (names : List (List ℕ)) → AreNames inputs named names → has_name names node ≡ true
+  pub asked : (name ≡ node) ⊎ ((has name (hidden_of inputs node) ≡ true) ⊎ IsReachedFrom inputs node name)
+
+-- the fault of these inputs, for the goals that are named. A name that can't be looked at is one that the tree refuses; that
+-- memory was wanted stands outside the inputs
+abbrev pub IsGraphFault : Inputs → (refuses : List ℕ → Type 0) → (named : List (List ℕ)) → (limit : ℕ) → RuleFault → Type 0
+IsGraphFault inputs refuses named limit fault.OutOfMemory = Unit {0}
+IsGraphFault inputs refuses named limit fault.NoTarget = goals_of inputs.lines named ≡ []
+IsGraphFault inputs refuses named limit (fault.NoRule name) = HasUnmade inputs named name
+IsGraphFault inputs refuses named limit (fault.TwoRecipes name line) =
+    (suffix_rules : Bool) × HasTwoRecipes (targets_by suffix_rules (suffixes_of inputs.lines)) inputs.lines name line
+IsGraphFault inputs refuses named limit (fault.Cycle cycle) = HasNamedCycle inputs named cycle.names
+IsGraphFault inputs refuses named limit fault.TooMany = (names : List (List ℕ)) → AreNames inputs named names → limit < length names
+IsGraphFault inputs refuses named limit (fault.Macro f) = ⊥
+IsGraphFault inputs refuses named limit (fault.Unsupported what line) = HasRefusedLine inputs.lines what line
+IsGraphFault inputs refuses named limit (fault.Tree name) = IsLookedAt inputs named name × refuses name
+
+-- the times are those that a tree tells beforehand, where it does
+abbrev pub AreTold : (honest : Type 0) (told times : (name : List ℕ) → Option ℤ) → Type 0
+AreTold honest told times = honest → (name : List ℕ) → times name ≡ told name
+
+-- the inputs that a makefile, a tree and a state give
+pub record AreInputs (ranks : Defined) (items : List Item) (honest : Type 0) (told : (name : List ℕ) → Option ℤ)
+    (entries : (name : List ℕ) → Option Entry) (inputs : Inputs) : Type 0 where
+  pub lines : AreRuleLines ranks items inputs.lines
+  pub times : AreTold honest told inputs.times
+  pub entries_are : inputs.entries ≡ entries
+
+-- the fault of a makefile, a tree and a state: a macro's, met while the lines are expanded, or that of what they give
+abbrev pub IsRuleFault : (ranks : Defined) (items : List Item) (honest : Type 0) (told : (name : List ℕ) → Option ℤ)
+    (entries : (name : List ℕ) → Option Entry) (refuses : List ℕ → Type 0) (named : List (List ℕ)) (limit : ℕ) → RuleFault → Type 0
+IsRuleFault ranks items honest told entries refuses named limit f =
+    IsLinesFault ranks items f ⊎ ((inputs : Inputs) × AreInputs ranks items honest told entries inputs × IsGraphFault inputs refuses named limit f)

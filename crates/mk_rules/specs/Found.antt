@@ -1,0 +1,51 @@
+-- What is found of all names that goals lead to.
+use Rattle.std.specs.Prelude.{◌≡◌, ℕ, ℤ, ◌<◌, ◌⊎◌, Bool, true, false, List, length, map, take, slice_get, Option, Some, None, unwrap_or}
+use Rattle.mk_graph.specs.Numbering.{IsNumbering, AreDescribed, name_at, has_name}
+use Rattle.mk_graph.specs.declared.numbering.Numbered.{Numbered}
+use Rattle.mk_rules.specs.Faults.{IsReachedFrom, HasUnmade, HasNamedCycle}
+use Rattle.mk_rules.specs.Known.{IsKnown}
+use Rattle.mk_rules.specs.Prerequisites.{Inputs, prerequisites_of, hidden_of, is_made}
+use Rattle.mk_rules.specs.Rules.{has}
+use Rattle.mk_rules.specs.Stamps.{known_stamp}
+use Rattle.mk_rules.specs.declared.fault.RuleFault.{RuleFault}
+use Rattle.mk_rules.specs.declared.fault.RuleFault.TheVariants as fault
+use Rattle.mk_rules.specs.declared.known.Known.{Known}
+use Rattle.mk_rules.specs.declared.stamps.Stamps.{Stamps}
+
+-- the times that are known, and for the other names those that a tree tells
+abbrev pub times_with : Stamps → (told : (name : List ℕ) → Option ℤ) → (name : List ℕ) → Option ℤ
+times_with stamps told name = unwrap_or (known_stamp stamps name) (told name)
+
+-- the names that the goals lead to by these inputs, with their prerequisites by number, and what the inputs say of each
+pub record AreFound (inputs : Inputs) (goals : List (List ℕ)) (n : Numbered Known) : Type 0 where
+  pub names_are : IsNumbering (prerequisites_of inputs) goals n.names
+  pub rows_are : map (map (name_at n.names)) n.rows ≡ map (prerequisites_of inputs) n.names
+  pub goals_are : map (name_at n.names) n.goals.items ≡ goals
+  pub known : AreDescribed (IsKnown inputs) n.names n.nodes.items
+
+-- a name that can't be looked at: one that the goals lead to, a hidden prerequisite of one, or the candidate that the search
+-- for a source of one reaches
+pub record IsAskedFor (inputs : Inputs) (goals : List (List ℕ)) (name : List ℕ) : Type 0 where
+  pub node : List ℕ
+  pub is_name : (names : List (List ℕ)) → IsNumbering (prerequisites_of inputs) goals names → has_name names node ≡ true
+  pub asked : (name ≡ node) ⊎ ((has name (hidden_of inputs node) ≡ true) ⊎ IsReachedFrom inputs node name)
+
+-- the fault of looking up all names that the goals lead to
+abbrev pub IsFindingFault : Inputs → (refuses : List ℕ → Type 0) → (goals : List (List ℕ)) → (limit : ℕ) → RuleFault → Type 0
+IsFindingFault inputs refuses goals limit fault.OutOfMemory = Unit {0}
+IsFindingFault inputs refuses goals limit fault.TooMany = (names : List (List ℕ)) → IsNumbering (prerequisites_of inputs) goals names → limit < length names
+IsFindingFault inputs refuses goals limit (fault.Tree name) = IsAskedFor inputs goals name × refuses name
+IsFindingFault inputs refuses goals limit _ = ⊥
+
+-- the fault of looking for a name that nothing makes
+abbrev pub IsUnmadeFault : Inputs → (names : List (List ℕ)) → RuleFault → Type 0
+IsUnmadeFault inputs names fault.OutOfMemory = Unit {0}
+IsUnmadeFault inputs names (fault.NoRule name) = (has_name names name ≡ true) × (is_made inputs name ≡ false)
+IsUnmadeFault inputs names _ = ⊥
+
+-- the fault of putting a graph together
+abbrev pub IsGraphlessFault : Inputs → (named : List (List ℕ)) → RuleFault → Type 0
+IsGraphlessFault inputs named fault.OutOfMemory = Unit {0}
+IsGraphlessFault inputs named (fault.NoRule name) = HasUnmade inputs named name
+IsGraphlessFault inputs named (fault.Cycle cycle) = HasNamedCycle inputs named cycle.names
+IsGraphlessFault inputs named _ = ⊥

@@ -1,0 +1,73 @@
+-- The graph of the names that goals lead to.
+use Rattle.std.specs.Prelude.{◌≡◌, ℕ, ◌<◌, ◌≤◌, ◌+◌, ◌||◌, Bool, true, false, List, [], ◌∷◌, ◌++◌, length, map, drop, Option, Some, None, option_map, slice_get, IsTrue, if◌then◌else◌}
+use Rattle.mk_graph.specs.Edges.{row, is_closed, has as has_number}
+use Rattle.mk_graph.specs.Cycle.{HasCycle}
+use Rattle.mk_graph.specs.Counted.{AreCounted}
+use Rattle.mk_graph.specs.Numbering.{IsNumbering, name_at, has_name}
+use Rattle.mk_rules.specs.Rules.{suffixes_of, has}
+use Rattle.mk_rules.specs.Taken.{AreTaken}
+use Rattle.mk_rules.specs.Goals.{goals_of, settings_of}
+use Rattle.mk_rules.specs.Node.{source_by, explicit_by}
+use Rattle.mk_rules.specs.Prerequisites.{Inputs, implicit_source, explicit_names, recipe_of, hard_of, is_node, prerequisites_of, judged_of, hidden_nodes, is_made}
+use Rattle.mk_rules.specs.Waits.{line_orders}
+use Rattle.mk_graph.specs.Plan.{IsPlan}
+use Rattle.std.specs.List.{list_any}
+use Rattle.mk_rules.specs.declared.graph.Node.{Node}
+use Rattle.mk_rules.specs.declared.graph.Graph.{Graph}
+use Rattle.mk_rules.specs.declared.rule_line.RuleLine.{RuleLine}
+
+-- the prerequisites of a node as they are judged, numbered from 0: the hard ones, which are nodes, then the hidden ones,
+-- which may be gone
+abbrev pub judged : (hard : List ℕ) → (hidden : List (Option ℕ)) → List (Option ℕ)
+judged hard hidden = map Some hard ++ hidden
+
+-- the prerequisite with this name, as it is judged: None where it is gone. A hard one never is
+abbrev pub judged_name : Inputs → (hard : List (List ℕ)) → (name : List ℕ) → Option (List ℕ)
+judged_name inputs hard name = if has name hard || is_node inputs name then Some name else None
+
+-- what is known of a name: the row is that of its hard prerequisites
+pub record IsNode (inputs : Inputs) (names : List (List ℕ)) (hard : List ℕ) (name : List ℕ) (node : Node) : Type 0 where
+  pub stamp : node.stamp ≡ inputs.times name
+  pub stem : node.stem ≡ option_map (λ s. s.stem) (implicit_source inputs name)
+  pub source : option_map (name_at names) (source_by node.stem hard) ≡ option_map (λ s. s.name) (implicit_source inputs name)
+  pub explicit : map (name_at names) (explicit_by node.stem hard) ≡ explicit_names inputs name
+  pub recipe : node.recipe ≡ recipe_of inputs name
+  pub prerequisites :
+      map (option_map (name_at names)) (judged hard node.hidden.items)
+      ≡ map (judged_name inputs (hard_of inputs name)) (judged_of inputs name)
+  pub entry : node.entry ≡ inputs.entries name
+
+-- p comes before q where it may: it is a hidden prerequisite of q and no hard one, or some line's `.WAIT` says so
+abbrev pub is_soft : Inputs → (names : List (List ℕ)) → (q p : List ℕ) → Bool
+is_soft inputs names q p = has p (hidden_nodes inputs q) || list_any (line_orders names (suffixes_of inputs.lines) p q) inputs.lines
+
+-- the soft edges of a graph of these names
+abbrev pub AreSoft : Inputs → (names : List (List ℕ)) → (soft : List (List ℕ)) → Type 0
+AreSoft inputs names soft = (n m : ℕ) → n < length names → m < length names →
+    has_number (row soft n) m ≡ is_soft inputs names (name_at names n) (name_at names m)
+
+-- each name with a number is made by something, or is there
+abbrev pub AreMade : Inputs → (names : List (List ℕ)) → Type 0
+AreMade inputs names = (name : List ℕ) → has_name names name ≡ true → is_made inputs name ≡ true
+
+-- the rows hold the hard prerequisites of each name by number
+abbrev pub AreHard : Inputs → (names : List (List ℕ)) → (hard : List (List ℕ)) → Type 0
+AreHard inputs names hard =
+    (length hard ≡ length names) × ((n : ℕ) → n < length names → map (name_at names) (row hard n) ≡ hard_of inputs (name_at names n))
+
+-- the graph of these inputs, for the goals that are named
+pub record IsGraph (inputs : Inputs) (named : List (List ℕ)) (graph : Graph) : Type 0 where
+  pub lines : graph.lines.items ≡ inputs.lines
+  pub taken : AreTaken inputs.lines
+  pub names : IsNumbering (prerequisites_of inputs) (goals_of inputs.lines named) graph.names
+  pub goals : map (name_at graph.names) graph.goals.items ≡ goals_of inputs.lines named
+  pub made : AreMade inputs graph.names
+  pub nodes : length graph.nodes.items ≡ length graph.names
+  pub node : (n : ℕ) (node : Node) → slice_get graph.nodes.items n ≡ Some node →
+      IsNode inputs graph.names (row graph.hard n) (name_at graph.names n) node
+  pub hard : AreHard inputs graph.names graph.hard
+  pub soft : AreSoft inputs graph.names graph.soft
+  pub counted : AreCounted graph.hard graph.soft graph.counted graph.soft_dropped
+  pub acyclic : HasCycle graph.hard → ⊥
+  pub order : IsPlan graph.counted graph.order.items
+  pub settings : graph.settings ≡ settings_of inputs.lines

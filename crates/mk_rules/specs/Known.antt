@@ -1,0 +1,44 @@
+-- What is found of a name while names are numbered.
+use Rattle.std.specs.Prelude.{◌≡◌, ◌⊎◌, ℕ, ℤ, Bool, true, List, length, map, drop, Option, option_map}
+use Rattle.st_records.specs.declared.record.Entry.{Entry}
+use Rattle.mk_rules.specs.Prerequisites.{Inputs, inputs_of, implicit_source, recipe_of, hard_of, judged_of, is_node, prerequisites_of}
+use Rattle.mk_rules.specs.Rules.{has}
+use Rattle.mk_rules.specs.Source.{IsReached}
+use Rattle.mk_rules.specs.Stamps.{AgreesWith}
+use Rattle.mk_rules.specs.declared.rule_line.RuleLine.{RuleLine}
+use Rattle.mk_rules.specs.declared.stamps.Stamps.{Stamps}
+use Rattle.mk_rules.specs.declared.known.Known.{Known}
+use Rattle.mk_rules.specs.declared.form.Form.{Form}
+use Rattle.mk_rules.specs.declared.table.TargetTable.{TargetTable}
+use Rattle.mk_rules.specs.declared.fault.RuleFault.{RuleFault}
+use Rattle.mk_rules.specs.declared.fault.RuleFault.TheVariants as fault
+
+-- of the names as they are judged, behind the first so many, which are nodes
+abbrev pub nodes_among : (inputs : Inputs) (hard : ℕ) (judged : List (List ℕ)) → List Bool
+nodes_among inputs hard judged = map (is_node inputs) (drop hard judged)
+
+-- what is found of a name is what the inputs say of it
+pub record IsKnown (inputs : Inputs) (name : List ℕ) (known : Known) : Type 0 where
+  pub stamp : known.stamp ≡ inputs.times name
+  pub stem : known.stem ≡ option_map (λ s. s.stem) (implicit_source inputs name)
+  pub recipe : known.recipe ≡ recipe_of inputs name
+  pub hard : known.hard ≡ length (hard_of inputs name)
+  pub hidden : known.hidden.items ≡ nodes_among inputs known.hard (judged_of inputs name)
+  pub entry : known.entry ≡ inputs.entries name
+
+-- a name that can't be looked at while another is looked up: that name itself, a hidden prerequisite, or the candidate for
+-- its source that the search has reached
+abbrev pub IsAsked : TargetTable → Stamps → List Form → (hidden : List (List ℕ)) → (name n : List ℕ) → Type 0
+IsAsked targets stamps forms hidden name n = (n ≡ name) ⊎ ((has n hidden ≡ true) ⊎ IsReached targets stamps forms name n)
+
+-- the fault of looking up a name
+abbrev pub IsLookUpFault : TargetTable → Stamps → (refuses : List ℕ → Type 0) → List Form → (hidden : List (List ℕ)) → (name : List ℕ) → RuleFault → Type 0
+IsLookUpFault targets stamps refuses forms hidden name fault.OutOfMemory = Unit {0}
+IsLookUpFault targets stamps refuses forms hidden name (fault.Tree n) = IsAsked targets stamps forms hidden name n × refuses n
+IsLookUpFault targets stamps refuses forms hidden name _ = ⊥
+
+-- the prerequisites are those that the inputs give, for some times that agree with what is known
+pub record IsAllowed (stamps : Stamps) (lines : List RuleLine) (entries : (name : List ℕ) → Option Entry) (of : List ℕ → List (List ℕ)) : Type 0 where
+  pub times : List ℕ → Option ℤ
+  pub agrees : AgreesWith stamps times
+  pub is : of ≡ prerequisites_of (inputs_of lines entries times)

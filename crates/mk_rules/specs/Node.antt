@@ -1,0 +1,29 @@
+-- The parts of a node's row of hard prerequisites.
+use Rattle.std.specs.Prelude.{ℕ, List, [], ◌∷◌, Option, Some, None}
+use Rattle.mk_rules.specs.declared.graph.Node.{Node}
+
+abbrev pub first_number : List ℕ → Option ℕ
+first_number [] = None
+first_number (n ∷ ns) = Some n
+
+abbrev pub later_numbers : List ℕ → List ℕ
+later_numbers [] = []
+later_numbers (n ∷ ns) = ns
+
+abbrev pub source_by : {A : Type 0} (stem : Option A) → (hard : List ℕ) → Option ℕ
+source_by None hard = None
+source_by (Some stem) hard = first_number hard
+
+abbrev pub explicit_by : {A : Type 0} (stem : Option A) → (hard : List ℕ) → List ℕ
+explicit_by None hard = hard
+explicit_by (Some stem) hard = later_numbers hard
+
+-- the source of a node: the first of its hard prerequisites, where it has a stem
+abbrev pub source_in : Option Node → (hard : List ℕ) → Option ℕ
+source_in None hard = None
+source_in (Some node) hard = source_by node.stem hard
+
+-- the prerequisites of a node by name: the hard ones without the source
+abbrev pub explicit_in : Option Node → (hard : List ℕ) → List ℕ
+explicit_in None hard = hard
+explicit_in (Some node) hard = explicit_by node.stem hard

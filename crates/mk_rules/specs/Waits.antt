@@ -1,0 +1,26 @@
+-- What `.WAIT` orders (dmake manual; own: what it orders).
+use Rattle.std.specs.Prelude.{ℕ, Bool, false, ◌&&◌, ◌||◌, List, [], ◌∷◌, flat_map, if◌then◌else◌}
+use Rattle.std.specs.List.{list_any}
+use Rattle.mk_graph.specs.Numbering.{has_name}
+use Rattle.mk_rules.specs.Explicit.{is_wait}
+use Rattle.mk_rules.specs.Rules.{has, targets_by}
+use Rattle.mk_rules.specs.declared.rule_line.RuleLine.{RuleLine}
+
+-- a word at the front of the first group
+abbrev pub before_first : (word : List ℕ) → (groups : List (List (List ℕ))) → List (List (List ℕ))
+before_first word [] = (word ∷ []) ∷ []
+before_first word (group ∷ groups) = (word ∷ group) ∷ groups
+
+-- the words in groups, parted at each `.WAIT`
+abbrev pub groups_of : (words : List (List ℕ)) → List (List (List ℕ))
+groups_of [] = [] ∷ []
+groups_of (word ∷ words) = if is_wait word then [] ∷ groups_of words else before_first word (groups_of words)
+
+-- p stands in a group before one with q
+abbrev pub orders : (groups : List (List (List ℕ))) → (p q : List ℕ) → Bool
+orders [] p q = false
+orders (group ∷ groups) p q = (has p group && has q (flat_map (λ g. g) groups)) || orders groups p q
+
+-- in this line p stands before a `.WAIT` and q behind it, and the line makes one of these names
+abbrev pub line_orders : (names suffixes : List (List ℕ)) → (p q : List ℕ) → RuleLine → Bool
+line_orders names suffixes p q l = list_any (has_name names) (targets_by false suffixes l) && orders (groups_of l.prerequisites) p q

@@ -1,0 +1,242 @@
+//! From a makefile's items to its graph.
+ghost use Rattle.std.specs.List.{IsDistinct};
+ghost use Rattle.std.specs.List.Sorted.{IsStrictlyIncreasing};
+ghost use Rattle.std.specs.Str.{bytes_eq};
+ghost use Rattle.std.specs.Prelude.{◌≡◌, ◌≤◌, ◌||◌, ℕ, ℤ, List, Option, length, map, is_some, IsTrue, IfOk, IfErr, OnOk};
+ghost use Rattle.std.specs.FinMap as finmap;
+ghost use Rattle.mk_graph.specs.Edges.{row, is_closed};
+ghost use Rattle.mk_graph.specs.Numbering.{AreDescribed, name_at};
+ghost use Rattle.mk_rules.specs.Found.{AreFound, IsFindingFault, IsUnmadeFault, IsGraphlessFault};
+ghost use Rattle.mk_rules.specs.Known.{IsKnown};
+ghost use Rattle.mk_rules.specs.Assembly.{IsPutTogether};
+ghost use Rattle.mk_rules.specs.Stamps.{AgreesWith, Looks};
+ghost use Rattle.mk_rules.specs.Table.{is_named, named_at};
+ghost use Rattle.mk_macros.specs.Ranks.{ranks_at};
+ghost use Rattle.mk_rules.specs.Lines.{behind_items};
+ghost use Rattle.mk_rules.specs.Prerequisites.{Inputs, inputs_of, is_target, prerequisites_of};
+ghost use Rattle.mk_rules.specs.Goals.{goals_of};
+ghost use Rattle.mk_rules.specs.Graph.{IsGraph, AreMade};
+ghost use Rattle.mk_rules.specs.Faults.{AreInputs, AreTold, IsRuleFault};
+
+use crate::fault::RuleFault;
+use crate::finder::Finder;
+use crate::goals::goals_of;
+use crate::graph::{Graph, MAX_NODES};
+use crate::known::Known;
+use crate::lines::rule_lines;
+use crate::makefile::Makefile;
+use crate::nodes::nodes_of;
+use crate::ordering::{Ordered, hard_edges, ordered_by};
+use crate::rule_line::RuleLine;
+use crate::rules::Rules;
+use crate::settings::Settings;
+use crate::soft::soft_edges;
+use crate::stamps::Stamps;
+use crate::table::TargetTable;
+use crate::tree::Tree;
+use byte_strings::{ByteString, ByteStrings};
+use mk_graph::{Numbered, NumberingFault, number};
+use mk_macros::Macros;
+use mk_reader::Item;
+use st_records::State;
+use std::alloc::{AllocError, Global};
+
+/// Numbers the names that the goals lead to, and gathers what is found of each.
+fn found_names<T: Tree>(
+    alloc: Global,
+    finder: &mut Finder<T>,
+    goals: &ByteStrings,
+) -> Result<Numbered<Known>, RuleFault>
+    ensures found { IfOk result (λ n. (times : List ℕ → Option ℤ) → AgreesWith finder.new.stamps.now times
+        → AreFound (inputs_of finder.old.rules.lines.now (finmap.get finder.old.rules.state.now) times) goals.now n) }
+    ensures row_count { IfOk result (λ n. length n.rows ≡ length n.names) }
+    ensures node_count { IfOk result (λ n. length n.nodes.items ≡ length n.names) }
+    ensures closed { IfOk result (λ n. IsTrue (is_closed n.rows)) }
+    ensures few { IfOk result (λ n. length n.names ≤ MAX_NODES) }
+    ensures goals { IfOk result (λ n. map (name_at n.names) n.goals.items ≡ goals.now) }
+    ensures fault { IfErr result (λ fault. (times : List ℕ → Option ℤ) → AgreesWith finder.new.stamps.now times
+        → IsFindingFault (inputs_of finder.old.rules.lines.now (finmap.get finder.old.rules.state.now) times) (T.refuses finder.new.tree.now)
+        goals.now MAX_NODES fault) }
+    ensures same { finder.new.tree.ghost_name ≡ finder.old.tree.ghost_name }
+    ensures looks { Looks T.honest finder.old.stamps.now finder.new.stamps.now (T.stamps finder.old.tree.now) (T.stamps finder.new.tree.now)
+        (T.refuses finder.old.tree.now) (T.refuses finder.new.tree.now) }
+{
+    match number(alloc, finder, goals, MAX_NODES) {
+        Ok(numbered) => Ok(numbered),
+        Err(NumberingFault::OutOfMemory) => Err(RuleFault::OutOfMemory),
+        Err(NumberingFault::TooMany) => Err(RuleFault::TooMany),
+        Err(NumberingFault::Source(cause)) => Err(cause),
+    }
+}
+
+/// The names that the goals lead to, with what was found of each.
+fn numbered_names<T: Tree>(
+    alloc: Global,
+    rules: Rules,
+    tree: &mut T,
+    goals: &ByteStrings,
+) -> Result<Numbered<Known>, RuleFault>
+    ensures found { IfOk result (λ n. (times : List ℕ → Option ℤ) × AreTold T.honest (T.stamps tree.old) times
+        × AreFound (inputs_of rules.entry.lines.now (finmap.get rules.entry.state.now) times) goals.now n) }
+    ensures row_count { IfOk result (λ n. length n.rows ≡ length n.names) }
+    ensures node_count { IfOk result (λ n. length n.nodes.items ≡ length n.names) }
+    ensures closed { IfOk result (λ n. IsTrue (is_closed n.rows)) }
+    ensures few { IfOk result (λ n. length n.names ≤ MAX_NODES) }
+    ensures goals { IfOk result (λ n. map (name_at n.names) n.goals.items ≡ goals.now) }
+    ensures fault { IfErr result (λ fault. (times : List ℕ → Option ℤ) × AreTold T.honest (T.stamps tree.old) times
+        × IsFindingFault (inputs_of rules.entry.lines.now (finmap.get rules.entry.state.now) times) (T.refuses tree.new) goals.now MAX_NODES fault) }
+    ensures names { IfOk result (λ n. IsDistinct bytes_eq n.names) }
+    ensures same { T.stamps tree.new ≡ T.stamps tree.old }
+{
+    let mut stamps = Stamps::new(alloc);
+    let mut finder = Finder {
+        rules,
+        tree,
+        stamps: &mut stamps,
+    };
+    found_names(alloc, &mut finder, goals)
+}
+
+/// Whether something is known to make a name: a file, an implicit rule, or a line.
+fn is_made(targets: &TargetTable, name: &[u8], known: &Known) -> bool
+    ensures { result ≡ (is_some known.now.stamp || (is_some known.now.stem || is_named (named_at targets.now name.now))) }
+{
+    known.stamp.is_some() || known.stem.is_some() || targets.is_target(name)
+}
+
+/// Refuses a name that has no file, and that nothing makes.
+fn check_made(
+    alloc: Global,
+    lines: &[RuleLine],
+    targets: &TargetTable,
+    numbered: &Numbered<Known>,
+) -> Result<(), RuleFault>
+    requires table { (name : List ℕ) → is_named (named_at targets.now name) ≡ is_target lines.now name }
+    requires count { length numbered.now.nodes.items ≡ length numbered.now.names }
+    ensures made { OnOk result ((inputs : Inputs) → inputs.lines ≡ lines.now
+        → AreDescribed (IsKnown inputs) numbered.now.names numbered.now.nodes.items → AreMade inputs numbered.now.names) }
+    ensures fault { IfErr result (λ fault. (inputs : Inputs) → inputs.lines ≡ lines.now
+        → AreDescribed (IsKnown inputs) numbered.now.names numbered.now.nodes.items → IsUnmadeFault inputs numbered.now.names fault) }
+{
+    for (node, known) in numbered.nodes.iter().enumerate() {
+        let name = numbered.names.name(node);
+        if !is_made(targets, name, known) {
+            return Err(RuleFault::NoRule(ByteString::from_slice(alloc, name)?));
+        }
+    }
+    Ok(())
+}
+
+/// The graph of names that were found and ordered.
+fn put_together(
+    alloc: Global,
+    lines: Vec<RuleLine>,
+    macros: Macros,
+    numbered: Numbered<Known>,
+    ordered: Ordered,
+) -> Result<Graph, AllocError>
+    requires row_count { length numbered.rows ≡ length numbered.names }
+    requires node_count { length numbered.nodes.items ≡ length numbered.names }
+    requires hard_count { length ordered.hard ≡ length numbered.names }
+    requires soft_count { length ordered.soft ≡ length numbered.names }
+    requires counted_count { length ordered.counted ≡ length numbered.names }
+    requires hard_closed { IsTrue (is_closed ordered.hard) }
+    requires soft_closed { IsTrue (is_closed ordered.soft) }
+    requires counted_closed { IsTrue (is_closed ordered.counted) }
+    requires counted_ascending { (n : ℕ) → IsStrictlyIncreasing (row ordered.counted n) }
+    requires few { length numbered.names ≤ MAX_NODES }
+    ensures graph { IfOk result (IsPutTogether lines.items numbered ordered) }
+    ensures macros { IfOk result (λ graph. graph.macros ≡ macros) }
+{
+    let Numbered {
+        names,
+        goals,
+        rows,
+        nodes,
+    } = numbered;
+    let Ordered {
+        hard,
+        soft,
+        counted,
+        order,
+        soft_dropped,
+    } = ordered;
+    Ok(Graph {
+        nodes: nodes_of(alloc, &rows, nodes)?,
+        names,
+        goals,
+        hard,
+        soft,
+        counted,
+        order,
+        soft_dropped,
+        settings: Settings::of_lines(&lines),
+        lines,
+        macros,
+    })
+}
+
+/// The graph of names that were found.
+fn graph_of(
+    alloc: Global,
+    makefile: Makefile,
+    macros: Macros,
+    numbered: Numbered<Known>,
+) -> Result<Graph, RuleFault>
+    requires names { IsDistinct bytes_eq numbered.names }
+    requires row_count { length numbered.rows ≡ length numbered.names }
+    requires node_count { length numbered.nodes.items ≡ length numbered.names }
+    requires closed { IsTrue (is_closed numbered.rows) }
+    requires few { length numbered.names ≤ MAX_NODES }
+    ensures graph { IfOk result (λ graph. (inputs : Inputs) (named : List (List ℕ)) → inputs.lines ≡ makefile.lines.items
+        → AreFound inputs (goals_of inputs.lines named) numbered → IsGraph inputs named graph) }
+    ensures macros { IfOk result (λ graph. graph.macros ≡ macros) }
+    ensures fault { IfErr result (λ fault. (inputs : Inputs) (named : List (List ℕ)) → inputs.lines ≡ makefile.lines.items
+        → AreFound inputs (goals_of inputs.lines named) numbered → IsGraphlessFault inputs named fault) }
+{
+    let Makefile {
+        lines,
+        suffixes,
+        targets,
+        ..
+    } = makefile;
+    check_made(alloc, &lines, &targets, &numbered)?;
+    let hard = hard_edges(alloc, &numbered)?;
+    let soft = soft_edges(alloc, &numbered, &lines, &suffixes)?;
+    let ordered = ordered_by(alloc, &numbered.names, hard, soft)?;
+    Ok(put_together(alloc, lines, macros, numbered, ordered)?)
+}
+
+/// The graph of a makefile's items for these goals, or for the makefile's first target where none is named.
+///
+/// The files are those that the tree tells of. It is asked for a name once at most. The macros take in the definitions
+/// of the makefile.
+pub fn build<T: Tree>(
+    alloc: Global,
+    items: Vec<Item>,
+    macros: Macros,
+    goals: ByteStrings,
+    tree: &mut T,
+    state: &State,
+) -> Result<Graph, RuleFault>
+    ensures graph { IfOk result (λ graph. (inputs : Inputs)
+        × AreInputs (ranks_at macros) items.items T.honest (T.stamps tree.old) (finmap.get state.now) inputs
+        × IsGraph inputs goals graph) }
+    ensures macros { IfOk result (λ graph. ranks_at graph.macros ≡ behind_items (ranks_at macros) items.items) }
+    ensures fault { IfErr result (IsRuleFault (ranks_at macros) items.items T.honest (T.stamps tree.old) (finmap.get state.now)
+        (T.refuses tree.new) goals MAX_NODES) }
+    ensures same { T.stamps tree.new ≡ T.stamps tree.old }
+{
+    let mut macros = macros;
+    let lines = rule_lines(alloc, items, &mut macros)?;
+    let makefile = Makefile::of_lines(alloc, lines)?;
+    let goals = goals_of(alloc, &makefile.lines, &makefile.suffixes, goals)?;
+    let rules = Rules {
+        lines: &makefile.lines,
+        targets: &makefile.targets,
+        forms: &makefile.forms,
+        state,
+    };
+    let numbered = numbered_names(alloc, rules, tree, &goals)?;
+    graph_of(alloc, makefile, macros, numbered)
+}

@@ -1,0 +1,147 @@
+//! Names looked up one by one while they are numbered.
+ghost use Rattle.std.specs.Prelude.{◌≡◌, ℕ, ℤ, List, Option, [], option_map, option_to_list, IfOk, IfErr, OnOk};
+ghost use Rattle.std.specs.FinMap as map;
+ghost use Rattle.mk_rules.specs.Prerequisites.{inputs_of, is_node, first_or, hidden_in, prerequisites_of};
+ghost use Rattle.mk_rules.specs.Stamps.{AgreesWith, Looks};
+ghost use Rattle.mk_rules.specs.Hidden.{HasHidden, IsNamesFault};
+ghost use Rattle.mk_rules.specs.Known.{IsKnown, IsLookUpFault};
+
+use crate::fault::RuleFault;
+use crate::form::Source;
+use crate::known::Known;
+use crate::lookup::{add_hidden, implicit_source};
+use crate::mentioned::Mentioned;
+use crate::rules::Rules;
+use crate::stamps::Stamps;
+use crate::tree::Tree;
+use byte_strings::ByteString;
+use mk_graph::{Dependencies, Found};
+use st_records::Entry;
+use std::alloc::Global;
+
+fn stem_and_rule(source: Option<Source>) -> (Option<ByteString>, Option<usize>)
+    ensures stem { result.0 ≡ option_map (λ s. s.stem) source }
+    ensures rule { result.1 ≡ option_map (λ s. s.rule) source }
+{
+    match source {
+        Some(Source { stem, rule, .. }) => (Some(stem), Some(rule)),
+        None => (None, None),
+    }
+}
+
+/// The line with the name's own recipe, or else that of the implicit rule.
+fn own_or(own: Option<usize>, implicit: Option<usize>) -> Option<usize>
+    ensures { result ≡ first_or (option_to_list own) implicit }
+{
+    match own {
+        Some(line) => Some(line),
+        None => implicit,
+    }
+}
+
+/// Takes in the hidden prerequisites of an entry behind the hard ones.
+fn add_hidden_of<T: Tree>(
+    alloc: Global,
+    rules: &Rules,
+    tree: &mut T,
+    stamps: &mut Stamps,
+    mentioned: &mut Mentioned,
+    entry: &Option<Entry>,
+) -> Result<(), RuleFault>
+    requires nodes { mentioned.old.nodes ≡ mentioned.old.judged }
+    requires none { mentioned.old.hidden.items ≡ [] }
+    ensures hidden { OnOk result ((times : List ℕ → Option ℤ) → AgreesWith stamps.new times
+        → HasHidden (is_node (inputs_of rules.now.lines.now (map.get rules.now.state.now) times)) mentioned.old.judged (hidden_in entry.now) mentioned.new) }
+    ensures looks { Looks T.honest stamps.old stamps.new (T.stamps tree.old) (T.stamps tree.new) (T.refuses tree.old) (T.refuses tree.new) }
+    ensures fault { IfErr result (IsNamesFault (T.refuses tree.new) (hidden_in entry.now)) }
+{
+    match entry {
+        Some(entry) => add_hidden(alloc, rules, tree, stamps, mentioned, &entry.hidden),
+        None => Ok(()),
+    }
+}
+
+/// What the rules, the state and a tree say of a name.
+fn look_up<T: Tree>(
+    alloc: Global,
+    rules: &Rules,
+    tree: &mut T,
+    stamps: &mut Stamps,
+    name: &[u8],
+) -> Result<Found<Known>, RuleFault>
+    ensures prerequisites { IfOk result (λ found. (times : List ℕ → Option ℤ) → AgreesWith stamps.new times
+        → found.prerequisites ≡ prerequisites_of (inputs_of rules.now.lines.now (map.get rules.now.state.now) times) name.now) }
+    ensures node { IfOk result (λ found. (times : List ℕ → Option ℤ) → AgreesWith stamps.new times
+        → IsKnown (inputs_of rules.now.lines.now (map.get rules.now.state.now) times) name.now found.node) }
+    ensures looks { Looks T.honest stamps.old stamps.new (T.stamps tree.old) (T.stamps tree.new) (T.refuses tree.old) (T.refuses tree.new) }
+    ensures fault { IfErr result (IsLookUpFault rules.now.targets.now stamps.new (T.refuses tree.new) rules.now.forms.now
+        (hidden_in (map.get rules.now.state.now name.now)) name.now) }
+{
+    let stamp = stamps.stamp(alloc, tree, name)?;
+    let source = implicit_source(alloc, rules, tree, stamps, name)?;
+    let explicit = rules.explicit(alloc, name)?;
+    let entry = rules.entry(alloc, name)?;
+    let mut mentioned = Mentioned::hard(alloc, &source, &explicit)?;
+    let hard = mentioned.judged.len();
+    add_hidden_of(alloc, rules, tree, stamps, &mut mentioned, &entry)?;
+    let Mentioned { nodes, hidden, .. } = mentioned;
+    let (stem, rule) = stem_and_rule(source);
+    let recipe = own_or(rules.recipe(name), rule);
+    Ok(Found {
+        prerequisites: nodes,
+        node: Known {
+            stamp,
+            stem,
+            recipe,
+            hard,
+            hidden,
+            entry,
+        },
+    })
+}
+
+/// Looks names up in the rules, the state and a tree.
+#[derive(Drop)]
+pub(crate) struct Finder<'m, 't, 's, T: Tree> {
+    pub rules: Rules<'m>,
+    pub tree: &'t mut T,
+    pub stamps: &'s mut Stamps,
+}
+
+impl<'m, 't, 's, T: Tree> Dependencies for Finder<'m, 't, 's, T> {
+    ghost use Rattle.std.specs.Prelude.{refl};
+    ghost use Rattle.std.proofs.Common.{◌∙◌};
+    ghost use Rattle.mk_rules.specs.Known.{IsAllowed};
+    ghost use Rattle.mk_rules.specs.LooksLaws.{looks_none, looks_on, known_times, allowed_by_known};
+
+    type Fault = RuleFault;
+
+    type Node = Known;
+
+    ghost allows = { λ f of. IsAllowed f.stamps.now f.rules.lines.now (map.get f.rules.state.now) of };
+
+    // Each name is looked up where it is asked for.
+    ghost asked = { λ _ _. ⊥ };
+
+    ghost describes = { λ f name known. (times : List ℕ → Option ℤ) → AgreesWith f.stamps.now times
+        → IsKnown (inputs_of f.rules.lines.now (map.get f.rules.state.now) times) name known };
+
+    ghost refuses = { λ f name fault. IsLookUpFault f.rules.targets.now f.stamps.now (T.refuses f.tree.now) f.rules.forms.now
+        (hidden_in (map.get f.rules.state.now name)) name fault };
+
+    ghost follows = { λ f g. (g.rules ≡ f.rules) × (g.tree.ghost_name ≡ f.tree.ghost_name)
+        × Looks T.honest f.stamps.now g.stamps.now (T.stamps f.tree.now) (T.stamps g.tree.now) (T.refuses f.tree.now) (T.refuses g.tree.now) };
+
+    fn prerequisites(&mut self, alloc: Global, name: &[u8]) -> Result<Found<Known>, RuleFault> {
+        look_up(alloc, &self.rules, self.tree, self.stamps, name)
+    }
+
+    ghost possible = { λ f. (
+      prerequisites_of (inputs_of f.rules.lines.now (map.get f.rules.state.now) (known_times f.stamps.now)),
+      allowed_by_known f.stamps.now f.rules.lines.now (map.get f.rules.state.now),
+    ) };
+
+    ghost stays = { λ f. (refl, refl, looks_none _ _ _ _) };
+
+    ghost through = { λ a b c first next. (next.0 ∙ first.0, next.1 ∙ first.1, looks_on _ _ _ _ _ _ _ _ _ _ first.2 next.2) };
+}

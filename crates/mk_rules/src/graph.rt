@@ -1,0 +1,101 @@
+//! The graph of a makefile's names: what each is made from, and what the state and the files say of it.
+ghost use Rattle.std.specs.Prelude.{◌≡◌, ℕ, ◌<◌, ◌≤◌, length, option_copied, slice_index, slice_get, IsTrue, IfSome};
+ghost use Rattle.std.specs.List.Sorted.{IsStrictlyIncreasing};
+ghost use Rattle.mk_graph.specs.Edges.{row, is_closed};
+ghost use Rattle.mk_rules.specs.Node.{source_in, explicit_in};
+ghost use Rattle.mk_rules.specs.declared.graph.TheConstants.{MAX_NODES};
+
+use crate::rule_line::RuleLine;
+use crate::settings::Settings;
+use byte_strings::ByteString;
+use mk_graph::{Edges, Names};
+use mk_macros::Macros;
+use st_records::Entry;
+
+/// How many names a graph may hold.
+pub const MAX_NODES: usize = 100_000;
+
+/// A name of the graph.
+#[derive(Drop)]
+pub struct Node {
+    /// When its file was last changed, in nanoseconds since 1970; None where there is no file.
+    pub stamp: Option<i128>,
+    /// The stem, where an implicit rule makes it. The source is then the first of its hard prerequisites.
+    pub stem: Option<ByteString>,
+    /// The number of the rule line whose recipe makes it.
+    pub recipe: Option<usize>,
+    /// The hidden prerequisites that aren't hard ones, in the order in which they were recorded: the number of a node, or
+    /// None where there is neither a file nor a rule.
+    pub hidden: Vec<Option<usize>>,
+    /// What the state has of it.
+    pub entry: Option<Entry>,
+}
+
+/// The names that the goals lead to, numbered by first mention, with what orders them.
+#[derive(Drop)]
+pub struct Graph {
+    pub names: Names,
+    /// The numbers of the goals.
+    pub goals: Vec<usize>,
+    /// What is known of each name.
+    pub nodes: Vec<Node>,
+    /// The hard prerequisites of each node, each once: the implicit source first, then those by name in their order.
+    pub hard: Edges,
+    /// What each node waits for besides: hidden prerequisites that are nodes, and what stands before a `.WAIT`.
+    pub soft: Edges,
+    /// The edges that order the nodes. Each row has a number once, and the numbers in their order.
+    pub counted: Edges,
+    /// The nodes by their counted edges: again and again the least one whose counted prerequisites all stand before it.
+    pub order: Vec<usize>,
+    /// Whether soft edges don't count, since they would make a cycle.
+    pub soft_dropped: bool,
+    pub lines: Vec<RuleLine>,
+    pub settings: Settings,
+    /// With all definitions of the makefile.
+    pub macros: Macros,
+    // Each name has a node and a row of each kind, and each number in a row is that of a node. A counted row has it once.
+    pub ghost named: { length names ≡ length nodes.items },
+    pub ghost hard_rows: { length hard ≡ length nodes.items },
+    pub ghost soft_rows: { length soft ≡ length nodes.items },
+    pub ghost counted_rows: { length counted ≡ length nodes.items },
+    pub ghost hard_closed: { IsTrue (is_closed hard) },
+    pub ghost soft_closed: { IsTrue (is_closed soft) },
+    pub ghost counted_closed: { IsTrue (is_closed counted) },
+    pub ghost counted_ascending: { (n : ℕ) → IsStrictlyIncreasing (row counted n) },
+    pub ghost few: { length nodes.items ≤ MAX_NODES },
+}
+
+impl Graph {
+    /// The number of nodes.
+    pub fn len(&self) -> usize
+        ensures { result ≡ length self.now.nodes.items }
+    {
+        self.nodes.len()
+    }
+
+    /// The implicit source of a node; None where no implicit rule makes it.
+    pub fn source(&self, node: usize) -> Option<usize>
+        requires { node < length self.now.nodes.items }
+        ensures { result ≡ source_in (slice_get self.now.nodes.items node) (row self.now.hard node) }
+    {
+        if self.nodes[node].stem.is_none() {
+            return None;
+        }
+        self.hard.row(node).first().copied()
+    }
+
+    /// The prerequisites of a node by name, each once, without its source: what is recorded of it.
+    pub fn explicit(&self, node: usize) -> &[usize]
+        requires { node < length self.now.nodes.items }
+        ensures { result.now ≡ explicit_in (slice_get self.now.nodes.items node) (row self.now.hard node) }
+    {
+        let hard = self.hard.row(node);
+        if self.nodes[node].stem.is_none() {
+            return hard;
+        }
+        match hard {
+            [_, explicit @ ..] => explicit,
+            [] => hard,
+        }
+    }
+}

@@ -1,0 +1,16 @@
+//! What is found of a name while names are numbered.
+use byte_strings::ByteString;
+use st_records::Entry;
+
+/// What the rules, the files and the state say of a name.
+#[derive(Drop)]
+pub(crate) struct Known {
+    pub stamp: Option<i128>,
+    pub stem: Option<ByteString>,
+    pub recipe: Option<usize>,
+    /// How many of its prerequisites are hard: those that come first.
+    pub hard: usize,
+    /// Of each hidden prerequisite that isn't a hard one, in their order, whether it is a node.
+    pub hidden: Vec<bool>,
+    pub entry: Option<Entry>,
+}

@@ -1,0 +1,89 @@
+//! What is found of a name: what makes it, and what it is made from.
+ghost use Rattle.std.specs.Prelude.{◌≡◌, ℕ, ℤ, List, Option, [], IfOk, IfErr, OnOk};
+ghost use Rattle.std.specs.FinMap as map;
+ghost use Rattle.std.specs.Str.{is_utf8};
+ghost use Rattle.mk_rules.specs.Prerequisites.{inputs_of, is_node, implicit_source, prerequisites_of};
+ghost use Rattle.mk_rules.specs.Stamps.{AgreesWith, Looks, IsLookFault};
+ghost use Rattle.mk_rules.specs.Source.{IsSourceFault};
+ghost use Rattle.mk_rules.specs.Hidden.{HasHidden, IsNamesFault};
+
+use crate::fault::RuleFault;
+use crate::form::Source;
+use crate::mentioned::Mentioned;
+use crate::rules::Rules;
+use crate::source::{is_there, source_of};
+use crate::stamps::Stamps;
+use crate::tree::Tree;
+use byte_strings::ByteStrings;
+use std::alloc::Global;
+use std::str;
+
+fn is_utf8(bytes: &[u8]) -> bool
+    ensures { result ≡ is_utf8 bytes.now }
+{
+    match str::from_utf8(bytes) {
+        Ok(_) => true,
+        Err(_) => false,
+    }
+}
+
+/// Whether a hidden prerequisite is a node.
+fn is_node<T: Tree>(
+    alloc: Global,
+    rules: &Rules,
+    tree: &mut T,
+    stamps: &mut Stamps,
+    name: &[u8],
+) -> Result<bool, RuleFault>
+    ensures node { IfOk result (λ node. (times : List ℕ → Option ℤ) → AgreesWith stamps.new times
+        → node ≡ is_node (inputs_of rules.now.lines.now (map.get rules.now.state.now) times) name.now) }
+    ensures looks { Looks T.honest stamps.old stamps.new (T.stamps tree.old) (T.stamps tree.new) (T.refuses tree.old) (T.refuses tree.new) }
+    ensures fault { IfErr result (IsLookFault (T.refuses tree.new) name.now) }
+{
+    if !is_utf8(name) {
+        return Ok(false);
+    }
+    is_there(alloc, rules.targets, tree, stamps, name)
+}
+
+/// What an implicit rule makes the name from, where no line has a recipe for it.
+pub(crate) fn implicit_source<T: Tree>(
+    alloc: Global,
+    rules: &Rules,
+    tree: &mut T,
+    stamps: &mut Stamps,
+    name: &[u8],
+) -> Result<Option<Source>, RuleFault>
+    ensures source { IfOk result (λ found. (times : List ℕ → Option ℤ) → AgreesWith stamps.new times
+        → found ≡ implicit_source (inputs_of rules.now.lines.now (map.get rules.now.state.now) times) name.now) }
+    ensures looks { Looks T.honest stamps.old stamps.new (T.stamps tree.old) (T.stamps tree.new) (T.refuses tree.old) (T.refuses tree.new) }
+    ensures fault { IfErr result (IsSourceFault rules.now.targets.now stamps.new (T.refuses tree.new) rules.now.forms.now name.now) }
+{
+    if rules.recipe(name).is_some() {
+        return Ok(None);
+    }
+    source_of(alloc, rules.targets, tree, stamps, rules.forms, name)
+}
+
+/// Takes in hidden prerequisites behind the hard ones.
+pub(crate) fn add_hidden<T: Tree>(
+    alloc: Global,
+    rules: &Rules,
+    tree: &mut T,
+    stamps: &mut Stamps,
+    mentioned: &mut Mentioned,
+    hidden: &ByteStrings,
+) -> Result<(), RuleFault>
+    requires nodes { mentioned.old.nodes ≡ mentioned.old.judged }
+    requires none { mentioned.old.hidden.items ≡ [] }
+    ensures hidden { OnOk result ((times : List ℕ → Option ℤ) → AgreesWith stamps.new times
+        → HasHidden (is_node (inputs_of rules.now.lines.now (map.get rules.now.state.now) times)) mentioned.old.judged hidden.now mentioned.new) }
+    ensures looks { Looks T.honest stamps.old stamps.new (T.stamps tree.old) (T.stamps tree.new) (T.refuses tree.old) (T.refuses tree.new) }
+    ensures fault { IfErr result (IsNamesFault (T.refuses tree.new) hidden.now) }
+{
+    for name in hidden.iter() {
+        let node = is_node(alloc, rules, tree, stamps, name)?;
+        mentioned.add_hidden(alloc, name, node)?;
+    }
+    Ok(())
+}

@@ -1,0 +1,75 @@
+//! What orders the names of a graph.
+ghost use Rattle.std.specs.Prelude.{◌≡◌, ℕ, length, IfOk, IfErr, IsTrue};
+ghost use Rattle.std.specs.List.Sorted.{IsStrictlyIncreasing};
+ghost use Rattle.mk_graph.specs.Counted.{AreCounted};
+ghost use Rattle.mk_graph.specs.Cycle.{HasCycle};
+ghost use Rattle.mk_graph.specs.Edges.{row, is_closed};
+ghost use Rattle.mk_graph.specs.Plan.{IsPlan};
+ghost use Rattle.mk_rules.specs.Ordering.{IsCycleFault};
+ghost use Rattle.mk_rules.specs.Rows.{EachRow, IsHardRow};
+
+use crate::fault::{CycleNames, RuleFault};
+use crate::known::Known;
+use crate::rows::hard_rows;
+use mk_graph::{Counted, Edges, Names, Numbered, Order, count_edges};
+use std::alloc::{AllocError, Global};
+
+/// The edges of a graph and the order that they make.
+#[derive(Drop)]
+pub(crate) struct Ordered {
+    pub hard: Edges,
+    pub soft: Edges,
+    pub counted: Edges,
+    pub order: Vec<usize>,
+    pub soft_dropped: bool,
+}
+
+/// The hard prerequisites of each node.
+pub(crate) fn hard_edges(alloc: Global, numbered: &Numbered<Known>) -> Result<Edges, AllocError>
+    requires row_count { length numbered.now.rows ≡ length numbered.now.names }
+    requires node_count { length numbered.now.nodes.items ≡ length numbered.now.names }
+    requires closed { IsTrue (is_closed numbered.now.rows) }
+    ensures count { IfOk result (λ hard. length hard ≡ length numbered.now.names) }
+    ensures closed { IfOk result (λ hard. IsTrue (is_closed hard)) }
+    ensures rows { IfOk result (λ hard. EachRow (IsHardRow numbered.now.rows numbered.now.nodes.items) hard) }
+{
+    Ok(Edges::new(hard_rows(alloc, &numbered.rows, &numbered.nodes)?))
+}
+
+/// The order by these edges, or the cycle of hard ones as a fault.
+pub(crate) fn ordered_by(
+    alloc: Global,
+    names: &Names,
+    hard: Edges,
+    soft: Edges,
+) -> Result<Ordered, RuleFault>
+    requires hard_count { length hard ≡ length names.now }
+    requires soft_count { length soft ≡ length names.now }
+    requires hard_closed { IsTrue (is_closed hard) }
+    requires soft_closed { IsTrue (is_closed soft) }
+    ensures hard { IfOk result (λ ordered. ordered.hard ≡ hard) }
+    ensures soft { IfOk result (λ ordered. ordered.soft ≡ soft) }
+    ensures counted { IfOk result (λ ordered. AreCounted hard soft ordered.counted ordered.soft_dropped) }
+    ensures count { IfOk result (λ ordered. length ordered.counted ≡ length names.now) }
+    ensures closed { IfOk result (λ ordered. IsTrue (is_closed ordered.counted)) }
+    ensures ascending { IfOk result (λ ordered. (n : ℕ) → IsStrictlyIncreasing (row ordered.counted n)) }
+    ensures acyclic { IfOk result (λ _. HasCycle hard → ⊥) }
+    ensures order { IfOk result (λ ordered. IsPlan ordered.counted ordered.order.items) }
+    ensures fault { IfErr result (IsCycleFault hard names.now) }
+{
+    let Counted {
+        edges,
+        dropped,
+        order,
+    } = count_edges(alloc, &hard, &soft)?;
+    match order {
+        Order::Cycle(cycle) => Err(RuleFault::Cycle(CycleNames::of_nodes(alloc, names, &cycle)?)),
+        Order::Plan(order) => Ok(Ordered {
+            hard,
+            soft,
+            counted: edges,
+            order,
+            soft_dropped: dropped,
+        }),
+    }
+}

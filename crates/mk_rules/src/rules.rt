@@ -1,0 +1,64 @@
+//! What a makefile's rules and the state say of a name.
+ghost use Rattle.std.specs.Prelude.{◌≡◌, ℕ, List, false, option_to_list, IfOk};
+ghost use Rattle.std.specs.FinMap as map;
+ghost use Rattle.mk_rules.specs.Rules.{has, suffixes_of, targets_by, places, recipe_places};
+ghost use Rattle.mk_rules.specs.Table.{named_at};
+ghost use Rattle.mk_rules.specs.Forms.{forms_of};
+
+use crate::explicit::explicit_of;
+use crate::form::Form;
+use crate::rule_line::RuleLine;
+use crate::table::TargetTable;
+use byte_strings::ByteStrings;
+use st_records::{Entry, State};
+use std::alloc::{AllocError, Global};
+
+/// The rule lines of a makefile with what was made of them, and the state.
+#[derive(Drop)]
+pub(crate) struct Rules<'m> {
+    pub lines: &'m [RuleLine],
+    pub targets: &'m TargetTable,
+    pub forms: &'m [Form],
+    pub state: &'m State,
+    pub ghost named: { (name : List ℕ) → (named_at targets.now name).lines
+        ≡ places (λ l. has name (targets_by false (suffixes_of lines.now) l)) 0 lines.now },
+    pub ghost recipes: { (name : List ℕ) → option_to_list (named_at targets.now name).recipe
+        ≡ recipe_places (targets_by false (suffixes_of lines.now)) 0 lines.now name },
+    pub ghost all_forms: { forms.now ≡ forms_of (suffixes_of lines.now) lines.now },
+}
+
+impl<'m> Rules<'m> {
+    ghost use Rattle.mk_rules.specs.Explicit.{explicit_of};
+    ghost use Rattle.mk_rules.specs.Prerequisites.{own_recipes, is_target};
+
+    /// The number of the line that has the name's recipe.
+    pub fn recipe(&self, name: &[u8]) -> Option<usize>
+        ensures { option_to_list result ≡ own_recipes self.now.lines.now name.now }
+    {
+        self.targets.recipe(name)
+    }
+
+    /// Whether some line makes the name.
+    pub fn is_target(&self, name: &[u8]) -> bool
+        ensures { result ≡ is_target self.now.lines.now name.now }
+    {
+        self.targets.is_target(name)
+    }
+
+    /// The name's prerequisites by name.
+    pub fn explicit(&self, alloc: Global, name: &[u8]) -> Result<ByteStrings, AllocError>
+        ensures { IfOk result (λ found. found ≡ explicit_of self.now.lines.now name.now) }
+    {
+        explicit_of(alloc, self.lines, self.targets, name)
+    }
+
+    /// What the state has of the name.
+    pub fn entry(&self, alloc: Global, name: &[u8]) -> Result<Option<Entry>, AllocError>
+        ensures { IfOk result (λ entry. entry ≡ map.get self.now.state.now name.now) }
+    {
+        match self.state.get(name) {
+            Some(entry) => Ok(Some(entry.copy(alloc)?)),
+            None => Ok(None),
+        }
+    }
+}

@@ -1,0 +1,41 @@
+//! The soft edges of a graph.
+ghost use Rattle.std.specs.Prelude.{◌≡◌, ℕ, List, length, map, IfOk, IsTrue};
+ghost use Rattle.std.specs.List.{IsDistinct};
+ghost use Rattle.std.specs.Str.{bytes_eq};
+ghost use Rattle.mk_graph.specs.Edges.{is_closed};
+ghost use Rattle.mk_graph.specs.Numbering.{AreDescribed, name_at};
+ghost use Rattle.mk_rules.specs.Graph.{AreSoft};
+ghost use Rattle.mk_rules.specs.Known.{IsKnown};
+ghost use Rattle.mk_rules.specs.Prerequisites.{Inputs, prerequisites_of};
+ghost use Rattle.mk_rules.specs.Rules.{suffixes_of};
+
+use crate::known::Known;
+use crate::rows::hidden_rows;
+use crate::rule_line::RuleLine;
+use crate::waits::add_all_waits;
+use byte_strings::ByteStrings;
+use mk_graph::{Edges, Numbered};
+use std::alloc::{AllocError, Global};
+
+/// The soft edges: hidden prerequisites, and what `.WAIT`s say.
+pub(crate) fn soft_edges(
+    alloc: Global,
+    numbered: &Numbered<Known>,
+    lines: &[RuleLine],
+    suffixes: &ByteStrings,
+) -> Result<Edges, AllocError>
+    requires row_count { length numbered.now.rows ≡ length numbered.now.names }
+    requires node_count { length numbered.now.nodes.items ≡ length numbered.now.names }
+    requires closed { IsTrue (is_closed numbered.now.rows) }
+    requires names { IsDistinct bytes_eq numbered.now.names }
+    requires suffixes { suffixes.now ≡ suffixes_of lines.now }
+    ensures count { IfOk result (λ soft. length soft ≡ length numbered.now.names) }
+    ensures closed { IfOk result (λ soft. IsTrue (is_closed soft)) }
+    ensures soft { IfOk result (λ soft. (inputs : Inputs) → inputs.lines ≡ lines.now
+        → map (map (name_at numbered.now.names)) numbered.now.rows ≡ map (prerequisites_of inputs) numbered.now.names
+        → AreDescribed (IsKnown inputs) numbered.now.names numbered.now.nodes.items → AreSoft inputs numbered.now.names soft) }
+{
+    let mut soft = hidden_rows(alloc, &numbered.rows, &numbered.nodes)?;
+    add_all_waits(alloc, &mut soft, &numbered.names, suffixes, lines)?;
+    Ok(Edges::new(soft))
+}

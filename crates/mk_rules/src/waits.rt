@@ -1,0 +1,101 @@
+//! What stands behind a `.WAIT` waits for what stands before it.
+ghost use Rattle.std.specs.Prelude.{◌≡◌, ◌<◌, ◌&&◌, ◌||◌, ℕ, length, map, filter, nat_lt, true, IfOk, OnOk};
+ghost use Rattle.std.specs.List.{IsDistinct, list_any, list_all};
+ghost use Rattle.std.specs.Str.{bytes_eq};
+ghost use Rattle.mk_graph.specs.Edges.{row, is_closed, has as has_number};
+ghost use Rattle.mk_graph.specs.Numbering.{has_name, name_at};
+ghost use Rattle.mk_rules.specs.Explicit.{is_wait};
+ghost use Rattle.mk_rules.specs.Waits.{groups_of, orders, line_orders};
+
+use crate::explicit::is_wait;
+use crate::rule_line::RuleLine;
+use byte_strings::ByteStrings;
+use mk_graph::{Names, add_waits};
+use std::alloc::{AllocError, Global};
+
+fn any_wait(words: &ByteStrings) -> bool
+    ensures { result ≡ list_any is_wait words.now }
+{
+    words.iter().any(|word| is_wait(word))
+}
+
+fn any_number(names: &Names, words: &ByteStrings) -> bool
+    ensures { result ≡ list_any (has_name names.now) words.now }
+{
+    words.iter().any(|word| names.number_of(word).is_some())
+}
+
+/// The numbers of a line's prerequisites, in groups between its `.WAIT`s. A name without a number is passed over.
+fn number_groups(
+    alloc: Global,
+    names: &Names,
+    words: &ByteStrings,
+) -> Result<Vec<Vec<usize>>, AllocError>
+    ensures groups { IfOk result (λ groups. map (map (name_at names.now)) (map (λ g. g.items) groups.items)
+        ≡ map (filter (has_name names.now)) (groups_of words.now)) }
+    ensures nodes { IfOk result (λ groups. list_all (λ g. list_all (λ n. nat_lt n (length names.now)) g.items) groups.items ≡ true) }
+{
+    let mut groups = Vec::new(alloc);
+    let mut group = Vec::new(alloc);
+    for word in words.iter() {
+        if is_wait(word) {
+            groups.push(group)?;
+            group = Vec::new(alloc);
+        } else if let Some(number) = names.number_of(word) {
+            group.push(number)?;
+        }
+    }
+    groups.push(group)?;
+    Ok(groups)
+}
+
+/// Adds what a line's `.WAIT`s say, where the line makes a node by name.
+fn add_line_waits(
+    alloc: Global,
+    rows: &mut Vec<Vec<usize>>,
+    names: &Names,
+    suffixes: &ByteStrings,
+    line: &RuleLine,
+) -> Result<(), AllocError>
+    requires nodes { length rows.old.items ≡ length names.now }
+    requires names { IsDistinct bytes_eq names.now }
+    ensures nodes { OnOk result (length rows.new.items ≡ length rows.old.items) }
+    ensures members { OnOk result ((n m : ℕ) → n < length names.now → m < length names.now
+        → has_number (row (map (λ r. r.items) rows.new.items) n) m
+        ≡ (has_number (row (map (λ r. r.items) rows.old.items) n) m
+        || line_orders names.now suffixes.now (name_at names.now m) (name_at names.now n) line.now)) }
+    ensures closed { OnOk result (is_closed (map (λ r. r.items) rows.old.items) ≡ true → is_closed (map (λ r. r.items) rows.new.items) ≡ true) }
+{
+    if !any_wait(&line.prerequisites) {
+        return Ok(());
+    }
+    let targets = line.targets_by(alloc, suffixes, false)?;
+    if !any_number(names, &targets) {
+        return Ok(());
+    }
+    let groups = number_groups(alloc, names, &line.prerequisites)?;
+    add_waits(alloc, rows, &groups)
+}
+
+/// Adds what the `.WAIT`s of all lines say.
+pub(crate) fn add_all_waits(
+    alloc: Global,
+    rows: &mut Vec<Vec<usize>>,
+    names: &Names,
+    suffixes: &ByteStrings,
+    lines: &[RuleLine],
+) -> Result<(), AllocError>
+    requires nodes { length rows.old.items ≡ length names.now }
+    requires names { IsDistinct bytes_eq names.now }
+    ensures nodes { OnOk result (length rows.new.items ≡ length rows.old.items) }
+    ensures members { OnOk result ((n m : ℕ) → n < length names.now → m < length names.now
+        → has_number (row (map (λ r. r.items) rows.new.items) n) m
+        ≡ (has_number (row (map (λ r. r.items) rows.old.items) n) m
+        || list_any (line_orders names.now suffixes.now (name_at names.now m) (name_at names.now n)) lines.now)) }
+    ensures closed { OnOk result (is_closed (map (λ r. r.items) rows.old.items) ≡ true → is_closed (map (λ r. r.items) rows.new.items) ≡ true) }
+{
+    for line in lines {
+        add_line_waits(alloc, rows, names, suffixes, line)?;
+    }
+    Ok(())
+}

@@ -1,0 +1,40 @@
+//! The times of files in memory, which are told as they stand.
+ghost use Rattle.std.specs.Prelude.{◌≡◌, true};
+ghost use Rattle.mk_rules.specs.Rules.{has};
+ghost use Rattle.mk_rules_tests.specs.Times.{time_in};
+
+use byte_strings::ByteStrings;
+use indexmap::IndexMap;
+use mk_rules::{Tree, TreeFault};
+use std::alloc::Global;
+
+/// The time of each name that has a file, and how often one was asked for.
+#[derive(Drop)]
+pub struct Times {
+    pub files: IndexMap<Vec<u8>, i128>,
+    /// Names of which it can't be told whether they have a file.
+    pub broken: ByteStrings,
+    pub asked: usize,
+}
+
+fn has(names: &ByteStrings, name: &[u8]) -> bool
+    ensures { result ≡ has name.now names.now }
+{
+    names.iter().any(|n| name == n)
+}
+
+impl Tree for Times {
+    ghost honest = { Unit {0} };
+
+    ghost stamps = { λ times name. time_in times name };
+
+    ghost refuses = { λ times name. has name times.broken ≡ true };
+
+    fn stamp(&mut self, _alloc: Global, name: &[u8]) -> Result<Option<i128>, TreeFault> {
+        self.asked = self.asked.saturating_add(1);
+        if has(&self.broken, name) {
+            return Err(TreeFault::CannotLook);
+        }
+        Ok(self.files.get(name).copied())
+    }
+}
