@@ -5,5 +5,7 @@ pub mod MentionLemmas
 pub mod OutcomeLemmas
 pub mod PartLemmas
 pub mod PatternLemmas
+pub mod SomeOutcomeLemmas
+pub mod SpelledLemmas
 pub mod StateLemmas
 pub mod WordLemmas

@@ -1,10 +1,11 @@
 -- What a substitution does to a word, in terms of what the word is joined from.
-use Rattle.std.proofs.Common.{◌≡◌, ◌≢◌, ℕ, suc, ◌+◌, ◌-◌, ◌≤◌, Bool, true, false, not, nat_lt, List, [], ◌∷◌, ◌++◌, take, drop, length, Some, None, refl, sym, ap, ◌∙◌, arith, one-add, bytes_eq}
+use Rattle.std.proofs.Common.{◌≡◌, ◌≢◌, ℕ, suc, ◌+◌, ◌-◌, ◌≤◌, Bool, true, false, not, nat_lt, List, [], ◌∷◌, ◌++◌, take, drop, length, Some, None, Option, option_and_then, append-nil, refl, sym, ap, ◌∙◌, arith, one-add, bytes_eq}
 use Rattle.std.specs.List.{prefix_len}
+use Rattle.std.specs.Option.{option_map_or}
 use Rattle.std.proofs.lemmas.List.{take_at, drop_at, length-append, append_assoc, take-append-drop, length_push}
 use Rattle.std.proofs.lemmas.Bool.Decides.{nat_tests}
 use Rattle.std.proofs.lemmas.Slice.Eq.{bytes_eq-Decides}
-use Rattle.mk_macros.specs.Words.{place_of, is_byte, pattern_of, without_front, without_end, by_pattern, changed_word}
+use Rattle.mk_macros.specs.Words.{place_of, is_byte, with_new, pattern_of, without_front, without_end, replacement, by_pattern, changed_word}
 use Rattle.mk_macros.proofs.WordLemmas.{position-none}
 
 module _ (q : ℕ → Bool) (c : ℕ) (back : List ℕ) (stop : q c ≡ false) where
@@ -23,7 +24,7 @@ module _ (q : ℕ → Bool) (c : ℕ) (back : List ℕ) (stop : q c ≡ false) w
   ends_before (b ∷ front) h = ends_before_at b front (q b) refl (ends_before front) h
 
 -- the first place of a byte that stands behind a text without it
-place_of-at : (c : ℕ) (front back : List ℕ) → place_of c front ≡ None → place_of c (front ++ c ∷ back) ≡ Some (length front)
+pub place_of-at : (c : ℕ) (front back : List ℕ) → place_of c front ≡ None → place_of c (front ++ c ∷ back) ≡ Some (length front)
 place_of-at c front back none =
     let stop : not (is_byte c c) ≡ false = grind (arith, nat_tests) in
     let end : prefix_len (λ x. not (is_byte c x)) (front ++ c ∷ back) ≡ length front = ends_before (λ x. not (is_byte c x)) c back stop front (position-none (is_byte c) front none) in
@@ -71,3 +72,38 @@ changed_word-pattern before after front back stem b f =
     rw (place_of-at 37 before after b) (rw (take_at before (37 ∷ after) (length before) refl, drop-behind before 37 after, place_of-at 37 front back f)
     (rw (take_at front (37 ∷ back) (length front) refl, drop-behind front 37 back) refl)) in
     rw pattern (rw (without_front-append before (stem ++ after)) (rw (without_end-append after stem) refl))
+
+-- Patterns with a `%`
+
+pattern_parted : (before after new : List ℕ) → place_of 37 before ≡ None → pattern_of (before ++ 37 ∷ after) new ≡ with_new before after new (place_of 37 new)
+pattern_parted before after new b = rw (place_of-at 37 before after b) (rw (take_at before (37 ∷ after) (length before) refl, drop-behind before 37 after) refl)
+
+stem_none_at : (before after word : List ℕ) → ((stem : List ℕ) → word ≢ before ++ (stem ++ after)) → (t : Bool) → bytes_eq (take (length before) word) before ≡ t →
+    option_and_then (without_end after) (without_front before word) ≡ None
+stem_none_at before after word other true e =
+    let rest = drop (length before) word in
+    let front : take (length before) word ≡ before = (bytes_eq-Decides (take (length before) word) before).0 e in
+    let whole : word ≡ before ++ rest = sym (take-append-drop (length before) word) ∙ ap (λ xs. xs ++ rest) front in
+    rw e (without_end-other after rest (λ stem is. other stem (whole ∙ ap (λ xs. before ++ xs) is)))
+stem_none_at before after word other false e = rw e refl
+
+stem_none : (before after word : List ℕ) → ((stem : List ℕ) → word ≢ before ++ (stem ++ after)) → option_and_then (without_end after) (without_front before word) ≡ None
+stem_none before after word other = stem_none_at before after word other (bytes_eq (take (length before) word) before) refl
+
+other_new : (before after new word : List ℕ) (place : Option ℕ) → ((stem : List ℕ) → word ≢ before ++ (stem ++ after)) → changed_word (by_pattern (with_new before after new place)) word ≡ word
+other_new before after new word None other = ap (λ s. option_map_or (replacement (with_new before after new None)) s word) (stem_none before after word other)
+other_new before after new word (Some i) other = ap (λ s. option_map_or (replacement (with_new before after new (Some i))) s word) (stem_none before after word other)
+
+-- a word that isn't of the form stays
+pub changed_word-other_form : (before after new word : List ℕ) → place_of 37 before ≡ None → ((stem : List ℕ) → word ≢ before ++ (stem ++ after)) →
+    changed_word (by_pattern (pattern_of (before ++ 37 ∷ after) new)) word ≡ word
+changed_word-other_form before after new word b other =
+    ap (λ p. changed_word (by_pattern p) word) (pattern_parted before after new b) ∙ other_new before after new word (place_of 37 new) other
+
+-- a new form without a place for the stem stands for the whole word
+pub changed_word-no_place : (before after new stem : List ℕ) → place_of 37 before ≡ None → place_of 37 new ≡ None →
+    changed_word (by_pattern (pattern_of (before ++ 37 ∷ after) new)) (before ++ (stem ++ after)) ≡ new
+changed_word-no_place before after new stem b n =
+    let pattern : pattern_of (before ++ 37 ∷ after) new ≡ record { before = before; after = after; front = new; keeps_stem = false; back = [] } =
+    pattern_parted before after new b ∙ ap (with_new before after new) n in
+    rw pattern (rw (without_front-append before (stem ++ after)) (rw (without_end-append after stem) (append-nil new)))

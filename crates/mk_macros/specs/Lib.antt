@@ -1,4 +1,4 @@
--- The model is Ranks, Dynamic, Reference, Words and Expansion.
+-- The model is Ranks, Dynamic, Spelled, Words and Expansion; Reference is what the code does.
 -- Dynamic: what the macros of a recipe line stand for.
 pub mod Dynamic
 -- Expansion: what the outcome of a text is.
@@ -11,5 +11,7 @@ pub mod Ranks
 pub mod Reference
 -- Shown: how the crate's own values are seen by the model.
 pub mod Shown
+-- Spelled: how a text is spelled of the forms at its front.
+pub mod Spelled
 -- Words: how a reference changes each word of a value.
 pub mod Words

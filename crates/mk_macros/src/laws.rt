@@ -1,7 +1,16 @@
 // What holds of the definitions alone.
-ghost use Rattle.std.specs.Prelude.{◌≡◌, ◌≢◌, ℕ, List, [], ◌∷◌, ◌++◌, None};
+ghost use Rattle.std.specs.Prelude.{◌≡◌, ◌≢◌, ◌↔◌, ℕ, List, [], ◌∷◌, ◌++◌, None};
 ghost use Rattle.mk_macros.specs.Words.{place_of, pattern_of, by_pattern, changed_word, directory_of, file_of};
-ghost use Rattle.mk_macros.specs.Expansion.{Meaning, Outcome, Expands};
+ghost use Rattle.mk_macros.specs.Reference.{Front, front};
+ghost use Rattle.mk_macros.specs.Spelled.{SpellsFront};
+ghost use Rattle.mk_macros.specs.Expansion.{Meaning, Outcome, Expands, ExpandsTo};
+ghost use Rattle.mk_macros.specs.Ranks.{Ranks, ranks_at, meaning_of};
+ghost use Rattle.mk_macros.specs.declared.dynamic.Dynamic.{Dynamic};
+
+/// The front that the code computes of a text is the one that the text spells. So each text has one.
+pub fn each_front_is_as_it_is_spelled()
+    ensures { (text : List ℕ) (f : Front) → (front text ≡ f) ↔ SpellsFront text f }
+{}
 
 /// A text has one outcome, whatever its names stand for.
 pub fn one_outcome()
@@ -9,8 +18,14 @@ pub fn one_outcome()
         → Expands meaning opened made text a → Expands meaning opened made text b → a ≡ b }
 {}
 
-/// A substitution replaces the ending of a word, or what stands before and after its stem, and leaves other words.
-/// The byte 37 is `%`.
+/// A text has an outcome, for what definitions and a line give.
+pub fn an_outcome()
+    ensures { (definitions : List (List ℕ × Ranks)) (line : Dynamic) (text : List ℕ)
+        → (outcome : Outcome) × ExpandsTo (meaning_of (ranks_at definitions) line) text outcome }
+{}
+
+/// A substitution replaces the ending of a word, or what stands before and after its stem, and leaves other words. A new
+/// form without a `%` stands for the whole word. The byte 37 is `%`.
 pub fn substitutions_change_words()
     ensures ending { (old new stem : List ℕ) → place_of 37 old ≡ None
         → changed_word (by_pattern (pattern_of old new)) (stem ++ old) ≡ stem ++ new }
@@ -19,6 +34,11 @@ pub fn substitutions_change_words()
     ensures stem { (before after front back stem : List ℕ) → place_of 37 before ≡ None → place_of 37 front ≡ None
         → changed_word (by_pattern (pattern_of (before ++ 37 ∷ after) (front ++ 37 ∷ back))) (before ++ (stem ++ after))
         ≡ front ++ (stem ++ back) }
+    ensures other_forms { (before after new word : List ℕ) → place_of 37 before ≡ None
+        → ((stem : List ℕ) → word ≢ before ++ (stem ++ after))
+        → changed_word (by_pattern (pattern_of (before ++ 37 ∷ after) new)) word ≡ word }
+    ensures no_place { (before after new stem : List ℕ) → place_of 37 before ≡ None → place_of 37 new ≡ None
+        → changed_word (by_pattern (pattern_of (before ++ 37 ∷ after) new)) (before ++ (stem ++ after)) ≡ new }
 {}
 
 /// The directory and the file of a word are what stands before and behind its last slash. The byte 47 is `/`, and 46

@@ -13,5 +13,8 @@ mod substitution;
 pub use definitions::{Macros, Rank};
 pub use dynamic::{Dynamic, RecipeNames};
 pub use fault::{MAX_EXPANSION_BYTES, MacroFault};
-pub use laws::{one_outcome, parts_of_words, substitutions_change_words};
+pub use laws::{
+    an_outcome, each_front_is_as_it_is_spelled, one_outcome, parts_of_words,
+    substitutions_change_words,
+};
 pub use mention::refers_to_newer;

@@ -56,6 +56,16 @@ module _ (text left : List ℕ) (b : ℕ) (right : List ℕ) (n : ℕ) (e : text
   cut_byte : slice_index text n ≡ b
   cut_byte = ap (λ k. slice_index text k) (sym long) ∙ ap (λ xs. slice_index xs (length left)) e ∙ get_or-append_seam left b right 0
 
+-- Comments
+
+hash_start : (rest : List ℕ) → (is_empty rest || starts is_hash rest) ≡ true → (is_empty rest || begins_with 35 rest) ≡ true
+hash_start [] h = h
+hash_start (b ∷ bs) h = h
+
+pub hash_start_back : (rest : List ℕ) → (is_empty rest || begins_with 35 rest) ≡ true → (is_empty rest || starts is_hash rest) ≡ true
+hash_start_back [] h = h
+hash_start_back (b ∷ bs) h = h
+
 -- Special names
 
 names_found : (name : SpecialName) → special_name (name_text name) ≡ Some name
@@ -81,11 +91,11 @@ ends_blank_back : (rest : List ℕ) → (is_empty rest || begins_blank rest) ≡
 ends_blank_back [] h = h
 ends_blank_back (b ∷ bs) h = h
 
-word_is : (text word : List ℕ) → BeginsWithWord text word → first_word text ≡ word
+pub word_is : (text word : List ℕ) → BeginsWithWord text word → first_word text ≡ word
 unfolding first_word
 word_is text word (rest, e, none, ends) = before_first_is is_blank text word rest (e, none, ends_blank_back rest ends)
 
-begins_with_first_word : (text : List ℕ) → BeginsWithWord text (first_word text)
+pub begins_with_first_word : (text : List ℕ) → BeginsWithWord text (first_word text)
 unfolding first_word
 begins_with_first_word text = let cut = before_first_cuts is_blank text in (cut.0, cut.1.0, cut.1.1, ends_blank cut.0 cut.1.2)
 
@@ -433,14 +443,6 @@ module _ (file : List ℕ) (number : ℕ) where
       no_word : (t : Bool) → bytes_eq (first_word line) (codes "include") ≡ t → bytes_eq (first_word line) (codes "include") ≡ false
       no_word true e = let found = word_include line e in absurd (none found.0 found.1)
       no_word false e = e
-
-  hash_start : (rest : List ℕ) → (is_empty rest || starts is_hash rest) ≡ true → (is_empty rest || begins_with 35 rest) ≡ true
-  hash_start [] h = h
-  hash_start (b ∷ bs) h = h
-
-  hash_start_back : (rest : List ℕ) → (is_empty rest || begins_with 35 rest) ≡ true → (is_empty rest || starts is_hash rest) ≡ true
-  hash_start_back [] h = h
-  hash_start_back (b ∷ bs) h = h
 
   text_said : (text : List ℕ) → IsTextLine file number text (statement_form file number text)
   unfolding statement_form

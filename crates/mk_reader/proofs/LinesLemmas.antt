@@ -9,7 +9,7 @@ use Rattle.mk_reader.specs.declared.line.Ending.TheVariants.{EndOfText}
 use Rattle.mk_reader.specs.Lines.{Physical, physical_lines, ended_line, lines_left, goes_on, groups, rest_of_group, after_group, number_after, numbered, opening, joint, joined_text, logical_line, logical_lines}
 use Rattle.mk_reader.specs.declared.line.LogicalLine.{LogicalLine}
 
-physical_lines-more : (text : List ℕ) (pieces : List (List ℕ)) → 0 < length pieces → physical_lines (text ∷ pieces) ≡ ended_line text ∷ physical_lines pieces
+pub physical_lines-more : (text : List ℕ) (pieces : List (List ℕ)) → 0 < length pieces → physical_lines (text ∷ pieces) ≡ ended_line text ∷ physical_lines pieces
 physical_lines-more text [] h = absurd (omega arith)
 physical_lines-more text (piece ∷ pieces) h = refl
 

@@ -106,7 +106,7 @@ form_some Included i file number above (Ok (form.Include names)) below Rest h =
 form_some Included i file number above (Ok (form.Definition definition)) below Rest h = then_some (Ok (item.Definition definition ∷ [])) (Rest false) (h false)
 form_some Included i file number above (Ok (form.Rule rule)) below Rest h = then_some (Ok (with_lines rule below ∷ [])) (Rest true) (h true)
 
-recipe_some : (file : List ℕ) (lines : List LogicalLine) → (below : List RecipeLine) × RecipeBelow file lines below
+pub recipe_some : (file : List ℕ) (lines : List LogicalLine) → (below : List RecipeLine) × RecipeBelow file lines below
 recipe_some file [] = ([], refl)
 recipe_some file (line ∷ more) =
     let rest = recipe_some file more in

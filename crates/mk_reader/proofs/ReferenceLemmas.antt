@@ -27,7 +27,7 @@ unshifted : (o : Option ℕ) → option_map (λ i. i + 0) o ≡ o
 unshifted None = refl
 unshifted (Some i) = let e : i + 0 ≡ i = omega arith in ap Some e
 
-lacks_more : (byte b : ℕ) (bs : List ℕ) → Lacks byte bs → (b == byte) ≡ false → Lacks byte (bs ++ b ∷ [])
+pub lacks_more : (byte b : ℕ) (bs : List ℕ) → Lacks byte bs → (b == byte) ≡ false → Lacks byte (bs ++ b ∷ [])
 lacks_more byte b [] h e = ap (λ t. t || false) e
 lacks_more byte b (c ∷ cs) h e =
     let parts = or_false (c == byte) (list_any (λ x. x == byte) cs) h in

@@ -26,7 +26,7 @@ spelling-ended : (text : List ℕ) → spelling (ended_line text) ≡ text ++ 10
 unfolding ended_line
 spelling-ended text = ending_cases text (ends_with 13 text) refl
 
-joined : (pieces : List (List ℕ)) → flat_map spelling (physical_lines pieces) ≡ join_with_byte 10 pieces
+pub joined : (pieces : List (List ℕ)) → flat_map spelling (physical_lines pieces) ≡ join_with_byte 10 pieces
 joined [] = refl
 joined (text ∷ []) = append-nil (text ++ []) ∙ append-nil text
 joined (text ∷ next ∷ more) =
@@ -38,7 +38,7 @@ grouped-onto : (p : Physical) (gs : List (List Physical)) → flat_map (λ g. g)
 grouped-onto p [] = refl
 grouped-onto p (g ∷ gs) = refl
 
-grouped : (ps : List Physical) → flat_map (λ g. g) (groups ps) ≡ ps
+pub grouped : (ps : List Physical) → flat_map (λ g. g) (groups ps) ≡ ps
 grouped [] = refl
 grouped (p ∷ ps) =
     elim (goes_on p) as (λ b. flat_map (λ g. g) (cond b (onto_first p (groups ps)) ((p ∷ []) ∷ groups ps)) ≡ p ∷ ps) [

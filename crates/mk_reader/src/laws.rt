@@ -1,17 +1,31 @@
 //! Laws of the definitions that `read_makefile` meets. The functions do nothing: what they ensure is the law.
-ghost use Rattle.std.specs.Prelude.{◌≡◌, ◌↔◌, ℕ, List, Option, Some, Result, flat_map};
-ghost use Rattle.mk_reader.specs.Lines.{spelling, groups, lines_left};
+ghost use Rattle.std.specs.Prelude.{◌≡◌, ◌↔◌, ℕ, Bool, true, false, List, ◌∷◌, ◌++◌, Option, Some, Result, Ok, Vec, flat_map};
+ghost use Rattle.std.specs.declared.alloc.Global.{Global};
+ghost use Rattle.mk_reader.specs.Lines.{Physical, spelling, groups, lines_left};
+ghost use Rattle.mk_reader.specs.Spelling.{AreLines, AreGroups};
 ghost use Rattle.mk_reader.specs.Form.{form_of};
-ghost use Rattle.mk_reader.specs.Grammar.{IsForm};
-ghost use Rattle.mk_reader.specs.Makefile.{Outcome, TextItems};
+ghost use Rattle.mk_reader.specs.Text.{is_text};
+ghost use Rattle.mk_reader.specs.Grammar.{Lacks, HasSpecial, is_refused_with, IsForm};
+ghost use Rattle.mk_reader.specs.Printed.{line_of_text, IsPlainName, IsPlainValue, ArePlainTargets, ArePlainPrerequisites, definition_text, definition_on, rule_text, rule_on, PlainItem, ArePlain, printed, items_on};
+ghost use Rattle.mk_reader.specs.Makefile.{Outcome, GivesItems, AnswersAs, TextItems};
+ghost use Rattle.mk_reader.specs.declared.fault.ReadFault.{ReadFault};
 ghost use Rattle.mk_reader.specs.declared.fault.Refusal.{Refusal};
 ghost use Rattle.mk_reader.specs.declared.form.Form.{Form};
+ghost use Rattle.mk_reader.specs.declared.form.Form.TheVariants as form;
+ghost use Rattle.mk_reader.specs.declared.special.SpecialName.{SpecialName};
+ghost use Rattle.mk_reader.specs.declared.item.Item.{Item};
 ghost use Rattle.mk_reader.specs.declared.line.LogicalLine.{LogicalLine};
 
-/// Each byte of a text belongs to one physical line, and each physical line to one logical line.
+use crate::includes::Includes;
+
+/// Each byte of a text belongs to one physical line, and each physical line to one logical line. No other lines, and no
+/// other groups of them, are the text's.
 pub fn text_is_its_lines()
-    ensures { (text : List ℕ)
+    ensures spelled { (text : List ℕ)
         → flat_map spelling (flat_map (λ group. group) (groups (lines_left (Some text)))) ≡ text }
+    ensures lines { (text : List ℕ) (lines : List Physical) → (lines_left (Some text) ≡ lines) ↔ AreLines text lines }
+    ensures groups { (text : List ℕ) (parts : List (List Physical))
+        → (groups (lines_left (Some text)) ≡ parts) ↔ AreGroups text parts }
 {}
 
 /// Where the included files' contents can be told, a text has at most one outcome.
@@ -28,8 +42,44 @@ pub fn an_outcome()
         → (outcome : Outcome) × TextItems (λ name answer. answer ≡ files name) levels file text outcome }
 {}
 
+/// Of a source whose files' contents can be told, `read_makefile` answers the outcome that the laws speak of, unless
+/// memory ran out.
+pub fn an_honest_source_gives_the_outcome<I: Includes>()
+    ensures { I.honest
+        → (files : List ℕ → Option (List ℕ)) (levels : ℕ) (file text : List ℕ)
+        (result : Result (Vec Item Global) ReadFault) (outcome : Outcome)
+        → GivesItems result (TextItems (AnswersAs I.honest files) levels file text)
+        → TextItems (λ name answer. answer ≡ files name) levels file text outcome
+        → GivesItems result (λ given. given ≡ outcome) }
+{}
+
 /// The definition of a line's form that the code follows, and the grammar, say the same of each line. So each line has
 /// one form, or one refusal.
 pub fn each_line_is_as_it_is_spelled()
     ensures { (file : List ℕ) (line : LogicalLine) (told : Result Form Refusal) → (form_of file line ≡ told) ↔ IsForm file line told }
+{}
+
+/// Plain lines that are printed are read back as what they were printed of.
+pub fn printed_lines_are_read_back()
+    ensures definition { (file name value : List ℕ) (number : ℕ) (append : Bool)
+        → IsPlainName name → IsPlainValue value → is_text (definition_text name append value) ≡ true
+        → IsForm file (line_of_text number (definition_text name append value))
+        (Ok (form.Definition (definition_on file number name append value))) }
+    ensures rule { (file targets prerequisites : List ℕ) (number : ℕ) (special : Option SpecialName)
+        → ArePlainTargets targets → ArePlainPrerequisites prerequisites → HasSpecial targets special
+        → is_refused_with prerequisites special ≡ false → is_text (rule_text targets prerequisites) ≡ true
+        → IsForm file (line_of_text number (rule_text targets prerequisites))
+        (Ok (form.Rule (rule_on file number special targets prerequisites))) }
+{}
+
+/// A makefile that is printed from plain items is read back as these.
+pub fn printed_items_are_read_back()
+    ensures { (files : List ℕ → Option (List ℕ)) (levels : ℕ) (file : List ℕ) (items : List PlainItem) → ArePlain items
+        → TextItems (λ name answer. answer ≡ files name) levels file (printed items) (Ok (items_on file 1 items)) }
+{}
+
+/// A `#` and what follows it in its line change nothing. The byte 35 is `#`.
+pub fn comments_change_nothing()
+    ensures { (file text comment : List ℕ) (number : ℕ) (told : Result Form Refusal) → Lacks 35 text
+        → (IsForm file (line_of_text number (text ++ 35 ∷ comment)) told ↔ IsForm file (line_of_text number text) told) }
 {}

@@ -1,5 +1,6 @@
 //! Physical and logical lines, as values.
 use byte_strings::ByteString;
+use std::alloc::Global;
 
 /// What ends a physical line.
 #[derive(Clone, Copy)]
@@ -24,4 +25,12 @@ pub struct LogicalLine {
     pub number: usize,
     pub is_recipe: bool,
     pub text: ByteString,
+}
+
+/// Where a line stands, and what allocates what is made of it.
+#[derive(Clone, Copy)]
+pub struct LinePlace<'a> {
+    pub alloc: Global,
+    pub file: &'a [u8],
+    pub number: usize,
 }

@@ -9,6 +9,7 @@ use crate::fault::{Cause, ReadFault};
 use crate::form::{Form, UnfinishedRule};
 use crate::includes::Includes;
 use crate::item::{Item, RecipeLine, Special};
+use crate::line::LinePlace;
 use crate::lines::next_logical_line;
 use crate::statement::{form_of, refuse};
 use byte_strings::{ByteString, next_word};
@@ -71,7 +72,12 @@ fn read_text<I: Includes>(
             Form::Blank => {}
             Form::Recipe(line) => {
                 let Some(rule) = unfinished else {
-                    return Err(refuse(alloc, file, line_number, Cause::TabFirst));
+                    let place = LinePlace {
+                        alloc,
+                        file,
+                        number: line_number,
+                    };
+                    return Err(refuse(place, Cause::TabFirst));
                 };
                 unfinished = Some(with_line(rule, line)?);
             }
@@ -136,13 +142,18 @@ fn read_included<I: Includes>(
         (IncludedItems (AnswersAs I.honest (I.files includes.old)) levels file.now number name.now) }
     ensures same { I.files includes.new ≡ I.files includes.old }
 {
+    let place = LinePlace {
+        alloc,
+        file,
+        number,
+    };
     if levels == 0 {
-        return Err(refuse(alloc, file, number, Cause::IncludeDepth));
+        return Err(refuse(place, Cause::IncludeDepth));
     }
     match includes.read(alloc, name)? {
         None => {
             let cause = Cause::IncludeMissing(ByteString::from_slice(alloc, name)?);
-            Err(refuse(alloc, file, number, cause))
+            Err(refuse(place, cause))
         }
         Some(text) => read_text(alloc, levels - 1, name, text.as_slice(), includes),
     }

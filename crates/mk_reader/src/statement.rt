@@ -9,7 +9,7 @@ ghost use Rattle.mk_reader.specs.declared.form.Place.TheVariants.{Outside};
 use crate::fault::{Cause, Feature, ReadFault, Refusal};
 use crate::form::{Form, UnfinishedRule};
 use crate::item::{Definition, Recipe, RecipeLine, Rule};
-use crate::line::LogicalLine;
+use crate::line::{LinePlace, LogicalLine};
 use crate::lines::{begins_with, ends_with, without_first, without_last};
 use crate::reference::first_outside;
 use crate::special::{SpecialName, is_refused, special_name, takes_no_prerequisites};
@@ -17,12 +17,16 @@ use crate::text::is_text;
 use byte_strings::{ByteString, first_word, is_blank, trim, trim_start};
 use std::alloc::{AllocError, Global};
 
-/// The fault of a line; its name and the file's are copied.
-pub fn refuse(alloc: Global, file: &[u8], line: usize, cause: Cause) -> ReadFault
-    ensures { Refuses result (refusal file.now line cause) }
+/// The fault of a line; the file's name is copied.
+pub fn refuse(place: LinePlace<'_>, cause: Cause) -> ReadFault
+    ensures { Refuses result (refusal place.entry.file.now place.entry.number cause) }
 {
-    match ByteString::from_slice(alloc, file) {
-        Ok(file) => ReadFault::Refused(Refusal { file, line, cause }),
+    match ByteString::from_slice(place.alloc, place.file) {
+        Ok(file) => ReadFault::Refused(Refusal {
+            file,
+            line: place.number,
+            cause,
+        }),
         Err(_) => ReadFault::OutOfMemory,
     }
 }
@@ -61,58 +65,50 @@ fn before_comment(text: &[u8]) -> &[u8]
 }
 
 #[tactic(auto, unfolding(crate::specs::Form::include_form))]
-fn include_form(alloc: Global, file: &[u8], number: usize, line: &[u8]) -> Result<Form, ReadFault>
-    ensures { Gives result (include_form file.now number line.now) }
+fn include_form(place: LinePlace<'_>, line: &[u8]) -> Result<Form, ReadFault>
+    ensures { Gives result (include_form place.entry.file.now place.entry.number line.now) }
 {
     let names = line.get(7..).unwrap_or(b"".as_slice());
     if has_dollar(line) || trim_start(names).is_empty() {
-        return Err(refuse(alloc, file, number, Cause::Unsupported(Feature::Include)));
+        return Err(refuse(place, Cause::Unsupported(Feature::Include)));
     }
-    let names = ByteString::from_slice(alloc, names)?;
+    let names = ByteString::from_slice(place.alloc, names)?;
     Ok(Form::Include(names))
 }
 
 #[tactic(auto, unfolding(crate::specs::Form::named_form))]
 fn named_form(
-    alloc: Global,
-    file: &[u8],
-    number: usize,
+    place: LinePlace<'_>,
     name: &[u8],
     append: bool,
     value: &[u8],
 ) -> Result<Form, ReadFault>
-    ensures { Gives result (named_form file.now number name.now append value.now) }
+    ensures { Gives result (named_form place.entry.file.now place.entry.number name.now append value.now) }
 {
     if name.is_empty() || has_blank(name) {
-        return Err(refuse(alloc, file, number, Cause::MissingSeparator));
+        return Err(refuse(place, Cause::MissingSeparator));
     }
     Ok(Form::Definition(Definition {
-        file: ByteString::from_slice(alloc, file)?,
-        line: number,
-        name: ByteString::from_slice(alloc, name)?,
+        file: ByteString::from_slice(place.alloc, place.file)?,
+        line: place.number,
+        name: ByteString::from_slice(place.alloc, name)?,
         append,
-        value: ByteString::from_slice(alloc, trim(value))?,
+        value: ByteString::from_slice(place.alloc, trim(value))?,
     }))
 }
 
 #[tactic(auto, unfolding(crate::specs::Form::definition_form))]
-fn definition_form(
-    alloc: Global,
-    file: &[u8],
-    number: usize,
-    left: &[u8],
-    right: &[u8],
-) -> Result<Form, ReadFault>
-    ensures { Gives result (definition_form file.now number left.now right.now) }
+fn definition_form(place: LinePlace<'_>, left: &[u8], right: &[u8]) -> Result<Form, ReadFault>
+    ensures { Gives result (definition_form place.entry.file.now place.entry.number left.now right.now) }
 {
     if ends_with(left, b'?') {
         let cause = Cause::Unsupported(Feature::OptionalDefinition);
-        return Err(refuse(alloc, file, number, cause));
+        return Err(refuse(place, cause));
     }
     if ends_with(left, b'+') {
-        return named_form(alloc, file, number, trim(without_last(left)), true, right);
+        return named_form(place, trim(without_last(left)), true, right);
     }
-    named_form(alloc, file, number, trim(left), false, right)
+    named_form(place, trim(left), false, right)
 }
 
 #[tactic(auto, unfolding(crate::specs::Form::judged_form))]
@@ -123,7 +119,12 @@ fn judged_form(alloc: Global, special: Option<SpecialName>, rule: Rule) -> Resul
         let has_prerequisites = !rule.prerequisites.as_slice().is_empty();
         if is_refused(name) || (takes_no_prerequisites(name) && has_prerequisites) {
             let cause = Cause::Unsupported(Feature::SpecialName(name));
-            return Err(refuse(alloc, rule.file.as_slice(), rule.line, cause));
+            let place = LinePlace {
+                alloc,
+                file: rule.file.as_slice(),
+                number: rule.line,
+            };
+            return Err(refuse(place, cause));
         }
     }
     Ok(Form::Rule(UnfinishedRule { special, rule }))
@@ -159,27 +160,21 @@ fn recipe_of(
 }
 
 #[tactic(auto, unfolding(crate::specs::Form::rule_form))]
-fn rule_form(
-    alloc: Global,
-    file: &[u8],
-    number: usize,
-    targets: &[u8],
-    right: &[u8],
-) -> Result<Form, ReadFault>
-    ensures { Gives result (rule_form file.now number targets.now right.now) }
+fn rule_form(place: LinePlace<'_>, targets: &[u8], right: &[u8]) -> Result<Form, ReadFault>
+    ensures { Gives result (rule_form place.entry.file.now place.entry.number targets.now right.now) }
 {
     if targets.is_empty() {
-        return Err(refuse(alloc, file, number, Cause::MissingSeparator));
+        return Err(refuse(place, Cause::MissingSeparator));
     }
     let semicolon = first_outside(right, b';', b';');
     let rule = Rule {
-        file: ByteString::from_slice(alloc, file)?,
-        line: number,
-        targets: ByteString::from_slice(alloc, targets)?,
-        prerequisites: ByteString::from_slice(alloc, prerequisites_of(right, semicolon))?,
-        recipe: recipe_of(alloc, number, right, semicolon)?,
+        file: ByteString::from_slice(place.alloc, place.file)?,
+        line: place.number,
+        targets: ByteString::from_slice(place.alloc, targets)?,
+        prerequisites: ByteString::from_slice(place.alloc, prerequisites_of(right, semicolon))?,
+        recipe: recipe_of(place.alloc, place.number, right, semicolon)?,
     };
-    judged_form(alloc, special_name(first_word(targets)), rule)
+    judged_form(place.alloc, special_name(first_word(targets)), rule)
 }
 
 #[tactic(auto, unfolding(crate::specs::Form::begins_shell_definition))]
@@ -193,85 +188,77 @@ fn begins_shell_definition(right: &[u8]) -> bool
 }
 
 #[tactic(auto, unfolding(crate::specs::Form::colon_form))]
-fn colon_form(
-    alloc: Global,
-    file: &[u8],
-    number: usize,
-    left: &[u8],
-    right: &[u8],
-) -> Result<Form, ReadFault>
-    ensures { Gives result (colon_form file.now number left.now right.now) }
+fn colon_form(place: LinePlace<'_>, left: &[u8], right: &[u8]) -> Result<Form, ReadFault>
+    ensures { Gives result (colon_form place.entry.file.now place.entry.number left.now right.now) }
 {
     if begins_with(right, b':') {
         let cause = Cause::Unsupported(Feature::DoubleColon);
-        return Err(refuse(alloc, file, number, cause));
+        return Err(refuse(place, cause));
     }
     if begins_with(right, b'=') {
         let cause = Cause::Unsupported(Feature::ColonDefinition);
-        return Err(refuse(alloc, file, number, cause));
+        return Err(refuse(place, cause));
     }
     if begins_shell_definition(right) {
         let cause = Cause::Unsupported(Feature::ShellDefinition);
-        return Err(refuse(alloc, file, number, cause));
+        return Err(refuse(place, cause));
     }
-    rule_form(alloc, file, number, trim(left), right)
+    rule_form(place, trim(left), right)
 }
 
 #[tactic(auto, unfolding(crate::specs::Form::decided_form))]
-fn decided_form(alloc: Global, file: &[u8], number: usize, line: &[u8]) -> Result<Form, ReadFault>
-    ensures { Gives result (decided_form file.now number line.now (first_outside 61 58 Outside line.now)) }
+fn decided_form(place: LinePlace<'_>, line: &[u8]) -> Result<Form, ReadFault>
+    ensures { Gives result (decided_form place.entry.file.now place.entry.number line.now (first_outside 61 58 Outside line.now)) }
 {
     let Some(at) = first_outside(line, b'=', b':') else {
-        return Err(refuse(alloc, file, number, Cause::MissingSeparator));
+        return Err(refuse(place, Cause::MissingSeparator));
     };
     let (left, right) = around(line, at);
     if line[at] == b'=' {
-        definition_form(alloc, file, number, left, right)
+        definition_form(place, left, right)
     } else {
-        colon_form(alloc, file, number, left, right)
+        colon_form(place, left, right)
     }
 }
 
 #[tactic(auto, unfolding(crate::specs::Form::line_form))]
-fn line_form(alloc: Global, file: &[u8], number: usize, line: &[u8]) -> Result<Form, ReadFault>
-    ensures { Gives result (line_form file.now number line.now) }
+fn line_form(place: LinePlace<'_>, line: &[u8]) -> Result<Form, ReadFault>
+    ensures { Gives result (line_form place.entry.file.now place.entry.number line.now) }
 {
     if line.is_empty() {
         return Ok(Form::Blank);
     }
     if first_word(line) == b"include".as_slice() {
-        return include_form(alloc, file, number, line);
+        return include_form(place, line);
     }
-    decided_form(alloc, file, number, line)
+    decided_form(place, line)
 }
 
 #[tactic(auto, unfolding(crate::specs::Form::statement_form))]
-fn statement_form(alloc: Global, file: &[u8], number: usize, text: &[u8]) -> Result<Form, ReadFault>
-    ensures { Gives result (statement_form file.now number text.now) }
+fn statement_form(place: LinePlace<'_>, text: &[u8]) -> Result<Form, ReadFault>
+    ensures { Gives result (statement_form place.entry.file.now place.entry.number text.now) }
 {
     let text = before_comment(text);
     if !is_text(text) {
-        return Err(refuse(alloc, file, number, Cause::NotText));
+        return Err(refuse(place, Cause::NotText));
     }
-    line_form(alloc, file, number, trim(text))
+    line_form(place, trim(text))
 }
 
 #[tactic(auto, unfolding(crate::specs::Form::recipe_form))]
-fn recipe_form(
-    alloc: Global,
-    file: &[u8],
-    number: usize,
-    text: ByteString,
-) -> Result<Form, ReadFault>
-    ensures { Gives result (recipe_form file.now number text) }
+fn recipe_form(place: LinePlace<'_>, text: ByteString) -> Result<Form, ReadFault>
+    ensures { Gives result (recipe_form place.entry.file.now place.entry.number text) }
 {
     if !is_text(text.as_slice()) {
-        return Err(refuse(alloc, file, number, Cause::NotText));
+        return Err(refuse(place, Cause::NotText));
     }
     if trim_start(text.as_slice()).is_empty() {
         return Ok(Form::Blank);
     }
-    Ok(Form::Recipe(RecipeLine { text, line: number }))
+    Ok(Form::Recipe(RecipeLine {
+        text,
+        line: place.number,
+    }))
 }
 
 /// The form of a logical line of the file.
@@ -284,9 +271,14 @@ pub fn form_of(alloc: Global, file: &[u8], line: LogicalLine) -> Result<Form, Re
         is_recipe,
         text,
     } = line;
+    let place = LinePlace {
+        alloc,
+        file,
+        number,
+    };
     if is_recipe {
-        recipe_form(alloc, file, number, text)
+        recipe_form(place, text)
     } else {
-        statement_form(alloc, file, number, text.as_slice())
+        statement_form(place, text.as_slice())
     }
 }

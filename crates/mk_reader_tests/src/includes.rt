@@ -244,3 +244,19 @@ fn the_seventeenth_level_is_too_deep_though_the_file_is_missing(
     );
     Ok(())
 }
+
+#[test]
+fn nothing_is_read_at_the_seventeenth_level(rt: HostRuntime) -> Result<(), Fail> {
+    let (count, read) = reads(rt.alloc(), b"include 1\n", &TOO_DEEP)?;
+    assert_eq!(rt; read.as_str(), "16:2: include too deep\n");
+    assert_eq!(rt; count, 16);
+    Ok(())
+}
+
+#[test]
+fn nothing_is_read_of_a_refused_include_line(rt: HostRuntime) -> Result<(), Fail> {
+    let (count, read) = reads(rt.alloc(), b"include f $(A)\n", &FILES)?;
+    assert_eq!(rt; read.as_str(), "m:1: not supported: include\n");
+    assert_eq!(rt; count, 0);
+    Ok(())
+}

@@ -9,6 +9,10 @@ mod includes;
 #[cfg(test)]
 mod lines;
 #[cfg(test)]
+mod printed;
+pub mod printing;
+pub mod random;
+#[cfg(test)]
 mod recipes;
 #[cfg(test)]
 mod shown;
@@ -16,5 +20,6 @@ mod shown;
 mod special_names;
 #[cfg(test)]
 mod statements;
+pub mod table;
 #[cfg(test)]
 mod text;

@@ -1,34 +1,9 @@
 //! What a text is read to, as lines that a table can hold.
+use crate::table::Files;
 use mk_reader::{Includes, Item, ReadFault, Recipe, Rule, read_makefile};
 use std::alloc::{AllocError, Global};
 use std::process::Abort;
 use std::test::Fail;
-
-/// Files in memory, and how often one was asked for.
-#[derive(Drop)]
-pub struct Files {
-    pub files: &'static [(&'static str, &'static str)],
-    pub reads: usize,
-}
-
-impl Includes for Files {
-    ghost use Rattle.std.specs.Prelude.{None};
-
-    ghost honest = { ⊥ };
-
-    ghost files = { λ _ _. None };
-
-    fn read(&mut self, alloc: Global, name: &[u8]) -> Result<Option<Vec<u8>>, AllocError> {
-        self.reads = self.reads.saturating_add(1);
-        for (file, text) in self.files {
-            if file.as_bytes() == name {
-                let text = Vec::from_slice(alloc, text.as_bytes())?;
-                return Ok(Some(text));
-            }
-        }
-        Ok(None)
-    }
-}
 
 /// No files: here the answers are told beforehand.
 #[derive(Drop)]

@@ -1,0 +1,235 @@
+-- Plain lines are read back as what they were printed of, and a comment changes nothing.
+use Rattle.std.proofs.Common.{◌≡◌, ℕ, Bool, true, false, cond, ◌&&◌, ◌||◌, ◌==◌, List, [], ◌∷◌, ◌++◌, reverse, flat_map, refl, sym, ap, subst, ◌∙◌, inl, inr, append_assoc, append-nil, Option, Some, None, Result, Ok, Err, codes}
+use Rattle.std.specs.List.{list_any, list_all, before_first}
+use Rattle.std.proofs.lemmas.List.{reverse-append}
+use Rattle.std.proofs.lemmas.List.Folds.{list_any-append}
+use Rattle.byte_strings.specs.Blanks.{is_blank, first_word}
+use Rattle.mk_reader.specs.Text.{is_hash, is_empty, begins_with, is_text}
+use Rattle.mk_reader.specs.Grammar.{Piece, plain, piece_text, IsPiece, ArePieces, nothing, Lacks, Whole, Without, begins_blank, Padded, BeginsWithWord, IsInclude, IsNoInclude, SpellsName, SpellsAssignment, SpellsDefinition, SpellsColon, IsShell, IsRuleEnd, SpellsEnd, SpellsRule, HasSpecial, is_refused_with, IsStatement, HasContent, IsTextLine, IsForm}
+use Rattle.mk_reader.specs.Printed.{line_of_text, HasBareEnds, IsPlainName, IsPlainValue, ArePlainTargets, ArePlainPrerequisites, sign, spaced, definition_text, rule_text, definition_on, rule_on}
+use Rattle.mk_reader.specs.declared.special.SpecialName.{SpecialName}
+use Rattle.mk_reader.specs.declared.fault.Refusal.{Refusal}
+use Rattle.mk_reader.specs.declared.form.Form.{Form}
+use Rattle.mk_reader.specs.declared.form.Form.TheVariants as form
+use Rattle.mk_reader.proofs.ReferenceLemmas.{or_false}
+use Rattle.mk_reader.proofs.BlankLemmas.{starts, before_first_is}
+use Rattle.mk_reader.proofs.GrammarLemmas.{hash_start_back, word_is, begins_with_first_word}
+
+abbrev Told : Type 0
+Told = Result Form Refusal
+
+-- Texts that are joined
+
+lacks_both : (byte : ℕ) (xs ys : List ℕ) → Lacks byte xs → Lacks byte ys → Lacks byte (xs ++ ys)
+lacks_both byte xs ys h g = list_any-append (λ b. b == byte) xs ys ∙ ap (λ t. t || list_any (λ b. b == byte) ys) h ∙ g
+
+pub begins_more : (xs ys : List ℕ) → is_empty xs ≡ false → begins_blank xs ≡ false → begins_blank (xs ++ ys) ≡ false
+begins_more [] ys e h = absurd (cc e)
+begins_more (b ∷ bs) ys e h = h
+
+empty_more : (xs ys : List ℕ) → is_empty xs ≡ false → is_empty (xs ++ ys) ≡ false
+empty_more [] ys e = absurd (cc e)
+empty_more (b ∷ bs) ys e = refl
+
+behind_some : (xs : List ℕ) (b : ℕ) → is_empty (xs ++ b ∷ []) ≡ false
+behind_some [] b = refl
+behind_some (c ∷ cs) b = refl
+
+turned_some : (xs : List ℕ) → is_empty xs ≡ false → is_empty (reverse xs) ≡ false
+turned_some [] e = absurd (cc e)
+turned_some (b ∷ bs) e = ap is_empty (reverse-append (b ∷ []) bs) ∙ behind_some (reverse bs) b
+
+ends_more : (xs ys : List ℕ) → is_empty ys ≡ false → begins_blank (reverse ys) ≡ false → begins_blank (reverse (xs ++ ys)) ≡ false
+ends_more xs ys e h = ap begins_blank (reverse-append xs ys) ∙ begins_more (reverse ys) (reverse xs) (turned_some ys e) h
+
+-- the byte that stands last
+last_is : (byte : ℕ) (xs : List ℕ) (b : ℕ) → begins_with byte (reverse (xs ++ b ∷ [])) ≡ (b == byte)
+last_is byte xs b = ap (begins_with byte) (reverse-append xs (b ∷ []))
+
+pub no_blank_first : (xs : List ℕ) → list_any is_blank xs ≡ false → begins_blank xs ≡ false
+no_blank_first [] h = refl
+no_blank_first (b ∷ bs) h = (or_false (is_blank b) (list_any is_blank bs) h).0
+
+no_blank_turned : (xs : List ℕ) → list_any is_blank xs ≡ false → list_any is_blank (reverse xs) ≡ false
+no_blank_turned [] h = refl
+no_blank_turned (b ∷ bs) h =
+    let parts = or_false (is_blank b) (list_any is_blank bs) h in
+    ap (list_any is_blank) (reverse-append (b ∷ []) bs) ∙ list_any-append is_blank (reverse bs) (b ∷ [])
+    ∙ ap (λ t. t || (is_blank b || false)) (no_blank_turned bs parts.1) ∙ ap (λ t. t || false) parts.0
+
+bare_word : (xs : List ℕ) → list_any is_blank xs ≡ false → HasBareEnds xs
+bare_word xs h = (no_blank_first xs h, no_blank_first (reverse xs) (no_blank_turned xs h))
+
+padded_itself : (text : List ℕ) → HasBareEnds text → Padded text text
+padded_itself text h = ([], [], sym (append-nil text), refl, refl, h.0, h.1)
+
+-- a text with a space behind it
+padded_space : (core : List ℕ) → HasBareEnds core → Padded (core ++ 32 ∷ []) core
+padded_space core h = ([], 32 ∷ [], refl, refl, refl, h.0, h.1)
+
+padded_spaced : (core : List ℕ) → HasBareEnds core → Padded (spaced core) core
+padded_spaced [] h = ([], [], refl, refl, refl, refl, refl)
+padded_spaced (b ∷ bs) h = (32 ∷ [], [], ap (λ xs. 32 ∷ xs) (sym (append-nil (b ∷ bs))), refl, refl, h.0, h.1)
+
+-- Pieces
+
+pieces_more : (ps : List Piece) (p : Piece) → flat_map piece_text (ps ++ p ∷ []) ≡ flat_map piece_text ps ++ piece_text p
+pieces_more [] p = append-nil (piece_text p)
+pieces_more (q ∷ qs) p = ap (λ xs. piece_text q ++ xs) (pieces_more qs p) ∙ sym (append_assoc (piece_text q) (flat_map piece_text qs) (piece_text p))
+
+are_more : (one other : ℕ) (ps : List Piece) (p : Piece) → ArePieces one other ps → IsPiece one other p → ArePieces one other (ps ++ p ∷ [])
+are_more one other [] p h is = (is, tt)
+are_more one other (q ∷ qs) p h is = (h.0, are_more one other qs p h.1 is)
+
+whole_more : (one other : ℕ) (text : List ℕ) (b : ℕ) → Whole one other text → (b == 36) ≡ false → (b == one || b == other) ≡ false → Whole one other (text ++ b ∷ [])
+whole_more one other text b w d o =
+    (w.0 ++ plain b ∷ [], ap (λ xs. xs ++ b ∷ []) w.1 ∙ sym (pieces_more w.0 (plain b)), are_more one other w.0 (plain b) w.2 (d, o))
+
+without_spaced : (text : List ℕ) → Without 59 59 text → Without 59 59 (spaced text)
+without_spaced [] w = ([], nothing, refl, tt, tt)
+without_spaced (b ∷ bs) w = (plain 32 ∷ w.0, w.1, ap (λ xs. 32 ∷ xs) w.2, ((refl, refl), w.3), w.4)
+
+-- A whole line
+
+-- a text without a comment or blanks at its ends is its own line
+itself_read : (file : List ℕ) (number : ℕ) (text : List ℕ) (told : Told) → Lacks 35 text → is_text text ≡ true → HasBareEnds text → is_empty text ≡ false → IsNoInclude text → IsStatement file number text told →
+    IsTextLine file number text told
+itself_read file number text told hash good bare some none is =
+    (text, ([], sym (append-nil text), hash, refl), inr (good, (text, padded_itself text bare, inr (inr (some, none, is)))))
+
+-- a line whose words before a space don't begin with `include` is no include line
+no_include : (front rest : List ℕ) → (BeginsWithWord front (codes "include") → ⊥) → IsNoInclude (front ++ 32 ∷ rest)
+no_include front rest none names h =
+    let line = front ++ 32 ∷ rest in
+    let own = begins_with_first_word front in
+    let word = first_word front in
+    let ends : (xs : List ℕ) → (is_empty xs || begins_blank xs) ≡ true → (is_empty (xs ++ 32 ∷ rest) || begins_blank (xs ++ 32 ∷ rest)) ≡ true = blank_behind in
+    let whole : BeginsWithWord line word = (own.0 ++ 32 ∷ rest, ap (λ xs. xs ++ 32 ∷ rest) own.1 ∙ append_assoc word own.0 (32 ∷ rest), own.2, ends own.0 own.3) in
+    let same : word ≡ codes "include" = sym (word_is line word whole) ∙ word_is line (codes "include") (names, h.0, refl, h.1) in
+    none (subst (BeginsWithWord front) same own)
+  where
+    blank_behind : (xs : List ℕ) → (is_empty xs || begins_blank xs) ≡ true → (is_empty (xs ++ 32 ∷ rest) || begins_blank (xs ++ 32 ∷ rest)) ≡ true
+    blank_behind [] e = refl
+    blank_behind (b ∷ bs) e = e
+
+-- Definitions
+
+plain_no_include : (name : List ℕ) → IsPlainName name → BeginsWithWord name (codes "include") → ⊥
+plain_no_include name h begins =
+    let own : BeginsWithWord name name = ([], sym (append-nil name), h.1, refl) in
+    h.4 (sym (word_is name name own) ∙ word_is name (codes "include") begins)
+
+-- what stands before the `=`
+abbrev before_sign : (name : List ℕ) (append : Bool) → List ℕ
+before_sign name false = name ++ 32 ∷ []
+before_sign name true = (name ++ 32 ∷ []) ++ 43 ∷ []
+
+sign_cuts : (name value : List ℕ) (append : Bool) → definition_text name append value ≡ before_sign name append ++ 61 ∷ spaced value
+sign_cuts name value false = sym (append_assoc name (32 ∷ []) (61 ∷ spaced value))
+sign_cuts name value true =
+    sym (append_assoc (name ++ 32 ∷ []) (43 ∷ []) (61 ∷ spaced value) ∙ append_assoc name (32 ∷ []) (43 ∷ 61 ∷ spaced value))
+
+whole_before : (name : List ℕ) (append : Bool) → Whole 61 58 name → Whole 61 58 (before_sign name append)
+whole_before name false w = whole_more 61 58 name 32 w refl refl
+whole_before name true w = whole_more 61 58 (name ++ 32 ∷ []) 43 (whole_more 61 58 name 32 w refl refl) refl refl
+
+no_question : (name : List ℕ) (append : Bool) → begins_with 63 (reverse (before_sign name append)) ≡ false
+no_question name false = last_is 63 name 32
+no_question name true = last_is 63 (name ++ 32 ∷ []) 43
+
+name_spelled : (name : List ℕ) (append : Bool) → HasBareEnds name → SpellsName (before_sign name append) name append
+name_spelled name false h = (last_is 43 name 32, padded_space name h)
+name_spelled name true h = (name ++ 32 ∷ [], refl, padded_space name h)
+
+signed_some : (append : Bool) (value : List ℕ) → is_empty (sign append ++ spaced value) ≡ false
+signed_some false value = refl
+signed_some true value = refl
+
+signed_end : (append : Bool) (value : List ℕ) → begins_blank (reverse value) ≡ false → begins_blank (reverse (sign append ++ spaced value)) ≡ false
+signed_end false [] h = refl
+signed_end true [] h = refl
+signed_end false (b ∷ bs) h = ends_more (32 ∷ 61 ∷ 32 ∷ []) (b ∷ bs) refl h
+signed_end true (b ∷ bs) h = ends_more (32 ∷ 43 ∷ 61 ∷ 32 ∷ []) (b ∷ bs) refl h
+
+signed_plain : (append : Bool) (value : List ℕ) → Lacks 35 value → Lacks 35 (sign append ++ spaced value)
+signed_plain false [] h = refl
+signed_plain true [] h = refl
+signed_plain false (b ∷ bs) h = h
+signed_plain true (b ∷ bs) h = h
+
+-- the sign begins with a space
+signed : (append : Bool) (value : List ℕ) → (rest : List ℕ) × (sign append ++ spaced value ≡ 32 ∷ rest)
+signed false value = (61 ∷ spaced value, refl)
+signed true value = (43 ∷ 61 ∷ spaced value, refl)
+
+pub definition_read : (file name value : List ℕ) (number : ℕ) (append : Bool) → IsPlainName name → IsPlainValue value → is_text (definition_text name append value) ≡ true →
+    IsForm file (line_of_text number (definition_text name append value)) (Ok (form.Definition (definition_on file number name append value)))
+definition_read file name value number append n v good =
+    let text = definition_text name append value in
+    let bare = bare_word name n.1 in
+    let behind = signed append value in
+    let ends : HasBareEnds text = (
+      begins_more name (sign append ++ spaced value) n.0 bare.0,
+      ends_more name (sign append ++ spaced value) (signed_some append value) (signed_end append value v.1.1),
+    ) in
+    let assigns : SpellsAssignment text (before_sign name append) (spaced value) = (sign_cuts name value append, whole_before name append n.3, no_question name append) in
+    let spells : SpellsDefinition text name append value =
+    (before_sign name append, spaced value, assigns, name_spelled name append bare, n.0, n.1, padded_spaced value v.1) in
+    let none : IsNoInclude text = subst (λ xs. IsNoInclude (name ++ xs)) (sym behind.1) (no_include name behind.0 (plain_no_include name n)) in
+    itself_read file number text _ (lacks_both 35 name (sign append ++ spaced value) n.2 (signed_plain append value v.0)) good ends
+    (empty_more name (sign append ++ spaced value) n.0) none (refl, refl, spells)
+
+-- Rules
+
+no_rule_sign : (prerequisites : List ℕ) → IsRuleEnd (spaced prerequisites)
+no_rule_sign [] = (refl, refl, (λ s. absurd (cc s.2)))
+no_rule_sign (b ∷ bs) = (refl, refl, (λ s. absurd (cc (ap (begins_with 32) s.2))))
+
+colon_end : (prerequisites : List ℕ) → begins_blank (reverse prerequisites) ≡ false → begins_blank (reverse (32 ∷ 58 ∷ spaced prerequisites)) ≡ false
+colon_end [] h = refl
+colon_end (b ∷ bs) h = ends_more (32 ∷ 58 ∷ 32 ∷ []) (b ∷ bs) refl h
+
+colon_plain : (prerequisites : List ℕ) → Lacks 35 prerequisites → Lacks 35 (32 ∷ 58 ∷ spaced prerequisites)
+colon_plain [] h = refl
+colon_plain (b ∷ bs) h = h
+
+pub rule_read : (file targets prerequisites : List ℕ) (number : ℕ) (special : Option SpecialName) → ArePlainTargets targets → ArePlainPrerequisites prerequisites → HasSpecial targets special → is_refused_with prerequisites special ≡ false → is_text (rule_text targets prerequisites) ≡ true →
+    IsForm file (line_of_text number (rule_text targets prerequisites)) (Ok (form.Rule (rule_on file number special targets prerequisites)))
+rule_read file targets prerequisites number special t p has taken good =
+    let text = rule_text targets prerequisites in
+    let ends : HasBareEnds text = (
+      begins_more targets (32 ∷ 58 ∷ spaced prerequisites) t.0 t.1.0,
+      ends_more targets (32 ∷ 58 ∷ spaced prerequisites) refl (colon_end prerequisites p.1.1),
+    ) in
+    let colon : SpellsColon text (targets ++ 32 ∷ []) (spaced prerequisites) =
+    (sym (append_assoc targets (32 ∷ []) (58 ∷ spaced prerequisites)), whole_more 61 58 targets 32 t.3 refl refl) in
+    let end : SpellsEnd (spaced prerequisites) prerequisites None = (without_spaced prerequisites p.2, padded_spaced prerequisites p.1) in
+    let spells : SpellsRule text targets prerequisites None =
+    (targets ++ 32 ∷ [], spaced prerequisites, colon, no_rule_sign prerequisites, padded_space targets t.1, t.0, end) in
+    itself_read file number text _ (lacks_both 35 targets (32 ∷ 58 ∷ spaced prerequisites) t.2 (colon_plain prerequisites p.0)) good ends
+    (empty_more targets (32 ∷ 58 ∷ spaced prerequisites) t.0) (no_include targets (58 ∷ spaced prerequisites) t.4)
+    (refl, refl, None, refl, spells, has, taken)
+
+-- Comments
+
+-- what stands before a comment is found, whatever the comment is
+content_is : (text content comment : List ℕ) → Lacks 35 text → (is_empty comment || begins_with 35 comment) ≡ true → HasContent (text ++ comment) content → text ≡ content
+content_is text content comment none starts has =
+    sym (before_first_is is_hash (text ++ comment) text comment (refl, none, hash_start_back comment starts))
+    ∙ before_first_is is_hash (text ++ comment) content has.0 (has.1, has.2, hash_start_back has.0 has.3)
+
+other_comment : (file : List ℕ) (number : ℕ) (text one other : List ℕ) (told : Told) → Lacks 35 text → (is_empty one || begins_with 35 one) ≡ true → (is_empty other || begins_with 35 other) ≡ true →
+    IsTextLine file number (text ++ one) told → IsTextLine file number (text ++ other) told
+other_comment file number text one other told none starts also h =
+    let same : text ≡ h.0 = content_is text h.0 one none starts h.1 in
+    (h.0, (other, ap (λ xs. xs ++ other) same, ap (list_any (λ b. b == 35)) (sym same) ∙ none, also), h.2)
+
+pub comment_dropped : (file : List ℕ) (number : ℕ) (text comment : List ℕ) (told : Told) → Lacks 35 text →
+    IsForm file (line_of_text number (text ++ 35 ∷ comment)) told → IsForm file (line_of_text number text) told
+comment_dropped file number text comment told none h =
+    subst (λ xs. IsTextLine file number xs told) (append-nil text) (other_comment file number text (35 ∷ comment) [] told none refl refl h)
+
+pub comment_added : (file : List ℕ) (number : ℕ) (text comment : List ℕ) (told : Told) → Lacks 35 text →
+    IsForm file (line_of_text number text) told → IsForm file (line_of_text number (text ++ 35 ∷ comment)) told
+comment_added file number text comment told none h =
+    other_comment file number text [] (35 ∷ comment) told none refl refl (subst (λ xs. IsTextLine file number xs told) (sym (append-nil text)) h)

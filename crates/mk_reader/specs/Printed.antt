@@ -1,0 +1,119 @@
+-- How plain items are printed: definitions and rules whose texts the printed lines hold as they are.
+use Rattle.std.specs.Prelude.{◌≡◌, ℕ, Bool, true, false, List, [], ◌∷◌, ◌++◌, map, reverse, flat_map, Option, codes}
+use Rattle.std.specs.List.{list_any, list_all}
+use Rattle.byte_strings.specs.Blanks.{is_blank}
+use Rattle.mk_reader.specs.Text.{is_empty, begins_with, is_text}
+use Rattle.mk_reader.specs.Lines.{number_after}
+use Rattle.mk_reader.specs.Grammar.{Lacks, Whole, Without, begins_blank, BeginsWithWord, HasSpecial, is_refused_with}
+use Rattle.mk_reader.specs.Makefile.{item_of}
+use Rattle.mk_reader.specs.declared.special.SpecialName.{SpecialName}
+use Rattle.mk_reader.specs.declared.item.Definition.{Definition}
+use Rattle.mk_reader.specs.declared.item.RecipeLine.{RecipeLine}
+use Rattle.mk_reader.specs.declared.item.Item.{Item}
+use Rattle.mk_reader.specs.declared.item.Item.TheVariants as item
+use Rattle.mk_reader.specs.declared.form.UnfinishedRule.{UnfinishedRule}
+use Rattle.mk_reader.specs.declared.line.LogicalLine.{LogicalLine}
+
+-- a logical line that is no recipe line
+abbrev pub line_of_text : (number : ℕ) (text : List ℕ) → LogicalLine
+line_of_text number text = record { number = number; is_recipe = false; text = text }
+
+-- no blank stands at an end
+abbrev pub HasBareEnds : List ℕ → Type 0
+HasBareEnds text = (begins_blank text ≡ false) × (begins_blank (reverse text) ≡ false)
+
+-- a word that can be defined: no comment, no `=` or `:` outside references, and not `include`
+abbrev pub IsPlainName : List ℕ → Type 0
+IsPlainName name =
+    (is_empty name ≡ false) × (list_any is_blank name ≡ false) × Lacks 35 name × Whole 61 58 name × (name ≡ codes "include" → ⊥)
+
+-- a value may hold any bytes but a `#`
+abbrev pub IsPlainValue : List ℕ → Type 0
+IsPlainValue value = Lacks 35 value × HasBareEnds value
+
+-- words that can be targets
+abbrev pub ArePlainTargets : List ℕ → Type 0
+ArePlainTargets targets =
+    (is_empty targets ≡ false) × HasBareEnds targets × Lacks 35 targets × Whole 61 58 targets × (BeginsWithWord targets (codes "include") → ⊥)
+
+-- words that can be prerequisites: no `;` outside references
+abbrev pub ArePlainPrerequisites : List ℕ → Type 0
+ArePlainPrerequisites prerequisites = Lacks 35 prerequisites × HasBareEnds prerequisites × Without 59 59 prerequisites
+
+abbrev pub sign : (append : Bool) → List ℕ
+sign false = codes " ="
+sign true = codes " +="
+
+-- a text behind a space, or nothing
+abbrev pub spaced : List ℕ → List ℕ
+spaced [] = []
+spaced (b ∷ bs) = 32 ∷ b ∷ bs
+
+-- `NAME = VALUE` or `NAME += VALUE`
+abbrev pub definition_text : (name : List ℕ) (append : Bool) (value : List ℕ) → List ℕ
+definition_text name append value = name ++ (sign append ++ spaced value)
+
+-- `TARGETS : PREREQUISITES`
+abbrev pub rule_text : (targets prerequisites : List ℕ) → List ℕ
+rule_text targets prerequisites = targets ++ (codes " :" ++ spaced prerequisites)
+
+abbrev pub definition_on : (file : List ℕ) (number : ℕ) (name : List ℕ) (append : Bool) (value : List ℕ) → Definition
+definition_on file number name append value = record { file = file; line = number; name = name; append = append; value = value }
+
+abbrev pub rule_on : (file : List ℕ) (number : ℕ) (special : Option SpecialName) (targets prerequisites : List ℕ) → UnfinishedRule
+rule_on file number special targets prerequisites =
+    record { special = special; rule = record { file = file; line = number; targets = targets; prerequisites = prerequisites; recipe = [] } }
+
+-- Whole makefiles
+
+-- an item without a place, and the lines of its recipe
+pub data PlainItem : Type 0 where
+  definition : (name : List ℕ) (append : Bool) (value : List ℕ) → PlainItem
+  rule : (special : Option SpecialName) (targets prerequisites : List ℕ) (recipe : List (List ℕ)) → PlainItem
+
+abbrev pub lines_of : PlainItem → List (List ℕ)
+lines_of (definition name append value) = definition_text name append value ∷ []
+lines_of (rule special targets prerequisites recipe) = rule_text targets prerequisites ∷ map (λ text. 9 ∷ text) recipe
+
+-- each line with a newline behind it
+abbrev pub printed : List PlainItem → List ℕ
+printed items = flat_map (λ line. line ++ 10 ∷ []) (flat_map lines_of items)
+
+-- no newline, and neither a carriage return nor a backslash at the end
+abbrev pub IsOwnLine : List ℕ → Type 0
+IsOwnLine text = Lacks 10 text × (begins_with 13 (reverse text) ≡ false) × (begins_with 92 (reverse text) ≡ false)
+
+abbrev pub IsPlainRecipe : List (List ℕ) → Type 0
+IsPlainRecipe [] = Unit {0}
+IsPlainRecipe (text ∷ more) = IsOwnLine (9 ∷ text) × (is_text text ≡ true) × (list_all is_blank text ≡ false) × IsPlainRecipe more
+
+abbrev pub IsPlainItem : PlainItem → Type 0
+IsPlainItem (definition name append value) =
+    IsPlainName name × IsPlainValue value × (is_text (definition_text name append value) ≡ true) × IsOwnLine (definition_text name append value)
+IsPlainItem (rule special targets prerequisites recipe) =
+    ArePlainTargets targets × ArePlainPrerequisites prerequisites × HasSpecial targets special × (is_refused_with prerequisites special ≡ false)
+    × (is_text (rule_text targets prerequisites) ≡ true) × IsOwnLine (rule_text targets prerequisites) × IsPlainRecipe recipe
+
+abbrev pub ArePlain : List PlainItem → Type 0
+ArePlain [] = Unit {0}
+ArePlain (one ∷ more) = IsPlainItem one × ArePlain more
+
+-- the number of the next line
+abbrev pub next : ℕ → ℕ
+next number = number_after number 1
+
+abbrev pub recipe_on : (number : ℕ) → List (List ℕ) → List RecipeLine
+recipe_on number [] = []
+recipe_on number (text ∷ more) = record { text = text; line = number } ∷ recipe_on (next number) more
+
+abbrev pub after_recipe : (number : ℕ) → List (List ℕ) → ℕ
+after_recipe number [] = number
+after_recipe number (text ∷ more) = after_recipe (next number) more
+
+-- the items with their file and the numbers of their lines, from this number on
+abbrev pub items_on : (file : List ℕ) (number : ℕ) → List PlainItem → List Item
+items_on file number [] = []
+items_on file number (definition name append value ∷ more) = item.Definition (definition_on file number name append value) ∷ items_on file (next number) more
+items_on file number (rule special targets prerequisites recipe ∷ more) =
+    item_of special (record { file = file; line = number; targets = targets; prerequisites = prerequisites; recipe = recipe_on (next number) recipe })
+    ∷ items_on file (after_recipe (next number) recipe) more
