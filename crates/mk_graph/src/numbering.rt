@@ -1,6 +1,6 @@
 //! The numbering of all names that goals lead to.
 
-ghost use Rattle.std.specs.Prelude.{◌≡◌, ℕ, ◌≤◌, ◌⊎◌, List, length, map, nat_lt, true, IfOk, IfErr, IsTrue};
+ghost use Rattle.std.specs.Prelude.{◌≡◌, ℕ, ◌≤◌, ◌⊎◌, Bool, true, false, List, length, map, nat_lt, is_ok, IfOk, IfErr, IsTrue};
 ghost use Rattle.std.specs.List.{list_all};
 ghost use Rattle.mk_graph.specs.Edges.{is_closed};
 ghost use Rattle.mk_graph.specs.Numbering.{IsNumbering, AreDescribed, DistinctNames, name_at, has_name};
@@ -39,8 +39,8 @@ pub trait Dependencies {
     /// That the prerequisites of a name can't be given, for this cause.
     ghost refuses: { Self → List ℕ → Self.Fault → Type 0 };
 
-    /// What a call leaves true of the source, from before it to behind it.
-    ghost follows: { Self → Self → Type 0 };
+    /// What a call leaves true of the source, from before it to behind it: where it gives an answer, and where it doesn't.
+    ghost follows: { Self → (answers : Bool) → Self → Type 0 };
 
     /// The prerequisites of a name, and its node. An answer narrows what is still possible and never widens it.
     fn prerequisites(
@@ -55,16 +55,18 @@ pub trait Dependencies {
         ensures node { IfOk result (λ found. describes self.new name.now found.node) }
         ensures kept { (other : List ℕ) (node : Self.Node) → describes self.old other node → describes self.new other node }
         ensures asks { (other : List ℕ) → asked self.new other → (asked self.old other) ⊎ (other ≡ name.now) }
-        ensures follows { follows self.old self.new }
+        ensures follows { follows self.old (is_ok result) self.new }
         ensures refused { IfErr result (refuses self.new name.now) };
 
     // Something is always possible.
     ghost possible: { (source : Self) → (of : List ℕ → List (List ℕ)) × allows source of };
 
-    // No call, and one after the other.
-    ghost stays: { (source : Self) → follows source source };
+    // No call, and one after the other: only the last may give no answer.
+    ghost stays: { (source : Self) → follows source true source };
 
-    ghost through: { (a b c : Self) → follows a b → follows b c → follows a c };
+    ghost through: { (a b c : Self) (answers : Bool) → follows a true b → follows b answers c → follows a answers c };
+
+    ghost ended: { (a b : Self) → follows a true b → follows a false b };
 }
 
 /// Why names aren't numbered.
@@ -140,7 +142,7 @@ pub fn number<R: Dependencies>(
 
     ensures fault { IfErr result (IsNumberingFault (R.allows source.new) (R.refuses source.new) goals.now limit) }
     ensures grows { (of : List ℕ → List (List ℕ)) → R.allows source.new of → R.allows source.old of }
-    ensures follows { R.follows source.old source.new }
+    ensures follows { R.follows source.old (is_ok result) source.new }
 {
     let mut names = Names::new(alloc);
     let Some(goal_numbers) = names.add_all(alloc, goals, limit)? else {

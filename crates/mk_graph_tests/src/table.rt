@@ -56,13 +56,15 @@ impl Dependencies for Table {
 
     ghost refuses = { λ table name fault. IsTableFault table name fault };
 
-    ghost follows = { λ _ _. Unit {0} };
+    ghost follows = { λ _ _ _. Unit {0} };
 
     ghost possible = { λ table. (prerequisites_in table, λ name. refl) };
 
     ghost stays = { λ _. tt };
 
-    ghost through = { λ _ _ _ _ _. tt };
+    ghost through = { λ _ _ _ _ _ _. tt };
+
+    ghost ended = { λ _ _ _. tt };
 
     fn prerequisites(&mut self, alloc: Global, name: &[u8]) -> Result<Found<usize>, TableFault> {
         self.asked.push(name)?;

@@ -1,5 +1,5 @@
 -- A graph of its parts.
-use Rattle.std.proofs.Common.{◌≡◌, ℕ, List, length, map, refl, sym, ap, subst, ◌∙◌}
+use Rattle.std.proofs.Common.{◌≡◌, ℕ, List, length, map, sym, ap, subst, ◌∙◌}
 use Rattle.mk_graph.specs.Counted.{AreCounted}
 use Rattle.mk_graph.specs.Cycle.{HasCycle}
 use Rattle.mk_graph.specs.Edges.{row}
@@ -7,7 +7,6 @@ use Rattle.mk_graph.specs.Numbering.{IsNumbering, name_at}
 use Rattle.mk_graph.specs.Plan.{IsPlan}
 use Rattle.mk_graph.specs.declared.numbering.Numbered.{Numbered}
 use Rattle.mk_rules.specs.Assembly.{IsPutTogether}
-use Rattle.mk_rules.specs.Faults.{HasUnmade, HasNamedCycle}
 use Rattle.mk_rules.specs.Found.{AreFound, IsUnmadeFault, IsGraphlessFault}
 use Rattle.mk_rules.specs.Goals.{goals_of, settings_of}
 use Rattle.mk_rules.specs.Graph.{IsGraph, IsNode, AreMade, AreHard, AreSoft}

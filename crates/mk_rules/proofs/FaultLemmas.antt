@@ -1,6 +1,5 @@
 -- Each part's fault as one of the whole: of a makefile, a tree and a state.
-use Rattle.std.proofs.Common.{◌≡◌, ℕ, ℤ, Bool, true, false, List, [], inl, inr, Option, refl, sym, ap, subst}
-use Rattle.std.specs.Prelude.{◌⊎◌}
+use Rattle.std.proofs.Common.{◌≡◌, ℕ, ℤ, Bool, List, inl, inr, Option, refl, sym, subst}
 use Rattle.mk_graph.specs.Numbering.{IsNumbering}
 use Rattle.mk_reader.specs.declared.item.Item.{Item}
 use Rattle.st_records.specs.declared.record.Entry.{Entry}

@@ -1,12 +1,12 @@
 -- What is looked up of a name, put together.
-use Rattle.std.proofs.Common.{◌≡◌, ℕ, List, [], ◌++◌, length, filter, map, drop, inl, inr, Option, Some, None, refl, sym, ap, ◌∙◌}
+use Rattle.std.proofs.Common.{◌≡◌, ℕ, List, ◌++◌, length, filter, map, drop, inl, inr, Option, sym, ap, ◌∙◌}
 use Rattle.std.specs.Prelude.{option_map, option_to_list}
 use Rattle.mk_graph.specs.Numbering.{all_added}
 use Rattle.st_records.specs.declared.record.Entry.{Entry}
 use Rattle.mk_rules.specs.Explicit.{explicit_of}
 use Rattle.mk_rules.specs.Hidden.{HasHidden, IsNamesFault}
-use Rattle.mk_rules.specs.Known.{IsKnown, IsAsked, IsLookUpFault, nodes_among}
-use Rattle.mk_rules.specs.Prerequisites.{Inputs, distinct, source_names, implicit_source, hard_of, hidden_in, is_node, prerequisites_of, judged_of, own_recipes, recipe_of, first_or}
+use Rattle.mk_rules.specs.Known.{IsKnown, IsLookUpFault}
+use Rattle.mk_rules.specs.Prerequisites.{Inputs, distinct, source_names, implicit_source, hard_of, hidden_in, is_node, prerequisites_of, judged_of, own_recipes, first_or}
 use Rattle.mk_rules.specs.Source.{IsSourceFault}
 use Rattle.mk_rules.specs.Stamps.{IsLookFault}
 use Rattle.mk_rules.specs.declared.fault.RuleFault.{RuleFault}

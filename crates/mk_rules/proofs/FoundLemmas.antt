@@ -1,5 +1,5 @@
 -- What is found of all names, in terms of the inputs.
-use Rattle.std.proofs.Common.{◌≡◌, ℕ, ℤ, ◌<◌, Bool, true, false, not, List, [], length, inl, inr, Option, Some, None, refl, sym, ap, subst, ◌∙◌}
+use Rattle.std.proofs.Common.{◌≡◌, ℕ, ℤ, ◌<◌, Bool, true, false, not, List, length, inl, inr, Option, Some, None, refl, sym, ap, subst, ◌∙◌}
 use Rattle.std.specs.Prelude.{Result, Ok, Err, IfErr, ◌⊎◌, IfSome, unwrap_or, take, slice_get}
 use Rattle.mk_graph.specs.Numbering.{IsNumbering, AreDescribed, has_name}
 use Rattle.mk_graph.specs.NumberingFault.{IsNumberingFault}
@@ -10,9 +10,9 @@ use Rattle.st_records.specs.declared.record.Entry.{Entry}
 use Rattle.mk_rules.specs.Explicit.{explicit_targets}
 use Rattle.mk_rules.specs.Faults.{AreTold, IsReachedFrom}
 use Rattle.mk_rules.specs.Forms.{forms_of}
-use Rattle.mk_rules.specs.Found.{times_with, IsAskedFor, IsFindingFault}
-use Rattle.mk_rules.specs.Known.{IsKnown, IsAsked, IsLookUpFault}
-use Rattle.mk_rules.specs.Prerequisites.{Inputs, inputs_of, is_target, is_there, hidden_in, hidden_of, prerequisites_of}
+use Rattle.mk_rules.specs.Found.{times_with, IsFindingFault}
+use Rattle.mk_rules.specs.Known.{IsAsked, IsLookUpFault}
+use Rattle.mk_rules.specs.Prerequisites.{inputs_of, is_target, hidden_in, hidden_of, prerequisites_of}
 use Rattle.mk_rules.specs.Rules.{has, places, targets_by, suffixes_of}
 use Rattle.mk_rules.specs.Source.{IsReached, source_of}
 use Rattle.mk_rules.specs.Stamps.{AgreesWith, Looks, known_stamp}

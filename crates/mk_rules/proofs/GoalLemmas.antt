@@ -1,5 +1,5 @@
 -- The first targets of lines, one line at a time.
-use Rattle.std.proofs.Common.{◌≡◌, ℕ, Bool, true, false, List, [], ◌∷◌, ◌++◌, take, filter, Option, Some, None, refl, sym, ap, ◌∙◌}
+use Rattle.std.proofs.Common.{◌≡◌, ℕ, Bool, true, false, List, [], ◌∷◌, ◌++◌, take, filter, Some, None, refl, sym, ap, ◌∙◌}
 use Rattle.std.specs.Prelude.{slice_get}
 use Rattle.mk_rules.specs.Goals.{first_goal, first_goals}
 use Rattle.mk_rules.specs.declared.rule_line.RuleLine.{RuleLine}

@@ -1,5 +1,7 @@
+pub mod AskedLemmas
 pub mod AssemblyLemmas
 pub mod BuildLemmas
+pub mod DistinctLemmas
 pub mod ExplicitLemmas
 pub mod FaultLemmas
 pub mod FinderLemmas

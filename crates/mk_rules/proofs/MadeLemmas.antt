@@ -1,9 +1,8 @@
 -- Whether each name is made by something.
-use Rattle.std.proofs.Common.{arith, ◌≡◌, ◌<◌, ◌≤◌, ◌+◌, suc, zero, ⊎_elim, ℕ, ℤ, Bool, true, false, not, List, [], ◌∷◌, length, Option, Some, None, refl, sym, ap, subst, ◌∙◌}
-use Rattle.std.specs.Prelude.{◌||◌, bytes_eq, is_some, option_map, slice_get}
+use Rattle.std.proofs.Common.{arith, ◌≡◌, ◌<◌, ◌≤◌, ◌+◌, suc, zero, ⊎_elim, ℕ, Bool, true, false, not, List, [], ◌∷◌, length, Option, Some, None, refl, sym, ap, ◌∙◌}
+use Rattle.std.specs.Prelude.{◌||◌, bytes_eq, is_some, option_map}
 use Rattle.std.proofs.lemmas.Bool.{cases_lt}
-use Rattle.mk_graph.specs.Numbering.{AreDescribed, name_at, has_name}
-use Rattle.mk_rules.specs.Graph.{AreMade}
+use Rattle.mk_graph.specs.Numbering.{name_at, has_name}
 use Rattle.mk_rules.specs.Known.{IsKnown}
 use Rattle.mk_rules.specs.Prerequisites.{Inputs, is_target, implicit_source, is_made}
 use Rattle.mk_rules.specs.Table.{is_named, named_at}

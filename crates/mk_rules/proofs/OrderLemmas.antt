@@ -1,5 +1,5 @@
 -- The rows that order names.
-use Rattle.std.proofs.Common.{◌≡◌, suc, ℕ, Bool, true, false, List, [], ◌∷◌, length, refl, sym, ap, ◌∙◌}
+use Rattle.std.proofs.Common.{◌≡◌, suc, ℕ, Bool, true, false, List, [], ◌∷◌, length, refl, ap, ◌∙◌}
 use Rattle.std.specs.List.Sorted.{IsStrictlyIncreasing}
 use Rattle.mk_graph.specs.Counted.{joined, AreCounted}
 use Rattle.mk_graph.specs.Edges.{row}

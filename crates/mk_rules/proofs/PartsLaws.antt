@@ -1,10 +1,10 @@
 -- The parts of a node's row of hard prerequisites.
-use Rattle.std.proofs.Common.{◌≡◌, ℕ, Bool, true, false, not, ◌||◌, cond, List, [], ◌∷◌, ◌++◌, map, filter, Option, Some, None, refl, sym, ap, ◌∙◌}
+use Rattle.std.proofs.Common.{◌≡◌, ℕ, Bool, true, false, not, ◌||◌, List, [], ◌∷◌, ◌++◌, map, filter, Option, Some, None, refl, sym, ap, ◌∙◌}
 use Rattle.std.specs.Prelude.{bytes_eq, option_map}
 use Rattle.std.proofs.lemmas.List.Folds.{list_any-append}
-use Rattle.mk_graph.specs.Numbering.{has_name, all_added, name_at}
+use Rattle.mk_graph.specs.Numbering.{has_name, name_at}
 use Rattle.mk_rules.specs.Explicit.{explicit_of}
-use Rattle.mk_rules.specs.Node.{first_number, later_numbers, source_by, explicit_by}
+use Rattle.mk_rules.specs.Node.{source_by, explicit_by}
 use Rattle.mk_rules.specs.Prerequisites.{Inputs, distinct, source_names, implicit_source, hard_of, explicit_names}
 use Rattle.mk_rules.specs.Rules.{has}
 use Rattle.mk_rules.specs.declared.form.Source.{Source}

@@ -1,7 +1,7 @@
 -- What the rows of numbered names say of the names.
 use Rattle.std.proofs.Common.{arith, ◌≡◌, ℕ, ◌<◌, ◌≤◌, nat_eq, lt-ltb, suc, zero, true≢false, ⊎_elim, Bool, true, false, not, ◌&&◌, ◌||◌, cond, List, [], ◌∷◌, ◌++◌, length, map, take, drop, filter, get_or, Option, Some, None, refl, sym, ap, subst, ◌∙◌}
 use Rattle.std.specs.Prelude.{option_map, slice_get, bytes_eq, nat_lt}
-use Rattle.std.specs.List.{list_any, list_all, flat_map, IsDistinct}
+use Rattle.std.specs.List.{list_all, flat_map, IsDistinct}
 use Rattle.std.proofs.lemmas.List.{map-append, take-map, drop-map, length-map}
 use Rattle.std.proofs.lemmas.Bool.{cases_lt, and_parts, and_from}
 use Rattle.std.proofs.lemmas.List.{get_or_past, get_or-map}
@@ -12,7 +12,7 @@ use Rattle.mk_graph.proofs.CycleLemmas.{closed_row}
 use Rattle.mk_graph.proofs.NameLemmas.{distinct_all_added, distinct_none}
 use Rattle.mk_graph.specs.Cycle.{IsChain, IsCycle}
 use Rattle.std.proofs.lemmas.List.Folds.{list_all-append}
-use Rattle.mk_graph.specs.Numbering.{name_at, all_added, AreDescribed, IsNumbering}
+use Rattle.mk_graph.specs.Numbering.{name_at, AreDescribed, IsNumbering}
 use Rattle.mk_rules.specs.Graph.{judged, judged_name, AreHard, IsNode}
 use Rattle.mk_rules.specs.Known.{IsKnown, nodes_among}
 use Rattle.mk_rules.specs.Prerequisites.{Inputs, prerequisites_of, judged_of, hard_of, hidden_of, hidden_nodes, is_node}

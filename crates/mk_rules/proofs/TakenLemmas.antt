@@ -1,5 +1,5 @@
 -- Lines that are taken.
-use Rattle.std.proofs.Common.{arith, ◌≡◌, ◌≤◌, ℕ, Bool, true, false, List, length, Option, Some, None, sym, ap, subst, ◌∙◌}
+use Rattle.std.proofs.Common.{arith, ◌≡◌, ◌≤◌, ℕ, Bool, true, false, List, length, Option, Some, None, subst}
 use Rattle.std.specs.Prelude.{option_to_list}
 use Rattle.mk_rules.specs.Rules.{targets_by, suffixes_of, recipe_places}
 use Rattle.mk_rules.specs.Table.{IsTable, named_at}

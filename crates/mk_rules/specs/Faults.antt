@@ -1,7 +1,6 @@
 -- What each refusal says of a makefile, its files and its state.
-use Rattle.std.specs.Prelude.{◌≡◌, ℕ, ℤ, ◌<◌, ◌⊎◌, Bool, true, false, List, [], length, map, take, slice_get, Option, Some, None, IsTrue}
+use Rattle.std.specs.Prelude.{◌≡◌, ℕ, ℤ, ◌<◌, ◌⊎◌, Bool, true, false, List, [], length, map, take, slice_get, Option, Some, None}
 use Rattle.mk_graph.specs.Cycle.{IsCycle}
-use Rattle.mk_graph.specs.Edges.{is_closed}
 use Rattle.mk_graph.specs.Numbering.{IsNumbering, name_at, has_name}
 use Rattle.mk_reader.specs.declared.item.Item.{Item}
 use Rattle.st_records.specs.declared.record.Entry.{Entry}
@@ -17,7 +16,6 @@ use Rattle.mk_rules.specs.Table.{HasTwoRecipes}
 use Rattle.mk_rules.specs.declared.fault.RuleFault.{RuleFault}
 use Rattle.mk_rules.specs.declared.fault.RuleFault.TheVariants as fault
 use Rattle.mk_rules.specs.declared.form.Form.{Form}
-use Rattle.mk_rules.specs.declared.rule_line.RuleLine.{RuleLine}
 
 -- the names of the graph for these goals
 abbrev pub AreNames : Inputs → (named names : List (List ℕ)) → Type 0

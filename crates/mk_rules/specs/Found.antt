@@ -1,5 +1,5 @@
 -- What is found of all names that goals lead to.
-use Rattle.std.specs.Prelude.{◌≡◌, ℕ, ℤ, ◌<◌, ◌⊎◌, Bool, true, false, List, length, map, take, slice_get, Option, Some, None, unwrap_or}
+use Rattle.std.specs.Prelude.{◌≡◌, ℕ, ℤ, ◌<◌, ◌⊎◌, true, false, List, length, map, Option, unwrap_or}
 use Rattle.mk_graph.specs.Numbering.{IsNumbering, AreDescribed, name_at, has_name}
 use Rattle.mk_graph.specs.declared.numbering.Numbered.{Numbered}
 use Rattle.mk_rules.specs.Faults.{IsReachedFrom, HasUnmade, HasNamedCycle}

@@ -1,6 +1,6 @@
 -- The graph of the names that goals lead to.
-use Rattle.std.specs.Prelude.{◌≡◌, ℕ, ◌<◌, ◌≤◌, ◌+◌, ◌||◌, Bool, true, false, List, [], ◌∷◌, ◌++◌, length, map, drop, Option, Some, None, option_map, slice_get, IsTrue, if◌then◌else◌}
-use Rattle.mk_graph.specs.Edges.{row, is_closed, has as has_number}
+use Rattle.std.specs.Prelude.{◌≡◌, ℕ, ◌<◌, ◌||◌, Bool, true, List, ◌++◌, length, map, Option, Some, None, option_map, slice_get, if◌then◌else◌}
+use Rattle.mk_graph.specs.Edges.{row, has as has_number}
 use Rattle.mk_graph.specs.Cycle.{HasCycle}
 use Rattle.mk_graph.specs.Counted.{AreCounted}
 use Rattle.mk_graph.specs.Numbering.{IsNumbering, name_at, has_name}
@@ -14,7 +14,6 @@ use Rattle.mk_graph.specs.Plan.{IsPlan}
 use Rattle.std.specs.List.{list_any}
 use Rattle.mk_rules.specs.declared.graph.Node.{Node}
 use Rattle.mk_rules.specs.declared.graph.Graph.{Graph}
-use Rattle.mk_rules.specs.declared.rule_line.RuleLine.{RuleLine}
 
 -- the prerequisites of a node as they are judged, numbered from 0: the hard ones, which are nodes, then the hidden ones,
 -- which may be gone

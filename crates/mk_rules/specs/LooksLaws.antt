@@ -1,10 +1,10 @@
 -- Looks at names, one after the other.
-use Rattle.std.specs.Prelude.{◌≡◌, ℕ, ℤ, List, Option, Some, None, IfSome, unwrap_or, refl}
+use Rattle.std.specs.Prelude.{◌≡◌, ℕ, ℤ, Bool, true, false, List, Option, Some, None, IfSome, unwrap_or, refl}
 use Rattle.std.proofs.Common.{◌∙◌}
 use Rattle.st_records.specs.declared.record.Entry.{Entry}
 use Rattle.mk_rules.specs.Known.{IsAllowed}
 use Rattle.mk_rules.specs.Prerequisites.{inputs_of, prerequisites_of}
-use Rattle.mk_rules.specs.Stamps.{AgreesWith, Looks, known_stamp}
+use Rattle.mk_rules.specs.Stamps.{Asks, Looks, known_stamp}
 use Rattle.mk_rules.specs.declared.rule_line.RuleLine.{RuleLine}
 use Rattle.mk_rules.specs.declared.stamps.Stamps.{Stamps}
 
@@ -21,6 +21,12 @@ looks_on honest a b c told told_b told_c refuses refuses_b refuses_c first next 
   same = next.same ∙ first.same;
   kept = λ n refused. next.kept n (first.kept n refused);
 }
+
+-- one call after the other
+pub asks_on : (answers : Bool) (a b c : Stamps) (asked asked_b asked_c : List ℕ → ℕ) →
+    Asks true a b asked asked_b → Asks answers b c asked_b asked_c → Asks answers a c asked asked_c
+asks_on true a b c asked asked_b asked_c first next = λ earlier once. next earlier (first earlier once)
+asks_on false a b c asked asked_b asked_c first next = λ earlier once. next earlier (first earlier once)
 
 -- the times that are known; a name that isn't has none
 abbrev pub known_times : Stamps → (name : List ℕ) → Option ℤ

@@ -1,6 +1,11 @@
--- The parts of a node's row of hard prerequisites.
-use Rattle.std.specs.Prelude.{ℕ, List, [], ◌∷◌, Option, Some, None}
+-- The numbers of names, and the parts of a node's row of hard prerequisites.
+use Rattle.std.specs.Prelude.{◌≡◌, ◌<◌, ℕ, length, List, [], ◌∷◌, Option, Some, None}
+use Rattle.mk_graph.specs.Numbering.{name_at}
 use Rattle.mk_rules.specs.declared.graph.Node.{Node}
+
+-- two nodes have no name in common
+abbrev pub EachHasOneNumber : (names : List (List ℕ)) → Type 0
+EachHasOneNumber names = (n m : ℕ) → n < length names → m < length names → name_at names n ≡ name_at names m → n ≡ m
 
 abbrev pub first_number : List ℕ → Option ℕ
 first_number [] = None

@@ -1,5 +1,5 @@
 -- The nodes of a graph and what was found of their names.
-use Rattle.std.specs.Prelude.{◌≡◌, ℕ, List, drop, Option, Some, slice_get}
+use Rattle.std.specs.Prelude.{◌≡◌, ℕ, List, drop, Some, slice_get}
 use Rattle.mk_graph.specs.Edges.{row}
 use Rattle.mk_rules.specs.Rows.{spread}
 use Rattle.mk_rules.specs.declared.graph.Node.{Node}

@@ -1,6 +1,7 @@
 -- The times of files that are known so far.
-use Rattle.std.specs.Prelude.{◌≡◌, ℕ, ℤ, List, Option, IfSome, bytes_eq}
+use Rattle.std.specs.Prelude.{◌≡◌, ℕ, ℤ, Bool, true, false, List, Option, IfSome, is_some, bytes_eq}
 use Rattle.indexmap.specs.IndexMap.{get_by}
+use Rattle.mk_rules.specs.Tree.{AskedOnce}
 use Rattle.mk_rules.specs.declared.stamps.Stamps.{Stamps}
 use Rattle.mk_rules.specs.declared.fault.RuleFault.{RuleFault}
 use Rattle.mk_rules.specs.declared.fault.RuleFault.TheVariants as fault
@@ -8,6 +9,15 @@ use Rattle.mk_rules.specs.declared.fault.RuleFault.TheVariants as fault
 -- what is known of a name: nothing, that it has no file, or its time
 abbrev pub known_stamp : Stamps → (name : List ℕ) → Option (Option ℤ)
 known_stamp stamps name = get_by (λ k. bytes_eq name k.items) stamps.known
+
+abbrev pub is_known : Stamps → (name : List ℕ) → Bool
+is_known stamps name = is_some (known_stamp stamps name)
+
+-- a call asks for no name that is known, and for none twice: where the known names were asked for once, so they are behind
+-- it; behind a call without an answer some names are
+abbrev pub Asks : (answers : Bool) (before after : Stamps) (asked asked_after : List ℕ → ℕ) → Type 0
+Asks true before after asked asked_after = (earlier : List ℕ → ℕ) → AskedOnce earlier (is_known before) asked → AskedOnce earlier (is_known after) asked_after
+Asks false before after asked asked_after = (earlier : List ℕ → ℕ) → AskedOnce earlier (is_known before) asked → (names : List ℕ → Bool) × AskedOnce earlier names asked_after
 
 -- what is known is what these times say
 abbrev pub AgreesWith : Stamps → (times : List ℕ → Option ℤ) → Type 0

@@ -1,5 +1,5 @@
 -- Which rule lines are refused. Own: make(1S) has target groups, library members and further forms of pattern rules.
-use Rattle.std.specs.Prelude.{◌≡◌, ℕ, ◌+◌, Bool, true, false, not, ◌&&◌, ◌||◌, ◌==◌, List, [], ◌∷◌, ◌++◌, count_by, length, Some, slice_get, codes}
+use Rattle.std.specs.Prelude.{◌≡◌, ℕ, Bool, true, false, not, ◌&&◌, ◌||◌, ◌==◌, List, count_by, length, Some, slice_get, codes}
 use Rattle.std.specs.List.{All, list_any}
 use Rattle.mk_reader.specs.Text.{is_empty}
 use Rattle.mk_rules.specs.Rules.{has, is_percent, is_rule, is_pattern_rule}

@@ -1,4 +1,5 @@
--- What a tree's fault says.
+-- What a tree's fault says, and how often its names are asked for.
+use Rattle.std.specs.Prelude.{ℕ, ◌+◌, ◌≤◌, Bool, true, false, List}
 use Rattle.mk_rules.specs.declared.tree.TreeFault.{TreeFault}
 use Rattle.mk_rules.specs.declared.tree.TreeFault.TheVariants.{OutOfMemory, CannotLook}
 
@@ -6,3 +7,11 @@ use Rattle.mk_rules.specs.declared.tree.TreeFault.TheVariants.{OutOfMemory, Cann
 abbrev pub IsTreeFault : (refused : Type 0) → TreeFault → Type 0
 IsTreeFault refused OutOfMemory = Unit {0}
 IsTreeFault refused CannotLook = refused
+
+abbrev pub once : Bool → ℕ
+once true = 1
+once false = 0
+
+-- beside how often each name was asked for earlier, these names were asked for once at most, and no other
+abbrev pub AskedOnce : (earlier : List ℕ → ℕ) (names : List ℕ → Bool) (asked : List ℕ → ℕ) → Type 0
+AskedOnce earlier names asked = (name : List ℕ) → asked name ≤ earlier name + once (names name)

@@ -2,15 +2,17 @@
 ghost use Rattle.std.specs.List.{IsDistinct};
 ghost use Rattle.std.specs.List.Sorted.{IsStrictlyIncreasing};
 ghost use Rattle.std.specs.Str.{bytes_eq};
-ghost use Rattle.std.specs.Prelude.{◌≡◌, ◌≤◌, ◌||◌, ℕ, ℤ, List, Option, length, map, is_some, IsTrue, IfOk, IfErr, OnOk};
+ghost use Rattle.std.specs.Prelude.{◌≡◌, ◌≤◌, ◌||◌, ℕ, ℤ, List, Option, length, map, is_ok, is_some, true, IsTrue, IfOk, IfErr, OnOk};
 ghost use Rattle.std.specs.FinMap as finmap;
 ghost use Rattle.mk_graph.specs.Edges.{row, is_closed};
 ghost use Rattle.mk_graph.specs.Numbering.{AreDescribed, name_at};
 ghost use Rattle.mk_rules.specs.Found.{AreFound, IsFindingFault, IsUnmadeFault, IsGraphlessFault};
 ghost use Rattle.mk_rules.specs.Known.{IsKnown};
+ghost use Rattle.mk_rules.specs.Node.{EachHasOneNumber};
 ghost use Rattle.mk_rules.specs.Assembly.{IsPutTogether};
-ghost use Rattle.mk_rules.specs.Stamps.{AgreesWith, Looks};
+ghost use Rattle.mk_rules.specs.Stamps.{AgreesWith, Asks, Looks};
 ghost use Rattle.mk_rules.specs.Table.{is_named, named_at};
+ghost use Rattle.mk_rules.specs.Tree.{AskedOnce};
 ghost use Rattle.mk_macros.specs.Ranks.{ranks_at};
 ghost use Rattle.mk_rules.specs.Lines.{behind_items};
 ghost use Rattle.mk_rules.specs.Prerequisites.{Inputs, inputs_of, is_target, prerequisites_of};
@@ -60,6 +62,7 @@ fn found_names<T: Tree>(
     ensures same { finder.new.tree.ghost_name ≡ finder.old.tree.ghost_name }
     ensures looks { Looks T.honest finder.old.stamps.now finder.new.stamps.now (T.stamps finder.old.tree.now) (T.stamps finder.new.tree.now)
         (T.refuses finder.old.tree.now) (T.refuses finder.new.tree.now) }
+    ensures asks { Asks (is_ok result) finder.old.stamps.now finder.new.stamps.now (T.asked finder.old.tree.now) (T.asked finder.new.tree.now) }
 {
     match number(alloc, finder, goals, MAX_NODES) {
         Ok(numbered) => Ok(numbered),
@@ -87,6 +90,7 @@ fn numbered_names<T: Tree>(
         × IsFindingFault (inputs_of rules.entry.lines.now (finmap.get rules.entry.state.now) times) (T.refuses tree.new) goals.now MAX_NODES fault) }
     ensures names { IfOk result (λ n. IsDistinct bytes_eq n.names) }
     ensures same { T.stamps tree.new ≡ T.stamps tree.old }
+    ensures asked { AskedOnce (T.asked tree.old) (λ _. true) (T.asked tree.new) }
 {
     let mut stamps = Stamps::new(alloc);
     let mut finder = Finder {
@@ -135,6 +139,7 @@ fn put_together(
     numbered: Numbered<Known>,
     ordered: Ordered,
 ) -> Result<Graph, AllocError>
+    requires names { EachHasOneNumber numbered.names }
     requires row_count { length numbered.rows ≡ length numbered.names }
     requires node_count { length numbered.nodes.items ≡ length numbered.names }
     requires hard_count { length ordered.hard ≡ length numbered.names }
@@ -226,6 +231,7 @@ pub fn build<T: Tree>(
     ensures fault { IfErr result (IsRuleFault (ranks_at macros) items.items T.honest (T.stamps tree.old) (finmap.get state.now)
         (T.refuses tree.new) goals MAX_NODES) }
     ensures same { T.stamps tree.new ≡ T.stamps tree.old }
+    ensures asked { AskedOnce (T.asked tree.old) (λ _. true) (T.asked tree.new) }
 {
     let mut macros = macros;
     let lines = rule_lines(alloc, items, &mut macros)?;

@@ -1,8 +1,8 @@
 //! Names looked up one by one while they are numbered.
-ghost use Rattle.std.specs.Prelude.{◌≡◌, ℕ, ℤ, List, Option, [], option_map, option_to_list, IfOk, IfErr, OnOk};
+ghost use Rattle.std.specs.Prelude.{◌≡◌, ℕ, ℤ, List, Option, [], option_map, option_to_list, IfOk, IfErr, OnOk, is_ok};
 ghost use Rattle.std.specs.FinMap as map;
 ghost use Rattle.mk_rules.specs.Prerequisites.{inputs_of, is_node, first_or, hidden_in, prerequisites_of};
-ghost use Rattle.mk_rules.specs.Stamps.{AgreesWith, Looks};
+ghost use Rattle.mk_rules.specs.Stamps.{AgreesWith, Asks, Looks};
 ghost use Rattle.mk_rules.specs.Hidden.{HasHidden, IsNamesFault};
 ghost use Rattle.mk_rules.specs.Known.{IsKnown, IsLookUpFault};
 
@@ -53,6 +53,7 @@ fn add_hidden_of<T: Tree>(
     ensures hidden { OnOk result ((times : List ℕ → Option ℤ) → AgreesWith stamps.new times
         → HasHidden (is_node (inputs_of rules.now.lines.now (map.get rules.now.state.now) times)) mentioned.old.judged (hidden_in entry.now) mentioned.new) }
     ensures looks { Looks T.honest stamps.old stamps.new (T.stamps tree.old) (T.stamps tree.new) (T.refuses tree.old) (T.refuses tree.new) }
+    ensures asks { Asks (is_ok result) stamps.old stamps.new (T.asked tree.old) (T.asked tree.new) }
     ensures fault { IfErr result (IsNamesFault (T.refuses tree.new) (hidden_in entry.now)) }
 {
     match entry {
@@ -74,6 +75,7 @@ fn look_up<T: Tree>(
     ensures node { IfOk result (λ found. (times : List ℕ → Option ℤ) → AgreesWith stamps.new times
         → IsKnown (inputs_of rules.now.lines.now (map.get rules.now.state.now) times) name.now found.node) }
     ensures looks { Looks T.honest stamps.old stamps.new (T.stamps tree.old) (T.stamps tree.new) (T.refuses tree.old) (T.refuses tree.new) }
+    ensures asks { Asks (is_ok result) stamps.old stamps.new (T.asked tree.old) (T.asked tree.new) }
     ensures fault { IfErr result (IsLookUpFault rules.now.targets.now stamps.new (T.refuses tree.new) rules.now.forms.now
         (hidden_in (map.get rules.now.state.now name.now)) name.now) }
 {
@@ -112,7 +114,8 @@ impl<'m, 't, 's, T: Tree> Dependencies for Finder<'m, 't, 's, T> {
     ghost use Rattle.std.specs.Prelude.{refl};
     ghost use Rattle.std.proofs.Common.{◌∙◌};
     ghost use Rattle.mk_rules.specs.Known.{IsAllowed};
-    ghost use Rattle.mk_rules.specs.LooksLaws.{looks_none, looks_on, known_times, allowed_by_known};
+    ghost use Rattle.mk_rules.specs.Stamps.{is_known};
+    ghost use Rattle.mk_rules.specs.LooksLaws.{looks_none, looks_on, asks_on, known_times, allowed_by_known};
 
     type Fault = RuleFault;
 
@@ -129,8 +132,9 @@ impl<'m, 't, 's, T: Tree> Dependencies for Finder<'m, 't, 's, T> {
     ghost refuses = { λ f name fault. IsLookUpFault f.rules.targets.now f.stamps.now (T.refuses f.tree.now) f.rules.forms.now
         (hidden_in (map.get f.rules.state.now name)) name fault };
 
-    ghost follows = { λ f g. (g.rules ≡ f.rules) × (g.tree.ghost_name ≡ f.tree.ghost_name)
-        × Looks T.honest f.stamps.now g.stamps.now (T.stamps f.tree.now) (T.stamps g.tree.now) (T.refuses f.tree.now) (T.refuses g.tree.now) };
+    ghost follows = { λ f answers g. (g.rules ≡ f.rules) × (g.tree.ghost_name ≡ f.tree.ghost_name)
+        × Looks T.honest f.stamps.now g.stamps.now (T.stamps f.tree.now) (T.stamps g.tree.now) (T.refuses f.tree.now) (T.refuses g.tree.now)
+        × Asks answers f.stamps.now g.stamps.now (T.asked f.tree.now) (T.asked g.tree.now) };
 
     fn prerequisites(&mut self, alloc: Global, name: &[u8]) -> Result<Found<Known>, RuleFault> {
         look_up(alloc, &self.rules, self.tree, self.stamps, name)
@@ -141,7 +145,19 @@ impl<'m, 't, 's, T: Tree> Dependencies for Finder<'m, 't, 's, T> {
       allowed_by_known f.stamps.now f.rules.lines.now (map.get f.rules.state.now),
     ) };
 
-    ghost stays = { λ f. (refl, refl, looks_none _ _ _ _) };
+    ghost stays = { λ f. (refl, refl, looks_none _ _ _ _, λ earlier once. once) };
 
-    ghost through = { λ a b c first next. (next.0 ∙ first.0, next.1 ∙ first.1, looks_on _ _ _ _ _ _ _ _ _ _ first.2 next.2) };
+    ghost through = { λ a b c answers first next. (
+      next.0 ∙ first.0,
+      next.1 ∙ first.1,
+      looks_on _ _ _ _ _ _ _ _ _ _ first.2 next.2,
+      asks_on answers _ _ _ _ _ _ first.3 next.3,
+    ) };
+
+    ghost ended = { λ a b first. (
+      first.0,
+      first.1,
+      first.2,
+      λ earlier once. (is_known b.stamps.now, first.3 earlier once),
+    ) };
 }

@@ -2,7 +2,7 @@
 ghost use Rattle.std.specs.Prelude.{◌≡◌, ℕ, ◌<◌, ◌≤◌, length, option_copied, slice_index, slice_get, IsTrue, IfSome};
 ghost use Rattle.std.specs.List.Sorted.{IsStrictlyIncreasing};
 ghost use Rattle.mk_graph.specs.Edges.{row, is_closed};
-ghost use Rattle.mk_rules.specs.Node.{source_in, explicit_in};
+ghost use Rattle.mk_rules.specs.Node.{EachHasOneNumber, source_in, explicit_in};
 ghost use Rattle.mk_rules.specs.declared.graph.TheConstants.{MAX_NODES};
 
 use crate::rule_line::RuleLine;
@@ -53,8 +53,10 @@ pub struct Graph {
     pub settings: Settings,
     /// With all definitions of the makefile.
     pub macros: Macros,
-    // Each name has a node and a row of each kind, and each number in a row is that of a node. A counted row has it once.
+    // Each name has a node, no name has two, and each node has a row of each kind. Each number in a row is that of a node; a
+    // counted row has it once.
     pub ghost named: { length names ≡ length nodes.items },
+    pub ghost distinct: { EachHasOneNumber names },
     pub ghost hard_rows: { length hard ≡ length nodes.items },
     pub ghost soft_rows: { length soft ≡ length nodes.items },
     pub ghost counted_rows: { length counted ≡ length nodes.items },

@@ -1,9 +1,9 @@
 //! What is found of a name: what makes it, and what it is made from.
-ghost use Rattle.std.specs.Prelude.{◌≡◌, ℕ, ℤ, List, Option, [], IfOk, IfErr, OnOk};
+ghost use Rattle.std.specs.Prelude.{◌≡◌, ℕ, ℤ, List, Option, [], IfOk, IfErr, OnOk, is_ok};
 ghost use Rattle.std.specs.FinMap as map;
 ghost use Rattle.std.specs.Str.{is_utf8};
 ghost use Rattle.mk_rules.specs.Prerequisites.{inputs_of, is_node, implicit_source, prerequisites_of};
-ghost use Rattle.mk_rules.specs.Stamps.{AgreesWith, Looks, IsLookFault};
+ghost use Rattle.mk_rules.specs.Stamps.{AgreesWith, Asks, Looks, IsLookFault};
 ghost use Rattle.mk_rules.specs.Source.{IsSourceFault};
 ghost use Rattle.mk_rules.specs.Hidden.{HasHidden, IsNamesFault};
 
@@ -11,7 +11,7 @@ use crate::fault::RuleFault;
 use crate::form::Source;
 use crate::mentioned::Mentioned;
 use crate::rules::Rules;
-use crate::source::{is_there, source_of};
+use crate::source::is_there;
 use crate::stamps::Stamps;
 use crate::tree::Tree;
 use byte_strings::ByteStrings;
@@ -38,6 +38,7 @@ fn is_node<T: Tree>(
     ensures node { IfOk result (λ node. (times : List ℕ → Option ℤ) → AgreesWith stamps.new times
         → node ≡ is_node (inputs_of rules.now.lines.now (map.get rules.now.state.now) times) name.now) }
     ensures looks { Looks T.honest stamps.old stamps.new (T.stamps tree.old) (T.stamps tree.new) (T.refuses tree.old) (T.refuses tree.new) }
+    ensures asks { Asks (is_ok result) stamps.old stamps.new (T.asked tree.old) (T.asked tree.new) }
     ensures fault { IfErr result (IsLookFault (T.refuses tree.new) name.now) }
 {
     if !is_utf8(name) {
@@ -57,12 +58,13 @@ pub(crate) fn implicit_source<T: Tree>(
     ensures source { IfOk result (λ found. (times : List ℕ → Option ℤ) → AgreesWith stamps.new times
         → found ≡ implicit_source (inputs_of rules.now.lines.now (map.get rules.now.state.now) times) name.now) }
     ensures looks { Looks T.honest stamps.old stamps.new (T.stamps tree.old) (T.stamps tree.new) (T.refuses tree.old) (T.refuses tree.new) }
+    ensures asks { Asks (is_ok result) stamps.old stamps.new (T.asked tree.old) (T.asked tree.new) }
     ensures fault { IfErr result (IsSourceFault rules.now.targets.now stamps.new (T.refuses tree.new) rules.now.forms.now name.now) }
 {
     if rules.recipe(name).is_some() {
         return Ok(None);
     }
-    source_of(alloc, rules.targets, tree, stamps, rules.forms, name)
+    rules.source(alloc, tree, stamps, name)
 }
 
 /// Takes in hidden prerequisites behind the hard ones.
@@ -79,6 +81,7 @@ pub(crate) fn add_hidden<T: Tree>(
     ensures hidden { OnOk result ((times : List ℕ → Option ℤ) → AgreesWith stamps.new times
         → HasHidden (is_node (inputs_of rules.now.lines.now (map.get rules.now.state.now) times)) mentioned.old.judged hidden.now mentioned.new) }
     ensures looks { Looks T.honest stamps.old stamps.new (T.stamps tree.old) (T.stamps tree.new) (T.refuses tree.old) (T.refuses tree.new) }
+    ensures asks { Asks (is_ok result) stamps.old stamps.new (T.asked tree.old) (T.asked tree.new) }
     ensures fault { IfErr result (IsNamesFault (T.refuses tree.new) hidden.now) }
 {
     for name in hidden.iter() {

@@ -1,14 +1,20 @@
 //! What a makefile's rules and the state say of a name.
-ghost use Rattle.std.specs.Prelude.{◌≡◌, ℕ, List, false, option_to_list, IfOk};
+ghost use Rattle.std.specs.Prelude.{◌≡◌, ℕ, ℤ, List, Option, false, option_to_list, is_ok, IfOk, IfErr};
 ghost use Rattle.std.specs.FinMap as map;
 ghost use Rattle.mk_rules.specs.Rules.{has, suffixes_of, targets_by, places, recipe_places};
-ghost use Rattle.mk_rules.specs.Table.{named_at};
+ghost use Rattle.mk_rules.specs.Source.{IsSourceFault};
+ghost use Rattle.mk_rules.specs.Stamps.{AgreesWith, Asks};
+ghost use Rattle.mk_rules.specs.Table.{is_there, named_at};
 ghost use Rattle.mk_rules.specs.Forms.{forms_of};
 
 use crate::explicit::explicit_of;
-use crate::form::Form;
+use crate::fault::RuleFault;
+use crate::form::{Form, Source};
 use crate::rule_line::RuleLine;
+use crate::source::source_of;
+use crate::stamps::Stamps;
 use crate::table::TargetTable;
+use crate::tree::Tree;
 use byte_strings::ByteStrings;
 use st_records::{Entry, State};
 use std::alloc::{AllocError, Global};
@@ -30,6 +36,7 @@ pub(crate) struct Rules<'m> {
 impl<'m> Rules<'m> {
     ghost use Rattle.mk_rules.specs.Explicit.{explicit_of};
     ghost use Rattle.mk_rules.specs.Prerequisites.{own_recipes, is_target};
+    ghost use Rattle.mk_rules.specs.Source.{source_of};
 
     /// The number of the line that has the name's recipe.
     pub fn recipe(&self, name: &[u8]) -> Option<usize>
@@ -50,6 +57,26 @@ impl<'m> Rules<'m> {
         ensures { IfOk result (λ found. found ≡ explicit_of self.now.lines.now name.now) }
     {
         explicit_of(alloc, self.lines, self.targets, name)
+    }
+
+    /// What an implicit rule makes the name from.
+    pub fn source<T: Tree>(
+        &self,
+        alloc: Global,
+        tree: &mut T,
+        stamps: &mut Stamps,
+        name: &[u8],
+    ) -> Result<Option<Source>, RuleFault>
+        ensures source { IfOk result (λ found. (times : List ℕ → Option ℤ) → AgreesWith stamps.new times
+            → found ≡ source_of (is_there self.now.targets.now times) self.now.forms.now name.now) }
+        ensures grows { (times : List ℕ → Option ℤ) → AgreesWith stamps.new times → AgreesWith stamps.old times }
+        ensures honest { T.honest → AgreesWith stamps.old (T.stamps tree.old) → AgreesWith stamps.new (T.stamps tree.new) }
+        ensures same { T.stamps tree.new ≡ T.stamps tree.old }
+        ensures kept { (n : List ℕ) → T.refuses tree.old n → T.refuses tree.new n }
+        ensures asks { Asks (is_ok result) stamps.old stamps.new (T.asked tree.old) (T.asked tree.new) }
+        ensures fault { IfErr result (IsSourceFault self.now.targets.now stamps.new (T.refuses tree.new) self.now.forms.now name.now) }
+    {
+        source_of(alloc, self.targets, tree, stamps, self.forms, name)
     }
 
     /// What the state has of the name.

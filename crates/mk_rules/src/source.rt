@@ -1,7 +1,7 @@
 //! The implicit source of a name.
-ghost use Rattle.std.specs.Prelude.{◌≡◌, ℕ, ℤ, List, Option, false, IfOk, IfErr, IsErr};
+ghost use Rattle.std.specs.Prelude.{◌≡◌, ℕ, ℤ, List, Option, false, IfOk, IfErr, IsErr, is_ok};
 ghost use Rattle.mk_rules.specs.Source.{source_of, IsSourceFault};
-ghost use Rattle.mk_rules.specs.Stamps.{AgreesWith, IsLookFault};
+ghost use Rattle.mk_rules.specs.Stamps.{AgreesWith, Asks, IsLookFault};
 ghost use Rattle.mk_rules.specs.Table.{is_named, is_there, named_at};
 
 use crate::fault::RuleFault;
@@ -25,6 +25,7 @@ pub(crate) fn is_there<T: Tree>(
     ensures honest { T.honest → AgreesWith stamps.old (T.stamps tree.old) → AgreesWith stamps.new (T.stamps tree.new) }
     ensures same { T.stamps tree.new ≡ T.stamps tree.old }
     ensures kept { (n : List ℕ) → T.refuses tree.old n → T.refuses tree.new n }
+    ensures asks { Asks (is_ok result) stamps.old stamps.new (T.asked tree.old) (T.asked tree.new) }
     ensures fault { IfErr result (IsLookFault (T.refuses tree.new) name.now) }
     ensures asked { IsErr result → is_named (named_at targets.now name.now) ≡ false }
 {
@@ -53,6 +54,7 @@ pub fn source_of<T: Tree>(
     ensures honest { T.honest → AgreesWith stamps.old (T.stamps tree.old) → AgreesWith stamps.new (T.stamps tree.new) }
     ensures same { T.stamps tree.new ≡ T.stamps tree.old }
     ensures kept { (n : List ℕ) → T.refuses tree.old n → T.refuses tree.new n }
+    ensures asks { Asks (is_ok result) stamps.old stamps.new (T.asked tree.old) (T.asked tree.new) }
     ensures fault { IfErr result (IsSourceFault targets.now stamps.new (T.refuses tree.new) forms.now name.now) }
 {
     for form in forms {

@@ -1,6 +1,6 @@
 //! The times of files, each asked for once.
-ghost use Rattle.std.specs.Prelude.{◌≡◌, ℕ, ℤ, List, Option, None, IfOk, IfErr, IsSome, IsOk};
-ghost use Rattle.mk_rules.specs.Stamps.{known_stamp, AgreesWith, IsLookFault};
+ghost use Rattle.std.specs.Prelude.{◌≡◌, ℕ, ℤ, List, Option, None, IfOk, IfErr, IsSome, IsOk, is_ok};
+ghost use Rattle.mk_rules.specs.Stamps.{known_stamp, AgreesWith, Asks, IsLookFault};
 
 use crate::fault::RuleFault;
 use crate::tree::{Tree, TreeFault};
@@ -39,6 +39,7 @@ impl Stamps {
         ensures same { T.stamps tree.new ≡ T.stamps tree.old }
         ensures kept { (n : List ℕ) → T.refuses tree.old n → T.refuses tree.new n }
         ensures fault { IfErr result (IsLookFault (T.refuses tree.new) name.now) }
+        ensures asks { Asks (is_ok result) self.old self.new (T.asked tree.old) (T.asked tree.new) }
     {
         match self.known.get(name).copied() {
             Some(stamp) => Ok(stamp),
@@ -61,6 +62,7 @@ impl Stamps {
         ensures same { T.stamps tree.new ≡ T.stamps tree.old }
         ensures kept { (n : List ℕ) → T.refuses tree.old n → T.refuses tree.new n }
         ensures fault { IfErr result (IsLookFault (T.refuses tree.new) name.now) }
+        ensures asks { Asks (is_ok result) self.old self.new (T.asked tree.old) (T.asked tree.new) }
     {
         match tree.stamp(alloc, name) {
             Ok(stamp) => {

@@ -44,7 +44,7 @@ fn times(alloc: Global, text: &str) -> Result<Times, Fail> {
     Ok(Times {
         files,
         broken,
-        asked: 0,
+        asked: ByteStrings::empty(alloc),
     })
 }
 
@@ -82,5 +82,5 @@ pub fn graph_of(alloc: Global, given: &Given) -> Result<(Result<Graph, RuleFault
     let state = state(alloc, given.state)?;
     let mut times = times(alloc, given.files)?;
     let graph = build(alloc, items, Macros::new(alloc), goals, &mut times, &state);
-    Ok((graph, times.asked))
+    Ok((graph, times.asked.len()))
 }

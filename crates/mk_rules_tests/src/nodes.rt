@@ -74,7 +74,7 @@ fn too_many_targets(rt: HostRuntime) -> Result<(), Fail> {
     let mut times = Times {
         files: IndexMap::new(alloc),
         broken: words(alloc, "")?,
-        asked: 0,
+        asked: ByteStrings::empty(alloc),
     };
     let items = items_of(alloc, "")?;
     let goals = numbers(alloc, 100_001)?;
@@ -103,7 +103,7 @@ fn hidden_names_are_text(rt: HostRuntime) -> Result<(), Fail> {
     let mut times = Times {
         files: IndexMap::new(alloc),
         broken: words(alloc, "")?,
-        asked: 0,
+        asked: ByteStrings::empty(alloc),
     };
     times.files.insert(Vec::from_slice(alloc, b"\xff")?, 1)?;
     let mut state = State::new(alloc);

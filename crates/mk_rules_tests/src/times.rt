@@ -1,20 +1,20 @@
 //! The times of files in memory, which are told as they stand.
 ghost use Rattle.std.specs.Prelude.{◌≡◌, true};
 ghost use Rattle.mk_rules.specs.Rules.{has};
-ghost use Rattle.mk_rules_tests.specs.Times.{time_in};
+ghost use Rattle.mk_rules_tests.specs.Times.{how_often, time_in};
 
 use byte_strings::ByteStrings;
 use indexmap::IndexMap;
 use mk_rules::{Tree, TreeFault};
 use std::alloc::Global;
 
-/// The time of each name that has a file, and how often one was asked for.
+/// The time of each name that has a file, and the names that were asked for.
 #[derive(Drop)]
 pub struct Times {
     pub files: IndexMap<Vec<u8>, i128>,
     /// Names of which it can't be told whether they have a file.
     pub broken: ByteStrings,
-    pub asked: usize,
+    pub asked: ByteStrings,
 }
 
 fn has(names: &ByteStrings, name: &[u8]) -> bool
@@ -30,8 +30,12 @@ impl Tree for Times {
 
     ghost refuses = { λ times name. has name times.broken ≡ true };
 
+    ghost asked = { λ times name. how_often name times.asked };
+
     fn stamp(&mut self, _alloc: Global, name: &[u8]) -> Result<Option<i128>, TreeFault> {
-        self.asked = self.asked.saturating_add(1);
+        if self.asked.push(name).is_err() {
+            return Err(TreeFault::OutOfMemory);
+        }
         if has(&self.broken, name) {
             return Err(TreeFault::CannotLook);
         }

@@ -1,4 +1,4 @@
-use Rattle.std.proofs.Common.{◌≡◌, ℕ, ◌+◌, ◌<◌, true, List, [], ◌∷◌, ◌++◌, length, take, map, slice_get, nat_lt, inl, inr, refl, sym, ap, ◌∙◌, subst, ⊎_elim, true≢false, arith, length-append}
+use Rattle.std.proofs.Common.{◌≡◌, ℕ, ◌+◌, ◌<◌, true, false, List, [], ◌∷◌, ◌++◌, length, take, map, slice_get, nat_lt, inl, inr, refl, sym, ap, ◌∙◌, subst, ⊎_elim, true≢false, arith, length-append}
 use Rattle.std.proofs.lemmas.List.{map-append, length-map, take_all}
 use Rattle.std.proofs.lemmas.List.Folds.{list_all-append}
 use Rattle.std.specs.List.{list_all, IsDistinct}
@@ -136,7 +136,7 @@ loop-alloc-preserved g c =
           c.in-Ok.ensures.kept grown (omega arith) c.loop-alloc.invariant.described
           (subst (λ name. g.R.Dependencies.describes c.prerequisites.new.self name c.in-Ok.found.node) (c.name.ensures ∙ ap (name_at names) place) c.in-Ok.ensures.node)
           n node (ap (λ l. slice_get l n) (sym c.in_ok-push-2.ensures.items) ∙ at);
-      follows = g.met.R.Dependencies.through c.args.source.now c.loop-alloc.source c.prerequisites.new.self c.loop-alloc.invariant.follows c.in-Ok.ensures.follows;
+      follows = g.met.R.Dependencies.through c.args.source.now c.loop-alloc.source c.prerequisites.new.self true c.loop-alloc.invariant.follows c.in-Ok.ensures.follows;
     }
 
 pub returns-clause-names : goal.returns-clause-names
@@ -157,12 +157,13 @@ returns-clause-asked g c = λ name asked.
 
 -- each refusal before the loop, and within it
 pub returns-in_default-clause-follows : goal.returns-in_default-clause-follows
-returns-in_default-clause-follows g c = g.met.R.Dependencies.stays c.args.source.now
+returns-in_default-clause-follows g c = g.met.R.Dependencies.ended c.args.source.now c.args.source.now (g.met.R.Dependencies.stays c.args.source.now)
 
 pub returns-in-Err-clause-follows : goal.returns-in-Err-clause-follows
 returns-in-Err-clause-follows g c =
-    g.met.R.Dependencies.through c.args.source.now c.loop-alloc.source c.prerequisites.new.self c.loop-alloc.invariant.follows c.in-Err.ensures.follows
+    g.met.R.Dependencies.through c.args.source.now c.loop-alloc.source c.prerequisites.new.self false c.loop-alloc.invariant.follows c.in-Err.ensures.follows
 
 pub returns-in_default-2-clause-follows : goal.returns-in_default-2-clause-follows
 returns-in_default-2-clause-follows g c =
-    g.met.R.Dependencies.through c.args.source.now c.loop-alloc.source c.prerequisites.new.self c.loop-alloc.invariant.follows c.in-Ok.ensures.follows
+    g.met.R.Dependencies.ended c.args.source.now c.prerequisites.new.self
+    (g.met.R.Dependencies.through c.args.source.now c.loop-alloc.source c.prerequisites.new.self true c.loop-alloc.invariant.follows c.in-Ok.ensures.follows)

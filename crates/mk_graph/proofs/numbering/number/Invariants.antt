@@ -18,7 +18,7 @@ invariant-loop-alloc g l = record {
   asked : (name : List ℕ) → g.R.Dependencies.asked l.source name → has_name (take (length l.rows.items) l.names) name ≡ true;
   nodes : length l.nodes.items ≡ length l.rows.items;
   described : AreDescribed (g.R.Dependencies.describes l.source) l.names l.nodes.items;
-  follows : g.R.Dependencies.follows l.fn.source l.source;
+  follows : g.R.Dependencies.follows l.fn.source true l.source;
 }
 
 abbrev pub decreases-loop-alloc : goal.decreases-loop-alloc

@@ -1,4 +1,4 @@
-use Rattle.std.proofs.Common.{◌≡◌, ℕ, List, false, sym, ap, subst, ◌∙◌}
+use Rattle.std.proofs.Common.{◌≡◌, List, true, false, sym, ap, subst, ◌∙◌}
 use Rattle.std.specs.FinMap as map
 use Rattle.mk_macros.specs.Ranks.{ranks_at}
 use Rattle.mk_rules.specs.Faults.{IsRuleFault}
@@ -12,8 +12,8 @@ use Rattle.mk_rules.specs.Rules.{has, places, recipe_places, targets_by, suffixe
 use Rattle.mk_rules.specs.Table.{named_at}
 use Rattle.mk_rules.specs.declared.graph.TheConstants.{MAX_NODES}
 use Rattle.mk_rules.specs.declared.rule_line.RuleLine.{RuleLine}
+use Rattle.mk_rules.proofs.AskedLemmas.{asked_none}
 use Rattle.mk_rules.proofs.BuildLemmas.{built, graph_refused, lines_refused, goals_refused, names_refused}
-use Rattle.mk_rules.proofs.FaultLemmas.{line_fault}
 use Rattle.mk_rules.proofs.FoundLemmas.{if_err}
 use Rattle.mk_rules.proofs.LineLemmas.{handed_on}
 use Rattle.mk_rules.proofs.LookupLemmas.{if_ok}
@@ -105,3 +105,12 @@ invariant_of-rules g c =
       recipes = λ name. subst (λ (ls : List RuleLine). option_to_list (named_at m.targets name).recipe ≡ recipe_places (targets_by false (suffixes_of ls)) 0 ls name) read (m.table.recipe name);
       all_forms = subst (λ (ls : List RuleLine). c.deref-3.result.now ≡ forms_of (suffixes_of ls) ls) read (c.deref-3.ensures.value ∙ m.all_forms);
     }
+
+pub returns-in_err-lines-clause-asked : goal.returns-in_err-lines-clause-asked
+returns-in_err-lines-clause-asked g c = asked_none (λ _. true) (g.T.Tree.asked c.args.tree.now)
+
+pub returns-in_err-makefile-clause-asked : goal.returns-in_err-makefile-clause-asked
+returns-in_err-makefile-clause-asked g c = asked_none (λ _. true) (g.T.Tree.asked c.args.tree.now)
+
+pub returns-in_err-goals-clause-asked : goal.returns-in_err-goals-clause-asked
+returns-in_err-goals-clause-asked g c = asked_none (λ _. true) (g.T.Tree.asked c.args.tree.now)

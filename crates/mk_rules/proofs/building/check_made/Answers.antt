@@ -1,9 +1,8 @@
-use Rattle.std.proofs.Common.{arith, ◌≡◌, ◌<◌, ℕ, Bool, true, false, not, List, Some, length, refl, sym, ap, subst, ◌∙◌}
+use Rattle.std.proofs.Common.{arith, ◌≡◌, ◌<◌, true, false, List, Some, length, refl, sym, ap, subst, ◌∙◌}
 use Rattle.std.specs.Prelude.{◌||◌, is_some, slice_get}
 use Rattle.std.proofs.lemmas.Option.{slice_get_read}
-use Rattle.mk_graph.specs.Numbering.{AreDescribed, name_at, has_name}
-use Rattle.mk_rules.specs.Known.{IsKnown}
-use Rattle.mk_rules.specs.Prerequisites.{Inputs, is_made}
+use Rattle.mk_graph.specs.Numbering.{name_at, has_name}
+use Rattle.mk_rules.specs.Prerequisites.{is_made}
 use Rattle.mk_rules.specs.Table.{is_named, named_at}
 use Rattle.mk_rules.specs.declared.known.Known.{Known}
 use Rattle.mk_rules.proofs.MadeLemmas.{made_is, all_names, made_more, has_at}

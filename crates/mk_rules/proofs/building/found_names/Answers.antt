@@ -48,3 +48,12 @@ returns-in-Err-Source-clause-fault g c = λ times agrees.
     (finding_fault ends.lines.now ends.targets.now ends.named ends.forms.now ends.all_forms (map.get ends.state.now) c.number.new.source.stamps.now times agrees
     (g.T.Tree.refuses c.number.new.source.tree.now) c.args.goals.now MAX_NODES meets.0 c.in-Err-Source.cause meets.1
     (λ names are. meets.2 (prerequisites_of inputs) (record { times = times; agrees = agrees; is = refl }) names are))
+
+pub returns-in-Ok-clause-asks : goal.returns-in-Ok-clause-asks
+returns-in-Ok-clause-asks g c = (c.in-Ok.ensures.follows).3
+
+pub returns-in-Err-TooMany-clause-asks : goal.returns-in-Err-TooMany-clause-asks
+returns-in-Err-TooMany-clause-asks g c = (c.in-Err-TooMany.ensures.follows).3
+
+pub returns-in-Err-Source-clause-asks : goal.returns-in-Err-Source-clause-asks
+returns-in-Err-Source-clause-asks g c = (c.in-Err-Source.ensures.follows).3

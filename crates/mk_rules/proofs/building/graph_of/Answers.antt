@@ -6,10 +6,10 @@ use Rattle.mk_rules.specs.Goals.{goals_of}
 use Rattle.mk_rules.specs.Graph.{AreSoft}
 use Rattle.mk_rules.specs.Prerequisites.{Inputs, is_target}
 use Rattle.mk_rules.specs.Rows.{EachRow, IsHardRow}
-use Rattle.mk_rules.specs.declared.fault.RuleFault.{RuleFault}
 use Rattle.mk_rules.specs.declared.fault.RuleFault.TheVariants.{OutOfMemory}
 use Rattle.mk_rules.specs.declared.rule_line.RuleLine.{RuleLine}
 use Rattle.mk_rules.proofs.AssemblyLemmas.{assembled, unmade_fault, cycle_fault}
+use Rattle.mk_rules.proofs.DistinctLemmas.{distinct_numbers}
 use Rattle.mk_rules.proofs.FoundLemmas.{target_is}
 use Rattle.mk_rules.proofs.LineLemmas.{handed_on}
 use Rattle.mk_rules.proofs.building.graph_of.Goals as goal
@@ -64,3 +64,6 @@ returns-clause-graph c = λ inputs named are found.
     (subst (λ r. AreCounted r o.soft o.counted o.soft_dropped) (sym by.hard) (subst (λ s. AreCounted h s o.counted o.soft_dropped) (sym by.soft) by.counted))
     (subst (λ r. HasCycle r → ⊥) (sym by.hard) by.acyclic)
     by.order c.in_ok-put_together.field-0 c.in_ok-put_together.ensures.graph
+
+pub put_together-requires-clause-names : goal.put_together-requires-clause-names
+put_together-requires-clause-names c = distinct_numbers c.args.numbered.names c.requires.names

@@ -1,9 +1,10 @@
-use Rattle.std.proofs.Common.{◌≡◌, sym, subst, ℕ, ℤ, List, Option, IfOk, IfErr}
+use Rattle.std.proofs.Common.{true, sym, subst}
 use Rattle.std.specs.FinMap as map
-use Rattle.mk_rules.specs.Faults.{AreTold}
-use Rattle.mk_rules.specs.Found.{AreFound, IsFindingFault, times_with}
+use Rattle.mk_rules.specs.Found.{IsFindingFault, times_with}
 use Rattle.mk_rules.specs.Prerequisites.{inputs_of, prerequisites_of}
 use Rattle.mk_rules.specs.declared.graph.TheConstants.{MAX_NODES}
+use Rattle.mk_rules.specs.Tree.{AskedOnce}
+use Rattle.mk_rules.proofs.AskedLemmas.{asked_each_once}
 use Rattle.mk_rules.proofs.FoundLemmas.{with_agrees, with_told, if_err}
 use Rattle.mk_rules.proofs.RowLaws.{distinct_names}
 use Rattle.mk_rules.proofs.LookupLemmas.{if_ok}
@@ -43,3 +44,8 @@ returns-clause-names g c =
     (λ n are. distinct_names (prerequisites_of (inputs_of rules.lines.now (map.get rules.state.now) (times_with stamps told))) c.args.goals.now n.names
     (are (times_with stamps told) (with_agrees stamps told)).names_are)
     c.found_names.ensures.found
+
+pub returns-clause-asked : goal.returns-clause-asked
+returns-clause-asked g c =
+    let ended = c.tree-1.given.1 (sym c.found_names.ensures.same) in
+    subst (λ t. AskedOnce (g.T.Tree.asked c.args.tree.now) (λ _. true) (g.T.Tree.asked t)) (sym ended) (asked_each_once _ _ _ _ _ c.found_names.ensures.asks)

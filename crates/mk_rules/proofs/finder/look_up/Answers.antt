@@ -1,11 +1,11 @@
-use Rattle.std.proofs.Common.{◌≡◌, ◌∙◌, refl, ap}
+use Rattle.std.proofs.Common.{◌∙◌, refl, ap}
 use Rattle.std.specs.Prelude.{option_to_list}
 use Rattle.std.specs.FinMap as map
-use Rattle.mk_rules.specs.Known.{IsLookUpFault}
-use Rattle.mk_rules.specs.Prerequisites.{inputs_of, hidden_in, first_or}
-use Rattle.mk_rules.proofs.FinderLemmas.{nodes_are, known_is, own_look, source_look, hidden_look}
-use Rattle.mk_rules.proofs.LineLemmas.{handed_on}
+use Rattle.mk_rules.specs.Prerequisites.{inputs_of, first_or}
+use Rattle.mk_rules.proofs.FinderLemmas.{nodes_are, known_is}
 use Rattle.mk_rules.specs.LooksLaws.{looks_on}
+use Rattle.mk_rules.specs.Stamps.{is_known}
+use Rattle.mk_rules.proofs.AskedLemmas.{in_vain}
 use Rattle.mk_rules.proofs.finder.look_up.Goals as goal
 
 pub returns-clause-prerequisites : goal.returns-clause-prerequisites
@@ -41,3 +41,27 @@ returns-in_err-add_hidden_of-clause-looks g c =
     looks_on _ _ _ _ _ _ _ _ _ _
     (looks_on _ _ _ _ _ _ _ _ _ _ (record { grows = tells.grows; answers = tells.honest; same = tells.same; kept = tells.kept }) c.in_ok-source.ensures.looks)
     c.in_err-add_hidden_of.ensures.looks
+
+pub returns-clause-asks : goal.returns-clause-asks
+returns-clause-asks g c = λ earlier once.
+    c.in_ok-add_hidden_of.ensures.asks earlier (c.in_ok-source.ensures.asks earlier (c.in_ok-stamp.ensures.asks earlier once))
+
+pub returns-in_err-add_hidden_of-clause-asks : goal.returns-in_err-add_hidden_of-clause-asks
+returns-in_err-add_hidden_of-clause-asks g c = in_vain _ _ _ _ _ _ (c.from_residual-in_err-add_hidden_of.ensures).1
+    (λ earlier once. c.in_err-add_hidden_of.ensures.asks earlier (c.in_ok-source.ensures.asks earlier (c.in_ok-stamp.ensures.asks earlier once)))
+
+pub returns-in_err-source-clause-asks : goal.returns-in_err-source-clause-asks
+returns-in_err-source-clause-asks g c = in_vain _ _ _ _ _ _ (c.from_residual-in_err-source.ensures).1
+    (λ earlier once. c.in_err-source.ensures.asks earlier (c.in_ok-stamp.ensures.asks earlier once))
+
+pub returns-in_err-explicit-clause-asks : goal.returns-in_err-explicit-clause-asks
+returns-in_err-explicit-clause-asks g c = in_vain _ _ _ _ _ _ (c.from_residual-in_err-explicit.ensures).1
+    (λ earlier once. (is_known c.implicit_source.new.stamps, c.in_ok-source.ensures.asks earlier (c.in_ok-stamp.ensures.asks earlier once)))
+
+pub returns-in_err-entry-clause-asks : goal.returns-in_err-entry-clause-asks
+returns-in_err-entry-clause-asks g c = in_vain _ _ _ _ _ _ (c.from_residual-in_err-entry.ensures).1
+    (λ earlier once. (is_known c.implicit_source.new.stamps, c.in_ok-source.ensures.asks earlier (c.in_ok-stamp.ensures.asks earlier once)))
+
+pub returns-in_err-mentioned-clause-asks : goal.returns-in_err-mentioned-clause-asks
+returns-in_err-mentioned-clause-asks g c = in_vain _ _ _ _ _ _ (c.from_residual-in_err-mentioned.ensures).1
+    (λ earlier once. (is_known c.implicit_source.new.stamps, c.in_ok-source.ensures.asks earlier (c.in_ok-stamp.ensures.asks earlier once)))

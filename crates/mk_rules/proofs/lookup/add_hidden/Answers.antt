@@ -1,4 +1,4 @@
-use Rattle.std.proofs.Common.{◌≡◌, true, ℕ, List, [], ◌∷◌, refl, sym, subst}
+use Rattle.std.proofs.Common.{◌≡◌, true, ℕ, List, [], sym, subst}
 use Rattle.std.specs.FinMap as map
 use Rattle.mk_rules.specs.Prerequisites.{inputs_of, is_node}
 use Rattle.mk_rules.specs.Rules.{has}
@@ -6,6 +6,8 @@ use Rattle.mk_rules.specs.Hidden.{IsNamesFault}
 use Rattle.mk_rules.proofs.HiddenLemmas.{HiddenSoFar, hidden_step, hidden_start, hidden_end, names_fault, has_first, has_later}
 use Rattle.mk_rules.proofs.LineLemmas.{handed_on}
 use Rattle.mk_rules.specs.LooksLaws.{looks_none, looks_on}
+use Rattle.mk_rules.specs.Stamps.{is_known}
+use Rattle.mk_rules.proofs.AskedLemmas.{in_vain}
 use Rattle.mk_rules.proofs.lookup.add_hidden.Goals as goal
 
 pub loop-name-preserved : goal.loop-name-preserved
@@ -29,6 +31,7 @@ loop-name-preserved g c =
           (tells.node times agrees) puts.judged puts.nodes puts.hidden;
       within = λ n is. inv.within n (subst (λ (ls : List (List ℕ)). has n ls ≡ true) (sym c.in-Some.ensures.steps) (has_later n name left is));
       looks = looks_on _ _ _ _ _ _ _ _ _ _ inv.looks tells.looks;
+      asks = λ earlier once. tells.asks earlier (inv.asks earlier once);
     }
 
 pub returns-in_err-node-clause-fault : goal.returns-in_err-node-clause-fault
@@ -58,6 +61,7 @@ loop-name-init g c =
           (hidden_start p m.judged m.nodes c.args.hidden.now m.hidden.items c.requires.nodes c.requires.none);
       within = λ n is. subst (λ (ls : List (List ℕ)). has n ls ≡ true) (sym start) is;
       looks = looks_none _ _ _ _;
+      asks = λ earlier once. once;
     }
 
 pub returns-clause-hidden : goal.returns-clause-hidden
@@ -70,3 +74,11 @@ returns-clause-hidden g c =
     let p = is_node (inputs_of rules.lines.now (map.get rules.state.now) times) in
     hidden_end p hard c.args.hidden.now m
     (subst (λ (ls : List (List ℕ)). HiddenSoFar p hard c.args.hidden.now ls m.judged m.nodes m.hidden.items) ended (c.loop-name.invariant.so times agrees))
+
+pub returns-in_err-node-clause-asks : goal.returns-in_err-node-clause-asks
+returns-in_err-node-clause-asks g c = in_vain _ _ _ _ _ _ (c.from_residual.ensures).1
+    (λ earlier once. c.in_err-node.ensures.asks earlier (c.loop-name.invariant.asks earlier once))
+
+pub returns-in_err-add_hidden-clause-asks : goal.returns-in_err-add_hidden-clause-asks
+returns-in_err-add_hidden-clause-asks g c = in_vain _ _ _ _ _ _ (c.from_residual-in_err-add_hidden.ensures).1
+    (λ earlier once. (is_known c.is_node.new.stamps, c.in_ok-node.ensures.asks earlier (c.loop-name.invariant.asks earlier once)))

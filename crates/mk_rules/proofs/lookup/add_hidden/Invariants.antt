@@ -2,7 +2,7 @@ use Rattle.std.proofs.Common.{◌≡◌, true, List, ℕ, ℤ, Option}
 use Rattle.std.specs.FinMap as map
 use Rattle.mk_rules.specs.Prerequisites.{inputs_of, is_node}
 use Rattle.mk_rules.specs.Rules.{has}
-use Rattle.mk_rules.specs.Stamps.{AgreesWith, Looks}
+use Rattle.mk_rules.specs.Stamps.{AgreesWith, Asks, Looks}
 use Rattle.mk_rules.proofs.HiddenLemmas.{HiddenSoFar}
 use Rattle.mk_rules.proofs.lookup.add_hidden.Given as goal
 
@@ -13,4 +13,5 @@ invariant-loop-name g l = record {
       l.mentioned.judged l.mentioned.nodes l.mentioned.hidden.items;
   within : (n : List ℕ) → has n l.name-iterator ≡ true → has n l.hidden ≡ true;
   looks : Looks g.T.Tree.honest l.fn.stamps l.stamps (g.T.Tree.stamps l.fn.tree) (g.T.Tree.stamps l.tree) (g.T.Tree.refuses l.fn.tree) (g.T.Tree.refuses l.tree);
+  asks : Asks true l.fn.stamps l.stamps (g.T.Tree.asked l.fn.tree) (g.T.Tree.asked l.tree);
 }

@@ -1,4 +1,4 @@
-use Rattle.std.proofs.Common.{◌≡◌, false, ◌∙◌}
+use Rattle.std.proofs.Common.{◌≡◌, false}
 use Rattle.std.specs.Prelude.{is_some}
 use Rattle.std.specs.FinMap as map
 use Rattle.mk_rules.proofs.LookupLemmas.{if_ok, implicit_is}
@@ -9,12 +9,12 @@ returns-clause-source g c =
     let rules = c.args.rules.now in
     let name = c.args.name.now in
     let none : is_some c.recipe.result ≡ false = cc in
-    if_ok c.source_of.result _ _
+    if_ok c.source.result _ _
     (λ found is. λ times agrees.
     implicit_is rules.lines.now rules.targets.now rules.named (map.get rules.state.now) times rules.forms.now name c.recipe.result found rules.all_forms c.recipe.ensures none (is times agrees))
-    c.source_of.ensures.source
+    c.source.ensures.source
 
 pub returns-clause-looks : goal.returns-clause-looks
 returns-clause-looks g c =
-    let tells = c.source_of.ensures in
+    let tells = c.source.ensures in
     record { grows = tells.grows; answers = tells.honest; same = tells.same; kept = tells.kept }

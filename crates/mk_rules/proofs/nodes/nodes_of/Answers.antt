@@ -1,4 +1,4 @@
-use Rattle.std.proofs.Common.{rules, arith, ◌≡◌, ◌+◌, ◌∷◌, [], ◌++◌, length, drop, sym, ap, subst, ◌∙◌, length-append}
+use Rattle.std.proofs.Common.{rules, arith, ◌≡◌, ◌+◌, ◌∷◌, [], length, drop, sym, ap, subst, ◌∙◌, length-append}
 use Rattle.std.specs.Vec.Iter.{into_iter_items, into_iter_len}
 use Rattle.mk_graph.specs.Edges.{row}
 use Rattle.mk_rules.specs.Nodes.{IsMadeOf, AreMadeOf}

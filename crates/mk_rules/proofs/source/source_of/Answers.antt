@@ -1,5 +1,7 @@
-use Rattle.std.proofs.Common.{◌≡◌, ◌+◌, ◌++◌, ◌∷◌, List, [], Some, None, true, false, take, drop, refl, sym, ap, ◌∙◌}
+use Rattle.std.proofs.Common.{◌≡◌, ◌+◌, ◌++◌, ◌∷◌, List, [], Some, true, false, take, drop, refl, sym, ap, ◌∙◌}
 use Rattle.std.proofs.lemmas.List.{take-append-drop}
+use Rattle.mk_rules.specs.Stamps.{is_known}
+use Rattle.mk_rules.proofs.AskedLemmas.{in_vain}
 use Rattle.mk_rules.specs.Source.{stem_of, source_at, source_of, IsSourceFault}
 use Rattle.mk_rules.specs.Table.{is_there}
 use Rattle.mk_rules.specs.declared.form.Form.{Form}
@@ -45,6 +47,7 @@ loop-form-preserved g c =
       honest = λ honest agrees. tells.honest honest (inv.honest honest agrees);
       same = tells.same ∙ inv.same;
       kept = λ n refused. tells.kept n (inv.kept n refused);
+      asks = λ earlier once. tells.asks earlier (inv.asks earlier once);
     }
 
 pub loop-form-preserved-in_default : goal.loop-form-preserved-in_default
@@ -62,6 +65,7 @@ loop-form-preserved-in_default g c =
       honest = inv.honest;
       same = inv.same;
       kept = inv.kept;
+      asks = inv.asks;
     }
 
 pub returns-in_err-is_there-clause-fault : goal.returns-in_err-is_there-clause-fault
@@ -76,3 +80,14 @@ returns-in_err-is_there-clause-fault g c =
     handed_on _ (IsSourceFault c.args.targets.now c.is_there.new.stamps (g.T.Tree.refuses c.is_there.new.tree) forms name) c.in_err-is_there.field-0.0 (c.from_residual-in_err-is_there.ensures).1
     (reached_fault c.args.targets.now c.is_there.new.stamps (g.T.Tree.refuses c.is_there.new.tree) forms name c.as_slice.result.now c.loop-form.form-index form stem c.loop-form-test.true c.form-item.is
     fits named (tells.asked refl) (λ times agrees. c.loop-form.invariant.none times (tells.grows times agrees)) c.in_err-is_there.field-0.0 tells.fault)
+
+pub returns-then-branch-clause-asks : goal.returns-then-branch-clause-asks
+returns-then-branch-clause-asks g c = λ earlier once. c.in_ok-is_there.ensures.asks earlier (c.loop-form.invariant.asks earlier once)
+
+pub returns-in_err-is_there-clause-asks : goal.returns-in_err-is_there-clause-asks
+returns-in_err-is_there-clause-asks g c = in_vain _ _ _ _ _ _ (c.from_residual-in_err-is_there.ensures).1
+    (λ earlier once. c.in_err-is_there.ensures.asks earlier (c.loop-form.invariant.asks earlier once))
+
+pub returns-in_err-source-clause-asks : goal.returns-in_err-source-clause-asks
+returns-in_err-source-clause-asks g c = in_vain _ _ _ _ _ _ (c.from_residual.ensures).1
+    (λ earlier once. (is_known c.loop-form.stamps, c.loop-form.invariant.asks earlier once))

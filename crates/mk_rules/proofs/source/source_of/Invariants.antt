@@ -1,6 +1,6 @@
-use Rattle.std.proofs.Common.{◌≡◌, take, List, ℕ, ℤ, Option, None}
+use Rattle.std.proofs.Common.{◌≡◌, true, take, List, ℕ, ℤ, Option, None}
 use Rattle.mk_rules.specs.Source.{source_of}
-use Rattle.mk_rules.specs.Stamps.{AgreesWith}
+use Rattle.mk_rules.specs.Stamps.{AgreesWith, Asks}
 use Rattle.mk_rules.specs.Table.{is_there}
 use Rattle.mk_rules.proofs.source.source_of.Given as goal
 
@@ -11,4 +11,5 @@ invariant-loop-form g l = record {
   honest : g.T.Tree.honest → AgreesWith l.fn.stamps (g.T.Tree.stamps l.fn.tree) → AgreesWith l.stamps (g.T.Tree.stamps l.tree);
   same : g.T.Tree.stamps l.tree ≡ g.T.Tree.stamps l.fn.tree;
   kept : (n : List ℕ) → g.T.Tree.refuses l.fn.tree n → g.T.Tree.refuses l.tree n;
+  asks : Asks true l.fn.stamps l.stamps (g.T.Tree.asked l.fn.tree) (g.T.Tree.asked l.tree);
 }

@@ -1,8 +1,7 @@
-use Rattle.std.proofs.Common.{◌≡◌, ℕ, List, true, false, sym, ap, subst, ◌∙◌}
+use Rattle.std.proofs.Common.{◌≡◌, ℕ, List, true, false, ap, subst, ◌∙◌}
 use Rattle.mk_rules.specs.Forms.{forms_of}
 use Rattle.mk_rules.specs.Rules.{suffixes_of}
 use Rattle.mk_rules.specs.Supported.{AreSupported}
-use Rattle.mk_rules.specs.declared.rule_line.RuleLine.{RuleLine}
 use Rattle.mk_rules.proofs.TakenLemmas.{one_recipe_each, table_of}
 use Rattle.mk_rules.proofs.makefile.Makefile.of_lines.Goals as goal
 

@@ -2,6 +2,8 @@ use Rattle.std.proofs.Common.{◌≡◌, ℕ, ℤ, List, Option, Some, sym, ap, 
 use Rattle.std.specs.Map.{lookup}
 use Rattle.std.specs.Str.{bytes_eq}
 use Rattle.mk_macros.proofs.DefinitionLemmas.{is_named}
+use Rattle.std.specs.Prelude.{is_some}
+use Rattle.mk_rules.proofs.AskedLemmas.{asked_more, asked_in_vain, some_known, in_vain}
 use Rattle.mk_rules.proofs.NameLemmas.{lookup-inserted}
 use Rattle.mk_rules.proofs.StampLemmas.{Fits, stamp_is, before, later}
 use Rattle.mk_rules.specs.Stamps.{known_stamp}
@@ -29,3 +31,28 @@ returns-in_ok-insert-in-Ok-clause-honest g c = λ honest fits.
     let is : times c.args.name.now ≡ c.in-Ok.stamp = ap (λ (f : List ℕ → Option ℤ). f c.args.name.now) kept ∙ sym (c.in-Ok.ensures.stamp honest) in
     later (known_stamp c.args.self.now) _ c.args.name.now c.in-Ok.stamp (adds g c) times is
     (subst (λ (f : List ℕ → Option ℤ). Fits (known_stamp c.args.self.now) f) (sym kept) fits)
+
+pub returns-in_ok-insert-in-Ok-clause-asks : goal.returns-in_ok-insert-in-Ok-clause-asks
+returns-in_ok-insert-in-Ok-clause-asks g c = λ earlier once.
+    let known = known_stamp c.args.self.now in
+    let name = c.args.name.now in
+    asked_more known name _ _ c.requires c.in-Ok.ensures.asked earlier once _
+    (λ n. ap is_some (adds g c n) ∙ some_known (bytes_eq n name) c.in-Ok.stamp (known n))
+
+pub returns-in_err-from_slice-in-Ok-clause-asks : goal.returns-in_err-from_slice-in-Ok-clause-asks
+returns-in_err-from_slice-in-Ok-clause-asks g c = in_vain _ _ _ _ _ _ (c.from_residual.ensures).1
+    (asked_in_vain (known_stamp c.args.self.now) c.args.name.now _ _ c.requires c.in-Ok.ensures.asked)
+
+pub returns-in_err-insert-in-Ok-clause-asks : goal.returns-in_err-insert-in-Ok-clause-asks
+returns-in_err-insert-in-Ok-clause-asks g c = in_vain _ _ _ _ _ _ (c.from_residual-in_err-insert-in-Ok.ensures).1
+    (asked_in_vain (known_stamp c.args.self.now) c.args.name.now _ _ c.requires c.in-Ok.ensures.asked)
+
+pub returns-in_err-from_slice-in-Err-CannotLook-clause-asks : goal.returns-in_err-from_slice-in-Err-CannotLook-clause-asks
+returns-in_err-from_slice-in-Err-CannotLook-clause-asks g c = in_vain _ _ _ _ _ _ (c.from_residual-in_err-from_slice-in-Err-CannotLook.ensures).1
+    (asked_in_vain (known_stamp c.args.self.now) c.args.name.now _ _ c.requires c.in-Err-CannotLook.ensures.asked)
+
+pub returns-in-Err-OutOfMemory-clause-asks : goal.returns-in-Err-OutOfMemory-clause-asks
+returns-in-Err-OutOfMemory-clause-asks g c = asked_in_vain (known_stamp c.args.self.now) c.args.name.now _ _ c.requires c.in-Err-OutOfMemory.ensures.asked
+
+pub returns-in_ok-from_slice-in-Err-CannotLook-clause-asks : goal.returns-in_ok-from_slice-in-Err-CannotLook-clause-asks
+returns-in_ok-from_slice-in-Err-CannotLook-clause-asks g c = asked_in_vain (known_stamp c.args.self.now) c.args.name.now _ _ c.requires c.in-Err-CannotLook.ensures.asked
