@@ -69,7 +69,7 @@ pub fn name(alloc: Global, node: usize) -> Result<ByteString, AllocError> {
     ByteString::from_slice(alloc, name.as_bytes())
 }
 
-fn line(alloc: Global, text: &str) -> Result<Line, AllocError> {
+pub fn line(alloc: Global, text: &str) -> Result<Line, AllocError> {
     Ok(Line {
         text: ByteString::from_slice(alloc, text.as_bytes())?,
         is_printed: true,

@@ -35,6 +35,7 @@ pub fn compact<D: Disk + Drop>(alloc: Global, store: &mut Store<D>) -> Result<()
     ensures held { D.honest → OnOk result (HoldsUpTo (D.seen store.new.log.disk (other store.old.log.side)) versions.Two
         (store.old.log.generation + 1) (kept_records store.old.state) store.new.log.end) }
     ensures alive { OnOk result ((store.old.log.dead ≡ false) × (store.new.log.dead ≡ false)) }
+    ensures success { OnOk result (D.faults store.new.log.disk ≡ D.faults store.old.log.disk) }
     ensures device { IsErrOf result faults.Device
         → (store.new.log.dead ≡ true) × Rises (D.faults store.old.log.disk) (D.faults store.new.log.disk) }
     ensures unchanged { IfErr result (λ fault. fault ≢ faults.Device → store.new.log ≡ store.old.log) }

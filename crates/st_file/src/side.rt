@@ -100,9 +100,8 @@ pub fn read_side<S: RecordSink>(
     Ok(Some(read_batches(alloc, side, bytes, version, generation, batches, sink)?))
 }
 
-/// What the bytes of a side hold, or the first fault in them; want of memory is answered only where a growth was
-/// refused. What stands behind the closed gate isn't read. It takes time in proportion to the bytes before it, and
-/// grows for no length or count that the bytes don't bear out.
+/// What the bytes of a side hold, or the first fault in them, or that memory ran out. What stands behind the closed gate
+/// isn't read, and nothing grows for a length or a count that the bytes don't bear out.
 pub fn side_of(alloc: Global, side: Which, bytes: &[u8]) -> Result<Side, OpenFault>
     // What is answered is so.
     ensures found { IfSome (reading_of result) (Reads side bytes.now) }

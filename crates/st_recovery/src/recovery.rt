@@ -19,7 +19,7 @@ pub struct Chosen {
 }
 
 /// The state that the bytes of the two sides recover, or why they are refused: side A's fault, else side B's, else that
-/// both hold one generation. `OpenFault::Device` is never answered, and want of memory only where a growth was refused.
+/// both hold one generation. `OpenFault::Device` is never answered, and want of memory only where reading comes to records.
 /// Names are hashed under the key, which changes nothing of what is answered.
 pub fn recover(alloc: Global, key: HashKey, a: &[u8], b: &[u8]) -> Result<State, OpenFault>
     // What is answered is so.

@@ -1,0 +1,13 @@
+pub mod ListLemmas
+pub mod BatchLemmas
+pub mod HistoryLemmas
+pub mod JudgeLemmas
+pub mod StepLemmas
+pub mod PromiseLemmas
+pub mod SiteLemmas
+pub mod TurnLemmas
+pub mod FlushLemmas
+pub mod RunLemmas
+pub mod ExampleLemmas
+pub mod WritableLemmas
+pub mod SameLemmas

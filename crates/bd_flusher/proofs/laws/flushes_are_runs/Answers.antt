@@ -1,0 +1,10 @@
+use Rattle.bd_flusher.proofs.RunLemmas.{flushes_are_runs, looks_are_steps, takes_are_steps, new_is_opened}
+use Rattle.bd_flusher.proofs.laws.flushes_are_runs.Goals as goal
+
+pub returns : goal.returns
+returns g c = record {
+  new = new_is_opened (Unit {0}) g.D.Disk.honest g.D.Disk.moments;
+  looks = looks_are_steps (Unit {0}) g.D.Disk.honest g.D.Disk.moments;
+  takes = takes_are_steps (Unit {0}) g.D.Disk.honest g.D.Disk.moments;
+  flushes = flushes_are_runs (Unit {0}) g.D.Disk.honest g.D.Disk.moments;
+}

@@ -1,0 +1,45 @@
+-- All that has happened since a store was opened, as far as the promise speaks of it. Own.
+use Rattle.std.specs.Prelude.{ℕ, Bool, false, List, [], Option, None, take}
+use Rattle.st_disk.specs.Crash.{Sides}
+use Rattle.st_records.specs.declared.record.Record.{Record}
+use Rattle.st_records.specs.State.{StateMap, replay}
+use Rattle.bd_flusher.specs.declared.site.receipt.Receipt.{Receipt}
+
+-- the state that opening gave; the submitted records in order, so that a ticket is a place among them; how many of them are
+-- told, and how many were taken to be told next; the ends of the commits; the receipts that were given; the tickets whose
+-- recipe was cleared, started and ended; whether a call of the device has failed; what a power cut may leave of both sides;
+-- and what it left, if one came
+pub record World : Type 0 where
+  pub opening : StateMap
+  pub submitted : List Record
+  pub told : ℕ
+  pub taken : ℕ
+  pub ends : List ℕ
+  pub receipts : List Receipt
+  pub cleared : List ℕ
+  pub started : List ℕ
+  pub ended : List ℕ
+  pub dead : Bool
+  pub sides : Sides
+  pub left : Option (List ℕ × List ℕ)
+
+-- right after a store was opened: it recovered this state, and a power cut may leave this
+abbrev pub opened : StateMap → Sides → World
+opened opening sides = record {
+  opening = opening;
+  submitted = [];
+  told = 0;
+  taken = 0;
+  ends = [];
+  receipts = [];
+  cleared = [];
+  started = [];
+  ended = [];
+  dead = false;
+  sides = sides;
+  left = None;
+}
+
+-- the state after the first n submitted records, taken in one after another
+abbrev pub state_after : World → ℕ → StateMap
+state_after w n = replay w.opening (take n w.submitted)

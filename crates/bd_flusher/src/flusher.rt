@@ -1,0 +1,62 @@
+//! The two locks, and how a worker comes to a receipt.
+
+ghost use Rattle.std.specs.Prelude.{◌≡◌, ℕ, IfOk, IsErrOf};
+ghost use Rattle.bd_flusher.specs.declared.fault.FlushFault.TheVariants as faults;
+
+use crate::{FlushFault, Receipt, Site};
+use bd_lists::{Board, Ticket};
+use st_disk::Disk;
+use st_records::Record;
+use std::alloc::Global;
+use std::sync::{Mutex, Wait};
+
+/// A site and a board, each behind its lock. The site's lock may be held while the board's is taken, never the other way
+/// round; no recipe is to be run while either is held.
+#[derive(Drop)]
+pub struct Flusher<D: Disk + Drop> {
+    pub site: Mutex<Site<D>>,
+    pub board: Mutex<Board<Receipt>>,
+}
+
+impl<D: Disk + Drop> Flusher<D> {
+    /// Writes what is held, or else all that waits on the board.
+    fn write<R: Wait>(&self, rt: &R, alloc: Global, site: &mut Site<D>) -> Result<(), FlushFault>
+        ensures { (ticket : ℕ) → IsErrOf result (faults.Unknown ticket) → ⊥ }
+    {
+        {
+            let mut board = self.board.lock(rt);
+            site.take_in(alloc, &mut board)?;
+        }
+        site.flush(alloc)
+    }
+
+    /// The receipt of a record that was submitted with this ticket. Where another worker has written it meanwhile, the receipt
+    /// is there at once; else all that waits is written, and others find theirs. A batch that an earlier call left held is
+    /// written first, and the record then with the next one.
+    pub fn acknowledge<R: Wait>(
+        &self,
+        rt: &R,
+        alloc: Global,
+        ticket: Ticket,
+        note: Record,
+    ) -> Result<Receipt, FlushFault>
+        ensures ok { IfOk result (λ r. (r.ticket ≡ ticket) × (r.noted ≡ note)) }
+        ensures unknown { (other : ℕ) → IsErrOf result (faults.Unknown other) → other ≡ ticket }
+    {
+        let mut site = self.site.lock(rt);
+        let note = match site.look(ticket, note) {
+            Ok(receipt) => return Ok(receipt),
+            Err(note) => note,
+        };
+        self.write(rt, alloc, &mut site)?;
+        let note = match site.look(ticket, note) {
+            Ok(receipt) => return Ok(receipt),
+            Err(note) => note,
+        };
+        self.write(rt, alloc, &mut site)?;
+        match site.look(ticket, note) {
+            Ok(receipt) => Ok(receipt),
+            Err(_) => Err(FlushFault::Unknown(ticket)),
+        }
+    }
+}
