@@ -1,9 +1,10 @@
 #!/bin/bash
-# Proves and builds the programs into bin/, and lists the example state file with the new dmk_state.
+# Proves and builds the programs into bin/, lists the example's state with the new dmk_state, and asks the new dmk what a
+# build of the example would run.
 set -eu
 cd "$(dirname "$0")/.."
 mkdir -p bin
-for program in dmk_state; do
+for program in dmk_state dmk; do
     echo "proving and building $program and the crates below it (some minutes the first time)"
     # `rt run` is the command that links a program; what --help prints is of no interest here. Of what the prover prints
     # the line of each crate is shown when it is proved.
@@ -12,5 +13,19 @@ for program in dmk_state; do
     cp "crates/$program/out/$program" bin/
 done
 rm -f bin/build.log
-echo "\$ bin/dmk_state examples/hello/make.state"
-exec bin/dmk_state examples/hello/make.state
+echo "\$ bin/dmk_state examples/hello/.make.state"
+bin/dmk_state examples/hello/.make.state
+
+# A copy, in which all files have one time, as after a build that was cut off while hello was linked.
+rm -rf bin/hello
+cp -r examples/hello bin/hello
+cd bin/hello
+touch main.o parse.o hello
+touch -d '2000-01-01 00:00:00' ./*
+echo "\$ cd bin/hello"
+echo "\$ ../dmk -n"
+../dmk -n
+echo "\$ touch parse.h"
+touch parse.h
+echo "\$ ../dmk -n"
+../dmk -n

@@ -45,7 +45,7 @@ def batch(records):
 def example():
     yield header(1)
     yield batch([begun("main.o"), begun("parse.o")])
-    yield batch([done("main.o", ["cc -O2 -c main.c"], ["/usr/include/stdio.h", "parse.h"], ["main.c"])])
+    yield batch([done("main.o", ["cc -O2 -c main.c"], ["parse.h"], ["main.c"])])
     yield batch([done("parse.o", ["cc -O2 -c parse.c"], ["parse.h"], ["parse.c"]), begun("test")])
     yield batch([begun("hello")])
     yield batch([failed("test", 2)])

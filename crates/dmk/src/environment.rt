@@ -1,0 +1,56 @@
+//! The variables of the environment, as bytes.
+use byte_strings::ByteString;
+use dmk_drive::Variable;
+use std::alloc::{AllocError, Global};
+use std::env::FillError;
+use std::rt::Env;
+
+// How often the room for an entry is doubled: up to 32 MB, and the kernel hands a program no longer one.
+const MAX_DOUBLINGS: usize = 17;
+
+/// The entry of this number; None behind the last one.
+fn entry(rt: HostRuntime, number: usize) -> Result<Option<Vec<u8>>, AllocError> {
+    let alloc = rt.alloc();
+    let mut capacity: usize = 256;
+    for _ in 0..=MAX_DOUBLINGS {
+        let mut bytes = vec![in alloc; 0u8; capacity]?;
+        match rt.var_at(number, bytes.as_mut_slice()) {
+            Ok(len) => {
+                bytes.truncate(len);
+                return Ok(Some(bytes));
+            }
+            Err(FillError::NotPresent) => return Ok(None),
+            Err(FillError::TooLong) => capacity = capacity.saturating_mul(2),
+        }
+    }
+    Err(AllocError)
+}
+
+/// The name and the value, which the first `=` parts; None where there is no `=`.
+fn variable_of(alloc: Global, entry: &[u8]) -> Result<Option<Variable>, AllocError> {
+    let Some(at) = entry.iter().position(|byte| *byte == b'=') else {
+        return Ok(None);
+    };
+    let (name, rest) = entry.split_at(at);
+    let Some((_equals, value)) = rest.split_first() else {
+        return Ok(None);
+    };
+    Ok(Some(Variable {
+        name: ByteString::from_slice(alloc, name)?,
+        value: ByteString::from_slice(alloc, value)?,
+    }))
+}
+
+/// All variables, in their order. What isn't one is passed over.
+pub fn read_environment(rt: HostRuntime) -> Result<Vec<Variable>, AllocError> {
+    let mut variables = Vec::new(rt.alloc());
+    for number in 0..usize::MAX {
+        let Some(entry) = entry(rt, number)? else {
+            break;
+        };
+        if let Some(variable) = variable_of(rt.alloc(), &entry)? {
+            variables.push(variable)?;
+        }
+    }
+    Ok(variables)
+}

@@ -1,0 +1,100 @@
+-- What was printed and answered, in the words of the plan.
+use Rattle.std.proofs.Common.{arith, ◌≡◌, ◌≢◌, ◌⊎◌, ◌||◌, ◌∙◌, inl, inr, ℕ, ℤ, Bool, true, false, not, List, Option, Result, Ok, Err, IfOk, IsOk, IsErr, refl, sym, ap, subst}
+use Rattle.std.specs.Io.KnownBytes.{Appends, Keeps}
+use Rattle.mk_reader.specs.Text.{is_empty}
+use Rattle.mk_reader.specs.declared.item.Item.{Item}
+use Rattle.mk_recipe.specs.declared.line.Line.{Line}
+use Rattle.st_disk.specs.declared.which.Which.{Which}
+use Rattle.dmk_drive.specs.Output.{AppendsPart, mode_of, question_status}
+use Rattle.dmk_drive.specs.Passing.{listing_text}
+use Rattle.dmk_drive.specs.Planned.{AreItems, Tells, Plans}
+use Rattle.dmk_drive.specs.declared.fault.Fault.{Fault}
+use Rattle.dmk_drive.specs.declared.options.Mode.{Mode}
+use Rattle.dmk_drive.specs.declared.options.Mode.TheVariants as mode
+use Rattle.dmk_drive.specs.declared.planning.DryRun.{DryRun}
+use Rattle.dmk_drive.specs.declared.variable.Variable.{Variable}
+
+-- where the words ask whether there is a recipe to run, the question counts
+pub asked_mode : (asks dry : Bool) (m : Mode) → asks ≡ true → m ≡ mode_of asks dry → m ≡ mode.Question
+asked_mode asks dry m yes_asked is = is ∙ ap (λ a. mode_of a dry) yes_asked
+
+abbrev IsNoQuestion : Mode → Type 0
+IsNoQuestion mode.Run = Unit {0}
+IsNoQuestion mode.DryRun = Unit {0}
+IsNoQuestion mode.Question = ⊥
+
+unasked : (dry : Bool) → IsNoQuestion (mode_of false dry)
+unasked true = tt
+unasked false = tt
+
+pub unasked_mode : (asks dry : Bool) (m : Mode) → asks ≡ false → m ≡ mode_of asks dry → m ≢ mode.Question
+unasked_mode asks dry m not_asked is = λ question. subst IsNoQuestion (sym (is ∙ ap (λ a. mode_of a dry) not_asked) ∙ question) (unasked dry)
+
+-- a run that is neither a question nor dry finds nothing
+pub dry_or_asks : (asks is_dry asked : Bool) (Asked : Type 0) (m : Mode) → (asked ≡ true → Asked) → m ≡ mode_of asks (is_dry || asked) → m ≢ mode.Run
+    → (asks ≡ true) ⊎ ((asks ≡ false) × ((is_dry ≡ true) ⊎ Asked))
+dry_or_asks true is_dry asked Asked m has is dry = inl refl
+dry_or_asks false true asked Asked m has is dry = inr (refl, inl refl)
+dry_or_asks false false true Asked m has is dry = inr (refl, inr (has refl))
+dry_or_asks false false false Asked m has is dry = absurd (dry is)
+
+pub dry_of : (m : Mode) (found : Result DryRun Fault) → IsOk found → IfOk found (λ run. m ≢ mode.Run) → m ≢ mode.Run
+dry_of m (Ok run) ok dry = dry
+dry_of m (Err f) ok dry = absurd cc
+
+no_value : false ≡ true → ⊥
+no_value is = cc
+
+pub not_two : (status : ℕ) → status ≡ 0 → status ≢ 2
+not_two status zero = λ two. omega (arith, zero, two)
+
+module _ (Answers : List ℕ → Option (List ℕ) → Type 0) (Absent : List ℕ → Type 0) (named : Option (List ℕ))
+    (definitions environment : List Variable) (targets : List (List ℕ)) (honest : Type 0) (stamps : List ℕ → Option ℤ)
+    (disk_honest : Type 0) (seen : Which → List ℕ) where
+  -- what is told of a run for the makefile that is found
+  abbrev pub Told : DryRun → Type 0
+  Told run = (items : List Item) × AreItems Answers Absent named items
+      × Tells definitions environment targets honest stamps disk_honest seen items run
+
+  pub listed_plan : (old new : Option (List ℕ)) (got : Result DryRun Fault) → IfOk got Told → IsOk got →
+      IfOk got (λ run. Appends old new run.text.items) →
+      (plan : List (List Line)) × Plans Answers Absent named definitions environment targets honest stamps disk_honest seen plan
+      × Appends old new (listing_text plan)
+  listed_plan old new (Ok run) (items, are, tells) found appended = (
+    tells.listed,
+    record { items = items; are_items = are; dropped = run.soft_dropped; planned = tells.planned },
+    subst (Appends old new) tells.text appended,
+  )
+  listed_plan old new (Err f) told found appended = absurd (no_value found)
+
+  pub asked_plan : (status : ℕ) (got : Result DryRun Fault) → IfOk got Told → IsOk got →
+      IfOk got (λ run. (listed : List (List Line)) → run.lists_any ≡ not (is_empty listed) → status ≡ question_status listed) →
+      (plan : List (List Line)) × Plans Answers Absent named definitions environment targets honest stamps disk_honest seen plan
+      × (status ≡ question_status plan)
+  asked_plan status (Ok run) (items, are, tells) found answered = (
+    tells.listed,
+    record { items = items; are_items = are; dropped = run.soft_dropped; planned = tells.planned },
+    answered tells.listed tells.any,
+  )
+  asked_plan status (Err f) told found answered = absurd (no_value found)
+
+  pub refused_plan : (status : ℕ) (old new : Option (List ℕ)) (got : Result DryRun Fault) → IfOk got Told →
+      (IsErr got → (status ≡ 2) × Keeps old new) → IfOk got (λ run. AppendsPart old new run.text.items) →
+      Keeps old new ⊎ ((plan : List (List Line))
+      × Plans Answers Absent named definitions environment targets honest stamps disk_honest seen plan × AppendsPart old new (listing_text plan))
+  refused_plan status old new (Ok run) (items, are, tells) refused part =
+      inr (
+        tells.listed,
+        record { items = items; are_items = are; dropped = run.soft_dropped; planned = tells.planned },
+        subst (AppendsPart old new) tells.text part,
+      )
+  refused_plan status old new (Err f) told refused part = inl ((refused refl).1)
+
+pub told_of : (Answers : List ℕ → Option (List ℕ) → Type 0) (Absent : List ℕ → Type 0) (named name : Option (List ℕ))
+    (definitions defined environment : List Variable) (targets : List (List ℕ)) (honest : Type 0) (stamps : List ℕ → Option ℤ)
+    (disk_honest : Type 0) (seen : Which → List ℕ) (got : Result DryRun Fault) → name ≡ named → defined ≡ definitions →
+    IfOk got (Told Answers Absent name defined environment targets honest stamps disk_honest seen) →
+    IfOk got (Told Answers Absent named definitions environment targets honest stamps disk_honest seen)
+told_of Answers Absent named name definitions defined environment targets honest stamps disk_honest seen got is_name is_defined told =
+    subst (λ n. IfOk got (Told Answers Absent n definitions environment targets honest stamps disk_honest seen)) is_name
+    (subst (λ d. IfOk got (Told Answers Absent name d environment targets honest stamps disk_honest seen)) is_defined told)

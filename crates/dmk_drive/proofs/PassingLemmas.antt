@@ -1,0 +1,78 @@
+-- What stays true while the nodes of a graph are passed, and what its order says.
+use Rattle.std.proofs.Common.{◌≡◌, ◌+◌, ◌⊎◌, inl, inr, ℕ, Bool, true, false, not, ◌&&◌, ◌||◌, nat_lt, List, [], ◌∷◌, ◌++◌, length, drop, set, refl, sym, subst, append_assoc}
+use Rattle.std.proofs.lemmas.Bool.{and_parts, and_from}
+use Rattle.std.proofs.lemmas.Grind.{flat_map-append}
+use Rattle.std.specs.List.{list_all}
+use Rattle.std.specs.Bool.{if◌then◌else◌}
+use Rattle.mk_graph.specs.Counted.{joined, AreCounted}
+use Rattle.mk_graph.specs.Cycle.{HasCycle}
+use Rattle.mk_graph.specs.Edges.{row, has, times}
+use Rattle.mk_graph.specs.Plan.{IsPlanAfter}
+use Rattle.mk_graph.proofs.CountedLemmas.{cycle_in}
+use Rattle.mk_graph.proofs.WholeLemmas.{whole_plan}
+use Rattle.mk_reader.specs.Text.{is_empty}
+use Rattle.mk_recipe.specs.declared.line.Line.{Line}
+use Rattle.mk_rules.specs.Graph.{IsGraph}
+use Rattle.mk_rules.specs.Prerequisites.{Inputs}
+use Rattle.mk_rules.specs.declared.graph.Graph.{Graph}
+use Rattle.mk_plan.specs.Passing.{Passes}
+use Rattle.dmk_drive.specs.Passing.{Lists, at_end, behind, IsListing, no_marks, printed, listing_text, PassesEach}
+
+-- what was listed so far: with what is listed of the nodes that are left it is what all list
+abbrev pub ListedSoFar : (keeping : Bool) (graph : Graph) (marks : List Bool) (i : ℕ) (listed : List (List Line)) → Type 0
+ListedSoFar keeping graph marks i listed =
+    (rest : List (List Line)) → Lists keeping graph marks (drop i graph.order.items) rest → IsListing keeping graph (listed ++ rest)
+
+pub listed_start : (keeping : Bool) (graph : Graph) → ListedSoFar keeping graph (no_marks graph) 0 []
+listed_start keeping graph = λ rest lists. lists
+
+pub listed_more : (keeping : Bool) (graph : Graph) (marks : List Bool) (i n : ℕ) (remade : Bool) (front listed : List (List Line)) →
+    drop i graph.order.items ≡ n ∷ drop (i + 1) graph.order.items → Passes keeping graph marks n remade front →
+    ListedSoFar keeping graph marks i listed → ListedSoFar keeping graph (set marks n remade) (i + 1) (listed ++ front)
+listed_more keeping graph marks i n remade front listed here passes before = λ rest after.
+    subst (IsListing keeping graph) (sym (append_assoc listed front rest))
+    (before (front ++ rest)
+    (subst (λ left. Lists keeping graph marks left (front ++ rest)) (sym here) (behind passes after)))
+
+-- all nodes are passed
+pub listed_all : (keeping : Bool) (graph : Graph) (marks : List Bool) (i : ℕ) (listed : List (List Line)) →
+    drop i graph.order.items ≡ [] → listed ++ [] ≡ listed → ListedSoFar keeping graph marks i listed → IsListing keeping graph listed
+listed_all keeping graph marks i listed none same before =
+    subst (IsListing keeping graph) same (before [] (subst (λ left. Lists keeping graph marks left []) (sym none) at_end))
+
+-- the text of more
+pub text_more : (listed front : List (List Line)) → listing_text (listed ++ front) ≡ listing_text listed ++ listing_text front
+text_more listed front = flat_map-append printed listed front
+
+-- something is among two lists together where it is in one
+pub any_more : (listed front : List (List Line)) → not (is_empty (listed ++ front)) ≡ (not (is_empty listed) || not (is_empty front))
+any_more [] front = refl
+any_more (lines ∷ listed) front = refl
+
+-- each node of a plan is one of the graph
+pub plan_below : (g : List (List ℕ)) (passed order : List ℕ) → IsPlanAfter g passed order → list_all (λ n. nat_lt n (length g)) order ≡ true
+plan_below g passed [] plan = refl
+plan_below g passed (n ∷ order) (next, more) =
+    let ready = and_parts (nat_lt n (length g)) (not (has passed n) && list_all (has passed) (row g n)) next.ready in
+    and_from (nat_lt n (length g)) (list_all (λ m. nat_lt m (length g)) order) ready.0 (plan_below g (passed ++ n ∷ []) order more)
+
+pub order_below : (inputs : Inputs) (named : List (List ℕ)) (graph : Graph) → IsGraph inputs named graph →
+    list_all (λ n. nat_lt n (length graph.nodes.items)) graph.order.items ≡ true
+order_below inputs named graph is =
+    subst (λ count. list_all (λ n. nat_lt n count) graph.order.items ≡ true) graph.counted_rows (plan_below graph.counted [] graph.order.items is.order)
+
+-- no counted edges make a cycle where the hard ones don't
+uncycled : (hard soft counted : List (List ℕ)) (dropped : Bool) → AreCounted hard soft counted dropped → (HasCycle hard → ⊥) → HasCycle counted → ⊥
+uncycled hard soft counted true are acyclic cycle = acyclic (cycle_in hard counted are.edges cycle)
+uncycled hard soft counted false are acyclic cycle = by are.choice
+  where
+    by : (HasCycle (joined hard soft) → ⊥) ⊎ HasCycle hard → ⊥
+    by (inl none) = none (cycle_in (joined hard soft) counted are.edges cycle)
+    by (inr in_hard) = acyclic in_hard
+
+pub passes_each : (inputs : Inputs) (named : List (List ℕ)) (graph : Graph) → IsGraph inputs named graph → PassesEach graph
+passes_each inputs named graph is = record {
+  order = is.order;
+  once = λ n. subst (λ count. times n graph.order.items ≡ (if nat_lt n count then 1 else 0)) graph.counted_rows
+      (whole_plan graph.counted graph.order.items graph.counted_closed (uncycled graph.hard graph.soft graph.counted graph.soft_dropped is.counted is.acyclic) is.order n);
+}

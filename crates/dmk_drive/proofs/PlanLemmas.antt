@@ -1,0 +1,74 @@
+-- The stages of a plan put together.
+use Rattle.std.proofs.Common.{◌≡◌, ◌⊎◌, inl, inr, ℕ, ℤ, Bool, not, List, Option, Result, Ok, Err, IfOk, IfErr, sym, subst}
+use Rattle.std.specs.FinMap as map
+use Rattle.mk_macros.specs.declared.fault.MacroFault.{MacroFault}
+use Rattle.mk_plan.specs.Passing.{HasRecipeFault}
+use Rattle.mk_reader.specs.Text.{is_empty}
+use Rattle.mk_reader.specs.declared.item.Item.{Item}
+use Rattle.mk_recipe.specs.declared.line.Line.{Line}
+use Rattle.mk_rules.specs.Faults.{IsRuleFault}
+use Rattle.mk_rules.specs.declared.fault.RuleFault.{RuleFault}
+use Rattle.mk_rules.specs.declared.graph.Graph.{Graph}
+use Rattle.mk_rules.specs.declared.graph.TheConstants.{MAX_NODES}
+use Rattle.st_disk.specs.declared.which.Which.{Which}
+use Rattle.st_records.specs.State.{StateMap}
+use Rattle.dmk_drive.specs.Definitions.{first_defined}
+use Rattle.dmk_drive.specs.Keeping.{keeps}
+use Rattle.dmk_drive.specs.Passing.{IsListing, listing_text}
+use Rattle.dmk_drive.specs.Planned.{IsStateOf, IsGraphOf, Tells}
+use Rattle.dmk_drive.specs.Faults.{IsPlanFault}
+use Rattle.dmk_drive.specs.declared.fault.Fault.{Fault}
+use Rattle.dmk_drive.specs.declared.fault.Fault.TheVariants as fault
+use Rattle.dmk_drive.specs.declared.planning.DryRun.{DryRun}
+use Rattle.dmk_drive.specs.declared.variable.Variable.{Variable}
+
+module _ (definitions environment : List Variable) (targets : List (List ℕ)) (honest : Type 0) (stamps : List ℕ → Option ℤ)
+    (disk_honest : Type 0) (seen : Which → List ℕ) (items : List Item) (keeping : Bool) (is_keeping : keeping ≡ keeps environment items)
+    (state : StateMap) (found : disk_honest → IsStateOf keeping seen state) where
+  kept : disk_honest → IsStateOf (keeps environment items) seen state
+  kept = subst (λ k. disk_honest → IsStateOf k seen state) is_keeping found
+
+  pub rules_fault : (refuses : List ℕ → Type 0) (got : Fault) →
+      ((got ≡ fault.OutOfMemory) ⊎ ((f : RuleFault) × (got ≡ fault.Rules f)
+      × IsRuleFault (first_defined definitions environment) items honest stamps (map.get state) refuses targets MAX_NODES f)) →
+      IsPlanFault definitions environment targets honest stamps refuses disk_honest seen items got
+  rules_fault refuses got (inl is) = subst (IsPlanFault definitions environment targets honest stamps refuses disk_honest seen items) (sym is) tt
+  rules_fault refuses got (inr (f, is, meets)) =
+      subst (IsPlanFault definitions environment targets honest stamps refuses disk_honest seen items) (sym is) (state, kept, meets)
+
+  module _ (graph : Graph) (is_graph : IsGraphOf definitions environment targets honest stamps items state graph) where
+    pub recipes_fault : (refuses : List ℕ → Type 0) (got : Fault) → ((f : MacroFault) × (got ≡ fault.Recipe f) × HasRecipeFault graph f) →
+        IsPlanFault definitions environment targets honest stamps refuses disk_honest seen items got
+    recipes_fault refuses got (f, is, meets) =
+        subst (IsPlanFault definitions environment targets honest stamps refuses disk_honest seen items) (sym is)
+        (state, kept, (graph, is_graph, meets))
+
+    pub told : (run : DryRun) → ((listed : List (List Line)) × IsListing keeping graph listed × (run.text.items ≡ listing_text listed)
+        × (run.lists_any ≡ not (is_empty listed))) → run.soft_dropped ≡ graph.soft_dropped →
+        Tells definitions environment targets honest stamps disk_honest seen items run
+    told run (listed, lists, text, any) dropped = record {
+      listed = listed;
+      planned = record {
+        state = state;
+        is_state = kept;
+        graph = graph;
+        is_graph = is_graph;
+        lists = subst (λ k. IsListing k graph listed) is_keeping lists;
+        soft = dropped;
+      };
+      text = text;
+      any = any;
+    }
+
+    pub recipes_result : (refuses : List ℕ → Type 0) (got : Result DryRun Fault) →
+        IfErr got (λ g. (f : MacroFault) × (g ≡ fault.Recipe f) × HasRecipeFault graph f) →
+        IfErr got (IsPlanFault definitions environment targets honest stamps refuses disk_honest seen items)
+    recipes_result refuses (Ok run) is = tt
+    recipes_result refuses (Err f) is = recipes_fault refuses f is
+
+    pub told_result : (got : Result DryRun Fault) →
+        IfOk got (λ run. (listed : List (List Line)) × IsListing keeping graph listed × (run.text.items ≡ listing_text listed)
+        × (run.lists_any ≡ not (is_empty listed))) → IfOk got (λ run. run.soft_dropped ≡ graph.soft_dropped) →
+        IfOk got (Tells definitions environment targets honest stamps disk_honest seen items)
+    told_result (Ok run) listing dropped = told run listing dropped
+    told_result (Err f) listing dropped = tt

@@ -1,0 +1,74 @@
+-- What each fault says. Of a fault that comes later all stages before it are told, so that the order of the faults is
+-- that of the cases here.
+use Rattle.std.specs.Prelude.{◌≡◌, ◌≢◌, ℕ, ℤ, true, List, Option, Err}
+use Rattle.std.specs.FinMap as map
+use Rattle.mk_reader.specs.Makefile.{TextItems, depth}
+use Rattle.mk_reader.specs.declared.item.Item.{Item}
+use Rattle.mk_reader.specs.declared.fault.ReadFault.{ReadFault}
+use Rattle.mk_reader.specs.declared.fault.ReadFault.TheVariants as read_fault
+use Rattle.mk_rules.specs.Faults.{IsRuleFault}
+use Rattle.mk_rules.specs.declared.graph.TheConstants.{MAX_NODES}
+use Rattle.mk_rules.specs.declared.graph.Graph.{Graph}
+use Rattle.st_disk.specs.declared.which.Which.{Which}
+use Rattle.st_disk.specs.declared.which.Which.TheVariants as sides
+use Rattle.st_file.specs.declared.fault.OpenFault.{OpenFault}
+use Rattle.st_file.specs.declared.fault.OpenFault.TheVariants as open_fault
+use Rattle.st_records.specs.State.{StateMap}
+use Rattle.st_recovery.specs.Recovers.{RefusesWith}
+use Rattle.dmk_drive.specs.Definitions.{first_defined}
+use Rattle.dmk_drive.specs.Keeping.{keeps}
+use Rattle.dmk_drive.specs.Makefile.{IsMakefile, HasNoMakefile}
+use Rattle.mk_plan.specs.Passing.{HasRecipeFault}
+use Rattle.dmk_drive.specs.Planned.{IsStateOf, IsGraphOf}
+use Rattle.dmk_drive.specs.declared.fault.Fault.{Fault}
+use Rattle.dmk_drive.specs.declared.fault.Fault.TheVariants as fault
+use Rattle.dmk_drive.specs.declared.options.Mode.{Mode}
+use Rattle.dmk_drive.specs.declared.options.Mode.TheVariants as mode
+use Rattle.dmk_drive.specs.declared.variable.Variable.{Variable}
+
+-- the makefile's text has a first line that is refused; want of memory says nothing of it
+abbrev pub IsReadFault : (Answers : List ℕ → Option (List ℕ) → Type 0) (Absent : List ℕ → Type 0) (named : Option (List ℕ)) →
+    ReadFault → Type 0
+IsReadFault Answers Absent named read_fault.OutOfMemory = Unit {0}
+IsReadFault Answers Absent named (read_fault.Refused refusal) =
+    (file : List ℕ) × (text : List ℕ) × IsMakefile Answers Absent named file text × TextItems Answers depth file text (Err refusal)
+
+-- the fault of the two sides; a device and want of memory say nothing of their bytes
+abbrev pub IsOpenFault : (seen : Which → List ℕ) → OpenFault → Type 0
+IsOpenFault seen open_fault.Device = Unit {0}
+IsOpenFault seen open_fault.OutOfMemory = Unit {0}
+IsOpenFault seen f = RefusesWith (seen sides.A) (seen sides.B) f
+
+-- the fault that looking for the makefile and reading it gives
+abbrev pub IsTextFault : (Answers : List ℕ → Option (List ℕ) → Type 0) (Absent There : List ℕ → Type 0)
+    (named : Option (List ℕ)) → Fault → Type 0
+IsTextFault Answers Absent There named fault.OutOfMemory = Unit {0}
+IsTextFault Answers Absent There named fault.NoMakefile = HasNoMakefile Answers Absent There named
+IsTextFault Answers Absent There named (fault.Read f) = IsReadFault Answers Absent named f
+IsTextFault Answers Absent There named _ = ⊥
+
+-- the fault of a plan for items that were read
+abbrev pub IsPlanFault : (definitions environment : List Variable) (targets : List (List ℕ)) (honest : Type 0)
+    (stamps : List ℕ → Option ℤ) (refuses : List ℕ → Type 0) (disk_honest : Type 0) (seen : Which → List ℕ) (items : List Item) →
+    Fault → Type 0
+IsPlanFault definitions environment targets honest stamps refuses disk_honest seen items fault.OutOfMemory = Unit {0}
+IsPlanFault definitions environment targets honest stamps refuses disk_honest seen items (fault.State f) =
+    (keeps environment items ≡ true) × (disk_honest → IsOpenFault seen f)
+IsPlanFault definitions environment targets honest stamps refuses disk_honest seen items (fault.Rules f) =
+    (state : StateMap) × (disk_honest → IsStateOf (keeps environment items) seen state)
+    × IsRuleFault (first_defined definitions environment) items honest stamps (map.get state) refuses targets MAX_NODES f
+IsPlanFault definitions environment targets honest stamps refuses disk_honest seen items (fault.Recipe f) =
+    (state : StateMap) × (disk_honest → IsStateOf (keeps environment items) seen state)
+    × ((graph : Graph) × IsGraphOf definitions environment targets honest stamps items state graph × HasRecipeFault graph f)
+IsPlanFault definitions environment targets honest stamps refuses disk_honest seen items _ = ⊥
+
+-- a fault of the makefile comes before all else; a run that isn't dry ends behind it; the others come last
+abbrev pub IsRunFault : (Text : Fault → Type 0) (Items : List Item → Type 0) (Plan : List Item → Fault → Type 0) → Mode → Fault → Type 0
+IsRunFault Text Items Plan m fault.OutOfMemory = Unit {0}
+IsRunFault Text Items Plan m fault.NoMakefile = Text fault.NoMakefile
+IsRunFault Text Items Plan m (fault.Read f) = Text (fault.Read f)
+IsRunFault Text Items Plan m fault.OnlyDryRuns = (m ≡ mode.Run) × ((items : List Item) × Items items)
+IsRunFault Text Items Plan m (fault.State f) = (m ≢ mode.Run) × ((items : List Item) × Items items × Plan items (fault.State f))
+IsRunFault Text Items Plan m (fault.Rules f) = (m ≢ mode.Run) × ((items : List Item) × Items items × Plan items (fault.Rules f))
+IsRunFault Text Items Plan m (fault.Recipe f) = (m ≢ mode.Run) × ((items : List Item) × Items items × Plan items (fault.Recipe f))
+IsRunFault Text Items Plan m fault.Write = ⊥

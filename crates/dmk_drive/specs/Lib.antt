@@ -1,0 +1,16 @@
+-- Definitions: what is defined before the makefile is read.
+pub mod Definitions
+-- Keeping: whether state is kept.
+pub mod Keeping
+-- Makefile: which file is the makefile.
+pub mod Makefile
+-- Passing: the nodes passed in order, and which are listed.
+pub mod Passing
+-- Planned: a dry run from the makefile's text to the listing.
+pub mod Planned
+-- Faults: what each fault says, and so what was met before it.
+pub mod Faults
+-- Output: what went out.
+pub mod Output
+-- Files: what the system says of a file.
+pub mod Files

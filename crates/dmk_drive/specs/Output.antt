@@ -1,0 +1,34 @@
+-- What went out.
+use Rattle.std.specs.Prelude.{◌≡◌, ◌⊎◌, ℕ, ◌<◌, Bool, true, false, List, ◌++◌, length, Option, codes, if◌then◌else◌}
+use Rattle.std.specs.Io.KnownBytes.{Appends}
+use Rattle.mk_reader.specs.Text.{is_empty}
+use Rattle.mk_recipe.specs.declared.line.Line.{Line}
+use Rattle.jb_slots.specs.Auth.{AsksForDryRun}
+use Rattle.dmk_drive.specs.Keeping.{value_in}
+use Rattle.dmk_drive.specs.declared.options.Mode.{Mode}
+use Rattle.dmk_drive.specs.declared.options.Mode.TheVariants as mode
+use Rattle.dmk_drive.specs.declared.options.Options.{Options}
+use Rattle.dmk_drive.specs.declared.variable.Variable.{Variable}
+
+-- known bytes grow by a beginning of this text, but not by all of it
+pub record AppendsPart (old new : Option (List ℕ)) (text : List ℕ) : Type 0 where
+  pub front : List ℕ
+  pub rest : List ℕ
+  pub parts : text ≡ front ++ rest
+  pub missing : 0 < length rest
+  pub appended : Appends old new front
+
+-- how `-q` answers of what is listed: 1 where something is
+abbrev pub question_status : List (List Line) → ℕ
+question_status listed = if is_empty listed then 0 else 1
+
+-- what the words and MAKEFLAGS ask for: `-q` counts before `-n`
+abbrev pub mode_of : (asks dry : Bool) → Mode
+mode_of true dry = mode.Question
+mode_of false true = mode.DryRun
+mode_of false false = mode.Run
+
+-- the words or MAKEFLAGS ask for a listing, and the words don't ask whether there is any
+abbrev pub AsksForListing : Options → (environment : List Variable) → Type 0
+AsksForListing options environment =
+    (options.asks ≡ false) × ((options.is_dry ≡ true) ⊎ AsksForDryRun (value_in environment (codes "MAKEFLAGS")))

@@ -1,0 +1,31 @@
+//! dmk over handed-in parts: from options, environment, files and a state's disk to what is printed and answered.
+//!
+//! It runs no recipe: `-n` lists the recipes of the targets that are out of date, `-q` asks whether there are any.
+#![tactic(auto)]
+
+mod definitions;
+mod driver;
+mod fault;
+mod file_calls;
+mod file_tree;
+mod keeping;
+mod laws;
+mod makefile;
+mod messages;
+mod options;
+mod output;
+mod passing;
+mod planning;
+mod recovered;
+mod variable;
+
+pub use driver::drive;
+pub use fault::Fault;
+pub use file_calls::{FileCalls, FileStatus};
+pub use file_tree::FileTree;
+pub use keeping::keeps_state;
+pub use laws::{one_reading_of_the_settings, plan_of_the_graph};
+pub use messages::{Message, SOFT_EDGES_NOTE};
+pub use options::{MAX_WORKERS, Mode, Options};
+pub use planning::{DryRun, Given, dry_run};
+pub use variable::Variable;

@@ -1,0 +1,47 @@
+//! Every text of the program but the option reader's. Texts that belong to a crate below are its own, by `Display`.
+use crate::fault::Fault;
+use st_disk::Which;
+use st_file::OpenFault;
+use std::fmt;
+
+/// What is said where soft edges make a cycle and are dropped.
+pub const SOFT_EDGES_NOTE: &str = "note: soft edges make a cycle and are not used for order";
+
+/// A fault as the user reads it. `state` is the name of the state's side A.
+#[derive(Clone, Copy)]
+pub struct Message<'a> {
+    pub state: &'a str,
+    pub fault: &'a Fault,
+}
+
+/// The side whose bytes have the fault, which the message names.
+fn damaged_side(fault: OpenFault) -> Option<Which> {
+    match fault {
+        OpenFault::NotState(side) => Some(side),
+        OpenFault::UnknownVersion(side, _) => Some(side),
+        OpenFault::Damaged(side, _) => Some(side),
+        OpenFault::Device => None,
+        OpenFault::OutOfMemory => None,
+        OpenFault::SameGeneration => None,
+    }
+}
+
+/// The side that a message names, if it names one.
+fn named_side(fault: &Fault) -> Option<Which> {
+    match fault {
+        Fault::State(fault) => damaged_side(*fault),
+        _ => None,
+    }
+}
+
+impl fmt::Display for Message<'_> {
+    fn fmt<W: fmt::Write>(&self, f: &mut fmt::Formatter<W>) -> fmt::Result {
+        let state = self.state;
+        let fault = self.fault;
+        match named_side(fault) {
+            Some(Which::A) => write!(f, "{state}: {fault}"),
+            Some(Which::B) => write!(f, "{state}.2: {fault}"),
+            None => write!(f, "{fault}"),
+        }
+    }
+}

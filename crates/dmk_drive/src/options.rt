@@ -1,0 +1,66 @@
+//! What the words of the command line ask for.
+ghost use Rattle.std.specs.Prelude.{◌≡◌, ◌↔◌, ◌||◌, Bool, IsTrue};
+ghost use Rattle.jb_slots.specs.Auth.{AsksForDryRun};
+ghost use Rattle.dmk_drive.specs.Output.{mode_of};
+
+use crate::variable::Variable;
+use byte_strings::{ByteString, ByteStrings};
+use jb_slots::dry;
+
+/// The most workers that `-j` may ask for.
+pub const MAX_WORKERS: u8 = 64;
+
+/// What the words ask for. Definitions and targets stand in the order of the words.
+#[derive(Drop)]
+pub struct Options {
+    /// The makefile that is named.
+    pub makefile: Option<ByteString>,
+    /// The name of the state's side A.
+    pub state: String,
+    /// How many recipes may run at once.
+    pub workers: u8,
+    /// A failed target ends only what depends on it.
+    pub goes_on: bool,
+    /// Recipes are listed and not run.
+    pub is_dry: bool,
+    /// No line is printed before it is run.
+    pub is_silent: bool,
+    /// The statuses of all lines are ignored.
+    pub ignores_statuses: bool,
+    /// Nothing is printed; the status says whether a target is out of date.
+    pub asks: bool,
+    pub definitions: Vec<Variable>,
+    pub targets: ByteStrings,
+}
+
+/// What a run does with the recipes that it comes to.
+#[derive(Clone, Copy, Debug, PartialEq, Eq)]
+pub enum Mode {
+    Run,
+    /// It lists them.
+    DryRun,
+    /// It tells whether there are any.
+    Question,
+}
+
+/// What is done where the words ask so, and where a dry run is wanted.
+fn mode_of(asks: bool, dry: bool) -> Mode
+    ensures { result ≡ mode_of asks dry }
+{
+    match (asks, dry) {
+        (true, _) => Mode::Question,
+        (false, true) => Mode::DryRun,
+        (false, false) => Mode::Run,
+    }
+}
+
+impl Options {
+    /// What is done under this MAKEFLAGS, which may ask for a dry run too. Where both are asked for, the question counts.
+    pub fn mode(&self, makeflags: &[u8]) -> Mode
+        ensures { (asked : Bool) × (IsTrue asked ↔ AsksForDryRun makeflags.now)
+            × (result ≡ mode_of self.now.asks (self.now.is_dry || asked)) }
+    {
+        let asked = dry(makeflags);
+        mode_of(self.asks, self.is_dry || asked)
+    }
+}

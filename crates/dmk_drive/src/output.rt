@@ -1,0 +1,54 @@
+//! What goes out: the text of a listing, and one line with a fault or a note.
+ghost use Rattle.std.specs.Prelude.{◌≡◌, ◌≤◌, length, take, OnOk, OnErr, IfOk, IfErr};
+ghost use Rattle.std.specs.Io.KnownBytes.{Appends, Keeps};
+ghost use Rattle.dmk_drive.specs.Output.{AppendsPart};
+ghost use Rattle.dmk_drive.specs.declared.fault.Fault.TheVariants as faults;
+
+use crate::fault::Fault;
+use crate::messages::{Message, SOFT_EDGES_NOTE};
+use std::io::{self, Write};
+
+/// Writes the text. A beginning of it may have gone out where the writer fails, but not all of it.
+pub fn write_text<W: Write>(text: &[u8], writer: &mut W) -> Result<(), Fault>
+    ensures whole { OnOk result (Appends (W.contents writer.old) (W.contents writer.new) text.now) }
+    ensures part { OnErr result (AppendsPart (W.contents writer.old) (W.contents writer.new) text.now) }
+    ensures cause { IfErr result (λ fault. fault ≡ faults.Write) }
+{
+    let mut rest = text;
+    let mut tries = u64::MAX;
+    while !rest.is_empty() {
+        if tries == 0 {
+            return Err(Fault::Write);
+        }
+        tries -= 1;
+        let written = write_some(rest, writer)?;
+        rest = &rest[written..];
+    }
+    Ok(())
+}
+
+// How many of the bytes were written, from the first on. A write that was interrupted wrote none.
+fn write_some<W: Write>(bytes: &[u8], writer: &mut W) -> Result<usize, Fault>
+    ensures some { IfOk result (λ n. (n ≤ length bytes.now) × Appends (W.contents writer.old) (W.contents writer.new) (take n bytes.now)) }
+    ensures none { OnErr result (Keeps (W.contents writer.old) (W.contents writer.new)) }
+    ensures cause { IfErr result (λ fault. fault ≡ faults.Write) }
+{
+    match writer.write(bytes) {
+        Ok(0) => Err(Fault::Write),
+        Ok(written) => Ok(written),
+        Err(error) => match error.kind() {
+            io::ErrorKind::Interrupted => Ok(0),
+            _ => Err(Fault::Write),
+        },
+    }
+}
+
+/// Prints one line with the fault. That it can't be printed changes nothing.
+pub fn print_fault<E: Write>(err: &mut E, message: Message<'_>) {
+    let _ = writeln!(err, "dmk: {message}");
+}
+
+/// Says that soft edges are dropped.
+pub fn print_note<E: Write>(err: &mut E) {
+    let _ = writeln!(err, "dmk: {SOFT_EDGES_NOTE}");
+}

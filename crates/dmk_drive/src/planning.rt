@@ -1,0 +1,175 @@
+//! From a makefile to what is listed, stage by stage. The first stage that has a fault ends it.
+ghost use Rattle.std.specs.Prelude.{◌≡◌, ◌≢◌, ◌⊎◌, ℕ, true, not, List, length, nat_lt, IfOk, IfErr, option_copied};
+ghost use Rattle.std.specs.FinMap as finmap;
+ghost use Rattle.std.specs.List.{list_all};
+ghost use Rattle.mk_macros.specs.declared.fault.MacroFault.{MacroFault as ExpansionFault};
+ghost use Rattle.mk_reader.specs.Makefile.{AnswersAs};
+ghost use Rattle.mk_reader.specs.Text.{is_empty};
+ghost use Rattle.mk_reader.specs.declared.item.Item.{Item as MakefileItem};
+ghost use Rattle.mk_recipe.specs.declared.line.Line.{Line as RecipeText};
+ghost use Rattle.mk_rules.specs.Faults.{IsRuleFault};
+ghost use Rattle.mk_rules.specs.declared.graph.TheConstants.{MAX_NODES};
+ghost use Rattle.mk_rules.specs.declared.fault.RuleFault.{RuleFault as RulesFault};
+ghost use Rattle.dmk_drive.specs.Definitions.{first_defined};
+ghost use Rattle.dmk_drive.specs.Makefile.{IsAbsent, MayBeThere};
+ghost use Rattle.st_file.specs.declared.fault.OpenFault.{OpenFault as StateFault};
+ghost use Rattle.mk_plan.specs.Passing.{HasRecipeFault};
+ghost use Rattle.dmk_drive.specs.Passing.{IsListing, listing_text};
+ghost use Rattle.dmk_drive.specs.Planned.{AreItems, IsStateOf, IsGraphOf, Tells};
+ghost use Rattle.dmk_drive.specs.Faults.{IsOpenFault, IsTextFault, IsPlanFault, IsRunFault};
+ghost use Rattle.dmk_drive.specs.declared.options.Mode.TheVariants as modes;
+ghost use Rattle.dmk_drive.specs.declared.fault.Fault.TheVariants as faults;
+
+use crate::definitions::first_macros;
+use crate::fault::Fault;
+use crate::keeping::keeps_state;
+use crate::makefile::items_of;
+use crate::options::Mode;
+use crate::passing::{Listing, listing_of};
+use crate::recovered::state_of;
+use crate::variable::Variable;
+use byte_strings::ByteStrings;
+use mk_reader::{Includes, Item};
+use mk_rules::{Graph, Tree, build};
+use st_disk::Disk;
+use st_records::{HashKey, State};
+use std::alloc::Global;
+
+/// What a makefile is read and planned with.
+#[derive(Clone, Copy)]
+pub struct Given<'m, 'a> {
+    /// The makefile that is named.
+    pub makefile: Option<&'m [u8]>,
+    pub definitions: &'a [Variable],
+    pub environment: &'a [Variable],
+}
+
+/// What a dry run comes to.
+#[derive(Drop)]
+pub struct DryRun {
+    /// The lines of the recipes that are listed.
+    pub text: Vec<u8>,
+    /// Some recipe is listed, if only one of blank lines.
+    pub lists_any: bool,
+    /// Soft edges make a cycle and don't order nodes.
+    pub soft_dropped: bool,
+}
+
+/// The graph of the items.
+fn graph_of<T: Tree>(
+    alloc: Global,
+    given: Given<'_, '_>,
+    targets: ByteStrings,
+    tree: &mut T,
+    items: Vec<Item>,
+    state: &State,
+) -> Result<Graph, Fault>
+    ensures graph { IfOk result (IsGraphOf given.entry.definitions.now given.entry.environment.now targets T.honest (T.stamps tree.old)
+        items.items state.now) }
+    ensures fault { IfErr result (λ fault. (fault ≡ faults.OutOfMemory) ⊎ ((f : RulesFault) × (fault ≡ faults.Rules f)
+        × IsRuleFault (first_defined given.entry.definitions.now given.entry.environment.now) items.items T.honest (T.stamps tree.old)
+        (finmap.get state.now) (T.refuses tree.new) targets MAX_NODES f)) }
+{
+    let macros = first_macros(alloc, given.definitions, given.environment)?;
+    match build(alloc, items, macros, targets, tree, state) {
+        Ok(graph) => Ok(graph),
+        Err(fault) => Err(Fault::Rules(fault)),
+    }
+}
+
+/// What the graph lists.
+fn listed(alloc: Global, keeping: bool, graph: &Graph) -> Result<DryRun, Fault>
+    requires { list_all (λ n. nat_lt n (length graph.now.nodes.items)) graph.now.order.items ≡ true }
+    ensures listing { IfOk result (λ run. (listed : List (List RecipeText)) × IsListing keeping graph.now listed
+        × (run.text.items ≡ listing_text listed) × (run.lists_any ≡ not (is_empty listed))) }
+    ensures dropped { IfOk result (λ run. run.soft_dropped ≡ graph.now.soft_dropped) }
+    ensures fault { IfErr result (λ fault. (f : ExpansionFault) × (fault ≡ faults.Recipe f) × HasRecipeFault graph.now f) }
+{
+    match listing_of(alloc, keeping, graph) {
+        Ok(Listing { text, lists_any }) => Ok(DryRun {
+            text,
+            lists_any,
+            soft_dropped: graph.soft_dropped,
+        }),
+        Err(fault) => Err(Fault::Recipe(fault)),
+    }
+}
+
+/// The state's map, or the fault of its sides.
+fn kept_state<D: Disk>(
+    alloc: Global,
+    key: HashKey,
+    keeping: bool,
+    disk: &mut D,
+) -> Result<State, Fault>
+    ensures found { D.honest → IfOk result (IsStateOf keeping (D.seen disk.old)) }
+    ensures fault { IfErr result (λ fault. (keeping ≡ true) × ((f : StateFault) × (fault ≡ faults.State f)
+        × (D.honest → IsOpenFault (D.seen disk.old) f))) }
+    ensures seen { D.honest → D.seen disk.new ≡ D.seen disk.old }
+    ensures moments { D.honest → D.moments disk.new ≡ D.moments disk.old }
+{
+    match state_of(alloc, key, keeping, disk) {
+        Ok(state) => Ok(state),
+        Err(fault) => Err(Fault::State(fault)),
+    }
+}
+
+/// What items that were read list.
+fn plan_items<T: Tree, D: Disk>(
+    alloc: Global,
+    key: HashKey,
+    given: Given<'_, '_>,
+    targets: ByteStrings,
+    tree: &mut T,
+    disk: &mut D,
+    items: Vec<Item>,
+) -> Result<DryRun, Fault>
+    ensures tells { IfOk result (Tells given.entry.definitions.now given.entry.environment.now targets T.honest (T.stamps tree.old)
+        D.honest (D.seen disk.old) items.items) }
+    ensures fault { IfErr result (IsPlanFault given.entry.definitions.now given.entry.environment.now targets T.honest (T.stamps tree.old)
+        (T.refuses tree.new) D.honest (D.seen disk.old) items.items) }
+    ensures seen { D.honest → D.seen disk.new ≡ D.seen disk.old }
+    ensures moments { D.honest → D.moments disk.new ≡ D.moments disk.old }
+{
+    let keeping = keeps_state(given.environment, &items);
+    let state = kept_state(alloc, key, keeping, disk)?;
+    let graph = graph_of(alloc, given, targets, tree, items, &state)?;
+    listed(alloc, keeping, &graph)
+}
+
+/// What a run would build. It only reads.
+///
+/// A makefile's own faults come first; then, unless the run is dry, it ends; then come the state's, the rules' and the
+/// recipes'.
+pub fn dry_run<T: Tree, I: Includes, D: Disk>(
+    alloc: Global,
+    key: HashKey,
+    mode: Mode,
+    given: Given<'_, '_>,
+    targets: ByteStrings,
+    tree: &mut T,
+    includes: &mut I,
+    disk: &mut D,
+) -> Result<DryRun, Fault>
+    ensures dry { IfOk result (λ _. mode ≢ modes.Run) }
+    ensures tells { IfOk result (λ run. (items : List MakefileItem)
+        × AreItems (AnswersAs I.honest (I.files includes.old)) (IsAbsent T.honest (T.stamps tree.old))
+        (option_copied given.entry.makefile) items
+        × Tells given.entry.definitions.now given.entry.environment.now targets T.honest (T.stamps tree.old) D.honest (D.seen disk.old) items run) }
+    ensures fault { IfErr result (IsRunFault
+        (IsTextFault (AnswersAs I.honest (I.files includes.old)) (IsAbsent T.honest (T.stamps tree.old))
+        (MayBeThere T.honest (T.stamps tree.old) (T.refuses tree.new)) (option_copied given.entry.makefile))
+        (AreItems (AnswersAs I.honest (I.files includes.old)) (IsAbsent T.honest (T.stamps tree.old))
+        (option_copied given.entry.makefile))
+        (IsPlanFault given.entry.definitions.now given.entry.environment.now targets T.honest (T.stamps tree.old) (T.refuses tree.new)
+        D.honest (D.seen disk.old))
+        mode) }
+    ensures seen { D.honest → D.seen disk.new ≡ D.seen disk.old }
+    ensures moments { D.honest → D.moments disk.new ≡ D.moments disk.old }
+{
+    let items = items_of(alloc, given.makefile, tree, includes)?;
+    if matches!(mode, Mode::Run) {
+        return Err(Fault::OnlyDryRuns);
+    }
+    plan_items(alloc, key, given, targets, tree, disk, items)
+}

@@ -1,0 +1,43 @@
+//! The state that a dry run goes by. The disk is only read.
+ghost use Rattle.std.specs.Prelude.{◌≡◌, true, IfOk, IfErr};
+ghost use Rattle.st_recovery.specs.Recovers.{Recovers};
+ghost use Rattle.st_disk.specs.declared.which.Which.TheVariants as sides;
+ghost use Rattle.dmk_drive.specs.Planned.{IsStateOf};
+ghost use Rattle.dmk_drive.specs.Faults.{IsOpenFault};
+
+use st_disk::{Disk, Which};
+use st_file::{OpenFault, read_whole};
+use st_records::{HashKey, State};
+use st_recovery::recover;
+use std::alloc::Global;
+
+/// The state that the two sides recover. Both are read before either is judged.
+fn recovered<D: Disk>(alloc: Global, key: HashKey, disk: &mut D) -> Result<State, OpenFault>
+    ensures found { D.honest → IfOk result (λ state. Recovers (D.seen disk.old sides.A) (D.seen disk.old sides.B) state) }
+    ensures refused { D.honest → IfErr result (IsOpenFault (D.seen disk.old)) }
+    ensures seen { D.honest → D.seen disk.new ≡ D.seen disk.old }
+    ensures moments { D.honest → D.moments disk.new ≡ D.moments disk.old }
+{
+    let a = read_whole(alloc, disk, Which::A)?;
+    let b = read_whole(alloc, disk, Which::B)?;
+    recover(alloc, key, &a, &b)
+}
+
+/// The state that a run goes by. Where none is kept the disk isn't looked at.
+pub fn state_of<D: Disk>(
+    alloc: Global,
+    key: HashKey,
+    keeping: bool,
+    disk: &mut D,
+) -> Result<State, OpenFault>
+    ensures found { D.honest → IfOk result (IsStateOf keeping (D.seen disk.old)) }
+    ensures refused { D.honest → IfErr result (IsOpenFault (D.seen disk.old)) }
+    ensures kept { IfErr result (λ _. keeping ≡ true) }
+    ensures seen { D.honest → D.seen disk.new ≡ D.seen disk.old }
+    ensures moments { D.honest → D.moments disk.new ≡ D.moments disk.old }
+{
+    if !keeping {
+        return Ok(State::with_key(alloc, key));
+    }
+    recovered(alloc, key, disk)
+}

@@ -1,0 +1,2 @@
+-- The times of files in memory.
+pub mod Folder

@@ -1,0 +1,2 @@
+pub mod RecipeLemmas
+pub mod PassingLemmas

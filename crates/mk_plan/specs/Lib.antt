@@ -1,0 +1,4 @@
+pub mod Nodes
+pub mod Passing
+pub mod Recipe
+pub mod Target

@@ -1,0 +1,54 @@
+-- The lines of a recipe, expanded (make(1S), "Command Lines" and "Dynamic Macros").
+use Rattle.std.specs.Prelude.{◌≡◌, ℕ, Bool, List, [], ◌∷◌, map, Any}
+use Rattle.mk_macros.specs.Expansion.{Meaning, gives, ExpandsTo, ExpandsToFault}
+use Rattle.mk_macros.specs.Ranks.{ranks_at, meaning_of}
+use Rattle.mk_macros.specs.declared.dynamic.RecipeNames.{RecipeNames}
+use Rattle.mk_macros.specs.declared.dynamic.Dynamic.TheVariants as dynamic
+use Rattle.mk_macros.specs.declared.fault.MacroFault.{MacroFault}
+use Rattle.mk_macros.specs.declared.fault.MacroFault.TheVariants.{OutOfMemory}
+use Rattle.mk_reader.specs.declared.item.RecipeLine.{RecipeLine}
+use Rattle.mk_recipe.specs.Line.{IsLine}
+use Rattle.mk_recipe.specs.declared.line.Line.{Line}
+use Rattle.mk_rules.specs.declared.graph.Graph.{Graph}
+use Rattle.mk_graph.specs.Numbering.{name_at}
+use Rattle.mk_plan.specs.Nodes.{source_of, stem_of, newer_words}
+
+-- the line is what the unexpanded one gives, where names mean this
+pub record IsExpandedLine (meaning : List ℕ → Meaning) (raw : RecipeLine) (line : Line) : Type 0 where
+  pub expansion : List ℕ
+  pub expands : ExpandsTo meaning raw.text (gives expansion)
+  pub is_line : IsLine raw.text expansion line
+
+-- each line is what the unexpanded one at its place gives
+abbrev pub AreExpanded : (meaning : List ℕ → Meaning) → List RecipeLine → List Line → Type 0
+AreExpanded meaning [] [] = Unit {0}
+AreExpanded meaning [] (line ∷ lines) = ⊥
+AreExpanded meaning (raw ∷ raws) [] = ⊥
+AreExpanded meaning (raw ∷ raws) (line ∷ lines) = IsExpandedLine meaning raw line × AreExpanded meaning raws lines
+
+-- the fault is that of some line; want of memory says nothing of them
+abbrev pub IsRecipeFault : (meaning : List ℕ → Meaning) → List RecipeLine → MacroFault → Type 0
+IsRecipeFault meaning recipe OutOfMemory = Unit {0}
+IsRecipeFault meaning recipe fault = Any (λ raw. ExpandsToFault meaning raw.text fault) recipe
+
+-- what the dynamic macros of node n stand for. The source and the stem are empty where no implicit rule makes it
+pub record AreNames (graph : Graph) (marks : List Bool) (n : ℕ) (names : RecipeNames) : Type 0 where
+  pub target : names.target.now ≡ name_at graph.names n
+  pub source : names.source.now ≡ source_of graph n
+  pub stem : names.stem.now ≡ stem_of graph n
+  pub newer : map (λ word. word.now) names.newer.now ≡ newer_words graph marks n
+
+-- what a name means in a line of this recipe: recipe lines are expanded with all definitions of the makefile
+abbrev pub recipe_meaning : Graph → RecipeNames → (name : List ℕ) → Meaning
+recipe_meaning graph names = meaning_of (ranks_at graph.macros) (dynamic.RecipeLine names)
+
+-- the lines of the recipe of node n
+pub record AreLinesOf (graph : Graph) (marks : List Bool) (n : ℕ) (recipe : List RecipeLine) (lines : List Line) : Type 0 where
+  pub names : RecipeNames
+  pub are_names : AreNames graph marks n names
+  pub expanded : AreExpanded (recipe_meaning graph names) recipe lines
+
+-- the fault is that of a line of the recipe of node n; want of memory says nothing of them
+abbrev pub IsFaultOf : Graph → (marks : List Bool) → (n : ℕ) → List RecipeLine → MacroFault → Type 0
+IsFaultOf graph marks n recipe OutOfMemory = Unit {0}
+IsFaultOf graph marks n recipe fault = (names : RecipeNames) × AreNames graph marks n names × IsRecipeFault (recipe_meaning graph names) recipe fault

@@ -1,0 +1,11 @@
+//! What a node of a graph comes to: its recipe's lines, expanded, and whether it is to be run. A dry run and the workers of a run
+//! ask it alike.
+#![tactic(auto)]
+
+mod nodes;
+mod passing;
+mod recipe;
+mod target;
+
+pub use nodes::explicit_of;
+pub use passing::{Passed, pass};

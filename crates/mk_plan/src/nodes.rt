@@ -1,0 +1,154 @@
+//! What a graph has under a number. Past the end there is nothing, so that no number is out of range.
+ghost use Rattle.std.specs.Prelude.{◌≡◌, ◌<◌, ◌||◌, length, map, filter, is_none, option_map, unwrap_or, IfOk};
+ghost use Rattle.std.specs.List.{list_any};
+ghost use Rattle.std.specs.Option.{option_copied, option_map_or};
+ghost use Rattle.mk_graph.specs.Edges.{row};
+ghost use Rattle.mk_graph.specs.Numbering.{name_at};
+ghost use Rattle.mk_recipe.specs.Tests.{is_later};
+ghost use Rattle.mk_rules.specs.Node.{source_in};
+ghost use Rattle.mk_plan.specs.Nodes.{node_at, stamp_of, entry_of, stem_of, source_of, explicit_of, recipe_of, is_marked, is_newer_word, newer_words, ends_remade};
+
+use byte_strings::ByteStrings;
+use mk_reader::RecipeLine;
+use mk_rules::Graph;
+use st_records::Entry;
+use std::alloc::{AllocError, Global};
+
+pub fn name_of(graph: &Graph, node: usize) -> &[u8]
+    ensures { result.now ≡ name_at graph.now.names node }
+{
+    if node < graph.names.len() {
+        graph.names.name(node)
+    } else {
+        &[]
+    }
+}
+
+/// The time of a node's file.
+pub fn stamp_of(graph: &Graph, node: usize) -> Option<i128>
+    ensures { result ≡ stamp_of graph.now node }
+{
+    match graph.nodes.get(node) {
+        Some(node) => node.stamp,
+        None => None,
+    }
+}
+
+/// What the state has of a node.
+pub fn entry_of(graph: &Graph, node: usize) -> Option<&Entry>
+    ensures { option_copied result ≡ entry_of graph.now node }
+{
+    match graph.nodes.get(node) {
+        Some(node) => node.entry.as_ref(),
+        None => None,
+    }
+}
+
+/// The stem of a node that an implicit rule makes, and else nothing.
+pub fn stem_of(graph: &Graph, node: usize) -> &[u8]
+    ensures { result.now ≡ stem_of graph.now node }
+{
+    match graph.nodes.get(node) {
+        Some(node) => match &node.stem {
+            Some(stem) => stem.as_slice(),
+            None => &[],
+        },
+        None => &[],
+    }
+}
+
+/// The name of a node's implicit source, and else nothing.
+pub fn source_of(graph: &Graph, node: usize) -> &[u8]
+    requires { node < length graph.now.nodes.items }
+    ensures { result.now ≡ source_of graph.now node }
+{
+    match graph.source(node) {
+        Some(source) => name_of(graph, source),
+        None => &[],
+    }
+}
+
+/// The prerequisites of a node by name, as they are recorded.
+pub fn explicit_of(alloc: Global, graph: &Graph, node: usize) -> Result<ByteStrings, AllocError>
+    requires { node < length graph.now.nodes.items }
+    ensures { IfOk result (λ names. names ≡ explicit_of graph.now node) }
+{
+    let mut names = ByteStrings::empty(alloc);
+    for prerequisite in graph.explicit(node) {
+        names.push(name_of(graph, *prerequisite))?;
+    }
+    Ok(names)
+}
+
+/// The lines of the recipe that makes a node.
+pub fn recipe_of(graph: &Graph, node: usize) -> Option<&[RecipeLine]>
+    ensures { option_map (λ lines. lines.now) result ≡ recipe_of graph.now node }
+{
+    let number = graph.nodes.get(node)?.recipe?;
+    let line = graph.lines.get(number)?;
+    Some(line.recipe.lines())
+}
+
+/// The mark of a node.
+pub fn is_marked(marks: &[bool], node: usize) -> bool
+    ensures { result ≡ is_marked marks.now node }
+{
+    match marks.get(node) {
+        Some(mark) => *mark,
+        None => false,
+    }
+}
+
+/// Whether both have a file, and that of the prerequisite is later.
+fn is_later(prerequisite: Option<i128>, target: Option<i128>) -> bool
+    ensures { result ≡ is_later prerequisite target }
+{
+    match (prerequisite, target) {
+        (Some(prerequisite), Some(target)) => target < prerequisite,
+        _ => false,
+    }
+}
+
+/// Whether a prerequisite is among the words of `$?` for a target.
+fn is_newer_word(graph: &Graph, marks: &[bool], target: usize, prerequisite: usize) -> bool
+    ensures { result ≡ is_newer_word graph.now marks.now target prerequisite }
+{
+    let made = stamp_of(graph, target);
+    made.is_none()
+        || is_later(stamp_of(graph, prerequisite), made)
+        || is_marked(marks, prerequisite)
+}
+
+/// The words of `$?` for a node.
+pub fn newer_words<'g>(
+    alloc: Global,
+    graph: &'g Graph,
+    marks: &[bool],
+    node: usize,
+) -> Result<Vec<&'g [u8]>, AllocError>
+    requires { node < length graph.now.nodes.items }
+    ensures { IfOk result (λ words. map (λ word. word.now) words.items ≡ newer_words graph.now marks.now node) }
+{
+    let mut words = Vec::new(alloc);
+    for prerequisite in graph.hard.row(node) {
+        if is_newer_word(graph, marks, node, *prerequisite) {
+            words.push(name_of(graph, *prerequisite))?;
+        }
+    }
+    Ok(words)
+}
+
+/// Whether some of the nodes is marked.
+fn is_any_marked(marks: &[bool], nodes: &[usize]) -> bool
+    ensures { result ≡ list_any (is_marked marks.now) nodes.now }
+{
+    nodes.iter().any(|node| is_marked(marks, *node))
+}
+
+/// Whether a node without a recipe counts as remade.
+pub fn ends_remade(graph: &Graph, marks: &[bool], node: usize) -> bool
+    requires { node < length graph.now.nodes.items }
+    ensures { result ≡ ends_remade graph.now marks.now node }
+{
+    stamp_of(graph, node).is_none() || is_any_marked(marks, graph.hard.row(node))
+}

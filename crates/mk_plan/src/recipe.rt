@@ -1,0 +1,65 @@
+//! The lines of a node's recipe, expanded.
+ghost use Rattle.std.specs.Prelude.{◌<◌, length, IfOk, IfErr};
+ghost use Rattle.mk_macros.specs.Ranks.{ranks_at, meaning_of};
+ghost use Rattle.mk_macros.specs.Expansion.{ExpandsToFault};
+ghost use Rattle.mk_plan.specs.Recipe.{IsExpandedLine, AreExpanded, IsRecipeFault, AreLinesOf, IsFaultOf};
+
+use crate::nodes::{name_of, newer_words, source_of, stem_of};
+use mk_macros::{Dynamic, MacroFault, Macros, RecipeNames};
+use mk_reader::RecipeLine;
+use mk_recipe::{Line, split_line};
+use mk_rules::Graph;
+use std::alloc::Global;
+
+/// What a line of a recipe gives.
+fn expanded_line(
+    alloc: Global,
+    macros: &Macros,
+    dynamic: &Dynamic<'_>,
+    raw: &RecipeLine,
+) -> Result<Line, MacroFault>
+    ensures line { IfOk result (IsExpandedLine (meaning_of (ranks_at macros.now) dynamic.now) raw.now) }
+    ensures fault { IfErr result (ExpandsToFault (meaning_of (ranks_at macros.now) dynamic.now) raw.now.text) }
+{
+    let text = raw.text.as_slice();
+    let expansion = macros.expand(alloc, text, dynamic)?;
+    Ok(split_line(alloc, text, &expansion)?)
+}
+
+fn expanded_lines(
+    alloc: Global,
+    macros: &Macros,
+    dynamic: &Dynamic<'_>,
+    recipe: &[RecipeLine],
+) -> Result<Vec<Line>, MacroFault>
+    ensures lines { IfOk result (λ lines. AreExpanded (meaning_of (ranks_at macros.now) dynamic.now) recipe.now lines.items) }
+    ensures fault { IfErr result (IsRecipeFault (meaning_of (ranks_at macros.now) dynamic.now) recipe.now) }
+{
+    let mut lines = Vec::with_capacity(alloc, recipe.len())?;
+    for raw in recipe {
+        lines.push(expanded_line(alloc, macros, dynamic, raw)?)?;
+    }
+    Ok(lines)
+}
+
+/// The lines of the recipe of a node, where the marks are those of the nodes that were remade before it.
+pub fn lines_of(
+    alloc: Global,
+    graph: &Graph,
+    marks: &[bool],
+    node: usize,
+    recipe: &[RecipeLine],
+) -> Result<Vec<Line>, MacroFault>
+    requires { node < length graph.now.nodes.items }
+    ensures lines { IfOk result (λ lines. AreLinesOf graph.now marks.now node recipe.now lines.items) }
+    ensures fault { IfErr result (IsFaultOf graph.now marks.now node recipe.now) }
+{
+    let newer = newer_words(alloc, graph, marks, node)?;
+    let dynamic = Dynamic::RecipeLine(RecipeNames {
+        target: name_of(graph, node),
+        source: source_of(graph, node),
+        stem: stem_of(graph, node),
+        newer: &newer,
+    });
+    expanded_lines(alloc, &graph.macros, &dynamic, recipe)
+}

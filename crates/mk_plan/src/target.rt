@@ -1,0 +1,96 @@
+//! A node of a graph as it is judged.
+ghost use Rattle.std.specs.Prelude.{◌≡◌, ◌<◌, Some, None, true, false, length, map, IfOk};
+ghost use Rattle.mk_recipe.specs.Verdict.{IsVerdict};
+ghost use Rattle.mk_recipe.specs.declared.verdict.Target.{Target as Judged};
+ghost use Rattle.mk_plan.specs.Nodes.{entry_of, hidden_of};
+ghost use Rattle.mk_plan.specs.Target.{shown, seen_at, seen_of, IsTargetOf};
+
+use crate::nodes::{entry_of, explicit_of, is_marked, name_of, stamp_of};
+use mk_recipe::{Line, Prerequisite, Target, Verdict, judge, recorded};
+use mk_rules::Graph;
+use std::alloc::{AllocError, Global};
+
+/// A prerequisite that is a node. It has a file or a rule, or else it would be none.
+fn node_seen<'g>(graph: &'g Graph, marks: &[bool], node: usize, is_hidden: bool) -> Prerequisite<'g>
+    ensures { shown result ≡ seen_at graph.now marks.now is_hidden (Some node) }
+{
+    Prerequisite {
+        name: name_of(graph, node),
+        stamp: stamp_of(graph, node),
+        is_hidden,
+        has_rule: true,
+        is_remade: is_marked(marks, node),
+    }
+}
+
+/// A hidden prerequisite, which may be gone.
+fn hidden_seen<'g>(graph: &'g Graph, marks: &[bool], hidden: Option<usize>) -> Prerequisite<'g>
+    ensures { shown result ≡ seen_at graph.now marks.now true hidden }
+{
+    match hidden {
+        Some(node) => node_seen(graph, marks, node, true),
+        None => Prerequisite {
+            name: &[],
+            stamp: None,
+            is_hidden: true,
+            has_rule: false,
+            is_remade: false,
+        },
+    }
+}
+
+/// The hidden prerequisites of a node that are no hard ones.
+fn hidden_of(graph: &Graph, node: usize) -> &[Option<usize>]
+    ensures { result.now ≡ hidden_of graph.now node }
+{
+    match graph.nodes.get(node) {
+        Some(node) => node.hidden.as_slice(),
+        None => &[],
+    }
+}
+
+/// The prerequisites of a node: the hard ones, then the hidden ones.
+fn prerequisites_of<'g>(
+    alloc: Global,
+    graph: &'g Graph,
+    marks: &[bool],
+    node: usize,
+) -> Result<Vec<Prerequisite<'g>>, AllocError>
+    requires { node < length graph.now.nodes.items }
+    ensures { IfOk result (λ found. map shown found.items ≡ seen_of graph.now marks.now node) }
+{
+    let mut found = Vec::new(alloc);
+    for hard in graph.hard.row(node) {
+        found.push(node_seen(graph, marks, *hard, false))?;
+    }
+    for hidden in hidden_of(graph, node) {
+        found.push(hidden_seen(graph, marks, *hidden))?;
+    }
+    Ok(found)
+}
+
+/// The verdict on a node whose recipe these lines are.
+pub fn judge_node(
+    alloc: Global,
+    keeping: bool,
+    graph: &Graph,
+    marks: &[bool],
+    node: usize,
+    lines: &[Line],
+) -> Result<Verdict, AllocError>
+    requires { node < length graph.now.nodes.items }
+    ensures { IfOk result (λ verdict. (target : Judged) × (IsTargetOf graph.now marks.now node lines.now target
+        × IsVerdict keeping (entry_of graph.now node) target verdict)) }
+{
+    let commands = recorded(alloc, lines)?;
+    let explicit = explicit_of(alloc, graph, node)?;
+    let prerequisites = prerequisites_of(alloc, graph, marks, node)?;
+    let target = Target {
+        commands: &commands,
+        explicit: &explicit,
+        stamp: stamp_of(graph, node),
+        prerequisites: &prerequisites,
+        orders_hidden: !graph.soft_dropped,
+    };
+    Ok(judge(keeping, entry_of(graph, node), &target))
+}
