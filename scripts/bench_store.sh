@@ -3,11 +3,7 @@
 # files, beside plain writes and syncs of as many bytes in the same run; and what a sync costs that leaves the file's
 # times to later. The files stand in a folder of their own in FOLDER (the current one). Nothing is tested.
 set -eu
-folder=$(cd "${1:-.}" && pwd)
-cd "$(dirname "$0")/.."
-(cd crates/store_bench && rt run >/dev/null 2>&1) || [ -x crates/store_bench/out/store_bench ]
-work=$(mktemp -d -p "$folder")
-trap 'rm -rf "$work"' EXIT
+. "$(dirname "$0")/bench_folder.sh"
 for entries in 10 1000 100000; do
     for run in 1 2 3; do
         rm -f "$work"/*

@@ -3,6 +3,7 @@
 # - the first name of a part (parts end at ';') is a function, `Type::function`, a type, a trait, a `crate::module` or a
 #   lemma that is there; each later one is a clause of these, or one more of them;
 # - the must-fail edits of all crates are named, each once or more, and no other ones.
+# The must-not-compile edits are named in its text.
 # The last line is 'N passed, M failed'. A document without rows, calls or edits fails.
 set -u -o pipefail
 cd "$(dirname "$0")/.." || exit 2
@@ -51,7 +52,8 @@ def has_clause(call, clause):
                if owner == call[0] and call[1] in (None, function))
 
 passed, wrong, named, last = 0, [], set(), []
-rows = re.findall(r'^\|(?! promise |---)([^|]*)\|([^|]*)\|([^|]*)\|$', open('docs/GUARANTEES.md', encoding='utf-8').read(), re.M)
+document = open('docs/GUARANTEES.md', encoding='utf-8').read()
+rows = re.findall(r'^\|(?! promise |---)([^|]*)\|([^|]*)\|([^|]*)\|$', document, re.M)
 for promise, column, edits in rows:
     named.update(re.findall(r'`(\w+)`', edits))
     for part in column.split(';'):
@@ -68,6 +70,10 @@ for promise, column, edits in rows:
                 wrong.append(f'no such call or clause: {name} ({promise.strip()})')
         last = calls or last
 there = {os.path.basename(path)[:-5] for path in glob.glob('crates/*/must-fail/*.edit')}
+for path in glob.glob('crates/*/must-not-compile/*.edit'):
+    name = os.path.basename(path)[:-5]
+    passed += f'`{name}`' in document
+    wrong += [] if f'`{name}`' in document else [f'edit not named: {name}']
 wrong += [f'names no edit: {name}' for name in sorted(named - there)]
 wrong += [f'edit not named: {name}' for name in sorted(there - named)]
 if not rows or not passed or not there:

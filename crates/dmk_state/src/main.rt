@@ -1,6 +1,8 @@
 //! Lists what a state file remembers of its targets.
 #![tactic(auto)]
 
+ghost use Rattle.std.specs.Prelude.{◌≡◌, ◌⊎◌};
+
 mod command_line;
 mod listing;
 mod output;
@@ -27,7 +29,9 @@ fn main(rt: HostRuntime) -> ExitCode {
     }
 }
 
-fn list_file(rt: HostRuntime, file: &str) -> u8 {
+fn list_file(rt: HostRuntime, file: &str) -> u8
+    ensures status { (result ≡ 0) ⊎ (result ≡ 2) }
+{
     match read_sides(rt, file) {
         Ok((a, b)) => show(
             rt.alloc(),

@@ -1,12 +1,14 @@
 //! What the program prints and answers: a listing and 0, or one line with the fault and 2.
 
-ghost use Rattle.std.specs.Prelude.{◌≡◌, ◌⊎◌};
+ghost use Rattle.std.specs.Prelude.{◌≡◌, ◌⊎◌, ℕ, List, Some, IfSome};
 ghost use Rattle.std.specs.Io.KnownBytes.{Appends, Keeps};
 ghost use Rattle.st_records.specs.State.{StateMap};
 ghost use Rattle.st_file.specs.declared.fault.OpenFault.{OpenFault};
+ghost use Rattle.st_file.specs.Side.{IsRefused};
 ghost use Rattle.st_recovery.specs.Recovers.{Recovers, RefusesWith, PairComesToRecords};
 ghost use Rattle.dmk_state.specs.Listing.{listing};
-ghost use Rattle.dmk_state.specs.Writing.{AppendsPart};
+ghost use Rattle.dmk_state.specs.Writing.{AppendsPart, IsOfSide};
+ghost use Rattle.dmk_state.specs.declared.listing.ListFault.TheVariants as faults;
 
 use crate::listing::{ListFault, list};
 use st_disk::Which;
@@ -36,7 +38,12 @@ impl fmt::Display for Message<'_> {
 }
 
 // The side whose bytes have the fault, which the message names.
-fn damaged_side(fault: ListFault) -> Option<Which> {
+fn damaged_side(fault: ListFault) -> Option<Which>
+    ensures found { IfSome result (λ side. IsOfSide side fault) }
+    ensures only { (side : Which) → IsOfSide side fault → result ≡ Some side }
+    // Whatever bytes are refused with the fault, the message names their side.
+    ensures refused { (side : Which) (x : List ℕ) (f : OpenFault) → IsRefused side x f → fault ≡ faults.Open f → result ≡ Some side }
+{
     match fault {
         ListFault::Open(OpenFault::NotState(side)) => Some(side),
         ListFault::Open(OpenFault::UnknownVersion(side, _)) => Some(side),
