@@ -2,6 +2,7 @@
 use Rattle.std.specs.Prelude.{◌≡◌, ◌⊎◌, ℕ, ◌<◌, List, ◌++◌, length, Option, ⊤}
 use Rattle.std.specs.Io.KnownBytes.{Appends, Keeps}
 use Rattle.st_disk.specs.declared.which.Which.{Which}
+use Rattle.st_file.specs.Side as side_file
 use Rattle.st_file.specs.declared.fault.OpenFault.TheVariants as open_faults
 use Rattle.st_records.specs.State.{StateMap}
 use Rattle.st_recovery.specs.Recovers.{Recovers, RefusesWith}
@@ -36,12 +37,7 @@ LeavesWriter a b faults.Write old new = (m : StateMap) × (Recovers a b m × App
 abbrev pub IsOfMachine : ListFault → Type 0
 IsOfMachine fault = (fault ≡ faults.Open open_faults.OutOfMemory) ⊎ (fault ≡ faults.Write)
 
--- the fault is one of this side's bytes; the others are of the machine, or of both sides together
+-- the fault is one of this side's bytes
 abbrev pub IsOfSide : Which → ListFault → Type 0
-IsOfSide side (faults.Open (open_faults.NotState s)) = s ≡ side
-IsOfSide side (faults.Open (open_faults.UnknownVersion s version)) = s ≡ side
-IsOfSide side (faults.Open (open_faults.Damaged s place)) = s ≡ side
-IsOfSide side (faults.Open open_faults.Device) = ⊥
-IsOfSide side (faults.Open open_faults.OutOfMemory) = ⊥
-IsOfSide side (faults.Open open_faults.SameGeneration) = ⊥
+IsOfSide side (faults.Open fault) = side_file.IsOfSide side fault
 IsOfSide side faults.Write = ⊥

@@ -12,7 +12,6 @@ ghost use Rattle.dmk_state.specs.declared.listing.ListFault.TheVariants as fault
 
 use crate::listing::{ListFault, list};
 use st_disk::Which;
-use st_file::OpenFault;
 use st_records::HashKey;
 use std::alloc::Global;
 use std::fmt;
@@ -45,10 +44,7 @@ fn damaged_side(fault: ListFault) -> Option<Which>
     ensures refused { (side : Which) (x : List ℕ) (f : OpenFault) → IsRefused side x f → fault ≡ faults.Open f → result ≡ Some side }
 {
     match fault {
-        ListFault::Open(OpenFault::NotState(side)) => Some(side),
-        ListFault::Open(OpenFault::UnknownVersion(side, _)) => Some(side),
-        ListFault::Open(OpenFault::Damaged(side, _)) => Some(side),
-        ListFault::Open(_) => None,
+        ListFault::Open(fault) => fault.damaged_side(),
         ListFault::Write => None,
     }
 }

@@ -92,6 +92,15 @@ IsRefused side x faults.Device = ⊥
 IsRefused side x faults.OutOfMemory = ⊥
 IsRefused side x faults.SameGeneration = ⊥
 
+-- the fault is one of this side's bytes; the others are of the machine, or of both sides together
+abbrev pub IsOfSide : Which → OpenFault → Type 0
+IsOfSide side (faults.NotState s) = s ≡ side
+IsOfSide side (faults.UnknownVersion s version) = s ≡ side
+IsOfSide side (faults.Damaged s place) = s ≡ side
+IsOfSide side faults.Device = ⊥
+IsOfSide side faults.OutOfMemory = ⊥
+IsOfSide side faults.SameGeneration = ⊥
+
 -- the ways to read a side
 pub data Reading : Type 0 where
   blank : Reading

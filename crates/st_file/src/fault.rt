@@ -1,6 +1,7 @@
 //! Why a side, or a pair of sides, can't be read.
 
-ghost use Rattle.std.specs.Prelude.{◌≡◌};
+ghost use Rattle.std.specs.Prelude.{◌≡◌, ℕ, List, Some, IfSome};
+ghost use Rattle.st_file.specs.Side.{IsRefused, IsOfSide};
 ghost use Rattle.st_file.specs.declared.fault.OpenFault.TheVariants.{OutOfMemory, Device};
 
 use st_disk::{DeviceFault, Which};
@@ -28,6 +29,25 @@ pub enum OpenFault {
     /// Both sides hold records and have one generation.
     #[error("both sides have one generation")]
     SameGeneration,
+}
+
+impl OpenFault {
+    /// The side whose bytes have the fault, which messages name. The others are of the machine, or of both sides together.
+    pub fn damaged_side(self) -> Option<Which>
+        ensures found { IfSome result (λ side. IsOfSide side self) }
+        ensures only { (side : Which) → IsOfSide side self → result ≡ Some side }
+        // Whatever bytes are refused with the fault, it is their side.
+        ensures refused { (side : Which) (x : List ℕ) → IsRefused side x self → result ≡ Some side }
+    {
+        match self {
+            OpenFault::NotState(side) => Some(side),
+            OpenFault::UnknownVersion(side, _) => Some(side),
+            OpenFault::Damaged(side, _) => Some(side),
+            OpenFault::Device => None,
+            OpenFault::OutOfMemory => None,
+            OpenFault::SameGeneration => None,
+        }
+    }
 }
 
 impl From<AllocError> for OpenFault {

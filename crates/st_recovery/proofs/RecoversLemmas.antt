@@ -174,6 +174,18 @@ pub IfSome-one : (a b : List ℕ) (answered : Option Outcome) → IfSome answere
 IfSome-one a b None found o h = tt
 IfSome-one a b (Some p) found o h = one_recovery a b p o found h
 
+-- no pair is refused for a device
+no_device : (a b : List ℕ) → RefusesWith a b faults.Device → ⊥
+no_device a b (inl of_a) = of_a
+no_device a b (inr (inl of_b)) = of_b.1
+no_device a b (inr (inr same)) =
+    let none : faults.Device ≡ faults.SameGeneration = same.0 in absurd cc
+
+-- so none is answered
+pub never_of_a_device : (a b : List ℕ) (answered : Result StateMap OpenFault) → IfSome (outcome_of answered) (HasOutcome a b)
+    → IsErrOf answered faults.Device → ⊥
+never_of_a_device a b answered found is = no_device a b (subst (λ r. IfSome (outcome_of r) (HasOutcome a b)) is found)
+
 -- what was chosen recovers its state
 pub recovers_chosen : (a b : List ℕ) (which : Which) (v : Version) (generation end : ℕ) (m : StateMap) → IsChosen a b which v generation end m → Recovers a b m
 recovers_chosen a b sides.A v generation end m c =

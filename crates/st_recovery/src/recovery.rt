@@ -28,6 +28,8 @@ pub fn recover(alloc: Global, key: HashKey, a: &[u8], b: &[u8]) -> Result<State,
     ensures only { (o : Outcome) → HasOutcome a.now b.now o → IfSome (outcome_of result) (λ p. p ≡ o) }
     // Memory is wanted for records alone.
     ensures memory { IsErrOf result faults.OutOfMemory → PairComesToRecords a.now b.now }
+    // Bytes in memory have no device.
+    ensures device { IsErrOf result faults.Device → ⊥ }
 {
     newest(alloc, key, a, b)
 }

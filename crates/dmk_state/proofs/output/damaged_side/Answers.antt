@@ -1,0 +1,14 @@
+use Rattle.std.proofs.Common.{◌≡◌, ◌∙◌, sym, subst}
+use Rattle.st_file.specs.Side.{IsRefused}
+use Rattle.dmk_state.specs.Writing.{IsOfSide}
+use Rattle.dmk_state.specs.declared.listing.ListFault.TheVariants as faults
+use Rattle.dmk_state.proofs.output.damaged_side.Goals as goal
+
+pub returns-in-Open-clause-only : goal.returns-in-Open-clause-only
+returns-in-Open-clause-only c = λ side is. c.damaged_side.ensures.only side (subst (IsOfSide side) c.in-Open.is is)
+
+pub returns-in-Open-clause-refused : goal.returns-in-Open-clause-refused
+returns-in-Open-clause-refused c = λ side x f refuses is.
+    let opened : faults.Open c.in-Open.fault ≡ faults.Open f = sym c.in-Open.is ∙ is in
+    let same : f ≡ c.in-Open.fault = cc in
+    c.damaged_side.ensures.refused side x (subst (IsRefused side x) same refuses)
