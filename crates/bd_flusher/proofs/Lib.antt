@@ -7,7 +7,9 @@ pub mod PromiseLemmas
 pub mod SiteLemmas
 pub mod TurnLemmas
 pub mod FlushLemmas
+pub mod CompactionLemmas
 pub mod RunLemmas
+pub mod OtherLemmas
 pub mod ExampleLemmas
 pub mod WritableLemmas
 pub mod SameLemmas

@@ -2,10 +2,13 @@
 use Rattle.std.specs.Prelude.{◌≡◌, ◌≢◌, ◌⊎◌, ℕ, ◌+◌, ◌<◌, ◌≤◌, ◌^◌, true, false, List, [], ◌∷◌, ◌++◌, length, take, drop, map as list_map, Some, None, slice_get, Result, OnOk, OnErr, IsErrOf}
 use Rattle.std.specs.List.{AllByRecursion}
 use Rattle.st_disk.specs.declared.which.Which.{Which}
-use Rattle.st_disk.specs.Crash.{Sides}
+use Rattle.st_disk.specs.Crash.{Sides, other}
 use Rattle.st_disk.specs.Moments.{Moments, now, Throughout}
 use Rattle.st_records.specs.declared.version.Version.{Version}
+use Rattle.st_records.specs.declared.version.Version.TheVariants as versions
 use Rattle.st_records.specs.declared.record.Record.{Record}
+use Rattle.st_records.specs.Keepable.{kept_records}
+use Rattle.st_file.specs.Side.{HoldsUpTo}
 use Rattle.st_records.specs.State.{StateMap}
 use Rattle.st_recovery.specs.Stored.{AllRecover, AllRecoverEither}
 use Rattle.bd_flusher.specs.declared.fault.FlushFault.{FlushFault}
@@ -20,6 +23,33 @@ use Rattle.bd_flusher.specs.Run.{IsRun, after_all}
 -- a side that ends here is to be compacted: it is longer than 2 ^ 20 bytes and than twice what it was
 abbrev pub IsLong : (end size : ℕ) → Type 0
 IsLong end size = (2 ^ 20 < end) × (size + size < end)
+
+-- the site has gone on on the other side, of version 2 and of the next generation, which holds just these records
+pub record IsOnOtherSide {D : Type 0} (honest : Type 0) (seen : D → Which → List ℕ) (old new : Facts D) (held : List Record) : Type 0 where
+  pub side : new.side ≡ other old.side
+  pub version : new.version ≡ versions.Two
+  pub generation : new.generation ≡ old.generation + 1
+  pub holds : honest → HoldsUpTo (seen new.disk (other old.side)) versions.Two (old.generation + 1) held new.end
+
+-- it was compacted: the other side holds a kept record for each entry of its state, and that side's length is kept
+pub record IsCompacted {D : Type 0} (honest : Type 0) (seen : D → Which → List ℕ) (old new : Facts D) : Type 0 where
+  pub changed : IsOnOtherSide honest seen old new (kept_records old.state)
+  pub size : new.size ≡ new.end
+
+-- what it held stands behind a compaction, which came first: on the other side, behind a kept record for each entry of the
+-- state that it had; and the length that is kept is that of a side with these alone
+pub record IsBehindCompaction {D : Type 0} (honest : Type 0) (seen : D → Which → List ℕ) (old new : Facts D) : Type 0 where
+  pub changed : IsOnOtherSide honest seen old new (kept_records old.state ++ old.held)
+  pub size : honest → (x : List ℕ) × HoldsUpTo x versions.Two (old.generation + 1) (kept_records old.state) new.size
+
+-- what it held stands behind what was on the side already, on which it has stayed
+pub record IsBehind {D : Type 0} (honest : Type 0) (seen : D → Which → List ℕ) (old new : Facts D) : Type 0 where
+  pub side : new.side ≡ old.side
+  pub version : new.version ≡ old.version
+  pub generation : new.generation ≡ old.generation
+  pub size : new.size ≡ old.size
+  pub holds : honest → (held : List Record) → HoldsUpTo (seen old.disk old.side) old.version old.generation held old.end
+      → HoldsUpTo (seen new.disk old.side) old.version old.generation (held ++ old.held) new.end
 
 -- the tickets count up by one from here
 abbrev pub AreInTurn : ℕ → (tickets : List ℕ) → Type 0

@@ -26,5 +26,7 @@ pub mod Faults
 pub mod Site
 -- what a flush does, and that it is a list of steps
 pub mod Flushing
+-- what others do meanwhile
+pub mod Others
 -- runs that there are
 pub mod Examples

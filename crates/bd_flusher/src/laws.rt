@@ -2,6 +2,7 @@
 
 ghost use Rattle.bd_flusher.specs.Interleavings.{EveryInterleaving, EachCutOff};
 ghost use Rattle.bd_flusher.specs.Flushing.{FlushesAreRuns, LooksAreSteps, TakesAreSteps, NewIsOpened};
+ghost use Rattle.bd_flusher.specs.Others.{OthersDontHinder, InterleavedIsRun, FlushesAmongOthers};
 ghost use Rattle.bd_flusher.specs.Examples.{SomeAcknowledgedDone, SomeCutOff};
 
 use st_disk::Disk;
@@ -27,6 +28,15 @@ pub fn flushes_are_runs<D: Disk + Drop>()
     ensures looks { LooksAreSteps D.moments }
     ensures takes { TakesAreSteps D.moments }
     ensures flushes { FlushesAreRuns (Unit {0}) D.honest D.moments }
+{}
+
+/// Between a flush's steps other workers may submit, go on with receipts, and start and end recipes: no such step hinders one of
+/// the flush, nor one of the flush it, and in whichever order they are made the same comes of them. So what a flush does is a
+/// list of steps also among those of others.
+pub fn others_dont_hinder<D: Disk + Drop>()
+    ensures steps { OthersDontHinder }
+    ensures lists { InterleavedIsRun }
+    ensures flushes { FlushesAmongOthers (Unit {0}) D.honest D.moments }
 {}
 
 /// There are such runs, over bytes of real state files: to a cut with an acknowledged 'done'; and to one with two targets in a

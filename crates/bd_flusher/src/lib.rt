@@ -11,6 +11,8 @@ mod tidying;
 
 pub use fault::FlushFault;
 pub use flusher::Flusher;
-pub use laws::{cut_off, every_interleaving, flushes_are_runs, some_interleavings};
+pub use laws::{
+    cut_off, every_interleaving, flushes_are_runs, others_dont_hinder, some_interleavings,
+};
 pub use same::is_same;
 pub use site::{Receipt, Site};

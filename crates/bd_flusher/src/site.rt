@@ -2,7 +2,6 @@
 
 ghost use Rattle.std.specs.Prelude.{◌≡◌, ◌≢◌, ◌⊎◌, ◌↔◌, ℕ, ◌+◌, ◌-◌, ◌<◌, ◌≤◌, ◌^◌, ◌++◌, true, false, IsTrue, IfOk, IfErr, IsOk, OnOk, OnErr, IsErrOf, MatchOption, length, vec_len, vec_capacity, map as list_map};
 ghost use Rattle.std.specs.FinMap as map;
-ghost use Rattle.st_disk.specs.Crash.{other};
 ghost use Rattle.st_disk.specs.Moments.{Throughout};
 ghost use Rattle.st_disk.specs.Faults.{Rises};
 ghost use Rattle.st_records.specs.declared.version.Version.TheVariants as versions;
@@ -14,7 +13,7 @@ ghost use Rattle.bd_lists.specs.Sheet.{drained, AreOf};
 ghost use Rattle.bd_flusher.specs.declared.fault.FlushFault.TheVariants as faults;
 ghost use Rattle.bd_flusher.specs.Batches.{StandsAt, AreIncreasing, last_of, IsInBatch};
 ghost use Rattle.bd_flusher.specs.Faults.{fault_of};
-ghost use Rattle.bd_flusher.specs.Flushing.{IsLong, AreInTurn, IsOutOfTurn, Flushes};
+ghost use Rattle.bd_flusher.specs.Flushing.{IsLong, IsCompacted, IsBehind, IsBehindCompaction, AreInTurn, IsOutOfTurn, Flushes};
 ghost use Rattle.bd_flusher.specs.Site.{IsSite, KeepsRecords, first_facts, told_state, holding};
 
 mod receipt;
@@ -260,9 +259,8 @@ impl<D: Disk + Drop> Site<D> {
         ensures old_version { IsErrOf result faults.OldVersion
             → (self.old.version ≡ versions.One) × (self.old.generation ≡ 2 ^ 64 - 1) }
         ensures full { IsErrOf result faults.Full → IsFull HEADER_BYTES (kept_records self.old.state) }
-        // The store has gone on where it was, or on the other side, whose length is kept.
-        ensures compacted { OnOk result ((self.new ≡ self.old)
-            ⊎ ((self.new.side ≡ other self.old.side) × (self.new.size ≡ self.new.end))) }
+        // The store has gone on where it was, or on the other side.
+        ensures compacted { OnOk result ((self.new ≡ self.old) ⊎ IsCompacted D.honest D.seen self.old self.new) }
     {
         tidy_store(alloc, &mut self.store, &mut self.size)
     }
@@ -283,6 +281,14 @@ impl<D: Disk + Drop> Site<D> {
             ⊎ ((self.old.version ≡ versions.One) × IsFull HEADER_BYTES (kept_records self.old.state)) }
         ensures old_version { IsErrOf result faults.OldVersion
             → (self.old.version ≡ versions.One) × (self.old.generation ≡ 2 ^ 64 - 1) }
+        // A compaction comes before the batch.
+        ensures compacted { 0 < length self.old.held → OnOk result (IsBehind D.honest D.seen self.old self.new
+            ⊎ IsBehindCompaction D.honest D.seen self.old self.new) }
+        // What the device didn't refuse was refused before its first call, or behind a compaction.
+        ensures unchanged { IfErr result (λ fault. fault ≢ faults.Device → (self.new ≡ self.old)
+            ⊎ IsCompacted D.honest D.seen self.old self.new) }
+        ensures no_call { self.old.version ≡ versions.Two → (IsLong self.old.end self.old.size → ⊥)
+            → IfErr result (λ fault. fault ≢ faults.Device → self.new ≡ self.old) }
         // No side is left where no compaction is due.
         ensures unneeded { self.old.version ≡ versions.Two → (IsLong self.old.end self.old.size → ⊥)
             → (self.new.side ≡ self.old.side) × (self.new.generation ≡ self.old.generation) × (self.new.size ≡ self.old.size) }

@@ -1,15 +1,17 @@
 //! When a store changes sides: its side is of version 1, or has grown long.
 
-ghost use Rattle.std.specs.Prelude.{◌≡◌, ◌≢◌, ◌⊎◌, ◌↔◌, ◌-◌, ◌^◌, true, false, IsTrue, IsOk, IfErr, OnOk, IsErrOf};
+ghost use Rattle.std.specs.Prelude.{◌≡◌, ◌≢◌, ◌⊎◌, ◌↔◌, ◌+◌, ◌-◌, ◌^◌, true, false, IsTrue, IsOk, IfErr, OnOk, IsErrOf};
 ghost use Rattle.st_disk.specs.Crash.{other};
 ghost use Rattle.st_disk.specs.Moments.{Throughout};
 ghost use Rattle.st_disk.specs.Faults.{Rises};
 ghost use Rattle.st_records.specs.declared.version.Version.TheVariants as versions;
 ghost use Rattle.st_records.specs.Keepable.{kept_records};
 ghost use Rattle.st_file.specs.Grown.{IsFull};
+ghost use Rattle.st_file.specs.Side.{HoldsUpTo};
 ghost use Rattle.st_file.specs.declared.commit_fault.CommitFault.{CommitFault};
 ghost use Rattle.st_file.specs.declared.commit_fault.CommitFault.TheVariants as commits;
 ghost use Rattle.st_recovery.specs.Stored.{AllRecover};
+ghost use Rattle.st_compaction.specs.Compacted.{HasChangedSides};
 ghost use Rattle.bd_flusher.specs.declared.fault.FlushFault.TheVariants as faults;
 ghost use Rattle.bd_flusher.specs.Faults.{fault_of};
 ghost use Rattle.bd_flusher.specs.Flushing.{IsLong};
@@ -65,9 +67,11 @@ pub(crate) fn tidy_store<D: Disk + Drop>(
     ensures old_version { IsErrOf result faults.OldVersion
         → (store.old.log.version ≡ versions.One) × (store.old.log.generation ≡ 2 ^ 64 - 1) }
     ensures full { IsErrOf result faults.Full → IsFull HEADER_BYTES (kept_records store.old.state) }
-    // The store has gone on where it was, or on the other side, whose length is kept.
+    // The store has gone on where it was, or on the other side, which holds its state alone and whose length is kept.
     ensures compacted { OnOk result (((store.new.log ≡ store.old.log) × (size.new ≡ size.old))
-        ⊎ ((store.new.log.side ≡ other store.old.log.side) × (size.new ≡ store.new.log.end))) }
+        ⊎ (HasChangedSides store.old.log.side store.new.log.side store.new.log.version store.old.log.generation
+        store.new.log.generation × (size.new ≡ store.new.log.end) × (D.honest → HoldsUpTo (D.seen store.new.log.disk
+        (other store.old.log.side)) versions.Two (store.old.log.generation + 1) (kept_records store.old.state) store.new.log.end))) }
     ensures unneeded { store.old.log.dead ≡ false → store.old.log.version ≡ versions.Two
         → (IsLong store.old.log.end size.old → ⊥)
         → IsOk result × (store.new.log ≡ store.old.log) × (size.new ≡ size.old) }

@@ -1,11 +1,13 @@
 use Rattle.std.proofs.Common.{◌≡◌, ◌<◌, Err, false, [], ◌∷◌, ◌++◌, ◌+◌, length, length-append, inl, inr, refl, sym, ap, subst, ◌∙◌, rules}
 use Rattle.std.proofs.lemmas.Result.{err_from_is_err_and}
+use Rattle.st_disk.specs.Crash.{other}
 use Rattle.st_disk.specs.Moments.{now}
 use Rattle.st_records.specs.State.{StateMap, replay}
 use Rattle.st_recovery.specs.Stored.{AllRecover}
 use Rattle.st_recovery.proofs.StoredLemmas.{all_recover}
 use Rattle.bd_flusher.specs.Faults.{fault_of}
 use Rattle.bd_flusher.proofs.SiteLemmas.{site_with, tidied_site, faulted_site, flushed_site}
+use Rattle.bd_flusher.proofs.CompactionLemmas.{same_facts, then_behind, up_to, still_holds}
 use Rattle.bd_flusher.proofs.TurnLemmas.{out_of_turn_told}
 use Rattle.bd_flusher.proofs.WritableLemmas.{all_good, all_later}
 use Rattle.bd_flusher.proofs.FlushLemmas.{then_committed, tidied, same_state, site_moments, device_or_not, told_device, commit_device_or_not, refused, refused_before, nothing_held, flushed, memory_is_not_device, dead_is_not_device, turn_is_not_device}
@@ -39,6 +41,16 @@ returns-in_err-reserve-clause-flushes g c =
     let p = err_from_is_err_and c.from_residual.result c.from_residual.ensures.1 in
     rw (p.1, p.2, ← c.self.view_is, c.reserve.ensures.items) (refused_before _ g.D.Disk.honest g.D.Disk.moments _ _ c.self.invariant.0 memory_is_not_device)
 
+pub returns-in_err-reserve-clause-unchanged : goal.returns-in_err-reserve-clause-unchanged
+returns-in_err-reserve-clause-unchanged g c =
+    let p = err_from_is_err_and c.from_residual.result c.from_residual.ensures.1 in
+    rw (p.1, p.2, ← c.self.view_is, c.reserve.ensures.items) (λ other. inl refl)
+
+pub returns-in_err-reserve-clause-no_call : goal.returns-in_err-reserve-clause-no_call
+returns-in_err-reserve-clause-no_call g c =
+    let p = err_from_is_err_and c.from_residual.result c.from_residual.ensures.1 in
+    rw (p.1, p.2, ← c.self.view_is, c.reserve.ensures.items) (λ two short other. refl)
+
 -- ---- refused by the compaction: the store has the same state, the records are as before
 
 pub invariant_of-self-in_err-tidy_store : goal.invariant_of-self-in_err-tidy_store
@@ -66,6 +78,22 @@ returns-in_err-tidy_store-clause-flushes g c =
     (λ device. (call.device (ap Err device)).0)
     (elim (device_or_not fault) [ inl device ↦ inl device | inr other ↦ inr (ap (λ l. l.dead) (call.unchanged other).0) ])
     alive some)
+
+pub returns-in_err-tidy_store-clause-unchanged : goal.returns-in_err-tidy_store-clause-unchanged
+returns-in_err-tidy_store-clause-unchanged g c =
+    let p = err_from_is_err_and c.from_residual-in_err-tidy_store.result c.from_residual-in_err-tidy_store.ensures.1 in
+    let call = c.in_err-tidy_store.ensures in
+    rw (p.1, p.2, ← c.self.view_is) (λ other.
+    let same = (call.unchanged other).0 in
+    inl (same_facts _ _ _ _ (ap (λ l. l.disk) same) (ap (λ l. l.side) same) (ap (λ l. l.version) same) (ap (λ l. l.generation) same) (ap (λ l. l.end) same) (ap (λ l. l.dead) same) call.state c.reserve.ensures.items (call.unchanged other).1))
+
+pub returns-in_err-tidy_store-clause-no_call : goal.returns-in_err-tidy_store-clause-no_call
+returns-in_err-tidy_store-clause-no_call g c =
+    let p = err_from_is_err_and c.from_residual-in_err-tidy_store.result c.from_residual-in_err-tidy_store.ensures.1 in
+    let call = c.in_err-tidy_store.ensures in
+    rw (p.1, p.2, ← c.self.view_is) (λ two short other.
+    let same = (call.unchanged other).0 in
+    same_facts _ _ _ _ (ap (λ l. l.disk) same) (ap (λ l. l.side) same) (ap (λ l. l.version) same) (ap (λ l. l.generation) same) (ap (λ l. l.end) same) (ap (λ l. l.dead) same) call.state c.reserve.ensures.items (call.unchanged other).1)
 
 -- ---- refused by the commit
 
@@ -99,6 +127,47 @@ returns-in_err-commit-clause-flushes g c =
     (elim (commit_device_or_not fault) [ inl device ↦ inl (ap fault_of device) | inr other ↦ inr (ap (λ l. l.dead) (call.unchanged other) ∙ mid_alive ∙ sym alive) ])
     alive some)
 
+pub returns-in_err-commit-clause-unchanged : goal.returns-in_err-commit-clause-unchanged
+returns-in_err-commit-clause-unchanged g c =
+    let p = err_from_is_err_and c.from_residual-in_err-commit.result c.from_residual-in_err-commit.ensures.1 in
+    let fault = c.in_err-commit.field-0.0 in
+    let call = c.in_err-commit.ensures in
+    rw (p.1, p.2, ← c.self.view_is) (λ other. elim (commit_device_or_not fault) [
+      | inl device ↦ absurd (other (ap fault_of device))
+      | inr not_device ↦
+          let kept = call.unchanged not_device in
+          elim c.in_ok-tidy_store.ensures.compacted [
+            | inl same ↦
+                let all = kept ∙ same.0 in
+                inl (same_facts _ _ _ _ (ap (λ l. l.disk) all) (ap (λ l. l.side) all) (ap (λ l. l.version) all) (ap (λ l. l.generation) all) (ap (λ l. l.end) all) (ap (λ l. l.dead) all)
+                (call.err ∙ c.tidy_store.ensures.state) c.reserve.ensures.items same.1)
+            | inr moved ↦ inr (record {
+              changed = record {
+                side = ap (λ l. l.side) kept ∙ moved.0.on_other;
+                version = ap (λ l. l.version) kept ∙ moved.0.is_two;
+                generation = ap (λ l. l.generation) kept ∙ moved.0.next;
+                holds = λ honest. still_holds g.D.Disk.seen (ap (λ l. l.disk) kept) (ap (λ l. l.end) kept) (moved.2 honest);
+              };
+              size = moved.1 ∙ sym (ap (λ l. l.end) kept);
+            })
+          ]
+    ])
+
+pub returns-in_err-commit-clause-no_call : goal.returns-in_err-commit-clause-no_call
+returns-in_err-commit-clause-no_call g c =
+    let p = err_from_is_err_and c.from_residual-in_err-commit.result c.from_residual-in_err-commit.ensures.1 in
+    let fault = c.in_err-commit.field-0.0 in
+    let call = c.in_err-commit.ensures in
+    let alive : c.self.inside.store.log.dead ≡ false = search rules in
+    rw (p.1, p.2, ← c.self.view_is) (λ two short other. elim (commit_device_or_not fault) [
+      | inl device ↦ absurd (other (ap fault_of device))
+      | inr not_device ↦
+          let same = c.tidy_store.ensures.unneeded alive two short in
+          let all = call.unchanged not_device ∙ same.1 in
+          same_facts _ _ _ _ (ap (λ l. l.disk) all) (ap (λ l. l.side) all) (ap (λ l. l.version) all) (ap (λ l. l.generation) all) (ap (λ l. l.end) all) (ap (λ l. l.dead) all)
+          (call.err ∙ c.tidy_store.ensures.state) c.reserve.ensures.items same.2
+    ])
+
 -- ---- all that was held is told
 
 pub invariant_of-self-2 : goal.invariant_of-self-2
@@ -129,3 +198,33 @@ returns-clause-flushes g c =
     (λ honest. (invariant_of-self-2 g c).0.recovers honest c.in_ok-commit.ensures.alive.1)
     (record { opening = refl; told = told; tickets = c.clear.ensures.items; held = search rules; ends = λ any. ends ∙ ap (λ n. c.self.inside.ends.items ++ n ∷ []) long })
     alive c.in_ok-commit.ensures.alive.1 some)
+
+pub returns-clause-compacted : goal.returns-clause-compacted
+returns-clause-compacted g c =
+    let commit = c.in_ok-commit.ensures in
+    let mid = c.tidy_store.new.store.log in
+    let new = c.commit.new.self.log in
+    let old = c.self.inside.store.log in
+    let behind = λ (honest : g.D.Disk.honest). rw c.deref-2.ensures.value at (commit.held honest) in
+    rw (← c.self.view_is) (λ some. elim c.in_ok-tidy_store.ensures.compacted [
+      | inl same ↦ inl (record {
+        side = commit.side ∙ ap (λ l. l.side) same.0;
+        version = commit.version ∙ ap (λ l. l.version) same.0;
+        generation = commit.generation ∙ ap (λ l. l.generation) same.0;
+        size = same.1;
+        holds = λ honest held holds.
+            then_behind (g.D.Disk.seen mid.disk) (g.D.Disk.seen new.disk) mid.end new.end c.self.inside.held.items (ap (λ l. l.side) same.0) (ap (λ l. l.version) same.0) (ap (λ l. l.generation) same.0)
+            (behind honest) held (still_holds g.D.Disk.seen (ap (λ l. l.disk) same.0) (ap (λ l. l.end) same.0) holds);
+      })
+      | inr moved ↦ inr (record {
+        changed = record {
+          side = commit.side ∙ moved.0.on_other;
+          version = commit.version ∙ moved.0.is_two;
+          generation = commit.generation ∙ moved.0.next;
+          holds = λ honest.
+              then_behind (g.D.Disk.seen mid.disk) (g.D.Disk.seen new.disk) mid.end new.end c.self.inside.held.items moved.0.on_other moved.0.is_two moved.0.next
+              (behind honest) _ (moved.2 honest);
+        };
+        size = λ honest. (g.D.Disk.seen mid.disk (other old.side), up_to moved.1 (moved.2 honest));
+      })
+    ])
