@@ -12,7 +12,7 @@ use Rattle.dmk_drive.specs.declared.fault.Fault.{Fault}
 use Rattle.dmk_drive.specs.declared.options.Mode.{Mode}
 use Rattle.dmk_drive.specs.declared.options.Mode.TheVariants as mode
 use Rattle.dmk_drive.specs.declared.planning.DryRun.{DryRun}
-use Rattle.dmk_drive.specs.declared.variable.Variable.{Variable}
+use Rattle.bd_lists.specs.declared.recipe.Variable.{Variable}
 
 -- where the words ask whether there is a recipe to run, the question counts
 pub asked_mode : (asks dry : Bool) (m : Mode) → asks ≡ true → m ≡ mode_of asks dry → m ≡ mode.Question
@@ -30,18 +30,6 @@ unasked false = tt
 pub unasked_mode : (asks dry : Bool) (m : Mode) → asks ≡ false → m ≡ mode_of asks dry → m ≢ mode.Question
 unasked_mode asks dry m not_asked is = λ question. subst IsNoQuestion (sym (is ∙ ap (λ a. mode_of a dry) not_asked) ∙ question) (unasked dry)
 
--- a run that is neither a question nor dry finds nothing
-pub dry_or_asks : (asks is_dry asked : Bool) (Asked : Type 0) (m : Mode) → (asked ≡ true → Asked) → m ≡ mode_of asks (is_dry || asked) → m ≢ mode.Run
-    → (asks ≡ true) ⊎ ((asks ≡ false) × ((is_dry ≡ true) ⊎ Asked))
-dry_or_asks true is_dry asked Asked m has is dry = inl refl
-dry_or_asks false true asked Asked m has is dry = inr (refl, inl refl)
-dry_or_asks false false true Asked m has is dry = inr (refl, inr (has refl))
-dry_or_asks false false false Asked m has is dry = absurd (dry is)
-
-pub dry_of : (m : Mode) (found : Result DryRun Fault) → IsOk found → IfOk found (λ run. m ≢ mode.Run) → m ≢ mode.Run
-dry_of m (Ok run) ok dry = dry
-dry_of m (Err f) ok dry = absurd cc
-
 no_value : false ≡ true → ⊥
 no_value is = cc
 
@@ -57,35 +45,40 @@ module _ (Answers : List ℕ → Option (List ℕ) → Type 0) (Absent : List �
       × Tells definitions environment targets honest stamps disk_honest seen items run
 
   pub listed_plan : (old new : Option (List ℕ)) (got : Result DryRun Fault) → IfOk got Told → IsOk got →
-      IfOk got (λ run. Appends old new run.text.items) →
-      (plan : List (List Line)) × Plans Answers Absent named definitions environment targets honest stamps disk_honest seen plan
-      × Appends old new (listing_text plan)
-  listed_plan old new (Ok run) (items, are, tells) found appended = (
+      IfOk got (λ run. Appends old new run.text.items) → (Quiet : Type 0) → IfOk got (λ run. run.soft_dropped ≡ false → Quiet) →
+      (plan : List (List Line)) × (dropped : Bool)
+      × Plans Answers Absent named definitions environment targets honest stamps disk_honest seen plan dropped
+      × Appends old new (listing_text plan) × (dropped ≡ false → Quiet)
+  listed_plan old new (Ok run) (items, are, tells) found appended Quiet quiet = (
     tells.listed,
-    record { items = items; are_items = are; dropped = run.soft_dropped; planned = tells.planned },
+    run.soft_dropped,
+    record { items = items; are_items = are; planned = tells.planned },
     subst (Appends old new) tells.text appended,
+    quiet,
   )
-  listed_plan old new (Err f) told found appended = absurd (no_value found)
+  listed_plan old new (Err f) told found appended Quiet quiet = absurd (no_value found)
 
   pub asked_plan : (status : ℕ) (got : Result DryRun Fault) → IfOk got Told → IsOk got →
       IfOk got (λ run. (listed : List (List Line)) → run.lists_any ≡ not (is_empty listed) → status ≡ question_status listed) →
-      (plan : List (List Line)) × Plans Answers Absent named definitions environment targets honest stamps disk_honest seen plan
-      × (status ≡ question_status plan)
+      (plan : List (List Line)) × (dropped : Bool)
+      × Plans Answers Absent named definitions environment targets honest stamps disk_honest seen plan dropped × (status ≡ question_status plan)
   asked_plan status (Ok run) (items, are, tells) found answered = (
     tells.listed,
-    record { items = items; are_items = are; dropped = run.soft_dropped; planned = tells.planned },
+    run.soft_dropped,
+    record { items = items; are_items = are; planned = tells.planned },
     answered tells.listed tells.any,
   )
   asked_plan status (Err f) told found answered = absurd (no_value found)
 
   pub refused_plan : (status : ℕ) (old new : Option (List ℕ)) (got : Result DryRun Fault) → IfOk got Told →
       (IsErr got → (status ≡ 2) × Keeps old new) → IfOk got (λ run. AppendsPart old new run.text.items) →
-      Keeps old new ⊎ ((plan : List (List Line))
-      × Plans Answers Absent named definitions environment targets honest stamps disk_honest seen plan × AppendsPart old new (listing_text plan))
+      Keeps old new ⊎ ((plan : List (List Line)) × (dropped : Bool)
+      × Plans Answers Absent named definitions environment targets honest stamps disk_honest seen plan dropped × AppendsPart old new (listing_text plan))
   refused_plan status old new (Ok run) (items, are, tells) refused part =
       inr (
         tells.listed,
-        record { items = items; are_items = are; dropped = run.soft_dropped; planned = tells.planned },
+        run.soft_dropped,
+        record { items = items; are_items = are; planned = tells.planned },
         subst (AppendsPart old new) tells.text part,
       )
   refused_plan status old new (Err f) told refused part = inl ((refused refl).1)

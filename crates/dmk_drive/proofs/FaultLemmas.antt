@@ -9,40 +9,36 @@ use Rattle.st_records.specs.State.{StateMap}
 use Rattle.st_recovery.specs.Recovers.{HasOutcome, outcome_of}
 use Rattle.dmk_drive.specs.Faults.{IsOpenFault, IsRunFault}
 use Rattle.dmk_drive.specs.declared.fault.Fault.{Fault}
-use Rattle.dmk_drive.specs.declared.fault.Fault.TheVariants.{OutOfMemory, NoMakefile, Read, OnlyDryRuns, State, Rules, Recipe, Write}
-use Rattle.dmk_drive.specs.declared.options.Mode.{Mode}
-use Rattle.dmk_drive.specs.declared.options.Mode.TheVariants.{Run}
+use Rattle.dmk_drive.specs.declared.fault.Fault.TheVariants.{OutOfMemory, NoMakefile, Read, State, Rules, Recipe, Write}
 
-module _ (Text : Fault → Type 0) (Items : List Item → Type 0) (Plan : List Item → Fault → Type 0) (m : Mode) where
+module _ (Text : Fault → Type 0) (Items : List Item → Type 0) (Plan : List Item → Fault → Type 0) where
   -- the makefile's own. It has no fault of a later stage
-  pub text_fault : (fault : Fault) → Text fault → (Text OnlyDryRuns → ⊥) → ((f : _) → Text (State f) → ⊥) → ((f : _) → Text (Rules f) → ⊥) →
-      ((f : _) → Text (Recipe f) → ⊥) → (Text Write → ⊥) → IsRunFault Text Items Plan m fault
-  text_fault OutOfMemory is no_run no_state no_rules no_recipe no_write = tt
-  text_fault NoMakefile is no_run no_state no_rules no_recipe no_write = is
-  text_fault (Read f) is no_run no_state no_rules no_recipe no_write = is
-  text_fault OnlyDryRuns is no_run no_state no_rules no_recipe no_write = absurd (no_run is)
-  text_fault (State f) is no_run no_state no_rules no_recipe no_write = absurd (no_state f is)
-  text_fault (Rules f) is no_run no_state no_rules no_recipe no_write = absurd (no_rules f is)
-  text_fault (Recipe f) is no_run no_state no_rules no_recipe no_write = absurd (no_recipe f is)
-  text_fault Write is no_run no_state no_rules no_recipe no_write = no_write is
+  pub text_fault : (fault : Fault) → Text fault → ((f : _) → Text (State f) → ⊥) → ((f : _) → Text (Rules f) → ⊥) →
+      ((f : _) → Text (Recipe f) → ⊥) → (Text Write → ⊥) → IsRunFault Text Items Plan fault
+  text_fault OutOfMemory is no_state no_rules no_recipe no_write = tt
+  text_fault NoMakefile is no_state no_rules no_recipe no_write = is
+  text_fault (Read f) is no_state no_rules no_recipe no_write = is
+  text_fault (State f) is no_state no_rules no_recipe no_write = absurd (no_state f is)
+  text_fault (Rules f) is no_state no_rules no_recipe no_write = absurd (no_rules f is)
+  text_fault (Recipe f) is no_state no_rules no_recipe no_write = absurd (no_recipe f is)
+  text_fault Write is no_state no_rules no_recipe no_write = no_write is
 
   -- that of a plan for items that were read. It has no fault of an earlier stage
-  pub plan_fault : m ≢ Run → (items : List Item) → Items items → (fault : Fault) → Plan items fault → (Plan items NoMakefile → ⊥) →
-      ((f : _) → Plan items (Read f) → ⊥) → (Plan items OnlyDryRuns → ⊥) → (Plan items Write → ⊥) → IsRunFault Text Items Plan m fault
-  plan_fault dry items are OutOfMemory is no_makefile no_read no_run no_write = tt
-  plan_fault dry items are NoMakefile is no_makefile no_read no_run no_write = absurd (no_makefile is)
-  plan_fault dry items are (Read f) is no_makefile no_read no_run no_write = absurd (no_read f is)
-  plan_fault dry items are OnlyDryRuns is no_makefile no_read no_run no_write = absurd (no_run is)
-  plan_fault dry items are (State f) is no_makefile no_read no_run no_write = (dry, (items, are, is))
-  plan_fault dry items are (Rules f) is no_makefile no_read no_run no_write = (dry, (items, are, is))
-  plan_fault dry items are (Recipe f) is no_makefile no_read no_run no_write = (dry, (items, are, is))
-  plan_fault dry items are Write is no_makefile no_read no_run no_write = no_write is
+  pub plan_fault : (items : List Item) → Items items → (fault : Fault) → Plan items fault → (Plan items NoMakefile → ⊥) →
+      ((f : _) → Plan items (Read f) → ⊥) → (Plan items Write → ⊥) → IsRunFault Text Items Plan fault
+  plan_fault items are OutOfMemory is no_makefile no_read no_write = tt
+  plan_fault items are NoMakefile is no_makefile no_read no_write = absurd (no_makefile is)
+  plan_fault items are (Read f) is no_makefile no_read no_write = absurd (no_read f is)
+  plan_fault items are (State f) is no_makefile no_read no_write = (items, are, is)
+  plan_fault items are (Rules f) is no_makefile no_read no_write = (items, are, is)
+  plan_fault items are (Recipe f) is no_makefile no_read no_write = (items, are, is)
+  plan_fault items are Write is no_makefile no_read no_write = no_write is
 
   -- so too where the plan's fault is that of a result
-  pub plan_result : {T : Type 0} → m ≢ Run → (items : List Item) → Items items → (got : Result T Fault) → IfErr got (Plan items) → (Plan items NoMakefile → ⊥) →
-      ((f : _) → Plan items (Read f) → ⊥) → (Plan items OnlyDryRuns → ⊥) → (Plan items Write → ⊥) → IfErr got (IsRunFault Text Items Plan m)
-  plan_result dry items are (Ok run) is no_makefile no_read no_run no_write = tt
-  plan_result dry items are (Err f) is no_makefile no_read no_run no_write = plan_fault dry items are f is no_makefile no_read no_run no_write
+  pub plan_result : {T : Type 0} → (items : List Item) → Items items → (got : Result T Fault) → IfErr got (Plan items) → (Plan items NoMakefile → ⊥) →
+      ((f : _) → Plan items (Read f) → ⊥) → (Plan items Write → ⊥) → IfErr got (IsRunFault Text Items Plan)
+  plan_result items are (Ok run) is no_makefile no_read no_write = tt
+  plan_result items are (Err f) is no_makefile no_read no_write = plan_fault items are f is no_makefile no_read no_write
 
 -- a fault that is handed on
 pub handed_on : {T : Type 0} (result : Result T Fault) (P : Fault → Type 0) (f : Fault) → IsErrAnd result (λ g. g ≡ f) → P f → IfErr result P

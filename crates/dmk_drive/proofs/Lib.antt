@@ -5,3 +5,5 @@ pub mod OutputLemmas
 pub mod MakefileLemmas
 pub mod PlanLemmas
 pub mod DriveLemmas
+pub mod ListingLemmas
+pub mod DefinitionLemmas

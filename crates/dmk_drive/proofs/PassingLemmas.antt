@@ -10,13 +10,15 @@ use Rattle.mk_graph.specs.Edges.{row, has, times}
 use Rattle.mk_graph.specs.Plan.{IsPlanAfter}
 use Rattle.mk_graph.proofs.CountedLemmas.{cycle_in}
 use Rattle.mk_graph.proofs.WholeLemmas.{whole_plan}
+use Rattle.mk_macros.specs.declared.fault.MacroFault.{MacroFault}
+use Rattle.mk_macros.specs.declared.fault.MacroFault.TheVariants as fault
 use Rattle.mk_reader.specs.Text.{is_empty}
 use Rattle.mk_recipe.specs.declared.line.Line.{Line}
 use Rattle.mk_rules.specs.Graph.{IsGraph}
 use Rattle.mk_rules.specs.Prerequisites.{Inputs}
 use Rattle.mk_rules.specs.declared.graph.Graph.{Graph}
-use Rattle.mk_plan.specs.Passing.{Passes}
-use Rattle.dmk_drive.specs.Passing.{Lists, at_end, behind, IsListing, no_marks, printed, listing_text, PassesEach}
+use Rattle.mk_plan.specs.Passing.{Passes, IsFaultAt}
+use Rattle.dmk_drive.specs.Passing.{Lists, at_end, behind, ListsFault, here, later, IsListing, IsListingFault, no_marks, printed, listing_text, PassesEach}
 
 -- what was listed so far: with what is listed of the nodes that are left it is what all list
 abbrev pub ListedSoFar : (keeping : Bool) (graph : Graph) (marks : List Bool) (i : ℕ) (listed : List (List Line)) → Type 0
@@ -29,10 +31,32 @@ listed_start keeping graph = λ rest lists. lists
 pub listed_more : (keeping : Bool) (graph : Graph) (marks : List Bool) (i n : ℕ) (remade : Bool) (front listed : List (List Line)) →
     drop i graph.order.items ≡ n ∷ drop (i + 1) graph.order.items → Passes keeping graph marks n remade front →
     ListedSoFar keeping graph marks i listed → ListedSoFar keeping graph (set marks n remade) (i + 1) (listed ++ front)
-listed_more keeping graph marks i n remade front listed here passes before = λ rest after.
+listed_more keeping graph marks i n remade front listed next passes before = λ rest after.
     subst (IsListing keeping graph) (sym (append_assoc listed front rest))
     (before (front ++ rest)
-    (subst (λ left. Lists keeping graph marks left (front ++ rest)) (sym here) (behind passes after)))
+    (subst (λ left. Lists keeping graph marks left (front ++ rest)) (sym next) (behind passes after)))
+
+-- the fault that is met among the nodes that are left is that of all
+abbrev pub NoFaultSoFar : (keeping : Bool) (graph : Graph) (marks : List Bool) (i : ℕ) → Type 0
+NoFaultSoFar keeping graph marks i =
+    (f : MacroFault) → ListsFault keeping graph marks (drop i graph.order.items) f → ListsFault keeping graph (no_marks graph) graph.order.items f
+
+pub no_fault_start : (keeping : Bool) (graph : Graph) → NoFaultSoFar keeping graph (no_marks graph) 0
+no_fault_start keeping graph = λ f meets. meets
+
+pub no_fault_more : (keeping : Bool) (graph : Graph) (marks : List Bool) (i n : ℕ) (remade : Bool) (front : List (List Line)) →
+    drop i graph.order.items ≡ n ∷ drop (i + 1) graph.order.items → Passes keeping graph marks n remade front →
+    NoFaultSoFar keeping graph marks i → NoFaultSoFar keeping graph (set marks n remade) (i + 1)
+no_fault_more keeping graph marks i n remade front next passes before = λ f meets.
+    before f (subst (λ left. ListsFault keeping graph marks left f) (sym next) (later passes meets))
+
+-- the node that is next has a fault
+pub fault_next : (keeping : Bool) (graph : Graph) (marks : List Bool) (i n : ℕ) (f : MacroFault) →
+    drop i graph.order.items ≡ n ∷ drop (i + 1) graph.order.items → IsFaultAt graph marks n f →
+    NoFaultSoFar keeping graph marks i → IsListingFault keeping graph f
+fault_next keeping graph marks i n fault.OutOfMemory next is before = tt
+fault_next keeping graph marks i n f next is before =
+    before f (subst (λ left. ListsFault keeping graph marks left f) (sym next) (here is))
 
 -- all nodes are passed
 pub listed_all : (keeping : Bool) (graph : Graph) (marks : List Bool) (i : ℕ) (listed : List (List Line)) →

@@ -2,7 +2,6 @@
 use Rattle.std.proofs.Common.{◌≡◌, ◌⊎◌, inl, inr, ℕ, ℤ, Bool, not, List, Option, Result, Ok, Err, IfOk, IfErr, sym, subst}
 use Rattle.std.specs.FinMap as map
 use Rattle.mk_macros.specs.declared.fault.MacroFault.{MacroFault}
-use Rattle.mk_plan.specs.Passing.{HasRecipeFault}
 use Rattle.mk_reader.specs.Text.{is_empty}
 use Rattle.mk_reader.specs.declared.item.Item.{Item}
 use Rattle.mk_recipe.specs.declared.line.Line.{Line}
@@ -14,19 +13,19 @@ use Rattle.st_disk.specs.declared.which.Which.{Which}
 use Rattle.st_records.specs.State.{StateMap}
 use Rattle.dmk_drive.specs.Definitions.{first_defined}
 use Rattle.dmk_drive.specs.Keeping.{keeps}
-use Rattle.dmk_drive.specs.Passing.{IsListing, listing_text}
-use Rattle.dmk_drive.specs.Planned.{IsStateOf, IsGraphOf, Tells}
+use Rattle.dmk_drive.specs.Passing.{IsListing, IsListingFault, listing_text}
+use Rattle.dmk_drive.specs.Planned.{IsStateOn, IsGraphOf, Tells}
 use Rattle.dmk_drive.specs.Faults.{IsPlanFault}
 use Rattle.dmk_drive.specs.declared.fault.Fault.{Fault}
 use Rattle.dmk_drive.specs.declared.fault.Fault.TheVariants as fault
 use Rattle.dmk_drive.specs.declared.planning.DryRun.{DryRun}
-use Rattle.dmk_drive.specs.declared.variable.Variable.{Variable}
+use Rattle.bd_lists.specs.declared.recipe.Variable.{Variable}
 
 module _ (definitions environment : List Variable) (targets : List (List ℕ)) (honest : Type 0) (stamps : List ℕ → Option ℤ)
     (disk_honest : Type 0) (seen : Which → List ℕ) (items : List Item) (keeping : Bool) (is_keeping : keeping ≡ keeps environment items)
-    (state : StateMap) (found : disk_honest → IsStateOf keeping seen state) where
-  kept : disk_honest → IsStateOf (keeps environment items) seen state
-  kept = subst (λ k. disk_honest → IsStateOf k seen state) is_keeping found
+    (state : StateMap) (found : IsStateOn keeping disk_honest seen state) where
+  kept : IsStateOn (keeps environment items) disk_honest seen state
+  kept = subst (λ k. IsStateOn k disk_honest seen state) is_keeping found
 
   pub rules_fault : (refuses : List ℕ → Type 0) (got : Fault) →
       ((got ≡ fault.OutOfMemory) ⊎ ((f : RuleFault) × (got ≡ fault.Rules f)
@@ -37,11 +36,11 @@ module _ (definitions environment : List Variable) (targets : List (List ℕ)) (
       subst (IsPlanFault definitions environment targets honest stamps refuses disk_honest seen items) (sym is) (state, kept, meets)
 
   module _ (graph : Graph) (is_graph : IsGraphOf definitions environment targets honest stamps items state graph) where
-    pub recipes_fault : (refuses : List ℕ → Type 0) (got : Fault) → ((f : MacroFault) × (got ≡ fault.Recipe f) × HasRecipeFault graph f) →
+    pub recipes_fault : (refuses : List ℕ → Type 0) (got : Fault) → ((f : MacroFault) × (got ≡ fault.Recipe f) × IsListingFault keeping graph f) →
         IsPlanFault definitions environment targets honest stamps refuses disk_honest seen items got
     recipes_fault refuses got (f, is, meets) =
         subst (IsPlanFault definitions environment targets honest stamps refuses disk_honest seen items) (sym is)
-        (state, kept, (graph, is_graph, meets))
+        (state, kept, (graph, is_graph, subst (λ k. IsListingFault k graph f) is_keeping meets))
 
     pub told : (run : DryRun) → ((listed : List (List Line)) × IsListing keeping graph listed × (run.text.items ≡ listing_text listed)
         × (run.lists_any ≡ not (is_empty listed))) → run.soft_dropped ≡ graph.soft_dropped →
@@ -61,7 +60,7 @@ module _ (definitions environment : List Variable) (targets : List (List ℕ)) (
     }
 
     pub recipes_result : (refuses : List ℕ → Type 0) (got : Result DryRun Fault) →
-        IfErr got (λ g. (f : MacroFault) × (g ≡ fault.Recipe f) × HasRecipeFault graph f) →
+        IfErr got (λ g. (f : MacroFault) × (g ≡ fault.Recipe f) × IsListingFault keeping graph f) →
         IfErr got (IsPlanFault definitions environment targets honest stamps refuses disk_honest seen items)
     recipes_result refuses (Ok run) is = tt
     recipes_result refuses (Err f) is = recipes_fault refuses f is

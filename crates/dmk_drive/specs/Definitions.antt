@@ -1,25 +1,30 @@
 -- What is defined before the makefile is read.
-use Rattle.std.specs.Prelude.{false, List, [], ◌∷◌, codes}
-use Rattle.mk_macros.specs.Ranks.{ranks_at, with_definition}
+use Rattle.std.specs.Prelude.{ℕ, List, Option, Some, None, reverse, find, option_map, bytes_eq, codes, if◌then◌else◌}
+use Rattle.mk_macros.specs.Ranks.{Ranks, with_rank}
 use Rattle.mk_macros.specs.declared.definitions.Rank.{Rank}
-use Rattle.mk_macros.specs.declared.definitions.Rank.TheVariants.{CommandLine, Environment, Tool}
 use Rattle.mk_rules.specs.Lines.{Defined}
-use Rattle.dmk_drive.specs.declared.variable.Variable.{Variable}
+use Rattle.bd_lists.specs.declared.recipe.Variable.{Variable}
+use Rattle.dmk_drive.specs.Keeping.{is_named}
 
--- nothing is defined
-abbrev pub nothing_defined : Defined
-nothing_defined = ranks_at []
-
--- what is defined behind these variables of one rank
-abbrev pub all_defined : Defined → Rank → List Variable → Defined
-all_defined ranks rank [] = ranks
-all_defined ranks rank (v ∷ variables) = all_defined (with_definition ranks rank v.name v.value false) rank variables
+-- the value of the last variable of the name
+abbrev pub last_value : List Variable → (name : List ℕ) → Option (List ℕ)
+last_value variables name = option_map (λ v. v.value) (find (is_named name) (reverse variables))
 
 -- the tool's own definition (make(1S), MAKE)
-abbrev pub tool_defined : Defined
-tool_defined = with_definition nothing_defined Tool (codes "MAKE") (codes "dmk") false
+abbrev pub tool_value : (name : List ℕ) → Option (List ℕ)
+tool_value name = if bytes_eq name (codes "MAKE") then Some (codes "dmk") else None
 
--- what is defined before the makefile: the tool's own, the environment, the definitions of the command line. Of a name
--- that is defined twice at one rank the last one counts
+-- what is defined before the makefile: the tool's own, the environment, the definitions of the command line, each at its
+-- rank. Of a name that is defined twice at one rank the last one counts
 abbrev pub first_defined : (definitions environment : List Variable) → Defined
-first_defined definitions environment = all_defined (all_defined tool_defined Environment environment) CommandLine definitions
+first_defined definitions environment name = record {
+  command_line = last_value definitions name;
+  makefile = None;
+  environment = last_value environment name;
+  tool = tool_value name;
+}
+
+-- what a name has once its text at this rank is this one, where there is one
+abbrev pub with_last : Ranks → Rank → (text : Option (List ℕ)) → Ranks
+with_last ranks rank None = ranks
+with_last ranks rank (Some text) = with_rank ranks rank text

@@ -1,6 +1,6 @@
 -- What each fault says. Of a fault that comes later all stages before it are told, so that the order of the faults is
 -- that of the cases here.
-use Rattle.std.specs.Prelude.{◌≡◌, ◌≢◌, ℕ, ℤ, true, List, Option, Err}
+use Rattle.std.specs.Prelude.{◌≡◌, ℕ, ℤ, true, List, Option, Err}
 use Rattle.std.specs.FinMap as map
 use Rattle.mk_reader.specs.Makefile.{TextItems, depth}
 use Rattle.mk_reader.specs.declared.item.Item.{Item}
@@ -18,13 +18,11 @@ use Rattle.st_recovery.specs.Recovers.{RefusesWith}
 use Rattle.dmk_drive.specs.Definitions.{first_defined}
 use Rattle.dmk_drive.specs.Keeping.{keeps}
 use Rattle.dmk_drive.specs.Makefile.{IsMakefile, HasNoMakefile}
-use Rattle.mk_plan.specs.Passing.{HasRecipeFault}
-use Rattle.dmk_drive.specs.Planned.{IsStateOf, IsGraphOf}
+use Rattle.dmk_drive.specs.Passing.{IsListingFault}
+use Rattle.dmk_drive.specs.Planned.{IsStateOn, IsGraphOf}
 use Rattle.dmk_drive.specs.declared.fault.Fault.{Fault}
 use Rattle.dmk_drive.specs.declared.fault.Fault.TheVariants as fault
-use Rattle.dmk_drive.specs.declared.options.Mode.{Mode}
-use Rattle.dmk_drive.specs.declared.options.Mode.TheVariants as mode
-use Rattle.dmk_drive.specs.declared.variable.Variable.{Variable}
+use Rattle.bd_lists.specs.declared.recipe.Variable.{Variable}
 
 -- the makefile's text has a first line that is refused; want of memory says nothing of it
 abbrev pub IsReadFault : (Answers : List ℕ → Option (List ℕ) → Type 0) (Absent : List ℕ → Type 0) (named : Option (List ℕ)) →
@@ -55,20 +53,19 @@ IsPlanFault definitions environment targets honest stamps refuses disk_honest se
 IsPlanFault definitions environment targets honest stamps refuses disk_honest seen items (fault.State f) =
     (keeps environment items ≡ true) × (disk_honest → IsOpenFault seen f)
 IsPlanFault definitions environment targets honest stamps refuses disk_honest seen items (fault.Rules f) =
-    (state : StateMap) × (disk_honest → IsStateOf (keeps environment items) seen state)
+    (state : StateMap) × IsStateOn (keeps environment items) disk_honest seen state
     × IsRuleFault (first_defined definitions environment) items honest stamps (map.get state) refuses targets MAX_NODES f
 IsPlanFault definitions environment targets honest stamps refuses disk_honest seen items (fault.Recipe f) =
-    (state : StateMap) × (disk_honest → IsStateOf (keeps environment items) seen state)
-    × ((graph : Graph) × IsGraphOf definitions environment targets honest stamps items state graph × HasRecipeFault graph f)
+    (state : StateMap) × IsStateOn (keeps environment items) disk_honest seen state
+    × ((graph : Graph) × IsGraphOf definitions environment targets honest stamps items state graph × IsListingFault (keeps environment items) graph f)
 IsPlanFault definitions environment targets honest stamps refuses disk_honest seen items _ = ⊥
 
--- a fault of the makefile comes before all else; a run that isn't dry ends behind it; the others come last
-abbrev pub IsRunFault : (Text : Fault → Type 0) (Items : List Item → Type 0) (Plan : List Item → Fault → Type 0) → Mode → Fault → Type 0
-IsRunFault Text Items Plan m fault.OutOfMemory = Unit {0}
-IsRunFault Text Items Plan m fault.NoMakefile = Text fault.NoMakefile
-IsRunFault Text Items Plan m (fault.Read f) = Text (fault.Read f)
-IsRunFault Text Items Plan m fault.OnlyDryRuns = (m ≡ mode.Run) × ((items : List Item) × Items items)
-IsRunFault Text Items Plan m (fault.State f) = (m ≢ mode.Run) × ((items : List Item) × Items items × Plan items (fault.State f))
-IsRunFault Text Items Plan m (fault.Rules f) = (m ≢ mode.Run) × ((items : List Item) × Items items × Plan items (fault.Rules f))
-IsRunFault Text Items Plan m (fault.Recipe f) = (m ≢ mode.Run) × ((items : List Item) × Items items × Plan items (fault.Recipe f))
-IsRunFault Text Items Plan m fault.Write = ⊥
+-- a fault of the makefile comes before all else; the others are those of a plan for its items
+abbrev pub IsRunFault : (Text : Fault → Type 0) (Items : List Item → Type 0) (Plan : List Item → Fault → Type 0) → Fault → Type 0
+IsRunFault Text Items Plan fault.OutOfMemory = Unit {0}
+IsRunFault Text Items Plan fault.NoMakefile = Text fault.NoMakefile
+IsRunFault Text Items Plan (fault.Read f) = Text (fault.Read f)
+IsRunFault Text Items Plan (fault.State f) = (items : List Item) × Items items × Plan items (fault.State f)
+IsRunFault Text Items Plan (fault.Rules f) = (items : List Item) × Items items × Plan items (fault.Rules f)
+IsRunFault Text Items Plan (fault.Recipe f) = (items : List Item) × Items items × Plan items (fault.Recipe f)
+IsRunFault Text Items Plan fault.Write = ⊥

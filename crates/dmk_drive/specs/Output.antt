@@ -1,5 +1,5 @@
 -- What went out.
-use Rattle.std.specs.Prelude.{◌≡◌, ◌⊎◌, ℕ, ◌<◌, Bool, true, false, List, ◌++◌, length, Option, codes, if◌then◌else◌}
+use Rattle.std.specs.Prelude.{◌≡◌, ◌≢◌, ◌⊎◌, ◌↔◌, ◌||◌, ℕ, ◌<◌, Bool, true, false, List, ◌++◌, length, Option, codes, IsTrue, if◌then◌else◌}
 use Rattle.std.specs.Io.KnownBytes.{Appends}
 use Rattle.mk_reader.specs.Text.{is_empty}
 use Rattle.mk_recipe.specs.declared.line.Line.{Line}
@@ -8,7 +8,7 @@ use Rattle.dmk_drive.specs.Keeping.{value_in}
 use Rattle.dmk_drive.specs.declared.options.Mode.{Mode}
 use Rattle.dmk_drive.specs.declared.options.Mode.TheVariants as mode
 use Rattle.dmk_drive.specs.declared.options.Options.{Options}
-use Rattle.dmk_drive.specs.declared.variable.Variable.{Variable}
+use Rattle.bd_lists.specs.declared.recipe.Variable.{Variable}
 
 -- known bytes grow by a beginning of this text, but not by all of it
 pub record AppendsPart (old new : Option (List ℕ)) (text : List ℕ) : Type 0 where
@@ -27,6 +27,18 @@ abbrev pub mode_of : (asks dry : Bool) → Mode
 mode_of true dry = mode.Question
 mode_of false true = mode.DryRun
 mode_of false false = mode.Run
+
+-- the words and this MAKEFLAGS ask for this
+abbrev pub AsksFor : Options → (makeflags : List ℕ) → Mode → Type 0
+AsksFor options makeflags m = (asked : Bool) × (IsTrue asked ↔ AsksForDryRun makeflags) × (m ≡ mode_of options.asks (options.is_dry || asked))
+
+-- they ask for recipes to be run
+abbrev pub AsksToRun : Options → (makeflags : List ℕ) → Type 0
+AsksToRun options makeflags = AsksFor options makeflags mode.Run
+
+-- they ask for a listing, or whether there is any
+abbrev pub AsksToLook : Options → (makeflags : List ℕ) → Type 0
+AsksToLook options makeflags = (m : Mode) × (m ≢ mode.Run) × AsksFor options makeflags m
 
 -- the words or MAKEFLAGS ask for a listing, and the words don't ask whether there is any
 abbrev pub AsksForListing : Options → (environment : List Variable) → Type 0

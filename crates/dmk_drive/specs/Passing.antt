@@ -3,7 +3,9 @@ use Rattle.std.specs.Prelude.{◌≡◌, ℕ, Bool, false, nat_lt, List, [], ◌
 use Rattle.std.specs.List.{flat_map}
 use Rattle.mk_graph.specs.Edges.{times}
 use Rattle.mk_graph.specs.Plan.{IsPlan}
-use Rattle.mk_plan.specs.Passing.{Passes}
+use Rattle.mk_macros.specs.declared.fault.MacroFault.{MacroFault}
+use Rattle.mk_macros.specs.declared.fault.MacroFault.TheVariants.{OutOfMemory}
+use Rattle.mk_plan.specs.Passing.{Passes, IsFaultAt}
 use Rattle.mk_recipe.specs.Line.{is_blank_text}
 use Rattle.mk_recipe.specs.declared.line.Line.{Line}
 use Rattle.mk_rules.specs.declared.graph.Graph.{Graph}
@@ -16,6 +18,14 @@ pub data Lists (keeping : Bool) (graph : Graph) : (marks : List Bool) → (order
       Passes keeping graph marks n remade front → Lists keeping graph (slice_set marks n remade) order listed →
       Lists keeping graph marks (n ∷ order) (front ++ listed)
 
+-- passing them in this order meets the fault: it is that of the recipe of a node, and all before it are passed
+pub data ListsFault (keeping : Bool) (graph : Graph) : (marks : List Bool) → (order : List ℕ) → (fault : MacroFault) → Type 0 where
+  here : {marks : List Bool} {n : ℕ} {order : List ℕ} {fault : MacroFault} →
+      IsFaultAt graph marks n fault → ListsFault keeping graph marks (n ∷ order) fault
+  later : {marks : List Bool} {n : ℕ} {order : List ℕ} {fault : MacroFault} {remade : Bool} {front : List (List Line)} →
+      Passes keeping graph marks n remade front → ListsFault keeping graph (slice_set marks n remade) order fault →
+      ListsFault keeping graph marks (n ∷ order) fault
+
 -- nothing was remade yet
 abbrev pub no_marks : Graph → List Bool
 no_marks graph = replicate (length graph.nodes.items) false
@@ -24,6 +34,11 @@ no_marks graph = replicate (length graph.nodes.items) false
 -- counted prerequisites were passed
 abbrev pub IsListing : (keeping : Bool) (graph : Graph) (listed : List (List Line)) → Type 0
 IsListing keeping graph listed = Lists keeping graph (no_marks graph) graph.order.items listed
+
+-- the fault that ends the listing: that of the first node with one in this order; want of memory says nothing of the nodes
+abbrev pub IsListingFault : (keeping : Bool) (graph : Graph) → MacroFault → Type 0
+IsListingFault keeping graph OutOfMemory = Unit {0}
+IsListingFault keeping graph fault = ListsFault keeping graph (no_marks graph) graph.order.items fault
 
 -- a line as it is printed: its text, which has no prefixes, and a newline. A blank one isn't printed
 abbrev pub printed_line : Line → List ℕ

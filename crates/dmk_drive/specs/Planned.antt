@@ -20,12 +20,17 @@ use Rattle.dmk_drive.specs.Keeping.{keeps}
 use Rattle.dmk_drive.specs.Makefile.{IsMakefile}
 use Rattle.dmk_drive.specs.Passing.{IsListing, listing_text}
 use Rattle.dmk_drive.specs.declared.planning.DryRun.{DryRun}
-use Rattle.dmk_drive.specs.declared.variable.Variable.{Variable}
+use Rattle.bd_lists.specs.declared.recipe.Variable.{Variable}
 
 -- the state that a run goes by: what the two sides recover where state is kept, and else none
 abbrev pub IsStateOf : (keeping : Bool) (seen : Which → List ℕ) (m : StateMap) → Type 0
 IsStateOf true seen m = Recovers (seen sides.A) (seen sides.B) m
 IsStateOf false seen m = m ≡ map.empty
+
+-- so it is where the disk keeps its model. Where no state is kept there is none, whatever the disk does
+abbrev pub IsStateOn : (keeping : Bool) (disk_honest : Type 0) (seen : Which → List ℕ) (m : StateMap) → Type 0
+IsStateOn true disk_honest seen m = disk_honest → IsStateOf true seen m
+IsStateOn false disk_honest seen m = IsStateOf false seen m
 
 -- the items are those of the makefile: how files answer is `Answers`, and that there is none of a name is `Absent`
 pub record AreItems (Answers : List ℕ → Option (List ℕ) → Type 0) (Absent : List ℕ → Type 0) (named : Option (List ℕ))
@@ -49,7 +54,7 @@ pub record IsPlanned (definitions environment : List Variable) (targets : List (
     (stamps : List ℕ → Option ℤ) (disk_honest : Type 0) (seen : Which → List ℕ) (items : List Item)
     (listed : List (List Line)) (dropped : Bool) : Type 0 where
   pub state : StateMap
-  pub is_state : disk_honest → IsStateOf (keeps environment items) seen state
+  pub is_state : IsStateOn (keeps environment items) disk_honest seen state
   pub graph : Graph
   pub is_graph : IsGraphOf definitions environment targets honest stamps items state graph
   pub lists : IsListing (keeps environment items) graph listed
@@ -63,11 +68,10 @@ pub record Tells (definitions environment : List Variable) (targets : List (List
   pub text : run.text.items ≡ listing_text listed
   pub any : run.lists_any ≡ not (is_empty listed)
 
--- the recipes that a dry run lists, for the makefile that is found
+-- the recipes that a dry run lists, for the makefile that is found, and whether soft edges make a cycle
 pub record Plans (Answers : List ℕ → Option (List ℕ) → Type 0) (Absent : List ℕ → Type 0) (named : Option (List ℕ))
     (definitions environment : List Variable) (targets : List (List ℕ)) (honest : Type 0) (stamps : List ℕ → Option ℤ)
-    (disk_honest : Type 0) (seen : Which → List ℕ) (listed : List (List Line)) : Type 0 where
+    (disk_honest : Type 0) (seen : Which → List ℕ) (listed : List (List Line)) (dropped : Bool) : Type 0 where
   pub items : List Item
   pub are_items : AreItems Answers Absent named items
-  pub dropped : Bool
   pub planned : IsPlanned definitions environment targets honest stamps disk_honest seen items listed dropped

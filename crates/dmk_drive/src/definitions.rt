@@ -1,9 +1,9 @@
 //! What is defined before the makefile is read: the tool's own, the environment, and the command line's definitions.
-ghost use Rattle.std.specs.Prelude.{◌≡◌, IfOk, OnOk};
+ghost use Rattle.std.specs.Prelude.{◌≡◌, ℕ, List, [], IfOk, OnOk};
 ghost use Rattle.mk_macros.specs.Ranks.{ranks_at};
-ghost use Rattle.dmk_drive.specs.Definitions.{all_defined, tool_defined, first_defined};
+ghost use Rattle.dmk_drive.specs.Definitions.{last_value, with_last, first_defined};
 
-use crate::variable::Variable;
+use bd_lists::Variable;
 use mk_macros::{Macros, Rank};
 use std::alloc::{AllocError, Global};
 
@@ -14,7 +14,8 @@ fn define_all(
     rank: Rank,
     variables: &[Variable],
 ) -> Result<(), AllocError>
-    ensures { OnOk result (ranks_at macros.new ≡ all_defined (ranks_at macros.old) rank variables.now) }
+    ensures { OnOk result ((name : List ℕ)
+        → ranks_at macros.new name ≡ with_last (ranks_at macros.old name) rank (last_value variables.now name)) }
 {
     for variable in variables {
         let name = variable.name.as_slice();
@@ -25,7 +26,7 @@ fn define_all(
 
 /// The tool's own definition.
 fn tool_macros(alloc: Global) -> Result<Macros, AllocError>
-    ensures { IfOk result (λ macros. ranks_at macros ≡ tool_defined) }
+    ensures { IfOk result (λ macros. ranks_at macros ≡ first_defined [] []) }
 {
     let mut macros = Macros::new(alloc);
     macros.define(alloc, Rank::Tool, b"MAKE", b"dmk", false)?;

@@ -1,11 +1,12 @@
 //! The program over handed-in parts.
-ghost use Rattle.std.specs.Prelude.{◌≡◌, ◌≢◌, ◌⊎◌, true, not, List, option_copied, IfOk, IsOk, IsErr, OnOk, OnErr};
+ghost use Rattle.std.specs.Prelude.{◌≡◌, ◌≢◌, ◌⊎◌, Bool, true, false, not, List, codes, option_copied, IfOk, IsOk, IsErr, OnOk, OnErr};
 ghost use Rattle.std.specs.Io.KnownBytes.{Appends, Keeps};
 ghost use Rattle.mk_reader.specs.Makefile.{AnswersAs};
 ghost use Rattle.mk_reader.specs.Text.{is_empty};
 ghost use Rattle.mk_recipe.specs.declared.line.Line.{Line as RecipeText};
+ghost use Rattle.dmk_drive.specs.Keeping.{value_in};
 ghost use Rattle.dmk_drive.specs.Makefile.{IsAbsent};
-ghost use Rattle.dmk_drive.specs.Output.{AppendsPart, AsksForListing, question_status};
+ghost use Rattle.dmk_drive.specs.Output.{AppendsPart, AsksForListing, AsksToLook, question_status};
 ghost use Rattle.dmk_drive.specs.Passing.{listing_text};
 ghost use Rattle.dmk_drive.specs.Planned.{Plans};
 ghost use Rattle.dmk_drive.specs.declared.options.Mode.TheVariants as modes;
@@ -16,7 +17,7 @@ use crate::messages::Message;
 use crate::options::{Mode, Options};
 use crate::output::{print_fault, print_note, write_text};
 use crate::planning::{DryRun, Given, dry_run};
-use crate::variable::Variable;
+use bd_lists::Variable;
 use byte_strings::ByteString;
 use mk_reader::Includes;
 use mk_rules::Tree;
@@ -38,6 +39,7 @@ fn slice_of(name: &Option<ByteString>) -> Option<&[u8]>
 fn print_listing<O: Write, E: Write>(run: &DryRun, out: &mut O, err: &mut E) -> Result<(), Fault>
     ensures whole { OnOk result (Appends (O.contents out.old) (O.contents out.new) run.now.text.items) }
     ensures part { OnErr result (AppendsPart (O.contents out.old) (O.contents out.new) run.now.text.items) }
+    ensures note { run.now.soft_dropped ≡ false → err.new ≡ err.old }
 {
     if run.soft_dropped {
         print_note(err);
@@ -75,6 +77,7 @@ fn say<O: Write, E: Write>(
         → run.lists_any ≡ not (is_empty listed) → result ≡ question_status listed) }
     ensures silent { mode ≡ modes.Question → Keeps (O.contents out.old) (O.contents out.new) }
     ensures quiet { mode ≡ modes.Question → result ≢ 2 → err.new ≡ err.old }
+    ensures note { result ≡ 0 → IfOk found (λ run. run.soft_dropped ≡ false → err.new ≡ err.old) }
     ensures refused { IsErr found → (result ≡ 2) × Keeps (O.contents out.old) (O.contents out.new) }
     ensures part { result ≡ 2 → IfOk found (λ run. AppendsPart (O.contents out.old) (O.contents out.new) run.text.items) }
     ensures status { (result ≡ 0) ⊎ (((result ≡ 1) × (mode ≡ modes.Question)) ⊎ (result ≡ 2)) }
@@ -107,26 +110,26 @@ pub fn drive<T: Tree, I: Includes, D: Disk, O: Write, E: Write>(
     out: &mut O,
     err: &mut E,
 ) -> (u8, D)
-    // Nothing is run: a run that isn't dry is refused.
-    ensures dry { result.0 ≢ 2 → (options.asks ≡ true) ⊎ AsksForListing options environment.now }
+    // It lists or answers: a run of recipes isn't asked for.
+    requires { AsksToLook options (value_in environment.now (codes "MAKEFLAGS")) }
 
-    // A listing is that of the plan.
-    ensures listed { AsksForListing options environment.now → result.0 ≡ 0 → (plan : List (List RecipeText))
+    // A listing is that of the plan. Only where soft edges are dropped is something said beside it.
+    ensures listed { AsksForListing options environment.now → result.0 ≡ 0 → (plan : List (List RecipeText)) × (dropped : Bool)
         × Plans (AnswersAs I.honest (I.files includes.old)) (IsAbsent T.honest (T.stamps tree.old)) options.makefile
-        options.definitions.items environment.now options.targets T.honest (T.stamps tree.old) D.honest (D.seen disk) plan
-        × Appends (O.contents out.old) (O.contents out.new) (listing_text plan) }
+        options.definitions.items environment.now options.targets T.honest (T.stamps tree.old) D.honest (D.seen disk) plan dropped
+        × Appends (O.contents out.old) (O.contents out.new) (listing_text plan) × (dropped ≡ false → err.new ≡ err.old) }
     // The question is answered by the plan, and nothing is printed.
-    ensures asked { options.asks ≡ true → result.0 ≢ 2 → (plan : List (List RecipeText))
+    ensures asked { options.asks ≡ true → result.0 ≢ 2 → (plan : List (List RecipeText)) × (dropped : Bool)
         × Plans (AnswersAs I.honest (I.files includes.old)) (IsAbsent T.honest (T.stamps tree.old)) options.makefile
-        options.definitions.items environment.now options.targets T.honest (T.stamps tree.old) D.honest (D.seen disk) plan
+        options.definitions.items environment.now options.targets T.honest (T.stamps tree.old) D.honest (D.seen disk) plan dropped
         × (result.0 ≡ question_status plan) }
     ensures silent { options.asks ≡ true → Keeps (O.contents out.old) (O.contents out.new) }
     ensures quiet { options.asks ≡ true → result.0 ≢ 2 → err.new ≡ err.old }
 
     // At status 2 nothing went out, or a part of a listing.
-    ensures refused { result.0 ≡ 2 → Keeps (O.contents out.old) (O.contents out.new) ⊎ ((plan : List (List RecipeText))
+    ensures refused { result.0 ≡ 2 → Keeps (O.contents out.old) (O.contents out.new) ⊎ ((plan : List (List RecipeText)) × (dropped : Bool)
         × Plans (AnswersAs I.honest (I.files includes.old)) (IsAbsent T.honest (T.stamps tree.old)) options.makefile
-        options.definitions.items environment.now options.targets T.honest (T.stamps tree.old) D.honest (D.seen disk) plan
+        options.definitions.items environment.now options.targets T.honest (T.stamps tree.old) D.honest (D.seen disk) plan dropped
         × AppendsPart (O.contents out.old) (O.contents out.new) (listing_text plan)) }
     ensures status { (result.0 ≡ 0) ⊎ (((result.0 ≡ 1) × (options.asks ≡ true)) ⊎ (result.0 ≡ 2)) }
 
@@ -149,7 +152,7 @@ pub fn drive<T: Tree, I: Includes, D: Disk, O: Write, E: Write>(
         definitions: &definitions,
         environment,
     };
-    let found = dry_run(alloc, key, mode, given, targets, tree, includes, &mut disk);
+    let found = dry_run(alloc, key, given, targets, tree, includes, &mut disk);
     let status = say(mode, state.as_str(), found, out, err);
     (status, disk)
 }

@@ -18,9 +18,6 @@ pub enum Fault {
     NoMakefile,
     #[error("{0}")]
     Read(ReadFault),
-    /// Recipes would be run.
-    #[error("only -n and -q")]
-    OnlyDryRuns,
     /// Of the state's two sides.
     #[error("{0}")]
     State(OpenFault),

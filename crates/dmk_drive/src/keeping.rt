@@ -3,7 +3,7 @@ ghost use Rattle.std.specs.Prelude.{◌≡◌, find, option_copied};
 ghost use Rattle.std.specs.List.{list_any};
 ghost use Rattle.dmk_drive.specs.Keeping.{is_named, is_keep_item, keeps, value_in};
 
-use crate::variable::Variable;
+use bd_lists::Variable;
 use mk_reader::{Item, SpecialName};
 
 fn is_named(name: &[u8], variable: &Variable) -> bool

@@ -1,7 +1,6 @@
 //! Every text of the program but the option reader's. Texts that belong to a crate below are its own, by `Display`.
 use crate::fault::Fault;
 use st_disk::Which;
-use st_file::OpenFault;
 use std::fmt;
 
 /// What is said where soft edges make a cycle and are dropped.
@@ -14,22 +13,10 @@ pub struct Message<'a> {
     pub fault: &'a Fault,
 }
 
-/// The side whose bytes have the fault, which the message names.
-fn damaged_side(fault: OpenFault) -> Option<Which> {
-    match fault {
-        OpenFault::NotState(side) => Some(side),
-        OpenFault::UnknownVersion(side, _) => Some(side),
-        OpenFault::Damaged(side, _) => Some(side),
-        OpenFault::Device => None,
-        OpenFault::OutOfMemory => None,
-        OpenFault::SameGeneration => None,
-    }
-}
-
 /// The side that a message names, if it names one.
 fn named_side(fault: &Fault) -> Option<Which> {
     match fault {
-        Fault::State(fault) => damaged_side(*fault),
+        Fault::State(fault) => fault.damaged_side(),
         _ => None,
     }
 }

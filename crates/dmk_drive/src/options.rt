@@ -1,14 +1,13 @@
 //! What the words of the command line ask for.
-ghost use Rattle.std.specs.Prelude.{◌≡◌, ◌↔◌, ◌||◌, Bool, IsTrue};
-ghost use Rattle.jb_slots.specs.Auth.{AsksForDryRun};
-ghost use Rattle.dmk_drive.specs.Output.{mode_of};
+ghost use Rattle.std.specs.Prelude.{◌≡◌};
+ghost use Rattle.dmk_drive.specs.Output.{AsksFor, mode_of};
 
-use crate::variable::Variable;
+use bd_lists::Variable;
 use byte_strings::{ByteString, ByteStrings};
 use jb_slots::dry;
 
 /// The most workers that `-j` may ask for.
-pub const MAX_WORKERS: u8 = 64;
+pub const MAX_WORKERS: u16 = 256;
 
 /// What the words ask for. Definitions and targets stand in the order of the words.
 #[derive(Drop)]
@@ -18,7 +17,7 @@ pub struct Options {
     /// The name of the state's side A.
     pub state: String,
     /// How many recipes may run at once.
-    pub workers: u8,
+    pub workers: u16,
     /// A failed target ends only what depends on it.
     pub goes_on: bool,
     /// Recipes are listed and not run.
@@ -57,8 +56,7 @@ fn mode_of(asks: bool, dry: bool) -> Mode
 impl Options {
     /// What is done under this MAKEFLAGS, which may ask for a dry run too. Where both are asked for, the question counts.
     pub fn mode(&self, makeflags: &[u8]) -> Mode
-        ensures { (asked : Bool) × (IsTrue asked ↔ AsksForDryRun makeflags.now)
-            × (result ≡ mode_of self.now.asks (self.now.is_dry || asked)) }
+        ensures { AsksFor self.now makeflags.now result }
     {
         let asked = dry(makeflags);
         mode_of(self.asks, self.is_dry || asked)

@@ -3,8 +3,8 @@ ghost use Rattle.std.specs.Prelude.{◌≡◌, ◌<◌, ◌||◌, not, true, Lis
 ghost use Rattle.std.specs.List.{list_all};
 ghost use Rattle.mk_reader.specs.Text.{is_empty};
 ghost use Rattle.mk_recipe.specs.declared.line.Line.{Line as RecipeText};
-ghost use Rattle.mk_plan.specs.Passing.{HasRecipeFault, listed_in};
-ghost use Rattle.dmk_drive.specs.Passing.{IsListing, printed, listing_text};
+ghost use Rattle.mk_plan.specs.Passing.{listed_in};
+ghost use Rattle.dmk_drive.specs.Passing.{IsListing, IsListingFault, printed, listing_text};
 
 use mk_macros::MacroFault;
 use mk_plan::{Passed, pass};
@@ -53,7 +53,7 @@ pub fn listing_of(alloc: Global, keeping: bool, graph: &Graph) -> Result<Listing
     requires { list_all (λ n. nat_lt n (length graph.now.nodes.items)) graph.now.order.items ≡ true }
     ensures listing { IfOk result (λ found. (listed : List (List RecipeText)) × IsListing keeping graph.now listed
         × (found.text.items ≡ listing_text listed) × (found.lists_any ≡ not (is_empty listed))) }
-    ensures fault { IfErr result (HasRecipeFault graph.now) }
+    ensures fault { IfErr result (IsListingFault keeping graph.now) }
 {
     let mut marks = vec![in alloc; false; graph.len()]?;
     let mut listing = Listing {

@@ -1,5 +1,5 @@
 //! From a makefile to what is listed, stage by stage. The first stage that has a fault ends it.
-ghost use Rattle.std.specs.Prelude.{◌≡◌, ◌≢◌, ◌⊎◌, ℕ, true, not, List, length, nat_lt, IfOk, IfErr, option_copied};
+ghost use Rattle.std.specs.Prelude.{◌≡◌, ◌⊎◌, ℕ, true, not, List, length, nat_lt, IfOk, IfErr, IsErrOf, option_copied};
 ghost use Rattle.std.specs.FinMap as finmap;
 ghost use Rattle.std.specs.List.{list_all};
 ghost use Rattle.mk_macros.specs.declared.fault.MacroFault.{MacroFault as ExpansionFault};
@@ -12,22 +12,21 @@ ghost use Rattle.mk_rules.specs.declared.graph.TheConstants.{MAX_NODES};
 ghost use Rattle.mk_rules.specs.declared.fault.RuleFault.{RuleFault as RulesFault};
 ghost use Rattle.dmk_drive.specs.Definitions.{first_defined};
 ghost use Rattle.dmk_drive.specs.Makefile.{IsAbsent, MayBeThere};
+ghost use Rattle.st_disk.specs.Faults.{Rises};
 ghost use Rattle.st_file.specs.declared.fault.OpenFault.{OpenFault as StateFault};
-ghost use Rattle.mk_plan.specs.Passing.{HasRecipeFault};
-ghost use Rattle.dmk_drive.specs.Passing.{IsListing, listing_text};
-ghost use Rattle.dmk_drive.specs.Planned.{AreItems, IsStateOf, IsGraphOf, Tells};
+ghost use Rattle.st_file.specs.declared.fault.OpenFault.TheVariants as open_faults;
+ghost use Rattle.dmk_drive.specs.Passing.{IsListing, IsListingFault, listing_text};
+ghost use Rattle.dmk_drive.specs.Planned.{AreItems, IsStateOn, IsGraphOf, Tells};
 ghost use Rattle.dmk_drive.specs.Faults.{IsOpenFault, IsTextFault, IsPlanFault, IsRunFault};
-ghost use Rattle.dmk_drive.specs.declared.options.Mode.TheVariants as modes;
 ghost use Rattle.dmk_drive.specs.declared.fault.Fault.TheVariants as faults;
 
 use crate::definitions::first_macros;
 use crate::fault::Fault;
 use crate::keeping::keeps_state;
 use crate::makefile::items_of;
-use crate::options::Mode;
 use crate::passing::{Listing, listing_of};
 use crate::recovered::state_of;
-use crate::variable::Variable;
+use bd_lists::Variable;
 use byte_strings::ByteStrings;
 use mk_reader::{Includes, Item};
 use mk_rules::{Graph, Tree, build};
@@ -83,7 +82,7 @@ fn listed(alloc: Global, keeping: bool, graph: &Graph) -> Result<DryRun, Fault>
     ensures listing { IfOk result (λ run. (listed : List (List RecipeText)) × IsListing keeping graph.now listed
         × (run.text.items ≡ listing_text listed) × (run.lists_any ≡ not (is_empty listed))) }
     ensures dropped { IfOk result (λ run. run.soft_dropped ≡ graph.now.soft_dropped) }
-    ensures fault { IfErr result (λ fault. (f : ExpansionFault) × (fault ≡ faults.Recipe f) × HasRecipeFault graph.now f) }
+    ensures fault { IfErr result (λ fault. (f : ExpansionFault) × (fault ≡ faults.Recipe f) × IsListingFault keeping graph.now f) }
 {
     match listing_of(alloc, keeping, graph) {
         Ok(Listing { text, lists_any }) => Ok(DryRun {
@@ -102,11 +101,12 @@ fn kept_state<D: Disk>(
     keeping: bool,
     disk: &mut D,
 ) -> Result<State, Fault>
-    ensures found { D.honest → IfOk result (IsStateOf keeping (D.seen disk.old)) }
+    ensures found { IfOk result (IsStateOn keeping D.honest (D.seen disk.old)) }
     ensures fault { IfErr result (λ fault. (keeping ≡ true) × ((f : StateFault) × (fault ≡ faults.State f)
         × (D.honest → IsOpenFault (D.seen disk.old) f))) }
     ensures seen { D.honest → D.seen disk.new ≡ D.seen disk.old }
     ensures moments { D.honest → D.moments disk.new ≡ D.moments disk.old }
+    ensures device { IsErrOf result (faults.State open_faults.Device) → Rises (D.faults disk.old) (D.faults disk.new) }
 {
     match state_of(alloc, key, keeping, disk) {
         Ok(state) => Ok(state),
@@ -130,6 +130,7 @@ fn plan_items<T: Tree, D: Disk>(
         (T.refuses tree.new) D.honest (D.seen disk.old) items.items) }
     ensures seen { D.honest → D.seen disk.new ≡ D.seen disk.old }
     ensures moments { D.honest → D.moments disk.new ≡ D.moments disk.old }
+    ensures device { IsErrOf result (faults.State open_faults.Device) → Rises (D.faults disk.old) (D.faults disk.new) }
 {
     let keeping = keeps_state(given.environment, &items);
     let state = kept_state(alloc, key, keeping, disk)?;
@@ -139,19 +140,16 @@ fn plan_items<T: Tree, D: Disk>(
 
 /// What a run would build. It only reads.
 ///
-/// A makefile's own faults come first; then, unless the run is dry, it ends; then come the state's, the rules' and the
-/// recipes'.
+/// A makefile's own faults come first; then come the state's, the rules' and the recipes'.
 pub fn dry_run<T: Tree, I: Includes, D: Disk>(
     alloc: Global,
     key: HashKey,
-    mode: Mode,
     given: Given<'_, '_>,
     targets: ByteStrings,
     tree: &mut T,
     includes: &mut I,
     disk: &mut D,
 ) -> Result<DryRun, Fault>
-    ensures dry { IfOk result (λ _. mode ≢ modes.Run) }
     ensures tells { IfOk result (λ run. (items : List MakefileItem)
         × AreItems (AnswersAs I.honest (I.files includes.old)) (IsAbsent T.honest (T.stamps tree.old))
         (option_copied given.entry.makefile) items
@@ -162,14 +160,11 @@ pub fn dry_run<T: Tree, I: Includes, D: Disk>(
         (AreItems (AnswersAs I.honest (I.files includes.old)) (IsAbsent T.honest (T.stamps tree.old))
         (option_copied given.entry.makefile))
         (IsPlanFault given.entry.definitions.now given.entry.environment.now targets T.honest (T.stamps tree.old) (T.refuses tree.new)
-        D.honest (D.seen disk.old))
-        mode) }
+        D.honest (D.seen disk.old))) }
     ensures seen { D.honest → D.seen disk.new ≡ D.seen disk.old }
     ensures moments { D.honest → D.moments disk.new ≡ D.moments disk.old }
+    ensures device { IsErrOf result (faults.State open_faults.Device) → Rises (D.faults disk.old) (D.faults disk.new) }
 {
     let items = items_of(alloc, given.makefile, tree, includes)?;
-    if matches!(mode, Mode::Run) {
-        return Err(Fault::OnlyDryRuns);
-    }
     plan_items(alloc, key, given, targets, tree, disk, items)
 }

@@ -1,8 +1,10 @@
 //! The state that a dry run goes by. The disk is only read.
-ghost use Rattle.std.specs.Prelude.{◌≡◌, true, IfOk, IfErr};
+ghost use Rattle.std.specs.Prelude.{◌≡◌, true, IfOk, IfErr, IsErrOf};
 ghost use Rattle.st_recovery.specs.Recovers.{Recovers};
 ghost use Rattle.st_disk.specs.declared.which.Which.TheVariants as sides;
-ghost use Rattle.dmk_drive.specs.Planned.{IsStateOf};
+ghost use Rattle.st_disk.specs.Faults.{Rises};
+ghost use Rattle.st_file.specs.declared.fault.OpenFault.TheVariants as open_faults;
+ghost use Rattle.dmk_drive.specs.Planned.{IsStateOn};
 ghost use Rattle.dmk_drive.specs.Faults.{IsOpenFault};
 
 use st_disk::{Disk, Which};
@@ -17,6 +19,8 @@ fn recovered<D: Disk>(alloc: Global, key: HashKey, disk: &mut D) -> Result<State
     ensures refused { D.honest → IfErr result (IsOpenFault (D.seen disk.old)) }
     ensures seen { D.honest → D.seen disk.new ≡ D.seen disk.old }
     ensures moments { D.honest → D.moments disk.new ≡ D.moments disk.old }
+    // A device fault is a call of the disk that failed.
+    ensures device { IsErrOf result open_faults.Device → Rises (D.faults disk.old) (D.faults disk.new) }
 {
     let a = read_whole(alloc, disk, Which::A)?;
     let b = read_whole(alloc, disk, Which::B)?;
@@ -30,11 +34,13 @@ pub fn state_of<D: Disk>(
     keeping: bool,
     disk: &mut D,
 ) -> Result<State, OpenFault>
-    ensures found { D.honest → IfOk result (IsStateOf keeping (D.seen disk.old)) }
+    ensures found { IfOk result (IsStateOn keeping D.honest (D.seen disk.old)) }
     ensures refused { D.honest → IfErr result (IsOpenFault (D.seen disk.old)) }
     ensures kept { IfErr result (λ _. keeping ≡ true) }
     ensures seen { D.honest → D.seen disk.new ≡ D.seen disk.old }
     ensures moments { D.honest → D.moments disk.new ≡ D.moments disk.old }
+    // A device fault is a call of the disk that failed.
+    ensures device { IsErrOf result open_faults.Device → Rises (D.faults disk.old) (D.faults disk.new) }
 {
     if !keeping {
         return Ok(State::with_key(alloc, key));

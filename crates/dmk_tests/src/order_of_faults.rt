@@ -23,7 +23,7 @@ fn expect_rows(alloc: Global, rows: &[Row]) -> Result<(), Fail> {
     Ok(())
 }
 
-static EACH: [Row; 14] = [
+static EACH: [Row; 13] = [
     ("no makefile", ["!", "", "", "-n"], "!dmk: no makefile\n=2"),
     (
         "a makefile that can't be read",
@@ -44,11 +44,6 @@ static EACH: [Row; 14] = [
         "an empty makefile",
         ["", "", "", "-n"],
         "!dmk: no target\n=2",
-    ),
-    (
-        "a run",
-        ["a:\n\techo\n", "", "", ""],
-        "!dmk: only -n and -q\n=2",
     ),
     (
         "no state file",
@@ -97,16 +92,11 @@ fn each_fault_is_told(rt: HostRuntime) -> Result<(), Fail> {
     expect_rows(rt.alloc(), &EACH)
 }
 
-static SEVERAL: [Row; 5] = [
+static SEVERAL: [Row; 4] = [
     (
-        "the makefile before the run",
-        ["\techo\n", "", "# text", ""],
-        "!dmk: makefile:1: recipe line before any rule\n=2",
-    ),
-    (
-        "the run before the state",
-        [".KEEP_STATE:\na: b\n", "", "# text", ""],
-        "!dmk: only -n and -q\n=2",
+        "the makefile before the state",
+        [".KEEP_STATE:\nx y\n", "", "# text", "-n"],
+        "!dmk: makefile:2: missing separator\n=2",
     ),
     (
         "the state before the rules",

@@ -1,8 +1,9 @@
 //! Runs of the program over parts in memory.
 use crate::folder::{File, Folder};
 use crate::states::side_of;
+use bd_lists::Variable;
 use byte_strings::{ByteString, ByteStrings};
-use dmk_drive::{Options, Variable, drive};
+use dmk_drive::{Mode, Options, drive, value_of};
 use indexmap::IndexMap;
 use st_disk::{MemDisk, Which};
 use st_records::HashKey;
@@ -126,6 +127,9 @@ pub fn run<O: Write>(
 ) -> Result<(u8, bool), Fail> {
     let options = options_of(alloc, given.words)?;
     let environment = environment_of(alloc, given.environment)?;
+    if let Mode::Run = options.mode(value_of(&environment, b"MAKEFLAGS")) {
+        return Err("recipes would be run".into());
+    }
     let disk = disk_of(alloc, given.state)?;
     let before = Vec::from_slice(alloc, disk.bytes(Which::A))?;
     let mut tree = folder_of(alloc, given)?;

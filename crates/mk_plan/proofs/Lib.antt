@@ -1,2 +1,3 @@
 pub mod RecipeLemmas
 pub mod PassingLemmas
+pub mod SameLemmas

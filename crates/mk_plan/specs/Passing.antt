@@ -41,7 +41,3 @@ listed_in passed.UpToDate = []
 abbrev pub IsFaultAt : Graph → (marks : List Bool) → (n : ℕ) → MacroFault → Type 0
 IsFaultAt graph marks n OutOfMemory = Unit {0}
 IsFaultAt graph marks n fault = (recipe : List RecipeLine) × (recipe_of graph n ≡ Some recipe) × IsFaultOf graph marks n recipe fault
-
--- the fault is that of some node's recipe, for some nodes that were remade before it
-abbrev pub HasRecipeFault : Graph → MacroFault → Type 0
-HasRecipeFault graph fault = (n : ℕ) × (marks : List Bool) × IsFaultAt graph marks n fault

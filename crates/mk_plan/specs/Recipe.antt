@@ -1,5 +1,5 @@
 -- The lines of a recipe, expanded (make(1S), "Command Lines" and "Dynamic Macros").
-use Rattle.std.specs.Prelude.{◌≡◌, ℕ, Bool, List, [], ◌∷◌, map, Any}
+use Rattle.std.specs.Prelude.{◌≡◌, ◌⊎◌, ℕ, Bool, List, [], ◌∷◌, map}
 use Rattle.mk_macros.specs.Expansion.{Meaning, gives, ExpandsTo, ExpandsToFault}
 use Rattle.mk_macros.specs.Ranks.{ranks_at, meaning_of}
 use Rattle.mk_macros.specs.declared.dynamic.RecipeNames.{RecipeNames}
@@ -26,10 +26,16 @@ AreExpanded meaning [] (line ∷ lines) = ⊥
 AreExpanded meaning (raw ∷ raws) [] = ⊥
 AreExpanded meaning (raw ∷ raws) (line ∷ lines) = IsExpandedLine meaning raw line × AreExpanded meaning raws lines
 
--- the fault is that of some line; want of memory says nothing of them
+-- the fault is that of the first line that has one: each line before it gives one
+abbrev pub HasFirstFault : (meaning : List ℕ → Meaning) → List RecipeLine → MacroFault → Type 0
+HasFirstFault meaning [] fault = ⊥
+HasFirstFault meaning (raw ∷ raws) fault =
+    ExpandsToFault meaning raw.text fault ⊎ ((line : Line) × IsExpandedLine meaning raw line × HasFirstFault meaning raws fault)
+
+-- so it is of the recipe; want of memory says nothing of its lines
 abbrev pub IsRecipeFault : (meaning : List ℕ → Meaning) → List RecipeLine → MacroFault → Type 0
 IsRecipeFault meaning recipe OutOfMemory = Unit {0}
-IsRecipeFault meaning recipe fault = Any (λ raw. ExpandsToFault meaning raw.text fault) recipe
+IsRecipeFault meaning recipe fault = HasFirstFault meaning recipe fault
 
 -- what the dynamic macros of node n stand for. The source and the stem are empty where no implicit rule makes it
 pub record AreNames (graph : Graph) (marks : List Bool) (n : ℕ) (names : RecipeNames) : Type 0 where
@@ -48,7 +54,7 @@ pub record AreLinesOf (graph : Graph) (marks : List Bool) (n : ℕ) (recipe : Li
   pub are_names : AreNames graph marks n names
   pub expanded : AreExpanded (recipe_meaning graph names) recipe lines
 
--- the fault is that of a line of the recipe of node n; want of memory says nothing of them
+-- the fault is that of the first faulty line of the recipe of node n; want of memory says nothing of them
 abbrev pub IsFaultOf : Graph → (marks : List Bool) → (n : ℕ) → List RecipeLine → MacroFault → Type 0
 IsFaultOf graph marks n recipe OutOfMemory = Unit {0}
 IsFaultOf graph marks n recipe fault = (names : RecipeNames) × AreNames graph marks n names × IsRecipeFault (recipe_meaning graph names) recipe fault

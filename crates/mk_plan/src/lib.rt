@@ -2,10 +2,12 @@
 //! ask it alike.
 #![tactic(auto)]
 
+mod laws;
 mod nodes;
 mod passing;
 mod recipe;
 mod target;
 
+pub use laws::one_passing;
 pub use nodes::explicit_of;
 pub use passing::{Passed, pass};

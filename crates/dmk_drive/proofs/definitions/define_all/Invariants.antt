@@ -1,8 +1,8 @@
-use Rattle.std.proofs.Common.{◌≡◌, drop}
+use Rattle.std.proofs.Common.{◌≡◌, ℕ, List, take}
 use Rattle.mk_macros.specs.Ranks.{ranks_at}
-use Rattle.dmk_drive.specs.Definitions.{all_defined}
+use Rattle.dmk_drive.specs.Definitions.{last_value, with_last}
 use Rattle.dmk_drive.proofs.definitions.define_all.Given as goal
 
 abbrev pub invariant-loop-variable : goal.invariant-loop-variable
 invariant-loop-variable l =
-    all_defined (ranks_at l.macros) l.rank (drop l.variable-index l.variables) ≡ all_defined (ranks_at l.fn.macros) l.rank l.variables
+    (name : List ℕ) → ranks_at l.macros name ≡ with_last (ranks_at l.fn.macros name) l.rank (last_value (take l.variable-index l.variables) name)

@@ -1,8 +1,7 @@
-use Rattle.std.proofs.Common.{option_copied, subst}
-use Rattle.jb_slots.specs.Auth.{AsksForDryRun}
+use Rattle.std.proofs.Common.{option_copied}
 use Rattle.mk_reader.specs.Makefile.{AnswersAs}
 use Rattle.dmk_drive.specs.Makefile.{IsAbsent}
-use Rattle.dmk_drive.proofs.DriveLemmas.{told_of, dry_or_asks, dry_of, asked_mode, unasked_mode, listed_plan, asked_plan, refused_plan, not_two}
+use Rattle.dmk_drive.proofs.DriveLemmas.{told_of, asked_mode, unasked_mode, listed_plan, asked_plan, refused_plan, not_two}
 use Rattle.dmk_drive.proofs.driver.drive.Goals as goal
 
 pub returns-clause-listed : goal.returns-clause-listed
@@ -18,7 +17,7 @@ returns-clause-listed g c = λ asks zero.
     listed_plan answers absent c.args.options.makefile c.args.options.definitions.items c.args.environment.now c.args.options.targets
     g.T.Tree.honest stamps g.D.Disk.honest seen (g.O.Write.contents c.args.out.now)
     (g.O.Write.contents c.say-status.new.out) c.dry_run-found.result told (c.say-status.ensures.found (not_two c.say-status.result zero))
-    (c.say-status.ensures.listed (unasked_mode c.args.options.asks _ c.mode-mode.result asks.0 is) zero)
+    (c.say-status.ensures.listed (unasked_mode c.args.options.asks _ c.mode-mode.result asks.0 is) zero) _ (c.say-status.ensures.note zero)
 
 pub returns-clause-asked : goal.returns-clause-asked
 returns-clause-asked g c = λ asks other.
@@ -46,10 +45,3 @@ returns-clause-refused g c = λ two.
     refused_plan answers absent c.args.options.makefile c.args.options.definitions.items c.args.environment.now c.args.options.targets
     g.T.Tree.honest stamps g.D.Disk.honest seen c.say-status.result (g.O.Write.contents c.args.out.now)
     (g.O.Write.contents c.say-status.new.out) c.dry_run-found.result told c.say-status.ensures.refused (c.say-status.ensures.part two)
-
-pub returns-clause-dry : goal.returns-clause-dry
-returns-clause-dry g c = λ other.
-    let (asked, iff, is) = c.mode-mode.ensures in
-    dry_or_asks c.args.options.asks c.args.options.is_dry asked _ c.mode-mode.result
-    (λ yes. subst AsksForDryRun c.value_of.ensures (iff.0 yes)) is
-    (dry_of c.mode-mode.result c.dry_run-found.result (c.say-status.ensures.found other) c.dry_run-found.ensures.dry)

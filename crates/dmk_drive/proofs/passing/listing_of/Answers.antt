@@ -3,16 +3,16 @@ use Rattle.std.proofs.Math.Seq.{drop-cons}
 use Rattle.std.proofs.lemmas.List.{append-nil, drop_all, length-set}
 use Rattle.std.proofs.lemmas.Result.{err_from_is_err_and}
 use Rattle.mk_reader.specs.Text.{is_empty}
-use Rattle.mk_plan.specs.Passing.{Passes, is_remade, listed_in}
+use Rattle.mk_plan.specs.Passing.{Passes, IsFaultAt, is_remade, listed_in}
 use Rattle.dmk_drive.specs.Passing.{listing_text}
-use Rattle.dmk_drive.proofs.PassingLemmas.{listed_more, listed_all, text_more, any_more}
+use Rattle.dmk_drive.proofs.PassingLemmas.{listed_more, no_fault_more, fault_next, listed_all, text_more, any_more}
 use Rattle.dmk_drive.proofs.passing.listing_of.Goals as goal
 
 -- want of memory says nothing of a recipe
 pub returns-in_err-add-clause-fault : goal.returns-in_err-add-clause-fault
 returns-in_err-add-clause-fault c =
     let p = err_from_is_err_and c.from_residual-in_err-add.result c.from_residual-in_err-add.ensures.1 in
-    rw (p.1, p.2) (0, [], tt)
+    rw (p.1, p.2) tt
 
 pub loop-node-preserved : goal.loop-node-preserved
 loop-node-preserved c =
@@ -40,6 +40,7 @@ loop-node-preserved c =
         c.in_ok-add.ensures.any ∙ ap (λ b. b || not (is_empty front)) any ∙ sym (any_more listed front),
         listed_more keeping graph marks i n c.is_remade.result front listed here passes before,
       );
+      no_fault = no_fault_more keeping graph marks i n c.is_remade.result front here passes c.loop-node.invariant.no_fault;
     }
 
 pub returns-clause-listing : goal.returns-clause-listing
@@ -50,3 +51,19 @@ returns-clause-listing c =
     let over : drop i graph.order.items ≡ [] =
     subst (λ (nodes : List ℕ). drop i nodes ≡ []) c.as_slice-node-items.ensures.value (drop_all i c.as_slice-node-items.result.now c.loop-node-test.false) in
     (listed, listed_all c.args.keeping graph c.loop-node.marks.items i listed over (append-nil listed) before, text, any)
+
+pub returns-in_err-passed-clause-fault : goal.returns-in_err-passed-clause-fault
+returns-in_err-passed-clause-fault c =
+    let keeping = c.args.keeping in
+    let graph = c.args.graph.now in
+    let marks = c.loop-node.marks.items in
+    let i = c.loop-node.node-index in
+    let read = c.as_slice-node-items.result.now in
+    let n = get_or read i 0 in
+    let f = c.in_err-passed.field-0.0 in
+    let at : drop i read ≡ n ∷ drop (i + 1) read = drop-cons read i 0 c.loop-node-test.true ∙ rw add-one refl in
+    let next : drop i graph.order.items ≡ n ∷ drop (i + 1) graph.order.items =
+    subst (λ (nodes : List ℕ). drop i nodes ≡ n ∷ drop (i + 1) nodes) c.as_slice-node-items.ensures.value at in
+    let is : IsFaultAt graph marks n f = subst (λ (ms : List Bool). IsFaultAt graph ms n f) c.deref.ensures.value c.in_err-passed.ensures.fault in
+    let p = err_from_is_err_and c.from_residual-in_err-passed.result c.from_residual-in_err-passed.ensures.1 in
+    rw (p.1, p.2) (fault_next keeping graph marks i n f next is c.loop-node.invariant.no_fault)

@@ -4,4 +4,4 @@ use Rattle.mk_plan.proofs.recipe.expanded_lines.Goals as goal
 
 pub returns-clause-lines : goal.returns-clause-lines
 returns-clause-lines c =
-    expanded_all _ c.args.recipe.now c.loop-raw.raw-index c.loop-raw.lines.items (drop_all c.loop-raw.raw-index c.args.recipe.now c.loop-raw-test.false) c.loop-raw.invariant
+    expanded_all _ c.args.recipe.now c.loop-raw.raw-index c.loop-raw.lines.items (drop_all c.loop-raw.raw-index c.args.recipe.now c.loop-raw-test.false) c.loop-raw.invariant.lines

@@ -1,0 +1,190 @@
+-- What the state, the marks and the graph say of a node is one thing: its names, its lines, its target and how it is passed.
+use mathlib.Core.Path.{fun_ext}
+use Rattle.std.specs.Prelude.{◌↔◌, ◌==◌, IsTrue, IsSomeAnd, slice_get, option_map, if◌then◌else◌}
+use Rattle.std.specs.List.{join_with_byte}
+use Rattle.std.specs.Str.{is_utf8}
+use Rattle.std.proofs.Common.{◌≡◌, ◌≢◌, ◌⊎◌, ◌∙◌, ℕ, Bool, true, false, List, [], ◌∷◌, map, Option, Some, None, refl, sym, ap, subst}
+use Rattle.std.proofs.lemmas.Option.{same_Some, slice_get-map}
+use Rattle.mk_macros.specs.Words.{to_directory, to_file, changed_words}
+use Rattle.mk_macros.specs.Dynamic.{whole_value, recipe_value}
+use Rattle.mk_macros.specs.Expansion.{Meaning, gives}
+use Rattle.mk_macros.specs.Ranks.{ranks_at, in_force, meaning_from}
+use Rattle.mk_macros.specs.declared.dynamic.RecipeNames.{RecipeNames}
+use Rattle.mk_macros.proofs.OutcomeLemmas.{expands_once}
+use Rattle.mk_reader.specs.declared.item.RecipeLine.{RecipeLine}
+use Rattle.mk_recipe.specs.Line.{IsLine, IsExempt}
+use Rattle.mk_recipe.specs.Verdict.{IsLater, NamesOthers, Holds, IsOutOfDate}
+use Rattle.mk_recipe.specs.declared.line.Line.{Line}
+use Rattle.mk_recipe.specs.declared.verdict.Prerequisite.{Prerequisite}
+use Rattle.mk_recipe.specs.declared.verdict.Target.{Target}
+use Rattle.mk_recipe.specs.declared.verdict.Reason.{Reason}
+use Rattle.mk_recipe.specs.declared.verdict.Reason.TheVariants as reason
+use Rattle.mk_recipe.proofs.RecordedLemmas.{same_records}
+use Rattle.mk_rules.specs.declared.graph.Graph.{Graph}
+use Rattle.st_records.specs.declared.record.Entry.{Entry}
+use Rattle.mk_plan.specs.Nodes.{recipe_of, entry_of}
+use Rattle.mk_plan.specs.Recipe.{IsExpandedLine, AreExpanded, AreNames, recipe_meaning, AreLinesOf}
+use Rattle.mk_plan.specs.Target.{Seen, shown, IsTargetOf}
+use Rattle.mk_plan.specs.Passing.{Passes, is_listed, is_up_to_date, has_no_recipe}
+
+-- ---- one meaning
+
+abbrev whole_from : (target source stem : List ℕ) (newer : List (List ℕ)) (sign : ℕ) → Option (List ℕ)
+whole_from target source stem newer sign =
+    if sign == 64 then Some target
+    else (if sign == 60 then Some source
+    else (if sign == 42 then Some stem
+    else (if sign == 63 then Some (join_with_byte 32 newer)
+    else None)))
+
+abbrev part_from : (whole : Option (List ℕ)) (part : ℕ) → Option (List ℕ)
+part_from whole part =
+    if part == 68 then option_map (changed_words to_directory) whole
+    else (if part == 70 then option_map (changed_words to_file) whole
+    else None)
+
+module _ (graph : Graph) (marks : List Bool) (n : ℕ) (a b : RecipeNames) (of_a : AreNames graph marks n a) (of_b : AreNames graph marks n b) where
+  same_whole : (sign : ℕ) → whole_value a sign ≡ whole_value b sign
+  same_whole sign =
+      ap (λ t. whole_from t a.source.now a.stem.now (map (λ word. word.now) a.newer.now) sign) (of_a.target ∙ sym of_b.target)
+      ∙ ap (λ s. whole_from b.target.now s a.stem.now (map (λ word. word.now) a.newer.now) sign) (of_a.source ∙ sym of_b.source)
+      ∙ ap (λ s. whole_from b.target.now b.source.now s (map (λ word. word.now) a.newer.now) sign) (of_a.stem ∙ sym of_b.stem)
+      ∙ ap (λ ws. whole_from b.target.now b.source.now b.stem.now ws sign) (of_a.newer ∙ sym of_b.newer)
+
+  same_value : (name : List ℕ) → recipe_value a name ≡ recipe_value b name
+  same_value [] = refl
+  same_value (sign ∷ []) = same_whole sign
+  same_value (sign ∷ part ∷ []) = ap (λ whole. part_from whole part) (same_whole sign)
+  same_value (sign ∷ part ∷ c ∷ cs) = refl
+
+  pub same_meaning : recipe_meaning graph a ≡ recipe_meaning graph b
+  same_meaning = fun_ext (λ name. ap (λ value. meaning_from value (in_force (ranks_at graph.macros name))) (same_value name))
+
+-- ---- one list of lines
+
+same_tests : (P : Type 0) (a b : Bool) → IsTrue a ↔ P → IsTrue b ↔ P → a ≡ b
+same_tests P true true of_a of_b = refl
+same_tests P false false of_a of_b = refl
+same_tests P true false of_a of_b = let yes : false ≡ true = of_b.1 (of_a.0 refl) in cc
+same_tests P false true of_a of_b = let yes : false ≡ true = of_a.1 (of_b.0 refl) in cc
+
+same_line : (raw : RecipeLine) (expansion : List ℕ) (a b : Line) → IsLine raw.text expansion a → IsLine raw.text expansion b → a ≡ b
+same_line raw expansion a b of_a of_b =
+    let text : a.text ≡ b.text = of_a.text ∙ sym of_b.text in
+    let printed : a.is_printed ≡ b.is_printed = of_a.printed ∙ sym of_b.printed in
+    let ignored : a.is_ignored ≡ b.is_ignored = of_a.ignored ∙ sym of_b.ignored in
+    let exempt : a.is_exempt ≡ b.is_exempt = same_tests (IsExempt raw.text expansion) a.is_exempt b.is_exempt of_a.exempt of_b.exempt in
+    let first : a ≡ record a { text = b.text } = ap (λ t. record a { text = t }) text in
+    let second : record a { text = b.text } ≡ record a { text = b.text; is_printed = b.is_printed } =
+    ap (λ p. record a { text = b.text; is_printed = p }) printed in
+    let third : record a { text = b.text; is_printed = b.is_printed }
+    ≡ record a { text = b.text; is_printed = b.is_printed; is_ignored = b.is_ignored } =
+    ap (λ i. record a { text = b.text; is_printed = b.is_printed; is_ignored = i }) ignored in
+    let fourth : record a { text = b.text; is_printed = b.is_printed; is_ignored = b.is_ignored } ≡ b =
+    ap (λ x. record a { text = b.text; is_printed = b.is_printed; is_ignored = b.is_ignored; is_exempt = x }) exempt in
+    first ∙ second ∙ third ∙ fourth
+
+same_expanded : (meaning : List ℕ → Meaning) (raw : RecipeLine) (a b : Line) → IsExpandedLine meaning raw a → IsExpandedLine meaning raw b → a ≡ b
+same_expanded meaning raw a b of_a of_b =
+    let given : gives of_a.expansion ≡ gives of_b.expansion = expands_once meaning of_a.expands of_b.expands in
+    let same : of_a.expansion ≡ of_b.expansion = cc in
+    same_line raw of_b.expansion a b (subst (λ e. IsLine raw.text e a) same of_a.is_line) of_b.is_line
+
+same_lines : (meaning : List ℕ → Meaning) (recipe : List RecipeLine) (a b : List Line) → AreExpanded meaning recipe a → AreExpanded meaning recipe b → a ≡ b
+same_lines meaning [] [] [] of_a of_b = refl
+same_lines meaning [] [] (y ∷ b) of_a of_b = absurd of_b
+same_lines meaning [] (x ∷ a) b of_a of_b = absurd of_a
+same_lines meaning (raw ∷ recipe) [] b of_a of_b = absurd of_a
+same_lines meaning (raw ∷ recipe) (x ∷ a) [] of_a of_b = absurd of_b
+same_lines meaning (raw ∷ recipe) (x ∷ a) (y ∷ b) of_a of_b =
+    ap (λ l. l ∷ a) (same_expanded meaning raw x y of_a.0 of_b.0) ∙ ap (λ ls. y ∷ ls) (same_lines meaning recipe a b of_a.1 of_b.1)
+
+lines_alike : (graph : Graph) (marks : List Bool) (n : ℕ) (recipe : List RecipeLine) (a b : List Line) →
+    AreLinesOf graph marks n recipe a → AreLinesOf graph marks n recipe b → a ≡ b
+lines_alike graph marks n recipe a b of_a of_b =
+    same_lines (recipe_meaning graph of_b.names) recipe a b
+    (subst (λ m. AreExpanded m recipe a) (same_meaning graph marks n of_a.names of_b.names of_a.are_names of_b.are_names) of_a.expanded) of_b.expanded
+
+-- ---- one target, as far as it is judged
+
+at_shown : (P : Seen → Type 0) (o : Option Prerequisite) → IsSomeAnd o (λ p. P (shown p)) → IsSomeAnd (option_map shown o) P
+at_shown P None h = h
+at_shown P (Some p) h = h
+
+of_shown : (P : Seen → Type 0) (o : Option Prerequisite) → IsSomeAnd (option_map shown o) P → IsSomeAnd o (λ p. P (shown p))
+of_shown P None h = h
+of_shown P (Some p) h = h
+
+prerequisite_alike : (P : Seen → Type 0) (ps qs : List Prerequisite) (i : ℕ) → map shown ps ≡ map shown qs →
+    IsSomeAnd (slice_get ps i) (λ p. P (shown p)) → IsSomeAnd (slice_get qs i) (λ p. P (shown p))
+prerequisite_alike P ps qs i same h =
+    of_shown P (slice_get qs i)
+    (subst (λ o. IsSomeAnd o P) (sym (slice_get-map shown ps i) ∙ ap (λ xs. slice_get xs i) same ∙ slice_get-map shown qs i)
+    (at_shown P (slice_get ps i) h))
+
+module _ (keeping : Bool) (entry : Option Entry) (a b : Target) (commands : a.commands.now ≡ b.commands.now) (explicit : a.explicit.now ≡ b.explicit.now)
+    (stamp : a.stamp ≡ b.stamp) (prerequisites : map shown a.prerequisites.now ≡ map shown b.prerequisites.now)
+    (ordered : a.orders_hidden ≡ b.orders_hidden) where
+  holds_alike : (r : Reason) → Holds keeping entry a r → Holds keeping entry b r
+  holds_alike reason.NoEntry h = h
+  holds_alike reason.WasBegun h = h
+  holds_alike reason.WasFailed h = h
+  holds_alike reason.CommandsChanged h = (h.0, subst (λ cs. IsSomeAnd entry (λ e. e.commands ≢ cs)) commands h.1)
+  holds_alike reason.PrerequisitesChanged h = (h.0, subst (λ ns. IsSomeAnd entry (NamesOthers ns)) explicit h.1)
+  holds_alike reason.Absent h = sym stamp ∙ h
+  holds_alike (reason.Newer i) h =
+      subst (λ s. IsSomeAnd (slice_get b.prerequisites.now i) (λ p. IsLater p.stamp s)) stamp
+      (prerequisite_alike (λ s. IsLater s.stamp a.stamp) a.prerequisites.now b.prerequisites.now i prerequisites h)
+  holds_alike (reason.HiddenGone i) h = (
+    h.0,
+    prerequisite_alike
+        (λ s. IsTrue s.is_hidden × (((s.stamp ≡ None) × (s.has_rule ≡ false)) ⊎ (is_utf8 s.name ≡ false)))
+        a.prerequisites.now b.prerequisites.now i prerequisites h.1,
+  )
+  holds_alike (reason.Remade i) h =
+      subst (λ o. IsSomeAnd (slice_get b.prerequisites.now i) (λ p. IsTrue p.is_remade × (IsTrue p.is_hidden → IsTrue o))) ordered
+      (prerequisite_alike (λ s. IsTrue s.is_remade × (IsTrue s.is_hidden → IsTrue a.orders_hidden)) a.prerequisites.now b.prerequisites.now i prerequisites h)
+
+out_of_date_alike : (keeping : Bool) (graph : Graph) (marks : List Bool) (n : ℕ) (lines : List Line) (a b : Target) →
+    IsTargetOf graph marks n lines a → IsTargetOf graph marks n lines b → IsOutOfDate keeping (entry_of graph n) a → IsOutOfDate keeping (entry_of graph n) b
+out_of_date_alike keeping graph marks n lines a b of_a of_b (r, holds) = (
+  r,
+  holds_alike keeping (entry_of graph n) a b (same_records lines a.commands.now b.commands.now of_a.commands of_b.commands)
+      (of_a.explicit ∙ sym of_b.explicit) (of_a.stamp ∙ sym of_b.stamp) (of_a.prerequisites ∙ sym of_b.prerequisites)
+      (of_a.ordered ∙ sym of_b.ordered) r holds,
+)
+
+-- ---- one way to pass it
+
+module _ (keeping : Bool) (graph : Graph) (marks : List Bool) (n : ℕ) where
+  same_recipe : (r s : List RecipeLine) → recipe_of graph n ≡ Some r → recipe_of graph n ≡ Some s → r ≡ s
+  same_recipe r s is_r is_s = same_Some r s (sym is_r ∙ is_s)
+
+  lines_of_recipes : (r s : List RecipeLine) (a b : List Line) → recipe_of graph n ≡ Some r → recipe_of graph n ≡ Some s →
+      AreLinesOf graph marks n r a → AreLinesOf graph marks n s b → a ≡ b
+  lines_of_recipes r s a b is_r is_s of_a of_b =
+      lines_alike graph marks n s a b (subst (λ recipe. AreLinesOf graph marks n recipe a) (same_recipe r s is_r is_s) of_a) of_b
+
+  not_both : (r s : List RecipeLine) (a b : List Line) (t u : Target) → recipe_of graph n ≡ Some r → recipe_of graph n ≡ Some s →
+      AreLinesOf graph marks n r a → AreLinesOf graph marks n s b → IsTargetOf graph marks n a t → IsTargetOf graph marks n b u →
+      IsOutOfDate keeping (entry_of graph n) t → (IsOutOfDate keeping (entry_of graph n) u → ⊥) → ⊥
+  not_both r s a b t u is_r is_s of_a of_b is_t is_u out up =
+      up (out_of_date_alike keeping graph marks n b t u
+      (subst (λ ls. IsTargetOf graph marks n ls t) (lines_of_recipes r s a b is_r is_s of_a of_b) is_t) is_u out)
+
+  no_recipe : (r : List RecipeLine) → recipe_of graph n ≡ Some r → recipe_of graph n ≡ None → ⊥
+  no_recipe r is none = let both : Some r ≡ None = sym is ∙ none in absurd cc
+
+  pub passes_once : (p q : Bool) (a b : List (List Line)) → Passes keeping graph marks n p a → Passes keeping graph marks n q b → (p ≡ q) × (a ≡ b)
+  passes_once p q a b (is_listed r ls t is_r of_ls is_t out) (is_listed s ms u is_s of_ms is_u out') =
+      (refl, ap (λ lines. lines ∷ []) (lines_of_recipes r s ls ms is_r is_s of_ls of_ms))
+  passes_once p q a b (is_listed r ls t is_r of_ls is_t out) (is_up_to_date s ms u is_s of_ms is_u up) =
+      absurd (not_both r s ls ms t u is_r is_s of_ls of_ms is_t is_u out up)
+  passes_once p q a b (is_listed r ls t is_r of_ls is_t out) (has_no_recipe none) = absurd (no_recipe r is_r none)
+  passes_once p q a b (is_up_to_date r ls t is_r of_ls is_t up) (is_listed s ms u is_s of_ms is_u out) =
+      absurd (not_both s r ms ls u t is_s is_r of_ms of_ls is_u is_t out up)
+  passes_once p q a b (is_up_to_date r ls t is_r of_ls is_t up) (is_up_to_date s ms u is_s of_ms is_u up') = (refl, refl)
+  passes_once p q a b (is_up_to_date r ls t is_r of_ls is_t up) (has_no_recipe none) = absurd (no_recipe r is_r none)
+  passes_once p q a b (has_no_recipe none) (is_listed s ms u is_s of_ms is_u out) = absurd (no_recipe s is_s none)
+  passes_once p q a b (has_no_recipe none) (is_up_to_date s ms u is_s of_ms is_u up) = absurd (no_recipe s is_s none)
+  passes_once p q a b (has_no_recipe none) (has_no_recipe none') = (refl, refl)
