@@ -1,0 +1,10 @@
+use Rattle.std.proofs.Common.{◌≡◌, All, length}
+use Rattle.jb_slots.specs.Tokens.{fresh}
+use Rattle.jb_runner.proofs.serving.ends_of_pool.Given as goal
+
+-- an end for each worker so far, and none has read or written anything
+abbrev pub invariant-loop : goal.invariant-loop
+invariant-loop g l = record {
+  count : length l.ends.items ≡ l.counter;
+  fresh : All (λ end. g.K.End.Bank.state end ≡ fresh l.nodes) l.ends.items;
+}

@@ -1,0 +1,9 @@
+pub mod Agreement
+pub mod Closing
+pub mod Environment
+pub mod Last
+pub mod Making
+pub mod Marking
+pub mod Report
+pub mod Running
+pub mod Serving

@@ -1,0 +1,136 @@
+//! One node, from its claim to its end.
+ghost use Rattle.std.specs.Prelude.{◌≡◌, ◌<◌, length};
+ghost use Rattle.jb_runner.specs.Making.{is_remade};
+
+use crate::noting::Plan;
+use crate::shift::Kept;
+use crate::{News, Place, RunFault, Say, Shift, Shop};
+use bd_flusher::Receipt;
+use bd_lists::{Board, End, Exec, Node};
+use jb_slots::Bank;
+use mk_macros::MacroFault;
+use mk_plan::{Passed, pass};
+use mk_recipe::Line;
+use st_disk::Disk;
+use std::alloc::Global;
+use std::sync::Wait;
+
+/// Whether a node that has ended so counts as made anew.
+pub(crate) fn is_remade(end: Option<End>) -> bool
+    ensures { result ≡ is_remade end }
+{
+    matches!(end, Some(End::Built | End::Remade))
+}
+
+/// Sets the mark of a node that was made anew. Another keeps its own: how a node ended never changes.
+fn mark_if_remade(marks: &mut Vec<bool>, board: &Board<Receipt>, node: usize) {
+    if node < marks.len() && is_remade(board.end(Node::new(node))) {
+        marks[node] = true;
+    }
+}
+
+fn mark_remade(marks: &mut Vec<bool>, board: &Board<Receipt>, nodes: &[usize]) {
+    for node in nodes {
+        mark_if_remade(marks, board, *node);
+    }
+}
+
+fn mark_hidden(marks: &mut Vec<bool>, board: &Board<Receipt>, nodes: &[Option<usize>]) {
+    for node in nodes {
+        if let Some(node) = node {
+            mark_if_remade(marks, board, *node);
+        }
+    }
+}
+
+impl<D: Disk + Drop, E: Exec<Receipt>, S: Say, P: Place> Shop<'_, D, E, S, P> {
+    // All prerequisites that a claimed node counts have settled, so their ends are read in one holding of the lock.
+    fn mark<R: Wait>(&self, rt: &R, marks: &mut Vec<bool>, number: usize)
+        requires { number < length self.now.graph.now.nodes.items }
+    {
+        let board = self.flusher.board.lock(rt);
+        mark_remade(marks, &*board, self.graph.hard.row(number));
+        mark_hidden(marks, &*board, &self.graph.nodes[number].hidden);
+    }
+
+    // A node that needs no recipe settles. One that can't, which its claim rules out, is abandoned, so that no other waits for it.
+    fn settle<R: Wait>(&self, rt: &R, node: Node, end: End) {
+        {
+            let mut board = self.flusher.board.lock(rt);
+            if !board.settle(node, end) {
+                board.abandon(node);
+            }
+        }
+        self.tell_idle();
+    }
+
+    /// Makes a node that was claimed. A fault ends the run; the node is then still to be abandoned.
+    pub(crate) fn make<R: Wait, B: Bank>(
+        &self,
+        rt: &R,
+        alloc: Global,
+        node: Node,
+        marks: &mut Vec<bool>,
+        bank: &mut B,
+        shift: &mut Shift,
+    ) -> Result<(), RunFault> {
+        let number = node.number();
+        if number >= self.graph.len() {
+            self.lose(rt, node);
+            return Ok(());
+        }
+        self.mark(rt, marks, number);
+        match pass(
+            alloc,
+            self.conduct.keeps_state,
+            self.graph,
+            marks.as_slice(),
+            number,
+        ) {
+            Ok(Passed::UpToDate) => self.settle(rt, node, End::UpToDate),
+            Ok(Passed::Remade) => self.settle(rt, node, End::Remade),
+            Ok(Passed::Listed(lines)) => return self.build(rt, alloc, node, lines, bank, shift),
+            Err(MacroFault::OutOfMemory) => return Err(RunFault::OutOfMemory),
+            Err(fault) => {
+                self.say.tell(News::NotExpanded { fault: &fault });
+                shift.worsen(2);
+                self.lose(rt, node);
+            }
+        }
+        Ok(())
+    }
+
+    // A target that is out of date. Room for its receipts is made before anything is written.
+    fn build<R: Wait, B: Bank>(
+        &self,
+        rt: &R,
+        alloc: Global,
+        node: Node,
+        lines: Vec<Line>,
+        bank: &mut B,
+        shift: &mut Shift,
+    ) -> Result<(), RunFault>
+        requires { node < length self.now.graph.now.nodes.items }
+    {
+        shift.make_room()?;
+        let Some(plan) = Plan::of(alloc, self.graph, self.conduct, node.number(), lines)? else {
+            self.not_recorded(rt, node, shift);
+            return Ok(());
+        };
+        let mut kept = Kept::new();
+        let built = self.build_planned(rt, alloc, node, plan, bank, shift, &mut kept);
+        shift.keep(kept);
+        built
+    }
+
+    /// A record of the node may not stand in the state: the node is lost.
+    pub(crate) fn not_recorded<R: Wait>(&self, rt: &R, node: Node, shift: &mut Shift) {
+        let number = node.number();
+        if number < self.graph.names.len() {
+            let target = self.graph.names.name(number);
+            self.say.tell(News::NotRecorded { target });
+        }
+        shift.worsen(1);
+        self.lose(rt, node);
+    }
+}

@@ -1,0 +1,195 @@
+//! A whole run: workers in threads, and its closing report.
+ghost use Rattle.std.specs.Prelude.{◌≡◌, ℕ, ◌<◌, ◌≤◌, List, false, length, Some, slice_get, unwrap_or, IfOk, IsTrue};
+ghost use Rattle.std.specs.List.{list_all};
+ghost use Rattle.std.specs.Thread.{IsSend, IsSync};
+ghost use Rattle.st_disk.specs.Moments.{now};
+ghost use Rattle.st_records.specs.State.{replay};
+ghost use Rattle.bd_flusher.specs.declared.site.receipt.Receipt.{Receipt};
+ghost use Rattle.bd_lists.specs.declared.end.End.TheVariants.{Abandoned};
+ghost use Rattle.bd_lists.specs.Settling.{end_of};
+ghost use Rattle.jb_runner.specs.Agreement.{AreThoseOf};
+ghost use Rattle.jb_runner.specs.Closing.{AreTrueOf};
+ghost use Rattle.jb_runner.specs.Report.{ends_well};
+
+use crate::{Closed, Conduct, Place, Report, RunFault, Say, Shift, Shop, work};
+use bd_flusher::{Flusher, Receipt, Site};
+use bd_lists::{Board, End, Exec, Node};
+use jb_slots::Bank;
+use mk_rules::Graph;
+use st_disk::Disk;
+use st_records::HashKey;
+use std::alloc::{AllocError, Global};
+use std::sync::{Mutex, Wait};
+use std::thread;
+use std::thread::Threads;
+
+/// Starts a worker for each end of the jobserver, and waits for all of them. Where one can't be started no further one is, and
+/// all that waits is abandoned.
+fn run_workers<R, D, E, S, P, B>(
+    rt: &R,
+    alloc: Global,
+    shop: &Shop<'_, D, E, S, P>,
+    banks: Vec<B>,
+) -> Shift
+where
+    R: Threads + Wait + Sync,
+    D: Disk + Drop + Send,
+    E: Exec<Receipt> + Sync,
+    S: Say + Sync,
+    P: Place + Sync,
+    B: Bank + Drop + Send,
+{
+    thread::scope(
+        thread::scope_env(),
+        rt,
+        move |scope| -> Shift
+            requires { IsSync R.row × IsSend D.row × IsSync E.row × IsSync S.row × IsSync P.row × IsSend B.row }
+        {
+            let mut crew = Shift::new(alloc);
+            let Ok(mut threads) = Vec::with_capacity(alloc, banks.len()) else {
+                crew.meet(RunFault::OutOfMemory);
+                return crew;
+            };
+            let mut all_started = true;
+            for bank in banks {
+                match scope.spawn(move || work(rt, alloc, shop, bank)) {
+                    Ok(thread) => {
+                        let _ = threads.push(thread);
+                    }
+                    Err(_) => {
+                        all_started = false;
+                        break;
+                    }
+                }
+            }
+            if !all_started {
+                shop.stop(rt);
+            }
+            for thread in threads {
+                crew.add(thread.join(rt));
+            }
+            if !all_started {
+                crew.meet(RunFault::Start);
+            }
+            crew
+        },
+    )
+}
+
+/// What the workers came to, and the site and the board, out of their locks.
+fn run_shop<R, D, E, S, P, B>(
+    rt: &R,
+    alloc: Global,
+    shop: Shop<'_, D, E, S, P>,
+    banks: Vec<B>,
+) -> (Shift, Site<D>, Board<Receipt>)
+where
+    R: Threads + Wait + Sync,
+    D: Disk + Drop + Send,
+    E: Exec<Receipt> + Sync,
+    S: Say + Sync,
+    P: Place + Sync,
+    B: Bank + Drop + Send,
+{
+    let crew = run_workers(rt, alloc, &shop, banks);
+    let (site, board) = shop.into_parts();
+    (crew, site, board)
+}
+
+/// How each node ended. A node that hasn't, which a fault alone leaves, counts as abandoned.
+fn ends_of(alloc: Global, board: &Board<Receipt>, nodes: usize) -> Result<Vec<End>, AllocError>
+    ensures each { IfOk result (λ ends. length ends.items ≡ nodes) }
+    ensures end { IfOk result (λ ends. (node : ℕ) → node < nodes
+        → slice_get ends.items node ≡ Some (unwrap_or (end_of board.now.standing node) Abandoned)) }
+{
+    let mut ends = Vec::with_capacity(alloc, nodes)?;
+    for number in 0..nodes {
+        ends.push(board.end(Node::new(number)).unwrap_or(End::Abandoned))?;
+    }
+    Ok(ends)
+}
+
+impl<D: Disk + Drop> Closed<D> {
+    pub(crate) fn new(site: Site<D>) -> Closed<D>
+        ensures site { result.site ≡ site }
+        ensures folded { site.state ≡ replay site.opening site.told }
+    {
+        let _told = site.told();
+        Closed { site }
+    }
+
+    /// The report of what the workers came to, or the fault that one of them met.
+    fn close(
+        &self,
+        alloc: Global,
+        graph: &Graph,
+        board: &Board<Receipt>,
+        crew: Shift,
+    ) -> Result<Report, RunFault>
+        ensures ends { IfOk result (λ r. length r.ends.items ≡ length graph.now.nodes.items) }
+        ensures status { IfOk result (λ r. r.status ≤ 2) }
+        ensures well { IfOk result (λ r. r.status ≡ 0 → IsTrue (list_all ends_well r.ends.items)) }
+        ensures built { IfOk result (λ r. AreThoseOf self.now.site.told crew.receipts.items
+            × AreTrueOf self.now.site.told crew.receipts.items (D.honest × (self.now.site.dead ≡ false)) (now (D.moments self.now.site.disk))
+            graph.now.names r.ends.items) }
+    {
+        let Shift {
+            receipts,
+            status,
+            fault,
+        } = crew;
+        if let Some(fault) = fault {
+            return Err(fault);
+        }
+        let ends = ends_of(alloc, board, graph.len())?;
+        self.report(alloc, graph, Report::of(ends, status), &receipts)
+    }
+}
+
+/// Makes what the graph's goals need: at most as many recipes run at once as there are ends of the jobserver. The report, or the fault
+/// that ended the run, and the site out of its lock.
+///
+/// Where there is a report, it has an end for each node, and its status is 0 only where each of them is up to date or made. The
+/// last told record of each built node is a 'done', and that node is done with its commands whatever power cut comes, if the
+/// disk keeps its model and no call of it has failed.
+pub fn run<R, D, E, S, P, B>(
+    rt: &R,
+    alloc: Global,
+    graph: &Graph,
+    conduct: &Conduct,
+    site: Site<D>,
+    banks: Vec<B>,
+    key: HashKey,
+    exec: &E,
+    say: &S,
+    place: &P,
+) -> (Result<Report, RunFault>, Closed<D>)
+where
+    R: Threads + Wait + Sync,
+    D: Disk + Drop + Send,
+    E: Exec<Receipt> + Sync,
+    S: Say + Sync,
+    P: Place + Sync,
+    B: Bank + Drop + Send,
+    ensures folded { result.1.site.state ≡ replay result.1.site.opening result.1.site.told }
+    ensures ends { IfOk result.0 (λ r. length r.ends.items ≡ length graph.now.nodes.items) }
+    ensures status { IfOk result.0 (λ r. r.status ≤ 2) }
+    ensures well { IfOk result.0 (λ r. r.status ≡ 0 → IsTrue (list_all ends_well r.ends.items)) }
+    ensures built { IfOk result.0 (λ r. (receipts : List Receipt) × AreThoseOf result.1.site.told receipts
+        × AreTrueOf result.1.site.told receipts (D.honest × (result.1.site.dead ≡ false)) (now (D.moments result.1.site.disk))
+        graph.now.names r.ends.items) }
+{
+    let board = match Board::new(alloc, graph) {
+        Ok(board) => board,
+        Err(_) => return (Err(RunFault::OutOfMemory), Closed::new(site)),
+    };
+    let flusher = Flusher {
+        site: Mutex::new(site),
+        board: Mutex::new(board),
+    };
+    let shop = Shop::new(graph, conduct, exec, say, place, key, flusher);
+    let (crew, site, board) = run_shop(rt, alloc, shop, banks);
+    let closed = Closed::new(site);
+    let report = closed.close(alloc, graph, &board, crew);
+    (report, closed)
+}

@@ -1,0 +1,116 @@
+//! What a worker brings home.
+ghost use Rattle.std.specs.Prelude.{◌≡◌, ◌≤◌, ◌++◌, Some, None, unwrap_or, IfSome};
+
+use crate::RunFault;
+use bd_flusher::Receipt;
+use std::alloc::Global;
+
+/// What one worker, or all of them, came to: the receipts that were gathered, the greatest status of the nodes, and the
+/// fault with which the first worker that met one ended.
+#[derive(Drop)]
+pub struct Shift {
+    pub receipts: Vec<Receipt>,
+    /// 2 where a recipe couldn't be expanded or the jobserver failed, else 1 where a target failed or couldn't be recorded.
+    pub status: u8,
+    pub fault: Option<RunFault>,
+    ghost in_range: { status ≤ 2 },
+}
+
+impl Shift {
+    pub(crate) fn new(alloc: Global) -> Shift
+        ensures status { result.status ≡ 0 }
+        ensures fault { result.fault ≡ None }
+    {
+        Shift {
+            receipts: Vec::new(alloc),
+            status: 0,
+            fault: None,
+        }
+    }
+
+    /// A node of the worker came to this status.
+    pub(crate) fn worsen(&mut self, status: u8)
+        requires { status ≤ 2 }
+        ensures least { self.old.status ≤ self.new.status }
+        ensures given { status ≤ self.new.status }
+        ensures rest { (self.new.receipts ≡ self.old.receipts) × (self.new.fault ≡ self.old.fault) }
+    {
+        if self.status < status {
+            self.status = status;
+        }
+    }
+
+    /// The worker met a fault. An earlier one counts.
+    pub(crate) fn meet(&mut self, fault: RunFault)
+        ensures fault { self.new.fault ≡ Some (unwrap_or self.old.fault fault) }
+        ensures rest { (self.new.receipts ≡ self.old.receipts) × (self.new.status ≡ self.old.status) }
+    {
+        if self.fault.is_none() {
+            self.fault = Some(fault);
+        }
+    }
+
+    /// Takes in what a further worker brings home. Faults count in the order of the workers.
+    pub(crate) fn add(&mut self, other: Shift)
+        ensures least { (self.old.status ≤ self.new.status) × (other.status ≤ self.new.status) }
+        ensures fault { IfSome self.old.fault (λ fault. self.new.fault ≡ Some fault) }
+        ensures receipts { self.new.fault ≡ None → self.new.receipts.items ≡ self.old.receipts.items ++ other.receipts.items }
+    {
+        let Shift {
+            mut receipts,
+            status,
+            fault,
+        } = other;
+        self.worsen(status);
+        if let Some(fault) = fault {
+            self.meet(fault);
+        }
+        if self.receipts.append(&mut receipts).is_err() {
+            self.meet(RunFault::OutOfMemory);
+        }
+    }
+}
+
+/// The receipts of one node.
+#[derive(Drop)]
+pub(crate) struct Kept {
+    pub(crate) begun: Option<Receipt>,
+    pub(crate) end: Option<Receipt>,
+}
+
+impl Kept {
+    pub(crate) fn new() -> Kept
+        ensures { result ≡ record { begun = None; end = None } }
+    {
+        Kept {
+            begun: None,
+            end: None,
+        }
+    }
+}
+
+impl Shift {
+    /// Makes room for the receipts of one node: to keep them takes no memory then.
+    pub(crate) fn make_room(&mut self) -> Result<(), RunFault>
+        ensures same { (self.new.status ≡ self.old.status) × (self.new.fault ≡ self.old.fault) }
+    {
+        self.receipts.reserve(2)?;
+        Ok(())
+    }
+
+    /// Keeps the receipts of one node.
+    pub(crate) fn keep(&mut self, kept: Kept) {
+        let Kept { begun, end } = kept;
+        self.keep_one(begun);
+        self.keep_one(end);
+    }
+
+    // There is room for it. Were there none, the closing report would miss the receipt and refuse the run.
+    fn keep_one(&mut self, receipt: Option<Receipt>) {
+        if let Some(receipt) = receipt {
+            if self.receipts.push(receipt).is_err() {
+                self.meet(RunFault::OutOfMemory);
+            }
+        }
+    }
+}

@@ -1,0 +1,291 @@
+//! A whole run with job slots from where MAKEFLAGS says.
+ghost use Rattle.std.specs.Prelude.{◌≡◌, ◌≤◌, List, false, length, IfOk, OnErr, IsTrue};
+ghost use Rattle.std.specs.List.{list_all};
+ghost use Rattle.mk_rules.specs.declared.graph.Graph.{Graph};
+ghost use Rattle.st_disk.specs.Moments.{now};
+ghost use Rattle.st_records.specs.State.{replay};
+ghost use Rattle.bd_flusher.specs.declared.site.receipt.Receipt.{Receipt};
+ghost use Rattle.jb_runner.specs.Agreement.{AreThoseOf};
+ghost use Rattle.jb_runner.specs.Closing.{AreTrueOf};
+ghost use Rattle.jb_runner.specs.Report.{ends_well, ComesTo};
+
+use crate::serving::{Source, ends_of_pool, is_one_word, served_flags, source_of};
+use crate::{Closed, Conduct, Makeflags, News, Place, Report, RunFault, Say, run};
+use bd_flusher::{Receipt, Site};
+use bd_lists::Exec;
+use jb_slots::{Banks, MemoryBank, MemoryPool};
+use mk_rules::Graph;
+use st_disk::Disk;
+use st_records::HashKey;
+use std::alloc::{AllocError, Global};
+use std::sync::Wait;
+use std::thread::Threads;
+
+/// What a run is given beside its slots.
+#[derive(Drop)]
+pub struct Parts<'a, E, S, P> {
+    pub graph: &'a Graph,
+    pub key: HashKey,
+    pub exec: &'a E,
+    pub say: &'a S,
+    pub place: &'a P,
+}
+
+/// What is known of job slots before a run.
+#[derive(Clone, Copy)]
+pub struct Slotting<'a> {
+    /// As it came, empty where there is none.
+    pub makeflags: &'a [u8],
+    /// 1 to 256.
+    pub workers: usize,
+    /// The absolute path of the pool that dmk would serve; empty where it can't be told.
+    pub pool: &'a [u8],
+}
+
+/// What a run comes to: its report or fault, and the closed site.
+type Came<D> = (Result<Report, RunFault>, Closed<D>);
+
+fn no_memory<D: Disk + Drop>(site: Site<D>) -> Came<D>
+    ensures { (graph : Graph) → ComesTo D.honest D.moments graph result.0 result.1.site }
+{
+    (Err(RunFault::OutOfMemory), Closed::new(site))
+}
+
+fn memory_pool(alloc: Global, count: usize) -> Result<MemoryPool, AllocError> {
+    let tokens = vec![in alloc; b'+'; count]?;
+    MemoryPool::new(alloc, &tokens)
+}
+
+/// One end of the pool for each worker.
+fn memory_ends<'a, R: Wait>(
+    rt: &'a R,
+    alloc: Global,
+    pool: &'a MemoryPool,
+    workers: usize,
+    nodes: usize,
+) -> Result<Vec<MemoryBank<'a, R>>, AllocError> {
+    let mut ends = Vec::with_capacity(alloc, workers)?;
+    for _ in 0..workers {
+        ends.push(pool.end(rt, alloc, nodes)?)?;
+    }
+    Ok(ends)
+}
+
+/// A run whose slots are the implicit one and so many of a pool in memory.
+fn run_in_memory<R, D, E, S, P>(
+    rt: &R,
+    alloc: Global,
+    parts: &Parts<'_, E, S, P>,
+    conduct: &Conduct,
+    site: Site<D>,
+    workers: usize,
+    count: usize,
+) -> Came<D>
+where
+    R: Threads + Wait + Sync,
+    D: Disk + Drop + Send,
+    E: Exec<Receipt> + Sync,
+    S: Say + Sync,
+    P: Place + Sync,
+    ensures { ComesTo D.honest D.moments parts.now.graph.now result.0 result.1.site }
+{
+    let Ok(pool) = memory_pool(alloc, count) else {
+        return no_memory(site);
+    };
+    let Ok(ends) = memory_ends(rt, alloc, &pool, workers, parts.graph.len()) else {
+        return no_memory(site);
+    };
+    run(
+        rt,
+        alloc,
+        parts.graph,
+        conduct,
+        site,
+        ends,
+        parts.key,
+        parts.exec,
+        parts.say,
+        parts.place,
+    )
+}
+
+/// A run over the pool of a path, if all its ends can be opened; else the site comes back.
+fn run_over_pool<R, D, E, S, P, K>(
+    rt: &R,
+    alloc: Global,
+    parts: &Parts<'_, E, S, P>,
+    conduct: &Conduct,
+    site: Site<D>,
+    workers: usize,
+    banks: &K,
+    path: &[u8],
+) -> Result<Came<D>, Site<D>>
+where
+    R: Threads + Wait + Sync,
+    D: Disk + Drop + Send,
+    E: Exec<Receipt> + Sync,
+    S: Say + Sync,
+    P: Place + Sync,
+    K: Banks,
+    K::End: Drop + Send,
+    ensures { IfOk result (λ came. ComesTo D.honest D.moments parts.now.graph.now came.0 came.1.site) }
+{
+    match ends_of_pool(alloc, banks, path, workers, parts.graph.len()) {
+        Ok(Some(ends)) => Ok(run(
+            rt,
+            alloc,
+            parts.graph,
+            conduct,
+            site,
+            ends,
+            parts.key,
+            parts.exec,
+            parts.say,
+            parts.place,
+        )),
+        Ok(None) => Err(site),
+        Err(_) => Ok(no_memory(site)),
+    }
+}
+
+/// Whether dmk serves a pool for its workers and recipes now, under a path that can be told to them.
+fn serves<K: Banks>(
+    alloc: Global,
+    banks: &mut K,
+    slotting: Slotting<'_>,
+) -> Result<bool, AllocError>
+    ensures none { IfOk result (λ made. made ≡ false → K.serves banks.old ≡ false → K.serves banks.new ≡ false) }
+    ensures err { OnErr result (K.serves banks.old ≡ false → K.serves banks.new ≡ false) }
+{
+    if slotting.pool.is_empty() || !is_one_word(slotting.pool) {
+        return Ok(false);
+    }
+    let further = slotting.workers.saturating_sub(1);
+    banks.serve(
+        alloc,
+        slotting.pool,
+        u8::try_from(further).unwrap_or(u8::MAX),
+    )
+}
+
+/// A run that serves a pool, or, where none can be served, has one in memory for its own workers.
+fn run_as_server<R, D, E, S, P, K>(
+    rt: &R,
+    alloc: Global,
+    parts: &Parts<'_, E, S, P>,
+    conduct: Conduct,
+    site: Site<D>,
+    slotting: Slotting<'_>,
+    banks: &mut K,
+) -> Came<D>
+where
+    R: Threads + Wait + Sync,
+    D: Disk + Drop + Send,
+    E: Exec<Receipt> + Sync,
+    S: Say + Sync,
+    P: Place + Sync,
+    K: Banks,
+    K::End: Drop + Send,
+    ensures came { ComesTo D.honest D.moments parts.now.graph.now result.0 result.1.site }
+    ensures let_go { K.serves banks.old ≡ false → K.serves banks.new ≡ false }
+{
+    let mut conduct = conduct;
+    let workers = slotting.workers;
+    let Ok(flags) = served_flags(alloc, workers, slotting.pool) else {
+        return no_memory(site);
+    };
+    let mut site = site;
+    match serves(alloc, banks, slotting) {
+        Ok(true) => {
+            conduct.makeflags = Makeflags::Set(flags);
+            let came = run_over_pool(
+                rt,
+                alloc,
+                parts,
+                &conduct,
+                site,
+                workers,
+                banks,
+                slotting.pool,
+            );
+            banks.close(slotting.pool);
+            match came {
+                Ok(came) => return came,
+                Err(back) => site = back,
+            }
+        }
+        Ok(false) => {}
+        Err(_) => return no_memory(site),
+    }
+    parts.say.tell(News::NotServed);
+    conduct.makeflags = Makeflags::Removed;
+    run_in_memory(
+        rt,
+        alloc,
+        parts,
+        &conduct,
+        site,
+        workers,
+        workers.saturating_sub(1),
+    )
+}
+
+/// Makes what the graph's goals need, with job slots from where MAKEFLAGS says: as the client of a FIFO, as the server of one,
+/// or with the implicit slot, by one worker: another would write that it begins a recipe, and then wait. What recipes get of MAKEFLAGS follows from that, whatever `conduct` says of it. A pool that is
+/// served for the run is let go at its end.
+///
+/// The report and the closed site are as those of `run`.
+pub fn run_slotted<R, D, E, S, P, K>(
+    rt: &R,
+    alloc: Global,
+    parts: &Parts<'_, E, S, P>,
+    conduct: Conduct,
+    site: Site<D>,
+    slotting: Slotting<'_>,
+    banks: &mut K,
+) -> (Result<Report, RunFault>, Closed<D>)
+where
+    R: Threads + Wait + Sync,
+    D: Disk + Drop + Send,
+    E: Exec<Receipt> + Sync,
+    S: Say + Sync,
+    P: Place + Sync,
+    K: Banks,
+    K::End: Drop + Send,
+    ensures folded { result.1.site.state ≡ replay result.1.site.opening result.1.site.told }
+    ensures ends { IfOk result.0 (λ r. length r.ends.items ≡ length parts.now.graph.now.nodes.items) }
+    ensures status { IfOk result.0 (λ r. r.status ≤ 2) }
+    ensures well { IfOk result.0 (λ r. r.status ≡ 0 → IsTrue (list_all ends_well r.ends.items)) }
+    ensures built { IfOk result.0 (λ r. (receipts : List Receipt) × AreThoseOf result.1.site.told receipts
+        × AreTrueOf result.1.site.told receipts (D.honest × (result.1.site.dead ≡ false)) (now (D.moments result.1.site.disk))
+        parts.now.graph.now.names r.ends.items) }
+    ensures let_go { K.serves banks.old ≡ false → K.serves banks.new ≡ false }
+{
+    let mut conduct = conduct;
+    let mut site = site;
+    let source = source_of(slotting.makeflags, slotting.workers);
+    if let Source::Server = source {
+        return run_as_server(rt, alloc, parts, conduct, site, slotting, banks);
+    }
+    if let Source::Client(path) = source {
+        conduct.makeflags = Makeflags::HandedOn;
+        match run_over_pool(
+            rt,
+            alloc,
+            parts,
+            &conduct,
+            site,
+            slotting.workers,
+            banks,
+            path,
+        ) {
+            Ok(came) => return came,
+            Err(back) => site = back,
+        }
+    }
+    if source != Source::Alone {
+        parts.say.tell(News::SlotsUnused);
+    }
+    conduct.makeflags = Makeflags::Removed;
+    run_in_memory(rt, alloc, parts, &conduct, site, 1, 0)
+}
