@@ -1,6 +1,6 @@
 #!/bin/bash
-# Proves and builds the programs into bin/, lists the example's state with the new dmk_state, and asks the new dmk what a
-# build of the example would run.
+# Proves and builds the programs into bin/, lists the example's state with the new dmk_state, asks the new dmk what a build of
+# the example would run, and builds it: from nothing, again, and after a header was touched.
 set -eu
 cd "$(dirname "$0")/.."
 mkdir -p bin
@@ -25,7 +25,15 @@ touch -d '2000-01-01 00:00:00' ./*
 echo "\$ cd bin/hello"
 echo "\$ ../dmk -n"
 ../dmk -n
-echo "\$ touch parse.h"
-touch parse.h
-echo "\$ ../dmk -n"
-../dmk -n
+
+rm .make.state main.o parse.o hello
+run() {
+    echo "\$ $*"
+    "$@"
+}
+run ../dmk
+run ./hello 2 3
+run ../dmk
+sleep 0.1
+run touch parse.h
+run ../dmk

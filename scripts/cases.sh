@@ -6,8 +6,11 @@ set -u -o pipefail
 cd "$(dirname "$0")/.." || exit 2
 root=$PWD
 passed=0 failed=0
-work=$(mktemp -d) || exit 2
+work=$(realpath "$(mktemp -d)") || exit 2
 trap 'rm -rf "$work"' EXIT
+# Names are sorted by bytes, and nothing is taken from a make that this runs under.
+export LC_ALL=C
+unset MAKEFLAGS MAKELEVEL MFLAGS KEEP_STATE SUNPRO_DEPENDENCIES
 for program in crates/*/out; do
     PATH=$root/$program:$PATH
 done

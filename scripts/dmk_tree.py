@@ -1,18 +1,20 @@
 """Writes a tree of files for bench_dmk.sh: dmk_tree.py flat|layers|hidden|chain TARGETS FOLDER
 
-The folder gets a makefile for dmk and for GNU make, the state of a build that was whole, a build.ninja, and all files, of
-one time. What dmk has as hidden prerequisites in its state, make reads as prerequisites from a file that is included by
-GNUmakefile alone, as compilers write them.
+The folder gets a makefile for dmk and for GNU make, a build.ninja, all files, of one time, and the state and ninja's log (of
+version 5, as ninja 1.11 writes it) of a build that was whole. What dmk has as hidden prerequisites in its state, make reads
+as prerequisites from GNUmakefile, as compilers write them, and ninja from its rules.
   flat    each target is made from a source of its own
   layers  layers of a thousand targets, each made from ten of the layer below, the lowest from sources
   hidden  as flat, and each target has read 20 of a thousand headers
   chain   each target is made from the next one, the last from a source; only the last has a recipe
 """
 import os
+import struct
 import sys
 
 from state_file import batch, done, header
 
+TIME = 1_700_000_000 * 10**9
 HEADERS = [f"h{number}.h" for number in range(1000)]
 
 
@@ -72,6 +74,30 @@ def write_state(kind, nodes):
         out.write(b"\0")
 
 
+def ninja_hash(command):
+    """How ninja's log names a command: 64 bits of MurmurHash2, as Austin Appleby published it, with ninja's seed."""
+    factor, mask, text = 0xC6A4A7935BD1E995, 2**64 - 1, command.encode()
+    found = 0xDECAFBADDECAFBAD ^ (len(text) * factor & mask)
+    whole = len(text) // 8 * 8
+    for (word,) in struct.iter_unpack("<Q", text[:whole]):
+        word = word * factor & mask
+        word ^= word >> 47
+        found = (found ^ (word * factor & mask)) * factor & mask
+    if whole < len(text):
+        found = (found ^ int.from_bytes(text[whole:], "little")) * factor & mask
+    found = (found ^ found >> 47) * factor & mask
+    return found ^ found >> 47
+
+
+def write_ninja_log(kind, nodes):
+    count = len(nodes)
+    with open(".ninja_log", "w") as out:
+        out.write("# ninja log v5\n")
+        for number, (target, _, _) in enumerate(nodes):
+            if has_recipe(kind, number, count):
+                out.write(f"0\t1\t{TIME}\t{target}\t{ninja_hash(f'true {target}'):x}\n")
+
+
 def write_ninja(kind, nodes):
     count = len(nodes)
     with open("build.ninja", "w") as out:
@@ -93,7 +119,7 @@ def write_files(nodes):
     for name in sorted(names):
         with open(name, "w"):
             pass
-        os.utime(name, ns=(1_700_000_000 * 10**9, 1_700_000_000 * 10**9))
+        os.utime(name, ns=(TIME, TIME))
 
 
 if __name__ == "__main__":
@@ -105,3 +131,4 @@ if __name__ == "__main__":
     write_makefiles(kind, made)
     write_state(kind, made)
     write_ninja(kind, made)
+    write_ninja_log(kind, made)

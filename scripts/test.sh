@@ -21,8 +21,10 @@ run_part rt ci
 if [ "$failed" -eq 0 ]; then
     run_part bash scripts/must_not_compile.sh
     run_part bash scripts/cases.sh
+    run_part bash scripts/kill_runs.sh
     run_part bash scripts/guarantees.sh
     run_part bash scripts/assumptions.sh
+    run_part bash scripts/man.sh
 fi
 echo "wall time: $((SECONDS - started)) s"
 echo "$passed passed, $failed failed"

@@ -1,10 +1,11 @@
 //! The words of the command line, read by `clap`.
 ghost use Rattle.std.specs.Prelude.{◌≡◌};
 
+use bd_lists::Variable;
 use byte_strings::{ByteString, ByteStrings};
 use clap::error::ErrorKind;
 use clap::{Arg, ArgAction, ArgMatches, Command};
-use dmk_drive::{MAX_WORKERS, Options, Variable};
+use dmk_drive::{MAX_WORKERS, Options};
 use std::alloc::{AllocError, Global};
 use std::{env, io};
 use thiserror::Error;
@@ -123,9 +124,9 @@ fn with_values(alloc: Global, command: Command<'_>) -> Result<Command<'_>, Alloc
         'j',
         "workers",
         "N",
-        "Run up to N recipes at once, 1 to 64",
+        "Run up to N recipes at once, 1 to 256",
     )
-    .value_parser(clap::value_parser!(u8).range(1..=i64::from(MAX_WORKERS)))
+    .value_parser(clap::value_parser!(u16).range(1..=i64::from(MAX_WORKERS)))
     .default_value("2");
     command.arg(makefile)?.arg(state)?.arg(workers)
 }
@@ -194,7 +195,7 @@ fn options_of(alloc: Global, found: &ArgMatches<'_>) -> Result<Options, AllocErr
     Ok(Options {
         makefile: makefile_of(alloc, found)?,
         state: String::from_str(alloc, found.get_str("state").unwrap_or(DEFAULT_STATE))?,
-        workers: found.get_one::<u8>("workers").unwrap_or(2),
+        workers: found.get_one::<u16>("workers").unwrap_or(2),
         goes_on: found.get_count("goes_on") > 0,
         is_dry: found.get_count("dry") > 0,
         is_silent: found.get_count("silent") > 0,

@@ -1,6 +1,6 @@
 //! The variables of the environment, as bytes.
+use bd_lists::Variable;
 use byte_strings::ByteString;
-use dmk_drive::Variable;
 use std::alloc::{AllocError, Global};
 use std::env::FillError;
 use std::rt::Env;

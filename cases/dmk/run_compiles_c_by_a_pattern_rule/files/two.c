@@ -1,0 +1,6 @@
+#include "both.h"
+
+int two(void)
+{
+    return 2;
+}

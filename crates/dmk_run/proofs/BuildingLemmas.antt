@@ -1,0 +1,70 @@
+-- What a run leaves, by what its report says of the closed store.
+use Rattle.std.proofs.Common.{◌≡◌, ◌⊎◌, ℕ, ◌≤◌, Bool, true, false, List, Result, Ok, Err, IfOk, IsOk, IsTrue, refl, sym, subst, inl, inr, arith}
+use Rattle.std.specs.List.{list_all}
+use Rattle.std.proofs.lemmas.Result.{IfOk-at_ok}
+use Rattle.st_disk.specs.Crash.{Sides}
+use Rattle.st_disk.specs.Moments.{Moments, now}
+use Rattle.st_records.specs.declared.record.Record.{Record}
+use Rattle.st_records.specs.State.{StateMap}
+use Rattle.st_recovery.specs.Stored.{AllRecover}
+use Rattle.mk_rules.specs.declared.graph.Graph.{Graph}
+use Rattle.bd_lists.specs.declared.end.End.{End}
+use Rattle.bd_flusher.specs.Site.{Facts}
+use Rattle.bd_flusher.specs.declared.site.receipt.Receipt.{Receipt}
+use Rattle.jb_runner.specs.declared.fault.RunFault.{RunFault}
+use Rattle.jb_runner.specs.declared.report.Report.{Report}
+use Rattle.jb_runner.specs.Agreement.{AreThoseOf}
+use Rattle.jb_runner.specs.Closing.{IsBuilt, IsNamed, IsTrueOf, AreTrueOf}
+use Rattle.jb_runner.specs.Report.{ends_well}
+use Rattle.dmk_run.specs.Known.{IsTold}
+use Rattle.dmk_run.specs.Made.{IsMade}
+
+true_of : {told : List Record} {receipts : List Receipt} {wide narrow : Type 0} {sides : Sides} {name : List ℕ} → (narrow → wide) → IsTrueOf told receipts wide sides name → IsTrueOf told receipts narrow sides name
+true_of implies is = record {
+  note = is.note;
+  last = is.last;
+  done = is.done;
+  receipt = is.receipt;
+  gathered = is.gathered;
+  notes = is.notes;
+  on_disk = λ sound. is.on_disk (implies sound);
+}
+
+-- under a premise that says more it is true too
+are_true_of : {told : List Record} {receipts : List Receipt} {wide narrow : Type 0} {sides : Sides} (names : List (List ℕ)) (ends : List End) → (narrow → wide) → AreTrueOf told receipts wide sides names ends → AreTrueOf told receipts narrow sides names ends
+are_true_of names ends implies are = λ node built.
+    let (name, named, is) = are node built in (name, named, true_of implies is)
+
+-- the report of a site that isn't dead, as it is told of the store that comes back
+pub is_made : {D : Type 0} (honest : Type 0) (moments : D → Moments) (graph : Graph) (keeping : Bool) (found : Result Report RunFault) (told : Result Report RunFault) (site : Facts D) (disk : D) (m : StateMap)
+    → IfOk found (λ r. (receipts : List Receipt) × AreThoseOf site.told receipts × AreTrueOf site.told receipts (honest × (site.dead ≡ false)) (now (moments site.disk)) graph.names r.ends.items)
+    → IfOk told (λ r. (given : Report) × (found ≡ Ok given) × IsTold graph keeping m given r)
+    → disk ≡ site.disk → (IsOk told → site.dead ≡ false) → (IsOk told → honest → AllRecover m (now (moments disk)))
+    → IfOk told (λ r. keeping ≡ true → IsMade graph honest (now (moments disk)) r.status r.ends.items)
+is_made {D} honest moments graph keeping found (Ok r) site disk m built (given, is, tells) same alive recovers = λ kept.
+    let said : (receipts : List Receipt) × AreThoseOf site.told receipts × AreTrueOf site.told receipts (honest × (site.dead ≡ false)) (now (moments site.disk)) graph.names given.ends.items =
+    IfOk-at_ok (λ (r : Report). (receipts : List Receipt) × AreThoseOf site.told receipts × AreTrueOf site.told receipts (honest × (site.dead ≡ false)) (now (moments site.disk)) graph.names r.ends.items) is built in
+    let (receipts, those, true_of_given) = said in
+    record {
+      told = site.told;
+      receipts = receipts;
+      are_those = those;
+      are_true = subst (λ (d : D). AreTrueOf site.told receipts honest (now (moments d)) graph.names r.ends.items) (sym same)
+          (subst (λ (e : List End). AreTrueOf site.told receipts honest (now (moments site.disk)) graph.names e) (sym tells.ends) (are_true_of graph.names given.ends.items (λ h. (h, alive refl)) true_of_given));
+      left = m;
+      recovers = recovers refl;
+      known = tells.known kept;
+    }
+is_made honest moments graph keeping found (Err fault) site disk m built tells same alive recovers = tt
+
+-- a status of 0 was 0
+zero_told : (old new : ℕ) → (new ≡ old) ⊎ ((old ≡ 0) × (new ≡ 1)) → new ≡ 0 → old ≡ 0
+zero_told old new (inl same) none = omega (arith, same, none)
+zero_told old new (inr (zero, one)) none = zero
+
+-- the ends of a report that is told are those of the run's
+pub well_told : (graph : Graph) (keeping : Bool) (m : StateMap) (found told : Result Report RunFault) → IfOk found (λ r. r.status ≡ 0 → IsTrue (list_all ends_well r.ends.items)) → IfOk told (λ r. (given : Report) × (found ≡ Ok given) × IsTold graph keeping m given r)
+    → IfOk told (λ r. r.status ≡ 0 → IsTrue (list_all ends_well r.ends.items))
+well_told graph keeping m found (Ok r) well (given, is, tells) = λ none.
+    subst (λ (e : List End). IsTrue (list_all ends_well e)) (sym tells.ends) (IfOk-at_ok (λ (g : Report). g.status ≡ 0 → IsTrue (list_all ends_well g.ends.items)) is well (zero_told given.status r.status tells.status none))
+well_told graph keeping m found (Err fault) well tells = tt

@@ -1,0 +1,68 @@
+-- What a run over a store says of a makefile.
+use Rattle.std.proofs.Common.{◌≡◌, ◌≢◌, ◌⊎◌, inl, inr, ℕ, ℤ, Bool, true, false, List, [], Option, Result, Ok, Err, IfOk, refl, sym, subst}
+use Rattle.std.specs.FinMap as map
+use Rattle.mk_reader.specs.declared.item.Item.{Item}
+use Rattle.st_disk.specs.Crash.{Sides}
+use Rattle.st_disk.specs.declared.which.Which.{Which}
+use Rattle.st_disk.specs.declared.which.Which.TheVariants as which
+use Rattle.st_records.specs.State.{StateMap}
+use Rattle.st_recovery.specs.Recovers.{Recovers, recovered}
+use Rattle.st_recovery.proofs.RecoversLemmas.{one_recovery}
+use Rattle.bd_lists.specs.declared.recipe.Variable.{Variable}
+use Rattle.dmk_drive.specs.Keeping.{keeps}
+use Rattle.dmk_drive.specs.Planned.{AreItems}
+use Rattle.dmk_run.specs.Made.{Makes, MakesItems}
+use Rattle.dmk_run.specs.declared.stop.Stop.{Stop}
+
+same_state : (m n : StateMap) → recovered m ≡ recovered n → m ≡ n
+same_state m n e = cc
+
+no_value : false ≡ true → ⊥
+no_value is = cc
+
+-- two empty sides recover the empty state
+empty_state : (a b : List ℕ) (m : StateMap) → a ≡ [] → b ≡ [] → Recovers a b m → m ≡ map.empty
+empty_state a b m is_a is_b found =
+    same_state m map.empty (one_recovery [] [] (recovered m) (recovered map.empty)
+    (subst (λ x. Recovers x [] m) is_a (subst (λ y. Recovers a y m) is_b found)) (inl (tt, tt, refl)))
+
+-- what is so of a result is so of its value
+pub at_ok : {A E : Type 0} (P : A → Type 0) (got : Result A E) (x : A) → got ≡ Ok x → IfOk got P → P x
+at_ok P got x is found = subst (λ g. IfOk g P) is found
+
+module _ (definitions environment : List Variable) (targets : List (List ℕ)) (honest : Type 0) (stamps : List ℕ → Option ℤ) where
+  -- over a disk in memory that was empty nothing of a state is known
+  module _ (items : List Item) (memory_honest : Type 0) (memory : Which → List ℕ) (works : memory_honest)
+      (a : memory which.A ≡ []) (b : memory which.B ≡ []) (memory_sides : Sides) (disk_honest : Type 0) (seen : Which → List ℕ) (sides : Sides) where
+    pub without_state : (status : ℕ) →
+        MakesItems definitions environment targets honest stamps items true false memory_honest memory status memory_sides →
+        MakesItems definitions environment targets honest stamps items false false disk_honest seen status sides
+    without_state status run = record {
+      state = run.state;
+      is_state = empty_state (memory which.A) (memory which.B) run.state a b (run.is_state works);
+      graph = run.graph;
+      is_graph = run.is_graph;
+      ends = run.ends;
+      all = run.all;
+      well = run.well;
+      made = λ keeping. absurd (no_value keeping);
+    }
+
+    pub found_without_state : (keeping : Bool) → false ≡ keeping → (got : Result ℕ Stop) →
+        IfOk got (λ s. MakesItems definitions environment targets honest stamps items true false memory_honest memory s memory_sides) →
+        IfOk got (λ s. MakesItems definitions environment targets honest stamps items keeping keeping disk_honest seen s sides)
+    found_without_state keeping is (Ok status) run =
+        subst (λ k. MakesItems definitions environment targets honest stamps items k k disk_honest seen status sides) is
+        (without_state status run)
+    found_without_state keeping is (Err stop) run = tt
+
+module _ {D : Type 0} (Items : List Item → Type 0) (environment : List Variable) (items : List Item) (are : Items items) (old new : D) where
+  by_keeping : (keeping : Bool) → keeping ≡ keeps environment items → (keeps environment items ≡ false → new ≡ old) →
+      (new ≡ old) ⊎ ((items : List Item) × Items items × (keeps environment items ≡ true))
+  by_keeping true is untouched = inr (items, are, sym is)
+  by_keeping false is untouched = inl (untouched (sym is))
+
+  -- a disk is as it was, or a makefile keeps state
+  pub untouched_unless_kept : (keeps environment items ≡ false → new ≡ old) →
+      (new ≡ old) ⊎ ((items : List Item) × Items items × (keeps environment items ≡ true))
+  untouched_unless_kept = by_keeping (keeps environment items) refl

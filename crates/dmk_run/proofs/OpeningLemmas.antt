@@ -1,0 +1,53 @@
+-- What an opening and a compaction after it leave, and how their refusals are told.
+use Rattle.std.proofs.Common.{◌⊎◌, ℕ, List, refl, inl, inr}
+use Rattle.std.proofs.Math.Logic.{∥∥₁_map}
+use Rattle.std.specs.FinMap as map
+use Rattle.st_disk.specs.declared.which.Which.{Which}
+use Rattle.st_disk.specs.declared.which.Which.TheVariants as which
+use Rattle.st_disk.specs.Crash.{Sides, IsCrashImage}
+use Rattle.st_disk.specs.Moments.{Moments, Throughout}
+use Rattle.st_disk.proofs.MomentLaws.{then_goes, throughout_map}
+use Rattle.st_records.specs.State.{StateMap}
+use Rattle.st_file.specs.Side.{IsVoid}
+use Rattle.st_recovery.specs.Recovers.{Recovers}
+use Rattle.st_recovery.specs.Stored.{AllRecover, ArePossibleOrNew}
+use Rattle.bd_flusher.specs.declared.fault.FlushFault.{FlushFault}
+use Rattle.bd_flusher.specs.declared.fault.FlushFault.TheVariants as refusals
+use Rattle.jb_runner.specs.declared.fault.RunFault.{RunFault}
+use Rattle.jb_runner.specs.declared.fault.RunFault.TheVariants as run_faults
+use Rattle.dmk_run.specs.Opened.{RecoversAs, ArePossibleOrRecover, IsNotCompacted, TellsNotCompacted}
+
+-- ---- what a power cut may leave
+
+possible_or_as : (seen : Which → List ℕ) (start : Sides) (a b : List ℕ) → (IsCrashImage start.a a × IsCrashImage start.b b) ⊎ (IsVoid (seen which.A) × (IsVoid (seen which.B) × Recovers a b map.empty))
+    → (IsCrashImage start.a a × IsCrashImage start.b b) ⊎ RecoversAs seen a b
+possible_or_as seen start a b (inl possible) = inl possible
+possible_or_as seen start a b (inr (void_a, (void_b, recovers))) = inr (map.empty, inl (void_a, void_b, refl), recovers)
+
+-- an opening
+pub opened_so : (seen : Which → List ℕ) (start : Sides) {m0 m1 : Moments} → Throughout m0 m1 (ArePossibleOrNew (seen which.A) (seen which.B) start) → Throughout m0 m1 (ArePossibleOrRecover seen start)
+opened_so seen start opened =
+    throughout_map opened (λ sides has. λ a b is_a is_b. ∣ possible_or_as seen start a b (has a b is_a is_b) ∣₁)
+
+-- and then a compaction of the state that was found
+pub then_compacted : (seen : Which → List ℕ) (start : Sides) {m0 m1 m2 : Moments} (m : StateMap) → Throughout m0 m1 (ArePossibleOrNew (seen which.A) (seen which.B) start) → Recovers (seen which.A) (seen which.B) m
+    → Throughout m1 m2 (AllRecover m) → Throughout m0 m2 (ArePossibleOrRecover seen start)
+then_compacted seen start m opened found compacted =
+    then_goes (opened_so seen start opened) (throughout_map compacted (λ sides has. λ a b is_a is_b. ∥∥₁_map (has a b is_a is_b) (λ r. inr (m, found, r))))
+
+-- ---- refusals
+
+not_compacted : {P Q : Type 0} (fault : FlushFault) → (P → Q) → IsNotCompacted P fault → IsNotCompacted Q fault
+not_compacted refusals.Device implies why = tt
+not_compacted refusals.OutOfMemory implies why = implies why
+not_compacted refusals.Full implies why = implies why
+not_compacted refusals.OldVersion implies why = implies why
+not_compacted refusals.Dead implies why = absurd why
+not_compacted (refusals.OutOfTurn ticket turn) implies why = absurd why
+not_compacted (refusals.Unknown ticket) implies why = absurd why
+
+-- what is so of the side that has to change, in other words
+pub told_not_compacted : {P Q : Type 0} (fault : RunFault) → (P → Q) → TellsNotCompacted P fault → TellsNotCompacted Q fault
+told_not_compacted (run_faults.Flush fault) implies why = not_compacted fault implies why
+told_not_compacted run_faults.OutOfMemory implies why = absurd why
+told_not_compacted run_faults.Start implies why = absurd why

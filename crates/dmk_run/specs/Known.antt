@@ -1,0 +1,30 @@
+-- What a state knows of the targets of a graph. Own.
+use Rattle.std.specs.Prelude.{◌≡◌, ◌⊎◌, ℕ, Bool, true, List, Some, IsSome, slice_get}
+use Rattle.std.specs.FinMap as map
+use Rattle.mk_graph.specs.Numbering.{name_at}
+use Rattle.mk_rules.specs.declared.graph.Graph.{Graph}
+use Rattle.mk_rules.specs.declared.graph.Node.{Node}
+use Rattle.st_records.specs.declared.record.Entry.{Entry}
+use Rattle.st_records.specs.declared.record.Phase.TheVariants as phases
+use Rattle.st_records.specs.State.{StateMap}
+use Rattle.jb_runner.specs.declared.report.Report.{Report}
+
+-- the state knows the target as done
+abbrev pub IsKnownDone : StateMap → (target : List ℕ) → Type 0
+IsKnownDone m target = (entry : Entry) × (map.get m target ≡ Some entry) × (entry.phase ≡ phases.Done)
+
+-- so it knows this node, if it has a recipe
+abbrev pub IsNodeKnownDone : Graph → StateMap → (node : ℕ) → Type 0
+IsNodeKnownDone graph m node =
+    (it : Node) → slice_get graph.nodes.items node ≡ Some it → IsSome it.recipe → IsKnownDone m (name_at graph.names node)
+
+-- and so each node of the graph that has one
+abbrev pub AreKnownDone : Graph → StateMap → Type 0
+AreKnownDone graph m = (node : ℕ) → IsNodeKnownDone graph m node
+
+-- a report as it is told of a closed store: that of the run, but that where state is kept a status of 0 which its state doesn't
+-- bear out becomes 1
+pub record IsTold (graph : Graph) (keeping : Bool) (m : StateMap) (given told : Report) : Type 0 where
+  pub ends : told.ends.items ≡ given.ends.items
+  pub status : (told.status ≡ given.status) ⊎ ((given.status ≡ 0) × (told.status ≡ 1))
+  pub known : keeping ≡ true → told.status ≡ 0 → AreKnownDone graph m

@@ -1,0 +1,56 @@
+-- What a run leaves on its disk, where it ends with a report.
+use Rattle.std.specs.Prelude.{◌≡◌, ℕ, ℤ, Bool, true, List, Option, length, IsTrue}
+use Rattle.std.specs.List.{list_all}
+use Rattle.mk_reader.specs.declared.item.Item.{Item}
+use Rattle.mk_rules.specs.declared.graph.Graph.{Graph}
+use Rattle.st_disk.specs.Crash.{Sides}
+use Rattle.st_disk.specs.declared.which.Which.{Which}
+use Rattle.st_records.specs.declared.record.Record.{Record}
+use Rattle.st_records.specs.State.{StateMap}
+use Rattle.st_recovery.specs.Stored.{AllRecover}
+use Rattle.bd_lists.specs.declared.end.End.{End}
+use Rattle.bd_lists.specs.declared.recipe.Variable.{Variable}
+use Rattle.bd_flusher.specs.declared.site.receipt.Receipt.{Receipt}
+use Rattle.jb_runner.specs.Agreement.{AreThoseOf}
+use Rattle.jb_runner.specs.Closing.{AreTrueOf}
+use Rattle.jb_runner.specs.Report.{ends_well}
+use Rattle.dmk_drive.specs.Planned.{AreItems, IsGraphOf, IsStateOn}
+use Rattle.dmk_drive.specs.Keeping.{keeps}
+use Rattle.dmk_run.specs.Known.{AreKnownDone}
+
+-- how the nodes of a graph ended, which is true of what the disk holds: workers gathered the receipts of all that was told, each
+-- once, among them that of the 'done' of each node that ended as built, and where the disk keeps its model every pair of crash
+-- images recovers one state, and in every pair the node is done with that record's commands. At status 0 that state knows each
+-- node that has a recipe as done
+pub record IsMade (graph : Graph) (sound : Type 0) (sides : Sides) (status : ℕ) (ends : List End) : Type 0 where
+  pub told : List Record
+  pub receipts : List Receipt
+  pub are_those : AreThoseOf told receipts
+  pub are_true : AreTrueOf told receipts sound sides graph.names ends
+  pub left : StateMap
+  pub recovers : sound → AllRecover left sides
+  pub known : status ≡ 0 → AreKnownDone graph left
+
+-- so it is of some ends of the graph of these items, for the targets that are named, by the state that the disk recovers, if it
+-- is stored there. Each node has one, and at status 0 each is up to date or was made. Where no state is kept nothing is said of
+-- what the disk holds then
+pub record MakesItems (definitions environment : List Variable) (targets : List (List ℕ)) (honest : Type 0)
+    (stamps : List ℕ → Option ℤ) (items : List Item) (stored keeping : Bool) (disk_honest : Type 0) (seen : Which → List ℕ)
+    (status : ℕ) (sides : Sides) : Type 0 where
+  pub state : StateMap
+  pub is_state : IsStateOn stored disk_honest seen state
+  pub graph : Graph
+  pub is_graph : IsGraphOf definitions environment targets honest stamps items state graph
+  pub ends : List End
+  pub all : length ends ≡ length graph.nodes.items
+  pub well : status ≡ 0 → IsTrue (list_all ends_well ends)
+  pub made : keeping ≡ true → IsMade graph disk_honest sides status ends
+
+-- so it is for the items of a makefile
+pub record Makes (Answers : List ℕ → Option (List ℕ) → Type 0) (Absent : List ℕ → Type 0) (named : Option (List ℕ))
+    (definitions environment : List Variable) (targets : List (List ℕ)) (honest : Type 0) (stamps : List ℕ → Option ℤ)
+    (disk_honest : Type 0) (seen : Which → List ℕ) (status : ℕ) (sides : Sides) : Type 0 where
+  pub items : List Item
+  pub are_items : AreItems Answers Absent named items
+  pub made : MakesItems definitions environment targets honest stamps items (keeps environment items) (keeps environment items)
+      disk_honest seen status sides

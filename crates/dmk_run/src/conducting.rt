@@ -1,0 +1,60 @@
+//! How a run goes, by the words of the command line and the makefile.
+
+ghost use Rattle.std.specs.Prelude.{◌≡◌, ◌||◌, if◌then◌else◌, string_bytes, IfOk};
+ghost use Rattle.jb_runner.specs.declared.variables.Makeflags.TheVariants as flags;
+
+use bd_lists::Variable;
+use byte_strings::ByteString;
+use jb_runner::{Conduct, Makeflags};
+use mk_rules::Settings;
+use std::alloc::{AllocError, Global};
+
+/// What the words of the command line ask of a run, beside makefile and targets.
+#[derive(Drop)]
+pub struct Wishes {
+    /// The name of the state's side A.
+    pub state: String,
+    pub workers: usize,
+    pub goes_on: bool,
+    pub is_silent: bool,
+    pub ignores_statuses: bool,
+}
+
+impl Wishes {
+    /// How many recipes may run at once.
+    pub(crate) fn workers(&self, settings: &Settings) -> usize
+        ensures { result ≡ (if settings.now.has_one_worker then 1 else self.now.workers) }
+    {
+        if settings.has_one_worker {
+            1
+        } else {
+            self.workers
+        }
+    }
+
+    /// How the run goes. What recipes get of MAKEFLAGS is said when the job slots are known.
+    pub(crate) fn conduct(
+        &self,
+        alloc: Global,
+        settings: &Settings,
+        keeps_state: bool,
+        definitions: Vec<Variable>,
+    ) -> Result<Conduct, AllocError>
+        ensures state { IfOk result (λ c. (c.keeps_state ≡ keeps_state) × (c.state_name ≡ string_bytes self.now.state)) }
+        ensures goes_on { IfOk result (λ c. c.goes_on ≡ self.now.goes_on) }
+        ensures ignores { IfOk result (λ c. c.ignores_statuses ≡ self.now.ignores_statuses || settings.now.ignores_statuses) }
+        ensures silent { IfOk result (λ c. c.prints_no_lines ≡ self.now.is_silent || settings.now.prints_no_lines) }
+        ensures definitions { IfOk result (λ c. c.definitions ≡ definitions) }
+        ensures flags { IfOk result (λ c. c.makeflags ≡ flags.Removed) }
+    {
+        Ok(Conduct {
+            keeps_state,
+            goes_on: self.goes_on,
+            ignores_statuses: self.ignores_statuses || settings.ignores_statuses,
+            prints_no_lines: self.is_silent || settings.prints_no_lines,
+            definitions,
+            makeflags: Makeflags::Removed,
+            state_name: ByteString::from_slice(alloc, self.state.as_bytes())?,
+        })
+    }
+}

@@ -1,0 +1,348 @@
+//! The program over handed-in parts, where recipes are run.
+ghost use Rattle.std.specs.Prelude.{◌≡◌, ◌≢◌, ◌⊎◌, ◌≤◌, true, false, List, Ok, codes, option_copied, IfOk, IfErr};
+ghost use Rattle.std.specs.FinMap as finmap;
+ghost use Rattle.mk_reader.specs.Makefile.{AnswersAs};
+ghost use Rattle.mk_reader.specs.declared.item.Item.{Item as MakefileItem};
+ghost use Rattle.mk_rules.specs.Faults.{IsRuleFault};
+ghost use Rattle.mk_rules.specs.declared.graph.TheConstants.{MAX_NODES};
+ghost use Rattle.mk_rules.specs.declared.fault.RuleFault.{RuleFault as RulesFault};
+ghost use Rattle.st_disk.specs.Moments.{now};
+ghost use Rattle.dmk_drive.specs.Definitions.{first_defined};
+ghost use Rattle.dmk_drive.specs.Makefile.{IsAbsent};
+ghost use Rattle.dmk_drive.specs.Keeping.{keeps, value_in};
+ghost use Rattle.dmk_drive.specs.Output.{AsksToRun};
+ghost use Rattle.dmk_drive.specs.Planned.{AreItems, IsGraphOf};
+ghost use Rattle.dmk_drive.specs.declared.fault.Fault.TheVariants as faults;
+ghost use Rattle.dmk_run.specs.Made.{Makes, MakesItems};
+ghost use Rattle.dmk_run.specs.declared.stop.Stop.TheVariants as stops;
+
+use crate::building::{Built, build};
+use crate::conducting::Wishes;
+use crate::opening::{disk_of, open_store};
+use crate::printer::Printer;
+use crate::stop::Stop;
+use bd_flusher::Receipt;
+use bd_lists::{Exec, Variable};
+use byte_strings::{ByteString, ByteStrings};
+use dmk_drive::{Fault, Message, Options, first_macros, items_of, keeps_state};
+use jb_runner::Place;
+use jb_slots::Banks;
+use mk_reader::{Includes, Item};
+use mk_rules::{Graph, Tree};
+use st_disk::{Disk, MemDisk};
+use st_records::{HashKey, State};
+use std::alloc::Global;
+use std::io::Write;
+use std::sync::Wait;
+use std::thread::Threads;
+
+/// What a run is made with, beside its files, its job slots and its disk.
+#[derive(Drop)]
+pub struct Means<'a, E, S, P> {
+    pub key: HashKey,
+    pub environment: &'a [Variable],
+    /// The absolute path of the pool of job slots that would be served; empty where it can't be told.
+    pub pool: &'a [u8],
+    pub exec: &'a E,
+    pub say: &'a S,
+    pub place: &'a P,
+}
+
+/// What is to be made.
+#[derive(Drop)]
+struct Goals {
+    definitions: Vec<Variable>,
+    targets: ByteStrings,
+}
+
+fn slice_of(name: &Option<ByteString>) -> Option<&[u8]>
+    ensures { option_copied result ≡ name.now }
+{
+    match name {
+        Some(name) => Some(name.as_slice()),
+        None => None,
+    }
+}
+
+fn graph_of<T: Tree>(
+    alloc: Global,
+    environment: &[Variable],
+    definitions: &[Variable],
+    targets: ByteStrings,
+    tree: &mut T,
+    items: Vec<Item>,
+    state: &State,
+) -> Result<Graph, Stop>
+    ensures graph { IfOk result (IsGraphOf definitions.now environment.now targets T.honest (T.stamps tree.old)
+        items.items state.now) }
+    ensures fault { IfErr result (λ stop. (stop ≡ stops.Before faults.OutOfMemory)
+        ⊎ ((f : RulesFault) × (stop ≡ stops.Before (faults.Rules f))
+        × IsRuleFault (first_defined definitions.now environment.now) items.items T.honest (T.stamps tree.old)
+        (finmap.get state.now) (T.refuses tree.new) targets MAX_NODES f)) }
+{
+    let macros = first_macros(alloc, definitions, environment)?;
+    match mk_rules::build(alloc, items, macros, targets, tree, state) {
+        Ok(graph) => Ok(graph),
+        Err(fault) => Err(Stop::Before(Fault::Rules(fault))),
+    }
+}
+
+/// Opens the store of a disk and makes the goals over it. The disk comes back.
+fn run_over<R, T, E, O, W, P, K, D>(
+    rt: &R,
+    alloc: Global,
+    means: &Means<'_, E, Printer<'_, R, O, W>, P>,
+    wishes: &Wishes,
+    keeping: bool,
+    goals: Goals,
+    tree: &mut T,
+    banks: &mut K,
+    items: Vec<Item>,
+    disk: D,
+) -> (Result<u8, Stop>, D)
+where
+    R: Threads + Wait + Sync,
+    T: Tree,
+    E: Exec<Receipt> + Sync,
+    O: Write + Drop + Send,
+    W: Write + Drop + Send,
+    P: Place + Sync,
+    K: Banks,
+    K::End: Drop + Send,
+    D: Disk + Drop + Send,
+    ensures status { IfOk result.0 (λ s. s ≤ 2) }
+    ensures makes { IfOk result.0 (λ s. MakesItems goals.definitions.items means.now.environment.now goals.targets T.honest
+        (T.stamps tree.old) items.items true keeping D.honest (D.seen disk) s (now (D.moments result.1))) }
+    ensures let_go { K.serves banks.old ≡ false → K.serves banks.new ≡ false }
+{
+    let Goals {
+        definitions,
+        targets,
+    } = goals;
+    let store = match open_store(alloc, means.key, disk) {
+        Ok(store) => store,
+        Err((stop, disk)) => return (Err(stop), disk),
+    };
+    let environment = means.environment;
+    let graph = match graph_of(
+        alloc,
+        environment,
+        &definitions,
+        targets,
+        tree,
+        items,
+        store.state(),
+    ) {
+        Ok(graph) => graph,
+        Err(stop) => return (Err(stop), disk_of(store)),
+    };
+    if graph.soft_dropped {
+        means.say.soft_edges_dropped();
+    }
+    let conduct = match wishes.conduct(alloc, &graph.settings, keeping, definitions) {
+        Ok(conduct) => conduct,
+        Err(fault) => return (Err(Stop::from(fault)), disk_of(store)),
+    };
+    let workers = wishes.workers(&graph.settings);
+    let Built { found, store } = build(rt, alloc, means, &graph, conduct, workers, banks, store);
+    let disk = disk_of(store);
+    match found {
+        Ok(report) => (Ok(report.status), disk),
+        Err(fault) => (Err(Stop::Run(fault)), disk),
+    }
+}
+
+/// Makes the goals over the state's disk, or over one in memory where no state is kept.
+fn run_items<R, T, E, O, W, P, K, D>(
+    rt: &R,
+    alloc: Global,
+    means: &Means<'_, E, Printer<'_, R, O, W>, P>,
+    wishes: &Wishes,
+    goals: Goals,
+    tree: &mut T,
+    banks: &mut K,
+    items: Vec<Item>,
+    disk: D,
+) -> (Result<u8, Stop>, D)
+where
+    R: Threads + Wait + Sync,
+    T: Tree,
+    E: Exec<Receipt> + Sync,
+    O: Write + Drop + Send,
+    W: Write + Drop + Send,
+    P: Place + Sync,
+    K: Banks,
+    K::End: Drop + Send,
+    D: Disk + Drop + Send,
+    ensures status { IfOk result.0 (λ s. s ≤ 2) }
+    ensures makes { IfOk result.0 (λ s. MakesItems goals.definitions.items means.now.environment.now goals.targets T.honest
+        (T.stamps tree.old) items.items (keeps means.now.environment.now items.items)
+        (keeps means.now.environment.now items.items) D.honest (D.seen disk) s (now (D.moments result.1))) }
+    ensures untouched { keeps means.now.environment.now items.items ≡ false → result.1 ≡ disk }
+    ensures let_go { K.serves banks.old ≡ false → K.serves banks.new ≡ false }
+{
+    if keeps_state(means.environment, &items) {
+        return run_over(
+            rt, alloc, means, wishes, true, goals, tree, banks, items, disk,
+        );
+    }
+    let memory = MemDisk::new(alloc);
+    let (found, _memory) = run_over(
+        rt, alloc, means, wishes, false, goals, tree, banks, items, memory,
+    );
+    (found, disk)
+}
+
+/// Makes the goals of the makefile that is named, or of the usual one.
+fn run_makefile<R, T, I, E, O, W, P, K, D>(
+    rt: &R,
+    alloc: Global,
+    means: &Means<'_, E, Printer<'_, R, O, W>, P>,
+    wishes: &Wishes,
+    named: Option<&[u8]>,
+    goals: Goals,
+    tree: &mut T,
+    includes: &mut I,
+    banks: &mut K,
+    disk: D,
+) -> (Result<u8, Stop>, D)
+where
+    R: Threads + Wait + Sync,
+    T: Tree,
+    I: Includes,
+    E: Exec<Receipt> + Sync,
+    O: Write + Drop + Send,
+    W: Write + Drop + Send,
+    P: Place + Sync,
+    K: Banks,
+    K::End: Drop + Send,
+    D: Disk + Drop + Send,
+    ensures status { IfOk result.0 (λ s. s ≤ 2) }
+    ensures makes { IfOk result.0 (λ s. Makes (AnswersAs I.honest (I.files includes.old)) (IsAbsent T.honest (T.stamps tree.old))
+        (option_copied named.entry) goals.definitions.items means.now.environment.now goals.targets T.honest (T.stamps tree.old)
+        D.honest (D.seen disk) s (now (D.moments result.1))) }
+    ensures untouched { (result.1 ≡ disk) ⊎ ((items : List MakefileItem) × AreItems (AnswersAs I.honest (I.files includes.old))
+        (IsAbsent T.honest (T.stamps tree.old)) (option_copied named.entry) items × (keeps means.now.environment.now items ≡ true)) }
+    ensures let_go { K.serves banks.old ≡ false → K.serves banks.new ≡ false }
+{
+    match items_of(alloc, named, tree, includes) {
+        Ok(items) => run_items(rt, alloc, means, wishes, goals, tree, banks, items, disk),
+        Err(fault) => (Err(Stop::Before(fault)), disk),
+    }
+}
+
+/// The status of what was found. Why there is no report is printed.
+fn found_status<R: Wait, O: Write + Drop, W: Write + Drop>(
+    printer: &Printer<'_, R, O, W>,
+    state: &str,
+    found: Result<u8, Stop>,
+) -> u8
+    requires { IfOk found (λ s. s ≤ 2) }
+    ensures status { result ≤ 2 }
+    ensures report { result ≢ 2 → found ≡ Ok result }
+{
+    match found {
+        Ok(status) => status,
+        Err(Stop::Before(fault)) => {
+            printer.fault(Message {
+                state,
+                fault: &fault,
+            });
+            2
+        }
+        Err(Stop::Run(fault)) => {
+            printer.stop(fault);
+            2
+        }
+    }
+}
+
+/// The status of what was found, and 2 where not all that was to be printed went out, which is told last.
+fn status_of<R: Wait, O: Write + Drop, W: Write + Drop>(
+    printer: &Printer<'_, R, O, W>,
+    state: &str,
+    found: Result<u8, Stop>,
+) -> u8
+    requires { IfOk found (λ s. s ≤ 2) }
+    ensures status { result ≤ 2 }
+    ensures report { result ≢ 2 → found ≡ Ok result }
+{
+    let status = found_status(printer, state, found);
+    if printer.is_whole() {
+        return status;
+    }
+    printer.fault(Message {
+        state,
+        fault: &Fault::Write,
+    });
+    2
+}
+
+/// Makes the targets that the words name, or the first of the makefile, and what they need. The status, and the state's disk.
+///
+/// The makefile's faults come first, then, where state is kept, those of the state and of its compaction, then the rules'. Any
+/// of them ends the run before a recipe is run.
+pub fn build_targets<R, T, I, E, O, W, P, K, D>(
+    rt: &R,
+    alloc: Global,
+    means: &Means<'_, E, Printer<'_, R, O, W>, P>,
+    options: Options,
+    tree: &mut T,
+    includes: &mut I,
+    banks: &mut K,
+    disk: D,
+) -> (u8, D)
+where
+    R: Threads + Wait + Sync,
+    T: Tree,
+    I: Includes,
+    E: Exec<Receipt> + Sync,
+    O: Write + Drop + Send,
+    W: Write + Drop + Send,
+    P: Place + Sync,
+    K: Banks,
+    K::End: Drop + Send,
+    D: Disk + Drop + Send,
+    // Recipes are run only where neither the words nor MAKEFLAGS ask for a listing.
+    requires { AsksToRun options (value_in means.now.environment.now (codes "MAKEFLAGS")) }
+    ensures status { result.0 ≤ 2 }
+    // At another status than 2 each target that was built is done in every pair of crash images, with the commands of the
+    // 'done' whose receipt its worker gathered.
+    ensures makes { result.0 ≢ 2 → Makes (AnswersAs I.honest (I.files includes.old)) (IsAbsent T.honest (T.stamps tree.old))
+        options.makefile options.definitions.items means.now.environment.now options.targets T.honest (T.stamps tree.old)
+        D.honest (D.seen disk) result.0 (now (D.moments result.1)) }
+    // Unless a makefile that was read keeps state, the disk is handed back as it came.
+    ensures untouched { (result.1 ≡ disk) ⊎ ((items : List MakefileItem) × AreItems (AnswersAs I.honest (I.files includes.old))
+        (IsAbsent T.honest (T.stamps tree.old)) options.makefile items × (keeps means.now.environment.now items ≡ true)) }
+    // A pool that is served for the run is let go at its end.
+    ensures let_go { K.serves banks.old ≡ false → K.serves banks.new ≡ false }
+{
+    let Options {
+        makefile,
+        state,
+        workers,
+        goes_on,
+        is_silent,
+        ignores_statuses,
+        definitions,
+        targets,
+        ..
+    } = options;
+    let wishes = Wishes {
+        state,
+        workers: usize::from(workers),
+        goes_on,
+        is_silent,
+        ignores_statuses,
+    };
+    let goals = Goals {
+        definitions,
+        targets,
+    };
+    let named = slice_of(&makefile);
+    let (found, disk) = run_makefile(
+        rt, alloc, means, &wishes, named, goals, tree, includes, banks, disk,
+    );
+    let status = status_of(means.say, wishes.state.as_str(), found);
+    (status, disk)
+}

@@ -1,0 +1,34 @@
+//! What a state knows of the targets of a graph.
+ghost use Rattle.std.specs.Prelude.{◌↔◌, ◌<◌, length, IsTrue};
+ghost use Rattle.dmk_run.specs.Known.{IsKnownDone, IsNodeKnownDone, AreKnownDone};
+
+use mk_rules::Graph;
+use st_records::{Phase, State};
+
+fn is_known_done(state: &State, target: &[u8]) -> bool
+    ensures { IsTrue result ↔ IsKnownDone state.now target.now }
+{
+    match state.get(target) {
+        Some(entry) => matches!(entry.phase, Phase::Done),
+        None => false,
+    }
+}
+
+fn is_node_known_done(graph: &Graph, state: &State, node: usize) -> bool
+    requires { node < length graph.now.nodes.items }
+    ensures { IsTrue result ↔ IsNodeKnownDone graph.now state.now node }
+{
+    graph.nodes[node].recipe.is_none() || is_known_done(state, graph.names.name(node))
+}
+
+/// Whether the state knows each node of the graph that has a recipe as done.
+pub(crate) fn are_known_done(graph: &Graph, state: &State) -> bool
+    ensures { IsTrue result ↔ AreKnownDone graph.now state.now }
+{
+    for node in 0..graph.len() {
+        if !is_node_known_done(graph, state, node) {
+            return false;
+        }
+    }
+    true
+}

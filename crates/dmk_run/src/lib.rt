@@ -1,0 +1,17 @@
+//! A run: from options, environment, files and a state's disk to recipes that are run, and a status.
+#![tactic(auto)]
+
+mod building;
+mod conducting;
+mod driver;
+mod known;
+mod opening;
+mod printer;
+mod stop;
+
+pub use building::{Built, build};
+pub use conducting::Wishes;
+pub use driver::{Means, build_targets};
+pub use opening::open_store;
+pub use printer::Printer;
+pub use stop::Stop;

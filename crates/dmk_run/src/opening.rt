@@ -1,0 +1,116 @@
+//! The store that a run goes by, opened and compacted.
+ghost use Rattle.std.specs.Prelude.{◌≡◌, ◌≢◌, ◌↔◌, ◌<◌, ◌≤◌, ◌^◌, false, IsTrue, IsOk, IsErrOf, IfOk, IfErr, OnOk};
+ghost use Rattle.st_disk.specs.Moments.{now, Throughout};
+ghost use Rattle.st_disk.specs.Faults.{Rises};
+ghost use Rattle.st_recovery.specs.Recovers.{Recovers};
+ghost use Rattle.st_recovery.specs.Stored.{AllRecover};
+ghost use Rattle.st_records.specs.declared.version.Version.TheVariants as versions;
+ghost use Rattle.st_file.specs.declared.commit_fault.CommitFault.TheVariants as commits;
+ghost use Rattle.st_disk.specs.declared.which.Which.TheVariants as sides;
+ghost use Rattle.bd_flusher.specs.declared.fault.FlushFault.TheVariants as refusals;
+ghost use Rattle.bd_flusher.specs.Faults.{fault_of};
+ghost use Rattle.jb_runner.specs.declared.fault.RunFault.TheVariants as run_faults;
+ghost use Rattle.dmk_run.specs.Opened.{ArePossibleOrRecover, StandsInVersion1, TellsNotCompacted, IsWhyNotOpened, IsOfDevice};
+
+use crate::stop::Stop;
+use bd_flusher::FlushFault;
+use dmk_drive::Fault;
+use jb_runner::RunFault;
+use st_compaction::compact;
+use st_disk::Disk;
+use st_file::{CommitFault, Log};
+use st_records::{HashKey, Version};
+use st_recovery::{Store, open};
+use std::alloc::Global;
+
+/// A side that ends behind this is written anew when it is opened.
+const LONG: usize = 1 << 20;
+
+/// The disk of a store that is let go.
+pub(crate) fn disk_of<D: Disk + Drop>(store: Store<D>) -> D
+    ensures { result ≡ store.log.disk }
+{
+    let Store { log, state: _ } = store;
+    let Log {
+        disk,
+        side: _,
+        version: _,
+        generation: _,
+        end: _,
+        dead: _,
+    } = log;
+    disk
+}
+
+fn is_of_version_1(version: Version) -> bool
+    ensures { IsTrue result ↔ (version ≡ versions.One) }
+{
+    matches!(version, Version::One)
+}
+
+/// What a refused compaction comes to: it is passed over, unless the device refused it or the side is of version 1, which has
+/// to change.
+fn refusal(fault: CommitFault, is_old: bool) -> Result<(), RunFault>
+    ensures passed_over { IsOk result ↔ ((is_old ≡ false) × (fault ≢ commits.Device)) }
+    ensures told { IfErr result (λ told. told ≡ run_faults.Flush (fault_of fault)) }
+{
+    if is_old || matches!(fault, CommitFault::Device) {
+        return Err(RunFault::Flush(FlushFault::from(fault)));
+    }
+    Ok(())
+}
+
+/// Compacts a store whose side is of version 1 or long. Of a long side a refusal is passed over, unless it is the device's.
+fn compact_at_opening<D: Disk + Drop>(alloc: Global, store: &mut Store<D>) -> Result<(), RunFault>
+    requires { store.old.log.dead ≡ false }
+    ensures any_moment { D.honest → Throughout (D.moments store.old.log.disk) (D.moments store.new.log.disk)
+        (AllRecover store.old.state) }
+    ensures state { store.new.state ≡ store.old.state }
+    ensures alive { OnOk result (store.new.log.dead ≡ false) }
+    ensures version { OnOk result (store.new.log.version ≡ versions.Two) }
+    ensures refused { IfErr result (TellsNotCompacted
+        (D.honest → StandsInVersion1 (D.seen store.new.log.disk) (now (D.moments store.new.log.disk)) store.new.state)) }
+    // A side that is neither of version 1 nor long stays as it is.
+    ensures unneeded { store.old.log.version ≡ versions.Two → store.old.log.end ≤ 2 ^ 20
+        → IsOk result × (store.new.log ≡ store.old.log) }
+    ensures device { IsErrOf result (run_faults.Flush refusals.Device)
+        → Rises (D.faults store.old.log.disk) (D.faults store.new.log.disk) }
+{
+    let is_old = is_of_version_1(store.log.version);
+    if !is_old && store.log.end <= LONG {
+        return Ok(());
+    }
+    match compact(alloc, store) {
+        Ok(()) => Ok(()),
+        Err(fault) => refusal(fault, is_old),
+    }
+}
+
+/// Opens the store of a disk, and compacts it where its side is of version 1 or long. A refusal hands the disk back.
+pub fn open_store<D: Disk + Drop>(
+    alloc: Global,
+    key: HashKey,
+    disk: D,
+) -> Result<Store<D>, (Stop, D)>
+    // At every moment each pair was possible at the start, or recovers the state that the sides recovered.
+    ensures any_moment { IfOk result (λ store. D.honest → Throughout (D.moments disk) (D.moments store.log.disk)
+        (ArePossibleOrRecover (D.seen disk) (now (D.moments disk)))) }
+    ensures any_moment_refused { IfErr result (λ e. D.honest → Throughout (D.moments disk) (D.moments e.1)
+        (ArePossibleOrRecover (D.seen disk) (now (D.moments disk)))) }
+    ensures found { IfOk result (λ store. D.honest → Recovers (D.seen disk sides.A) (D.seen disk sides.B) store.state) }
+    ensures recovers { IfOk result (λ store. D.honest → AllRecover store.state (now (D.moments store.log.disk))) }
+    ensures alive { IfOk result (λ store. store.log.dead ≡ false) }
+    ensures version { IfOk result (λ store. store.log.version ≡ versions.Two) }
+    ensures refused { IfErr result (λ e. IsWhyNotOpened D.honest (D.seen disk) (D.seen e.1) (now (D.moments e.1)) e.0) }
+    // A fault is the device's only where the disk has counted one.
+    ensures device { IfErr result (λ e. IsOfDevice e.0 → 0 < D.faults e.1) }
+{
+    let mut store = match open(alloc, key, disk) {
+        Ok(store) => store,
+        Err((fault, disk)) => return Err((Stop::Before(Fault::State(fault)), disk)),
+    };
+    match compact_at_opening(alloc, &mut store) {
+        Ok(()) => Ok(store),
+        Err(fault) => Err((Stop::Run(fault), disk_of(store))),
+    }
+}

@@ -1,0 +1,153 @@
+//! What a run prints. Several threads print, so a lock is taken for each line and for each block, and each ends with a flush:
+//! through a writer with a buffer it is one write, as long as it fits.
+
+use bd_lists::Ended;
+use dmk_drive::{Message, print_fault, print_note};
+use jb_runner::{News, RunFault, Say};
+use std::io::{self, Write};
+use std::sync::{Mutex, Wait};
+
+/// Prints lines and blocks on one stream, and faults and notes on another. What can't be printed ends no run.
+#[derive(Drop)]
+pub struct Printer<'a, R: Wait, O: Write + Drop, E: Write + Drop> {
+    rt: &'a R,
+    streams: Mutex<Streams<O, E>>,
+}
+
+#[derive(Drop)]
+struct Streams<O: Write + Drop, E: Write + Drop> {
+    out: O,
+    err: E,
+    /// All that was to go out on `out` did.
+    is_whole: bool,
+}
+
+fn write_line<O: Write>(out: &mut O, text: &[u8]) -> io::Result<()> {
+    out.write_all(text)?;
+    out.write_all(b"\n")?;
+    out.flush()
+}
+
+fn write_out<O: Write>(out: &mut O, ended: &[Ended]) -> io::Result<()> {
+    for one in ended {
+        out.write_all(one.out.as_slice())?;
+    }
+    out.flush()
+}
+
+fn write_err<E: Write>(err: &mut E, ended: &[Ended]) -> io::Result<()> {
+    for one in ended {
+        err.write_all(one.err.as_slice())?;
+    }
+    err.flush()
+}
+
+// The target stands in the line as it is: it may be no text.
+fn write_of_target<E: Write>(err: &mut E, target: &[u8]) {
+    let _ = err.write_all(b"dmk: target ");
+    let _ = err.write_all(target);
+}
+
+fn write_failed<E: Write>(err: &mut E, target: &[u8], status: u32) {
+    write_of_target(err, target);
+    let _ = if status < 256 {
+        writeln!(err, " failed with status {status}")
+    } else {
+        writeln!(err, " was stopped or not started")
+    };
+}
+
+fn write_news<E: Write>(err: &mut E, news: News<'_>) {
+    match news {
+        News::Failed { target, status } => write_failed(err, target, status),
+        News::NotRecorded { target } => {
+            write_of_target(err, target);
+            let _ = writeln!(err, " cannot be recorded");
+        }
+        News::NotExpanded { fault } => {
+            let _ = writeln!(err, "dmk: {fault}");
+        }
+        News::SlotsUnused => {
+            let _ = writeln!(err, "dmk: note: jobserver not used: one slot");
+        }
+        News::NotServed => {
+            let _ = writeln!(err, "dmk: note: no jobserver for recipes");
+        }
+        News::JobserverFailed => {
+            let _ = writeln!(err, "dmk: jobserver fault");
+        }
+    }
+}
+
+impl<'a, R: Wait, O: Write + Drop, E: Write + Drop> Printer<'a, R, O, E> {
+    pub fn new(rt: &'a R, out: O, err: E) -> Printer<'a, R, O, E> {
+        Printer {
+            rt,
+            streams: Mutex::new(Streams {
+                out,
+                err,
+                is_whole: true,
+            }),
+        }
+    }
+
+    /// The two streams again.
+    pub fn into_streams(self) -> (O, E) {
+        let Printer { rt: _, streams } = self;
+        let Streams {
+            out,
+            err,
+            is_whole: _,
+        } = streams.into_inner();
+        (out, err)
+    }
+
+    /// Whether all lines and blocks went out.
+    pub fn is_whole(&self) -> bool {
+        self.streams.lock(self.rt).is_whole
+    }
+
+    /// One line with a fault that is met before anything is made.
+    pub fn fault(&self, message: Message<'_>) {
+        let mut streams = self.streams.lock(self.rt);
+        print_fault(&mut streams.err, message);
+        let _ = streams.err.flush();
+    }
+
+    /// One line with a fault that ended a run.
+    pub fn stop(&self, fault: RunFault) {
+        let mut streams = self.streams.lock(self.rt);
+        let _ = writeln!(streams.err, "dmk: {fault}");
+        let _ = streams.err.flush();
+    }
+
+    /// Says that soft edges are dropped.
+    pub fn soft_edges_dropped(&self) {
+        let mut streams = self.streams.lock(self.rt);
+        print_note(&mut streams.err);
+        let _ = streams.err.flush();
+    }
+}
+
+impl<R: Wait, O: Write + Drop, E: Write + Drop> Say for Printer<'_, R, O, E> {
+    fn line(&self, text: &[u8]) {
+        let mut streams = self.streams.lock(self.rt);
+        if write_line(&mut streams.out, text).is_err() {
+            streams.is_whole = false;
+        }
+    }
+
+    fn block(&self, ended: &[Ended]) {
+        let mut streams = self.streams.lock(self.rt);
+        if write_out(&mut streams.out, ended).is_err() {
+            streams.is_whole = false;
+        }
+        let _ = write_err(&mut streams.err, ended);
+    }
+
+    fn tell(&self, news: News<'_>) {
+        let mut streams = self.streams.lock(self.rt);
+        write_news(&mut streams.err, news);
+        let _ = streams.err.flush();
+    }
+}

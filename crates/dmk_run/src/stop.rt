@@ -1,0 +1,26 @@
+//! Why a run ends with status 2 and no report.
+
+use dmk_drive::Fault;
+use jb_runner::RunFault;
+use std::alloc::AllocError;
+
+/// Why a run ends with status 2 and no report.
+#[derive(Debug, Drop)]
+pub enum Stop {
+    /// Nothing was begun: the makefile, the state or the rules have a fault.
+    Before(Fault),
+    /// The state couldn't be written, or memory or a thread was refused.
+    Run(RunFault),
+}
+
+impl From<AllocError> for Stop {
+    ghost use Rattle.std.specs.Prelude.{◌≡◌};
+    ghost use Rattle.dmk_drive.specs.declared.fault.Fault.TheVariants as faults;
+    ghost use Rattle.dmk_run.specs.declared.stop.Stop.TheVariants as stops;
+
+    ghost from_gives = { λ _ stop. stop ≡ stops.Before faults.OutOfMemory };
+
+    fn from(_error: AllocError) -> Stop {
+        Stop::Before(Fault::OutOfMemory)
+    }
+}
