@@ -3,7 +3,7 @@
 # with the error that its 'error:' line names. The last line is 'N passed, M failed'.
 set -u -o pipefail
 cd "$(dirname "$0")/.." || exit 2
-passed=0 failed=0
+passed=0 failed=0 edited=
 work=$(mktemp -d) || exit 2
 trap 'rm -rf "$work"' EXIT
 
@@ -14,8 +14,12 @@ for edit in crates/*/must-not-compile/*.edit; do
     if [ ! -d "$work/crates" ]; then
         cp -r crates.txt HANDLES crates "$work"
     fi
-    rm -rf "$work/crates/$crate"
-    cp -r "crates/$crate" "$work/crates/$crate"
+    # The crate that was edited before may be one that this one stands on.
+    for fresh in $edited $crate; do
+        rm -rf "$work/crates/$fresh"
+        cp -r "crates/$fresh" "$work/crates/$fresh"
+    done
+    edited=$crate
     log=$work/log
     if ! python3 scripts/apply_edit.py "$edit" "$work/crates/$crate" >"$log" 2>&1; then
         echo "BAD EDIT $edit: $(cat "$log")"
