@@ -6,16 +6,25 @@
 mod asking;
 #[cfg(test)]
 mod both_boards;
-pub mod flushing;
-pub mod graphs;
+#[cfg(test)]
+mod flushing;
+#[cfg(test)]
+mod graphs;
 #[cfg(test)]
 mod large_boards;
-pub mod pair;
-pub mod plain;
-pub mod random;
-pub mod receipts;
+#[cfg(test)]
+mod pair;
+#[cfg(test)]
+mod plain;
+#[cfg(test)]
+mod random;
+#[cfg(test)]
+mod receipts;
 #[cfg(test)]
 mod refusals;
-pub mod running;
-pub mod sets;
-pub mod steps;
+#[cfg(test)]
+mod running;
+#[cfg(test)]
+mod sets;
+#[cfg(test)]
+mod steps;

@@ -2,7 +2,6 @@
 
 use crate::stores::{Left, names_left, run};
 use st_disk::{FailOnce, Fuse, MemDisk};
-use std::alloc::Global;
 use std::process::Abort;
 use std::test::Fail;
 

@@ -4,7 +4,7 @@ use crate::expected::expect;
 use crate::long::long_begun;
 use st_disk::Which;
 use st_file::{Extent, OpenFault, read_side};
-use st_records::{Record, Version};
+use st_records::Record;
 use std::alloc::{AllocError, Global};
 use std::process::Abort;
 use std::test::Fail;

@@ -1,0 +1,142 @@
+//! Reports that are handed in behind a run: those that are true of its store pass.
+
+use crate::makefiles::{Asked, graph};
+use crate::runs::made;
+use crate::states::new_store;
+use crate::way::ALONE;
+use bd_flusher::{FlushFault, Receipt};
+use bd_lists::{End, Ticket};
+use jb_runner::{Closed, Report, RunFault};
+use mk_rules::Graph;
+use st_disk::MemDisk;
+use std::alloc::Global;
+use std::process::Abort;
+use std::test::Fail;
+
+// The 'begun' and the 'done' of each recipe were told.
+const TWO: Asked<'static> = Asked {
+    makefile: "all: a b\na:\n\ttrue\nb:\n\ttrue\n",
+    files: &[],
+    definition: None,
+};
+
+/// The receipts of these tickets and these ends are handed in: at which ticket they are refused.
+struct Row {
+    name: &'static str,
+    tickets: &'static [usize],
+    ends: &'static [End],
+    refused_at: Option<usize>,
+}
+
+static ROWS: [Row; 8] = [
+    Row {
+        name: "the run's own",
+        tickets: &[0, 1, 2, 3],
+        ends: &[End::Remade, End::Built, End::Built],
+        refused_at: None,
+    },
+    Row {
+        name: "in another order",
+        tickets: &[3, 1, 0, 2],
+        ends: &[End::Remade, End::Built, End::Built],
+        refused_at: None,
+    },
+    Row {
+        name: "one built less",
+        tickets: &[0, 1, 2, 3],
+        ends: &[End::Abandoned, End::Failed(1), End::UpToDate],
+        refused_at: None,
+    },
+    Row {
+        name: "one built too many",
+        tickets: &[0, 1, 2, 3],
+        ends: &[End::Built, End::Built, End::Built],
+        refused_at: Some(4),
+    },
+    Row {
+        name: "a built node that the graph hasn't",
+        tickets: &[0, 1, 2, 3],
+        ends: &[End::Remade, End::Built, End::Built, End::Built],
+        refused_at: Some(4),
+    },
+    Row {
+        name: "a receipt left out",
+        tickets: &[0, 1, 3],
+        ends: &[End::Remade, End::Built, End::Built],
+        refused_at: Some(2),
+    },
+    Row {
+        name: "a receipt handed in twice",
+        tickets: &[0, 1, 2, 3, 1],
+        ends: &[End::Remade, End::Built, End::Built],
+        refused_at: Some(1),
+    },
+    Row {
+        name: "no receipt",
+        tickets: &[],
+        ends: &[End::UpToDate, End::UpToDate, End::UpToDate],
+        refused_at: Some(0),
+    },
+];
+
+fn receipt(alloc: Global, closed: &Closed<MemDisk>, ticket: usize) -> Result<Receipt, Fail> {
+    let Some(note) = closed.site.told().get(ticket) else {
+        return Err("nothing was told there".into());
+    };
+    match closed.site.look(Ticket::new(ticket), note.copy(alloc)?) {
+        Ok(receipt) => Ok(receipt),
+        Err(_note) => Err("another record was told there".into()),
+    }
+}
+
+fn receipts(
+    alloc: Global,
+    closed: &Closed<MemDisk>,
+    tickets: &[usize],
+) -> Result<Vec<Receipt>, Fail> {
+    let mut receipts = Vec::new(alloc);
+    for ticket in tickets {
+        receipts.push(receipt(alloc, closed, *ticket)?)?;
+    }
+    Ok(receipts)
+}
+
+fn refusal(
+    alloc: Global,
+    graph: &Graph,
+    closed: &Closed<MemDisk>,
+    row: &Row,
+) -> Result<Option<RunFault>, Fail> {
+    let receipts = receipts(alloc, closed, row.tickets)?;
+    let report = Report {
+        ends: Vec::from_slice(alloc, row.ends)?,
+        status: 0,
+    };
+    match closed.report(alloc, graph, report, &receipts) {
+        Ok(_report) => Ok(None),
+        Err(fault) => Ok(Some(fault)),
+    }
+}
+
+fn unknown(ticket: usize) -> RunFault {
+    RunFault::Flush(FlushFault::Unknown(Ticket::new(ticket)))
+}
+
+fn expect_rows(
+    rt: &(impl Abort + AllocGlobal),
+    graph: &Graph,
+    closed: &Closed<MemDisk>,
+) -> Result<(), Fail> {
+    for row in &ROWS {
+        let refusal = refusal(rt.alloc(), graph, closed, row)?;
+        assert_eq!(rt; refusal, row.refused_at.map(unknown), "{}", row.name);
+    }
+    Ok(())
+}
+
+#[test]
+fn a_report_passes_where_it_is_true_of_the_store(rt: HostRuntime) -> Result<(), Fail> {
+    let came = made(&rt, rt.alloc(), &TWO, &ALONE, new_store(rt.alloc())?)?;
+    let graph = graph(rt.alloc(), &TWO, came.state())?;
+    expect_rows(&rt, &graph, &came.closed)
+}

@@ -1,0 +1,26 @@
+//! Reports, and targets that can or can't be put on the disk.
+
+use crate::fake::Fake;
+use jb_runner::{Place, PlaceFault};
+use std::alloc::Global;
+use std::sync::Wait;
+use std::time::Clock;
+
+impl<R: Wait + Clock + Copy> Place for Fake<R> {
+    fn remove(&self, path: &[u8]) {
+        self.say(b"~remove ", path, b"\n");
+    }
+
+    fn report(&self, alloc: Global, path: &[u8]) -> Result<Vec<u8>, PlaceFault> {
+        self.say(b"~report ", path, b"\n");
+        match &self.report {
+            Ok(text) => Ok(Vec::from_slice(alloc, text.as_slice())?),
+            Err(fault) => Err(*fault),
+        }
+    }
+
+    fn sync(&self, target: &[u8]) -> Result<(), PlaceFault> {
+        self.say(b"~sync ", target, b"\n");
+        self.sync
+    }
+}

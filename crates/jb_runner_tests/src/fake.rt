@@ -1,0 +1,115 @@
+//! A fake of all that a run calls: recipe lines, reports and files, what is printed, and a pool of tokens.
+ghost use Rattle.std.specs.Prelude.{◌≡◌, ◌<◌, IfOk, OnErr};
+ghost use Rattle.jb_slots.specs.Tokens.{fresh};
+ghost use Rattle.jb_slots.specs.End.{state_of};
+
+use crate::pool::Tap;
+use crate::way::{Shown, Way};
+use jb_runner::PlaceFault;
+use jb_slots::End;
+use std::alloc::{AllocError, Global};
+use std::sync::{Mutex, Wait};
+use std::time::Clock;
+
+/// What came of the calls so far.
+#[derive(Drop)]
+pub struct Notes {
+    /// What was printed. A line on standard error has a `!` in front, a call about a file a `~`.
+    pub said: Vec<u8>,
+    /// The lines that were run.
+    pub ran: Vec<u8>,
+    /// The tokens that lie in the pool.
+    pub tokens: Vec<u8>,
+    /// How many tokens were read.
+    pub reads: u32,
+    /// Whether a token came back from a worker that hadn't read it.
+    pub are_mixed: bool,
+    /// How many lines that meet, and how many reads of a broken pool, have begun.
+    pub begun: u8,
+}
+
+// The lines that are run take no memory up to this size.
+const ROOM: usize = 4000;
+
+impl Notes {
+    /// One more that others wait for has begun.
+    pub fn begin(&mut self) {
+        self.begun = self.begun.saturating_add(1);
+    }
+}
+
+fn report_of(alloc: Global, shown: Shown) -> Result<Result<Vec<u8>, PlaceFault>, AllocError> {
+    match shown.report {
+        Ok(text) => Ok(Ok(Vec::from_slice(alloc, text)?)),
+        Err(fault) => Ok(Err(fault)),
+    }
+}
+
+/// A worker's end of the pool.
+pub type TokenEnd<'f, R> = End<Tap<'f, R>>;
+
+#[derive(Drop)]
+pub struct Fake<R: Wait + Clock + Copy> {
+    pub rt: R,
+    pub alloc: Global,
+    pub report: Result<Vec<u8>, PlaceFault>,
+    pub sync: Result<(), PlaceFault>,
+    pub is_broken: bool,
+    pub notes: Mutex<Notes>,
+}
+
+impl<R: Wait + Clock + Copy> Fake<R> {
+    pub fn new(rt: R, alloc: Global, way: &Way) -> Result<Fake<R>, AllocError> {
+        let tokens = Vec::from_slice(alloc, way.tokens.unwrap_or(b""))?;
+        let ran = Vec::with_capacity(alloc, ROOM)?;
+        let report = report_of(alloc, way.shown)?;
+        Ok(Fake {
+            rt,
+            alloc,
+            report,
+            sync: way.shown.sync,
+            is_broken: way.tokens.is_none(),
+            notes: Mutex::new(Notes {
+                said: Vec::new(alloc),
+                ran,
+                tokens,
+                reads: 0,
+                are_mixed: false,
+                begun: 0,
+            }),
+        })
+    }
+
+    /// An end of the pool that has room to note so many tokens.
+    pub fn end<'f>(&'f self, alloc: Global, room: usize) -> Result<TokenEnd<'f, R>, AllocError>
+        ensures ok { IfOk result (λ e. state_of e ≡ fresh room) }
+        ensures memory { OnErr result (0 < room) }
+    {
+        End::new(alloc, Tap::new(self), room)
+    }
+
+    /// So many ends of the pool, each with room for a token a node.
+    pub fn ends<'f>(
+        &'f self,
+        workers: usize,
+        nodes: usize,
+    ) -> Result<Vec<TokenEnd<'f, R>>, AllocError> {
+        let mut ends = Vec::with_capacity(self.alloc, workers)?;
+        for _ in 0..workers {
+            ends.push(self.end(self.alloc, nodes)?)?;
+        }
+        Ok(ends)
+    }
+
+    pub fn into_notes(self) -> Notes {
+        let Fake {
+            rt: _,
+            alloc: _,
+            report: _,
+            sync: _,
+            is_broken: _,
+            notes,
+        } = self;
+        notes.into_inner()
+    }
+}

@@ -1,0 +1,64 @@
+//! Runs to which memory is refused. Under `rt try --test --fail-alloc N` the Nth allocation of the test is refused;
+//! whichever it is, the run ends, each worker is joined, each slot is given back, and each recipe that was run is known to
+//! the state. Where that allocation is one of the preparations, the test ends with `OutOfMemory`.
+
+use crate::makefiles::Asked;
+use crate::runs::{Came, made};
+use crate::states::new_store;
+use crate::way::{ALONE_WITH_K, Way};
+use st_disk::MemDisk;
+use st_records::Phase;
+use std::process::Abort;
+use std::test::Fail;
+
+const TWO: Asked<'static> = Asked {
+    makefile: ".KEEP_STATE:\nall: a b\na: y\n\techo a\nb: y\n\techo b\n",
+    files: &[("y", 1)],
+    definition: None,
+};
+
+const PAIR: Way = Way {
+    workers: 2,
+    ..ALONE_WITH_K
+};
+
+/// Whether the state knows a target whose recipe was run: as begun or failed where memory was refused, else as done.
+fn knows(came: &Came<MemDisk>, target: &[u8]) -> bool {
+    match came.state().get(target) {
+        Some(entry) => came.status() != 0 || entry.phase == Phase::Done,
+        None => false,
+    }
+}
+
+/// What holds of each run, whatever was refused.
+fn is_in_order(came: &Came<MemDisk>) -> bool {
+    let notes = &came.notes;
+    let ran = notes.ran.as_slice();
+    notes.tokens.as_slice() == b"+".as_slice()
+        && !notes.are_mixed
+        && (knows(came, b"a") || !ran.starts_with(b"echo a"))
+        && (knows(came, b"b") || !ran.ends_with(b"echo b\n"))
+}
+
+// The one worker finds the implicit slot free for each recipe, so it reads no token.
+#[test]
+fn a_run_that_wanted_memory_ends(rt: HostRuntime) -> Result<(), Fail> {
+    let store = new_store(rt.alloc())?;
+    let came = made(&rt, rt.alloc(), &TWO, &ALONE_WITH_K, store)?;
+    assert!(rt; is_in_order(&came));
+    assert_eq!(rt; came.notes.reads, 0);
+    match came.status() {
+        0 => assert_eq!(rt; came.notes.ran.as_slice(), b"echo a\necho b\n".as_slice()),
+        // A line whose answer wanted memory failed, or the run ended so.
+        status => assert!(rt; status == 1 || status == 9),
+    }
+    Ok(())
+}
+
+#[test]
+fn a_run_of_two_workers_that_wanted_memory_ends(rt: HostRuntime) -> Result<(), Fail> {
+    let store = new_store(rt.alloc())?;
+    let came = made(&rt, rt.alloc(), &TWO, &PAIR, store)?;
+    assert!(rt; is_in_order(&came));
+    Ok(())
+}

@@ -1,0 +1,204 @@
+//! A recipe to which memory is refused. Under `rt try --test --fail-alloc N` the Nth allocation of the test is refused.
+//! Where that is the recipe's own, nothing of it was run, the clearance comes back, and with it the recipe is run the next
+//! time. Where it is one of the preparations, the test ends with an error.
+ghost use Rattle.std.specs.Prelude.{◌≡◌, IfOk, IfSome};
+ghost use Rattle.st_records.specs.Limits.{IsGood};
+ghost use Rattle.st_records.specs.declared.record.Record.TheVariants as records;
+ghost use Rattle.st_records.specs.declared.version.Version.TheVariants as versions;
+
+use crate::fake::{Fake, TokenEnd};
+use crate::makefiles::{Asked, graph};
+use crate::states::{new_store, site_of};
+use crate::way::ALONE;
+use bd_flusher::{Receipt, Site};
+use bd_lists::{Advanced, Board, Clearance, Node, Recipe, Ticket};
+use byte_strings::ByteString;
+use jb_runner::{Ran, run_recipe};
+use jb_slots::{Slot, Slots};
+use mk_recipe::split_line;
+use st_disk::MemDisk;
+use st_records::Record;
+use std::alloc::Global;
+use std::process::Abort;
+use std::sync::Wait;
+use std::test::Fail;
+use std::time::Clock;
+
+const ONE: Asked<'static> = Asked {
+    makefile: "x:\n\techo x\n",
+    files: &[],
+    definition: None,
+};
+
+fn board_and_site(alloc: Global) -> Result<(Board<Receipt>, Site<MemDisk>), Fail> {
+    let store = new_store(alloc)?;
+    let graph = graph(alloc, &ONE, store.state())?;
+    let board = Board::new(alloc, &graph)?;
+    Ok((board, site_of(alloc, store)?))
+}
+
+fn begun(alloc: Global, target: &ByteString) -> Result<Record, Fail>
+    ensures begun { IfOk result (λ note. note ≡ records.Begun target.now) }
+    ensures good { IfOk result (λ note. IsGood versions.Two note) }
+{
+    let note = Record::Begun {
+        target: target.copy(alloc)?,
+    };
+    if note.check().is_err() {
+        return Err("no record".into());
+    }
+    Ok(note)
+}
+
+/// Submits the first node's 'begun'.
+fn submitted(board: &mut Board<Receipt>, note: Record) -> Result<(Node, Ticket), Fail>
+    requires { IsGood versions.Two note }
+{
+    let Some(node) = board.claim() else {
+        return Err("nothing is ready".into());
+    };
+    match board.submit(node, note, None) {
+        Ok((ticket, _none)) => Ok((node, ticket)),
+        Err((_note, run)) => {
+            let _receipt = run.map(|spent| spent.give_up());
+            Err("nothing was submitted".into())
+        }
+    }
+}
+
+fn receipt(
+    alloc: Global,
+    site: &Site<MemDisk>,
+    ticket: Ticket,
+    target: &ByteString,
+) -> Result<Receipt, Fail>
+    ensures { IfOk result (λ r. r.noted ≡ records.Begun target.now) }
+{
+    match site.look(ticket, begun(alloc, target)?) {
+        Ok(receipt) => Ok(receipt),
+        Err(_note) => Err("nothing was told".into()),
+    }
+}
+
+fn advanced(
+    board: &mut Board<Receipt>,
+    node: Node,
+    receipt: Receipt,
+) -> Result<Clearance<Receipt>, Fail>
+    ensures { IfOk result (λ c. c.told ≡ receipt) }
+{
+    match board.advance(node, receipt) {
+        Ok(Advanced::Cleared(clearance)) => Ok(clearance),
+        Ok(Advanced::Settled(_receipt)) => Err("it is settled".into()),
+        Err(_receipt) => Err("nothing was cleared".into()),
+    }
+}
+
+/// The clearance of a target whose 'begun' was written.
+fn cleared(alloc: Global, target: &ByteString) -> Result<Clearance<Receipt>, Fail>
+    ensures { IfOk result (λ c. c.told.noted ≡ records.Begun target.now) }
+{
+    let (mut board, mut site) = board_and_site(alloc)?;
+    let (node, ticket) = submitted(&mut board, begun(alloc, target)?)?;
+    site.take_in(alloc, &mut board)?;
+    site.flush(alloc)?;
+    let receipt = receipt(alloc, &site, ticket, target)?;
+    Ok(advanced(&mut board, node, receipt)?)
+}
+
+fn recipe(alloc: Global, target: &ByteString) -> Result<Recipe, Fail>
+    ensures { IfOk result (λ r. r.target ≡ target.now) }
+{
+    let mut lines = Vec::new(alloc);
+    lines.push(split_line(alloc, b"echo x", b"echo x")?)?;
+    Ok(Recipe {
+        target: target.copy(alloc)?,
+        lines,
+        env: Vec::new(alloc),
+        ignore: false,
+    })
+}
+
+/// Runs a recipe. The clearance comes back where memory was refused.
+fn tried<R: Wait + Clock + Copy>(
+    alloc: Global,
+    clearance: Clearance<Receipt>,
+    recipe: Recipe,
+    slot: &Slot<'_>,
+    fake: &Fake<R>,
+) -> Option<Clearance<Receipt>>
+    requires { clearance.told.noted ≡ records.Begun recipe.target }
+    ensures { IfSome result (λ c. c ≡ clearance) }
+{
+    match run_recipe(alloc, clearance, recipe, slot, fake, fake) {
+        Ok(ran) => {
+            let Ran { ended: _, spent } = ran;
+            let _receipt = spent.give_up();
+            None
+        }
+        Err(clearance) => Some(clearance),
+    }
+}
+
+/// How often memory was refused before one of two recipes of the same target was run.
+fn refusals<R: Wait + Clock + Copy>(
+    alloc: Global,
+    clearance: Clearance<Receipt>,
+    first: Recipe,
+    second: Recipe,
+    slot: &Slot<'_>,
+    fake: &Fake<R>,
+) -> u8
+    requires first { clearance.told.noted ≡ records.Begun first.target }
+    requires second { clearance.told.noted ≡ records.Begun second.target }
+{
+    let Some(clearance) = tried(alloc, clearance, first, slot, fake) else {
+        return 0;
+    };
+    let Some(clearance) = tried(alloc, clearance, second, slot, fake) else {
+        return 1;
+    };
+    let _receipt = clearance.give_up();
+    2
+}
+
+/// The same, with a slot of its own.
+fn refusals_in_a_slot<R: Wait + Clock + Copy>(
+    rt: &R,
+    alloc: Global,
+    clearance: Clearance<Receipt>,
+    first: Recipe,
+    second: Recipe,
+    end: TokenEnd<'_, R>,
+    fake: &Fake<R>,
+) -> u8
+    requires first { clearance.told.noted ≡ records.Begun first.target }
+    requires second { clearance.told.noted ≡ records.Begun second.target }
+{
+    let mut end = end;
+    let slots = Slots::new();
+    let slot = slots.acquire(rt, &mut end);
+    let refusals = refusals(alloc, clearance, first, second, &slot, fake);
+    let _ = slots.release(rt, slot, &mut end);
+    refusals
+}
+
+/// How often a recipe's memory was refused before it was run, and the lines that were run.
+fn run_at_last<R: Wait + Clock + Copy>(rt: &R, alloc: Global) -> Result<(u8, Vec<u8>), Fail> {
+    let target = ByteString::from_slice(alloc, b"x")?;
+    let first = recipe(alloc, &target)?;
+    let second = recipe(alloc, &target)?;
+    let fake = Fake::new(*rt, alloc, &ALONE)?;
+    let end = fake.end(alloc, 1)?;
+    let clearance = cleared(alloc, &target)?;
+    let refusals = refusals_in_a_slot(rt, alloc, clearance, first, second, end, &fake);
+    Ok((refusals, fake.into_notes().ran))
+}
+
+#[test]
+fn a_recipe_that_wanted_memory_is_run_the_next_time(rt: HostRuntime) -> Result<(), Fail> {
+    let (refusals, ran) = run_at_last(&rt, rt.alloc())?;
+    assert!(rt; refusals <= 1);
+    assert_eq!(rt; ran.as_slice(), b"echo x\n".as_slice());
+    Ok(())
+}

@@ -1,0 +1,129 @@
+//! A device that stops in the midst of a run over what an earlier run left: a recipe that was run is listed again.
+
+use crate::makefiles::{Asked, Files, lists_any};
+use crate::runs::{Came, made};
+use crate::states::new_store;
+use crate::way::{ALONE, SIDE_BY_SIDE, Way};
+use st_disk::{Disk, Fuse, MemDisk};
+use st_records::HashKey;
+use st_recovery::open;
+use std::alloc::Global;
+use std::process::Abort;
+use std::sync::Wait;
+use std::test::Fail;
+use std::thread::Threads;
+use std::time::Clock;
+
+const MAKEFILE: &str = ".KEEP_STATE:\nz: x\n\techo z\nx: y\n\techo $(A)\n";
+
+// Each file is newer than those that it is made from: times alone list nothing.
+const FILES: Files = &[("z", 9), ("x", 8), ("y", 1)];
+
+const EARLIER: Asked<'static> = Asked {
+    makefile: MAKEFILE,
+    files: FILES,
+    definition: Some(("A", "1")),
+};
+
+const LATER: Asked<'static> = Asked {
+    makefile: MAKEFILE,
+    files: FILES,
+    definition: Some(("A", "2")),
+};
+
+// More calls than opening and four commits make.
+const MANY: u64 = 40;
+
+fn disk_of<D: Disk + Drop>(came: Came<D>) -> D {
+    let store = came.into_store();
+    let log = store.log;
+    log.disk
+}
+
+/// What an earlier run left.
+fn left<R: Threads + Wait + Clock + Sync + Copy>(rt: &R, alloc: Global) -> Result<MemDisk, Fail> {
+    Ok(disk_of(made(rt, alloc, &EARLIER, &ALONE, new_store(alloc)?)?))
+}
+
+/// What a later run came to whose disk makes so many calls, if it could be opened.
+fn stopped_after<R: Threads + Wait + Clock + Sync + Copy>(
+    rt: &R,
+    alloc: Global,
+    way: &Way,
+    calls: u64,
+) -> Result<Option<Came<Fuse<MemDisk>>>, Fail> {
+    let disk: Fuse<MemDisk> = Fuse::new(left(rt, alloc)?, calls);
+    match open(alloc, HashKey::fixed(), disk) {
+        Ok(store) => Ok(Some(made(rt, alloc, &LATER, way, store)?)),
+        Err(_) => Ok(None),
+    }
+}
+
+/// Where the later run ended.
+#[derive(Clone, Copy)]
+enum Stop {
+    BeforeTheRecipe,
+    /// The recipe was run, and its end wasn't told.
+    BeforeTheEnd,
+    Nowhere,
+}
+
+fn stop_of(came: &Came<Fuse<MemDisk>>) -> Stop {
+    if came.status() == 0 {
+        return Stop::Nowhere;
+    }
+    if came.notes.ran.is_empty() {
+        return Stop::BeforeTheRecipe;
+    }
+    Stop::BeforeTheEnd
+}
+
+/// Whether the disk knows where the run stopped. Once the recipe was run, what the earlier run left of it counts no
+/// more.
+fn knows(alloc: Global, stop: Stop, disk: MemDisk) -> Result<bool, Fail> {
+    let Ok(store) = open(alloc, HashKey::fixed(), disk) else {
+        return Ok(false);
+    };
+    let by_earlier = lists_any(alloc, &EARLIER, store.state())?;
+    let by_later = lists_any(alloc, &LATER, store.state())?;
+    Ok(match stop {
+        Stop::BeforeTheRecipe => by_later,
+        Stop::BeforeTheEnd => by_earlier,
+        Stop::Nowhere => by_earlier && !by_later,
+    })
+}
+
+/// Where a later run stopped whose disk makes so many calls.
+fn stop_after<R: Threads + Wait + Clock + Sync + Copy>(
+    rt: &R,
+    alloc: Global,
+    way: &Way,
+    calls: u64,
+) -> Result<Stop, Fail> {
+    let Some(came) = stopped_after(rt, alloc, way, calls)? else {
+        return Ok(Stop::BeforeTheRecipe);
+    };
+    let stop = stop_of(&came);
+    let disk = disk_of(came);
+    if knows(alloc, stop, disk.inner)? {
+        return Ok(stop);
+    }
+    Err("what the run left says something else".into())
+}
+
+#[test]
+fn a_recipe_that_was_run_is_listed_wherever_the_device_stops(rt: HostRuntime) -> Result<(), Fail> {
+    for way in [ALONE, SIDE_BY_SIDE] {
+        let mut is_before_the_end = false;
+        let mut is_nowhere = false;
+        for calls in 0..MANY {
+            match stop_after(&rt, rt.alloc(), &way, calls)? {
+                Stop::BeforeTheRecipe => {}
+                Stop::BeforeTheEnd => is_before_the_end = true,
+                Stop::Nowhere => is_nowhere = true,
+            }
+        }
+        assert!(rt; is_before_the_end && is_nowhere);
+    }
+    Ok(())
+}
