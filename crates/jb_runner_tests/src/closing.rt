@@ -13,7 +13,7 @@ use std::alloc::Global;
 use std::process::Abort;
 use std::test::Fail;
 
-// The 'begun' and the 'done' of each recipe were told.
+// Its run tells begun a, done a, begun b, done b: tickets 0 to 3.
 const TWO: Asked<'static> = Asked {
     makefile: "all: a b\na:\n\ttrue\nb:\n\ttrue\n",
     files: &[],

@@ -12,11 +12,11 @@ use std::time::{Clock, Duration};
 /// The status of a line that has waited for others in vain.
 const IN_VAIN: u8 = 99;
 
-// A line that waits for others gives up after so many looks: a run in which nobody meets ends in time.
+// A line that waits for others gives up after so many looks, ten seconds at least: a run in which nobody meets ends.
 const LOOKS: u32 = 100_000;
 
 // So many sleeps last long enough for other workers to fall asleep.
-const SLEEPS: u32 = 1_000;
+const SLEEPS: u32 = 300;
 
 fn digit_behind(text: &[u8], front: &[u8]) -> Option<u8> {
     match text.strip_prefix(front) {
@@ -27,7 +27,7 @@ fn digit_behind(text: &[u8], front: &[u8]) -> Option<u8> {
 
 impl<R: Wait + Clock + Copy> Fake<R> {
     fn pause(&self) {
-        thread::sleep(&self.rt, Duration::from_micros(1));
+        thread::sleep(&self.rt, Duration::from_micros(100));
     }
 
     fn nap(&self) {

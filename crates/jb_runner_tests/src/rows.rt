@@ -61,19 +61,18 @@ const TWO_WANTING_MEMORY: Way = Way {
     ..ALONE
 };
 
-const TWO: &str = ".KEEP_STATE:\nall: x y\nx:\n\texit 3\ny:\n\techo y\n";
+const TWO: &str = "all: x y\nx:\n\texit 3\ny:\n\techo y\n";
 
-const TWO_WITH_A_LOOP: &str = ".KEEP_STATE:\nall: x y\nA = $(A)\nx:\n\techo $(A)\ny:\n\techo y\n";
+const TWO_WITH_A_LOOP: &str = "all: x y\nA = $(A)\nx:\n\techo $(A)\ny:\n\techo y\n";
 
 // The command has 65,538 bytes, three more than a record may hold in one.
-const LONG: &str =
-    ".KEEP_STATE:\nA = 0123456789abcdef\nB = $(A)$(A)$(A)$(A)\nC = $(B)$(B)$(B)$(B)\n\
+const LONG: &str = "A = 0123456789abcdef\nB = $(A)$(A)$(A)$(A)\nC = $(B)$(B)$(B)$(B)\n\
 D = $(C)$(C)$(C)$(C)\nE = $(D)$(D)$(D)$(D)\nF = $(E)$(E)$(E)$(E)\nx:\n\t: $(F)$(F)$(F)$(F)\n";
 
 static ROWS: [Row; 15] = [
     Row {
         name: "an ignored status is passed over",
-        makefile: ".KEEP_STATE:\nx:\n\t-false\n\techo hi\n",
+        makefile: "x:\n\t-false\n\techo hi\n",
         files: &[],
         way: ALONE,
         told: "~remove .make.state.dep.0\nfalse\necho hi\nhi\n~report .make.state.dep.0\n\
@@ -81,14 +80,14 @@ static ROWS: [Row; 15] = [
     },
     Row {
         name: "a failed line ends its recipe",
-        makefile: ".KEEP_STATE:\nx:\n\texit 3\n\techo no\n",
+        makefile: "x:\n\texit 3\n\techo no\n",
         files: &[],
         way: ALONE,
         told: "~remove .make.state.dep.0\nexit 3\n~remove .make.state.dep.0\n!x failed 3\n=1\nfailed x 3\n",
     },
     Row {
         name: "a line that can't be run",
-        makefile: ".KEEP_STATE:\nx:\n\tgone\n\techo no\n",
+        makefile: "x:\n\tgone\n\techo no\n",
         files: &[],
         way: ALONE,
         told: "~remove .make.state.dep.0\ngone\n~remove .make.state.dep.0\n!x failed 256\n=1\nfailed x 256\n",
@@ -126,7 +125,7 @@ static ROWS: [Row; 15] = [
     },
     Row {
         name: "a report that can't be read",
-        makefile: ".KEEP_STATE:\nx:\n\ttrue\n",
+        makefile: "x:\n\ttrue\n",
         files: &[],
         way: UNREADABLE,
         told: "~remove .make.state.dep.0\ntrue\n~report .make.state.dep.0\n~remove .make.state.dep.0\n\
@@ -134,7 +133,7 @@ static ROWS: [Row; 15] = [
     },
     Row {
         name: "a report that is no text",
-        makefile: ".KEEP_STATE:\nx:\n\ttrue\n",
+        makefile: "x:\n\ttrue\n",
         files: &[],
         way: NO_TEXT,
         told: "~remove .make.state.dep.0\ntrue\n~report .make.state.dep.0\n~remove .make.state.dep.0\n\
@@ -142,7 +141,7 @@ static ROWS: [Row; 15] = [
     },
     Row {
         name: "a file that is not on the disk",
-        makefile: ".KEEP_STATE:\nx:\n\ttrue\n",
+        makefile: "x:\n\ttrue\n",
         files: &[],
         way: NOT_ON_THE_DISK,
         told: "~remove .make.state.dep.0\ntrue\n~report .make.state.dep.0\n~remove .make.state.dep.0\n\
@@ -157,7 +156,7 @@ static ROWS: [Row; 15] = [
     },
     Row {
         name: "what a recipe is told",
-        makefile: ".KEEP_STATE:\nall: x\nx:\n\tenv\n",
+        makefile: "all: x\nx:\n\tenv\n",
         files: &[],
         way: ALONE,
         told: "~remove .make.state.dep.1\nenv\nMAKEFLAGS=\n\
@@ -173,7 +172,7 @@ SUNPRO_DEPENDENCIES=.make.state.dep.1 x\n~report .make.state.dep.1\n~remove .mak
     },
     Row {
         name: "a report that names the source",
-        makefile: ".KEEP_STATE:\nall: x.o\n%.o: %.c\n\ttrue\nx.o: y\n",
+        makefile: "all: x.o\n%.o: %.c\n\ttrue\nx.o: y\n",
         files: &[("x.c", 1), ("y", 1)],
         way: SOURCE_AND_HEADER,
         told: "~remove .make.state.dep.1\ntrue\n~report .make.state.dep.1\n~remove .make.state.dep.1\n\
@@ -181,7 +180,7 @@ SUNPRO_DEPENDENCIES=.make.state.dep.1 x\n~report .make.state.dep.1\n~remove .mak
     },
     Row {
         name: "a worker that wants memory ends the run of the other",
-        makefile: ".KEEP_STATE:\nall: x .WAIT y\nx:\n\ttrue\ny:\n\techo y\n",
+        makefile: "all: x .WAIT y\nx:\n\ttrue\ny:\n\techo y\n",
         files: &[],
         way: TWO_WANTING_MEMORY,
         told: "~remove .make.state.dep.1\ntrue\n~report .make.state.dep.1\n~remove .make.state.dep.1\n\

@@ -15,12 +15,11 @@ struct Sequence {
     name: &'static str,
     runs: &'static [Asked<'static>],
     way: Way,
-    /// The lines that each run ran, each run with a `=` behind, and the state.
+    /// The lines that each run ran, its status behind a `=`, and the state behind the last run.
     told: &'static str,
 }
 
-const PROGRAM: &str =
-    ".KEEP_STATE:\nCFLAGS = -O\nprog: a.o\n\tld -o prog a.o\na.o: a.c\n\tcc $(CFLAGS) -c a.c\n";
+const PROGRAM: &str = "CFLAGS = -O\nprog: a.o\n\tld -o prog a.o\na.o: a.c\n\tcc $(CFLAGS) -c a.c\n";
 
 const FILES: Files = &[("prog", 1), ("a.o", 1), ("a.c", 1)];
 
@@ -43,7 +42,7 @@ const IN_TURN: Asked<'static> = Asked {
 };
 
 const HIDDEN: Asked<'static> = Asked {
-    makefile: ".KEEP_STATE:\nall: a b\na:\n\ttouch a\nb:\n\ttouch b\n",
+    makefile: "all: a b\na:\n\ttouch a\nb:\n\ttouch b\n",
     files: &[],
     definition: None,
 };
@@ -61,20 +60,20 @@ static SEQUENCES: [Sequence; 3] = [
         name: "changed flags make what uses them and what needs that",
         runs: &[FLAGS, FLAGS, OTHER_FLAGS, OTHER_FLAGS, FLAGS],
         way: ALONE,
-        told: "cc -O -c a.c\nld -o prog a.o\n==cc -g -c a.c\nld -o prog a.o\n==\
-cc -O -c a.c\nld -o prog a.o\n=done a.o\n    $ cc -O -c a.c\n    : a.c\ndone prog\n    $ ld -o prog a.o\n    : a.o\n",
+        told: "cc -O -c a.c\nld -o prog a.o\n=0\n=0\ncc -g -c a.c\nld -o prog a.o\n=0\n=0\n\
+cc -O -c a.c\nld -o prog a.o\n=0\ndone a.o\n    $ cc -O -c a.c\n    : a.c\ndone prog\n    $ ld -o prog a.o\n    : a.o\n",
     },
     Sequence {
         name: "a hidden prerequisite comes first from the next run on",
         runs: &[HIDDEN, HIDDEN],
         way: REPORTING_B,
-        told: "touch a\ntouch b\n=touch b\ntouch a\n=done a\n    $ touch a\n    < b\ndone b\n    $ touch b\n",
+        told: "touch a\ntouch b\n=0\ntouch b\ntouch a\n=0\ndone a\n    $ touch a\n    < b\ndone b\n    $ touch b\n",
     },
     Sequence {
         name: "one worker takes what is ready in turn",
         runs: &[IN_TURN],
         way: ALONE,
-        told: "echo z\necho w\necho x\n=done w\n    $ echo w\ndone x\n    $ echo x\n    : z\ndone z\n    $ echo z\n",
+        told: "echo z\necho w\necho x\n=0\ndone w\n    $ echo w\ndone x\n    $ echo x\n    : z\ndone z\n    $ echo z\n",
     },
 ];
 
@@ -87,7 +86,8 @@ fn expect_sequence<R: Threads + Wait + Clock + Sync + Copy + AllocGlobal>(
     for asked in row.runs {
         let came = made(rt, rt.alloc(), asked, &row.way, store)?;
         let ran = ByteString::from_slice(rt.alloc(), came.notes.ran.as_slice())?;
-        told.push_str(format!(in rt.alloc(); "{ran}=")?.as_str())?;
+        let status = came.status();
+        told.push_str(format!(in rt.alloc(); "{ran}={status}\n")?.as_str())?;
         store = came.into_store();
     }
     told.push_str(listing(rt.alloc(), store.state())?.as_str())?;

@@ -1,4 +1,4 @@
-//! How a run goes.
+//! Ways in which a run may go.
 
 use jb_runner::PlaceFault;
 
@@ -7,6 +7,7 @@ use jb_runner::PlaceFault;
 pub struct Way {
     pub workers: usize,
     pub goes_on: bool,
+    /// Whatever the makefile says of it.
     pub keeps_state: bool,
     /// The tokens of its pool; None where the pool answers a fault at once.
     pub tokens: Option<&'static [u8]>,
@@ -21,7 +22,7 @@ pub struct Shown {
 }
 
 /// No recipe reports anything.
-pub const NO_REPORTS: Shown = Shown {
+const NO_REPORTS: Shown = Shown {
     report: Ok(b""),
     sync: Ok(()),
 };
@@ -48,8 +49,6 @@ pub const WITHOUT_STATE: Way = Way {
 /// Three workers, with `-k`.
 pub const SIDE_BY_SIDE: Way = Way {
     workers: 3,
-    goes_on: true,
-    keeps_state: true,
     tokens: Some(b"ab"),
-    shown: NO_REPORTS,
+    ..ALONE_WITH_K
 };

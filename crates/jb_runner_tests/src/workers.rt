@@ -19,34 +19,52 @@ use std::time::Clock;
 struct Row {
     name: &'static str,
     makefile: &'static str,
+    way: Way,
     told: &'static str,
 }
+
+const ONE_SLOT: Way = Way {
+    tokens: Some(b""),
+    ..SIDE_BY_SIDE
+};
 
 static TOGETHER: Row = Row {
     name: "two recipes meet",
     makefile: "all: a b\na:\n\tmeet 2\nb:\n\tmeet 2\n",
+    way: SIDE_BY_SIDE,
     told: "meet 2\nmeet 2\n=0 [Remade, Built, Built]",
 };
 
-static WAITING: [Row; 4] = [
+// Where an idle worker isn't woken the test doesn't end.
+static WAITING: [Row; 5] = [
+    Row {
+        name: "with the implicit slot alone one recipe runs at a time",
+        makefile: "all: a b c\na:\n\tnap\n\techo x\nb:\n\tnap\n\techo x\nc:\n\tnap\n\techo x\n",
+        way: ONE_SLOT,
+        told: "nap\necho x\nnap\necho x\nnap\necho x\n=0 [Remade, Built, Built, Built]",
+    },
     Row {
         name: "a recipe behind a barrier begins when those before it have ended",
         makefile: "all: a .WAIT b\na:\n\tnap\n\techo a\nb:\n\techo b\n",
+        way: SIDE_BY_SIDE,
         told: "nap\necho a\necho b\n=0 [Remade, Built, Built]",
     },
     Row {
         name: "idle workers go on behind each recipe of a chain",
         makefile: "c: b\n\tnap\nb: a\n\tnap\na:\n\tnap\n",
+        way: SIDE_BY_SIDE,
         told: "nap\nnap\nnap\n=0 [Built, Built, Built]",
     },
     Row {
         name: "idle workers end where nothing is left but to settle",
         makefile: "c: b\nb: a\na:\n\tnap\n",
+        way: SIDE_BY_SIDE,
         told: "nap\n=0 [Remade, Remade, Built]",
     },
     Row {
         name: "idle workers end where a line can't be expanded",
         makefile: "A = $(A)\nc: b\nb: a\n\techo $(A)\na:\n\tnap\n",
+        way: SIDE_BY_SIDE,
         told: "nap\n=2 [Abandoned, Abandoned, Built]",
     },
 ];
@@ -57,7 +75,7 @@ fn expect_row<R: Threads + Wait + Clock + Sync + Copy + AllocGlobal>(
 ) -> Result<(), Fail> {
     let alloc = rt.alloc();
     let asked = Asked::of(row.makefile);
-    let came = made(rt, alloc, &asked, &SIDE_BY_SIDE, new_store(alloc)?)?;
+    let came = made(rt, alloc, &asked, &row.way, new_store(alloc)?)?;
     let ran = ByteString::from_slice(alloc, came.notes.ran.as_slice())?;
     let report = came.into_report()?;
     let told = format!(in alloc; "{ran}={} {:?}", report.status, report.ends)?;
@@ -70,7 +88,7 @@ fn two_recipes_meet(rt: HostRuntime) -> Result<(), Fail> {
 }
 
 #[test]
-fn idle_workers_wait_for_what_comes_first(rt: HostRuntime) -> Result<(), Fail> {
+fn workers_wait_go_on_and_end(rt: HostRuntime) -> Result<(), Fail> {
     for row in &WAITING {
         expect_row(&rt, row)?;
     }
