@@ -16,8 +16,12 @@ run_part() {
     passed=$((passed + good)) failed=$((failed + bad))
 }
 
+# A lane for each processor, as long as each has 5 GB, which no proof has needed. By its own, larger estimates `rt ci` lets the
+# longest chain of crates wait for memory that is free.
+lanes=$(awk -v most="$(nproc)" '/^MemAvailable:/ { n = int($2 / 5000000) } END { print n < 1 ? 1 : n < most ? n : most }' /proc/meminfo)
+
 started=$SECONDS
-run_part rt ci
+run_part env RT_JOBS="${RT_JOBS:-$lanes}" rt ci
 if [ "$failed" -eq 0 ]; then
     run_part bash scripts/must_not_compile.sh
     run_part bash scripts/cases.sh
