@@ -4,11 +4,11 @@
 set -eu
 cd "$(dirname "$0")/.."
 mkdir -p bin
-for program in dmk_state dmk; do
-    echo "proving and building $program and the crates below it (tens of minutes the first time)"
-    # `rt run` is the command that links a program; what --help prints is of no interest here. Of what the prover prints
-    # the line of each crate is shown when it is proved.
-    (cd "crates/$program" && rt run -- --help) 2>&1 | tee bin/build.log | sed -unE 's/^crate ([a-z_]+): modules.*/proved: \1/p'
+programs=(dmk_state dmk)
+echo "proving and building ${programs[*]}, and the crates below them (tens of minutes the first time)"
+for program in "${programs[@]}"; do
+    # `rt run` is the command that links a program; what --help prints is of no interest here.
+    (cd "crates/$program" && rt run -- --help) 2>&1 | tee bin/build.log | python3 scripts/build_progress.py "${programs[@]}"
     [ "${PIPESTATUS[0]}" -eq 0 ] || { tail -n 40 bin/build.log; exit 1; }
     cp "crates/$program/out/$program" bin/
 done

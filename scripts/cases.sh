@@ -1,6 +1,7 @@
 #!/bin/bash
 # Runs the built programs on cases/PROGRAM/NAME: `cmd`, a shell script, is run in a fresh copy of the case's files/ and
-# must give its stdout, stderr and status (each left out where it is empty, or 0). See docs/TESTING.md.
+# must give its stdout, stderr and status (each left out where it is empty, or 0). Lines that it writes into a file `notes` are
+# printed: that is for what it left out, as where a program isn't there. See docs/TESTING.md.
 # The last line is 'N passed, M failed'.
 set -u -o pipefail
 cd "$(dirname "$0")/.." || exit 2
@@ -29,6 +30,8 @@ sys.stdout.buffer.write(bytes.fromhex(text))' <"$hex" >"${hex%.hex}" || why="bad
     done < <(find "$place" -name '*.hex' -print0)
     (cd "$place" && timeout 60 sh "$root/$case/cmd") >"$got/stdout" 2>"$got/stderr" </dev/null
     echo $? >"$got/status"
+    # What wasn't run is told by the case.
+    [ ! -f "$place/notes" ] || sed "s|^|note: $case: |" "$place/notes"
     for part in stdout stderr status; do
         wanted=$case/$part
         [ -f "$wanted" ] || { wanted=$work/wanted; [ "$part" = status ] && echo 0 >"$wanted" || : >"$wanted"; }

@@ -2,7 +2,7 @@
 # Compares docs/GUARANTEES.md with the sources. In its tables each row is '| promise | call, clause | edits |':
 # - the first name of a part (parts end at ';') is a function, `Type::function`, a type, a trait, a `crate::module` or a
 #   lemma that is there; each later one is a clause of these, or one more of them;
-# - the must-fail edits of all crates are named, each once or more, and no other ones.
+# - the must-fail and the planted edits of all crates are named, each once or more, and no other ones.
 # The must-not-compile edits are named in its text.
 # The last line is 'N passed, M failed'. A document without rows, calls or edits fails.
 set -u -o pipefail
@@ -69,7 +69,7 @@ for promise, column, edits in rows:
             if not is_clause and not more:
                 wrong.append(f'no such call or clause: {name} ({promise.strip()})')
         last = calls or last
-there = {os.path.basename(path)[:-5] for path in glob.glob('crates/*/must-fail/*.edit')}
+there = {os.path.basename(path)[:-5] for folder in ('must-fail', 'planted') for path in glob.glob(f'crates/*/{folder}/*.edit')}
 for path in glob.glob('crates/*/must-not-compile/*.edit'):
     name = os.path.basename(path)[:-5]
     passed += f'`{name}`' in document

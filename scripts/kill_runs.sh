@@ -1,6 +1,7 @@
 #!/bin/bash
 # Kills dmk in the midst of its recipes at random moments, up to three times in a tree, and often its recipes too; then lets a
-# run end. The state must be readable after each kill, each target have its right contents, and a further run nothing to do.
+# run end, which is started at once and itself waits for recipes that go on. The state must be readable after each kill, each
+# target have its right contents, and a further run nothing to do.
 # The last line is 'N passed, M failed'. Usage: kill_runs.sh [TREES]
 set -u
 cd "$(dirname "$0")/.." || exit 2
@@ -28,14 +29,7 @@ make_tree() {
     } >"$1/makefile"
 }
 
-# go_on GROUP: whether processes of the group still run.
-go_on() {
-    cat /proc/[0-9]*/stat 2>/dev/null |
-        awk -v group="$1" '{ sub(/^.*[)] /, "") } $3 == group && $1 != "Z" { found = 1 } END { exit !found }'
-}
-
-# kill_once FOLDER: begins a run and ends it after at most 0.3 s, alone or with its recipes. Those that go on are waited for. The
-# state can be read then.
+# kill_once FOLDER: begins a run and ends it after at most 0.3 s, alone or with its recipes. The state can be read then.
 kill_once() {
     local pid
     (cd "$1" && exec setsid "$dmk" -j 3 >/dev/null 2>&1) &
@@ -47,10 +41,6 @@ kill_once() {
         kill -9 -- "-$pid" 2>/dev/null || kill -9 "$pid" 2>/dev/null
     fi
     wait "$pid" 2>/dev/null
-    for _ in $(seq 600); do
-        go_on "$pid" || break
-        sleep 0.1
-    done
     (cd "$1" && "$lister" >/dev/null)
 }
 

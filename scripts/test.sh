@@ -20,16 +20,32 @@ run_part() {
 # longest chain of crates wait for memory that is free.
 lanes=$(awk -v most="$(nproc)" '/^MemAvailable:/ { n = int($2 / 5000000) } END { print n < 1 ? 1 : n < most ? n : most }' /proc/meminfo)
 
+# What the parts cost, by crate: a table at the end.
+cost=$(mktemp) || exit 2
+python3 scripts/cost.py $$ scripts/budgets.txt >"$cost" &
+sampler=$!
+
 started=$SECONDS
 run_part env RT_JOBS="${RT_JOBS:-$lanes}" rt ci
 if [ "$failed" -eq 0 ]; then
     run_part bash scripts/must_not_compile.sh
+    run_part python3 scripts/planted.py
     run_part bash scripts/cases.sh
+    run_part python3 scripts/rows.py
+    run_part python3 scripts/random_makefiles.py
+    run_part python3 scripts/random_graphs.py crates/dmk/out/dmk
+    run_part bash scripts/slot_runs.sh
+    run_part bash scripts/two_runs.sh
+    run_part python3 scripts/read_beside_runs.py
     run_part bash scripts/kill_runs.sh
     run_part bash scripts/guarantees.sh
     run_part bash scripts/assumptions.sh
     run_part bash scripts/man.sh
 fi
+kill "$sampler" 2>/dev/null
+wait "$sampler"
+cat "$cost"
+rm -f "$cost"
 echo "wall time: $((SECONDS - started)) s"
 echo "$passed passed, $failed failed"
 [ "$failed" -eq 0 ]

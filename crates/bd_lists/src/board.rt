@@ -17,14 +17,12 @@ ghost use Rattle.bd_lists.specs.SixLists.{StandsIn};
 mod admission;
 mod clearance;
 
-use crate::copies::{copy_edges, copy_names};
 use crate::ledger::Ledger;
 use crate::{End, Node, Sent, Stand, Ticket, Told};
 use admission::may_send;
 use byte_strings::ByteString;
 pub use clearance::{Clearance, Spent};
 use mk_graph::Edges;
-use mk_rules::Graph;
 use st_records::Record;
 use std::alloc::{AllocError, Global};
 use std::marker::{Model, PhantomData};
@@ -96,16 +94,6 @@ fn hand_out<T>(run: Option<Spent<T>>) -> Option<T>
 }
 
 impl<T: Told> Board<T> {
-    /// The board of a graph.
-    pub fn new(alloc: Global, graph: &Graph) -> Result<Board<T>, AllocError>
-        ensures { IfOk result (λ b. b ≡ first_sheet (record { counted = graph.now.counted; hard = graph.now.hard }) graph.now.names) }
-    {
-        let counted = copy_edges(alloc, &graph.counted)?;
-        let hard = copy_edges(alloc, &graph.hard)?;
-        let names = copy_names(alloc, &graph.names)?;
-        Board::of(alloc, counted, hard, names)
-    }
-
     /// The board of nodes with these prerequisites: those that they wait for, each once, and those without which they can't be
     /// made. Nodes that wait for nothing are in Ready, the others in Waiting.
     pub fn of(

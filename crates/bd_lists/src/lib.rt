@@ -3,7 +3,6 @@
 #![tactic(auto)]
 
 mod board;
-mod copies;
 mod end;
 mod exec;
 mod ledger;

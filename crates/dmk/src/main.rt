@@ -3,34 +3,44 @@
 
 ghost use Rattle.std.specs.Prelude.{codes};
 ghost use Rattle.dmk_drive.specs.Keeping.{value_in};
-ghost use Rattle.dmk_drive.specs.Output.{AsksToLook, AsksToRun};
+ghost use Rattle.dmk_drive.specs.Output.{AsksToRun};
 
+mod asking;
+mod child_signal;
 mod command_line;
 mod environment;
 mod host_files;
+mod lock_file;
 mod pool_path;
 mod standard_streams;
+mod state_lock;
 
+use asking::ask;
 use bd_lists::Variable;
+use child_signal::run_anew;
 use command_line::{Request, read_words};
-use dmk_drive::{Fault, Message, Mode, Options, drive, value_of};
+use dmk_drive::{Fault, Message, Mode, Options, value_of};
 use dmk_run::{Means, Printer, build_targets};
 use environment::read_environment;
 use host_files::HostFiles;
-use jb_runner::{HostPlace, Shell};
+use jb_host::{HOLDS, HostPlace, Shell};
 use jb_slots::FifoBanks;
-use pool_path::pool_path;
+use pool_path::PoolPath;
 use st_disk::{FileDisk, SystemFolder};
 use st_records::HashKey;
-use standard_streams::{buffered, held_streams};
+use standard_streams::{buffered, held_streams, with_patience};
+use state_lock::StateLock;
 use std::alloc::AllocError;
 use std::process::ExitCode;
-use std::sync::Wait;
+use std::sync::{OnceLock, Wait};
 use std::thread::Threads;
 
 fn main(rt: HostRuntime) -> ExitCode {
     match read_words(rt) {
-        Ok(Request::Make(options)) => ExitCode::from(run(&rt, rt, options)),
+        Ok(Request::Make(options)) => match run_anew(rt) {
+            Some(status) => ExitCode::from(status),
+            None => ExitCode::from(run(&rt, rt, options)),
+        },
         Ok(Request::Leave(status)) => ExitCode::from(status),
         Err(fault) => {
             let _ = eprintln!(rt; "dmk: {fault}");
@@ -68,26 +78,6 @@ fn run_in<R: Threads + Wait + Sync>(
     }
 }
 
-/// Lists what a run would make, or asks whether there is anything.
-fn ask(host: HostRuntime, options: Options, environment: &[Variable]) -> Result<u8, AllocError>
-    requires { AsksToLook options (value_in environment.now (codes "MAKEFLAGS")) }
-{
-    let alloc = host.alloc();
-    let folder = SystemFolder::new(host, alloc, options.state.as_str())?;
-    let (status, _disk) = drive(
-        alloc,
-        HashKey::from_system(&host),
-        options,
-        environment,
-        &mut HostFiles::tree(host),
-        &mut HostFiles::tree(host),
-        FileDisk::new(folder),
-        &mut host.stdout(),
-        &mut host.stderr(),
-    );
-    Ok(status)
-}
-
 /// Runs recipes.
 fn make<R: Threads + Wait + Sync>(
     rt: &R,
@@ -99,18 +89,23 @@ fn make<R: Threads + Wait + Sync>(
 {
     let alloc = host.alloc();
     let folder = SystemFolder::new(host, alloc, options.state.as_str())?;
-    let pool = pool_path(host, options.state.as_str())?;
+    let flags = value_of(environment, b"MAKEFLAGS");
+    let workers = usize::from(options.workers);
+    let pool = PoolPath::new(host, options.state.as_str(), flags, workers)?;
     let printer = Printer::new(
         rt,
-        buffered(alloc, host.stdout())?,
-        buffered(alloc, host.stderr())?,
+        buffered(alloc, with_patience(host, host.stdout()))?,
+        buffered(alloc, with_patience(host, host.stderr()))?,
     );
-    let shell = Shell::new(host, alloc);
+    let held = OnceLock::new();
+    let above = str::from_utf8(value_of(environment, HOLDS.as_bytes())).unwrap_or("");
+    let mut guard = StateLock::new(host, options.state.as_str(), above, &held)?;
+    let shell = Shell::new(host, alloc, &held);
     let place = HostPlace::new(host);
     let means = Means {
         key: HashKey::from_system(&host),
         environment,
-        pool: &pool,
+        pool: pool.as_bytes(),
         exec: &shell,
         say: &printer,
         place: &place,
@@ -119,11 +114,13 @@ fn make<R: Threads + Wait + Sync>(
         rt,
         alloc,
         &means,
+        &mut guard,
         options,
         &mut HostFiles::tree(host),
         &mut HostFiles::tree(host),
         &mut FifoBanks::new(host, "mkfifo"),
         FileDisk::new(folder),
     );
+    pool.release();
     Ok(status)
 }

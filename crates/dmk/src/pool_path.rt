@@ -1,19 +1,103 @@
-//! The name of the FIFO that dmk serves.
+//! The name of the FIFO that dmk serves, which no other run serves meanwhile.
+
+use crate::lock_file::LockFile;
+use jb_runner::{Source, source_of};
 use std::alloc::AllocError;
-use std::env;
+use std::fs::{self, TryLockError};
+use std::{env, io};
+
+/// How many runs may serve a FIFO of one state's name at once.
+const MAX_NAMES: usize = 99;
+
+/// The name of a FIFO, kept from other runs by a lock on a file beside it for as long as this is held.
+#[derive(Drop)]
+pub struct PoolPath {
+    rt: HostRuntime,
+    /// Absolute; empty where it can't be told.
+    path: String,
+    lock: Option<LockFile>,
+}
 
 /// The absolute path of the state file's name with `.fifo`; empty where the current folder's name can't be had. Recipes run
 /// make in other folders.
-pub fn pool_path(rt: HostRuntime, state: &str) -> Result<Vec<u8>, AllocError> {
-    let mut path = Vec::new(rt.alloc());
-    if !state.starts_with("/") {
-        let Ok(folder) = env::current_dir(&rt) else {
-            return Ok(path);
-        };
-        path.extend_from_slice(folder.as_str().as_bytes())?;
-        path.push(b'/')?;
+fn usual_path(rt: HostRuntime, state: &str) -> Result<String, AllocError> {
+    let alloc = rt.alloc();
+    if state.starts_with("/") {
+        return format!(in alloc; "{state}.fifo");
     }
-    path.extend_from_slice(state.as_bytes())?;
-    path.extend_from_slice(b".fifo")?;
-    Ok(path)
+    let Ok(folder) = env::current_dir(&rt) else {
+        return Ok(String::new(alloc));
+    };
+    let folder = folder.as_str();
+    format!(in alloc; "{folder}/{state}.fifo")
+}
+
+fn lock_path(rt: HostRuntime, path: &str) -> Result<String, AllocError> {
+    format!(in rt.alloc(); "{path}.lock")
+}
+
+// The lock file of a name, locked; None where another run serves the name.
+fn try_lock(rt: HostRuntime, path: &str) -> io::Result<Option<LockFile>> {
+    for _ in 0..u64::MAX {
+        let lock = LockFile::open(rt, path)?;
+        match lock.file.try_lock() {
+            Ok(()) if lock.is_at(rt, path) => return Ok(Some(lock)),
+            Ok(()) => {}
+            Err(TryLockError::WouldBlock) => return Ok(None),
+            Err(TryLockError::Error(error)) => return Err(error),
+        }
+    }
+    Ok(None)
+}
+
+impl PoolPath {
+    fn without_lock(rt: HostRuntime, path: String) -> PoolPath {
+        PoolPath {
+            rt,
+            path,
+            lock: None,
+        }
+    }
+
+    /// The state file's name with `.fifo`, or, where another run serves that, with a number behind it. Nothing is locked where by
+    /// MAKEFLAGS no pool will be served, nor where there are no locks to be had.
+    pub fn new(
+        rt: HostRuntime,
+        state: &str,
+        makeflags: &[u8],
+        workers: usize,
+    ) -> Result<PoolPath, AllocError> {
+        let usual = usual_path(rt, state)?;
+        if source_of(makeflags, workers) != Source::Server || usual.is_empty() {
+            return Ok(PoolPath::without_lock(rt, usual));
+        }
+        for number in 1..=MAX_NAMES {
+            let path = if number == 1 {
+                usual.clone()?
+            } else {
+                format!(in rt.alloc(); "{usual}.{number}")?
+            };
+            let locked = lock_path(rt, path.as_str())?;
+            match try_lock(rt, locked.as_str()) {
+                Ok(None) => {}
+                Ok(lock) => return Ok(PoolPath { rt, path, lock }),
+                Err(_) => return Ok(PoolPath::without_lock(rt, usual)),
+            }
+        }
+        Ok(PoolPath::without_lock(rt, String::new(rt.alloc())))
+    }
+
+    pub fn as_bytes(&self) -> &[u8] {
+        self.path.as_bytes()
+    }
+
+    /// Lets the name go.
+    pub fn release(self) {
+        let PoolPath { rt, path, lock } = self;
+        if lock.is_some() {
+            if let Ok(locked) = lock_path(rt, path.as_str()) {
+                let _ = fs::remove_file(&rt, locked.as_str());
+            }
+        }
+    }
 }

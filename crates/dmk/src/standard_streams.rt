@@ -1,7 +1,41 @@
 //! The standard streams.
 use std::alloc::{AllocError, Global};
 use std::fs::File;
-use std::io::{self, BufWriter, Write};
+use std::io::{self, BufWriter, ErrorKind, Write};
+use std::thread;
+use std::time::Duration;
+
+/// The time after which a stream that took nothing is tried again, in milliseconds.
+const BETWEEN_WRITES: u64 = 1;
+
+/// A stream that somebody may have set not to block: what it doesn't take at once is written a little later.
+#[derive(Drop)]
+pub struct Patient<W: Drop> {
+    rt: HostRuntime,
+    stream: W,
+}
+
+pub fn with_patience<W: Write + Drop>(rt: HostRuntime, stream: W) -> Patient<W> {
+    Patient { rt, stream }
+}
+
+impl<W: Write + Drop> Write for Patient<W> {
+    fn write(&mut self, buf: &[u8]) -> io::Result<usize> {
+        for _ in 0..u64::MAX {
+            match self.stream.write(buf) {
+                Err(error) if error.kind() == ErrorKind::WouldBlock => {
+                    thread::sleep(&self.rt, Duration::from_millis(BETWEEN_WRITES));
+                }
+                answer => return answer,
+            }
+        }
+        Err(ErrorKind::WouldBlock.into())
+    }
+
+    fn flush(&mut self) -> io::Result<()> {
+        self.stream.flush()
+    }
+}
 
 /// A stream that is written when it is flushed, or when what is to be written is long.
 pub fn buffered<W: Write + Drop>(alloc: Global, stream: W) -> Result<BufWriter<W>, AllocError> {

@@ -11,11 +11,11 @@ use Rattle.mk_rules.specs.declared.graph.Graph.{Graph}
 use Rattle.bd_lists.specs.declared.end.End.{End}
 use Rattle.bd_flusher.specs.Site.{Facts}
 use Rattle.bd_flusher.specs.declared.site.receipt.Receipt.{Receipt}
-use Rattle.jb_runner.specs.declared.fault.RunFault.{RunFault}
-use Rattle.jb_runner.specs.declared.report.Report.{Report}
-use Rattle.jb_runner.specs.Agreement.{AreThoseOf}
-use Rattle.jb_runner.specs.Closing.{IsBuilt, IsNamed, IsTrueOf, AreTrueOf}
-use Rattle.jb_runner.specs.Report.{ends_well}
+use Rattle.jb_closing.specs.declared.fault.RunFault.{RunFault}
+use Rattle.jb_closing.specs.declared.report.Report.{Report}
+use Rattle.jb_closing.specs.Agreement.{AreThoseOf}
+use Rattle.jb_closing.specs.Closing.{IsBuilt, IsNamed, IsTrueOf, AreTrueOf}
+use Rattle.jb_closing.specs.Report.{ends_well}
 use Rattle.dmk_run.specs.Known.{IsTold}
 use Rattle.dmk_run.specs.Made.{IsMade}
 

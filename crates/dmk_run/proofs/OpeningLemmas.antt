@@ -13,8 +13,8 @@ use Rattle.st_recovery.specs.Recovers.{Recovers}
 use Rattle.st_recovery.specs.Stored.{AllRecover, ArePossibleOrNew}
 use Rattle.bd_flusher.specs.declared.fault.FlushFault.{FlushFault}
 use Rattle.bd_flusher.specs.declared.fault.FlushFault.TheVariants as refusals
-use Rattle.jb_runner.specs.declared.fault.RunFault.{RunFault}
-use Rattle.jb_runner.specs.declared.fault.RunFault.TheVariants as run_faults
+use Rattle.jb_closing.specs.declared.fault.RunFault.{RunFault}
+use Rattle.jb_closing.specs.declared.fault.RunFault.TheVariants as run_faults
 use Rattle.dmk_run.specs.Opened.{RecoversAs, ArePossibleOrRecover, IsNotCompacted, TellsNotCompacted}
 
 -- ---- what a power cut may leave

@@ -11,9 +11,9 @@ use Rattle.st_recovery.specs.Stored.{AllRecover}
 use Rattle.bd_lists.specs.declared.end.End.{End}
 use Rattle.bd_lists.specs.declared.recipe.Variable.{Variable}
 use Rattle.bd_flusher.specs.declared.site.receipt.Receipt.{Receipt}
-use Rattle.jb_runner.specs.Agreement.{AreThoseOf}
-use Rattle.jb_runner.specs.Closing.{AreTrueOf}
-use Rattle.jb_runner.specs.Report.{ends_well}
+use Rattle.jb_closing.specs.Agreement.{AreThoseOf}
+use Rattle.jb_closing.specs.Closing.{AreTrueOf}
+use Rattle.jb_closing.specs.Report.{ends_well}
 use Rattle.dmk_drive.specs.Planned.{AreItems, IsGraphOf, IsStateOn}
 use Rattle.dmk_drive.specs.Keeping.{keeps}
 use Rattle.dmk_run.specs.Known.{AreKnownDone}

@@ -13,8 +13,8 @@ use Rattle.bd_flusher.specs.declared.fault.FlushFault.{FlushFault}
 use Rattle.bd_flusher.specs.declared.fault.FlushFault.TheVariants as refusals
 use Rattle.dmk_drive.specs.declared.fault.Fault.{Fault}
 use Rattle.dmk_drive.specs.declared.fault.Fault.TheVariants as faults
-use Rattle.jb_runner.specs.declared.fault.RunFault.{RunFault}
-use Rattle.jb_runner.specs.declared.fault.RunFault.TheVariants as run_faults
+use Rattle.jb_closing.specs.declared.fault.RunFault.{RunFault}
+use Rattle.jb_closing.specs.declared.fault.RunFault.TheVariants as run_faults
 use Rattle.dmk_run.specs.declared.stop.Stop.{Stop}
 use Rattle.dmk_run.specs.declared.stop.Stop.TheVariants as stops
 
@@ -63,6 +63,7 @@ TellsNotOpened honest seen _ = ⊥
 -- blame, still stands on a side of version 1 of what is handed back
 abbrev pub IsWhyNotOpened : (honest : Type 0) → (seen left_seen : Which → List ℕ) → (left : Sides) → Stop → Type 0
 IsWhyNotOpened honest seen left_seen left (stops.Before fault) = TellsNotOpened honest seen fault
+IsWhyNotOpened honest seen left_seen left stops.HeldAbove = ⊥
 IsWhyNotOpened honest seen left_seen left (stops.Run fault) =
     TellsNotCompacted (honest → (m : StateMap) × Recovers (seen which.A) (seen which.B) m × StandsInVersion1 left_seen left m) fault
 

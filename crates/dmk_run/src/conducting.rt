@@ -1,11 +1,11 @@
 //! How a run goes, by the words of the command line and the makefile.
 
 ghost use Rattle.std.specs.Prelude.{◌≡◌, ◌||◌, if◌then◌else◌, string_bytes, IfOk};
-ghost use Rattle.jb_runner.specs.declared.variables.Makeflags.TheVariants as flags;
+ghost use Rattle.jb_recipe.specs.declared.variables.Makeflags.TheVariants as flags;
 
 use bd_lists::Variable;
 use byte_strings::ByteString;
-use jb_runner::{Conduct, Makeflags};
+use jb_recipe::{Conduct, Makeflags};
 use mk_rules::Settings;
 use std::alloc::{AllocError, Global};
 

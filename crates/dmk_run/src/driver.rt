@@ -18,6 +18,7 @@ ghost use Rattle.dmk_run.specs.declared.stop.Stop.TheVariants as stops;
 
 use crate::building::{Built, build};
 use crate::conducting::Wishes;
+use crate::guard::{Guard, hold_state};
 use crate::opening::{disk_of, open_store};
 use crate::printer::Printer;
 use crate::stop::Stop;
@@ -25,7 +26,7 @@ use bd_flusher::Receipt;
 use bd_lists::{Exec, Variable};
 use byte_strings::{ByteString, ByteStrings};
 use dmk_drive::{Fault, Message, Options, first_macros, items_of, keeps_state};
-use jb_runner::Place;
+use jb_recipe::Place;
 use jb_slots::Banks;
 use mk_reader::{Includes, Item};
 use mk_rules::{Graph, Tree};
@@ -153,10 +154,11 @@ where
 }
 
 /// Makes the goals over the state's disk, or over one in memory where no state is kept.
-fn run_items<R, T, E, O, W, P, K, D>(
+fn run_items<R, T, E, O, W, P, G, K, D>(
     rt: &R,
     alloc: Global,
     means: &Means<'_, E, Printer<'_, R, O, W>, P>,
+    guard: &mut G,
     wishes: &Wishes,
     goals: Goals,
     tree: &mut T,
@@ -171,6 +173,7 @@ where
     O: Write + Drop + Send,
     W: Write + Drop + Send,
     P: Place + Sync,
+    G: Guard,
     K: Banks,
     K::End: Drop + Send,
     D: Disk + Drop + Send,
@@ -182,6 +185,9 @@ where
     ensures let_go { K.serves banks.old ≡ false → K.serves banks.new ≡ false }
 {
     if keeps_state(means.environment, &items) {
+        if let Err(stop) = hold_state(guard, means.say, wishes.state.as_str()) {
+            return (Err(stop), disk);
+        }
         return run_over(
             rt, alloc, means, wishes, true, goals, tree, banks, items, disk,
         );
@@ -194,10 +200,11 @@ where
 }
 
 /// Makes the goals of the makefile that is named, or of the usual one.
-fn run_makefile<R, T, I, E, O, W, P, K, D>(
+fn run_makefile<R, T, I, E, O, W, P, G, K, D>(
     rt: &R,
     alloc: Global,
     means: &Means<'_, E, Printer<'_, R, O, W>, P>,
+    guard: &mut G,
     wishes: &Wishes,
     named: Option<&[u8]>,
     goals: Goals,
@@ -214,6 +221,7 @@ where
     O: Write + Drop + Send,
     W: Write + Drop + Send,
     P: Place + Sync,
+    G: Guard,
     K: Banks,
     K::End: Drop + Send,
     D: Disk + Drop + Send,
@@ -226,7 +234,9 @@ where
     ensures let_go { K.serves banks.old ≡ false → K.serves banks.new ≡ false }
 {
     match items_of(alloc, named, tree, includes) {
-        Ok(items) => run_items(rt, alloc, means, wishes, goals, tree, banks, items, disk),
+        Ok(items) => run_items(
+            rt, alloc, means, guard, wishes, goals, tree, banks, items, disk,
+        ),
         Err(fault) => (Err(Stop::Before(fault)), disk),
     }
 }
@@ -248,6 +258,10 @@ fn found_status<R: Wait, O: Write + Drop, W: Write + Drop>(
                 state,
                 fault: &fault,
             });
+            2
+        }
+        Err(Stop::HeldAbove) => {
+            printer.held_above(state);
             2
         }
         Err(Stop::Run(fault)) => {
@@ -280,12 +294,14 @@ fn status_of<R: Wait, O: Write + Drop, W: Write + Drop>(
 
 /// Makes the targets that the words name, or the first of the makefile, and what they need. The status, and the state's disk.
 ///
-/// The makefile's faults come first, then, where state is kept, those of the state and of its compaction, then the rules'. Any
-/// of them ends the run before a recipe is run.
-pub fn build_targets<R, T, I, E, O, W, P, K, D>(
+/// The makefile's faults come first, then, where state is kept, that the run which called this one has it, those of the state and
+/// of its compaction, then the rules'. Any of them ends the run before a recipe is run. Other runs over the state are waited for
+/// before it is looked at.
+pub fn build_targets<R, T, I, E, O, W, P, G, K, D>(
     rt: &R,
     alloc: Global,
     means: &Means<'_, E, Printer<'_, R, O, W>, P>,
+    guard: &mut G,
     options: Options,
     tree: &mut T,
     includes: &mut I,
@@ -300,6 +316,7 @@ where
     O: Write + Drop + Send,
     W: Write + Drop + Send,
     P: Place + Sync,
+    G: Guard,
     K: Banks,
     K::End: Drop + Send,
     D: Disk + Drop + Send,
@@ -341,7 +358,7 @@ where
     };
     let named = slice_of(&makefile);
     let (found, disk) = run_makefile(
-        rt, alloc, means, &wishes, named, goals, tree, includes, banks, disk,
+        rt, alloc, means, guard, &wishes, named, goals, tree, includes, banks, disk,
     );
     let status = status_of(means.say, wishes.state.as_str(), found);
     (status, disk)

@@ -4,6 +4,7 @@
 mod building;
 mod conducting;
 mod driver;
+mod guard;
 mod known;
 mod opening;
 mod printer;
@@ -12,6 +13,7 @@ mod stop;
 pub use building::{Built, build};
 pub use conducting::Wishes;
 pub use driver::{Means, build_targets};
+pub use guard::{Guard, Hold};
 pub use opening::open_store;
 pub use printer::Printer;
 pub use stop::Stop;

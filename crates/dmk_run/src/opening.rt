@@ -9,13 +9,13 @@ ghost use Rattle.st_file.specs.declared.commit_fault.CommitFault.TheVariants as 
 ghost use Rattle.st_disk.specs.declared.which.Which.TheVariants as sides;
 ghost use Rattle.bd_flusher.specs.declared.fault.FlushFault.TheVariants as refusals;
 ghost use Rattle.bd_flusher.specs.Faults.{fault_of};
-ghost use Rattle.jb_runner.specs.declared.fault.RunFault.TheVariants as run_faults;
+ghost use Rattle.jb_closing.specs.declared.fault.RunFault.TheVariants as run_faults;
 ghost use Rattle.dmk_run.specs.Opened.{ArePossibleOrRecover, StandsInVersion1, TellsNotCompacted, IsWhyNotOpened, IsOfDevice};
 
 use crate::stop::Stop;
 use bd_flusher::FlushFault;
 use dmk_drive::Fault;
-use jb_runner::RunFault;
+use jb_closing::RunFault;
 use st_compaction::compact;
 use st_disk::Disk;
 use st_file::{CommitFault, Log};

@@ -3,7 +3,8 @@
 
 use bd_lists::Ended;
 use dmk_drive::{Message, print_fault, print_note};
-use jb_runner::{News, RunFault, Say};
+use jb_closing::RunFault;
+use jb_recipe::{News, Say};
 use std::io::{self, Write};
 use std::sync::{Mutex, Wait};
 
@@ -76,6 +77,9 @@ fn write_news<E: Write>(err: &mut E, news: News<'_>) {
         News::JobserverFailed => {
             let _ = writeln!(err, "dmk: jobserver fault");
         }
+        News::FewerWorkers { workers, asked } => {
+            let _ = writeln!(err, "dmk: note: {workers} workers in place of {asked}");
+        }
     }
 }
 
@@ -119,6 +123,28 @@ impl<'a, R: Wait, O: Write + Drop, E: Write + Drop> Printer<'a, R, O, E> {
         let mut streams = self.streams.lock(self.rt);
         let _ = writeln!(streams.err, "dmk: {fault}");
         let _ = streams.err.flush();
+    }
+
+    /// One line about the state of this name, behind the program's name.
+    fn of_state(&self, before: &str, state: &str, behind: &str) {
+        let mut streams = self.streams.lock(self.rt);
+        let _ = writeln!(streams.err, "dmk: {before}{state}{behind}");
+        let _ = streams.err.flush();
+    }
+
+    /// Says that another run over the state is waited for.
+    pub fn waiting(&self, state: &str) {
+        self.of_state("note: waiting for another run over ", state, "");
+    }
+
+    /// Says that other runs over the state aren't kept away.
+    pub fn not_locked(&self, state: &str) {
+        self.of_state("note: ", state, " is not locked");
+    }
+
+    /// Says that the run which called this one has the state.
+    pub fn held_above(&self, state: &str) {
+        self.of_state("", state, " is held by the run that called this one");
     }
 
     /// Says that soft edges are dropped.

@@ -1,7 +1,7 @@
 //! Why a run ends with status 2 and no report.
 
 use dmk_drive::Fault;
-use jb_runner::RunFault;
+use jb_closing::RunFault;
 use std::alloc::AllocError;
 
 /// Why a run ends with status 2 and no report.
@@ -9,6 +9,8 @@ use std::alloc::AllocError;
 pub enum Stop {
     /// Nothing was begun: the makefile, the state or the rules have a fault.
     Before(Fault),
+    /// A run that called this one, and waits for it, has the state. Nothing was begun.
+    HeldAbove,
     /// The state couldn't be written, or memory or a thread was refused.
     Run(RunFault),
 }

@@ -12,11 +12,20 @@ mod tests;
 mod text;
 
 use command_line::{Request, read_words};
-use listing::ListFault;
-use output::{Message, print_fault, show};
+use listing::{ListFault, list};
+use output::{refuse, show};
 use sides::read_sides;
+use st_file::OpenFault;
 use st_records::HashKey;
 use std::process::ExitCode;
+use std::thread;
+use std::time::Duration;
+
+/// How often the sides are read at most.
+const MAX_READINGS: usize = 100;
+
+/// How many milliseconds a run has, between two readings, to end the step that the first one met.
+const PAUSE_MILLISECONDS: u64 = 2;
 
 fn main(rt: HostRuntime) -> ExitCode {
     match read_words(rt) {
@@ -29,23 +38,61 @@ fn main(rt: HostRuntime) -> ExitCode {
     }
 }
 
+/// Lists what FILE and FILE.2 hold. What a run beside it may have brought about is read again before it is told, until two readings
+/// are the same.
 fn list_file(rt: HostRuntime, file: &str) -> u8
     ensures status { (result ≡ 0) ⊎ (result ≡ 2) }
 {
-    match read_sides(rt, file) {
-        Ok((a, b)) => show(
-            rt.alloc(),
-            HashKey::from_system(&rt),
-            file,
-            a.as_slice(),
-            b.as_slice(),
-            &mut rt.stdout(),
-            &mut rt.stderr(),
-        ),
-        Err(fault) => {
-            let fault = ListFault::Open(fault);
-            print_fault(&mut rt.stderr(), Message { file, fault });
-            2
+    let key = HashKey::from_system(&rt);
+    let mut sides = read_sides(rt, file);
+    for _ in 1..MAX_READINGS {
+        let found = list_sides(rt, key, &sides);
+        if !is_doubtful(&sides, found) {
+            return match found {
+                Ok(()) => 0,
+                Err(fault) => refuse(file, fault, &mut rt.stderr()),
+            };
         }
+        thread::sleep(&rt, Duration::from_millis(PAUSE_MILLISECONDS));
+        let again = read_sides(rt, file);
+        if are_same(&sides, &again) {
+            break;
+        }
+        sides = again;
+    }
+    let (out, err) = (&mut rt.stdout(), &mut rt.stderr());
+    match sides {
+        Ok((a, b)) => show(rt.alloc(), key, file, &a, &b, out, err),
+        Err(fault) => refuse(file, ListFault::Open(fault), err),
+    }
+}
+
+type Read = Result<(Vec<u8>, Vec<u8>), OpenFault>;
+
+fn list_sides(rt: HostRuntime, key: HashKey, sides: &Read) -> Result<(), ListFault> {
+    match sides {
+        Ok((a, b)) => list(rt.alloc(), key, a, b, &mut rt.stdout()),
+        Err(fault) => Err(ListFault::Open(*fault)),
+    }
+}
+
+// A reading that falls between two writes of a run may be refused, or find neither side's records; nothing was printed then.
+fn is_doubtful(sides: &Read, found: Result<(), ListFault>) -> bool {
+    match (sides, found) {
+        (Ok((a, b)), Ok(())) => is_void(a) && is_void(b),
+        (_, Err(ListFault::Open(fault))) => fault != OpenFault::OutOfMemory,
+        _ => false,
+    }
+}
+
+fn is_void(side: &[u8]) -> bool {
+    matches!(side.first(), None | Some(0))
+}
+
+fn are_same(one: &Read, other: &Read) -> bool {
+    match (one, other) {
+        (Ok(one), Ok(other)) => one.0 == other.0 && one.1 == other.1,
+        (Err(one), Err(other)) => one == other,
+        _ => false,
     }
 }

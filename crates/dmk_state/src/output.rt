@@ -73,14 +73,19 @@ pub fn show<O: Write, E: Write>(
 {
     match list(alloc, key, a, b, out) {
         Ok(()) => 0,
-        Err(fault) => {
-            print_fault(err, Message { file, fault });
-            2
-        }
+        Err(fault) => refuse(file, fault, err),
     }
 }
 
+/// Prints the fault and answers 2.
+pub fn refuse<E: Write>(file: &str, fault: ListFault, err: &mut E) -> u8
+    ensures { result ≡ 2 }
+{
+    print_fault(err, Message { file, fault });
+    2
+}
+
 /// Prints one line with the fault.
-pub fn print_fault<E: Write>(err: &mut E, message: Message<'_>) {
+fn print_fault<E: Write>(err: &mut E, message: Message<'_>) {
     let _ = writeln!(err, "dmk_state: {message}");
 }

@@ -1,2 +1,0 @@
--- The times of files in memory.
-pub mod Folder

@@ -7,10 +7,10 @@ use Rattle.bd_lists.specs.declared.end.End.{End}
 use Rattle.bd_lists.specs.Board.{CanAdvance, Advances, end_noted}
 use Rattle.bd_lists.specs.Sheet.{Sheet}
 use Rattle.bd_flusher.specs.declared.site.receipt.Receipt.{Receipt}
-use Rattle.jb_runner.specs.declared.fault.RunFault.{RunFault}
-use Rattle.jb_runner.specs.declared.report.Report.{Report}
-use Rattle.jb_runner.specs.Agreement.{AreThoseOf}
-use Rattle.jb_runner.specs.Closing.{AreTrueOf}
+use Rattle.jb_closing.specs.declared.fault.RunFault.{RunFault}
+use Rattle.jb_closing.specs.declared.report.Report.{Report}
+use Rattle.jb_closing.specs.Agreement.{AreThoseOf}
+use Rattle.jb_closing.specs.Closing.{AreTrueOf}
 use Rattle.jb_runner.specs.Making.{IsHandedOut}
 
 -- what the board hands out for a receipt holds that receipt

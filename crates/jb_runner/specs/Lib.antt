@@ -1,9 +1,2 @@
-pub mod Agreement
-pub mod Closing
-pub mod Environment
-pub mod Last
 pub mod Making
-pub mod Marking
-pub mod Report
-pub mod Running
 pub mod Serving

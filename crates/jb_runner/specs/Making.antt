@@ -1,13 +1,6 @@
 -- What a worker does with a node. Own.
-use Rattle.std.specs.Prelude.{◌≡◌, ◌⊎◌, ℕ, Bool, true, false, List, map, Option, Some, None}
-use Rattle.mk_graph.specs.Edges.{row}
-use Rattle.mk_graph.specs.Numbering.{name_at}
-use Rattle.mk_rules.specs.declared.graph.Graph.{Graph}
-use Rattle.mk_recipe.specs.declared.line_status.Outcome.{Outcome}
-use Rattle.mk_recipe.specs.declared.line_status.Outcome.TheVariants as outcomes
+use Rattle.std.specs.Prelude.{◌≡◌, Bool, true, false, Option, Some, None}
 use Rattle.st_records.specs.declared.record.Record.{Record}
-use Rattle.st_records.specs.declared.record.Record.TheVariants as records
-use Rattle.st_records.specs.declared.record.Explicit.TheVariants.{Known}
 use Rattle.jb_runner.specs.declared.ending.Begun.{Begun}
 use Rattle.jb_runner.specs.declared.ending.Begun.TheVariants.{Cleared, Refused}
 use Rattle.bd_flusher.specs.declared.site.receipt.Receipt.{Receipt}
@@ -34,14 +27,3 @@ IsClearedFor begun Refused = Unit {0}
 abbrev pub IsHandedOut : Receipt → Advanced Receipt → Type 0
 IsHandedOut receipt (advanced.Cleared clearance) = clearance.told ≡ receipt
 IsHandedOut receipt (advanced.Settled back) = back ≡ receipt
-
--- the names of its source and of its explicit prerequisites
-abbrev pub known_of : Graph → (n : ℕ) → List (List ℕ)
-known_of graph n = map (name_at graph.names) (row graph.hard n)
-
--- the record of a recipe's end, by what came of it. A recipe that failed is 'failed' with its status. One that passed is 'done' with
--- these commands and explicit names, or 'failed' with status 256 where its report or its target's file can't be taken
-abbrev pub IsEndOf : Outcome → (target : List ℕ) → (commands explicit : List (List ℕ)) → Record → Type 0
-IsEndOf (outcomes.Failed status) target commands explicit note = note ≡ records.Failed target status
-IsEndOf outcomes.Done target commands explicit note =
-    (note ≡ records.Failed target 256) ⊎ ((hidden : List (List ℕ)) × (note ≡ records.Done target commands hidden (Known explicit)))

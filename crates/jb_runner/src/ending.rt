@@ -7,12 +7,12 @@ ghost use Rattle.bd_lists.specs.Running.{FailsInRange};
 ghost use Rattle.jb_runner.specs.Making.{IsClearedFor, IsHandedOut};
 
 use crate::abandoning::abandon_waiting;
-use crate::noting::Plan;
-use crate::reporting::EndNote;
 use crate::shift::Kept;
-use crate::{News, Place, Ran, RunFault, Say, Shift, Shop, run_recipe};
+use crate::{Shift, Shop};
 use bd_flusher::{FlushFault, Receipt};
 use bd_lists::{Advanced, Clearance, Exec, Node, Recipe, Spent, Ticket, Told};
+use jb_closing::RunFault;
+use jb_recipe::{EndNote, News, Place, Plan, Ran, Say, run_recipe};
 use jb_slots::Bank;
 use st_disk::Disk;
 use st_records::Record;
@@ -176,12 +176,9 @@ impl<D: Disk + Drop, E: Exec<Receipt>, S: Say, P: Place> Shop<'_, D, E, S, P> {
     {
         let Ran { ended, spent } = ran;
         self.say.block(&ended);
-        let last = match note.last_record(alloc, self.key, self.place, spent.outcome()) {
-            Ok(last) => last,
-            Err(fault) => {
-                kept.begun = Some(spent.give_up());
-                return Err(fault);
-            }
+        let Ok(last) = note.last_record(alloc, self.key, self.place, spent.outcome()) else {
+            kept.begun = Some(spent.give_up());
+            return Err(RunFault::OutOfMemory);
         };
         match last {
             Some(last) => self.submit_end(rt, alloc, node, last, spent, shift, kept),

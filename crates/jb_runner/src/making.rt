@@ -2,11 +2,12 @@
 ghost use Rattle.std.specs.Prelude.{◌≡◌, ◌<◌, length};
 ghost use Rattle.jb_runner.specs.Making.{is_remade};
 
-use crate::noting::Plan;
 use crate::shift::Kept;
-use crate::{News, Place, RunFault, Say, Shift, Shop};
+use crate::{Shift, Shop};
 use bd_flusher::Receipt;
 use bd_lists::{Board, End, Exec, Node};
+use jb_closing::RunFault;
+use jb_recipe::{News, Place, Plan, Say};
 use jb_slots::Bank;
 use mk_macros::MacroFault;
 use mk_plan::{Passed, pass};

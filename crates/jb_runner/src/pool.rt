@@ -7,13 +7,16 @@ ghost use Rattle.st_records.specs.State.{replay};
 ghost use Rattle.bd_flusher.specs.declared.site.receipt.Receipt.{Receipt};
 ghost use Rattle.bd_lists.specs.declared.end.End.TheVariants.{Abandoned};
 ghost use Rattle.bd_lists.specs.Settling.{end_of};
-ghost use Rattle.jb_runner.specs.Agreement.{AreThoseOf};
-ghost use Rattle.jb_runner.specs.Closing.{AreTrueOf};
-ghost use Rattle.jb_runner.specs.Report.{ends_well};
+ghost use Rattle.jb_closing.specs.Agreement.{AreThoseOf};
+ghost use Rattle.jb_closing.specs.Closing.{AreTrueOf};
+ghost use Rattle.jb_closing.specs.Report.{ends_well};
 
-use crate::{Closed, Conduct, Place, Report, RunFault, Say, Shift, Shop, work};
+use crate::gate::{Gate, staying};
+use crate::{Shift, Shop, board_of, work};
 use bd_flusher::{Flusher, Receipt, Site};
 use bd_lists::{Board, End, Exec, Node};
+use jb_closing::{Closed, Report, RunFault};
+use jb_recipe::{Conduct, News, Place, Say};
 use jb_slots::Bank;
 use mk_rules::Graph;
 use st_disk::Disk;
@@ -23,12 +26,49 @@ use std::sync::{Mutex, Wait};
 use std::thread;
 use std::thread::Threads;
 
+/// One worker's part of the run, once it may begin.
+fn begin<R, D, E, S, P, B>(
+    rt: &R,
+    alloc: Global,
+    shop: &Shop<'_, D, E, S, P>,
+    gate: &Gate,
+    number: usize,
+    bank: B,
+) -> Shift
+where
+    R: Wait,
+    D: Disk + Drop,
+    E: Exec<Receipt>,
+    S: Say,
+    P: Place,
+    B: Bank + Drop,
+{
+    if gate.passes(rt, number) {
+        work(rt, alloc, shop, bank)
+    } else {
+        Shift::new(alloc)
+    }
+}
+
+impl<D: Disk + Drop, E, S: Say, P> Shop<'_, D, E, S, P> {
+    // Where not all workers could be started, it is told; where none could, the run ends.
+    fn note_workers<R: Wait>(&self, rt: &R, crew: &mut Shift, workers: usize, asked: usize) {
+        if workers == 0 {
+            self.stop(rt);
+            crew.meet(RunFault::Start);
+        } else if workers < asked {
+            self.say.tell(News::FewerWorkers { workers, asked });
+        }
+    }
+}
+
 /// Starts a worker for each end of the jobserver, and waits for all of them. Where one can't be started no further one is, and
-/// all that waits is abandoned.
+/// the run goes on with those that there are.
 fn run_workers<R, D, E, S, P, B>(
     rt: &R,
     alloc: Global,
     shop: &Shop<'_, D, E, S, P>,
+    gate: &Gate,
     banks: Vec<B>,
 ) -> Shift
 where
@@ -46,30 +86,31 @@ where
             requires { IsSync R.row × IsSend D.row × IsSync E.row × IsSync S.row × IsSync P.row × IsSend B.row }
         {
             let mut crew = Shift::new(alloc);
-            let Ok(mut threads) = Vec::with_capacity(alloc, banks.len()) else {
+            let asked = banks.len();
+            let Ok(mut threads) = Vec::with_capacity(alloc, asked) else {
                 crew.meet(RunFault::OutOfMemory);
                 return crew;
             };
-            let mut all_started = true;
             for bank in banks {
-                match scope.spawn(move || work(rt, alloc, shop, bank)) {
+                let number = threads.len();
+                match scope.spawn(move || begin(rt, alloc, shop, gate, number, bank)) {
                     Ok(thread) => {
                         let _ = threads.push(thread);
                     }
-                    Err(_) => {
-                        all_started = false;
-                        break;
-                    }
+                    Err(_) => break,
                 }
             }
-            if !all_started {
-                shop.stop(rt);
+            let workers = staying(threads.len(), asked);
+            gate.send_home(rt, workers);
+            for _ in workers..threads.len() {
+                if let Some(thread) = threads.pop() {
+                    crew.add(thread.join(rt));
+                }
             }
+            shop.note_workers(rt, &mut crew, workers, asked);
+            gate.open(rt);
             for thread in threads {
                 crew.add(thread.join(rt));
-            }
-            if !all_started {
-                crew.meet(RunFault::Start);
             }
             crew
         },
@@ -91,7 +132,8 @@ where
     P: Place + Sync,
     B: Bank + Drop + Send,
 {
-    let crew = run_workers(rt, alloc, &shop, banks);
+    let gate = Gate::new();
+    let crew = run_workers(rt, alloc, &shop, &gate, banks);
     let (site, board) = shop.into_parts();
     (crew, site, board)
 }
@@ -109,41 +151,31 @@ fn ends_of(alloc: Global, board: &Board<Receipt>, nodes: usize) -> Result<Vec<En
     Ok(ends)
 }
 
-impl<D: Disk + Drop> Closed<D> {
-    pub(crate) fn new(site: Site<D>) -> Closed<D>
-        ensures site { result.site ≡ site }
-        ensures folded { site.state ≡ replay site.opening site.told }
-    {
-        let _told = site.told();
-        Closed { site }
+/// The report of what the workers came to, or the fault that one of them met.
+fn close<D: Disk + Drop>(
+    closed: &Closed<D>,
+    alloc: Global,
+    graph: &Graph,
+    board: &Board<Receipt>,
+    crew: Shift,
+) -> Result<Report, RunFault>
+    ensures ends { IfOk result (λ r. length r.ends.items ≡ length graph.now.nodes.items) }
+    ensures status { IfOk result (λ r. r.status ≤ 2) }
+    ensures well { IfOk result (λ r. r.status ≡ 0 → IsTrue (list_all ends_well r.ends.items)) }
+    ensures built { IfOk result (λ r. AreThoseOf closed.now.site.told crew.receipts.items
+        × AreTrueOf closed.now.site.told crew.receipts.items (D.honest × (closed.now.site.dead ≡ false)) (now (D.moments closed.now.site.disk))
+        graph.now.names r.ends.items) }
+{
+    let Shift {
+        receipts,
+        status,
+        fault,
+    } = crew;
+    if let Some(fault) = fault {
+        return Err(fault);
     }
-
-    /// The report of what the workers came to, or the fault that one of them met.
-    fn close(
-        &self,
-        alloc: Global,
-        graph: &Graph,
-        board: &Board<Receipt>,
-        crew: Shift,
-    ) -> Result<Report, RunFault>
-        ensures ends { IfOk result (λ r. length r.ends.items ≡ length graph.now.nodes.items) }
-        ensures status { IfOk result (λ r. r.status ≤ 2) }
-        ensures well { IfOk result (λ r. r.status ≡ 0 → IsTrue (list_all ends_well r.ends.items)) }
-        ensures built { IfOk result (λ r. AreThoseOf self.now.site.told crew.receipts.items
-            × AreTrueOf self.now.site.told crew.receipts.items (D.honest × (self.now.site.dead ≡ false)) (now (D.moments self.now.site.disk))
-            graph.now.names r.ends.items) }
-    {
-        let Shift {
-            receipts,
-            status,
-            fault,
-        } = crew;
-        if let Some(fault) = fault {
-            return Err(fault);
-        }
-        let ends = ends_of(alloc, board, graph.len())?;
-        self.report(alloc, graph, Report::of(ends, status), &receipts)
-    }
+    let ends = ends_of(alloc, board, graph.len())?;
+    closed.report(alloc, graph, Report::of(ends, status), &receipts)
 }
 
 /// Makes what the graph's goals need: at most as many recipes run at once as there are ends of the jobserver. The report, or the fault
@@ -179,7 +211,7 @@ where
         × AreTrueOf result.1.site.told receipts (D.honest × (result.1.site.dead ≡ false)) (now (D.moments result.1.site.disk))
         graph.now.names r.ends.items) }
 {
-    let board = match Board::new(alloc, graph) {
+    let board = match board_of(alloc, graph) {
         Ok(board) => board,
         Err(_) => return (Err(RunFault::OutOfMemory), Closed::new(site)),
     };
@@ -190,6 +222,6 @@ where
     let shop = Shop::new(graph, conduct, exec, say, place, key, flusher);
     let (crew, site, board) = run_shop(rt, alloc, shop, banks);
     let closed = Closed::new(site);
-    let report = closed.close(alloc, graph, &board, crew);
+    let report = close(&closed, alloc, graph, &board, crew);
     (report, closed)
 }

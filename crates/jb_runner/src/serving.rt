@@ -1,13 +1,12 @@
 //! Where the job slots of a run come from, and what its recipes are told of them.
-ghost use Rattle.std.specs.Prelude.{◌≡◌, IfOk, IfSome, All, length};
+ghost use Rattle.std.specs.Prelude.{◌≡◌, IfOk};
 ghost use Rattle.std.specs.List.{list_any};
 ghost use Rattle.byte_strings.specs.Blanks.{is_blank};
 ghost use Rattle.jb_slots.specs.Auth.{Authority, Says};
-ghost use Rattle.jb_slots.specs.Tokens.{fresh};
 ghost use Rattle.jb_runner.specs.Serving.{ComesFrom, is_one_word, served_flags};
 
 use byte_strings::{ByteString, is_blank};
-use jb_slots::{Auth, Banks, read_auth};
+use jb_slots::{Auth, read_auth};
 use std::alloc::{AllocError, Global};
 
 /// Where the job slots of a run come from.
@@ -56,28 +55,4 @@ pub fn served_flags(alloc: Global, workers: usize, path: &[u8]) -> Result<ByteSt
     let mut flags = Vec::from_slice(alloc, front.as_bytes())?;
     flags.extend_from_slice(path)?;
     Ok(ByteString::new(flags))
-}
-
-/// One end of a pool for each worker, with room for a token a node; None where one can't be opened. No end has read or written
-/// anything yet.
-pub fn ends_of_pool<K: Banks>(
-    alloc: Global,
-    banks: &K,
-    path: &[u8],
-    workers: usize,
-    nodes: usize,
-) -> Result<Option<Vec<K::End>>, AllocError>
-where
-    K::End: Drop,
-    ensures count { IfOk result (λ found. IfSome found (λ ends. length ends.items ≡ workers)) }
-    ensures fresh { IfOk result (λ found. IfSome found (λ ends. All (λ end. K.End.state end ≡ fresh nodes) ends.items)) }
-{
-    let mut ends = Vec::with_capacity(alloc, workers)?;
-    for _ in 0..workers {
-        match banks.open(alloc, path, nodes)? {
-            Some(end) => ends.push(end)?,
-            None => return Ok(None),
-        }
-    }
-    Ok(Some(ends))
 }

@@ -1,8 +1,8 @@
 //! What a worker brings home.
 ghost use Rattle.std.specs.Prelude.{◌≡◌, ◌≤◌, ◌++◌, Some, None, unwrap_or, IfSome};
 
-use crate::RunFault;
 use bd_flusher::Receipt;
+use jb_closing::RunFault;
 use std::alloc::Global;
 
 /// What one worker, or all of them, came to: the receipts that were gathered, the greatest status of the nodes, and the

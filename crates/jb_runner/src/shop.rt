@@ -1,9 +1,9 @@
 //! What the workers of a run share, and their first and last steps with the board.
 
 use crate::abandoning::abandon_waiting;
-use crate::{Conduct, News, Say};
 use bd_flusher::{Flusher, Receipt, Site};
 use bd_lists::{Board, Node};
+use jb_recipe::{Conduct, News, Say};
 use jb_slots::{Bank, Slots};
 use mk_rules::Graph;
 use st_disk::Disk;

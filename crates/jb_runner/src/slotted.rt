@@ -5,14 +5,16 @@ ghost use Rattle.mk_rules.specs.declared.graph.Graph.{Graph};
 ghost use Rattle.st_disk.specs.Moments.{now};
 ghost use Rattle.st_records.specs.State.{replay};
 ghost use Rattle.bd_flusher.specs.declared.site.receipt.Receipt.{Receipt};
-ghost use Rattle.jb_runner.specs.Agreement.{AreThoseOf};
-ghost use Rattle.jb_runner.specs.Closing.{AreTrueOf};
-ghost use Rattle.jb_runner.specs.Report.{ends_well, ComesTo};
+ghost use Rattle.jb_closing.specs.Agreement.{AreThoseOf};
+ghost use Rattle.jb_closing.specs.Closing.{AreTrueOf};
+ghost use Rattle.jb_closing.specs.Report.{ends_well, ComesTo};
 
-use crate::serving::{Source, ends_of_pool, is_one_word, served_flags, source_of};
-use crate::{Closed, Conduct, Makeflags, News, Place, Report, RunFault, Say, run};
+use crate::run;
+use crate::serving::{Source, is_one_word, served_flags, source_of};
 use bd_flusher::{Receipt, Site};
 use bd_lists::Exec;
+use jb_closing::{Closed, Report, RunFault};
+use jb_recipe::{Conduct, Makeflags, News, Place, Say};
 use jb_slots::{Banks, MemoryBank, MemoryPool};
 use mk_rules::Graph;
 use st_disk::Disk;
@@ -109,7 +111,7 @@ where
     )
 }
 
-/// A run over the pool of a path, if all its ends can be opened; else the site comes back.
+/// A run over the pool of a path, if it can be opened; else the site comes back.
 fn run_over_pool<R, D, E, S, P, K>(
     rt: &R,
     alloc: Global,
@@ -130,7 +132,7 @@ where
     K::End: Drop + Send,
     ensures { IfOk result (λ came. ComesTo D.honest D.moments parts.now.graph.now came.0 came.1.site) }
 {
-    match ends_of_pool(alloc, banks, path, workers, parts.graph.len()) {
+    match banks.open(alloc, path, workers, parts.graph.len()) {
         Ok(Some(ends)) => Ok(run(
             rt,
             alloc,

@@ -1,8 +1,10 @@
 //! One worker.
 
-use crate::{Place, RunFault, Say, Shift, Shop};
+use crate::{Shift, Shop};
 use bd_flusher::Receipt;
 use bd_lists::Exec;
+use jb_closing::RunFault;
+use jb_recipe::{Place, Say};
 use jb_slots::Bank;
 use st_disk::Disk;
 use std::alloc::Global;

@@ -6,7 +6,7 @@ use crate::states::new_store;
 use crate::way::ALONE;
 use bd_flusher::{FlushFault, Receipt};
 use bd_lists::{End, Ticket};
-use jb_runner::{Closed, Report, RunFault};
+use jb_closing::{Closed, Report, RunFault};
 use mk_rules::Graph;
 use st_disk::MemDisk;
 use std::alloc::Global;

@@ -1,7 +1,7 @@
 //! Reports, and targets that can or can't be put on the disk.
 
 use crate::fake::Fake;
-use jb_runner::{Place, PlaceFault};
+use jb_recipe::{Place, PlaceFault};
 use std::alloc::Global;
 use std::sync::Wait;
 use std::time::Clock;

@@ -5,7 +5,7 @@ ghost use Rattle.jb_slots.specs.End.{state_of};
 
 use crate::pool::Tap;
 use crate::way::{Shown, Way};
-use jb_runner::PlaceFault;
+use jb_recipe::PlaceFault;
 use jb_slots::End;
 use std::alloc::{AllocError, Global};
 use std::sync::{Mutex, Wait};

@@ -1,7 +1,7 @@
 //! The pool of tokens.
 
 use crate::fake::Fake;
-use jb_slots::{BankFault, Pipe};
+use jb_slots::{BankFault, Pipe, Taken};
 use std::sync::Wait;
 use std::time::Clock;
 
@@ -24,7 +24,7 @@ impl<R: Wait + Clock + Copy> Pipe for Tap<'_, R> {
 
     ghost writes = { λ _ _ _ _. Unit {0} };
 
-    fn read(&mut self) -> Result<Option<u8>, BankFault> {
+    fn read(&mut self) -> Result<Taken, BankFault> {
         let fake = self.fake;
         let mut notes = fake.notes.lock(&fake.rt);
         if fake.is_broken {
@@ -32,11 +32,11 @@ impl<R: Wait + Clock + Copy> Pipe for Tap<'_, R> {
             return Err(BankFault);
         }
         let Some(token) = notes.tokens.pop() else {
-            return Ok(None);
+            return Ok(Taken::NothingNow);
         };
         notes.reads = notes.reads.saturating_add(1);
         self.held = token;
-        Ok(Some(token))
+        Ok(Taken::Token(token))
     }
 
     fn write(&mut self, token: u8) -> Result<(), BankFault> {

@@ -13,7 +13,8 @@ use crate::way::ALONE;
 use bd_flusher::{Receipt, Site};
 use bd_lists::{Advanced, Board, Clearance, Node, Recipe, Ticket};
 use byte_strings::ByteString;
-use jb_runner::{Ran, run_recipe};
+use jb_recipe::{Ran, run_recipe};
+use jb_runner::board_of;
 use jb_slots::{Slot, Slots};
 use mk_recipe::split_line;
 use st_disk::MemDisk;
@@ -33,7 +34,7 @@ const ONE: Asked<'static> = Asked {
 fn board_and_site(alloc: Global) -> Result<(Board<Receipt>, Site<MemDisk>), Fail> {
     let store = new_store(alloc)?;
     let graph = graph(alloc, &ONE, store.state())?;
-    let board = Board::new(alloc, &graph)?;
+    let board = board_of(alloc, &graph)?;
     Ok((board, site_of(alloc, store)?))
 }
 

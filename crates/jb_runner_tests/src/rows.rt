@@ -5,7 +5,7 @@ use crate::makefiles::{Asked, Files};
 use crate::runs::made;
 use crate::states::new_store;
 use crate::way::{ALONE, ALONE_WITH_K, Shown, WITHOUT_STATE, Way};
-use jb_runner::PlaceFault;
+use jb_recipe::PlaceFault;
 use std::sync::Wait;
 use std::test::Fail;
 use std::thread::Threads;

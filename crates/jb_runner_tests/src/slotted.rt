@@ -7,7 +7,8 @@ use crate::runs::{Given, conduct};
 use crate::states::{new_store, site_of};
 use crate::way::WITHOUT_STATE;
 use byte_strings::ByteString;
-use jb_runner::{Makeflags, Parts, Slotting, run_slotted};
+use jb_recipe::Makeflags;
+use jb_runner::{Parts, Slotting, run_slotted};
 use jb_slots::Banks;
 use st_disk::MemDisk;
 use st_records::HashKey;
@@ -39,12 +40,17 @@ impl<'f, R: Wait + Clock + Copy> Banks for Pools<'f, R> {
         &self,
         alloc: Global,
         path: &[u8],
+        workers: usize,
         room: usize,
-    ) -> Result<Option<TokenEnd<'f, R>>, AllocError> {
+    ) -> Result<Option<Vec<TokenEnd<'f, R>>>, AllocError> {
         if path != self.opens {
             return Ok(None);
         }
-        Ok(Some(self.fake.end(alloc, room)?))
+        let mut ends = Vec::with_capacity(alloc, workers)?;
+        for _ in 0..workers {
+            ends.push(self.fake.end(alloc, room)?)?;
+        }
+        Ok(Some(ends))
     }
 
     fn serve(&mut self, _alloc: Global, _path: &[u8], count: u8) -> Result<bool, AllocError> {

@@ -2,7 +2,7 @@
 
 use crate::fake::Fake;
 use bd_lists::Ended;
-use jb_runner::{News, Say};
+use jb_recipe::{News, Say};
 use std::alloc::AllocError;
 use std::sync::Wait;
 use std::time::Clock;
@@ -46,6 +46,7 @@ impl<R: Wait + Clock + Copy> Say for Fake<R> {
             News::SlotsUnused => self.say(b"!", b"one slot", b"\n"),
             News::NotServed => self.say(b"!", b"not served", b"\n"),
             News::JobserverFailed => self.say(b"!", b"jobserver", b"\n"),
+            News::FewerWorkers { .. } => self.say(b"!", b"fewer workers", b"\n"),
         }
     }
 }

@@ -1,6 +1,6 @@
 //! Ways in which a run may go.
 
-use jb_runner::PlaceFault;
+use jb_recipe::PlaceFault;
 
 /// How a run goes.
 #[derive(Clone, Copy)]

@@ -2,6 +2,7 @@
 -- taken with, or None: the implicit one.
 use Rattle.std.specs.Prelude.{◌≡◌, ◌⊎◌, ℕ, Option, Some, None, Result, Ok, Err, IsOk}
 use Rattle.jb_slots.specs.declared.fault.BankFault.{BankFault}
+use Rattle.jb_slots.specs.declared.bank.Taken.TheVariants as taken
 use Rattle.jb_slots.specs.declared.slots.Hold.{Hold}
 use Rattle.jb_slots.specs.declared.slots.Hold.TheVariants.{Implicit, Token}
 use Rattle.jb_slots.specs.Tokens.{EndState, ReadsNoMore, after_take, after_give}
@@ -14,9 +15,9 @@ token_of (Token token) = Some token
 -- a slot was taken: for a byte that was read, or the implicit one, with the end left alone or after a take that gave no
 -- byte
 abbrev pub Acquires : (old new : EndState) (slot : Option ℕ) → Type 0
-Acquires old new (Some token) = (ReadsNoMore old → ⊥) × (new ≡ after_take old (Ok (Some token)))
+Acquires old new (Some token) = (ReadsNoMore old → ⊥) × (new ≡ after_take old (Ok (taken.Token token)))
 Acquires old new None =
-    (new ≡ old) ⊎ (new ≡ after_take old (Ok None)) ⊎ ((fault : BankFault) × (new ≡ after_take old (Err fault)))
+    (new ≡ old) ⊎ (new ≡ after_take old (Ok taken.End)) ⊎ ((fault : BankFault) × (new ≡ after_take old (Err fault)))
 
 -- a slot was given back: for the implicit one nothing is written, for another one the byte that it was taken with
 abbrev pub Releases : (old new : EndState) (slot : Option ℕ) → Result (Unit {0}) BankFault → Type 0

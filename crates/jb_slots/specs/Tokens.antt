@@ -1,6 +1,8 @@
 -- What one worker has read from the pool of tokens, and what it has given back.
-use Rattle.std.specs.Prelude.{◌≡◌, ℕ, ◌<◌, ◌≤◌, ◌⊎◌, Bool, true, false, List, [], ◌∷◌, ◌++◌, length, Option, Some, None, Result, Ok, Err}
+use Rattle.std.specs.Prelude.{◌≡◌, ℕ, ◌<◌, ◌≤◌, ◌⊎◌, Bool, true, false, List, [], ◌∷◌, ◌++◌, length, Result, Ok, Err}
 use Rattle.jb_slots.specs.declared.fault.BankFault.{BankFault}
+use Rattle.jb_slots.specs.declared.bank.Taken.{Taken}
+use Rattle.jb_slots.specs.declared.bank.Taken.TheVariants as taken
 
 -- one worker's end of the pool: the bytes that were read, in order, and those that were given back; how many bytes
 -- each of the two lists has room for; whether nothing more is read; whether a call answered a fault
@@ -19,10 +21,11 @@ fresh room = record { read = []; given = []; room = room; ended = false; faulted
 abbrev pub ReadsNoMore : EndState → Type 0
 ReadsNoMore s = (s.ended ≡ true) ⊎ (s.room ≤ length s.read)
 
--- after `take`: a byte is noted; after anything else nothing more is read
-abbrev pub after_take : EndState → Result (Option ℕ) BankFault → EndState
-after_take s (Ok (Some token)) = record s { read = s.read ++ token ∷ [] }
-after_take s (Ok None) = record s { ended = true }
+-- after `take`: a byte is noted; a look that found nothing leaves no trace; after anything else nothing more is read
+abbrev pub after_take : EndState → Result Taken BankFault → EndState
+after_take s (Ok (taken.Token token)) = record s { read = s.read ++ token ∷ [] }
+after_take s (Ok taken.NothingNow) = s
+after_take s (Ok taken.End) = record s { ended = true }
 after_take s (Err fault) = record s { ended = true; faulted = true }
 
 -- after `give`: the byte is given back; after a fault it isn't, and nothing more is read (own)

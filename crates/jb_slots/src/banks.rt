@@ -1,5 +1,5 @@
 //! Where ends of token pools come from, and how one is served.
-ghost use Rattle.std.specs.Prelude.{◌≡◌, ◌<◌, Bool, IfOk, OnErr, IfSome, false};
+ghost use Rattle.std.specs.Prelude.{◌≡◌, ◌<◌, Bool, All, IfOk, OnErr, IfSome, false, length};
 ghost use Rattle.jb_slots.specs.Tokens.{fresh};
 
 use crate::Bank;
@@ -13,11 +13,18 @@ pub trait Banks {
     /// Whether a pool is being served.
     ghost serves: { Self → Bool };
 
-    /// One worker's end of the pool of this path, with room to note `room` bytes; None where there is none that can be
-    /// opened.
-    fn open(&self, alloc: Global, path: &[u8], room: usize) -> Result<Option<Self::End>, AllocError>
-        ensures ok { IfOk result (λ found. IfSome found (λ end. Self.End.state end ≡ fresh room)) }
-        ensures memory { OnErr result (0 < room) };
+    /// An end for each worker of the pool of this path, which is opened once for all of them, each with room to note
+    /// `room` bytes; None where there is no pool that can be opened. No end has read or written anything yet.
+    fn open(
+        &self,
+        alloc: Global,
+        path: &[u8],
+        workers: usize,
+        room: usize,
+    ) -> Result<Option<Vec<Self::End>>, AllocError>
+        ensures count { IfOk result (λ found. IfSome found (λ ends. length ends.items ≡ workers)) }
+        ensures fresh { IfOk result (λ found. IfSome found (λ ends. All (λ end. Self.End.state end ≡ fresh room) ends.items)) }
+        ensures memory { OnErr result (0 < workers) };
 
     /// Makes a pool under this path, in place of what stands there, and puts `count` tokens `+` into it. It is held open
     /// until `close`. False where it can't be made; then nothing is served.

@@ -1,21 +1,23 @@
 //! An end that notes what goes through a pipe.
-ghost use Rattle.std.specs.Prelude.{◌≡◌, ℕ, ◌<◌, ◌≤◌, Option, Result, None, Ok, IfOk, OnErr, IsErr, true, false, vec_len, vec_capacity};
+ghost use Rattle.std.specs.Prelude.{◌≡◌, ℕ, ◌<◌, ◌≤◌, Result, Ok, IfOk, OnErr, IsErr, true, false, vec_len, vec_capacity};
 ghost use Rattle.jb_slots.specs.Tokens.{ReadsNoMore, MayRead, after_take, after_give, fresh};
 ghost use Rattle.jb_slots.specs.declared.fault.BankFault.{BankFault};
+ghost use Rattle.jb_slots.specs.declared.bank.Taken.{Taken};
+ghost use Rattle.jb_slots.specs.declared.bank.Taken.TheVariants as taken;
 
-use crate::{Bank, BankFault};
+use crate::{Bank, BankFault, Taken};
 use std::alloc::{AllocError, Global};
 
 /// What carries single bytes from and to a pool. It notes nothing: an `End` does.
 pub trait Pipe {
     /// What one read may answer, and what it leaves: a fact that only a call of `read` gives.
-    ghost reads: { Self → Result (Option ℕ) BankFault → Self → Type 0 };
+    ghost reads: { Self → Result Taken BankFault → Self → Type 0 };
 
     /// The same of a write of a byte.
     ghost writes: { Self → ℕ → Result (Unit {0}) BankFault → Self → Type 0 };
 
-    /// Reads one byte, or None at the end.
-    fn read(&mut self) -> Result<Option<u8>, BankFault>
+    /// Reads one byte, if one lies there. It waits for nobody.
+    fn read(&mut self) -> Result<Taken, BankFault>
         ensures { reads self.old result self.new };
 
     /// Writes one byte.
@@ -85,24 +87,25 @@ impl<P: Pipe> Bank for End<P> {
     ghost state = { state_of };
 
     // One call reads one byte at most, and answers just what that read answered.
-    fn take(&mut self) -> Result<Option<u8>, BankFault>
+    fn take(&mut self) -> Result<Taken, BankFault>
         ensures noted { state_of self.new ≡ after_take (state_of self.old) result }
-        ensures no_more { ReadsNoMore (state_of self.old) → result ≡ Ok None }
+        ensures no_more { ReadsNoMore (state_of self.old) → result ≡ Ok taken.End }
         ensures untouched { ReadsNoMore (state_of self.old) → self.new.pipe ≡ self.old.pipe }
         ensures one_read { MayRead (state_of self.old) → P.reads self.old.pipe result self.new.pipe }
     {
         if self.ended || self.read.len() >= self.room {
             self.ended = true;
-            return Ok(None);
+            return Ok(Taken::End);
         }
         match self.pipe.read() {
-            Ok(Some(token)) => {
+            Ok(Taken::Token(token)) => {
                 self.read.push(token).unwrap();
-                Ok(Some(token))
+                Ok(Taken::Token(token))
             }
-            Ok(None) => {
+            Ok(Taken::NothingNow) => Ok(Taken::NothingNow),
+            Ok(Taken::End) => {
                 self.ended = true;
-                Ok(None)
+                Ok(Taken::End)
             }
             Err(_) => Err(self.fail()),
         }

@@ -3,20 +3,26 @@
 ghost use Rattle.std.specs.Prelude.{◌≡◌, false};
 ghost use Rattle.std.specs.Option.{is_some};
 
-use crate::{BankFault, Banks, End, Pipe};
+use crate::{BankFault, Banks, End, Pipe, Taken};
 use std::alloc::{AllocError, Global};
 use std::fs::{self, File, OpenOptions};
 use std::io::{self, ErrorKind, Read, Write};
+use std::os::fd::AsRawFd;
 use std::os::unix::fs::FileTypeExt;
 use std::process::Command;
+use std::sync::Arc;
+
+/// The system's number of 'no child processes'.
+const NO_CHILD: i32 = 10;
 
 /// One worker's end of a FIFO.
 pub type FifoBank = End<Fifo>;
 
-/// A FIFO, open for reading and writing: so opening it waits for nobody, and it never ends while it is open.
+/// A FIFO, open for reading and writing: so opening it waits for nobody, and it never ends while it is open. It is set not to
+/// block, which other openings of the same FIFO don't see. All ends of a run share one descriptor.
 #[derive(Drop)]
 pub struct Fifo {
-    file: File,
+    file: Arc<File, Global>,
 }
 
 impl Pipe for Fifo {
@@ -24,14 +30,14 @@ impl Pipe for Fifo {
 
     ghost writes = { λ _ _ _ _. Unit {0} };
 
-    /// Waits until there is a byte.
-    fn read(&mut self) -> Result<Option<u8>, BankFault> {
+    fn read(&mut self) -> Result<Taken, BankFault> {
         let mut byte = [0u8; 1];
         for _ in 0..u64::MAX {
             match self.file.read(&mut byte) {
-                Ok(0) => return Ok(None),
-                Ok(_) => return Ok(Some(byte[0])),
+                Ok(0) => return Ok(Taken::End),
+                Ok(_) => return Ok(Taken::Token(byte[0])),
                 Err(error) if error.kind() == ErrorKind::Interrupted => {}
+                Err(error) if error.kind() == ErrorKind::WouldBlock => return Ok(Taken::NothingNow),
                 Err(_) => return Err(BankFault),
             }
         }
@@ -63,12 +69,13 @@ impl FifoBanks {
         }
     }
 
+    // Whether nothing says that it failed. How it ended isn't told where whoever started dmk has its children's ends ignored.
     fn make(&self, alloc: Global, path: &str) -> Result<bool, AllocError> {
         let mut command = Command::new(alloc, self.mkfifo)?;
         command.arg("-m")?.arg("600")?.arg("--")?.arg(path)?;
         match command.output(&self.rt) {
             Ok(output) => Ok(output.status.success()),
-            Err(_) => Ok(false),
+            Err(error) => Ok(error.raw_os_error() == Some(NO_CHILD)),
         }
     }
 }
@@ -82,15 +89,22 @@ impl Banks for FifoBanks {
         &self,
         alloc: Global,
         path: &[u8],
+        workers: usize,
         room: usize,
-    ) -> Result<Option<FifoBank>, AllocError> {
-        let Ok(path) = std::str::from_utf8(path) else {
+    ) -> Result<Option<Vec<FifoBank>>, AllocError> {
+        if workers == 0 {
+            return Ok(Some(Vec::new(alloc)));
+        }
+        let Some(file) = open_not_to_block(self.rt, path) else {
             return Ok(None);
         };
-        match open_fifo(self.rt, path) {
-            Ok(file) => Ok(Some(End::new(alloc, Fifo { file }, room)?)),
-            Err(_) => Ok(None),
+        let file = Arc::new(alloc, file)?;
+        let mut ends = Vec::with_capacity(alloc, workers)?;
+        for _ in 0..workers {
+            let file = Arc::try_clone(&file)?;
+            ends.push(End::new(alloc, Fifo { file }, room)?)?;
         }
+        Ok(Some(ends))
     }
 
     fn serve(&mut self, alloc: Global, path: &[u8], count: u8) -> Result<bool, AllocError> {
@@ -128,6 +142,15 @@ fn open_fifo(rt: HostRuntime, path: &str) -> io::Result<File> {
         return Err(ErrorKind::InvalidInput.into());
     }
     OpenOptions::new().read(true).write(true).open(&rt, path)
+}
+
+fn open_not_to_block(rt: HostRuntime, path: &[u8]) -> Option<File> {
+    let path = std::str::from_utf8(path).ok()?;
+    let file = open_fifo(rt, path).ok()?;
+    if os::set_nonblocking(file.as_raw_fd(), true) < 0 {
+        return None;
+    }
+    Some(file)
 }
 
 fn filled(rt: HostRuntime, path: &str, count: u8) -> io::Result<File> {

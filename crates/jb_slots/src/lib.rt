@@ -13,7 +13,7 @@ mod memory_bank;
 mod slots;
 
 pub use auth::{Auth, dry, read_auth};
-pub use bank::Bank;
+pub use bank::{Bank, Taken};
 pub use banks::Banks;
 pub use end::{End, Pipe};
 pub use fault::BankFault;

@@ -3,16 +3,12 @@ ghost use Rattle.std.specs.Prelude.{◌≡◌, ◌<◌, length, IfOk, OnErr};
 ghost use Rattle.jb_slots.specs.Tokens.{fresh};
 ghost use Rattle.jb_slots.specs.End.{state_of};
 
-use crate::{BankFault, End, Pipe};
+use crate::{BankFault, End, Pipe, Taken};
 use std::alloc::{AllocError, Global};
 use std::collections::VecDeque;
 use std::sync::{Mutex, Wait};
 
-/// Tokens in memory. A read takes the one that lies there longest; where none lies there, it is at the end at once and
-/// waits for nobody.
-///
-/// With as many tokens as there are workers, less one, no worker finds the pool empty: each holds one slot at most, and
-/// one that finds the implicit slot taken leaves a token to the others.
+/// Tokens in memory. A read takes the one that lies there longest.
 #[derive(Drop)]
 pub struct MemoryPool {
     tokens: Mutex<VecDeque<u8>>,
@@ -69,8 +65,11 @@ impl<R: Wait> Pipe for MemoryPipe<'_, R> {
 
     ghost writes = { λ _ _ _ _. Unit {0} };
 
-    fn read(&mut self) -> Result<Option<u8>, BankFault> {
-        Ok(self.pool.tokens.lock(self.rt).pop_front())
+    fn read(&mut self) -> Result<Taken, BankFault> {
+        match self.pool.tokens.lock(self.rt).pop_front() {
+            Some(token) => Ok(Taken::Token(token)),
+            None => Ok(Taken::NothingNow),
+        }
     }
 
     // A token more than the pool began with is refused: it would take memory.

@@ -1,5 +1,5 @@
 //! Pools of tokens in real FIFOs, in the system's temporary folder.
-use jb_slots::{Bank, Banks, FifoBank, FifoBanks, Slots};
+use jb_slots::{Bank, Banks, FifoBank, FifoBanks, Slots, Taken};
 use std::sync::Wait;
 use std::test::Fail;
 use std::thread::Threads;
@@ -14,8 +14,10 @@ fn new_path(rt: HostRuntime, test: &str) -> Result<String, Fail> {
 }
 
 fn end(rt: HostRuntime, banks: &FifoBanks, path: &str) -> Result<FifoBank, Fail> {
-    let found = banks.open(rt.alloc(), path.as_bytes(), 8)?;
-    Ok(found.ok_or("no FIFO")?)
+    let mut ends = banks
+        .open(rt.alloc(), path.as_bytes(), 1, 8)?
+        .ok_or("no FIFO")?;
+    Ok(ends.pop().ok_or("no end")?)
 }
 
 fn gives(end: &mut FifoBank, tokens: &[u8]) -> bool {
@@ -31,7 +33,7 @@ fn gives(end: &mut FifoBank, tokens: &[u8]) -> bool {
 fn taken(end: &mut FifoBank) -> [u8; 4] {
     let mut tokens = [b'?'; 4];
     for place in tokens.iter_mut() {
-        if let Ok(Some(token)) = end.take() {
+        if let Ok(Taken::Token(token)) = end.take() {
             *place = token;
         }
     }
@@ -47,9 +49,10 @@ fn a_server_fills_the_fifo_and_removes_it(rt: HostRuntime) -> Result<(), Fail> {
     // Behind the tokens of the server stand these.
     assert!(rt; gives(&mut end, b"yz"));
     assert_eq!(rt; taken(&mut end).as_slice(), b"++yz".as_slice());
+    assert_eq!(rt; end.take()?, Taken::NothingNow);
     banks.close(path.as_bytes());
     assert!(rt; !fs::exists(&rt, path.as_str())?);
-    assert!(rt; banks.open(rt.alloc(), path.as_bytes(), 8)?.is_none());
+    assert!(rt; banks.open(rt.alloc(), path.as_bytes(), 1, 8)?.is_none());
     Ok(())
 }
 
@@ -59,7 +62,7 @@ fn what_stood_there_is_replaced(rt: HostRuntime) -> Result<(), Fail> {
     fs::write(&rt, path.as_str(), "a file")?;
     let mut banks = FifoBanks::new(rt, "mkfifo");
     assert!(rt;
-        banks.open(rt.alloc(), path.as_bytes(), 8)?.is_none(),
+        banks.open(rt.alloc(), path.as_bytes(), 1, 8)?.is_none(),
         "a file is no FIFO"
     );
     assert!(rt; banks.serve(rt.alloc(), path.as_bytes(), 1)?);
@@ -85,7 +88,10 @@ fn without_mkfifo_nothing_is_served(rt: HostRuntime) -> Result<(), Fail> {
         "no such folder"
     );
     assert!(rt; !others.serve(rt.alloc(), b"\xff", 2)?, "not text");
-    assert!(rt; others.open(rt.alloc(), b"\xff", 8)?.is_none(), "not text");
+    assert!(rt;
+        others.open(rt.alloc(), b"\xff", 1, 8)?.is_none(),
+        "not text"
+    );
     Ok(())
 }
 
@@ -125,11 +131,13 @@ fn four_workers_give_back_each_byte(rt: HostRuntime) -> Result<(), Fail> {
     assert!(rt; banks.serve(rt.alloc(), path.as_bytes(), 0)?);
     let mut own = end(rt, &banks, path.as_str())?;
     assert!(rt; gives(&mut own, b"abc"));
-    let mut a = end(rt, &banks, path.as_str())?;
-    let mut b = end(rt, &banks, path.as_str())?;
-    let mut c = end(rt, &banks, path.as_str())?;
-    let mut d = end(rt, &banks, path.as_str())?;
-    assert!(rt; four_workers(&rt, &mut a, &mut b, &mut c, &mut d));
+    let mut ends = banks
+        .open(rt.alloc(), path.as_bytes(), 4, 8)?
+        .ok_or("no FIFO")?;
+    let [a, b, c, d] = ends.as_mut_slice() else {
+        return Err("four ends".into());
+    };
+    assert!(rt; four_workers(&rt, a, b, c, d));
     // The byte behind theirs shows that there are no more than there were.
     assert!(rt; gives(&mut own, b"z"));
     let mut found = taken(&mut own);

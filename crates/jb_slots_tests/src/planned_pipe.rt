@@ -1,5 +1,5 @@
 //! A pipe that stops as it is told: after some reads it is at its end, or answers a fault.
-use jb_slots::{BankFault, MemoryPipe, Pipe};
+use jb_slots::{BankFault, MemoryPipe, Pipe, Taken};
 use std::sync::{Condvar, Mutex, Wait};
 
 #[derive(Clone, Copy, Debug, PartialEq, Eq)]
@@ -56,14 +56,14 @@ impl<R: Wait> Pipe for PlannedPipe<'_, R> {
 
     ghost writes = { λ _ _ _ _. Unit {0} };
 
-    fn read(&mut self) -> Result<Option<u8>, BankFault> {
+    fn read(&mut self) -> Result<Taken, BankFault> {
         self.watch.note(self.rt);
         if self.reads_left > 0 {
             self.reads_left -= 1;
             return self.inner.read();
         }
         match self.stop {
-            Stop::End => Ok(None),
+            Stop::End => Ok(Taken::End),
             Stop::Fault => Err(BankFault),
         }
     }

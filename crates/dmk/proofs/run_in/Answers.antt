@@ -1,32 +1,13 @@
-use Rattle.std.proofs.Common.{◌≡◌, ◌⊎◌, ◌∙◌, inl, inr, ℕ, List, ap, sym, subst, codes}
+use Rattle.std.proofs.Common.{◌≡◌, ◌∙◌, ℕ, List, ap, sym, codes}
 use Rattle.bd_lists.specs.declared.recipe.Variable.{Variable}
 use Rattle.dmk_drive.specs.Keeping.{value_in}
-use Rattle.dmk_drive.specs.Output.{AsksFor, AsksToLook, AsksToRun}
-use Rattle.dmk_drive.specs.declared.options.Mode.{Mode}
-use Rattle.dmk_drive.specs.declared.options.Mode.TheVariants as mode
-use Rattle.dmk_drive.specs.declared.options.Options.{Options}
+use Rattle.dmk.proofs.ModeLemmas.{runs, looks}
 use Rattle.dmk.proofs.run_in.Goals as goal
-
-no_dry_run : mode.DryRun ≡ mode.Run → ⊥
-no_dry_run is = cc
-
-no_question : mode.Question ≡ mode.Run → ⊥
-no_question is = cc
 
 -- MAKEFLAGS as it was read is that of the environment
 same_flags : (flags : List ℕ) (read all given : List Variable) → flags ≡ value_in read (codes "MAKEFLAGS") → read ≡ all → given ≡ all →
     flags ≡ value_in given (codes "MAKEFLAGS")
 same_flags flags read all given is is_read is_given = is ∙ ap (λ e. value_in e (codes "MAKEFLAGS")) (is_read ∙ sym is_given)
-
-runs : (options : Options) (flags wanted : List ℕ) → flags ≡ wanted → AsksFor options flags mode.Run → AsksToRun options wanted
-runs options flags wanted same asks = subst (λ f. AsksFor options f mode.Run) same asks
-
-looks : (options : Options) (flags wanted : List ℕ) (m : Mode) → flags ≡ wanted → (m ≡ mode.DryRun) ⊎ (m ≡ mode.Question) →
-    AsksFor options flags m → AsksToLook options wanted
-looks options flags wanted m same (inl is) asks =
-    (m, (λ run. no_dry_run (sym is ∙ run)), subst (λ f. AsksFor options f m) same asks)
-looks options flags wanted m same (inr is) asks =
-    (m, (λ run. no_question (sym is ∙ run)), subst (λ f. AsksFor options f m) same asks)
 
 pub make-requires-after_bounds : goal.make-requires-after_bounds
 make-requires-after_bounds g c =

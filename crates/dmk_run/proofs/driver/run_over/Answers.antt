@@ -2,7 +2,7 @@ use Rattle.std.proofs.Common.{◌≡◌, ◌∙◌, true, length, sym, subst}
 use Rattle.std.specs.Prelude.{IsTrue}
 use Rattle.std.specs.List.{list_all}
 use Rattle.st_disk.specs.Moments.{now}
-use Rattle.jb_runner.specs.Report.{ends_well}
+use Rattle.jb_closing.specs.Report.{ends_well}
 use Rattle.dmk_drive.specs.Planned.{IsGraphOf}
 use Rattle.dmk_run.specs.Made.{IsMade}
 use Rattle.dmk_run.proofs.DriverLemmas.{at_ok}

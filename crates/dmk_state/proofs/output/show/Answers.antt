@@ -1,4 +1,3 @@
-use Rattle.std.proofs.Common.{refl}
 use Rattle.dmk_state.proofs.ListingLemmas.{kept_at_refusal, cause_of_fault, part_at_fault}
 use Rattle.dmk_state.proofs.output.show.Goals as goal
 
@@ -6,7 +5,7 @@ pub returns-in-Ok-clause-refused : goal.returns-in-Ok-clause-refused
 returns-in-Ok-clause-refused g c = λ f h. absurd (c.in-Ok.ensures.refused f h)
 
 pub returns-in-Err-clause-refused : goal.returns-in-Err-clause-refused
-returns-in-Err-clause-refused g c = λ f h. (refl, kept_at_refusal _ _ c.in-Err.fault f _ _ (c.in-Err.ensures.refused f h) c.in-Err.ensures.left)
+returns-in-Err-clause-refused g c = λ f h. (c.refuse.ensures, kept_at_refusal _ _ c.in-Err.fault f _ _ (c.in-Err.ensures.refused f h) c.in-Err.ensures.left)
 
 pub returns-in-Err-clause-cause : goal.returns-in-Err-clause-cause
 returns-in-Err-clause-cause g c =

@@ -1,0 +1,3 @@
+all: a b
+a b:
+	sleep 0.3; : >$@

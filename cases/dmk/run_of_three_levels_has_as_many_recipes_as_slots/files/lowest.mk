@@ -1,0 +1,3 @@
+all: $(IN)x $(IN)y $(IN)z
+$(IN)x $(IN)y $(IN)z:
+	sh count $@

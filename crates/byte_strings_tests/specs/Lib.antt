@@ -1,2 +1,0 @@
--- Lists has what the callers answer; no model.
-pub mod Lists

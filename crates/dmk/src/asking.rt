@@ -1,0 +1,129 @@
+//! What a run would make, listed or asked for, also beside a run that writes the state.
+ghost use Rattle.std.specs.Prelude.{codes};
+ghost use Rattle.dmk_drive.specs.Keeping.{value_in};
+ghost use Rattle.dmk_drive.specs.Output.{AsksToLook};
+
+use crate::command_line::{Request, read_words};
+use crate::host_files::HostFiles;
+use crate::standard_streams::with_patience;
+use bd_lists::Variable;
+use dmk_drive::{Fault, Message, Mode, Options, drive, print_fault, value_of};
+use st_disk::{FileDisk, SystemFolder};
+use st_records::HashKey;
+use std::alloc::AllocError;
+use std::io::{self, Write};
+use std::thread;
+use std::time::Duration;
+
+/// How often a fault is looked for at most, where each time it is another one.
+const MAX_LOOKS: usize = 100;
+
+/// How many milliseconds a run has, between two looks, to end the step that the first one met.
+const PAUSE_MILLISECONDS: u64 = 2;
+
+/// What one look came to.
+#[derive(Drop)]
+struct Look {
+    status: u8,
+    out: Vec<u8>,
+    err: Vec<u8>,
+}
+
+impl Look {
+    /// Looks once.
+    fn of(host: HostRuntime, options: Options, environment: &[Variable]) -> Result<Look, AllocError>
+        requires { AsksToLook options (value_in environment.now (codes "MAKEFLAGS")) }
+    {
+        let alloc = host.alloc();
+        let folder = SystemFolder::new(host, alloc, options.state.as_str())?;
+        let mut out = Vec::new(alloc);
+        let mut err = Vec::new(alloc);
+        let (status, _disk) = drive(
+            alloc,
+            HashKey::from_system(&host),
+            options,
+            environment,
+            &mut HostFiles::tree(host),
+            &mut HostFiles::tree(host),
+            FileDisk::new(folder),
+            &mut out,
+            &mut err,
+        );
+        Ok(Look { status, out, err })
+    }
+
+    /// Looks, unless a run is asked for.
+    fn if_asked(
+        host: HostRuntime,
+        options: Options,
+        environment: &[Variable],
+    ) -> Result<Option<Look>, AllocError> {
+        match options.mode(value_of(environment, b"MAKEFLAGS")) {
+            Mode::Run => Ok(None),
+            Mode::DryRun | Mode::Question => Ok(Some(Look::of(host, options, environment)?)),
+        }
+    }
+
+    /// Looks once more, for what the words ask.
+    fn again(host: HostRuntime, environment: &[Variable]) -> Result<Option<Look>, AllocError> {
+        match read_words(host) {
+            Ok(Request::Make(options)) => Look::if_asked(host, options, environment),
+            _ => Ok(None),
+        }
+    }
+
+    fn is_fault(&self) -> bool {
+        self.status == 2
+    }
+
+    fn is_same(&self, other: &Look) -> bool {
+        self.status == other.status
+            && self.out.as_slice() == other.out.as_slice()
+            && self.err.as_slice() == other.err.as_slice()
+    }
+
+    // What standard error doesn't take is lost: there is nobody left to tell.
+    fn print(&self, host: HostRuntime) -> io::Result<()> {
+        let _ = with_patience(host, host.stderr()).write_all(&self.err);
+        let mut out = with_patience(host, host.stdout());
+        out.write_all(&self.out)?;
+        out.flush()
+    }
+
+    /// Prints it, and answers the status.
+    fn tell(self, host: HostRuntime) -> u8 {
+        if self.print(host).is_ok() {
+            return self.status;
+        }
+        let fault = Fault::Write;
+        let message = Message {
+            state: "",
+            fault: &fault,
+        };
+        print_fault(&mut with_patience(host, host.stderr()), message);
+        2
+    }
+}
+
+/// Lists what a run would make, or asks whether there is anything. A run that writes the state meanwhile may make a reading of it fail;
+/// so a fault is told once two looks, one behind the other, have come to the same.
+pub fn ask(host: HostRuntime, options: Options, environment: &[Variable]) -> Result<u8, AllocError>
+    requires { AsksToLook options (value_in environment.now (codes "MAKEFLAGS")) }
+{
+    let mut look = Look::of(host, options, environment)?;
+    for _ in 1..MAX_LOOKS {
+        if !look.is_fault() {
+            break;
+        }
+        thread::sleep(&host, Duration::from_millis(PAUSE_MILLISECONDS));
+        let Some(again) = Look::again(host, environment)? else {
+            break;
+        };
+        let is_same = look.is_same(&again);
+        look = again;
+        if is_same {
+            break;
+        }
+    }
+    Ok(look.tell(host))
+}

@@ -1,0 +1,77 @@
+//! A run that is told how its recipes end, whatever whoever started dmk said of SIGCHLD.
+use std::io::{self, Read};
+use std::process::{Command, Stdio};
+use std::{env, fs};
+
+/// Runs its words as a program that is told how its children end, and tells its own status on standard input. It tells
+/// something else where no `env` can see to that: then nothing was run.
+const SCRIPT: &str = "\
+if env --default-signal=CHLD true 2>/dev/null; then
+    env --default-signal=CHLD \"$0\" \"$@\" </dev/null
+    echo $? >&0
+else
+    echo none >&0
+fi";
+
+/// What the mask of ignored signals is divided by so that the bit of SIGCHLD, number 17, is the lowest one.
+const BELOW_SIGCHLD: u64 = 65_536;
+
+/// The status of dmk run anew with the same words, where this process isn't told how its children end: the kernel then
+/// forgets them. None where it is told, and where dmk can't be run anew.
+pub fn run_anew(rt: HostRuntime) -> Option<u8> {
+    if !forgets_children(rt) {
+        return None;
+    }
+    match told_status(rt) {
+        Ok(text) => status_of(text.as_str()),
+        Err(_) => None,
+    }
+}
+
+// Children are forgotten where SIGCHLD is ignored, which a program takes over from the one that starts it.
+fn forgets_children(rt: HostRuntime) -> bool {
+    let Ok(text) = fs::read_to_string(&rt, "/proc/self/status") else {
+        return false;
+    };
+    for line in text.as_str().lines() {
+        if let Some(mask) = line.strip_prefix("SigIgn:") {
+            return holds_sigchld(mask.trim());
+        }
+    }
+    false
+}
+
+fn holds_sigchld(mask: &str) -> bool {
+    match u64::from_str_radix(mask, 16) {
+        Ok(mask) => mask / BELOW_SIGCHLD % 2 == 1,
+        Err(_) => false,
+    }
+}
+
+// What the script tells.
+fn told_status(rt: HostRuntime) -> io::Result<String> {
+    let program = env::current_exe(&rt)?;
+    let (mut reader, writer) = io::pipe(&rt)?;
+    let mut command = Command::new(rt.alloc(), "/bin/sh")?;
+    command.arg("-c")?.arg(SCRIPT)?.arg(program.as_str())?;
+    for word in env::args(&rt)?.skip(1) {
+        command.arg(word.as_str())?;
+    }
+    let mut child = command.stdin(Stdio::from(writer)).spawn(&rt)?;
+    drop(command);
+    let mut text = String::new(rt.alloc());
+    let read = reader.read_to_string(&mut text);
+    // How it ended isn't told: that is why the script tells it.
+    let _ = child.wait();
+    read?;
+    Ok(text)
+}
+
+// A run of which nothing is told was ended by a signal together with the script.
+fn status_of(told: &str) -> Option<u8> {
+    match told.trim() {
+        "" => Some(2),
+        "none" => None,
+        status => Some(status.parse::<u8>().unwrap_or(2)),
+    }
+}

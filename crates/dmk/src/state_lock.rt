@@ -1,0 +1,162 @@
+//! The lock on a state: on an empty file beside it, which stays. Recipes inherit a handle to it, and so hold the lock too.
+
+use crate::lock_file::LockFile;
+use dmk_run::{Guard, Hold};
+use jb_host::HeldLock;
+use std::alloc::AllocError;
+use std::fs::{self, TryLockError};
+use std::io::{self, ErrorKind};
+use std::sync::OnceLock;
+
+/// Takes the lock on a state, and puts it where recipes are given it.
+#[derive(Drop)]
+pub struct StateLock<'a> {
+    rt: HostRuntime,
+    state: String,
+    path: String,
+    /// The locks that the runs above hold, as the environment has them.
+    above: &'a str,
+    held: &'a OnceLock<HeldLock>,
+}
+
+/// What is wrong where no lock is had.
+#[derive(Drop)]
+enum LockFault {
+    OutOfMemory,
+    /// It can't be had here.
+    NotToBeHad,
+}
+
+impl From<AllocError> for LockFault {
+    ghost from_gives = { λ _ _. Unit {0} };
+
+    fn from(_error: AllocError) -> LockFault {
+        LockFault::OutOfMemory
+    }
+}
+
+impl From<io::Error> for LockFault {
+    ghost from_gives = { λ _ _. Unit {0} };
+
+    fn from(error: io::Error) -> LockFault {
+        match error.kind() {
+            ErrorKind::OutOfMemory => LockFault::OutOfMemory,
+            _ => LockFault::NotToBeHad,
+        }
+    }
+}
+
+/// The path of the lock on the state of this name: beside the file, and of a link beside what it leads to, so that a state has one
+/// lock under all its names.
+fn lock_path(rt: HostRuntime, state: &str) -> Result<String, AllocError> {
+    let alloc = rt.alloc();
+    if let Ok(found) = fs::symlink_metadata(&rt, state) {
+        if found.is_symlink() {
+            if let Ok(led_to) = fs::canonicalize(&rt, state) {
+                let led_to = led_to.into_string();
+                return format!(in alloc; "{led_to}.lock");
+            }
+        }
+    }
+    format!(in alloc; "{state}.lock")
+}
+
+impl<'a> StateLock<'a> {
+    pub fn new(
+        rt: HostRuntime,
+        state: &str,
+        above: &'a str,
+        held: &'a OnceLock<HeldLock>,
+    ) -> Result<StateLock<'a>, AllocError> {
+        Ok(StateLock {
+            rt,
+            state: String::from_str(rt.alloc(), state)?,
+            path: lock_path(rt, state)?,
+            above,
+            held,
+        })
+    }
+
+    // What stands under the state's name and is no ordinary file is refused when it is opened: it has no lock.
+    fn is_ordinary_or_missing(&self) -> bool {
+        match fs::metadata(&self.rt, self.state.as_str()) {
+            Ok(found) => found.is_file(),
+            Err(error) => error.kind() == ErrorKind::NotFound,
+        }
+    }
+
+    fn is_held_above(&self, opened: &LockFile) -> Result<bool, AllocError> {
+        let name = opened.name(self.rt)?;
+        Ok(self.above.split(' ').any(|one| one == name.as_str()))
+    }
+
+    // Puts the lock where recipes find it.
+    fn keep(&self, opened: LockFile) -> Result<Hold, LockFault> {
+        let name = opened.name(self.rt)?;
+        let above = self.above;
+        let names = if above.is_empty() {
+            name
+        } else {
+            format!(in self.rt.alloc(); "{above} {name}")?
+        };
+        let LockFile { file, .. } = opened;
+        let _ = self.held.try_set(HeldLock { file, names });
+        Ok(Hold::Held)
+    }
+
+    // One attempt; the opened file where another run has the lock.
+    fn try_once(&self) -> Result<Result<Hold, LockFile>, LockFault> {
+        for _ in 0..u64::MAX {
+            let opened = LockFile::open(self.rt, self.path.as_str())?;
+            match opened.file.try_lock() {
+                Ok(()) if opened.is_at(self.rt, self.path.as_str()) => return Ok(Ok(self.keep(
+                    opened,
+                )?)),
+                Ok(()) => {}
+                Err(TryLockError::WouldBlock) if self.is_held_above(&opened)? => {
+                    return Ok(Ok(Hold::HeldAbove));
+                }
+                Err(TryLockError::WouldBlock) => return Ok(Err(opened)),
+                Err(TryLockError::Error(error)) => return Err(LockFault::from(error)),
+            }
+        }
+        Err(LockFault::NotToBeHad)
+    }
+
+    fn wait_for_it(&self) -> Result<Hold, LockFault> {
+        for _ in 0..u64::MAX {
+            match self.try_once()? {
+                Ok(hold) => return Ok(hold),
+                Err(opened) => {
+                    opened.wait()?;
+                    if opened.is_at(self.rt, self.path.as_str()) {
+                        return self.keep(opened);
+                    }
+                }
+            }
+        }
+        Err(LockFault::NotToBeHad)
+    }
+}
+
+impl Guard for StateLock<'_> {
+    fn attempt(&mut self) -> Result<Option<Hold>, AllocError> {
+        if !self.is_ordinary_or_missing() {
+            return Ok(Some(Hold::Held));
+        }
+        match self.try_once() {
+            Ok(Ok(hold)) => Ok(Some(hold)),
+            Ok(Err(_)) => Ok(None),
+            Err(LockFault::NotToBeHad) => Ok(Some(Hold::NotLocked)),
+            Err(LockFault::OutOfMemory) => Err(AllocError),
+        }
+    }
+
+    fn wait(&mut self) -> Result<Hold, AllocError> {
+        match self.wait_for_it() {
+            Ok(hold) => Ok(hold),
+            Err(LockFault::NotToBeHad) => Ok(Hold::NotLocked),
+            Err(LockFault::OutOfMemory) => Err(AllocError),
+        }
+    }
+}

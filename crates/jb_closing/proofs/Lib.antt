@@ -1,0 +1,4 @@
+pub mod AgreementLemmas
+pub mod ClosingLemmas
+pub mod LastLemmas
+pub mod ListLemmas

@@ -1,0 +1,5 @@
+pub mod Agreement
+pub mod Closing
+pub mod Last
+pub mod Marking
+pub mod Report

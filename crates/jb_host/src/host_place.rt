@@ -1,0 +1,125 @@
+//! The files of the system.
+
+use jb_recipe::{Place, PlaceFault};
+use std::alloc::Global;
+use std::fs::{self, File};
+use std::io::{self, ErrorKind};
+
+/// The system's number of 'no such device or address'.
+const NO_SUCH_DEVICE: i32 = 6;
+
+// What isn't there, or can't be opened as what it is. Want of memory or of descriptors isn't passed over, nor is a fault of the device:
+// a 'done' would be written of a file that may not be on the disk.
+fn is_passed_over(error: &io::Error) -> bool {
+    match error.kind() {
+        ErrorKind::NotFound
+        | ErrorKind::NotADirectory
+        | ErrorKind::InvalidFilename
+        | ErrorKind::FilesystemLoop
+        | ErrorKind::PermissionDenied => true,
+        _ => error.raw_os_error() == Some(NO_SUCH_DEVICE),
+    }
+}
+
+// What the system has under a name, None where that is passed over.
+fn if_there<T>(answer: io::Result<T>) -> io::Result<Option<T>> {
+    match answer {
+        Ok(found) => Ok(Some(found)),
+        Err(error) if is_passed_over(&error) => Ok(None),
+        Err(error) => Err(error),
+    }
+}
+
+fn fault_of(error: io::Error) -> PlaceFault {
+    match error.kind() {
+        ErrorKind::OutOfMemory => PlaceFault::OutOfMemory,
+        _ => PlaceFault::Device,
+    }
+}
+
+/// Reports and targets in the folder in which dmk runs. A name that isn't UTF-8 has no file here.
+#[derive(Drop)]
+pub struct HostPlace {
+    rt: HostRuntime,
+}
+
+impl HostPlace {
+    pub fn new(rt: HostRuntime) -> HostPlace {
+        HostPlace { rt }
+    }
+
+    // The folder that a name's last part stands in.
+    fn folder_of(name: &str) -> &str {
+        match name.rsplit_once('/') {
+            None => ".",
+            Some(("", _)) => "/",
+            Some((folder, _)) => folder,
+        }
+    }
+
+    fn sync_folder(&self, name: &str) -> io::Result<()> {
+        match if_there(File::open(&self.rt, HostPlace::folder_of(name)))? {
+            Some(folder) => folder.sync_all(),
+            None => Ok(()),
+        }
+    }
+
+    // Only an ordinary file or a folder is opened: a pipe would be waited for, and a device has nothing to be kept.
+    fn sync_named(&self, name: &str) -> io::Result<()> {
+        match if_there(fs::metadata(&self.rt, name))? {
+            Some(found) if found.is_file() || found.is_dir() => {}
+            _ => return Ok(()),
+        }
+        let Some(file) = if_there(File::open(&self.rt, name))? else {
+            return Ok(());
+        };
+        file.sync_all()?;
+        self.sync_folder(name)?;
+        self.sync_led_to(name)
+    }
+
+    // Of a link, what it leads to stands in a folder of its own.
+    fn sync_led_to(&self, name: &str) -> io::Result<()> {
+        match if_there(fs::symlink_metadata(&self.rt, name))? {
+            Some(found) if found.is_symlink() => {}
+            _ => return Ok(()),
+        }
+        match if_there(fs::canonicalize(&self.rt, name))? {
+            Some(led_to) => {
+                let led_to = led_to.into_string();
+                self.sync_folder(led_to.as_str())
+            }
+            None => Ok(()),
+        }
+    }
+}
+
+impl Place for HostPlace {
+    fn remove(&self, path: &[u8]) {
+        if let Ok(name) = std::str::from_utf8(path) {
+            let _ = fs::remove_file(&self.rt, name);
+        }
+    }
+
+    fn report(&self, alloc: Global, path: &[u8]) -> Result<Vec<u8>, PlaceFault> {
+        let Ok(name) = std::str::from_utf8(path) else {
+            return Ok(Vec::new(alloc));
+        };
+        match fs::metadata(&self.rt, name) {
+            Ok(found) if !found.is_file() => return Err(PlaceFault::Device),
+            _ => {}
+        }
+        match fs::read(&self.rt, name) {
+            Ok(bytes) => Ok(bytes),
+            Err(error) if error.kind() == ErrorKind::NotFound => Ok(Vec::new(alloc)),
+            Err(error) => Err(fault_of(error)),
+        }
+    }
+
+    fn sync(&self, target: &[u8]) -> Result<(), PlaceFault> {
+        let Ok(name) = std::str::from_utf8(target) else {
+            return Ok(());
+        };
+        self.sync_named(name).map_err(fault_of)
+    }
+}

@@ -1,0 +1,130 @@
+//! Recipe lines run by the shell.
+ghost use Rattle.std.specs.Prelude.{◌≤◌};
+
+use bd_lists::{Clearance, Ended, Exec, ExecFault, Variable};
+use byte_strings::ByteString;
+use mk_recipe::Line;
+use std::alloc::{AllocError, Global};
+use std::fs::File;
+use std::io;
+use std::process::{Command, Stdio};
+use std::sync::OnceLock;
+
+/// The lock on a state, as the recipes of the run that keeps it inherit it: who has a handle to the file holds the lock.
+#[derive(Drop)]
+pub struct HeldLock {
+    /// The locked file, which is empty.
+    pub file: File,
+    /// What this lock and those of the runs above are known by, with a blank between each two.
+    pub names: String,
+}
+
+/// The variable that tells recipes which locks the runs above them hold.
+pub const HOLDS: &str = "DMK_HOLDS";
+
+/// Runs each line as `/bin/sh -c TEXT`, with empty standard input, in dmk's own environment and the recipe's variables. What
+/// it writes is collected. Nothing is claimed of the shell.
+#[derive(Drop)]
+pub struct Shell<'a> {
+    rt: HostRuntime,
+    alloc: Global,
+    /// Set, where the run holds a lock, before the first line is run.
+    held: &'a OnceLock<HeldLock>,
+}
+
+/// A line's command can't be made: memory or a descriptor was refused, or a text isn't UTF-8.
+#[derive(Drop)]
+struct NoCommand;
+
+impl From<AllocError> for NoCommand {
+    ghost from_gives = { λ _ _. Unit {0} };
+
+    fn from(_error: AllocError) -> NoCommand {
+        NoCommand
+    }
+}
+
+impl From<io::Error> for NoCommand {
+    ghost from_gives = { λ _ _. Unit {0} };
+
+    fn from(_error: io::Error) -> NoCommand {
+        NoCommand
+    }
+}
+
+fn text_of(bytes: &[u8]) -> Result<&str, NoCommand> {
+    std::str::from_utf8(bytes).map_err(|_| NoCommand)
+}
+
+impl<'a> Shell<'a> {
+    pub fn new(rt: HostRuntime, alloc: Global, held: &'a OnceLock<HeldLock>) -> Shell<'a> {
+        Shell { rt, alloc, held }
+    }
+
+    // An empty MAKEFLAGS says nothing to a make, and stands for one that is taken out.
+    fn set_variables(&self, command: &mut Command, env: &[Variable]) -> Result<(), NoCommand> {
+        for variable in env {
+            let name = text_of(variable.name.as_slice())?;
+            if name == "MAKEFLAGS" && variable.value.as_slice().is_empty() {
+                command.env_remove(name)?;
+            } else {
+                command.env(name, text_of(variable.value.as_slice())?)?;
+            }
+        }
+        Ok(())
+    }
+
+    fn command(&self, line: &Line, env: &[Variable]) -> Result<Command, NoCommand> {
+        let mut command = Command::new(self.alloc, "/bin/sh")?;
+        let text = text_of(line.text.as_slice())?;
+        command.arg("-c")?.arg(text)?;
+        self.set_variables(&mut command, env)?;
+        self.hand_on(&mut command)?;
+        Ok(command)
+    }
+
+    // A line that goes on behind a killed run keeps the lock by its standard input, so that the next run waits for it.
+    fn hand_on(&self, command: &mut Command) -> Result<(), NoCommand> {
+        match self.held.get() {
+            Some(held) => {
+                command.stdin(Stdio::from(held.file.try_clone()?));
+                command.env(HOLDS, held.names.as_str())?;
+            }
+            None => {
+                command.stdin(Stdio::null());
+            }
+        }
+        Ok(())
+    }
+}
+
+// The status of a process as a state knows it: 256 where a signal ended it.
+fn status_of(code: Option<i32>) -> u32
+    ensures { result ≤ 256 }
+{
+    match code {
+        Some(code) => u32::try_from(code).map_or(256, |status| status.min(256)),
+        None => 256,
+    }
+}
+
+impl<T> Exec<T> for Shell<'_> {
+    ghost answers = { λ shell env line answer. Unit {0} };
+
+    fn run(
+        &self,
+        _clearance: &Clearance<T>,
+        line: &Line,
+        env: &[Variable],
+    ) -> Result<Ended, ExecFault> {
+        let mut command = self.command(line, env).map_err(|_| ExecFault)?;
+        match command.output(&self.rt) {
+            Ok(output) => Ok(Ended {
+                status: status_of(output.status.code()),
+                out: ByteString::new(output.stdout),
+                err: ByteString::new(output.stderr),
+            }),
+            Err(_) => Err(ExecFault),
+        }
+    }
+}

@@ -1,0 +1,3 @@
+pub mod Environment
+pub mod Noting
+pub mod Running

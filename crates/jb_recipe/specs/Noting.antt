@@ -1,0 +1,21 @@
+-- What is noted of a recipe. Own.
+use Rattle.std.specs.Prelude.{◌≡◌, ◌⊎◌, ℕ, List, map}
+use Rattle.mk_graph.specs.Edges.{row}
+use Rattle.mk_graph.specs.Numbering.{name_at}
+use Rattle.mk_rules.specs.declared.graph.Graph.{Graph}
+use Rattle.mk_recipe.specs.declared.line_status.Outcome.{Outcome}
+use Rattle.mk_recipe.specs.declared.line_status.Outcome.TheVariants as outcomes
+use Rattle.st_records.specs.declared.record.Record.{Record}
+use Rattle.st_records.specs.declared.record.Record.TheVariants as records
+use Rattle.st_records.specs.declared.record.Explicit.TheVariants.{Known}
+
+-- the names of its source and of its explicit prerequisites
+abbrev pub known_of : Graph → (n : ℕ) → List (List ℕ)
+known_of graph n = map (name_at graph.names) (row graph.hard n)
+
+-- the record of a recipe's end, by what came of it. A recipe that failed is 'failed' with its status. One that passed is 'done' with
+-- these commands and explicit names, or 'failed' with status 256 where its report or its target's file can't be taken
+abbrev pub IsEndOf : Outcome → (target : List ℕ) → (commands explicit : List (List ℕ)) → Record → Type 0
+IsEndOf (outcomes.Failed status) target commands explicit note = note ≡ records.Failed target status
+IsEndOf outcomes.Done target commands explicit note =
+    (note ≡ records.Failed target 256) ⊎ ((hidden : List (List ℕ)) × (note ≡ records.Done target commands hidden (Known explicit)))

@@ -1,0 +1,41 @@
+//! How a run goes.
+ghost use Rattle.std.specs.Prelude.{◌≡◌, IfOk};
+ghost use Rattle.jb_recipe.specs.Environment.{report_path};
+
+use crate::Makeflags;
+use bd_lists::Variable;
+use byte_strings::ByteString;
+use std::alloc::{AllocError, Global};
+
+/// What the words of the command line, the makefile and the environment say of a whole run.
+#[derive(Drop)]
+pub struct Conduct {
+    /// State is kept from run to run: what it says counts, and recipes write reports.
+    pub keeps_state: bool,
+    /// What doesn't depend on a failed target is still made.
+    pub goes_on: bool,
+    /// Statuses of recipe lines don't matter.
+    pub ignores_statuses: bool,
+    /// No lines are printed.
+    pub prints_no_lines: bool,
+    /// The definitions of the command line, as they were written.
+    pub definitions: Vec<Variable>,
+    pub makeflags: Makeflags,
+    /// The state file's name: reports stand beside it.
+    pub state_name: ByteString,
+}
+
+impl Conduct {
+    /// The path of a node's report: the state file's name, `.dep.` and the node's number. None where no state is kept.
+    pub fn report_path(&self, alloc: Global, node: usize) -> Result<Option<ByteString>, AllocError>
+        ensures { IfOk result (λ path. path ≡ report_path self.now.keeps_state self.now.state_name node) }
+    {
+        if !self.keeps_state {
+            return Ok(None);
+        }
+        let mut path = Vec::from_slice(alloc, self.state_name.as_slice())?;
+        let ending = format!(in alloc; ".dep.{node}")?;
+        path.extend_from_slice(ending.as_bytes())?;
+        Ok(Some(ByteString::new(path)))
+    }
+}

@@ -1,0 +1,18 @@
+//! One recipe: the environment that it gets, what is written before and behind it, and its run with its lines said.
+#![tactic(auto)]
+
+mod conduct;
+mod noting;
+mod place;
+mod recipe_run;
+mod reporting;
+mod say;
+mod variables;
+
+pub use conduct::Conduct;
+pub use noting::{Plan, is_writable};
+pub use place::{Place, PlaceFault};
+pub use recipe_run::{Ran, run_recipe};
+pub use reporting::EndNote;
+pub use say::{News, Say};
+pub use variables::{Makeflags, environment};

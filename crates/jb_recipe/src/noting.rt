@@ -1,0 +1,149 @@
+//! What a target writes into the state, checked before anything of it is.
+ghost use Rattle.std.specs.Prelude.{◌≡◌, ◌≤◌, ◌<◌, ◌↔◌, length, IfOk, IfSome, IsTrue};
+ghost use Rattle.mk_graph.specs.Numbering.{name_at};
+ghost use Rattle.mk_recipe.specs.Line.{Records};
+ghost use Rattle.mk_plan.specs.Nodes.{explicit_of};
+ghost use Rattle.st_records.specs.Limits.{IsGood, IsWithin, SaysExplicit};
+ghost use Rattle.st_records.specs.Parts.{status_of};
+ghost use Rattle.st_records.specs.declared.version.Version.TheVariants.{Two};
+ghost use Rattle.st_records.specs.declared.record.Record.TheVariants as records;
+ghost use Rattle.jb_recipe.specs.Environment.{environment, report_path};
+ghost use Rattle.jb_recipe.specs.Noting.{known_of};
+
+use crate::{Conduct, environment};
+use bd_lists::Recipe;
+use byte_strings::{ByteString, ByteStrings};
+use mk_plan::explicit_of;
+use mk_recipe::{Line, recorded};
+use mk_rules::Graph;
+use st_records::{Explicit, Record};
+use std::alloc::{AllocError, Global};
+
+/// Whether a record may stand in the state.
+pub fn is_writable(note: &Record) -> bool
+    requires status { status_of note.now ≤ 256 }
+    requires explicit { SaysExplicit Two note.now }
+    ensures { IsTrue result ↔ IsGood Two note.now }
+{
+    note.check().is_ok()
+}
+
+/// What is needed to make a target: its recipe, the record that goes first, what a 'done' will say beside the hidden names, and
+/// where its report goes.
+#[derive(Drop)]
+pub struct Plan {
+    pub begun: Record,
+    pub recipe: Recipe,
+    pub commands: ByteStrings,
+    pub explicit: ByteStrings,
+    /// The names of its source and its explicit prerequisites: a report that names them says nothing new.
+    pub known: ByteStrings,
+    pub report: Option<ByteString>,
+    ghost within: { IsWithin Two begun },
+    ghost own: { begun ≡ records.Begun recipe.target },
+}
+
+fn name_of(graph: &Graph, node: usize) -> &[u8]
+    ensures { result.now ≡ name_at graph.now.names node }
+{
+    if node < graph.names.len() {
+        graph.names.name(node)
+    } else {
+        &[]
+    }
+}
+
+// The names of a node's source and of its explicit prerequisites.
+fn known_of(alloc: Global, graph: &Graph, node: usize) -> Result<ByteStrings, AllocError>
+    requires { node < length graph.now.nodes.items }
+    ensures { IfOk result (λ names. names ≡ known_of graph.now node) }
+{
+    let mut names = ByteStrings::empty(alloc);
+    for prerequisite in graph.hard.row(node) {
+        names.push(name_of(graph, *prerequisite))?;
+    }
+    Ok(names)
+}
+
+// Lines of a silent run aren't printed.
+fn silenced(lines: Vec<Line>, silent: bool) -> Vec<Line> {
+    let mut lines = lines;
+    if silent {
+        for line in lines.iter_mut() {
+            line.is_printed = false;
+        }
+    }
+    lines
+}
+
+// Whether a 'done' without hidden names may stand in the state.
+fn can_be_done(
+    alloc: Global,
+    target: &ByteString,
+    commands: &ByteStrings,
+    explicit: &ByteStrings,
+) -> Result<bool, AllocError> {
+    let note = Record::Done {
+        target: target.copy(alloc)?,
+        commands: commands.copy(alloc)?,
+        hidden: ByteStrings::empty(alloc),
+        explicit: Explicit::Known(explicit.copy(alloc)?),
+    };
+    Ok(is_writable(&note))
+}
+
+impl Plan {
+    /// The plan of a node; None where its 'begun', or a 'done' without hidden names, may not stand in the state.
+    pub fn of(
+        alloc: Global,
+        graph: &Graph,
+        conduct: &Conduct,
+        number: usize,
+        lines: Vec<Line>,
+    ) -> Result<Option<Plan>, AllocError>
+        requires { number < length graph.now.nodes.items }
+        ensures target { IfOk result (λ plan. IfSome plan (λ p. p.recipe.target ≡ name_at graph.now.names number)) }
+        ensures commands { IfOk result (λ plan. IfSome plan (λ p. Records lines.items p.commands)) }
+        ensures explicit { IfOk result (λ plan. IfSome plan (λ p. p.explicit ≡ explicit_of graph.now number)) }
+        ensures known { IfOk result (λ plan. IfSome plan (λ p. p.known ≡ known_of graph.now number)) }
+        ensures report { IfOk result (λ plan. IfSome plan (λ p. p.report
+            ≡ report_path conduct.now.keeps_state conduct.now.state_name number)) }
+        ensures env { IfOk result (λ plan. IfSome plan (λ p. p.recipe.env.items ≡ environment conduct.now.definitions.items
+            conduct.now.makeflags p.report (name_at graph.now.names number))) }
+        ensures ignore { IfOk result (λ plan. IfSome plan (λ p. p.recipe.ignore ≡ conduct.now.ignores_statuses)) }
+    {
+        let target = ByteString::from_slice(alloc, graph.names.name(number))?;
+        let commands = recorded(alloc, &lines)?;
+        let explicit = explicit_of(alloc, graph, number)?;
+        let known = known_of(alloc, graph, number)?;
+        let begun = Record::Begun {
+            target: target.copy(alloc)?,
+        };
+        if !is_writable(&begun) || !can_be_done(alloc, &target, &commands, &explicit)? {
+            return Ok(None);
+        }
+        let report = conduct.report_path(alloc, number)?;
+        let definitions = conduct.definitions.as_slice();
+        let env = environment(
+            alloc,
+            definitions,
+            &conduct.makeflags,
+            report.as_ref(),
+            target.as_slice(),
+        )?;
+        let recipe = Recipe {
+            target,
+            lines: silenced(lines, conduct.prints_no_lines),
+            env,
+            ignore: conduct.ignores_statuses,
+        };
+        Ok(Some(Plan {
+            begun,
+            recipe,
+            commands,
+            explicit,
+            known,
+            report,
+        }))
+    }
+}

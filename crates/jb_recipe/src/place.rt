@@ -1,0 +1,38 @@
+//! The files of targets, beside what recipes do to them.
+
+use std::alloc::{AllocError, Global};
+use thiserror::Error;
+
+/// A report couldn't be read, or a target's file couldn't be put on the disk.
+#[derive(Clone, Copy, Debug, PartialEq, Eq, Error)]
+pub enum PlaceFault {
+    #[error("out of memory")]
+    OutOfMemory,
+    /// The system refused it.
+    #[error("device fault")]
+    Device,
+}
+
+impl From<AllocError> for PlaceFault {
+    ghost use Rattle.std.specs.Prelude.{◌≡◌};
+    ghost use Rattle.jb_recipe.specs.declared.place.PlaceFault.TheVariants.{OutOfMemory};
+
+    ghost from_gives = { λ _ fault. fault ≡ OutOfMemory };
+
+    fn from(_error: AllocError) -> PlaceFault {
+        PlaceFault::OutOfMemory
+    }
+}
+
+/// Where reports are written and targets are made. Nothing is claimed of it: what files hold is outside every proof.
+pub trait Place {
+    /// Removes a report. One that isn't there, or can't be removed, is passed over.
+    fn remove(&self, path: &[u8]);
+
+    /// The bytes of a report, none where there is no report.
+    fn report(&self, alloc: Global, path: &[u8]) -> Result<Vec<u8>, PlaceFault>;
+
+    /// Puts a target's file on the disk, and its folder, before its 'done' is written. What isn't there or can't be opened is
+    /// passed over: many targets are no files.
+    fn sync(&self, target: &[u8]) -> Result<(), PlaceFault>;
+}

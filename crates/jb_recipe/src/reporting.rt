@@ -1,0 +1,187 @@
+//! How a target's recipe ended, as it is written.
+ghost use Rattle.std.specs.Prelude.{◌≡◌, ◌≤◌, IfOk, IfSome};
+ghost use Rattle.st_records.specs.Limits.{IsGood, SaysExplicit};
+ghost use Rattle.st_records.specs.Parts.{status_of};
+ghost use Rattle.st_records.specs.declared.version.Version.TheVariants.{Two};
+ghost use Rattle.st_records.specs.declared.record.Record.TheVariants as records;
+ghost use Rattle.st_records.specs.declared.record.Explicit.TheVariants.{Known};
+ghost use Rattle.bd_lists.specs.Running.{FailsInRange};
+ghost use Rattle.jb_recipe.specs.Noting.{IsEndOf};
+
+use crate::noting::{Plan, is_writable};
+use crate::{Place, PlaceFault};
+use bd_lists::Recipe;
+use byte_strings::{ByteString, ByteStrings};
+use mk_recipe::{Outcome, ReportFault, read_report};
+use st_records::{Explicit, HashKey, Record};
+use std::alloc::{AllocError, Global};
+
+/// The status of a target whose report can't be taken, or whose file can't be put on the disk.
+const NOT_TAKEN: u32 = 256;
+
+/// What the record of a recipe's end says, but for what came of the recipe.
+#[derive(Drop)]
+pub struct EndNote {
+    target: ByteString,
+    commands: ByteStrings,
+    explicit: ByteStrings,
+    known: ByteStrings,
+    report: Option<ByteString>,
+}
+
+impl Plan {
+    /// The 'begun', the recipe that it clears, and what the record of its end will say.
+    pub fn apart(self, alloc: Global) -> Result<(Record, Recipe, EndNote), AllocError>
+        ensures good { IfOk result (λ p. IsGood Two p.0) }
+        ensures own { IfOk result (λ p. p.0 ≡ records.Begun p.1.target) }
+    {
+        let Plan {
+            begun,
+            recipe,
+            commands,
+            explicit,
+            known,
+            report,
+        } = self;
+        let note = EndNote {
+            target: recipe.target.copy(alloc)?,
+            commands,
+            explicit,
+            known,
+            report,
+        };
+        Ok((begun, recipe, note))
+    }
+}
+
+/// A record where it may stand in the state.
+fn writable(note: Record) -> Option<Record>
+    requires status { status_of note ≤ 256 }
+    requires explicit { SaysExplicit Two note }
+    ensures good { IfSome result (λ r. IsGood Two r) }
+    ensures same { IfSome result (λ r. r ≡ note) }
+{
+    if is_writable(&note) { Some(note) } else { None }
+}
+
+fn failed(target: ByteString, status: u32) -> Option<Record>
+    requires { status ≤ 256 }
+    ensures good { IfSome result (λ r. IsGood Two r) }
+    ensures note { IfSome result (λ r. r ≡ records.Failed target status) }
+{
+    writable(Record::Failed { target, status })
+}
+
+/// The hidden names of a report; None where the report can't be taken.
+fn taken<P: Place>(
+    alloc: Global,
+    key: HashKey,
+    place: &P,
+    path: &ByteString,
+    target: &ByteString,
+    known: &ByteStrings,
+) -> Result<Option<ByteStrings>, AllocError> {
+    let bytes = match place.report(alloc, path.as_slice()) {
+        Ok(bytes) => bytes,
+        Err(PlaceFault::Device) => return Ok(None),
+        Err(PlaceFault::OutOfMemory) => return Err(AllocError),
+    };
+    match read_report(alloc, key, &bytes, target.as_slice(), known) {
+        Ok(hidden) => Ok(Some(hidden)),
+        Err(ReportFault::OutOfMemory) => Err(AllocError),
+        Err(_) => Ok(None),
+    }
+}
+
+impl EndNote {
+    /// A report of an earlier run must not be taken for this one's; nor is one left behind.
+    pub fn remove_report<P: Place>(&self, place: &P) {
+        if let Some(path) = &self.report {
+            place.remove(path.as_slice());
+        }
+    }
+
+    // The hidden names that the recipe reported, none where no state is kept; None where the report can't be taken.
+    fn hidden<P: Place>(
+        &self,
+        alloc: Global,
+        key: HashKey,
+        place: &P,
+    ) -> Result<Option<ByteStrings>, AllocError> {
+        match &self.report {
+            Some(path) => taken(alloc, key, place, path, &self.target, &self.known),
+            None => Ok(Some(ByteStrings::empty(alloc))),
+        }
+    }
+
+    fn done(self, hidden: ByteStrings) -> Record
+        ensures { result ≡ records.Done self.target self.commands hidden (Known self.explicit) }
+    {
+        let EndNote {
+            target,
+            commands,
+            explicit,
+            known: _,
+            report: _,
+        } = self;
+        Record::Done {
+            target,
+            commands,
+            hidden,
+            explicit: Explicit::Known(explicit),
+        }
+    }
+
+    fn into_failed(self, status: u32) -> Option<Record>
+        requires { status ≤ 256 }
+        ensures good { IfSome result (λ r. IsGood Two r) }
+        ensures note { IfSome result (λ r. r ≡ records.Failed self.target status) }
+    {
+        failed(self.target, status)
+    }
+
+    // Whether the target's file is on the disk. Only a state that is kept could outlive it.
+    fn is_synced<P: Place>(&self, place: &P) -> Result<bool, AllocError> {
+        if self.report.is_none() {
+            return Ok(true);
+        }
+        match place.sync(self.target.as_slice()) {
+            Ok(()) => Ok(true),
+            Err(PlaceFault::Device) => Ok(false),
+            Err(PlaceFault::OutOfMemory) => Err(AllocError),
+        }
+    }
+
+    /// The record of the end: a 'done' only where the report was taken, the target's file is on the disk, and the record may
+    /// stand in the state. None where not even a 'failed' may.
+    pub fn last_record<P: Place>(
+        self,
+        alloc: Global,
+        key: HashKey,
+        place: &P,
+        outcome: Outcome,
+    ) -> Result<Option<Record>, AllocError>
+        requires { FailsInRange outcome }
+        ensures good { IfOk result (λ r. IfSome r (λ note. IsGood Two note)) }
+        ensures end { IfOk result (λ r. IfSome r (λ note. IsEndOf outcome self.target self.commands self.explicit note)) }
+    {
+        if let Outcome::Failed(status) = outcome {
+            self.remove_report(place);
+            return Ok(self.into_failed(status));
+        }
+        let hidden = self.hidden(alloc, key, place);
+        self.remove_report(place);
+        let Some(hidden) = hidden? else {
+            return Ok(self.into_failed(NOT_TAKEN));
+        };
+        if !self.is_synced(place)? {
+            return Ok(self.into_failed(NOT_TAKEN));
+        }
+        let target = self.target.copy(alloc)?;
+        let done = self.done(hidden);
+        if is_writable(&done) {
+            return Ok(Some(done));
+        }
+        Ok(failed(target, NOT_TAKEN))
+    }
+}

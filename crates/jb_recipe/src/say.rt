@@ -1,0 +1,36 @@
+//! What is printed while recipes run.
+
+use bd_lists::Ended;
+use mk_macros::MacroFault;
+
+/// What a run has to tell about its targets, on standard error.
+#[derive(Clone, Copy)]
+pub enum News<'a> {
+    /// Its recipe failed with this status: 256 where it was stopped or not started.
+    Failed { target: &'a [u8], status: u32 },
+    /// A record of it may not stand in the state.
+    NotRecorded { target: &'a [u8] },
+    /// A line of its recipe can't be expanded.
+    NotExpanded { fault: &'a MacroFault },
+    /// What MAKEFLAGS names isn't used: recipes run one by one.
+    SlotsUnused,
+    /// No pool could be served, so recipes are told of none.
+    NotServed,
+    /// A token couldn't be read from the jobserver or given back. It is told once in a run.
+    JobserverFailed,
+    /// So many workers run, fewer than were asked for: no more could be started.
+    FewerWorkers { workers: usize, asked: usize },
+}
+
+/// What prints. It is called while no lock of the run is held, by several threads, so it takes a lock of its own.
+pub trait Say {
+    /// A line of a recipe, without its prefixes, that is about to be run.
+    fn line(&self, text: &[u8]);
+
+    /// All that the lines of a recipe wrote, as one block: on standard output what they wrote there, in their order, and on
+    /// standard error likewise.
+    fn block(&self, ended: &[Ended]);
+
+    /// A line on standard error.
+    fn tell(&self, news: News<'_>);
+}

@@ -1,0 +1,206 @@
+#!/usr/bin/env python3
+"""Tries wrong bodies, many in one check: the prover has to refuse each, at a goal that the bug makes false.
+
+An edit crates/CRATE/planted/NAME.edit has the form of a must-fail edit (a line 'file: src/..', then pairs of lines
+'old: TEXT' and 'new: TEXT', each old text standing once in that file), and one or more lines 'goal: NAME': the goals that
+it makes false. Without such a line it has to be refused as false or open.
+
+On a copy of the crate each edit becomes a function of its own beside the one that it changes: the same contract, a copy
+of the stored proof, the edited body. Beside it stands the body as it is, which has to be proved (the control). One check
+judges them all. Where that can't be (a method of a trait, a cycle of calls, two functions, a control that isn't proved),
+the edit is tried in place, in a check of the whole crate, as `rt must-fail` tries it.
+
+An edit fails that isn't applied, doesn't compile, isn't judged or passes; and one that is refused at none of its goals, or
+only since a stored proof names what the edit took away. So does a folder planted/ without edits. A refusal is of a kind:
+  false   the facts that are known at the goal allow values at which it is false
+  open    the goal isn't proved
+  limit   the same, but the search for a proof broke off at a limit
+  answer  the stored proof of the goal doesn't prove it any more
+
+scripts/planted.record has for each crate a sum of all that its verdicts rest on (kit, files, edits, what the crates below
+state). A crate whose sum is there is passed over, but for --all. The last line is 'N passed, M failed'.
+"""
+import argparse
+import os
+import resource
+import shutil
+import sys
+import tempfile
+
+sys.dont_write_bytecode = True  # a test leaves nothing in scripts/
+
+from planted import record
+from planted.edits import STEM, BadEdit, NotBeside, Plant, goals_of, placed
+from planted.toolchain import rt, rtlib, source_of
+from planted.verdicts import no_body, nothing, try_beside, try_in_place
+
+
+def beside(crate, source, edits, flags, kept, log):
+    """Tries each edit beside its function. Returns what was found of each and its seconds, and why others can't stand so."""
+    plants, controls, judged, others = [], {}, {}, {}
+    for edit in edits:
+        try:
+            function, text = placed(crate, source, edit)
+        except BadEdit as fault:
+            judged[edit] = no_body(str(fault)), 0.0
+        except NotBeside as why:
+            others[edit] = str(why)
+        else:
+            plants.append(Plant(function, edit, text, len(plants) + len(controls)))
+            right = source.data[function.file][function.first : function.end]
+            controls.setdefault(function, Plant(function, None, right, len(plants) + len(controls)))
+    try_beside(crate, source, [*plants, *controls.values()], flags, kept, log)
+    for plant in plants:
+        control = controls[plant.beside].finding
+        if plant.finding.kind != "no body" and control.kind != "proved":
+            others[plant.edit] = f"the body as it is wasn't proved beside it: {control.kind}: {control.why}"
+        elif plant.finding.kind == "nothing":
+            others[plant.edit] = plant.finding.why
+        else:
+            judged[plant.edit] = plant.finding, plant.seconds
+    return judged, others
+
+
+def in_place(crate, edits, flags, kept, log):
+    """Tries each edit in place, where the crate as it is can be proved so."""
+    control = try_in_place(crate, {}, flags, kept, log) if edits else None
+    for edit in edits:
+        texts, why = rt.read_edit(edit, crate.folder)
+        if why:
+            yield edit, no_body(why)
+        elif control.kind != "proved":
+            yield edit, nothing(f"the crate as it is wasn't proved: {control.kind}: {control.why}")
+        else:
+            yield edit, try_in_place(crate, texts, flags, kept, log)
+
+
+def verdict(finding, goals, wants_goals):
+    """Returns whether what was found of an edit is the refusal that it wants, and what to say."""
+    if finding.kind == "no body":
+        return False, f"BAD EDIT: {finding.why}"
+    if finding.kind == "nothing":
+        return False, f"NOT JUDGED: {finding.why}"
+    if finding.kind == "proved":
+        return False, "PASSED: the contract lets it through"
+    if finding.kind == "names":
+        return False, f"REFUSED BY NAMES ALONE: change a value and keep the names: {finding.why}"
+    if wants_goals and not goals:
+        # A goal that isn't proved shows by itself what is wrong; one whose proof was not found, or doesn't fit, doesn't.
+        is_shown, places = finding.kind in ("false", "open"), ", ".join(sorted(finding.goals))
+        return is_shown, f"{'' if is_shown else 'BAD EDIT: '}no line 'goal: NAME'; refused ({finding.kind}) at {places}"
+    if goals and not finding.goals & goals:
+        return False, f"REFUSED ELSEWHERE than at {' or '.join(sorted(goals))} ({finding.kind}): {finding.why}"
+    return True, f"refused ({finding.kind}): {finding.why}"
+
+
+def try_crate(crate, edits, wants_goals, flags, keeps, log):
+    """Returns for each edit whether it is refused as it has to be, and what to say."""
+    source = source_of(crate)
+    if any(STEM.encode() in text for text in source.data.values()):
+        return {it: (False, f"BAD EDIT: a name of the crate has {STEM}") for it in edits}
+    with tempfile.TemporaryDirectory(prefix="planted-kept-") as kept:
+        if keeps and crate.has_kept():
+            shutil.copytree(f"{crate.folder}/out/incremental", kept, dirs_exist_ok=True, copy_function=shutil.copyfile)
+        judged, others = beside(crate, source, edits, flags, kept, log)
+        answers = {}
+        for edit, (finding, seconds) in judged.items():
+            well, text = verdict(finding, goals_of(edit), wants_goals)
+            answers[edit] = well, f"{seconds:.0f} s: {text}"
+        for edit, finding in in_place(crate, others, flags, kept, log):
+            well, text = verdict(finding, goals_of(edit), wants_goals)
+            answers[edit] = well, f"in place, since {others[edit]}: {text}"
+    return answers
+
+
+def is_fresh(crate):
+    """Whether the crate's library is built, and no older than any file that it is made from."""
+    files = [it for one in [crate, *crate.below()] for it in rtlib.files_of(one.folder)]
+    return os.path.isdir(crate.rlib) and os.path.getmtime(f"{crate.rlib}/format") >= max(map(os.path.getmtime, files))
+
+
+def processor_seconds():
+    used = resource.getrusage(resource.RUSAGE_CHILDREN)
+    return used.ru_utime + used.ru_stime
+
+
+class Run:
+    """Counts of a whole run, over the crates that it is given."""
+
+    def __init__(self, options):
+        self.options, self.known = options, record.read()
+        self.passed = self.failed = self.tried = self.recorded = 0
+
+    def tell(self, name, well, text):
+        print(f"{name}: {text}", flush=True)
+        self.passed, self.failed = self.passed + well, self.failed + (not well)
+
+    def crate(self, crate, log):
+        """Tries the edits of a crate, unless they are recorded."""
+        folder, before = f"{crate.folder}/{self.options.folder}", self.failed
+        files = sorted(os.listdir(folder)) if os.path.isdir(folder) else []
+        edits = [f"{folder}/{it}" for it in files if it.endswith(".edit")]
+        is_planted = self.options.folder == "planted"
+        key = record.key_of(crate, edits) if is_planted and edits else None
+        for odd in [it for it in files if not it.endswith((".edit", ".md"))]:
+            self.tell(f"{crate.name}/{odd}", False, "BAD EDIT: an edit's name ends in .edit")
+        if not edits:
+            return self.tell(crate.name, False, f"no edits in {self.options.folder}/")
+        if not self.options.all and self.known.get(crate.name) == (key, len(edits)):
+            print(f"{crate.name}: {len(edits)} edits, as recorded")
+            self.passed, self.recorded = self.passed + len(edits), self.recorded + len(edits)
+            return None
+        flags, started = ["--jobs", self.options.jobs], processor_seconds()
+        if any(not is_fresh(it) and it.build_rlib(flags, anew=False) for it in crate.below()):
+            return self.tell(crate.name, False, "a library below it isn't proved")
+        answers = try_crate(crate, edits, is_planted, flags, self.options.kept, log)
+        self.tried += len(edits)
+        print(f"{crate.name}: {len(edits)} edits, {processor_seconds() - started:.0f} s of processor time")
+        for edit in edits:
+            self.tell(f"{crate.name}/{os.path.basename(edit)}", *answers[edit])
+        self.note(crate, key, len(edits), self.failed == before)
+        return None
+
+    def note(self, crate, key, count, is_well):
+        """Writes a crate that passed into the record, and takes one that failed out of it."""
+        if not self.options.record or not key:
+            return
+        self.known.pop(crate.name, None)
+        if is_well:
+            self.known[crate.name] = key, count
+        record.write(self.known)
+
+
+def options_of(words):
+    parser = argparse.ArgumentParser(description=__doc__, formatter_class=argparse.RawDescriptionHelpFormatter)
+    parser.add_argument("crates", nargs="*", metavar="CRATE", help="the crates to try (each that has planted/)")
+    parser.add_argument("--all", action="store_true", help="try recorded crates too")
+    parser.add_argument("--record", action="store_true", help="write the record")
+    parser.add_argument("--kept", action="store_true", help="begin with the work that `rt check` kept in out/")
+    other = "take the edits of another folder, such as must-fail, which need no goal"
+    parser.add_argument("--from", dest="folder", default="planted", metavar="FOLDER", help=other)
+    parser.add_argument("--jobs", default="1", help="jobs of a check")
+    parser.add_argument("--log", default=os.devnull, metavar="FILE", help="where to put what the checks print")
+    return parser.parse_args(words)
+
+
+def main(words):
+    options = options_of(words)
+    os.chdir(os.path.dirname(os.path.dirname(os.path.abspath(__file__))))
+    crates = {it.name: it for it in rtlib.crates_below(os.getcwd())}
+    names = options.crates or [it for it in crates if os.path.isdir(f"{crates[it].folder}/{options.folder}")]
+    run = Run(options)
+    with open(options.log, "w", buffering=1, encoding="utf-8") as log:
+        for name in names:
+            if name in crates:
+                run.crate(crates[name], log)
+            else:
+                run.tell(name, False, "crates.txt has no such crate")
+    if not names:
+        run.tell("planted", False, "no edits were found")
+    print(f"{run.tried} edits were tried, {run.recorded} are as recorded")
+    print(f"{run.passed} passed, {run.failed} failed")
+    return 1 if run.failed else 0
+
+
+if __name__ == "__main__":
+    sys.exit(main(sys.argv[1:]))

@@ -1,0 +1,1 @@
+"""The parts of scripts/planted.py, which tries wrong bodies many in one check."""
