@@ -4,12 +4,36 @@
 # times to later. The files stand in a folder of their own in FOLDER (the current one). Nothing is tested.
 set -eu
 . "$(dirname "$0")/bench_folder.sh"
+program=crates/store_rows/out/store_rows
+
+# plain_writes FILE: the median time of 200 times what a commit asks of the system: a write behind the file's end of as many
+# bytes as one record takes, a sync, a write of the byte in front, and a sync.
+plain_writes() {
+    python3 - "$1" <<'END'
+import os, statistics, sys, time
+
+file = os.open(sys.argv[1], os.O_RDWR)
+end, took = os.fstat(file).st_size, []
+for n in range(200):
+    start = time.monotonic_ns()
+    os.pwrite(file, bytes(27), end)
+    os.fsync(file)
+    os.pwrite(file, b"\1", end - 1)
+    os.fsync(file)
+    took.append(time.monotonic_ns() - start)
+    end += 27
+print("%d ns" % statistics.median(took))
+END
+}
+
 for entries in 10 1000 100000; do
     for run in 1 2 3; do
         rm -f "$work"/*
         python3 scripts/state_file.py begun "$work/state" "$entries"
         cp "$work/state" "$work/plain"
-        echo "$entries entries, run $run: $(crates/store_bench/out/store_bench "$work/state" "$work/plain")"
+        memory=$($program time memory "$work/state")
+        files=$($program time commits "$work/state")
+        echo "$entries entries, run $run: $memory in memory, $files over files, $(plain_writes "$work/plain") of plain writes"
     done
 done
 python3 - "$work/syncs" <<'END'

@@ -26,7 +26,7 @@ echo "\$ cd bin/hello"
 echo "\$ ../dmk -n"
 ../dmk -n
 
-rm .make.state main.o parse.o hello
+rm -f .make.state .make.state.2 main.o parse.o hello
 run() {
     echo "\$ $*"
     "$@"

@@ -17,8 +17,8 @@ only since a stored proof names what the edit took away. So does a folder plante
   limit   the same, but the search for a proof broke off at a limit
   answer  the stored proof of the goal doesn't prove it any more
 
-scripts/planted.record has for each crate a sum of all that its verdicts rest on (kit, files, edits, what the crates below
-state). A crate whose sum is there is passed over, but for --all. The last line is 'N passed, M failed'.
+scripts/planted.record has for each crate a sum of all that its verdicts rest on (kit, files, edits, what these name of the
+crates below). A crate whose sum is there is passed over, but for --all. The last line is 'N passed, M failed'.
 """
 import argparse
 import os

@@ -11,8 +11,10 @@ Directives are taken in their order:
                          a line of four blanks and `?` stands
     time NAME NUMBER     a file's time in nanoseconds since 1970; a file that isn't there is made
     env NAME=VALUE       for the runs below
+    fifo NAME TEXT       a FIFO that holds these bytes (none without a text) and is kept open to the row's end
+    left NAME TEXT       what is to lie in that FIFO now, in whatever order; it is taken out
     run COMMAND          by sh, without input; then what it has to answer:
-    out, err             the text below; left out: nothing
+    out, err             the text below; left out: nothing. Where the row's folder is printed, HERE is wanted
     status NUMBER        left out: 0
 
 A text has these parts; blanks at a line's end count:
@@ -186,7 +188,7 @@ class Reader:
 
     def read_directive(self, number, word, rest):
         row, runs = self.rows[-1], self.rows[-1].runs()
-        if word in ("file", "state", "env", "time", "hex", "run") and not rest:
+        if word in ("file", "state", "env", "time", "hex", "fifo", "left", "run") and not rest:
             raise Fault("'%s' of nothing" % word)
         if word == "run":
             row.steps.append(("run", Run(number, rest), None))
@@ -200,10 +202,19 @@ class Reader:
             row.steps.append((word, *rest.rsplit(" ", 1)))
         elif word == "env" and "=" in rest:
             row.steps.append((word, *rest.split("=", 1)))
+        elif word in ("fifo", "left"):
+            self.read_fifo(row, word, rest)
         elif word in ("out", "err", "status") and runs and getattr(runs[-1], word) is None:
             self.read_answer(runs[-1], word, rest)
         else:
             raise Fault("no directive here: '%s'" % word)
+
+    def read_fifo(self, row, word, rest):
+        name, _, text = rest.partition(" ")
+        is_there = any(step[:2] == ("fifo", name) for step in row.steps)
+        if is_there != (word == "left"):
+            raise Fault("a second FIFO %s" % name if is_there else "no FIFO %s" % name)
+        row.steps.append((word, name, text.encode("utf-8", "surrogateescape")))
 
     def read_answer(self, run, word, rest):
         if word == "status":

@@ -4,6 +4,7 @@ A row is run in a fresh folder. Of the environment it gets PATH, with the built 
 `env` lines say, so nothing of a make that calls this. The language is told in row_files.py.
 The last line is 'N passed, M failed'; the status is 1 where M isn't 0.
 """
+import contextlib
 import difflib
 import glob
 import multiprocessing
@@ -34,11 +35,12 @@ def answer_of(command, folder, variables):
                              start_new_session=True)
     try:
         out, err = child.communicate(timeout=SECONDS)
-        return out, err, child.returncode
+        status = child.returncode
     except subprocess.TimeoutExpired:
         os.killpg(child.pid, signal.SIGKILL)
         out, err = child.communicate()
-        return out, err, "ended after %d seconds" % SECONDS
+        status = "ended after %d seconds" % SECONDS
+    return *(text.replace(os.fsencode(folder), b"HERE") for text in (out, err)), status
 
 
 def write_file(folder, name, text):
@@ -52,6 +54,23 @@ def set_time(folder, name, nanoseconds):
     if not os.path.exists(os.path.join(folder, name)):
         write_file(folder, name, b"")
     os.utime(os.path.join(folder, name), ns=(int(nanoseconds), int(nanoseconds)))
+
+
+def new_fifo(folder, name, text):
+    """A FIFO that holds the text, opened so that it keeps it, and so that a read of it waits for nobody."""
+    path = os.path.join(folder, name)
+    os.makedirs(os.path.dirname(path), exist_ok=True)
+    os.mkfifo(path)
+    file = os.open(path, os.O_RDWR | os.O_NONBLOCK)
+    os.write(file, text)
+    return file
+
+
+def bytes_left(file):
+    try:
+        return os.read(file, 1 << 16)
+    except BlockingIOError:
+        return b""
 
 
 def lines_of(text):
@@ -82,9 +101,16 @@ def compared(wanted, answer):
     return lines
 
 
-def run_steps(row, folder):
-    """Why the row fails, as lines; none where it passes."""
-    variables = environment()
+def different_bytes(name, wanted, got):
+    """Why other bytes than the wanted ones lie in a FIFO, as lines; none where it is just they."""
+    if sorted(wanted) == sorted(got):
+        return []
+    return ["  in %s %r was to be left, got %r" % (name, wanted, got)]
+
+
+def run_steps(row, folder, opened):
+    """Why the row fails, as lines; none where it passes. What has to be closed behind it is handed to `opened`."""
+    variables, fifos = environment(), {}
     for directive, first, second in row.steps:
         if directive == "file":
             write_file(folder, first, second.bytes())
@@ -96,6 +122,13 @@ def run_steps(row, folder):
             set_time(folder, first, second)
         elif directive == "env":
             variables[first] = second
+        elif directive == "fifo":
+            fifos[first] = new_fifo(folder, first, second)
+            opened.callback(os.close, fifos[first])
+        elif directive == "left":
+            lines = different_bytes(first, second, bytes_left(fifos[first]))
+            if lines:
+                return ["%s:%d: %s" % (row.file, row.line, row.name)] + lines
         else:
             lines = compared(first.wanted(), answer_of(first.command, folder, variables))
             if lines:
@@ -106,7 +139,8 @@ def run_steps(row, folder):
 def run_row(row):
     folder = tempfile.mkdtemp(prefix="row")
     try:
-        return run_steps(row, folder)
+        with contextlib.ExitStack() as opened:
+            return run_steps(row, folder, opened)
     except (row_files.Fault, OSError, ValueError) as fault:
         return ["%s:%d: %s" % (row.file, row.line, row.name), "  %s" % fault]
     finally:
@@ -117,7 +151,7 @@ def place():
     """A folder for the rows' own, in memory where there is one."""
     for folder in ("/dev/shm", tempfile.gettempdir()):
         if os.access(folder, os.W_OK):
-            return tempfile.mkdtemp(prefix="rows", dir=folder)
+            return tempfile.mkdtemp(prefix="rows", dir=os.path.realpath(folder))
     raise SystemExit("no folder to write in")
 
 

@@ -32,12 +32,15 @@ if [ "$failed" -eq 0 ]; then
     run_part python3 scripts/planted.py
     run_part bash scripts/cases.sh
     run_part python3 scripts/rows.py
+    run_part bash scripts/store_rows.sh
+    run_part bash scripts/board_rows.sh
     run_part python3 scripts/random_makefiles.py
     run_part python3 scripts/random_graphs.py crates/dmk/out/dmk
     run_part bash scripts/slot_runs.sh
     run_part bash scripts/two_runs.sh
     run_part python3 scripts/read_beside_runs.py
     run_part bash scripts/kill_runs.sh
+    run_part python3 scripts/refused_growths.py
     run_part bash scripts/guarantees.sh
     run_part bash scripts/assumptions.sh
     run_part bash scripts/man.sh

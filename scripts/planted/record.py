@@ -2,7 +2,8 @@
 import hashlib
 import os
 
-from .toolchain import KIT, rtlib, source_of
+from .statements import named_below
+from .toolchain import KIT, rtlib
 
 FILE = "scripts/planted.record"
 
@@ -19,7 +20,7 @@ def write(known):
 
 
 def key_of(crate, edits):
-    """Returns a sum of what the verdicts rest on: the kit, the crate's files and edits, what the crates below state."""
+    """Returns a sum of what the verdicts rest on: the kit, the crate's files and edits, what these name below it."""
     key = hashlib.sha256()
 
     def add(*what):
@@ -27,23 +28,9 @@ def key_of(crate, edits):
 
     with open(f"{KIT}/KIT-ID", "rb") as kit:
         add(kit.read())
-    add(crate.name, [it.name for it in crate.below()])
-    for file in [*rtlib.files_of(crate.folder), *edits]:
+    files = [*rtlib.files_of(crate.folder), *edits]
+    for file in files:
         add(os.path.relpath(file, crate.folder), rtlib.sum_of(file))
-    for below in crate.below():
-        for file, text in sorted(without_bodies(below).items()):
-            add(below.name, file, text)
-        for file in rtlib.files_of(below.folder):
-            if file.startswith(f"{below.folder}/specs/"):
-                add(below.name, os.path.relpath(file, below.folder), rtlib.sum_of(file))
+    for statement in named_below(crate, files):
+        add(*statement)
     return key.hexdigest()[:32]
-
-
-def without_bodies(crate):
-    """Returns the files of a crate less the bodies of its functions, which no crate above sees."""
-    source = source_of(crate)
-    texts = dict(source.data)
-    for function in sorted((it for it in source.functions if it.has_body), key=lambda it: -it.opens):
-        text = texts[function.file]
-        texts[function.file] = text[: function.opens] + text[function.end :]
-    return texts

@@ -9,7 +9,7 @@ use Rattle.st_records.specs.declared.version.Version.TheVariants as versions
 use Rattle.st_records.specs.declared.record.Record.{Record}
 use Rattle.st_records.specs.Limits.{IsGood}
 use Rattle.st_records.specs.Parts.{target_of}
-use Rattle.st_records.specs.State.{StateMap, replay}
+use Rattle.st_state.specs.State.{StateMap, replay}
 use Rattle.st_records.proofs.TestLemmas.{within_from}
 use Rattle.st_file.specs.Layout.{magic}
 use Rattle.st_file.specs.Batch.{Batch, AreBatches, IsBatch, records_of, text_of}

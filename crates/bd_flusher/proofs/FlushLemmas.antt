@@ -3,7 +3,7 @@ use Rattle.std.proofs.Common.{◌≡◌, ◌≢◌, ◌⊎◌, ℕ, ◌<◌, Boo
 use Rattle.st_disk.specs.Moments.{Moments, now, Throughout}
 use Rattle.st_disk.proofs.MomentLaws.{started, then_goes, throughout_map}
 use Rattle.st_records.specs.declared.record.Record.{Record}
-use Rattle.st_records.specs.State.{StateMap, replay}
+use Rattle.st_state.specs.State.{StateMap, replay}
 use Rattle.st_recovery.specs.Stored.{AllRecover, AllRecoverEither}
 use Rattle.st_file.specs.declared.commit_fault.CommitFault.{CommitFault}
 use Rattle.st_file.specs.declared.commit_fault.CommitFault.TheVariants as commits

@@ -11,8 +11,8 @@ use Rattle.st_records.specs.declared.record.Entry.{Entry}
 use Rattle.st_records.specs.declared.record.Record.{Record}
 use Rattle.st_records.specs.declared.record.Record.TheVariants as records
 use Rattle.st_records.specs.Parts.{target_of}
-use Rattle.st_records.specs.State.{StateMap, apply_record, known_hidden, replay, unfinished}
-use Rattle.st_records.proofs.StateLemmas.{by_bytes, by_bytes-exact}
+use Rattle.st_state.specs.State.{StateMap, apply_record, known_hidden, replay, unfinished}
+use Rattle.st_state.proofs.StateLemmas.{by_bytes, by_bytes-exact}
 use Rattle.mk_recipe.specs.declared.verdict.Target.{Target}
 use Rattle.mk_recipe.specs.declared.verdict.Reason.{Reason}
 use Rattle.mk_recipe.specs.declared.verdict.Reason.TheVariants.{WasBegun, WasFailed}

@@ -5,7 +5,7 @@ use Rattle.st_disk.specs.Crash.{Sides}
 use Rattle.st_disk.specs.Moments.{Moments, now, Throughout}
 use Rattle.st_disk.proofs.MomentLaws.{at_end}
 use Rattle.st_records.specs.declared.record.Record.{Record}
-use Rattle.st_records.specs.State.{StateMap, replay}
+use Rattle.st_state.specs.State.{StateMap, replay}
 use Rattle.st_recovery.specs.Stored.{AllRecover, AllRecoverEither}
 use Rattle.st_recovery.proofs.StoredLemmas.{replay-append}
 use Rattle.bd_flusher.specs.declared.fault.FlushFault.{FlushFault}

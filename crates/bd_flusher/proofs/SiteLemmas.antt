@@ -7,10 +7,10 @@ use Rattle.st_disk.specs.Moments.{Moments, now, Throughout}
 use Rattle.st_disk.proofs.MomentLaws.{at_end}
 use Rattle.st_records.specs.declared.version.Version.{Version}
 use Rattle.st_records.specs.declared.record.Record.{Record}
-use Rattle.st_records.specs.State.{StateMap, replay}
+use Rattle.st_state.specs.State.{StateMap, replay}
 use Rattle.st_recovery.specs.Stored.{AllRecover, AllRecoverEither}
 use Rattle.st_recovery.proofs.StoredLemmas.{replay-append}
-use Rattle.bd_lists.specs.Sheet.{IsWritable, AreWritable}
+use Rattle.bd_ledger.specs.Sheet.{IsWritable, AreWritable}
 use Rattle.bd_flusher.specs.Batches.{StandsAt, AreIncreasing, last_of}
 use Rattle.bd_flusher.specs.Site.{Facts, IsSite, facts, first_facts, told_state, held_state, holding}
 use Rattle.bd_flusher.proofs.ListLemmas.{all_both}

@@ -6,7 +6,7 @@ use Rattle.st_disk.specs.Crash.{Sides}
 use Rattle.st_records.specs.declared.record.Record.{Record}
 use Rattle.st_records.specs.declared.record.Record.TheVariants as records
 use Rattle.st_records.specs.Parts.{target_of}
-use Rattle.st_records.specs.State.{StateMap, replay}
+use Rattle.st_state.specs.State.{StateMap, replay}
 use Rattle.st_recovery.specs.Recovers.{Recovers}
 use Rattle.st_recovery.specs.Stored.{AllRecover, AllRecoverEither}
 use Rattle.bd_flusher.specs.declared.site.receipt.Receipt.{Receipt}

@@ -6,7 +6,7 @@ use Rattle.st_records.specs.declared.record.Record.{Record}
 use Rattle.st_records.specs.declared.record.Record.TheVariants as records
 use Rattle.st_records.specs.Limits.{IsGood}
 use Rattle.st_file.specs.Batch.{may_stand}
-use Rattle.bd_lists.specs.Sheet.{IsWritable, is_kept}
+use Rattle.bd_ledger.specs.Sheet.{IsWritable, is_kept}
 use Rattle.bd_flusher.proofs.ListLemmas.{all_map}
 
 apart : true ≡ false → ⊥

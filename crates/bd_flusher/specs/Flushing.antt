@@ -7,9 +7,9 @@ use Rattle.st_disk.specs.Moments.{Moments, now, Throughout}
 use Rattle.st_records.specs.declared.version.Version.{Version}
 use Rattle.st_records.specs.declared.version.Version.TheVariants as versions
 use Rattle.st_records.specs.declared.record.Record.{Record}
-use Rattle.st_records.specs.Keepable.{kept_records}
+use Rattle.st_state.specs.Keepable.{kept_records}
 use Rattle.st_file.specs.Side.{HoldsUpTo}
-use Rattle.st_records.specs.State.{StateMap}
+use Rattle.st_state.specs.State.{StateMap}
 use Rattle.st_recovery.specs.Stored.{AllRecover, AllRecoverEither}
 use Rattle.bd_flusher.specs.declared.fault.FlushFault.{FlushFault}
 use Rattle.bd_flusher.specs.declared.fault.FlushFault.TheVariants as faults

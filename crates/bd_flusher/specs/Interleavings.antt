@@ -10,7 +10,7 @@
 -- else is committed.
 use Rattle.std.specs.Prelude.{ℕ, List, Contains, IfSome}
 use Rattle.st_disk.specs.Crash.{Sides}
-use Rattle.st_records.specs.State.{StateMap}
+use Rattle.st_state.specs.State.{StateMap}
 use Rattle.st_recovery.specs.Stored.{AllRecover}
 use Rattle.bd_flusher.specs.declared.site.receipt.Receipt.{Receipt}
 use Rattle.bd_flusher.specs.World.{World, opened}

@@ -4,7 +4,7 @@ use Rattle.std.specs.FinMap as map
 use Rattle.st_records.specs.declared.record.Record.{Record}
 use Rattle.st_records.specs.declared.record.Record.TheVariants as records
 use Rattle.st_records.specs.Parts.{target_of}
-use Rattle.st_records.specs.State.{StateMap}
+use Rattle.st_state.specs.State.{StateMap}
 use Rattle.st_recovery.specs.Recovers.{Recovers}
 use Rattle.mk_recipe.specs.declared.verdict.Target.{Target}
 use Rattle.mk_recipe.specs.declared.verdict.Verdict.{Verdict}

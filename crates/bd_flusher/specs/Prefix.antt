@@ -1,6 +1,6 @@
 -- The first clause: recovery gives the state after some of the submitted records, from the first on.
 use Rattle.std.specs.Prelude.{◌≡◌, ◌⊎◌, ℕ, ◌<◌, List}
-use Rattle.st_records.specs.State.{StateMap}
+use Rattle.st_state.specs.State.{StateMap}
 use Rattle.st_recovery.specs.Recovers.{Recovers}
 use Rattle.bd_flusher.specs.Acknowledged.{IsAcknowledged}
 use Rattle.bd_flusher.specs.World.{World, state_after}

@@ -5,9 +5,9 @@ use Rattle.st_disk.specs.declared.which.Which.{Which}
 use Rattle.st_disk.specs.Moments.{Moments, now}
 use Rattle.st_records.specs.declared.version.Version.{Version}
 use Rattle.st_records.specs.declared.record.Record.{Record}
-use Rattle.st_records.specs.State.{StateMap, replay}
+use Rattle.st_state.specs.State.{StateMap, replay}
 use Rattle.st_recovery.specs.Stored.{AllRecover, AllRecoverEither}
-use Rattle.bd_lists.specs.Sheet.{IsWritable}
+use Rattle.bd_ledger.specs.Sheet.{IsWritable}
 use Rattle.bd_flusher.specs.Batches.{AreIncreasing, last_of}
 
 -- the store, part by part; the state that opening gave; the told records, of which each ticket is a place; the batch that is

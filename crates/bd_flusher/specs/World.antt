@@ -2,7 +2,7 @@
 use Rattle.std.specs.Prelude.{ℕ, Bool, false, List, [], Option, None, take}
 use Rattle.st_disk.specs.Crash.{Sides}
 use Rattle.st_records.specs.declared.record.Record.{Record}
-use Rattle.st_records.specs.State.{StateMap, replay}
+use Rattle.st_state.specs.State.{StateMap, replay}
 use Rattle.bd_flusher.specs.declared.site.receipt.Receipt.{Receipt}
 
 -- the state that opening gave; the submitted records in order, so that a ticket is a place among them; how many of them are

@@ -3,7 +3,7 @@
 ghost use Rattle.std.specs.Prelude.{◌≡◌};
 ghost use Rattle.bd_flusher.specs.declared.fault.FlushFault.TheVariants.{OutOfMemory};
 
-use bd_lists::Ticket;
+use bd_ledger::Ticket;
 use st_file::CommitFault;
 use std::alloc::AllocError;
 use thiserror::Error;

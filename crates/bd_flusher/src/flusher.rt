@@ -4,7 +4,8 @@ ghost use Rattle.std.specs.Prelude.{◌≡◌, ℕ, IfOk, IsErrOf};
 ghost use Rattle.bd_flusher.specs.declared.fault.FlushFault.TheVariants as faults;
 
 use crate::{FlushFault, Receipt, Site};
-use bd_lists::{Board, Ticket};
+use bd_ledger::Ticket;
+use bd_lists::Board;
 use st_disk::Disk;
 use st_records::Record;
 use std::alloc::Global;

@@ -5,11 +5,11 @@ ghost use Rattle.std.specs.FinMap as map;
 ghost use Rattle.st_disk.specs.Moments.{Throughout};
 ghost use Rattle.st_disk.specs.Faults.{Rises};
 ghost use Rattle.st_records.specs.declared.version.Version.TheVariants as versions;
-ghost use Rattle.st_records.specs.Keepable.{kept_records};
+ghost use Rattle.st_state.specs.Keepable.{kept_records};
 ghost use Rattle.st_file.specs.Grown.{IsFull};
 ghost use Rattle.st_file.specs.declared.commit_fault.CommitFault.{CommitFault};
 ghost use Rattle.st_recovery.specs.Stored.{AllRecover};
-ghost use Rattle.bd_lists.specs.Sheet.{drained, AreOf};
+ghost use Rattle.bd_ledger.specs.Sheet.{drained, AreOf};
 ghost use Rattle.bd_flusher.specs.declared.fault.FlushFault.TheVariants as faults;
 ghost use Rattle.bd_flusher.specs.Batches.{StandsAt, AreIncreasing, last_of, IsInBatch};
 ghost use Rattle.bd_flusher.specs.Faults.{fault_of};
@@ -21,12 +21,14 @@ mod receipt;
 use crate::FlushFault;
 use crate::same::is_same;
 use crate::tidying::tidy_store;
-use bd_lists::{Board, Ticket};
+use bd_ledger::Ticket;
+use bd_lists::Board;
 pub use receipt::Receipt;
 use st_disk::Disk;
 use st_file::HEADER_BYTES;
-use st_records::{Record, State};
+use st_records::Record;
 use st_recovery::Store;
+use st_state::State;
 use std::alloc::{AllocError, Global};
 use std::marker::Model;
 
@@ -49,7 +51,7 @@ pub struct Site<D: Disk + Drop> {
 impl<D: Disk + Drop> Model for Site<D> {
     ghost use Rattle.std.specs.Prelude.{◌+◌, ◌≤◌, vec_len, vec_capacity};
     ghost use Rattle.std.specs.Coded.{codes};
-    ghost use Rattle.st_records.specs.State.{state_code};
+    ghost use Rattle.st_state.specs.State.{state_code};
     ghost use Rattle.bd_flusher.specs.Site.{Facts, facts, IsSite};
 
     ghost Value = { Facts D };

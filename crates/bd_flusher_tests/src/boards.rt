@@ -4,20 +4,30 @@ ghost use Rattle.st_records.specs.declared.version.Version.TheVariants as versio
 ghost use Rattle.st_records.specs.Limits.{IsGood};
 ghost use Rattle.mk_graph.specs.Edges.{row, times};
 
-use bd_flusher::Receipt;
-use bd_lists::{Board, Ticket};
+use bd_flusher::{FlushFault, Flusher, Receipt};
+use bd_ledger::Ticket;
+use bd_links::Node;
+use bd_lists::Board;
 use byte_strings::ByteString;
 use mk_graph::Edges;
+use st_disk::Disk;
 use st_records::Record;
 use std::alloc::{AllocError, Global};
-use std::test::Fail;
+use std::sync::Wait;
 
-static LETTERS: [u8; 20] = *b"abcdefghijklmnopqrst";
+static NAMES: [&str; 4] = ["a", "b", "c", "d"];
 
-/// The name of a node: its letter, so many times.
-fn name(alloc: Global, node: usize, len: usize) -> Result<ByteString, AllocError> {
-    let letter = LETTERS.get(node).copied().unwrap_or(b'z');
-    Ok(ByteString::new(vec![in alloc; letter; len]?))
+fn name(alloc: Global, node: usize) -> Result<ByteString, AllocError> {
+    let name = NAMES.get(node).copied().unwrap_or("none");
+    ByteString::from_slice(alloc, name.as_bytes())
+}
+
+fn names(alloc: Global, nodes: usize) -> Result<Vec<ByteString>, AllocError> {
+    let mut names = Vec::with_capacity(alloc, nodes)?;
+    for node in 0..nodes {
+        names.push(name(alloc, node)?)?;
+    }
+    Ok(names)
 }
 
 /// Rows without a number.
@@ -40,53 +50,37 @@ fn have_no_number(edges: &Edges) -> bool
     true
 }
 
-/// A board of so many nodes whose names are so long, all of them Ready.
-pub(crate) fn board_of(alloc: Global, nodes: usize, len: usize) -> Result<Board<Receipt>, Fail> {
-    let mut names = Vec::with_capacity(alloc, nodes)?;
-    for node in 0..nodes {
-        names.push(name(alloc, node, len)?)?;
-    }
-    let counted = empty(alloc, nodes)?;
-    let hard = empty(alloc, nodes)?;
+/// A board of so many nodes, all of them Ready, where there is memory for it.
+pub(crate) fn board(alloc: Global, nodes: usize) -> Option<Board<Receipt>> {
+    let names = names(alloc, nodes).ok()?;
+    let counted = empty(alloc, nodes).ok()?;
+    let hard = empty(alloc, nodes).ok()?;
     if names.len() != counted.len() || hard.len() != counted.len() || counted.len() > 1000 {
-        return Err("another number of nodes".into());
+        return None;
     }
     if !have_no_number(&counted) {
-        return Err("nodes wait".into());
+        return None;
     }
-    Ok(Board::of(alloc, counted, hard, names)?)
-}
-
-/// A board of so many nodes, all of them Ready.
-pub(crate) fn board(alloc: Global, nodes: usize) -> Result<Board<Receipt>, Fail> {
-    board_of(alloc, nodes, 1)
+    Board::of(alloc, counted, hard, names).ok()
 }
 
 /// That the recipe of a node is about to be run, where there is memory for it.
-pub(crate) fn begun_of(alloc: Global, node: usize, len: usize) -> Option<Record>
+pub(crate) fn begun(alloc: Global, node: usize) -> Option<Record>
     ensures { IfSome result (λ r. IsGood versions.Two r) }
 {
-    let record = Record::Begun {
-        target: name(alloc, node, len).ok()?,
-    };
+    let target = name(alloc, node).ok()?;
+    let record = Record::Begun { target };
     if record.check().is_err() {
         return None;
     }
     Some(record)
 }
 
-/// That the recipe of a node is about to be run.
-pub(crate) fn begun(alloc: Global, node: usize) -> Result<Record, Fail> {
-    match begun_of(alloc, node, 1) {
-        Some(record) => Ok(record),
-        None => Err("no record".into()),
-    }
-}
-
-/// Claims the next node and submits its 'begun', if there is one and memory for it.
-pub(crate) fn submitted(alloc: Global, board: &mut Board<Receipt>, len: usize) -> Option<Ticket> {
-    let node = board.claim()?;
-    match board.submit(node, begun_of(alloc, node.number(), len)?, None) {
+/// Submits a 'begun' of a node. What isn't taken is let go.
+fn submit(board: &mut Board<Receipt>, node: Node, note: Record) -> Option<Ticket>
+    requires { IsGood versions.Two note }
+{
+    match board.submit(node, note, None) {
         Ok((ticket, _none)) => Some(ticket),
         Err((_note, run)) => {
             let _receipt = run.map(|spent| spent.give_up());
@@ -95,10 +89,24 @@ pub(crate) fn submitted(alloc: Global, board: &mut Board<Receipt>, len: usize) -
     }
 }
 
-/// Claims the next node and submits its 'begun'.
-pub(crate) fn submit_next(alloc: Global, board: &mut Board<Receipt>) -> Result<Ticket, Fail> {
-    match submitted(alloc, board, 1) {
-        Some(ticket) => Ok(ticket),
-        None => Err("nothing was submitted".into()),
+/// Claims the next node and submits its 'begun', if there is one and memory for it.
+pub(crate) fn submitted(alloc: Global, board: &mut Board<Receipt>) -> Option<Ticket> {
+    let node = board.claim()?;
+    let note = begun(alloc, node.number())?;
+    submit(board, node, note)
+}
+
+/// The batch of a node's record, once it was written.
+pub(crate) fn acknowledged<R: Wait, D: Disk + Drop>(
+    rt: &R,
+    alloc: Global,
+    flusher: &Flusher<D>,
+    node: usize,
+    ticket: Ticket,
+) -> Result<usize, FlushFault> {
+    let note = begun(alloc, node).ok_or(FlushFault::OutOfMemory)?;
+    match flusher.acknowledge(rt, alloc, ticket, note) {
+        Ok(receipt) => Ok(receipt.batch()),
+        Err(fault) => Err(fault),
     }
 }

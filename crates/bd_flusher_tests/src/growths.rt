@@ -1,83 +1,114 @@
 //! Each growth refused in turn. Under `rt try --test --fail-alloc N` the Nth allocation of each test is refused. Where
-//! that is one of its preparations, the test ends with `OutOfMemory`.
+//! that is one of its preparations, the test ends with a failure that says so.
 
-use crate::boards::{begun, submit_next};
-use crate::pair::Pair;
-use crate::stores::MANY;
-use bd_flusher::{FlushFault, Flusher, Receipt};
-use bd_lists::Told;
-use st_disk::{Fuse, MemDisk};
-use std::process::Abort;
-use std::sync::Wait;
+use crate::boards::{acknowledged, board, submitted};
+use crate::stores::{flush, opened, site_over};
+use bd_flusher::{FlushFault, Flusher, Receipt, Site};
+use bd_ledger::Ticket;
+use bd_lists::Board;
+use st_doubles::Fuse;
+use st_memory::MemDisk;
+use std::alloc::Global;
+use std::sync::{Mutex, Wait};
 use std::test::Fail;
 
-/// A pair of so many nodes, with room for all that its disk notes.
-fn roomy(rt: &impl AllocGlobal, nodes: usize) -> Result<Pair<Fuse<MemDisk>>, Fail> {
-    let mut disk = MemDisk::new(rt.alloc());
-    disk.reserve(100, 10_000)?;
-    Pair::new(rt.alloc(), Fuse::new(disk, MANY), nodes)
+/// More calls than any test makes.
+const MANY: u64 = 1000;
+
+/// A site whose disk has room for all that it notes.
+fn roomy(alloc: Global) -> Option<Site<Fuse<MemDisk>>> {
+    let mut disk = MemDisk::new(alloc);
+    disk.reserve(100, 10_000).ok()?;
+    site_over(alloc, opened(alloc, Fuse::new(disk, MANY))?)
 }
 
 /// Takes in, and once more where memory was refused: then nothing had changed.
-fn take_in_twice(
-    rt: &(impl Abort + AllocGlobal),
-    pair: &mut Pair<Fuse<MemDisk>>,
-) -> Result<(), Fail> {
-    let waiting = pair.board.unflushed();
-    if pair.take_in(rt.alloc()) == Err(FlushFault::OutOfMemory) {
-        assert_eq!(rt; pair.board.unflushed(), waiting);
-        assert_eq!(rt; pair.take_in(rt.alloc()), Ok(()));
+fn takes_in_all(alloc: Global, site: &mut Site<Fuse<MemDisk>>, board: &mut Board<Receipt>) -> bool {
+    let waiting = board.unflushed();
+    let first = site.take_in(alloc, board);
+    if first != Err(FlushFault::OutOfMemory) {
+        return first == Ok(()) && board.unflushed() == 0;
     }
-    assert_eq!(rt; pair.board.unflushed(), 0);
-    Ok(())
+    board.unflushed() == waiting && site.take_in(alloc, board) == Ok(()) && board.unflushed() == 0
+}
+
+/// How many calls the disk has left, and how many records are told.
+fn counts(site: &Site<Fuse<MemDisk>>) -> (u64, usize) {
+    (site.store().log.disk.plan.calls_left, site.told().len())
 }
 
 /// Flushes, and once more where memory was refused: then no call was made, and what was held is written.
-fn flush_twice(
-    rt: &(impl Abort + AllocGlobal),
-    pair: &mut Pair<Fuse<MemDisk>>,
-) -> Result<(), Fail> {
-    let calls_left = pair.site.store().log.disk.plan.calls_left;
-    if pair.flush(rt.alloc()) == Err(FlushFault::OutOfMemory) {
-        assert_eq!(rt; pair.site.store().log.disk.plan.calls_left, calls_left);
-        assert_eq!(rt; pair.told(), 0);
-        assert_eq!(rt; pair.flush(rt.alloc()), Ok(()));
+fn flushes_all(alloc: Global, site: &mut Site<Fuse<MemDisk>>) -> bool {
+    let before = counts(site);
+    let first = flush(alloc, site);
+    if first != Err(FlushFault::OutOfMemory) {
+        return first == Ok(());
     }
-    assert_eq!(rt; pair.told(), 2);
-    Ok(())
+    counts(site) == before && flush(alloc, site) == Ok(())
+}
+
+/// Submits two records and writes them as one batch. How many are told then.
+fn written(
+    alloc: Global,
+    site: &mut Site<Fuse<MemDisk>>,
+    board: &mut Board<Receipt>,
+) -> Option<usize> {
+    submitted(alloc, board)?;
+    submitted(alloc, board)?;
+    if takes_in_all(alloc, site, board) && flushes_all(alloc, site) {
+        return Some(site.told().len());
+    }
+    Some(0)
 }
 
 #[test]
 fn a_batch_that_wanted_memory_is_written_again(rt: HostRuntime) -> Result<(), Fail> {
-    let mut pair = roomy(&rt, 2)?;
-    pair.submit(rt.alloc(), 2)?;
-    take_in_twice(&rt, &mut pair)?;
-    flush_twice(&rt, &mut pair)
+    let mut site = roomy(rt.alloc()).ok_or("no site")?;
+    let mut board = board(rt.alloc(), 2).ok_or("no board")?;
+    let told = written(rt.alloc(), &mut site, &mut board).ok_or("nothing was submitted")?;
+    assert_eq!(rt; told, 2);
+    Ok(())
 }
 
-/// Acknowledges, and once more where memory was refused.
-fn acknowledge_twice<R: Wait + Abort + AllocGlobal>(
+fn flusher(alloc: Global, nodes: usize) -> Option<Flusher<Fuse<MemDisk>>> {
+    Some(Flusher {
+        site: Mutex::new(roomy(alloc)?),
+        board: Mutex::new(board(alloc, nodes)?),
+    })
+}
+
+/// The ticket of a flusher's next record.
+fn submitted_to<R: Wait + AllocGlobal>(rt: &R, flusher: &Flusher<Fuse<MemDisk>>) -> Option<Ticket> {
+    submitted(rt.alloc(), &mut flusher.board.lock(rt))
+}
+
+/// The batch of the first record, asked for once more where memory was refused.
+fn acknowledged_twice<R: Wait + AllocGlobal>(
     rt: &R,
     flusher: &Flusher<Fuse<MemDisk>>,
-) -> Result<Receipt, Fail> {
-    let ticket = submit_next(rt.alloc(), &mut flusher.board.lock(rt))?;
-    let note = begun(rt.alloc(), 0)?;
-    let again = begun(rt.alloc(), 0)?;
-    match flusher.acknowledge(rt, rt.alloc(), ticket, note) {
-        Ok(receipt) => Ok(receipt),
-        Err(FlushFault::OutOfMemory) => match flusher.acknowledge(rt, rt.alloc(), ticket, again) {
-            Ok(receipt) => Ok(receipt),
-            Err(_) => Err("refused once more".into()),
-        },
-        Err(fault) => Err(fault.into()),
+    ticket: Ticket,
+) -> Result<usize, FlushFault> {
+    match acknowledged(rt, rt.alloc(), flusher, 0, ticket) {
+        Err(FlushFault::OutOfMemory) => acknowledged(rt, rt.alloc(), flusher, 0, ticket),
+        answer => answer,
     }
 }
 
 #[test]
 fn an_acknowledgement_that_wanted_memory_comes_again(rt: HostRuntime) -> Result<(), Fail> {
-    let flusher = roomy(&rt, 1)?.into_flusher();
-    let receipt = acknowledge_twice(&rt, &flusher)?;
-    assert_eq!(rt; receipt.batch(), 0);
-    assert_eq!(rt; receipt.ticket().number(), 0);
+    let flusher = flusher(rt.alloc(), 1).ok_or("no flusher")?;
+    let ticket = submitted_to(&rt, &flusher).ok_or("nothing was submitted")?;
+    let batch = acknowledged_twice(&rt, &flusher, ticket);
+    assert_eq!(rt; (ticket.number(), batch), (0, Ok(0)));
+    Ok(())
+}
+
+#[test]
+fn a_record_that_was_not_submitted_is_unknown(rt: HostRuntime) -> Result<(), Fail> {
+    let flusher = flusher(rt.alloc(), 2).ok_or("no flusher")?;
+    let ticket = submitted_to(&rt, &flusher).ok_or("nothing was submitted")?;
+    let own = acknowledged(&rt, rt.alloc(), &flusher, 0, ticket);
+    let other = acknowledged(&rt, rt.alloc(), &flusher, 1, ticket);
+    assert_eq!(rt; (own, other), (Ok(0), Err(FlushFault::Unknown(ticket))));
     Ok(())
 }

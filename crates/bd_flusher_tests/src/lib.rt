@@ -1,4 +1,4 @@
-//! Tests of the site and the flusher by the public calls.
+//! Tests of the site and the flusher that no row of `board_rows` says: growths in vain, and records shared by threads.
 #![tactic(auto)]
 
 #[cfg(test)]
@@ -6,14 +6,6 @@ mod boards;
 #[cfg(test)]
 mod growths;
 #[cfg(test)]
-mod pair;
-#[cfg(test)]
-mod rows;
-#[cfg(test)]
 mod sharing;
 #[cfg(test)]
-mod sides;
-#[cfg(test)]
 mod stores;
-#[cfg(test)]
-mod sweeps;

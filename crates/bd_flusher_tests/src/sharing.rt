@@ -1,10 +1,11 @@
 //! Records that are submitted while a batch is written share the next one.
 
-use crate::boards::{begun_of, board, submitted};
-use crate::stores::opened;
-use bd_flusher::{Flusher, Site};
-use bd_lists::Ticket;
-use st_disk::{DeviceFault, Disk, MemDisk, Which};
+use crate::boards::{acknowledged, board, submitted};
+use crate::stores::{opened, site_over};
+use bd_flusher::Flusher;
+use bd_ledger::Ticket;
+use st_disk::{DeviceFault, Disk, Which};
+use st_memory::MemDisk;
 use std::alloc::Global;
 use std::sync::{Mutex, Wait};
 use std::test::Fail;
@@ -12,15 +13,16 @@ use std::thread;
 use std::thread::Threads;
 use std::time::{Clock, Duration};
 
-/// Whoever waits for another worker gives up after so many looks. Each sleeps, so that a test in which nobody comes ends in
-/// time.
+/// Whoever waits for another worker gives up after so many looks, ten seconds at least: a test in which nobody comes fails, and
+/// ends in time.
 const LOOKS: u32 = 100_000;
 
-/// Whether the first sync of a commit has begun, and how many records were submitted since.
+/// Whether the first sync of a commit has begun, how many records were submitted since, and whether somebody gave up waiting.
 #[derive(Drop)]
 struct Gate {
     reached: bool,
     submitted: usize,
+    gave_up: bool,
 }
 
 /// A disk whose next sync waits, once it is armed, until three more records were submitted.
@@ -43,8 +45,9 @@ fn hold<R: Wait + Clock>(rt: &R, gate: &Mutex<Gate>, armed: &mut bool) {
         if gate.lock(rt).submitted == 3 {
             return;
         }
-        thread::sleep(rt, Duration::from_micros(1));
+        thread::sleep(rt, Duration::from_micros(100));
     }
+    gate.lock(rt).gave_up = true;
 }
 
 impl<D: Disk + Drop, R: Wait + Clock> Disk for Holding<'_, D, R> {
@@ -80,28 +83,14 @@ impl<D: Disk + Drop, R: Wait + Clock> Disk for Holding<'_, D, R> {
     }
 }
 
-/// The number of the batch of a node's record, once it was written.
-fn batch_of<R: Wait, D: Disk + Drop>(
-    rt: &R,
-    alloc: Global,
-    flusher: &Flusher<D>,
-    node: usize,
-    ticket: Ticket,
-) -> Option<usize> {
-    let note = begun_of(alloc, node, 1)?;
-    match flusher.acknowledge(rt, alloc, ticket, note) {
-        Ok(receipt) => Some(receipt.batch()),
-        Err(_) => None,
-    }
-}
-
 fn wait_for_sync<R: Wait + Clock>(rt: &R, gate: &Mutex<Gate>) {
     for _ in 0..LOOKS {
         if gate.lock(rt).reached {
             return;
         }
-        thread::sleep(rt, Duration::from_micros(1));
+        thread::sleep(rt, Duration::from_micros(100));
     }
+    gate.lock(rt).gave_up = true;
 }
 
 /// Submits three records once the first sync has begun. The batches of the three, once they were written.
@@ -113,57 +102,61 @@ fn three_more<R: Wait + Clock, D: Disk + Drop>(
 ) -> Option<[usize; 3]> {
     wait_for_sync(rt, gate);
     for count in 1..4 {
-        submitted(alloc, &mut flusher.board.lock(rt), 1)?;
+        submitted(alloc, &mut flusher.board.lock(rt))?;
         gate.lock(rt).submitted = count;
     }
-    let first = batch_of(rt, alloc, flusher, 1, Ticket::new(1))?;
-    let second = batch_of(rt, alloc, flusher, 2, Ticket::new(2))?;
-    let third = batch_of(rt, alloc, flusher, 3, Ticket::new(3))?;
+    let first = acknowledged(rt, alloc, flusher, 1, Ticket::new(1)).ok()?;
+    let second = acknowledged(rt, alloc, flusher, 2, Ticket::new(2)).ok()?;
+    let third = acknowledged(rt, alloc, flusher, 3, Ticket::new(3)).ok()?;
     Some([first, second, third])
 }
 
-/// The batch of a record, and those of three that are submitted while it is written.
-fn shared<R: Threads + Wait + Clock + Sync>(
-    rt: &R,
+/// A flusher of four nodes over a disk whose next sync waits.
+fn waiting_flusher<'a, R: Wait + Clock>(
+    rt: &'a R,
     alloc: Global,
-) -> Result<(Option<usize>, Option<[usize; 3]>), Fail> {
-    let gate = Mutex::new(Gate {
-        reached: false,
-        submitted: 0,
-    });
+    gate: &'a Mutex<Gate>,
+) -> Option<Flusher<Holding<'a, MemDisk, R>>> {
     let disk = Holding {
         inner: MemDisk::new(alloc),
         rt,
-        gate: &gate,
+        gate,
         armed: false,
     };
     let mut store = opened(alloc, disk)?;
     store.log.disk.armed = true;
-    if store.is_dead() {
-        return Err("the store is dead".into());
-    }
-    let site = match Site::new(alloc, store) {
-        Ok(site) => site,
-        Err((fault, _store)) => return Err(fault.into()),
-    };
-    let flusher = Flusher {
-        site: Mutex::new(site),
+    Some(Flusher {
+        site: Mutex::new(site_over(alloc, store)?),
         board: Mutex::new(board(alloc, 4)?),
-    };
-    let Some(ticket) = submitted(alloc, &mut flusher.board.lock(rt), 1) else {
-        return Err("nothing was submitted".into());
-    };
-    Ok(thread::join(
+    })
+}
+
+/// The batch of a record, and those of three that are submitted while it is written. None where one waited in vain.
+fn shared<R: Threads + Wait + Clock + Sync>(
+    rt: &R,
+    alloc: Global,
+) -> Option<(Option<usize>, Option<[usize; 3]>)> {
+    let gate = Mutex::new(Gate {
+        reached: false,
+        submitted: 0,
+        gave_up: false,
+    });
+    let flusher = waiting_flusher(rt, alloc, &gate)?;
+    let ticket = submitted(alloc, &mut flusher.board.lock(rt))?;
+    let batches = thread::join(
         rt,
-        || batch_of(rt, alloc, &flusher, 0, ticket),
+        || acknowledged(rt, alloc, &flusher, 0, ticket).ok(),
         || three_more(rt, alloc, &flusher, &gate),
-    ))
+    );
+    if gate.lock(rt).gave_up {
+        return None;
+    }
+    Some(batches)
 }
 
 #[test]
 fn one_batch_for_three(rt: HostRuntime) -> Result<(), Fail> {
-    let (first, three) = shared(&rt, rt.alloc())?;
-    assert_eq!(rt; first, Some(0));
-    assert_eq!(rt; three, Some([1, 1, 1]));
+    let batches = shared(&rt, rt.alloc());
+    assert_eq!(rt; batches, Some((Some(0), Some([1, 1, 1]))));
     Ok(())
 }

@@ -1,16 +1,3 @@
-pub mod FirstLemmas
 pub mod KeptLemmas
-pub mod LedgerLemmas
-pub mod LinkedLemmas
-pub mod ListLemmas
-pub mod LookLemmas
 pub mod OnceLemmas
-pub mod PlaceLemmas
-pub mod RingLemmas
 pub mod RunLemmas
-pub mod SettleLemmas
-pub mod SpelledLemmas
-pub mod StandingLemmas
-pub mod StartLemmas
-pub mod TallyLemmas
-pub mod UserLemmas

@@ -7,8 +7,8 @@ use Rattle.st_records.specs.declared.record.Record.{Record}
 use Rattle.st_records.specs.declared.record.Record.TheVariants as records
 use Rattle.bd_lists.specs.declared.board.clearance.Spent.{Spent}
 use Rattle.bd_lists.specs.declared.recipe.Recipe.{Recipe}
-use Rattle.bd_lists.specs.declared.sent.Sent.{Sent}
-use Rattle.bd_lists.specs.declared.sent.Sent.TheVariants as sent
+use Rattle.bd_ledger.specs.declared.sent.Sent.{Sent}
+use Rattle.bd_ledger.specs.declared.sent.Sent.TheVariants as sent
 
 -- a recipe that was run, with the ticket of its 'begun'
 pub record Run : Type 0 where

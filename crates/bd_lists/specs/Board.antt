@@ -7,13 +7,12 @@ use Rattle.st_records.specs.Parts.{target_of}
 use Rattle.bd_lists.specs.declared.board.Advanced.{Advanced}
 use Rattle.bd_lists.specs.declared.board.Advanced.TheVariants as advanced
 use Rattle.bd_lists.specs.declared.board.clearance.Spent.{Spent}
-use Rattle.bd_lists.specs.declared.end.End.{End}
-use Rattle.bd_lists.specs.declared.end.End.TheVariants as end
-use Rattle.bd_lists.specs.declared.sent.Sent.TheVariants as sent
-use Rattle.bd_lists.specs.declared.stand.Stand.TheVariants.{Running}
+use Rattle.bd_places.specs.declared.end.End.{End}
+use Rattle.bd_places.specs.declared.end.End.TheVariants as end
+use Rattle.bd_ledger.specs.declared.sent.Sent.TheVariants as sent
+use Rattle.bd_links.specs.declared.stand.Stand.TheVariants.{Running}
 use Rattle.bd_lists.specs.Admission.{Run, MaySend}
-use Rattle.bd_lists.specs.Settling.{Settles}
-use Rattle.bd_lists.specs.Sheet.{Sheet, name_of, sent_by, last_ticket, is_kept, is_quiet, relisted}
+use Rattle.bd_ledger.specs.Sheet.{Sheet, name_of, sent_by, last_ticket, is_kept, is_quiet, relisted, SettlesOn}
 
 -- the node is in Running, the record is of its target, and the node may submit it
 pub record IsTaken (b : Sheet) (n : ℕ) (note : Record) (run : Option Run) : Type 0 where
@@ -38,11 +37,6 @@ end_noted (records.Begun target) = None
 end_noted (records.Done target commands hidden explicit) = Some end.Built
 end_noted (records.Failed target status) = Some (end.Failed status)
 end_noted (records.Kept target entry) = None
-
--- the node settles with this end, and with it what it frees and can't be made; nothing else changes
-pub record SettlesOn (b : Sheet) (n : ℕ) (end : End) (c : Sheet) : Type 0 where
-  pub rest : c ≡ record b { standing = c.standing }
-  pub settles : Settles b.prerequisites n end b.standing c.standing
 
 -- the node settles, or, where its recipe is yet to be run, goes to the end of Running with a clearance
 abbrev pub Advances : {T : Type 0} → Sheet → ℕ → T → Option End → Advanced T → Sheet → Type 0

@@ -1,14 +1,3 @@
 pub mod Admission
 pub mod Board
-pub mod Ledger
-pub mod Linked
-pub mod Links
-pub mod Mark
-pub mod Placed
-pub mod Places
-pub mod Ring
 pub mod Running
-pub mod Settling
-pub mod Sheet
-pub mod SixLists
-pub mod Tally

@@ -5,21 +5,23 @@ ghost use Rattle.st_records.specs.declared.record.Record.{Record};
 ghost use Rattle.st_records.specs.Limits.{IsGood};
 ghost use Rattle.st_records.specs.declared.version.Version.TheVariants.{Two};
 ghost use Rattle.mk_graph.specs.Edges.{row, times};
-ghost use Rattle.bd_lists.specs.declared.end.End.TheVariants.{Abandoned};
-ghost use Rattle.bd_lists.specs.declared.stand.Stand.TheVariants.{Running};
+ghost use Rattle.bd_places.specs.declared.end.End.TheVariants.{Abandoned};
+ghost use Rattle.bd_links.specs.declared.stand.Stand.TheVariants.{Running};
 ghost use Rattle.bd_lists.specs.Admission.{run_of};
-ghost use Rattle.bd_lists.specs.Board.{IsTaken, CanAdvance, Advances, SettlesOn, IsUntouched, handed_out, end_noted};
-ghost use Rattle.bd_lists.specs.Placed.{waits_in, IsOpen};
-ghost use Rattle.bd_lists.specs.Settling.{end_of, is_free, IsStanding};
-ghost use Rattle.bd_lists.specs.Sheet.{first_sheet, nodes_on, relisted, drained, submits, is_kept, is_quiet, last_ticket, AreWritable, AreOf};
-ghost use Rattle.bd_lists.specs.SixLists.{StandsIn};
+ghost use Rattle.bd_lists.specs.Board.{IsTaken, CanAdvance, Advances, IsUntouched, handed_out, end_noted};
+ghost use Rattle.bd_places.specs.Placed.{waits_in, IsOpen};
+ghost use Rattle.bd_places.specs.Settling.{end_of, is_free, IsStanding};
+ghost use Rattle.bd_ledger.specs.Sheet.{first_sheet, nodes_on, relisted, drained, submits, is_kept, is_quiet, last_ticket, AreWritable, AreOf, SettlesOn};
+ghost use Rattle.bd_links.specs.SixLists.{StandsIn};
 
 mod admission;
 mod clearance;
 
-use crate::ledger::Ledger;
-use crate::{End, Node, Sent, Stand, Ticket, Told};
+use crate::Told;
 use admission::may_send;
+use bd_ledger::{Ledger, Sent, Ticket};
+use bd_links::{Node, Stand};
+use bd_places::End;
 use byte_strings::ByteString;
 pub use clearance::{Clearance, Spent};
 use mk_graph::Edges;
@@ -35,7 +37,7 @@ pub struct Board<T> {
 }
 
 impl<T> Model for Board<T> {
-    ghost use Rattle.bd_lists.specs.Sheet.{Sheet};
+    ghost use Rattle.bd_ledger.specs.Sheet.{Sheet};
 
     ghost Value = { Sheet };
 

@@ -3,7 +3,7 @@
 ghost use Rattle.std.specs.Prelude.{◌≡◌, ℕ};
 ghost use Rattle.st_records.specs.declared.record.Record.{Record};
 
-use crate::Ticket;
+use bd_ledger::Ticket;
 use st_records::Record;
 
 /// A receipt: it tells that the record with a ticket was written.

@@ -21,6 +21,9 @@ const MAX_LOOKS: usize = 100;
 /// How many milliseconds a run has, between two looks, to end the step that the first one met.
 const PAUSE_MILLISECONDS: u64 = 2;
 
+/// Room for the fault of wanted memory, which has to be told where no more is to be had.
+const FAULT_BYTES: usize = 64;
+
 /// What one look came to.
 #[derive(Drop)]
 struct Look {
@@ -37,7 +40,7 @@ impl Look {
         let alloc = host.alloc();
         let folder = SystemFolder::new(host, alloc, options.state.as_str())?;
         let mut out = Vec::new(alloc);
-        let mut err = Vec::new(alloc);
+        let mut err = Vec::with_capacity(alloc, FAULT_BYTES)?;
         let (status, _disk) = drive(
             alloc,
             HashKey::from_system(&host),

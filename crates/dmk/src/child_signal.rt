@@ -1,6 +1,6 @@
 //! A run that is told how its recipes end, whatever whoever started dmk said of SIGCHLD.
-use std::io::{self, Read};
-use std::process::{Command, Stdio};
+use std::io::{self, PipeReader, PipeWriter, Read};
+use std::process::{Child, Command, Stdio};
 use std::{env, fs};
 
 /// Runs its words as a program that is told how its children end, and tells its own status on standard input. It tells
@@ -50,21 +50,41 @@ fn holds_sigchld(mask: &str) -> bool {
 
 // What the script tells.
 fn told_status(rt: HostRuntime) -> io::Result<String> {
-    let program = env::current_exe(&rt)?;
-    let (mut reader, writer) = io::pipe(&rt)?;
+    let (told, writer) = io::pipe(&rt)?;
+    let mut child = start_script(rt, writer)?;
+    let text = read_whole(rt, told);
+    // How it ended isn't told: that is why the script tells it.
+    let _ = child.wait();
+    text
+}
+
+fn read_whole(rt: HostRuntime, mut told: PipeReader) -> io::Result<String> {
+    let mut text = String::new(rt.alloc());
+    told.read_to_string(&mut text)?;
+    Ok(text)
+}
+
+// Starts the script, whose standard input it is that the status is told on.
+fn start_script(rt: HostRuntime, told: PipeWriter) -> io::Result<Child> {
     let mut command = Command::new(rt.alloc(), "/bin/sh")?;
-    command.arg("-c")?.arg(SCRIPT)?.arg(program.as_str())?;
+    command.stdin(Stdio::from(told));
+    add_script(rt, &mut command)?;
+    command.spawn(&rt)
+}
+
+// The script's own text, the path of dmk, and the words that this one was started with.
+fn add_script(rt: HostRuntime, command: &mut Command) -> io::Result<()> {
+    command.arg("-c")?.arg(SCRIPT)?;
+    let program = env::current_exe(&rt)?;
+    command.arg(program.as_str())?;
+    add_words(rt, command)
+}
+
+fn add_words(rt: HostRuntime, command: &mut Command) -> io::Result<()> {
     for word in env::args(&rt)?.skip(1) {
         command.arg(word.as_str())?;
     }
-    let mut child = command.stdin(Stdio::from(writer)).spawn(&rt)?;
-    drop(command);
-    let mut text = String::new(rt.alloc());
-    let read = reader.read_to_string(&mut text);
-    // How it ended isn't told: that is why the script tells it.
-    let _ = child.wait();
-    read?;
-    Ok(text)
+    Ok(())
 }
 
 // A run of which nothing is told was ended by a signal together with the script.

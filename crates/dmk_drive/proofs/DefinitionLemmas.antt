@@ -7,7 +7,7 @@ use Rattle.std.proofs.lemmas.Slice.Eq.{bytes_eq-Decides}
 use Rattle.mk_macros.specs.Ranks.{Ranks, no_ranks, ranks_at, with_rank, redefined, with_definition}
 use Rattle.mk_macros.specs.declared.definitions.Rank.{Rank}
 use Rattle.mk_macros.specs.declared.definitions.Rank.TheVariants.{CommandLine, Makefile, Environment, Tool}
-use Rattle.mk_rules.specs.Lines.{Defined}
+use Rattle.mk_rule_lines.specs.Lines.{Defined}
 use Rattle.bd_lists.specs.declared.recipe.Variable.{Variable}
 use Rattle.dmk_drive.specs.Keeping.{is_named}
 use Rattle.dmk_drive.specs.Definitions.{last_value, tool_value, with_last, first_defined}

@@ -5,7 +5,7 @@ use Rattle.st_disk.specs.declared.which.Which.{Which}
 use Rattle.st_disk.specs.declared.which.Which.TheVariants as sides
 use Rattle.st_file.specs.declared.fault.OpenFault.{OpenFault}
 use Rattle.st_file.specs.declared.fault.OpenFault.TheVariants as open_fault
-use Rattle.st_records.specs.State.{StateMap}
+use Rattle.st_state.specs.State.{StateMap}
 use Rattle.st_recovery.specs.Recovers.{HasOutcome, outcome_of}
 use Rattle.dmk_drive.specs.Faults.{IsOpenFault, IsRunFault}
 use Rattle.dmk_drive.specs.declared.fault.Fault.{Fault}

@@ -2,9 +2,9 @@
 use Rattle.std.proofs.Common.{◌≡◌, ◌||◌, List, Some, refl, ap, ◌∙◌}
 use Rattle.std.specs.List.{list_any}
 use Rattle.mk_reader.specs.declared.item.Item.{Item}
-use Rattle.mk_rules.specs.Goals.{is_keep_state, has_special}
-use Rattle.mk_rules.specs.Lines.{Defined, AreRuleLines, no_items, behind_definition, a_rule, a_special}
-use Rattle.mk_rules.specs.declared.rule_line.RuleLine.{RuleLine}
+use Rattle.mk_rule_lines.specs.Goals.{is_keep_state, has_special}
+use Rattle.mk_rule_lines.specs.Lines.{Defined, AreRuleLines, no_items, behind_definition, a_rule, a_special}
+use Rattle.mk_rule_lines.specs.declared.rule_line.RuleLine.{RuleLine}
 use Rattle.dmk_drive.specs.Keeping.{is_keep_item}
 
 pub keep_items : (ranks : Defined) (items : List Item) (lines : List RuleLine) → AreRuleLines ranks items lines →

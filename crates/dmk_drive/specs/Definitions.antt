@@ -2,7 +2,7 @@
 use Rattle.std.specs.Prelude.{ℕ, List, Option, Some, None, reverse, find, option_map, bytes_eq, codes, if◌then◌else◌}
 use Rattle.mk_macros.specs.Ranks.{Ranks, with_rank}
 use Rattle.mk_macros.specs.declared.definitions.Rank.{Rank}
-use Rattle.mk_rules.specs.Lines.{Defined}
+use Rattle.mk_rule_lines.specs.Lines.{Defined}
 use Rattle.bd_lists.specs.declared.recipe.Variable.{Variable}
 use Rattle.dmk_drive.specs.Keeping.{is_named}
 

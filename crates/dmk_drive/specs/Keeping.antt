@@ -4,7 +4,7 @@ use Rattle.std.specs.List.{list_any}
 use Rattle.std.specs.Option.{option_map_or}
 use Rattle.mk_reader.specs.declared.item.Item.{Item}
 use Rattle.mk_reader.specs.declared.item.Item.TheVariants as item
-use Rattle.mk_rules.specs.Goals.{is_keep_state}
+use Rattle.mk_rule_lines.specs.Goals.{is_keep_state}
 use Rattle.bd_lists.specs.declared.recipe.Variable.{Variable}
 
 -- the variable has this name

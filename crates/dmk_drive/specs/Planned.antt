@@ -8,12 +8,12 @@ use Rattle.mk_reader.specs.declared.item.Item.{Item}
 use Rattle.mk_recipe.specs.declared.line.Line.{Line}
 use Rattle.mk_rules.specs.Faults.{AreInputs}
 use Rattle.mk_rules.specs.Graph.{IsGraph}
-use Rattle.mk_rules.specs.Lines.{behind_items}
+use Rattle.mk_rule_lines.specs.Lines.{behind_items}
 use Rattle.mk_rules.specs.Prerequisites.{Inputs}
 use Rattle.mk_rules.specs.declared.graph.Graph.{Graph}
 use Rattle.st_disk.specs.declared.which.Which.{Which}
 use Rattle.st_disk.specs.declared.which.Which.TheVariants as sides
-use Rattle.st_records.specs.State.{StateMap}
+use Rattle.st_state.specs.State.{StateMap}
 use Rattle.st_recovery.specs.Recovers.{Recovers}
 use Rattle.dmk_drive.specs.Definitions.{first_defined}
 use Rattle.dmk_drive.specs.Keeping.{keeps}

@@ -4,7 +4,7 @@ ghost use Rattle.dmk_drive.specs.declared.fault.Fault.TheVariants.{OutOfMemory, 
 
 use mk_macros::MacroFault;
 use mk_reader::ReadFault;
-use mk_rules::RuleFault;
+use mk_rule_lines::RuleFault;
 use st_file::OpenFault;
 use std::alloc::AllocError;
 use thiserror::Error;

@@ -2,12 +2,12 @@
 ghost use Rattle.std.specs.Prelude.{◌≡◌, ℕ, Bool, List};
 ghost use Rattle.std.specs.List.{list_any};
 ghost use Rattle.mk_reader.specs.declared.item.Item.{Item};
-ghost use Rattle.mk_rules.specs.Goals.{is_keep_state, has_special};
+ghost use Rattle.mk_rule_lines.specs.Goals.{is_keep_state, has_special};
 ghost use Rattle.mk_rules.specs.Graph.{IsGraph};
-ghost use Rattle.mk_rules.specs.Lines.{Defined, AreRuleLines};
+ghost use Rattle.mk_rule_lines.specs.Lines.{Defined, AreRuleLines};
 ghost use Rattle.mk_rules.specs.Prerequisites.{Inputs};
 ghost use Rattle.mk_rules.specs.declared.graph.Graph.{Graph};
-ghost use Rattle.mk_rules.specs.declared.rule_line.RuleLine.{RuleLine};
+ghost use Rattle.mk_rule_lines.specs.declared.rule_line.RuleLine.{RuleLine};
 ghost use Rattle.dmk_drive.specs.Keeping.{is_keep_item};
 ghost use Rattle.mk_recipe.specs.declared.line.Line.{Line};
 ghost use Rattle.dmk_drive.specs.Passing.{Lists, PassesEach};

@@ -9,7 +9,7 @@ ghost use Rattle.mk_reader.specs.declared.item.Item.{Item as MakefileItem};
 ghost use Rattle.mk_recipe.specs.declared.line.Line.{Line as RecipeText};
 ghost use Rattle.mk_rules.specs.Faults.{IsRuleFault};
 ghost use Rattle.mk_rules.specs.declared.graph.TheConstants.{MAX_NODES};
-ghost use Rattle.mk_rules.specs.declared.fault.RuleFault.{RuleFault as RulesFault};
+ghost use Rattle.mk_rule_lines.specs.declared.fault.RuleFault.{RuleFault as RulesFault};
 ghost use Rattle.dmk_drive.specs.Definitions.{first_defined};
 ghost use Rattle.dmk_drive.specs.Makefile.{IsAbsent, MayBeThere};
 ghost use Rattle.st_disk.specs.Faults.{Rises};
@@ -31,7 +31,8 @@ use byte_strings::ByteStrings;
 use mk_reader::{Includes, Item};
 use mk_rules::{Graph, Tree, build};
 use st_disk::Disk;
-use st_records::{HashKey, State};
+use st_records::HashKey;
+use st_state::State;
 use std::alloc::Global;
 
 /// What a makefile is read and planned with.

@@ -9,8 +9,9 @@ ghost use Rattle.dmk_drive.specs.Faults.{IsOpenFault};
 
 use st_disk::{Disk, Which};
 use st_file::{OpenFault, read_whole};
-use st_records::{HashKey, State};
+use st_records::HashKey;
 use st_recovery::recover;
+use st_state::State;
 use std::alloc::Global;
 
 /// The state that the two sides recover. Both are read before either is judged.

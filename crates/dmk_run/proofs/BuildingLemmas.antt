@@ -5,10 +5,10 @@ use Rattle.std.proofs.lemmas.Result.{IfOk-at_ok}
 use Rattle.st_disk.specs.Crash.{Sides}
 use Rattle.st_disk.specs.Moments.{Moments, now}
 use Rattle.st_records.specs.declared.record.Record.{Record}
-use Rattle.st_records.specs.State.{StateMap}
+use Rattle.st_state.specs.State.{StateMap}
 use Rattle.st_recovery.specs.Stored.{AllRecover}
 use Rattle.mk_rules.specs.declared.graph.Graph.{Graph}
-use Rattle.bd_lists.specs.declared.end.End.{End}
+use Rattle.bd_places.specs.declared.end.End.{End}
 use Rattle.bd_flusher.specs.Site.{Facts}
 use Rattle.bd_flusher.specs.declared.site.receipt.Receipt.{Receipt}
 use Rattle.jb_closing.specs.declared.fault.RunFault.{RunFault}

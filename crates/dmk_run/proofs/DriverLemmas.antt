@@ -5,7 +5,7 @@ use Rattle.mk_reader.specs.declared.item.Item.{Item}
 use Rattle.st_disk.specs.Crash.{Sides}
 use Rattle.st_disk.specs.declared.which.Which.{Which}
 use Rattle.st_disk.specs.declared.which.Which.TheVariants as which
-use Rattle.st_records.specs.State.{StateMap}
+use Rattle.st_state.specs.State.{StateMap}
 use Rattle.st_recovery.specs.Recovers.{Recovers, recovered}
 use Rattle.st_recovery.proofs.RecoversLemmas.{one_recovery}
 use Rattle.bd_lists.specs.declared.recipe.Variable.{Variable}

@@ -7,7 +7,7 @@ use Rattle.st_disk.specs.declared.which.Which.TheVariants as which
 use Rattle.st_disk.specs.Crash.{Sides, IsCrashImage}
 use Rattle.st_disk.specs.Moments.{Moments, Throughout}
 use Rattle.st_disk.proofs.MomentLaws.{then_goes, throughout_map}
-use Rattle.st_records.specs.State.{StateMap}
+use Rattle.st_state.specs.State.{StateMap}
 use Rattle.st_file.specs.Side.{IsVoid}
 use Rattle.st_recovery.specs.Recovers.{Recovers}
 use Rattle.st_recovery.specs.Stored.{AllRecover, ArePossibleOrNew}

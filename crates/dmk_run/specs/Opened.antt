@@ -4,7 +4,7 @@ use Rattle.st_disk.specs.declared.which.Which.{Which}
 use Rattle.st_disk.specs.declared.which.Which.TheVariants as which
 use Rattle.st_disk.specs.Crash.{Sides, EachPair, IsCrashImage}
 use Rattle.st_records.specs.declared.version.Version.TheVariants as versions
-use Rattle.st_records.specs.State.{StateMap}
+use Rattle.st_state.specs.State.{StateMap}
 use Rattle.st_file.specs.declared.fault.OpenFault.{OpenFault}
 use Rattle.st_file.specs.declared.fault.OpenFault.TheVariants as open_faults
 use Rattle.st_recovery.specs.Recovers.{Recovers, RefusesWith}

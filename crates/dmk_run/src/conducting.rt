@@ -6,7 +6,7 @@ ghost use Rattle.jb_recipe.specs.declared.variables.Makeflags.TheVariants as fla
 use bd_lists::Variable;
 use byte_strings::ByteString;
 use jb_recipe::{Conduct, Makeflags};
-use mk_rules::Settings;
+use mk_rule_lines::Settings;
 use std::alloc::{AllocError, Global};
 
 /// What the words of the command line ask of a run, beside makefile and targets.

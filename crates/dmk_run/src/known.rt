@@ -3,7 +3,8 @@ ghost use Rattle.std.specs.Prelude.{◌↔◌, ◌<◌, length, IsTrue};
 ghost use Rattle.dmk_run.specs.Known.{IsKnownDone, IsNodeKnownDone, AreKnownDone};
 
 use mk_rules::Graph;
-use st_records::{Phase, State};
+use st_records::Phase;
+use st_state::State;
 
 fn is_known_done(state: &State, target: &[u8]) -> bool
     ensures { IsTrue result ↔ IsKnownDone state.now target.now }

@@ -7,7 +7,7 @@ use Rattle.std.specs.FinMap.{len-entries}
 use Rattle.st_records.specs.declared.record.Entry.{Entry}
 use Rattle.st_file.specs.declared.fault.OpenFault.{OpenFault}
 use Rattle.st_file.specs.declared.fault.OpenFault.TheVariants as open_faults
-use Rattle.st_records.specs.State.{StateMap}
+use Rattle.st_state.specs.State.{StateMap}
 use Rattle.st_recovery.specs.Recovers.{Recovers, RefusesWith, PairComesToRecords, Outcome, HasOutcome, outcome_of, recovered, refused}
 use Rattle.st_recovery.proofs.RecoversLemmas.{one_recovery}
 use Rattle.st_recovery.proofs.MemoryLemmas.{comes_of_state}

@@ -4,7 +4,7 @@ use Rattle.std.specs.Io.KnownBytes.{Appends, Keeps}
 use Rattle.st_disk.specs.declared.which.Which.{Which}
 use Rattle.st_file.specs.Side as side_file
 use Rattle.st_file.specs.declared.fault.OpenFault.TheVariants as open_faults
-use Rattle.st_records.specs.State.{StateMap}
+use Rattle.st_state.specs.State.{StateMap}
 use Rattle.st_recovery.specs.Recovers.{Recovers, RefusesWith}
 use Rattle.dmk_state.specs.Listing.{listing}
 use Rattle.dmk_state.specs.declared.listing.ListFault.{ListFault}

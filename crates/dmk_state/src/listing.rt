@@ -3,7 +3,7 @@
 ghost use Rattle.std.specs.Prelude.{◌≡◌, ◌⊎◌, ◌<◌, ◌≤◌, length, take, MatchResult, OnOk, OnErr, IfOk, IfErr, IsErrOf};
 ghost use Rattle.std.specs.FinMap as map;
 ghost use Rattle.std.specs.Io.KnownBytes.{Appends, Keeps};
-ghost use Rattle.st_records.specs.State.{StateMap};
+ghost use Rattle.st_state.specs.State.{StateMap};
 ghost use Rattle.st_file.specs.declared.fault.OpenFault.{OpenFault};
 ghost use Rattle.st_file.specs.declared.fault.OpenFault.TheVariants as open_faults;
 ghost use Rattle.st_recovery.specs.Recovers.{Recovers, RefusesWith, PairComesToRecords};
@@ -13,8 +13,9 @@ ghost use Rattle.dmk_state.specs.declared.listing.ListFault.TheVariants as fault
 
 use crate::text::listing_text;
 use st_file::OpenFault;
-use st_records::{HashKey, State};
+use st_records::HashKey;
 use st_recovery::recover;
+use st_state::State;
 use std::alloc::{AllocError, Global};
 use std::io::{self, Write};
 use thiserror::Error;

@@ -7,8 +7,6 @@ mod command_line;
 mod listing;
 mod output;
 mod sides;
-#[cfg(test)]
-mod tests;
 mod text;
 
 use command_line::{Request, read_words};

@@ -5,7 +5,8 @@ ghost use Rattle.std.specs.List.{flat_map};
 ghost use Rattle.st_records.specs.Parts.{names_known};
 ghost use Rattle.dmk_state.specs.Listing.{listing, entry_lines, phase_text, command_text, explicit_text, line, continued};
 
-use st_records::{ByteStrings, Entry, Explicit, Phase, State};
+use st_records::{ByteStrings, Entry, Explicit, Phase};
+use st_state::State;
 use std::alloc::{AllocError, Global};
 
 // How many entries are looked at before their lines are written.

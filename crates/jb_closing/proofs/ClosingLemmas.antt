@@ -8,10 +8,10 @@ use Rattle.mk_graph.specs.Numbering.{name_at}
 use Rattle.st_disk.specs.Crash.{Sides}
 use Rattle.st_records.specs.declared.record.Record.{Record}
 use Rattle.st_records.specs.Parts.{commands_of}
-use Rattle.st_records.specs.State.{StateMap, replay}
+use Rattle.st_state.specs.State.{StateMap, replay}
 use Rattle.st_recovery.specs.Stored.{AllRecover}
-use Rattle.bd_lists.specs.declared.end.End.{End}
-use Rattle.bd_lists.specs.declared.end.End.TheVariants.{Built}
+use Rattle.bd_places.specs.declared.end.End.{End}
+use Rattle.bd_places.specs.declared.end.End.TheVariants.{Built}
 use Rattle.bd_flusher.specs.declared.site.receipt.Receipt.{Receipt}
 use Rattle.jb_closing.specs.Agreement.{noted_at, as_list, AreThoseOf}
 use Rattle.jb_closing.specs.Last.{IsLast, IsLastPlace, ArePlaces, IsDoneRecord, EndsDone}

@@ -15,8 +15,8 @@ use Rattle.st_records.specs.declared.record.Record.TheVariants as records
 use Rattle.st_records.specs.declared.record.Entry.{Entry}
 use Rattle.st_records.specs.declared.record.Phase.TheVariants as phases
 use Rattle.st_records.specs.Parts.{target_of, commands_of}
-use Rattle.st_records.specs.State.{StateMap, apply_record, replay}
-use Rattle.st_records.proofs.StateLemmas.{by_bytes, by_bytes-same, same_bytes}
+use Rattle.st_state.specs.State.{StateMap, apply_record, replay}
+use Rattle.st_state.proofs.StateLemmas.{by_bytes, by_bytes-same, same_bytes}
 use Rattle.jb_closing.specs.Last.{IsSilentFrom, IsLastAt, IsLast, IsLastPlace, ArePlaces, IsDoneRecord, EndsDone, IsDoneIn}
 use Rattle.jb_closing.proofs.ListLemmas.{at_end, at_before, at_push_cases, at_set, at_set_other}
 

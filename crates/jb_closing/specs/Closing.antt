@@ -4,10 +4,10 @@ use Rattle.mk_graph.specs.Numbering.{name_at}
 use Rattle.st_disk.specs.Crash.{Sides, EachPair}
 use Rattle.st_records.specs.declared.record.Record.{Record}
 use Rattle.st_records.specs.Parts.{commands_of}
-use Rattle.st_records.specs.State.{StateMap}
+use Rattle.st_state.specs.State.{StateMap}
 use Rattle.st_recovery.specs.Recovers.{Recovers}
-use Rattle.bd_lists.specs.declared.end.End.{End}
-use Rattle.bd_lists.specs.declared.end.End.TheVariants.{Built}
+use Rattle.bd_places.specs.declared.end.End.{End}
+use Rattle.bd_places.specs.declared.end.End.TheVariants.{Built}
 use Rattle.bd_flusher.specs.declared.site.receipt.Receipt.{Receipt}
 use Rattle.bd_flusher.specs.declared.fault.FlushFault.{FlushFault}
 use Rattle.bd_flusher.specs.declared.fault.FlushFault.TheVariants as flush_faults

@@ -7,7 +7,7 @@ use Rattle.st_records.specs.declared.record.Record.TheVariants as records
 use Rattle.st_records.specs.declared.record.Entry.{Entry}
 use Rattle.st_records.specs.declared.record.Phase.TheVariants as phases
 use Rattle.st_records.specs.Parts.{target_of}
-use Rattle.st_records.specs.State.{StateMap}
+use Rattle.st_state.specs.State.{StateMap}
 
 -- no record from this place on is of the target
 abbrev pub IsSilentFrom : (from : ℕ) → (target : List ℕ) → List Record → Type 0

@@ -3,9 +3,9 @@ use Rattle.std.specs.Prelude.{◌≡◌, ◌≤◌, Bool, true, false, List, len
 use Rattle.std.specs.List.{list_all}
 use Rattle.mk_rules.specs.declared.graph.Graph.{Graph}
 use Rattle.st_disk.specs.Moments.{Moments, now}
-use Rattle.st_records.specs.State.{replay}
-use Rattle.bd_lists.specs.declared.end.End.{End}
-use Rattle.bd_lists.specs.declared.end.End.TheVariants as end
+use Rattle.st_state.specs.State.{replay}
+use Rattle.bd_places.specs.declared.end.End.{End}
+use Rattle.bd_places.specs.declared.end.End.TheVariants as end
 use Rattle.bd_flusher.specs.Site.{Facts}
 use Rattle.bd_flusher.specs.declared.site.receipt.Receipt.{Receipt}
 use Rattle.jb_closing.specs.declared.fault.RunFault.{RunFault}

@@ -1,10 +1,10 @@
 //! The site of a run once its workers have ended, and what a report says of its store.
 ghost use Rattle.std.specs.Prelude.{◌≡◌, ℕ, ◌<◌, List, length, false, IfOk, IfErr, MatchOption, IsTrue, ◌↔◌};
 ghost use Rattle.st_disk.specs.Moments.{now};
-ghost use Rattle.st_records.specs.State.{replay};
+ghost use Rattle.st_state.specs.State.{replay};
 ghost use Rattle.mk_graph.specs.Numbering.{name_at};
 ghost use Rattle.mk_rules.specs.Node.{EachHasOneNumber};
-ghost use Rattle.bd_lists.specs.declared.end.End.TheVariants.{Built};
+ghost use Rattle.bd_places.specs.declared.end.End.TheVariants.{Built};
 ghost use Rattle.jb_closing.specs.Agreement.{AreThoseOf};
 ghost use Rattle.jb_closing.specs.Last.{IsLastPlace, ArePlaces, EndsDone};
 ghost use Rattle.jb_closing.specs.Closing.{AreTrueOf, LacksDoneAt, IsRefusedAt, IsReportFault, AllEndDone};
@@ -13,7 +13,8 @@ use crate::agreement::first_difference;
 use crate::last::{is_done, last_places};
 use crate::{Report, RunFault};
 use bd_flusher::{FlushFault, Receipt, Site};
-use bd_lists::{End, Ticket};
+use bd_ledger::Ticket;
+use bd_places::End;
 use mk_graph::Names;
 use mk_rules::Graph;
 use st_disk::Disk;

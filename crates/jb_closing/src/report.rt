@@ -3,7 +3,7 @@ ghost use Rattle.std.specs.Prelude.{◌≡◌, ◌≤◌, IsTrue};
 ghost use Rattle.std.specs.List.{list_all};
 ghost use Rattle.jb_closing.specs.Report.{ends_well};
 
-use bd_lists::End;
+use bd_places::End;
 
 /// How each node of the graph ended, by its number, and the exit status of the run: 2 where a recipe couldn't be expanded
 /// or the jobserver failed, else 1 where a target failed or couldn't be recorded, else 0.

@@ -3,9 +3,9 @@ use Rattle.std.proofs.Common.{◌≡◌, ℕ, List, Option, Some, None, Result, 
 use Rattle.st_disk.specs.Crash.{Sides}
 use Rattle.st_records.specs.declared.record.Record.{Record}
 use Rattle.bd_lists.specs.declared.board.Advanced.{Advanced}
-use Rattle.bd_lists.specs.declared.end.End.{End}
+use Rattle.bd_places.specs.declared.end.End.{End}
 use Rattle.bd_lists.specs.Board.{CanAdvance, Advances, end_noted}
-use Rattle.bd_lists.specs.Sheet.{Sheet}
+use Rattle.bd_ledger.specs.Sheet.{Sheet}
 use Rattle.bd_flusher.specs.declared.site.receipt.Receipt.{Receipt}
 use Rattle.jb_closing.specs.declared.fault.RunFault.{RunFault}
 use Rattle.jb_closing.specs.declared.report.Report.{Report}

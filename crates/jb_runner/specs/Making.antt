@@ -6,8 +6,8 @@ use Rattle.jb_runner.specs.declared.ending.Begun.TheVariants.{Cleared, Refused}
 use Rattle.bd_flusher.specs.declared.site.receipt.Receipt.{Receipt}
 use Rattle.bd_lists.specs.declared.board.Advanced.{Advanced}
 use Rattle.bd_lists.specs.declared.board.Advanced.TheVariants as advanced
-use Rattle.bd_lists.specs.declared.end.End.{End}
-use Rattle.bd_lists.specs.declared.end.End.TheVariants as end
+use Rattle.bd_places.specs.declared.end.End.{End}
+use Rattle.bd_places.specs.declared.end.End.TheVariants as end
 
 -- whether a node that has ended so was made anew in this run
 abbrev pub is_remade : Option End → Bool

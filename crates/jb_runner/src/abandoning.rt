@@ -1,7 +1,8 @@
 //! What is abandoned when a run doesn't go on.
 
 use bd_flusher::Receipt;
-use bd_lists::{Board, Node, Stand};
+use bd_links::{Node, Stand};
+use bd_lists::Board;
 
 fn waits(board: &Board<Receipt>, node: Node) -> bool {
     matches!(board.stand(node), Some(Stand::Waiting | Stand::Ready))

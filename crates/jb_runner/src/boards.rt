@@ -1,7 +1,7 @@
 //! The board of a graph: it has copies of the graph's tables.
 
 ghost use Rattle.std.specs.Prelude.{◌≡◌, IfOk};
-ghost use Rattle.bd_lists.specs.Sheet.{first_sheet};
+ghost use Rattle.bd_ledger.specs.Sheet.{first_sheet};
 
 use bd_flusher::Receipt;
 use bd_lists::Board;

@@ -10,7 +10,9 @@ use crate::abandoning::abandon_waiting;
 use crate::shift::Kept;
 use crate::{Shift, Shop};
 use bd_flusher::{FlushFault, Receipt};
-use bd_lists::{Advanced, Clearance, Exec, Node, Recipe, Spent, Ticket, Told};
+use bd_ledger::Ticket;
+use bd_links::Node;
+use bd_lists::{Advanced, Clearance, Exec, Recipe, Spent, Told};
 use jb_closing::RunFault;
 use jb_recipe::{EndNote, News, Place, Plan, Ran, Say, run_recipe};
 use jb_slots::Bank;
@@ -210,10 +212,7 @@ impl<D: Disk + Drop, E: Exec<Receipt>, S: Say, P: Place> Shop<'_, D, E, S, P> {
         match self.submit(rt, node, last, Some(spent)) {
             Ok((ticket, told)) => {
                 kept.begun = told;
-                if let Some(status) = failed {
-                    self.tell_failed(node, status);
-                    shift.worsen(1);
-                }
+                self.tell_end(node, failed, shift);
                 self.settle_end(rt, alloc, node, ticket, copy, failed, kept)
             }
             Err((_note, run)) => {
@@ -221,6 +220,13 @@ impl<D: Disk + Drop, E: Exec<Receipt>, S: Say, P: Place> Shop<'_, D, E, S, P> {
                 self.not_recorded(rt, node, shift);
                 Ok(())
             }
+        }
+    }
+
+    fn tell_end(&self, node: Node, failed: Option<u32>, shift: &mut Shift) {
+        if let Some(status) = failed {
+            self.tell_failed(node, status);
+            shift.worsen(1);
         }
     }
 

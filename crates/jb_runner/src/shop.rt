@@ -2,7 +2,8 @@
 
 use crate::abandoning::abandon_waiting;
 use bd_flusher::{Flusher, Receipt, Site};
-use bd_lists::{Board, Node};
+use bd_links::Node;
+use bd_lists::Board;
 use jb_recipe::{Conduct, News, Say};
 use jb_slots::{Bank, Slots};
 use mk_rules::Graph;

@@ -3,7 +3,7 @@ ghost use Rattle.std.specs.Prelude.{◌≡◌, ◌≤◌, List, false, length, I
 ghost use Rattle.std.specs.List.{list_all};
 ghost use Rattle.mk_rules.specs.declared.graph.Graph.{Graph};
 ghost use Rattle.st_disk.specs.Moments.{now};
-ghost use Rattle.st_records.specs.State.{replay};
+ghost use Rattle.st_state.specs.State.{replay};
 ghost use Rattle.bd_flusher.specs.declared.site.receipt.Receipt.{Receipt};
 ghost use Rattle.jb_closing.specs.Agreement.{AreThoseOf};
 ghost use Rattle.jb_closing.specs.Closing.{AreTrueOf};

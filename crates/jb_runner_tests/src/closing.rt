@@ -4,20 +4,20 @@ use crate::makefiles::{Asked, graph};
 use crate::runs::made;
 use crate::states::new_store;
 use crate::way::ALONE;
-use bd_flusher::{FlushFault, Receipt};
-use bd_lists::{End, Ticket};
+use bd_flusher::{FlushFault, Receipt, Site};
+use bd_ledger::Ticket;
+use bd_places::End;
 use jb_closing::{Closed, Report, RunFault};
 use mk_rules::Graph;
-use st_disk::MemDisk;
-use std::alloc::Global;
+use st_memory::MemDisk;
+use std::alloc::{AllocError, Global};
 use std::process::Abort;
 use std::test::Fail;
 
 // Its run tells begun a, done a, begun b, done b: tickets 0 to 3.
-const TWO: Asked<'static> = Asked {
+const TWO: Asked = Asked {
     makefile: "all: a b\na:\n\ttrue\nb:\n\ttrue\n",
     files: &[],
-    definition: None,
 };
 
 /// The receipts of these tickets and these ends are handed in: at which ticket they are refused.
@@ -79,26 +79,47 @@ static ROWS: [Row; 8] = [
     },
 ];
 
-fn receipt(alloc: Global, closed: &Closed<MemDisk>, ticket: usize) -> Result<Receipt, Fail> {
-    let Some(note) = closed.site.told().get(ticket) else {
+fn receipt(alloc: Global, site: &Site<MemDisk>, ticket: usize) -> Result<Receipt, Fail> {
+    let Some(note) = site.told().get(ticket) else {
         return Err("nothing was told there".into());
     };
-    match closed.site.look(Ticket::new(ticket), note.copy(alloc)?) {
+    match site.look(Ticket::new(ticket), note.copy(alloc)?) {
         Ok(receipt) => Ok(receipt),
         Err(_note) => Err("another record was told there".into()),
     }
 }
 
-fn receipts(
+fn push_receipts(
     alloc: Global,
-    closed: &Closed<MemDisk>,
+    site: &Site<MemDisk>,
     tickets: &[usize],
-) -> Result<Vec<Receipt>, Fail> {
-    let mut receipts = Vec::new(alloc);
+    receipts: &mut Vec<Receipt>,
+) -> Result<(), Fail> {
     for ticket in tickets {
-        receipts.push(receipt(alloc, closed, *ticket)?)?;
+        receipts.push(receipt(alloc, site, *ticket)?)?;
     }
-    Ok(receipts)
+    Ok(())
+}
+
+fn report_of(alloc: Global, ends: &[End]) -> Result<Report, AllocError> {
+    Ok(Report {
+        ends: Vec::from_slice(alloc, ends)?,
+        status: 0,
+    })
+}
+
+/// Why a report isn't passed.
+fn fault_of(
+    alloc: Global,
+    graph: &Graph,
+    closed: &Closed<MemDisk>,
+    report: Report,
+    receipts: &[Receipt],
+) -> Option<RunFault> {
+    match closed.report(alloc, graph, report, receipts) {
+        Ok(_report) => None,
+        Err(fault) => Some(fault),
+    }
 }
 
 fn refusal(
@@ -106,20 +127,27 @@ fn refusal(
     graph: &Graph,
     closed: &Closed<MemDisk>,
     row: &Row,
-) -> Result<Option<RunFault>, Fail> {
-    let receipts = receipts(alloc, closed, row.tickets)?;
-    let report = Report {
-        ends: Vec::from_slice(alloc, row.ends)?,
-        status: 0,
-    };
-    match closed.report(alloc, graph, report, &receipts) {
-        Ok(_report) => Ok(None),
-        Err(fault) => Ok(Some(fault)),
-    }
+    receipts: &[Receipt],
+) -> Result<Option<RunFault>, AllocError> {
+    let report = report_of(alloc, row.ends)?;
+    Ok(fault_of(alloc, graph, closed, report, receipts))
 }
 
 fn unknown(ticket: usize) -> RunFault {
     RunFault::Flush(FlushFault::Unknown(Ticket::new(ticket)))
+}
+
+fn expect_row(
+    rt: &(impl Abort + AllocGlobal),
+    graph: &Graph,
+    closed: &Closed<MemDisk>,
+    row: &Row,
+) -> Result<(), Fail> {
+    let mut receipts = Vec::new(rt.alloc());
+    push_receipts(rt.alloc(), &closed.site, row.tickets, &mut receipts)?;
+    let refusal = refusal(rt.alloc(), graph, closed, row, &receipts)?;
+    assert_eq!(rt; refusal, row.refused_at.map(unknown), "{}", row.name);
+    Ok(())
 }
 
 fn expect_rows(
@@ -128,15 +156,19 @@ fn expect_rows(
     closed: &Closed<MemDisk>,
 ) -> Result<(), Fail> {
     for row in &ROWS {
-        let refusal = refusal(rt.alloc(), graph, closed, row)?;
-        assert_eq!(rt; refusal, row.refused_at.map(unknown), "{}", row.name);
+        expect_row(rt, graph, closed, row)?;
     }
     Ok(())
 }
 
+fn expect_closed(rt: &(impl Abort + AllocGlobal), closed: &Closed<MemDisk>) -> Result<(), Fail> {
+    let graph = graph(rt.alloc(), &TWO, closed.site.store().state())?;
+    expect_rows(rt, &graph, closed)
+}
+
 #[test]
 fn a_report_passes_where_it_is_true_of_the_store(rt: HostRuntime) -> Result<(), Fail> {
-    let came = made(&rt, rt.alloc(), &TWO, &ALONE, new_store(rt.alloc())?)?;
-    let graph = graph(rt.alloc(), &TWO, came.state())?;
-    expect_rows(&rt, &graph, &came.closed)
+    let store = new_store(rt.alloc())?;
+    let came = made(&rt, rt.alloc(), &TWO, &ALONE, store)?;
+    expect_closed(&rt, &came.closed)
 }

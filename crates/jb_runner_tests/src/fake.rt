@@ -1,10 +1,7 @@
 //! A fake of all that a run calls: recipe lines, reports and files, what is printed, and a pool of tokens.
-ghost use Rattle.std.specs.Prelude.{◌≡◌, ◌<◌, IfOk, OnErr};
-ghost use Rattle.jb_slots.specs.Tokens.{fresh};
-ghost use Rattle.jb_slots.specs.End.{state_of};
 
 use crate::pool::Tap;
-use crate::way::{Shown, Way};
+use crate::way::Way;
 use jb_recipe::PlaceFault;
 use jb_slots::End;
 use std::alloc::{AllocError, Global};
@@ -38,13 +35,6 @@ impl Notes {
     }
 }
 
-fn report_of(alloc: Global, shown: Shown) -> Result<Result<Vec<u8>, PlaceFault>, AllocError> {
-    match shown.report {
-        Ok(text) => Ok(Ok(Vec::from_slice(alloc, text)?)),
-        Err(fault) => Ok(Err(fault)),
-    }
-}
-
 /// A worker's end of the pool.
 pub type TokenEnd<'f, R> = End<Tap<'f, R>>;
 
@@ -52,7 +42,6 @@ pub type TokenEnd<'f, R> = End<Tap<'f, R>>;
 pub struct Fake<R: Wait + Clock + Copy> {
     pub rt: R,
     pub alloc: Global,
-    pub report: Result<Vec<u8>, PlaceFault>,
     pub sync: Result<(), PlaceFault>,
     pub is_broken: bool,
     pub notes: Mutex<Notes>,
@@ -62,12 +51,10 @@ impl<R: Wait + Clock + Copy> Fake<R> {
     pub fn new(rt: R, alloc: Global, way: &Way) -> Result<Fake<R>, AllocError> {
         let tokens = Vec::from_slice(alloc, way.tokens.unwrap_or(b""))?;
         let ran = Vec::with_capacity(alloc, ROOM)?;
-        let report = report_of(alloc, way.shown)?;
         Ok(Fake {
             rt,
             alloc,
-            report,
-            sync: way.shown.sync,
+            sync: way.sync,
             is_broken: way.tokens.is_none(),
             notes: Mutex::new(Notes {
                 said: Vec::new(alloc),
@@ -81,10 +68,7 @@ impl<R: Wait + Clock + Copy> Fake<R> {
     }
 
     /// An end of the pool that has room to note so many tokens.
-    pub fn end<'f>(&'f self, alloc: Global, room: usize) -> Result<TokenEnd<'f, R>, AllocError>
-        ensures ok { IfOk result (λ e. state_of e ≡ fresh room) }
-        ensures memory { OnErr result (0 < room) }
-    {
+    pub fn end<'f>(&'f self, alloc: Global, room: usize) -> Result<TokenEnd<'f, R>, AllocError> {
         End::new(alloc, Tap::new(self), room)
     }
 
@@ -105,7 +89,6 @@ impl<R: Wait + Clock + Copy> Fake<R> {
         let Fake {
             rt: _,
             alloc: _,
-            report: _,
             sync: _,
             is_broken: _,
             notes,

@@ -7,15 +7,17 @@ use crate::makefiles::Asked;
 use crate::runs::{Came, made};
 use crate::states::new_store;
 use crate::way::{ALONE_WITH_K, Way};
-use st_disk::MemDisk;
+use st_memory::MemDisk;
 use st_records::Phase;
 use std::process::Abort;
+use std::sync::Wait;
 use std::test::Fail;
+use std::thread::Threads;
+use std::time::Clock;
 
-const TWO: Asked<'static> = Asked {
+const TWO: Asked = Asked {
     makefile: "all: a b\na: y\n\techo a\nb: y\n\techo b\n",
-    files: &[("y", 1)],
-    definition: None,
+    files: &[("y", 1, "")],
 };
 
 const PAIR: Way = Way {
@@ -46,26 +48,40 @@ fn is_in_order(came: &Came<MemDisk>) -> bool {
         && (knows(came, b"b") || !was_run(ran, b"echo b\n"))
 }
 
-// The one worker finds the implicit slot free for each recipe, so it reads no token.
-#[test]
-fn a_run_that_wanted_memory_ends(rt: HostRuntime) -> Result<(), Fail> {
+fn run_of<R: Threads + Wait + Clock + Sync + Copy + AllocGlobal>(
+    rt: &R,
+    way: &Way,
+) -> Result<Came<MemDisk>, Fail> {
     let store = new_store(rt.alloc())?;
-    let came = made(&rt, rt.alloc(), &TWO, &ALONE_WITH_K, store)?;
-    assert!(rt; is_in_order(&came));
+    made(rt, rt.alloc(), &TWO, way, store)
+}
+
+// The one worker finds the implicit slot free for each recipe, so it reads no token.
+fn expect_of_one(rt: &impl Abort, came: &Came<MemDisk>) {
+    assert!(rt; is_in_order(came));
     assert_eq!(rt; came.notes.reads, 0);
     match came.status() {
         0 => assert_eq!(rt; came.notes.ran.as_slice(), b"echo a\necho b\n".as_slice()),
         // A line whose answer wanted memory failed, or the run ended so.
         status => assert!(rt; status == 1 || status == 9),
     }
+}
+
+fn expect_of_two(rt: &impl Abort, came: &Came<MemDisk>) {
+    assert!(rt; is_in_order(came));
+    assert!(rt; came.status() != 0 || came.notes.ran.len() == 14);
+}
+
+#[test]
+fn a_run_that_wanted_memory_ends(rt: HostRuntime) -> Result<(), Fail> {
+    let came = run_of(&rt, &ALONE_WITH_K)?;
+    expect_of_one(&rt, &came);
     Ok(())
 }
 
 #[test]
 fn a_run_of_two_workers_that_wanted_memory_ends(rt: HostRuntime) -> Result<(), Fail> {
-    let store = new_store(rt.alloc())?;
-    let came = made(&rt, rt.alloc(), &TWO, &PAIR, store)?;
-    assert!(rt; is_in_order(&came));
-    assert!(rt; came.status() != 0 || came.notes.ran.len() == 14);
+    let came = run_of(&rt, &PAIR)?;
+    expect_of_two(&rt, &came);
     Ok(())
 }

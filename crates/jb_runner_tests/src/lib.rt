@@ -1,15 +1,19 @@
-//! Whole runs over memory: a makefile, files by their times, a state on a memory disk, recipe lines answered by their
-//! text.
+//! What no program can show of a run: workers that want memory, pools that fail, reports that aren't true, devices that
+//! stop, and how often included files are read. Runs go over memory: a makefile, files by their times, a state on a memory
+//! disk, recipe lines answered by their text.
 #![tactic(auto)]
 
 #[cfg(test)]
 mod closing;
+#[cfg(test)]
+mod counted_reads;
 #[cfg(test)]
 mod desk;
 #[cfg(test)]
 mod expected;
 #[cfg(test)]
 mod fake;
+pub mod folder;
 #[cfg(test)]
 mod growths;
 #[cfg(test)]
@@ -21,13 +25,7 @@ mod recipes;
 #[cfg(test)]
 mod refused;
 #[cfg(test)]
-mod rows;
-#[cfg(test)]
 mod runs;
-#[cfg(test)]
-mod sequences;
-#[cfg(test)]
-mod slotted;
 #[cfg(test)]
 mod states;
 #[cfg(test)]

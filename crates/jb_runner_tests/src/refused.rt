@@ -1,7 +1,7 @@
 //! A recipe to which memory is refused. Under `rt try --test --fail-alloc N` the Nth allocation of the test is refused.
 //! Where that is the recipe's own, nothing of it was run, the clearance comes back, and with it the recipe is run the next
 //! time. Where it is one of the preparations, the test ends with an error.
-ghost use Rattle.std.specs.Prelude.{◌≡◌, IfOk, IfSome};
+ghost use Rattle.std.specs.Prelude.{◌≡◌, ◌+◌, IfOk, IfErr};
 ghost use Rattle.st_records.specs.Limits.{IsGood};
 ghost use Rattle.st_records.specs.declared.record.Record.TheVariants as records;
 ghost use Rattle.st_records.specs.declared.version.Version.TheVariants as versions;
@@ -11,31 +11,31 @@ use crate::makefiles::{Asked, graph};
 use crate::states::{new_store, site_of};
 use crate::way::ALONE;
 use bd_flusher::{Receipt, Site};
-use bd_lists::{Advanced, Board, Clearance, Node, Recipe, Ticket};
+use bd_ledger::Ticket;
+use bd_links::Node;
+use bd_lists::{Advanced, Board, Clearance, Recipe};
 use byte_strings::ByteString;
 use jb_recipe::{Ran, run_recipe};
 use jb_runner::board_of;
 use jb_slots::{Slot, Slots};
 use mk_recipe::split_line;
-use st_disk::MemDisk;
+use st_memory::MemDisk;
 use st_records::Record;
+use st_state::State;
 use std::alloc::Global;
 use std::process::Abort;
 use std::sync::Wait;
 use std::test::Fail;
 use std::time::Clock;
 
-const ONE: Asked<'static> = Asked {
+const ONE: Asked = Asked {
     makefile: "x:\n\techo x\n",
     files: &[],
-    definition: None,
 };
 
-fn board_and_site(alloc: Global) -> Result<(Board<Receipt>, Site<MemDisk>), Fail> {
-    let store = new_store(alloc)?;
-    let graph = graph(alloc, &ONE, store.state())?;
-    let board = board_of(alloc, &graph)?;
-    Ok((board, site_of(alloc, store)?))
+fn board(alloc: Global, state: &State) -> Result<Board<Receipt>, Fail> {
+    let graph = graph(alloc, &ONE, state)?;
+    Ok(board_of(alloc, &graph)?)
 }
 
 fn begun(alloc: Global, target: &ByteString) -> Result<Record, Fail>
@@ -95,16 +95,38 @@ fn advanced(
     }
 }
 
+fn written(
+    alloc: Global,
+    board: &mut Board<Receipt>,
+    site: &mut Site<MemDisk>,
+) -> Result<(), Fail> {
+    site.take_in(alloc, board)?;
+    site.flush(alloc)?;
+    Ok(())
+}
+
+fn cleared_by(
+    alloc: Global,
+    target: &ByteString,
+    board: &mut Board<Receipt>,
+    site: &mut Site<MemDisk>,
+) -> Result<Clearance<Receipt>, Fail>
+    ensures { IfOk result (λ c. c.told.noted ≡ records.Begun target.now) }
+{
+    let (node, ticket) = submitted(board, begun(alloc, target)?)?;
+    written(alloc, board, site)?;
+    let receipt = receipt(alloc, site, ticket, target)?;
+    Ok(advanced(board, node, receipt)?)
+}
+
 /// The clearance of a target whose 'begun' was written.
 fn cleared(alloc: Global, target: &ByteString) -> Result<Clearance<Receipt>, Fail>
     ensures { IfOk result (λ c. c.told.noted ≡ records.Begun target.now) }
 {
-    let (mut board, mut site) = board_and_site(alloc)?;
-    let (node, ticket) = submitted(&mut board, begun(alloc, target)?)?;
-    site.take_in(alloc, &mut board)?;
-    site.flush(alloc)?;
-    let receipt = receipt(alloc, &site, ticket, target)?;
-    Ok(advanced(&mut board, node, receipt)?)
+    let store = new_store(alloc)?;
+    let mut board = board(alloc, store.state())?;
+    let mut site = site_of(alloc, store)?;
+    Ok(cleared_by(alloc, target, &mut board, &mut site)?)
 }
 
 fn recipe(alloc: Global, target: &ByteString) -> Result<Recipe, Fail>
@@ -127,17 +149,36 @@ fn tried<R: Wait + Clock + Copy>(
     recipe: Recipe,
     slot: &Slot<'_>,
     fake: &Fake<R>,
-) -> Option<Clearance<Receipt>>
+) -> Result<Ran, Clearance<Receipt>>
     requires { clearance.told.noted ≡ records.Begun recipe.target }
-    ensures { IfSome result (λ c. c ≡ clearance) }
+    ensures { IfErr result (λ c. c ≡ clearance) }
 {
-    match run_recipe(alloc, clearance, recipe, slot, fake, fake) {
+    run_recipe(alloc, clearance, recipe, slot, fake, fake)
+}
+
+fn end(ran: Ran) {
+    let Ran { ended: _, spent } = ran;
+    let _receipt = spent.give_up();
+}
+
+fn refusals_of_one<R: Wait + Clock + Copy>(
+    alloc: Global,
+    clearance: Clearance<Receipt>,
+    recipe: Recipe,
+    slot: &Slot<'_>,
+    fake: &Fake<R>,
+) -> u8
+    requires { clearance.told.noted ≡ records.Begun recipe.target }
+{
+    match tried(alloc, clearance, recipe, slot, fake) {
         Ok(ran) => {
-            let Ran { ended: _, spent } = ran;
-            let _receipt = spent.give_up();
-            None
+            end(ran);
+            0
         }
-        Err(clearance) => Some(clearance),
+        Err(clearance) => {
+            let _receipt = clearance.give_up();
+            1
+        }
     }
 }
 
@@ -153,14 +194,13 @@ fn refusals<R: Wait + Clock + Copy>(
     requires first { clearance.told.noted ≡ records.Begun first.target }
     requires second { clearance.told.noted ≡ records.Begun second.target }
 {
-    let Some(clearance) = tried(alloc, clearance, first, slot, fake) else {
-        return 0;
-    };
-    let Some(clearance) = tried(alloc, clearance, second, slot, fake) else {
-        return 1;
-    };
-    let _receipt = clearance.give_up();
-    2
+    match tried(alloc, clearance, first, slot, fake) {
+        Ok(ran) => {
+            end(ran);
+            0
+        }
+        Err(clearance) => refusals_of_one(alloc, clearance, second, slot, fake).saturating_add(1),
+    }
 }
 
 /// The same, with a slot of its own.
@@ -170,29 +210,37 @@ fn refusals_in_a_slot<R: Wait + Clock + Copy>(
     clearance: Clearance<Receipt>,
     first: Recipe,
     second: Recipe,
-    end: TokenEnd<'_, R>,
+    end: &mut TokenEnd<'_, R>,
     fake: &Fake<R>,
 ) -> u8
     requires first { clearance.told.noted ≡ records.Begun first.target }
     requires second { clearance.told.noted ≡ records.Begun second.target }
 {
-    let mut end = end;
     let slots = Slots::new();
-    let slot = slots.acquire(rt, &mut end);
+    let slot = slots.acquire(rt, end);
     let refusals = refusals(alloc, clearance, first, second, &slot, fake);
-    let _ = slots.release(rt, slot, &mut end);
+    let _ = slots.release(rt, slot, end);
     refusals
+}
+
+fn refusals_of<R: Wait + Clock + Copy>(
+    rt: &R,
+    alloc: Global,
+    target: &ByteString,
+    fake: &Fake<R>,
+) -> Result<u8, Fail> {
+    let mut end = fake.end(alloc, 1)?;
+    let first = recipe(alloc, target)?;
+    let second = recipe(alloc, target)?;
+    let clearance = cleared(alloc, target)?;
+    Ok(refusals_in_a_slot(rt, alloc, clearance, first, second, &mut end, fake))
 }
 
 /// How often a recipe's memory was refused before it was run, and the lines that were run.
 fn run_at_last<R: Wait + Clock + Copy>(rt: &R, alloc: Global) -> Result<(u8, Vec<u8>), Fail> {
     let target = ByteString::from_slice(alloc, b"x")?;
-    let first = recipe(alloc, &target)?;
-    let second = recipe(alloc, &target)?;
     let fake = Fake::new(*rt, alloc, &ALONE)?;
-    let end = fake.end(alloc, 1)?;
-    let clearance = cleared(alloc, &target)?;
-    let refusals = refusals_in_a_slot(rt, alloc, clearance, first, second, end, &fake);
+    let refusals = refusals_of(rt, alloc, &target, &fake)?;
     Ok((refusals, fake.into_notes().ran))
 }
 

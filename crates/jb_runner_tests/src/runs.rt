@@ -2,7 +2,7 @@
 
 use crate::fake::{Fake, Notes, TokenEnd};
 use crate::makefiles::{Asked, graph};
-use crate::states::{listing, site_of};
+use crate::states::site_of;
 use crate::way::Way;
 use bd_flusher::Site;
 use bd_lists::Variable;
@@ -12,25 +12,14 @@ use jb_recipe::{Conduct, Makeflags};
 use jb_runner::run;
 use mk_rules::Graph;
 use st_disk::Disk;
-use st_records::{HashKey, State};
+use st_records::HashKey;
 use st_recovery::Store;
+use st_state::State;
 use std::alloc::{AllocError, Global};
 use std::sync::Wait;
 use std::test::Fail;
 use std::thread::Threads;
 use std::time::Clock;
-
-pub fn conduct(alloc: Global, way: &Way) -> Result<Conduct, AllocError> {
-    Ok(Conduct {
-        keeps_state: way.keeps_state,
-        goes_on: way.goes_on,
-        ignores_statuses: false,
-        prints_no_lines: false,
-        definitions: Vec::<Variable>::new(alloc),
-        makeflags: Makeflags::Removed,
-        state_name: ByteString::from_slice(alloc, b".make.state")?,
-    })
-}
 
 /// What came of a run.
 #[derive(Drop)]
@@ -53,69 +42,79 @@ impl<D: Disk + Drop> Came<D> {
         self.closed.site.store().state()
     }
 
-    pub fn into_report(self) -> Result<Report, RunFault> {
-        let Came {
-            report,
-            notes: _,
-            closed: _,
-        } = self;
-        report
-    }
-
-    pub fn into_store(self) -> Store<D> {
+    pub fn into_disk(self) -> D {
         let Came {
             report: _,
             notes: _,
             closed,
         } = self;
-        let Closed { site } = closed;
-        site.into_store()
-    }
-
-    /// What was printed, the status behind a `=`, and the state.
-    pub fn told(&self, alloc: Global) -> Result<String, Fail> {
-        let said = ByteString::from_slice(alloc, self.notes.said.as_slice())?;
-        let status = self.status();
-        let listing = listing(alloc, self.state())?;
-        Ok(format!(in alloc; "{said}={status}\n{listing}")?)
+        disk_of(closed)
     }
 }
 
-/// What a run is given beside what it calls.
-#[derive(Drop)]
-pub struct Given<'g, D: Disk + Drop> {
-    pub graph: &'g Graph,
-    pub conduct: Conduct,
-    pub site: Site<D>,
+fn disk_of<D: Disk + Drop>(closed: Closed<D>) -> D {
+    let Closed { site } = closed;
+    let store = site.into_store();
+    let log = store.log;
+    log.disk
+}
+
+/// What a run goes by.
+#[derive(Clone, Copy)]
+struct Given<'g> {
+    graph: &'g Graph,
+    conduct: &'g Conduct,
+    workers: usize,
+}
+
+/// How a run ended, and what is left of it.
+type Ended<D> = (Result<Report, RunFault>, Closed<D>);
+
+fn run_by<R: Threads + Wait + Clock + Sync + Copy, D: Disk + Drop + Send>(
+    rt: &R,
+    given: Given<'_>,
+    site: Site<D>,
+    ends: Vec<TokenEnd<'_, R>>,
+    fake: &Fake<R>,
+) -> Ended<D> {
+    let Given { graph, conduct, .. } = given;
+    let (alloc, key) = (fake.alloc, HashKey::fixed());
+    run(rt, alloc, graph, conduct, site, ends, key, fake, fake, fake)
 }
 
 fn run_over<R: Threads + Wait + Clock + Sync + Copy, D: Disk + Drop + Send>(
     rt: &R,
-    alloc: Global,
-    given: Given<'_, D>,
-    ends: Vec<TokenEnd<'_, R>>,
+    given: Given<'_>,
+    store: Store<D>,
     fake: &Fake<R>,
-) -> (Result<Report, RunFault>, Closed<D>) {
-    let Given {
-        graph,
-        conduct,
-        site,
-    } = given;
-    let key = HashKey::fixed();
-    run(
-        rt, alloc, graph, &conduct, site, ends, key, fake, fake, fake,
-    )
+) -> Result<Ended<D>, Fail> {
+    let site = site_of(fake.alloc, store)?;
+    let ends = fake.ends(given.workers, given.graph.len())?;
+    Ok(run_by(rt, given, site, ends, fake))
 }
 
-fn run_given<R: Threads + Wait + Clock + Sync + Copy, D: Disk + Drop + Send>(
+fn conduct(alloc: Global, way: &Way) -> Result<Conduct, AllocError> {
+    Ok(Conduct {
+        keeps_state: way.keeps_state,
+        goes_on: way.goes_on,
+        ignores_statuses: false,
+        prints_no_lines: false,
+        definitions: Vec::<Variable>::new(alloc),
+        makeflags: Makeflags::Removed,
+        state_name: ByteString::from_slice(alloc, b".make.state")?,
+    })
+}
+
+// What the next call only reads is lent to it, so that few values are owned wherever a call may fail.
+fn made_with<R: Threads + Wait + Clock + Sync + Copy, D: Disk + Drop + Send>(
     rt: &R,
     alloc: Global,
-    given: Given<'_, D>,
+    given: Given<'_>,
     way: &Way,
+    store: Store<D>,
 ) -> Result<Came<D>, Fail> {
     let fake = Fake::new(*rt, alloc, way)?;
-    let ends = fake.ends(way.workers, given.graph.len())?;
-    let (report, closed) = run_over(rt, alloc, given, ends, &fake);
+    let (report, closed) = run_over(rt, given, store, &fake)?;
     Ok(Came {
         report,
         notes: fake.into_notes(),
@@ -123,21 +122,30 @@ fn run_given<R: Threads + Wait + Clock + Sync + Copy, D: Disk + Drop + Send>(
     })
 }
 
+fn made_by<R: Threads + Wait + Clock + Sync + Copy, D: Disk + Drop + Send>(
+    rt: &R,
+    alloc: Global,
+    graph: &Graph,
+    way: &Way,
+    store: Store<D>,
+) -> Result<Came<D>, Fail> {
+    let conduct = conduct(alloc, way)?;
+    let given = Given {
+        graph,
+        conduct: &conduct,
+        workers: way.workers,
+    };
+    made_with(rt, alloc, given, way, store)
+}
+
 /// Makes what is asked over a store.
 pub fn made<R: Threads + Wait + Clock + Sync + Copy, D: Disk + Drop + Send>(
     rt: &R,
     alloc: Global,
-    asked: &Asked<'_>,
+    asked: &Asked,
     way: &Way,
     store: Store<D>,
 ) -> Result<Came<D>, Fail> {
     let graph = graph(alloc, asked, store.state())?;
-    let conduct = conduct(alloc, way)?;
-    let site = site_of(alloc, store)?;
-    let given = Given {
-        graph: &graph,
-        conduct,
-        site,
-    };
-    run_given(rt, alloc, given, way)
+    made_by(rt, alloc, &graph, way, store)
 }

@@ -2,9 +2,11 @@
 
 use bd_flusher::Site;
 use byte_strings::{ByteString, Iter};
-use st_disk::{Disk, MemDisk};
-use st_records::{HashKey, Phase, State};
+use st_disk::Disk;
+use st_memory::MemDisk;
+use st_records::{HashKey, Phase};
 use st_recovery::{Store, open};
+use st_state::State;
 use std::alloc::{AllocError, Global};
 use std::test::Fail;
 

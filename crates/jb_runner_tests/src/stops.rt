@@ -1,12 +1,15 @@
 //! A device that stops in the midst of a run over what an earlier run left: a recipe that was run is listed again.
 
-use crate::makefiles::{Asked, Files, lists_any};
+use crate::folder::File;
+use crate::makefiles::{Asked, lists_any};
 use crate::runs::{Came, made};
 use crate::states::new_store;
 use crate::way::{ALONE, SIDE_BY_SIDE, Way};
-use st_disk::{Disk, Fuse, MemDisk};
+use st_doubles::Fuse;
+use st_memory::MemDisk;
 use st_records::HashKey;
 use st_recovery::open;
+use st_state::State;
 use std::alloc::Global;
 use std::process::Abort;
 use std::sync::Wait;
@@ -14,35 +17,26 @@ use std::test::Fail;
 use std::thread::Threads;
 use std::time::Clock;
 
-const MAKEFILE: &str = "z: x\n\techo z\nx: y\n\techo $(A)\n";
-
 // Each file is newer than those that it is made from: times alone list nothing.
-const FILES: Files = &[("z", 9), ("x", 8), ("y", 1)];
+const FILES: &[File] = &[("z", 9, ""), ("x", 8, ""), ("y", 1, "")];
 
-const EARLIER: Asked<'static> = Asked {
-    makefile: MAKEFILE,
+const EARLIER: Asked = Asked {
+    makefile: "A = 1\nz: x\n\techo z\nx: y\n\techo $(A)\n",
     files: FILES,
-    definition: Some(("A", "1")),
 };
 
-const LATER: Asked<'static> = Asked {
-    makefile: MAKEFILE,
+const LATER: Asked = Asked {
+    makefile: "A = 2\nz: x\n\techo z\nx: y\n\techo $(A)\n",
     files: FILES,
-    definition: Some(("A", "2")),
 };
 
 // More calls than opening and four commits make.
 const MANY: u64 = 40;
 
-fn disk_of<D: Disk + Drop>(came: Came<D>) -> D {
-    let store = came.into_store();
-    let log = store.log;
-    log.disk
-}
-
 /// What an earlier run left.
 fn left<R: Threads + Wait + Clock + Sync + Copy>(rt: &R, alloc: Global) -> Result<MemDisk, Fail> {
-    Ok(disk_of(made(rt, alloc, &EARLIER, &ALONE, new_store(alloc)?)?))
+    let store = new_store(alloc)?;
+    Ok(made(rt, alloc, &EARLIER, &ALONE, store)?.into_disk())
 }
 
 /// What a later run came to whose disk makes so many calls, if it could be opened.
@@ -84,20 +78,24 @@ fn stop_of(came: &Came<Fuse<MemDisk>>) -> Stop {
     Stop::BeforeTheSecond
 }
 
-/// Whether the later run's recipes are to be run again over what it left; None where the disk doesn't know where it
+/// Whether the later run's recipes are to be run again over what it left; None where the state doesn't know where it
 /// stopped. Once a recipe was run, what the earlier run left of it counts no more.
-fn is_listed(alloc: Global, stop: Stop, disk: MemDisk) -> Result<Option<bool>, Fail> {
-    let Ok(store) = open(alloc, HashKey::fixed(), disk) else {
-        return Ok(None);
-    };
-    let by_earlier = lists_any(alloc, &EARLIER, store.state())?;
-    let by_later = lists_any(alloc, &LATER, store.state())?;
+fn known(alloc: Global, stop: Stop, state: &State) -> Result<Option<bool>, Fail> {
+    let by_earlier = lists_any(alloc, &EARLIER, state)?;
+    let by_later = lists_any(alloc, &LATER, state)?;
     let knows = match stop {
         Stop::BeforeTheFirst => by_later,
         Stop::BeforeTheSecond | Stop::BeforeTheEnd => by_earlier,
         Stop::Nowhere => by_earlier && !by_later,
     };
     Ok(if knows { Some(by_later) } else { None })
+}
+
+fn is_listed(alloc: Global, stop: Stop, disk: MemDisk) -> Result<Option<bool>, Fail> {
+    match open(alloc, HashKey::fixed(), disk) {
+        Ok(store) => known(alloc, stop, store.state()),
+        Err(_) => Ok(None),
+    }
 }
 
 /// Where a later run stopped whose disk makes so many calls, and whether its recipes are to be run again.
@@ -111,8 +109,7 @@ fn stop_after<R: Threads + Wait + Clock + Sync + Copy>(
         return Ok((Stop::BeforeTheFirst, true));
     };
     let stop = stop_of(&came);
-    let disk = disk_of(came);
-    match is_listed(alloc, stop, disk.inner)? {
+    match is_listed(alloc, stop, came.into_disk().inner)? {
         Some(is_listed) => Ok((stop, is_listed)),
         None => Err("what the run left says something else".into()),
     }

@@ -11,21 +11,9 @@ pub struct Way {
     pub keeps_state: bool,
     /// The tokens of its pool; None where the pool answers a fault at once.
     pub tokens: Option<&'static [u8]>,
-    pub shown: Shown,
-}
-
-/// What each report holds, and whether a target's file can be put on the disk.
-#[derive(Clone, Copy)]
-pub struct Shown {
-    pub report: Result<&'static [u8], PlaceFault>,
+    /// Whether a target's file can be put on the disk.
     pub sync: Result<(), PlaceFault>,
 }
-
-/// No recipe reports anything.
-const NO_REPORTS: Shown = Shown {
-    report: Ok(b""),
-    sync: Ok(()),
-};
 
 /// One worker, no `-k`.
 pub const ALONE: Way = Way {
@@ -33,16 +21,11 @@ pub const ALONE: Way = Way {
     goes_on: false,
     keeps_state: true,
     tokens: Some(b"+"),
-    shown: NO_REPORTS,
+    sync: Ok(()),
 };
 
 pub const ALONE_WITH_K: Way = Way {
     goes_on: true,
-    ..ALONE
-};
-
-pub const WITHOUT_STATE: Way = Way {
-    keeps_state: false,
     ..ALONE
 };
 

@@ -1,11 +1,9 @@
-// Tests over the public calls of jb_slots. Expected values come from the GNU Make manual and from worked examples.
+// Tests over the public calls of jb_slots that no program shows. FIFOs, the words of MAKEFLAGS and workers are shown by rows of dmk.
 #![tactic(auto)]
 
 #[cfg(test)]
-mod fifos;
-#[cfg(test)]
-mod makeflags;
+mod memory_pool;
 #[cfg(test)]
 mod planned_pipe;
 #[cfg(test)]
-mod tokens;
+mod stops;

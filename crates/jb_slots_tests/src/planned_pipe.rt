@@ -2,7 +2,7 @@
 use jb_slots::{BankFault, MemoryPipe, Pipe, Taken};
 use std::sync::{Condvar, Mutex, Wait};
 
-#[derive(Clone, Copy, Debug, PartialEq, Eq)]
+#[derive(Clone, Copy)]
 pub enum Stop {
     End,
     Fault,

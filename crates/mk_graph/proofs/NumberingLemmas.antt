@@ -8,6 +8,9 @@ use Rattle.std.proofs.lemmas.Grind.{flat_map-append}
 use Rattle.std.specs.List.{list_all, flat_map}
 use Rattle.std.specs.Str.{bytes_eq}
 use Rattle.mk_graph.specs.Numbering.{name_at, has_name, all_added, IsNumbering, AreDescribed}
+use Rattle.mk_graph.specs.NumberingFault.{IsNumberingFault, IsLimitFault}
+use Rattle.mk_graph.specs.declared.numbering.NumberingFault.{NumberingFault}
+use Rattle.mk_graph.specs.declared.numbering.NumberingFault.TheVariants.{OutOfMemory, TooMany, Source}
 use Rattle.mk_graph.proofs.NameLemmas.{Begins, begins_all_added, length_from_begins, name_at-begins, below_from_begins, row_from_begins, all_added-append, list_all-all_added, has_name_at, bytes_same}
 
 -- names so far, of which the first `done` were looked at: `of` gives prerequisites
@@ -109,6 +112,13 @@ pub too_many_goals : (of : List ℕ → List (List ℕ)) (goals : List (List ℕ
 too_many_goals of goals limit past whole numbering =
     let x = (Numbers-start of goals (all_added [] goals) refl).begins whole numbering.order in
     let l = length_from_begins (all_added [] goals) whole x in omega arith
+
+-- a fault while names are added is one of the whole numbering, where names so far are too many for each
+pub limit_fault_stands : {F : Type 0} (allowed : (List ℕ → List (List ℕ)) → Type 0) (refuses : List ℕ → F → Type 0) (goals : List (List ℕ)) (limit : ℕ) (names : List (List ℕ)) (fault : NumberingFault F) → IsLimitFault limit names fault
+    → (limit < length names → (of : List ℕ → List (List ℕ)) → allowed of → (whole : List (List ℕ)) → IsNumbering of goals whole → limit < length whole) → IsNumberingFault allowed refuses goals limit fault
+limit_fault_stands allowed refuses goals limit names OutOfMemory h more = tt
+limit_fault_stands allowed refuses goals limit names TooMany h more = more h
+limit_fault_stands allowed refuses goals limit names (Source cause) h more = absurd h
 
 -- a name so far is in each numbering
 pub reached : (of : List ℕ → List (List ℕ)) (goals names : List (List ℕ)) (rows : List (List ℕ)) (n : ℕ) → Numbers of goals names rows → n < length names

@@ -4,6 +4,12 @@ use Rattle.mk_graph.specs.Numbering.{IsNumbering, has_name}
 use Rattle.mk_graph.specs.declared.numbering.NumberingFault.{NumberingFault}
 use Rattle.mk_graph.specs.declared.numbering.NumberingFault.TheVariants.{OutOfMemory, TooMany, Source}
 
+-- there are more names than the limit, or no memory for them
+abbrev pub IsLimitFault : {F : Type 0} (limit : ℕ) (names : List (List ℕ)) → NumberingFault F → Type 0
+IsLimitFault limit names OutOfMemory = Unit {0}
+IsLimitFault limit names TooMany = limit < length names
+IsLimitFault limit names (Source cause) = ⊥
+
 -- the fault stands in the input: `allowed` are the functions from a name to its prerequisites that agree with all that was
 -- answered, `refuses` tells for which names and why prerequisites weren't given
 abbrev pub IsNumberingFault : {F : Type 0} (allowed : (List ℕ → List (List ℕ)) → Type 0) (refuses : List ℕ → F → Type 0) (goals : List (List ℕ)) (limit : ℕ)

@@ -1,6 +1,6 @@
 //! A graph: the prerequisites of each node.
 
-ghost use Rattle.std.specs.Prelude.{◌≡◌, ℕ, ◌<◌, [], ◌++◌, length, map, replicate, IfOk, OnOk, nat_lt};
+ghost use Rattle.std.specs.Prelude.{◌≡◌, ℕ, ◌<◌, [], ◌∷◌, ◌++◌, length, map, replicate, IfOk, OnOk, nat_lt};
 ghost use Rattle.mk_graph.specs.Edges.{row, times, is_closed, AreUsers};
 ghost use Rattle.std.specs.List.{list_all};
 
@@ -72,6 +72,21 @@ impl Edges {
         ensures { result ≡ map (λ r. r.items) rows.items }
     {
         Edges { rows }
+    }
+
+    /// No nodes, which takes no memory.
+    pub(crate) fn empty(alloc: Global) -> Edges
+        ensures { result ≡ [] }
+    {
+        Edges::new(Vec::new(alloc))
+    }
+
+    /// Adds the prerequisites of one more node.
+    pub(crate) fn push(&mut self, row: Vec<usize>) -> Result<(), AllocError>
+        ensures { OnOk result (self.new ≡ self.old ++ row.items ∷ []) }
+    {
+        self.rows.push(row)?;
+        Ok(())
     }
 
     /// The number of nodes.

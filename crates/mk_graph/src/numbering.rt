@@ -1,10 +1,10 @@
 //! The numbering of all names that goals lead to.
 
-ghost use Rattle.std.specs.Prelude.{◌≡◌, ℕ, ◌≤◌, ◌⊎◌, Bool, true, false, List, length, map, nat_lt, is_ok, IfOk, IfErr, IsTrue};
+ghost use Rattle.std.specs.Prelude.{◌≡◌, ℕ, ◌≤◌, ◌⊎◌, Bool, true, false, List, [], ◌∷◌, ◌++◌, length, map, nat_lt, is_ok, IfOk, IfErr, OnOk, IsTrue};
 ghost use Rattle.std.specs.List.{list_all};
 ghost use Rattle.mk_graph.specs.Edges.{is_closed};
-ghost use Rattle.mk_graph.specs.Numbering.{IsNumbering, AreDescribed, DistinctNames, name_at, has_name};
-ghost use Rattle.mk_graph.specs.NumberingFault.{IsNumberingFault};
+ghost use Rattle.mk_graph.specs.Numbering.{IsNumbering, AreDescribed, DistinctNames, name_at, has_name, all_added};
+ghost use Rattle.mk_graph.specs.NumberingFault.{IsNumberingFault, IsLimitFault};
 
 use crate::edges::Edges;
 use crate::names::Names;
@@ -113,6 +113,58 @@ pub struct Numbered<N> {
     pub nodes: Vec<N>,
 }
 
+impl<N: Drop> Numbered<N> {
+    /// The goals by first mention, of which nothing was looked up.
+    fn of_goals<F>(
+        alloc: Global,
+        goals: &ByteStrings,
+        limit: usize,
+    ) -> Result<Numbered<N>, NumberingFault<F>>
+        ensures names { IfOk result (λ n. n.names ≡ all_added [] goals.now) }
+        ensures goals { IfOk result (λ n. map (name_at n.names) n.goals.items ≡ goals.now) }
+        ensures goal_numbers { IfOk result (λ n. list_all (λ m. nat_lt m (length n.names)) n.goals.items ≡ true) }
+        ensures rows { IfOk result (λ n. n.rows ≡ []) }
+        ensures nodes { IfOk result (λ n. n.nodes.items ≡ []) }
+        ensures within { IfOk result (λ n. length n.names ≤ limit) }
+        ensures fault { IfErr result (IsLimitFault limit (all_added [] goals.now)) }
+    {
+        let mut names = Names::new(alloc);
+        let Some(goals) = names.add_all(alloc, goals, limit)? else {
+            return Err(NumberingFault::TooMany);
+        };
+        Ok(Numbered {
+            names,
+            goals,
+            rows: Edges::empty(alloc),
+            nodes: Vec::new(alloc),
+        })
+    }
+
+    /// Takes in what was found of the first name that has no row yet.
+    fn take_in<F>(
+        &mut self,
+        alloc: Global,
+        found: Found<N>,
+        limit: usize,
+    ) -> Result<(), NumberingFault<F>>
+        ensures names { OnOk result (self.new.names ≡ all_added self.old.names found.prerequisites) }
+        ensures row { OnOk result ((row : List ℕ) × (self.new.rows ≡ self.old.rows ++ row ∷ [])
+            × (list_all (λ n. nat_lt n (length self.new.names)) row ≡ true)
+            × (map (name_at self.new.names) row ≡ found.prerequisites)) }
+        ensures node { OnOk result (self.new.nodes.items ≡ self.old.nodes.items ++ found.node ∷ []) }
+        ensures goals { OnOk result (self.new.goals ≡ self.old.goals) }
+        ensures within { OnOk result (length self.old.names ≤ limit → length self.new.names ≤ limit) }
+        ensures fault { IfErr result (IsLimitFault limit (all_added self.old.names found.prerequisites)) }
+    {
+        let Some(row) = self.names.add_all(alloc, &found.prerequisites, limit)? else {
+            return Err(NumberingFault::TooMany);
+        };
+        self.rows.push(row)?;
+        self.nodes.push(found.node)?;
+        Ok(())
+    }
+}
+
 /// Numbers the goals and all names that they lead to: the goals by first mention, then, name by name in the order of
 /// their numbers, the prerequisites that are new.
 ///
@@ -144,29 +196,15 @@ pub fn number<R: Dependencies>(
     ensures grows { (of : List ℕ → List (List ℕ)) → R.allows source.new of → R.allows source.old of }
     ensures follows { R.follows source.old (is_ok result) source.new }
 {
-    let mut names = Names::new(alloc);
-    let Some(goal_numbers) = names.add_all(alloc, goals, limit)? else {
-        return Err(NumberingFault::TooMany);
-    };
-    let mut rows: Vec<Vec<usize>> = Vec::new(alloc);
-    let mut nodes = Vec::new(alloc);
-    while rows.len() < names.len() {
-        let found = match source.prerequisites(alloc, names.name(rows.len())) {
-            Ok(found) => found,
+    let mut numbered = Numbered::of_goals(alloc, goals, limit)?;
+    while numbered.rows.len() < numbered.names.len() {
+        let name = numbered.names.name(numbered.rows.len());
+        match source.prerequisites(alloc, name) {
+            Ok(found) => numbered.take_in(alloc, found, limit)?,
             Err(cause) => return Err(NumberingFault::Source(cause)),
-        };
-        let Some(row) = names.add_all(alloc, &found.prerequisites, limit)? else {
-            return Err(NumberingFault::TooMany);
-        };
-        rows.push(row)?;
-        nodes.push(found.node)?;
+        }
     }
-    Ok(Numbered {
-        names,
-        goals: goal_numbers,
-        rows: Edges::new(rows),
-        nodes,
-    })
+    Ok(numbered)
 }
 
 /// No name has two numbers.

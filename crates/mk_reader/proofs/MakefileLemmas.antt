@@ -2,7 +2,7 @@
 use Rattle.std.proofs.Common.{◌≡◌, ℕ, suc, false, List, [], ◌∷◌, ◌++◌, refl, sym, ap, subst, ◌∙◌, Option, Some, None, is_some, Result, Ok, Err, append_assoc, append-nil, Vec}
 use Rattle.std.specs.declared.alloc.Global.{Global}
 use Rattle.byte_strings.specs.Blanks.{words}
-use Rattle.mk_reader.specs.Form.{refusal, Refuses, Gives, form_of}
+use Rattle.mk_reader.specs.Form.{refusal, form_of}
 use Rattle.mk_reader.specs.declared.item.RecipeLine.{RecipeLine}
 use Rattle.mk_reader.specs.declared.item.Definition.{Definition}
 use Rattle.mk_reader.specs.declared.item.Item.{Item}
@@ -16,7 +16,7 @@ use Rattle.mk_reader.specs.declared.form.UnfinishedRule.{UnfinishedRule}
 use Rattle.mk_reader.specs.declared.form.Form.{Form}
 use Rattle.mk_reader.specs.declared.form.Form.TheVariants as form
 use Rattle.mk_reader.specs.Makefile.{Outcome, GivesItems, with_front, with_lines, item_of, recipe_from, EachIncluded, FormItems}
-use Rattle.mk_reader.specs.Steps.{with_line, finished, recipe_below, LineItems, AnswerItems, IncludedItems}
+use Rattle.mk_reader.specs.Steps.{with_line, finished, recipe_below, LineItems, AnswerItems, IncludedItems, LineTaken, recipe_line_taken, line_taken, Takes}
 
 with_front-append : (xs ys : List Item) (o : Outcome) → with_front xs (with_front ys o) ≡ with_front (xs ++ ys) o
 with_front-append xs ys (Ok items) = ap Ok (sym (append_assoc xs ys items))
@@ -59,11 +59,6 @@ module _ (Included : ℕ → List ℕ → Outcome → Type 0) (file : List ℕ) 
       → FormItems Included file number (is_some unfinished) told (recipe_below file more) (λ now. LineItems Included file now more) rest
       → LineItems Included file false all (with_front (items ++ finished unfinished (recipe_from told (recipe_below file more))) rest)
 
-  pub reaches_by : (items : List Item) (unfinished now : Option UnfinishedRule) (left more : List LogicalLine) (line : LogicalLine) (told : Result Form Refusal) → Reaches items unfinished left → left ≡ line ∷ more → form_of file line ≡ told → unfinished ≡ now → ReachesBy line.number told items now more
-  reaches_by items unfinished now left more line told h at e u =
-      subst (λ rule. ReachesBy line.number told items rule more) u
-      (subst (λ form. ReachesBy line.number form items unfinished more) e (subst (λ ls. Reaches items unfinished ls) at h))
-
   pub recipe_added : (items : List Item) (rule new : UnfinishedRule) (number : ℕ) (line : RecipeLine) (more : List LogicalLine) → ReachesBy number (Ok (form.Recipe line)) items (Some rule) more → new ≡ with_line rule line → Reaches items (Some new) more
   recipe_added items rule new number line more h e = λ rest r.
       let item : List RecipeLine → Item = λ recipe. item_of rule.special (record rule.rule { recipe = recipe }) in
@@ -99,6 +94,52 @@ module _ (Included : ℕ → List ℕ → Outcome → Type 0) (file : List ℕ) 
       let whole = h (with_front front rest) (rest, r, refl) in
       subst (LineItems Included file false all) (with_front-append (items ++ finished unfinished []) front rest ∙ ap (λ xs. with_front (xs ++ front) rest) (sym e)) whole
 
+  pub none_gathered : (items : List Item) (unfinished : Option UnfinishedRule) → items ≡ [] → unfinished ≡ None → Reaches items unfinished all
+  none_gathered items unfinished e u =
+      subst (λ rule. Reaches items rule all) (sym u) (subst (λ xs. Reaches xs None all) (sym e) start)
+    where
+      start : Reaches [] None all
+      start (Ok items) h = h
+      start (Err fault) h = h
+
+  -- what is known behind a line that left these items and this rule: all of it once the items of its names are there
+  abbrev pub ReachesBehind : ℕ → Option (List ℕ) → List Item → Option UnfinishedRule → List LogicalLine → Type 0
+  ReachesBehind number None items unfinished more = Reaches items unfinished more
+  ReachesBehind number (Some names) items unfinished more =
+      ((fault : Refusal) → EachIncluded (Included number) (words names) (Err fault) → LineItems Included file false all (Err fault))
+      × ((front new : List Item) → EachIncluded (Included number) (words names) (Ok front) → new ≡ items ++ front → Reaches new unfinished more)
+
+  abbrev pub ReachesTaken : ℕ → Result LineTaken Refusal → List LogicalLine → Type 0
+  ReachesTaken number (Err fault) more = LineItems Included file false all (Err fault)
+  ReachesTaken number (Ok taken) more = ReachesBehind number taken.names taken.items taken.unfinished more
+
+  recipe_line_taken-reaches : (items : List Item) (unfinished : Option UnfinishedRule) (number : ℕ) (line : RecipeLine) (more : List LogicalLine) → ReachesBy number (Ok (form.Recipe line)) items unfinished more → ReachesTaken number (recipe_line_taken file number items unfinished line) more
+  recipe_line_taken-reaches items None number line more h = recipe_alone items number line more h
+  recipe_line_taken-reaches items (Some rule) number line more h = recipe_added items rule (with_line rule line) number line more h refl
+
+  line_taken-reaches_by : (items : List Item) (unfinished : Option UnfinishedRule) (number : ℕ) (told : Result Form Refusal) (more : List LogicalLine) → ReachesBy number told items unfinished more → ReachesTaken number (line_taken file number items unfinished told) more
+  line_taken-reaches_by items unfinished number (Err fault) more h = line_refused items unfinished number fault more h
+  line_taken-reaches_by items unfinished number (Ok form.Blank) more h = h
+  line_taken-reaches_by items unfinished number (Ok (form.Recipe line)) more h = recipe_line_taken-reaches items unfinished number line more h
+  line_taken-reaches_by items unfinished number (Ok (form.Include names)) more h = (
+    λ fault given. include_refused items unfinished number names fault more h given,
+    λ front new given e. include_added items (items ++ finished unfinished []) front new unfinished number names more h refl given e,
+  )
+  line_taken-reaches_by items unfinished number (Ok (form.Definition definition)) more h =
+      definition_added items (items ++ finished unfinished []) (items ++ finished unfinished [] ++ item.Definition definition ∷ []) unfinished number definition more h refl refl
+  line_taken-reaches_by items unfinished number (Ok (form.Rule rule)) more h =
+      rule_added items (items ++ finished unfinished []) unfinished number rule more h refl
+
+  -- the first of the lines left was taken in
+  pub line_taken-reaches : (items : List Item) (unfinished : Option UnfinishedRule) (left more : List LogicalLine) (line : LogicalLine) (told : Result LineTaken Refusal) → Reaches items unfinished left → left ≡ line ∷ more → line_taken file line.number items unfinished (form_of file line) ≡ told → ReachesTaken line.number told more
+  line_taken-reaches items unfinished left more line told h at e =
+      subst (λ t. ReachesTaken line.number t more) e
+      (line_taken-reaches_by items unfinished line.number (form_of file line) more (subst (λ ls. Reaches items unfinished ls) at h))
+
+  pub line_taken-reaches_behind : (items new : List Item) (unfinished now : Option UnfinishedRule) (left more : List LogicalLine) (line : LogicalLine) (given names : Option (List ℕ)) → Reaches items unfinished left → left ≡ line ∷ more → line_taken file line.number items unfinished (form_of file line) ≡ Ok (record { items = new; unfinished = now; names = given }) → given ≡ names → ReachesBehind line.number names new now more
+  line_taken-reaches_behind items new unfinished now left more line given names h at e n =
+      subst (λ gives. ReachesBehind line.number gives new now more) n (line_taken-reaches items unfinished left more line _ h at e)
+
   pub lines_end : (items new : List Item) (unfinished : Option UnfinishedRule) (left : List LogicalLine) → Reaches items unfinished left → left ≡ [] → new ≡ items ++ finished unfinished [] → LineItems Included file false all (Ok new)
   lines_end items new unfinished left h at e =
       let at_end = subst (λ ls. Reaches items unfinished ls) at h in
@@ -110,13 +151,9 @@ pub fault_passed_on : (r : ReadFault) (P Q : Outcome → Type 0) → GivesItems 
 fault_passed_on OutOfMemory P Q h more = tt
 fault_passed_on (Refused fault) P Q h more = more fault h
 
-pub form_passed_on : (r : ReadFault) (told : Result Form Refusal) (Q : Outcome → Type 0) → Gives (Err r) told → ((fault : Refusal) → told ≡ Err fault → Q (Err fault)) → GivesItems (Err r) Q
-form_passed_on OutOfMemory told Q h more = tt
-form_passed_on (Refused fault) told Q h more = more fault h
-
-pub refused_here : (r : ReadFault) (fault : Refusal) (Q : Outcome → Type 0) → Refuses r fault → Q (Err fault) → GivesItems (Err r) Q
-refused_here OutOfMemory fault Q h given = tt
-refused_here (Refused other) fault Q h given = subst (λ f. Q (Err f)) h given
+pub taken_passed_on : (r : ReadFault) (items : List Item) (unfinished : Option UnfinishedRule) (told : Result LineTaken Refusal) (Q : Outcome → Type 0) → Takes (Err r) items unfinished told → ((fault : Refusal) → told ≡ Err fault → Q (Err fault)) → GivesItems (Err r) Q
+taken_passed_on OutOfMemory items unfinished told Q h more = tt
+taken_passed_on (Refused fault) items unfinished told Q h more = more fault h
 
 pub items_passed_on : (r : Result (Vec Item Global) ReadFault) (P Q : Outcome → Type 0) → GivesItems r P → ((o : Outcome) → P o → Q o) → GivesItems r Q
 items_passed_on (Ok v) P Q h more = more (Ok v.items) h

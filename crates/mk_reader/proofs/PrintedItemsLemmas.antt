@@ -1,13 +1,12 @@
 -- A makefile that is printed from plain items is read back as these.
-use Rattle.std.proofs.Common.{◌≡◌, ℕ, suc, ◌+◌, ◌%◌, Bool, true, false, cond, ◌&&◌, ◌||◌, ◌==◌, List, [], ◌∷◌, ◌++◌, drop, map, reverse, flat_map, refl, sym, ap, subst, ◌∙◌, inl, inr, append-nil, Option, Some, None, Result, Ok, Err}
+use Rattle.std.proofs.Common.{◌≡◌, ℕ, ◌+◌, ◌%◌, Bool, true, false, cond, ◌&&◌, ◌==◌, List, [], ◌∷◌, ◌++◌, drop, map, reverse, flat_map, refl, sym, ap, subst, ◌∙◌, inl, inr, append-nil, Option, Some, Ok}
 use Rattle.std.specs.List.{prefix_len, onto_first}
 use Rattle.std.proofs.lemmas.Str.{is_utf8-from_IsUtf8, IsUtf8-nil}
-use Rattle.byte_strings.specs.Blanks.{is_blank}
 use Rattle.mk_reader.specs.Text.{is_backslash, begins_with, without_last, is_text}
-use Rattle.mk_reader.specs.Lines.{Physical, spelling, goes_on, body, opening, joint, groups, logical_line, numbered, logical_lines}
+use Rattle.mk_reader.specs.Lines.{Physical, spelling, goes_on, body, opening, groups, logical_line, numbered, logical_lines}
 use Rattle.mk_reader.specs.Grammar.{begins_blank, IsForm}
-use Rattle.mk_reader.specs.Spelling.{ArePhysical, AreLines}
-use Rattle.mk_reader.specs.Printed.{line_of_text, definition_text, rule_text, definition_on, rule_on, sign, spaced, PlainItem, definition, rule, lines_of, printed, IsOwnLine, IsPlainRecipe, IsPlainItem, ArePlain, next, recipe_on, after_recipe, items_on}
+use Rattle.mk_reader.specs.Spelling.{ArePhysical}
+use Rattle.mk_reader.specs.Printed.{line_of_text, definition_text, rule_text, definition_on, rule_on, sign, spaced, PlainItem, definition, rule, lines_of, printed, IsOwnLine, IsPlainRecipe, ArePlain, next, recipe_on, after_recipe, items_on}
 use Rattle.mk_reader.specs.Makefile.{Outcome, RecipeBelow, LineItems, IncludedItems, TextItems}
 use Rattle.mk_reader.specs.declared.line.Ending.TheVariants.{EndOfText, Newline}
 use Rattle.mk_reader.specs.declared.line.LogicalLine.{LogicalLine}

@@ -1,11 +1,11 @@
 -- Plain lines are read back as what they were printed of, and a comment changes nothing.
-use Rattle.std.proofs.Common.{◌≡◌, ℕ, Bool, true, false, cond, ◌&&◌, ◌||◌, ◌==◌, List, [], ◌∷◌, ◌++◌, reverse, flat_map, refl, sym, ap, subst, ◌∙◌, inl, inr, append_assoc, append-nil, Option, Some, None, Result, Ok, Err, codes}
-use Rattle.std.specs.List.{list_any, list_all, before_first}
+use Rattle.std.proofs.Common.{◌≡◌, ℕ, Bool, true, false, ◌||◌, ◌==◌, List, [], ◌∷◌, ◌++◌, reverse, flat_map, refl, sym, ap, subst, ◌∙◌, inr, append_assoc, append-nil, Option, None, Result, Ok, codes}
+use Rattle.std.specs.List.{list_any}
 use Rattle.std.proofs.lemmas.List.{reverse-append}
 use Rattle.std.proofs.lemmas.List.Folds.{list_any-append}
 use Rattle.byte_strings.specs.Blanks.{is_blank, first_word}
 use Rattle.mk_reader.specs.Text.{is_hash, is_empty, begins_with, is_text}
-use Rattle.mk_reader.specs.Grammar.{Piece, plain, piece_text, IsPiece, ArePieces, nothing, Lacks, Whole, Without, begins_blank, Padded, BeginsWithWord, IsInclude, IsNoInclude, SpellsName, SpellsAssignment, SpellsDefinition, SpellsColon, IsShell, IsRuleEnd, SpellsEnd, SpellsRule, HasSpecial, is_refused_with, IsStatement, HasContent, IsTextLine, IsForm}
+use Rattle.mk_reader.specs.Grammar.{Piece, plain, piece_text, IsPiece, ArePieces, nothing, Lacks, Whole, Without, begins_blank, Padded, BeginsWithWord, IsNoInclude, SpellsName, SpellsAssignment, SpellsDefinition, SpellsColon, IsRuleEnd, SpellsEnd, SpellsRule, HasSpecial, is_refused_with, IsStatement, HasContent, IsTextLine, IsForm}
 use Rattle.mk_reader.specs.Printed.{line_of_text, HasBareEnds, IsPlainName, IsPlainValue, ArePlainTargets, ArePlainPrerequisites, sign, spaced, definition_text, rule_text, definition_on, rule_on}
 use Rattle.mk_reader.specs.declared.special.SpecialName.{SpecialName}
 use Rattle.mk_reader.specs.declared.fault.Refusal.{Refusal}

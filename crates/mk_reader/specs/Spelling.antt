@@ -1,6 +1,6 @@
 -- How a text is spelled of physical lines, and how these are grouped to logical ones: which lists of lines are the
 -- text's. There is one such list for each text.
-use Rattle.std.specs.Prelude.{◌≡◌, ℕ, Bool, true, false, List, [], ◌∷◌, reverse, flat_map}
+use Rattle.std.specs.Prelude.{◌≡◌, ℕ, true, false, List, [], ◌∷◌, reverse, flat_map}
 use Rattle.mk_reader.specs.Text.{begins_with}
 use Rattle.mk_reader.specs.Grammar.{Lacks}
 use Rattle.mk_reader.specs.Lines.{Physical, spelling, goes_on}

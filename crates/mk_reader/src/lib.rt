@@ -4,6 +4,7 @@
 
 mod fault;
 mod form;
+mod gathered;
 mod includes;
 mod item;
 pub mod laws;

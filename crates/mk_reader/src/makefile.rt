@@ -1,50 +1,22 @@
 //! Reads a whole makefile, with the files that it includes, line by line.
-ghost use Rattle.std.specs.Prelude.{◌≡◌, ◌+◌, ◌∷◌, ◌++◌, [], IfOk, OnOk, ℕ, List, Option, option_copied};
+ghost use Rattle.std.specs.Prelude.{◌≡◌};
 ghost use Rattle.byte_strings.specs.Blanks.{words};
 ghost use Rattle.mk_reader.specs.Makefile as makefile;
-ghost use Rattle.mk_reader.specs.Makefile.{depth, AnswersAs, GivesItems, EachIncluded, with_lines};
-ghost use Rattle.mk_reader.specs.Steps.{TextItems, IncludedItems, finished, with_line};
+ghost use Rattle.mk_reader.specs.Makefile.{depth, AnswersAs, GivesItems, EachIncluded};
+ghost use Rattle.mk_reader.specs.Steps.{TextItems, IncludedItems};
 
 use crate::fault::{Cause, ReadFault};
-use crate::form::{Form, UnfinishedRule};
+use crate::gathered::Gathered;
 use crate::includes::Includes;
-use crate::item::{Item, RecipeLine, Special};
+use crate::item::Item;
 use crate::line::LinePlace;
 use crate::lines::next_logical_line;
-use crate::statement::{form_of, refuse};
+use crate::statement::refuse;
 use byte_strings::{ByteString, next_word};
-use std::alloc::{AllocError, Global};
+use std::alloc::Global;
 
 /// How deep includes may be nested.
 pub const MAX_INCLUDE_DEPTH: u8 = 16;
-
-fn into_item(unfinished: UnfinishedRule) -> Item
-    ensures { result ≡ with_lines unfinished [] }
-{
-    let UnfinishedRule { special, rule } = unfinished;
-    match special {
-        Some(name) => Item::Special(Special { name, rule }),
-        None => Item::Rule(rule),
-    }
-}
-
-/// Adds the item of a rule, if there is one, whose recipe is whole.
-fn finish(items: &mut Vec<Item>, unfinished: Option<UnfinishedRule>) -> Result<(), AllocError>
-    ensures ok { OnOk result (items.new.items ≡ items.old.items ++ finished unfinished []) }
-{
-    if let Some(unfinished) = unfinished {
-        items.push(into_item(unfinished))?;
-    }
-    Ok(())
-}
-
-fn with_line(unfinished: UnfinishedRule, line: RecipeLine) -> Result<UnfinishedRule, AllocError>
-    ensures { IfOk result (λ more. more ≡ with_line unfinished line) }
-{
-    let UnfinishedRule { special, mut rule } = unfinished;
-    rule.recipe.push(line)?;
-    Ok(UnfinishedRule { special, rule })
-}
 
 /// Reads one text. Of the files that it includes the first fault in the order of reading is answered.
 #[cycle(reading)]
@@ -59,48 +31,21 @@ fn read_text<I: Includes>(
         (TextItems (AnswersAs I.honest (I.files includes.old)) levels file.now text.now) }
     ensures same { I.files includes.new ≡ I.files includes.old }
 {
-    let mut items = Vec::new(alloc);
-    let mut unfinished = None;
+    let mut gathered = Gathered::new(alloc);
     let mut left = Some(text);
     let mut number = 1;
     while let Some(bytes) = left {
         let (line, next_number, after) = next_logical_line(alloc, number, bytes)?;
         let line_number = line.number;
+        if let Some(names) = gathered.take_line(alloc, file, line)? {
+            let names = names.as_slice();
+            let included = read_each(alloc, levels, file, line_number, names, includes)?;
+            gathered.take_included(included)?;
+        }
         left = after;
         number = next_number;
-        match form_of(alloc, file, line)? {
-            Form::Blank => {}
-            Form::Recipe(line) => {
-                let Some(rule) = unfinished else {
-                    let place = LinePlace {
-                        alloc,
-                        file,
-                        number: line_number,
-                    };
-                    return Err(refuse(place, Cause::TabFirst));
-                };
-                unfinished = Some(with_line(rule, line)?);
-            }
-            Form::Include(names) => {
-                finish(&mut items, unfinished)?;
-                unfinished = None;
-                let names = names.as_slice();
-                let mut included = read_each(alloc, levels, file, line_number, names, includes)?;
-                items.append(&mut included)?;
-            }
-            Form::Definition(definition) => {
-                finish(&mut items, unfinished)?;
-                unfinished = None;
-                items.push(Item::Definition(definition))?;
-            }
-            Form::Rule(rule) => {
-                finish(&mut items, unfinished)?;
-                unfinished = Some(rule);
-            }
-        }
     }
-    finish(&mut items, unfinished)?;
-    Ok(items)
+    Ok(gathered.into_items()?)
 }
 
 /// Reads the files of these names, one after the other.

@@ -4,7 +4,7 @@ use Rattle.std.specs.Str.{bytes_eq}
 use Rattle.mk_rules.specs.Stamps.{Asks, is_known}
 use Rattle.mk_rules.specs.Tree.{AskedOnce, once}
 use Rattle.mk_rules.specs.declared.stamps.Stamps.{Stamps}
-use Rattle.mk_rules.proofs.NameLemmas.{bytes_eq-same}
+use Rattle.mk_rule_lines.proofs.NameLemmas.{bytes_eq-same}
 
 once_at_most : (b : Bool) → once b ≤ 1
 once_at_most true = omega arith

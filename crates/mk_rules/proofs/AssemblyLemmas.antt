@@ -8,18 +8,18 @@ use Rattle.mk_graph.specs.Plan.{IsPlan}
 use Rattle.mk_graph.specs.declared.numbering.Numbered.{Numbered}
 use Rattle.mk_rules.specs.Assembly.{IsPutTogether}
 use Rattle.mk_rules.specs.Found.{AreFound, IsUnmadeFault, IsGraphlessFault}
-use Rattle.mk_rules.specs.Goals.{goals_of, settings_of}
+use Rattle.mk_rule_lines.specs.Goals.{goals_of, settings_of}
 use Rattle.mk_rules.specs.Graph.{IsGraph, IsNode, AreMade, AreHard, AreSoft}
 use Rattle.mk_rules.specs.Ordering.{IsCycleFault}
 use Rattle.mk_rules.specs.Prerequisites.{Inputs, prerequisites_of}
 use Rattle.mk_rules.specs.Rows.{EachRow, IsHardRow}
-use Rattle.mk_rules.specs.Taken.{AreTaken}
-use Rattle.mk_rules.specs.declared.fault.RuleFault.{RuleFault}
-use Rattle.mk_rules.specs.declared.fault.RuleFault.TheVariants as fault
+use Rattle.mk_rule_lines.specs.Taken.{AreTaken}
+use Rattle.mk_rule_lines.specs.declared.fault.RuleFault.{RuleFault}
+use Rattle.mk_rule_lines.specs.declared.fault.RuleFault.TheVariants as fault
 use Rattle.mk_rules.specs.declared.graph.Graph.{Graph}
 use Rattle.mk_rules.specs.declared.known.Known.{Known}
 use Rattle.mk_rules.specs.declared.ordering.Ordered.{Ordered}
-use Rattle.mk_rules.specs.declared.rule_line.RuleLine.{RuleLine}
+use Rattle.mk_rule_lines.specs.declared.rule_line.RuleLine.{RuleLine}
 use Rattle.mk_rules.proofs.RowLaws.{are_hard, nodes_are}
 
 module _ (inputs : Inputs) (named : List (List ℕ)) (lines : List RuleLine) (lines_are : inputs.lines ≡ lines) (n : Numbered Known)

@@ -1,21 +1,22 @@
 -- The graph of a makefile, a tree and a state, and why there is none.
-use Rattle.std.proofs.Common.{◌≡◌, ℕ, ℤ, List, Option, refl, subst}
+use Rattle.std.proofs.Common.{◌≡◌, ℕ, ℤ, List, Option, inl, inr, refl}
+use Rattle.std.specs.Prelude.{◌⊎◌}
 use Rattle.mk_graph.specs.declared.numbering.Numbered.{Numbered}
 use Rattle.mk_reader.specs.declared.item.Item.{Item}
 use Rattle.st_records.specs.declared.record.Entry.{Entry}
 use Rattle.mk_rules.specs.Faults.{IsGraphFault, IsRuleFault, AreInputs, AreTold}
-use Rattle.mk_rules.specs.Found.{AreFound, IsFindingFault, IsGraphlessFault}
-use Rattle.mk_rules.specs.Goals.{goals_of, IsGoalFault}
+use Rattle.mk_rules.specs.Found.{AreFound, IsGraphlessFault}
+use Rattle.mk_rule_lines.specs.Goals.{goals_of}
 use Rattle.mk_rules.specs.Graph.{IsGraph}
-use Rattle.mk_rules.specs.Lines.{Defined, AreRuleLines}
+use Rattle.mk_rule_lines.specs.Lines.{Defined, AreRuleLines, IsLinesFault}
 use Rattle.mk_rules.specs.Prerequisites.{Inputs, inputs_of}
-use Rattle.mk_rules.specs.Taken.{IsTakingFault}
-use Rattle.mk_rules.specs.declared.fault.RuleFault.{RuleFault}
-use Rattle.mk_rules.specs.declared.fault.RuleFault.TheVariants as fault
+use Rattle.mk_rule_lines.specs.Taken.{IsTakingFault}
+use Rattle.mk_rule_lines.specs.declared.fault.RuleFault.{RuleFault}
+use Rattle.mk_rule_lines.specs.declared.fault.RuleFault.TheVariants as fault
 use Rattle.mk_rules.specs.declared.graph.Graph.{Graph}
 use Rattle.mk_rules.specs.declared.known.Known.{Known}
-use Rattle.mk_rules.specs.declared.rule_line.RuleLine.{RuleLine}
-use Rattle.mk_rules.proofs.FaultLemmas.{no_goal, not_found, graph_fault, before_looks}
+use Rattle.mk_rule_lines.specs.declared.rule_line.RuleLine.{RuleLine}
+use Rattle.mk_rules.proofs.FaultLemmas.{graph_fault, before_looks}
 
 -- ---- parts of the fault of these inputs
 
@@ -43,14 +44,11 @@ module _ (ranks : Defined) (items : List Item) (honest : Type 0) (told : (name :
   inputs_at : (times : List ℕ → Option ℤ) → AreTold honest told times → AreInputs ranks items honest told entries (inputs_of lines entries times)
   inputs_at times is = record { lines = are; times = is; entries_are = refl }
 
-  module _ (goals : List (List ℕ)) (goals_are : goals ≡ goals_of lines named) (n : Numbered Known) (at : IsFoundAt honest told entries lines goals n) where
-    found : AreFound (inputs_of lines entries at.0) (goals_of lines named) n
-    found = subst (λ gs. AreFound (inputs_of lines entries at.0) gs n) goals_are at.2
-
+  module _ (n : Numbered Known) (at : IsFoundAt honest told entries lines (goals_of lines named) n) where
     pub built : (graph : Graph) →
         ((inputs : Inputs) (names : List (List ℕ)) → inputs.lines ≡ lines → AreFound inputs (goals_of inputs.lines names) n → IsGraph inputs names graph) →
         (inputs : Inputs) × AreInputs ranks items honest told entries inputs × IsGraph inputs named graph
-    built graph is = (inputs_of lines entries at.0, inputs_at at.0 at.1, is (inputs_of lines entries at.0) named refl found)
+    built graph is = (inputs_of lines entries at.0, inputs_at at.0 at.1, is (inputs_of lines entries at.0) named refl at.2)
 
     pub graph_refused : (refuses : List ℕ → Type 0) (limit : ℕ) (f : RuleFault) →
         ((inputs : Inputs) (names : List (List ℕ)) → inputs.lines ≡ lines → AreFound inputs (goals_of inputs.lines names) n → IsGraphlessFault inputs names f) →
@@ -58,25 +56,25 @@ module _ (ranks : Defined) (items : List Item) (honest : Type 0) (told : (name :
     graph_refused refuses limit f meets =
         let inputs = inputs_of lines entries at.0 in
         graph_fault ranks items honest told entries refuses named limit inputs (inputs_at at.0 at.1) f
-        (graphless inputs refuses named limit f (meets inputs named refl found))
+        (graphless inputs refuses named limit f (meets inputs named refl at.2))
 
   module _ (refuses : List ℕ → Type 0) (limit : ℕ) (f : RuleFault) where
-    pub lines_refused : IsTakingFault lines f → IsRuleFault ranks items honest told entries refuses named limit f
+    lines_refused : IsTakingFault lines f → IsRuleFault ranks items honest told entries refuses named limit f
     lines_refused meets =
         let inputs = inputs_of lines entries told in
         graph_fault ranks items honest told entries refuses named limit inputs (before_looks ranks items honest told entries refuses named limit lines are) f
         (taking inputs refuses named limit f meets)
 
-    pub goals_refused : IsGoalFault lines named f → IsRuleFault ranks items honest told entries refuses named limit f
-    goals_refused meets =
-        let inputs = inputs_of lines entries told in
-        graph_fault ranks items honest told entries refuses named limit inputs (before_looks ranks items honest told entries refuses named limit lines are) f
-        (no_goal inputs refuses named limit f meets)
-
-    pub names_refused : (goals : List (List ℕ)) → goals ≡ goals_of lines named →
-        (times : List ℕ → Option ℤ) × AreTold honest told times × IsFindingFault (inputs_of lines entries times) refuses goals limit f →
+    pub names_refused : (times : List ℕ → Option ℤ) × AreTold honest told times × IsGraphFault (inputs_of lines entries times) refuses named limit f →
         IsRuleFault ranks items honest told entries refuses named limit f
-    names_refused goals goals_are at =
-        let inputs = inputs_of lines entries at.0 in
-        graph_fault ranks items honest told entries refuses named limit inputs (inputs_at at.0 at.1) f
-        (not_found inputs refuses named limit goals goals_are f at.2)
+    names_refused at =
+        graph_fault ranks items honest told entries refuses named limit (inputs_of lines entries at.0) (inputs_at at.0 at.1) f at.2
+
+-- a makefile is refused for a fault of its text, or of its rule lines
+pub makefile_refused : (ranks : Defined) (items : List Item) (honest : Type 0) (told : (name : List ℕ) → Option ℤ)
+    (entries : (name : List ℕ) → Option Entry) (named : List (List ℕ)) (refuses : List ℕ → Type 0) (limit : ℕ) (f : RuleFault) →
+    IsLinesFault ranks items f ⊎ ((lines : List RuleLine) × AreRuleLines ranks items lines × IsTakingFault lines f) →
+    IsRuleFault ranks items honest told entries refuses named limit f
+makefile_refused ranks items honest told entries named refuses limit f (inl meets) = inl meets
+makefile_refused ranks items honest told entries named refuses limit f (inr meets) =
+    lines_refused ranks items honest told entries named meets.0 meets.1 refuses limit f meets.2

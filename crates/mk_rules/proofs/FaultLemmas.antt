@@ -5,15 +5,15 @@ use Rattle.mk_reader.specs.declared.item.Item.{Item}
 use Rattle.st_records.specs.declared.record.Entry.{Entry}
 use Rattle.mk_rules.specs.Faults.{IsGraphFault, IsRuleFault, AreInputs, AreNames}
 use Rattle.mk_rules.specs.Found.{IsFindingFault, IsUnmadeFault}
-use Rattle.mk_rules.specs.Goals.{goals_of, IsGoalFault}
-use Rattle.mk_rules.specs.Lines.{Defined, AreRuleLines, IsLinesFault}
+use Rattle.mk_rule_lines.specs.Goals.{goals_of, IsGoalFault}
+use Rattle.mk_rule_lines.specs.Lines.{Defined, AreRuleLines, IsLinesFault}
 use Rattle.mk_rules.specs.Prerequisites.{Inputs, inputs_of, prerequisites_of}
-use Rattle.mk_rules.specs.Rules.{targets_by, suffixes_of}
-use Rattle.mk_rules.specs.Supported.{IsRefusal}
-use Rattle.mk_rules.specs.Table.{IsTableFault}
-use Rattle.mk_rules.specs.declared.fault.RuleFault.{RuleFault}
-use Rattle.mk_rules.specs.declared.fault.RuleFault.TheVariants as fault
-use Rattle.mk_rules.specs.declared.rule_line.RuleLine.{RuleLine}
+use Rattle.mk_rule_lines.specs.Rules.{targets_by, suffixes_of}
+use Rattle.mk_rule_lines.specs.Supported.{IsRefusal}
+use Rattle.mk_rule_lines.specs.Table.{IsTableFault}
+use Rattle.mk_rule_lines.specs.declared.fault.RuleFault.{RuleFault}
+use Rattle.mk_rule_lines.specs.declared.fault.RuleFault.TheVariants as fault
+use Rattle.mk_rule_lines.specs.declared.rule_line.RuleLine.{RuleLine}
 
 -- ---- faults of the inputs
 

@@ -3,20 +3,20 @@ use Rattle.std.proofs.Common.{◌≡◌, ℕ, List, ◌++◌, length, filter, ma
 use Rattle.std.specs.Prelude.{option_map, option_to_list}
 use Rattle.mk_graph.specs.Numbering.{all_added}
 use Rattle.st_records.specs.declared.record.Entry.{Entry}
-use Rattle.mk_rules.specs.Explicit.{explicit_of}
+use Rattle.mk_rule_lines.specs.Explicit.{explicit_of}
 use Rattle.mk_rules.specs.Hidden.{HasHidden, IsNamesFault}
 use Rattle.mk_rules.specs.Known.{IsKnown, IsLookUpFault}
 use Rattle.mk_rules.specs.Prerequisites.{Inputs, distinct, source_names, implicit_source, hard_of, hidden_in, is_node, prerequisites_of, judged_of, own_recipes, first_or}
 use Rattle.mk_rules.specs.Source.{IsSourceFault}
 use Rattle.mk_rules.specs.Stamps.{IsLookFault}
-use Rattle.mk_rules.specs.declared.fault.RuleFault.{RuleFault}
-use Rattle.mk_rules.specs.declared.fault.RuleFault.TheVariants as fault
-use Rattle.mk_rules.specs.declared.form.Form.{Form}
-use Rattle.mk_rules.specs.declared.form.Source.{Source}
+use Rattle.mk_rule_lines.specs.declared.fault.RuleFault.{RuleFault}
+use Rattle.mk_rule_lines.specs.declared.fault.RuleFault.TheVariants as fault
+use Rattle.mk_rule_lines.specs.declared.form.Form.{Form}
+use Rattle.mk_rule_lines.specs.declared.form.Source.{Source}
 use Rattle.mk_rules.specs.declared.known.Known.{Known}
 use Rattle.mk_rules.specs.declared.mentioned.Mentioned.{Mentioned}
 use Rattle.mk_rules.specs.declared.stamps.Stamps.{Stamps}
-use Rattle.mk_rules.specs.declared.table.TargetTable.{TargetTable}
+use Rattle.mk_rule_lines.specs.declared.table.TargetTable.{TargetTable}
 
 module _ (inputs : Inputs) (name : List ℕ) (source : Option Source) (explicit : List (List ℕ)) (entry : Option Entry) (hard : List (List ℕ)) (m : Mentioned)
     (source_is : source ≡ implicit_source inputs name) (explicit_is : explicit ≡ explicit_of inputs.lines name) (entry_is : entry ≡ inputs.entries name)

@@ -1,35 +1,31 @@
 -- What is found of all names, in terms of the inputs.
 use Rattle.std.proofs.Common.{◌≡◌, ℕ, ℤ, ◌<◌, Bool, true, false, not, List, length, inl, inr, Option, Some, None, refl, sym, ap, subst, ◌∙◌}
-use Rattle.std.specs.Prelude.{Result, Ok, Err, IfErr, ◌⊎◌, IfSome, unwrap_or, take, slice_get}
+use Rattle.std.specs.Prelude.{◌⊎◌, IfSome, unwrap_or, take, slice_get}
 use Rattle.mk_graph.specs.Numbering.{IsNumbering, AreDescribed, has_name}
 use Rattle.mk_graph.specs.NumberingFault.{IsNumberingFault}
 use Rattle.mk_graph.specs.declared.numbering.NumberingFault.{NumberingFault}
 use Rattle.mk_graph.specs.declared.numbering.NumberingFault.TheVariants.{TooMany, Source}
 use Rattle.mk_reader.specs.Text.{is_empty}
 use Rattle.st_records.specs.declared.record.Entry.{Entry}
-use Rattle.mk_rules.specs.Explicit.{explicit_targets}
+use Rattle.mk_rule_lines.specs.Explicit.{explicit_targets}
 use Rattle.mk_rules.specs.Faults.{AreTold, IsReachedFrom}
-use Rattle.mk_rules.specs.Forms.{forms_of}
+use Rattle.mk_rule_lines.specs.Forms.{forms_of}
 use Rattle.mk_rules.specs.Found.{times_with, IsFindingFault}
 use Rattle.mk_rules.specs.Known.{IsAsked, IsLookUpFault}
 use Rattle.mk_rules.specs.Prerequisites.{inputs_of, is_target, hidden_in, hidden_of, prerequisites_of}
-use Rattle.mk_rules.specs.Rules.{has, places, targets_by, suffixes_of}
-use Rattle.mk_rules.specs.Source.{IsReached, source_of}
+use Rattle.mk_rule_lines.specs.Rules.{has, places, targets_by, suffixes_of}
+use Rattle.mk_rules.specs.Source.{IsReached}
+use Rattle.mk_rule_lines.specs.Source.{source_of}
 use Rattle.mk_rules.specs.Stamps.{AgreesWith, Looks, known_stamp}
-use Rattle.mk_rules.specs.Table as table
-use Rattle.mk_rules.specs.declared.fault.RuleFault.{RuleFault}
-use Rattle.mk_rules.specs.declared.fault.RuleFault.TheVariants as fault
-use Rattle.mk_rules.specs.declared.form.Form.{Form}
-use Rattle.mk_rules.specs.declared.rule_line.RuleLine.{RuleLine}
+use Rattle.mk_rule_lines.specs.Table as table
+use Rattle.mk_rule_lines.specs.declared.fault.RuleFault.{RuleFault}
+use Rattle.mk_rule_lines.specs.declared.fault.RuleFault.TheVariants as fault
+use Rattle.mk_rule_lines.specs.declared.form.Form.{Form}
+use Rattle.mk_rule_lines.specs.declared.rule_line.RuleLine.{RuleLine}
 use Rattle.mk_rules.specs.declared.stamps.Stamps.{Stamps}
-use Rattle.mk_rules.specs.declared.table.TargetTable.{TargetTable}
+use Rattle.mk_rule_lines.specs.declared.table.TargetTable.{TargetTable}
 use Rattle.mk_rules.proofs.LookupLemmas.{same_there}
 use Rattle.mk_rules.proofs.RuleLemmas.{any_place}
-
--- a fact of the fault gives what follows from it
-pub if_err : {T E : Type 0} (r : Result T E) (P Q : E → Type 0) → ((f : E) → P f → Q f) → IfErr r P → IfErr r Q
-if_err (Ok v) P Q f h = h
-if_err (Err e) P Q f h = f e h
 
 known_at : (known : Option (Option ℤ)) (t : Option ℤ) → IfSome known (λ s. unwrap_or known t ≡ s)
 known_at None t = tt

@@ -4,8 +4,8 @@ use Rattle.std.specs.Prelude.{bytes_eq}
 use Rattle.std.proofs.lemmas.List.Folds.{list_any-append}
 use Rattle.std.proofs.Math.Seq.{drop-append_seam, take-append_seam}
 use Rattle.mk_graph.specs.Numbering.{has_name, all_added}
-use Rattle.mk_rules.specs.Rules.{has}
-use Rattle.mk_rules.proofs.NameLemmas.{bytes_eq-same}
+use Rattle.mk_rule_lines.specs.Rules.{has}
+use Rattle.mk_rule_lines.proofs.NameLemmas.{bytes_eq-same}
 
 -- of these names those that are new behind others, each at its first mention
 abbrev pub fresh : (names mentioned : List (List ℕ)) → List (List ℕ)

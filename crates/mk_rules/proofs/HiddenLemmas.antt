@@ -4,13 +4,13 @@ use Rattle.std.specs.Prelude.{◌||◌, bytes_eq}
 use Rattle.std.proofs.lemmas.List.{drop-append-le, map-append}
 use Rattle.std.proofs.lemmas.List.Folds.{list_any-append}
 use Rattle.mk_graph.specs.Numbering.{has_name, added, all_added}
-use Rattle.mk_rules.specs.Rules.{has}
+use Rattle.mk_rule_lines.specs.Rules.{has}
 use Rattle.mk_rules.specs.Stamps.{IsLookFault}
 use Rattle.mk_rules.specs.Hidden.{HasHidden, IsNamesFault}
 use Rattle.mk_rules.specs.declared.mentioned.Mentioned.{Mentioned}
-use Rattle.mk_rules.specs.declared.fault.RuleFault.{RuleFault}
-use Rattle.mk_rules.specs.declared.fault.RuleFault.TheVariants as fault
-use Rattle.mk_rules.proofs.NameLemmas.{bytes_eq-same}
+use Rattle.mk_rule_lines.specs.declared.fault.RuleFault.{RuleFault}
+use Rattle.mk_rule_lines.specs.declared.fault.RuleFault.TheVariants as fault
+use Rattle.mk_rule_lines.proofs.NameLemmas.{bytes_eq-same}
 use Rattle.std.proofs.lemmas.Slice.Eq.{bytes_eq-Decides}
 
 -- what is known where some hidden prerequisites are left

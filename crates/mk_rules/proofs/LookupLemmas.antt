@@ -4,22 +4,22 @@ use Rattle.std.specs.Prelude.{Result, Ok, Err, IfOk, ◌&&◌, ◌||◌, is_some
 use Rattle.std.specs.Str.{is_utf8}
 use Rattle.mk_reader.specs.Text.{is_empty}
 use Rattle.st_records.specs.declared.record.Entry.{Entry}
-use Rattle.mk_rules.specs.Explicit.{explicit_targets}
-use Rattle.mk_rules.specs.Forms.{forms_of}
+use Rattle.mk_rule_lines.specs.Explicit.{explicit_targets}
+use Rattle.mk_rule_lines.specs.Forms.{forms_of}
 use Rattle.mk_rules.specs.Prerequisites as inputs
-use Rattle.mk_rules.specs.Rules.{has, places, targets_by, suffixes_of}
-use Rattle.mk_rules.specs.Source.{source_of}
-use Rattle.mk_rules.specs.Table as table
-use Rattle.mk_rules.specs.declared.form.Form.{Form}
-use Rattle.mk_rules.specs.declared.form.Source.{Source}
-use Rattle.mk_rules.specs.declared.rule_line.RuleLine.{RuleLine}
-use Rattle.mk_rules.specs.declared.table.TargetTable.{TargetTable}
+use Rattle.mk_rule_lines.specs.Rules.{has, places, targets_by, suffixes_of}
+use Rattle.mk_rule_lines.specs.Source.{source_of}
+use Rattle.mk_rule_lines.specs.Table as table
+use Rattle.mk_rule_lines.specs.declared.form.Form.{Form}
+use Rattle.mk_rule_lines.specs.declared.form.Source.{Source}
+use Rattle.mk_rule_lines.specs.declared.rule_line.RuleLine.{RuleLine}
+use Rattle.mk_rule_lines.specs.declared.table.TargetTable.{TargetTable}
 use Rattle.mk_rules.proofs.RuleLemmas.{any_place}
 
--- a fact of the value at Ok gives what follows from it
-pub if_ok : {T E : Type 0} (r : Result T E) (P Q : T → Type 0) → ((v : T) → P v → Q v) → IfOk r P → IfOk r Q
-if_ok (Ok v) P Q f h = f v h
-if_ok (Err e) P Q f h = h
+-- two facts of the value at Ok
+pub ok_both : {T E : Type 0} (r : Result T E) (P Q : T → Type 0) → IfOk r P → IfOk r Q → IfOk r (λ v. P v × Q v)
+ok_both (Ok v) P Q p q = (p, q)
+ok_both (Err e) P Q p q = tt
 
 -- a table without a recipe for a name
 pub no_own : (recipe : Option ℕ) → is_some recipe ≡ false → option_to_list recipe ≡ []

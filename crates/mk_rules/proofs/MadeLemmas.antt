@@ -5,13 +5,13 @@ use Rattle.std.proofs.lemmas.Bool.{cases_lt}
 use Rattle.mk_graph.specs.Numbering.{name_at, has_name}
 use Rattle.mk_rules.specs.Known.{IsKnown}
 use Rattle.mk_rules.specs.Prerequisites.{Inputs, is_target, implicit_source, is_made}
-use Rattle.mk_rules.specs.Table.{is_named, named_at}
-use Rattle.mk_rules.specs.declared.form.Source.{Source}
+use Rattle.mk_rule_lines.specs.Table.{is_named, named_at}
+use Rattle.mk_rule_lines.specs.declared.form.Source.{Source}
 use Rattle.mk_rules.specs.declared.known.Known.{Known}
-use Rattle.mk_rules.specs.declared.rule_line.RuleLine.{RuleLine}
-use Rattle.mk_rules.specs.declared.table.TargetTable.{TargetTable}
+use Rattle.mk_rule_lines.specs.declared.rule_line.RuleLine.{RuleLine}
+use Rattle.mk_rule_lines.specs.declared.table.TargetTable.{TargetTable}
 use Rattle.std.proofs.lemmas.Slice.Eq.{bytes_eq-Decides}
-use Rattle.mk_rules.proofs.NameLemmas.{bytes_eq-same}
+use Rattle.mk_rule_lines.proofs.NameLemmas.{bytes_eq-same}
 
 some_stem : (o : Option Source) → is_some (option_map (λ (s : Source). s.stem) o) ≡ is_some o
 some_stem None = refl

@@ -3,13 +3,13 @@ use Rattle.std.proofs.Common.{◌≡◌, ℕ, Bool, true, false, not, ◌||◌, 
 use Rattle.std.specs.Prelude.{bytes_eq, option_map}
 use Rattle.std.proofs.lemmas.List.Folds.{list_any-append}
 use Rattle.mk_graph.specs.Numbering.{has_name, name_at}
-use Rattle.mk_rules.specs.Explicit.{explicit_of}
+use Rattle.mk_rule_lines.specs.Explicit.{explicit_of}
 use Rattle.mk_rules.specs.Node.{source_by, explicit_by}
 use Rattle.mk_rules.specs.Prerequisites.{Inputs, distinct, source_names, implicit_source, hard_of, explicit_names}
-use Rattle.mk_rules.specs.Rules.{has}
-use Rattle.mk_rules.specs.declared.form.Source.{Source}
+use Rattle.mk_rule_lines.specs.Rules.{has}
+use Rattle.mk_rule_lines.specs.declared.form.Source.{Source}
 use Rattle.mk_rules.proofs.FreshLemmas.{fresh, added_fresh}
-use Rattle.mk_rules.proofs.NameLemmas.{bytes_eq-same}
+use Rattle.mk_rule_lines.proofs.NameLemmas.{bytes_eq-same}
 
 has_more : (names : List (List ℕ)) (x q : List ℕ) → has q (names ++ x ∷ []) ≡ (has q names || (bytes_eq q x || false))
 has_more names x q = list_any-append (bytes_eq q) names (x ∷ [])

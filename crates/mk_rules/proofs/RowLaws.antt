@@ -18,7 +18,7 @@ use Rattle.mk_rules.specs.Known.{IsKnown, nodes_among}
 use Rattle.mk_rules.specs.Prerequisites.{Inputs, prerequisites_of, judged_of, hard_of, hidden_of, hidden_nodes, is_node}
 use Rattle.mk_rules.specs.Rows.{EachRow, IsHardRow, IsHiddenRow, spread}
 use Rattle.mk_rules.specs.Nodes.{AreMadeOf}
-use Rattle.mk_rules.specs.Rules.{has}
+use Rattle.mk_rule_lines.specs.Rules.{has}
 use Rattle.mk_rules.specs.declared.graph.Node.{Node}
 use Rattle.mk_rules.specs.declared.known.Known.{Known}
 use Rattle.mk_rules.proofs.HiddenLemmas.{has_first, has_later}

@@ -2,8 +2,8 @@
 use Rattle.std.proofs.Common.{◌≡◌, ◌+◌, ℕ, Bool, true, false, not, List, [], ◌∷◌, refl}
 use Rattle.std.specs.List.{list_any}
 use Rattle.mk_reader.specs.Text.{is_empty}
-use Rattle.mk_rules.specs.Rules.{places}
-use Rattle.mk_rules.specs.declared.rule_line.RuleLine.{RuleLine}
+use Rattle.mk_rule_lines.specs.Rules.{places}
+use Rattle.mk_rule_lines.specs.declared.rule_line.RuleLine.{RuleLine}
 
 module _ (passes : RuleLine → Bool) where
   any_at : (k : ℕ) (l : RuleLine) (lines : List RuleLine) (t : Bool) → passes l ≡ t → not (is_empty (places passes (k + 1) lines)) ≡ list_any passes lines →

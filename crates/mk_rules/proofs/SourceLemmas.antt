@@ -5,15 +5,16 @@ use Rattle.std.specs.Prelude.{find, option_map, option_to_list}
 use Rattle.std.specs.Option.{option_or}
 use Rattle.std.proofs.lemmas.List.{append_assoc, take_more}
 use Rattle.std.proofs.lemmas.List.Folds.{find-append}
-use Rattle.mk_rules.specs.Source.{stem_of, source_at, candidates, source_of, IsReached, IsSourceFault}
+use Rattle.mk_rule_lines.specs.Source.{stem_of, source_at, candidates, source_of}
+use Rattle.mk_rules.specs.Source.{IsReached, IsSourceFault}
 use Rattle.std.proofs.lemmas.Option.{slice_get_read}
 use Rattle.mk_rules.specs.Stamps.{AgreesWith, IsLookFault}
-use Rattle.mk_rules.specs.Table.{is_named, is_there, named_at}
+use Rattle.mk_rule_lines.specs.Table.{is_named, is_there, named_at}
 use Rattle.mk_rules.specs.declared.stamps.Stamps.{Stamps}
-use Rattle.mk_rules.specs.declared.table.TargetTable.{TargetTable}
-use Rattle.mk_rules.specs.declared.fault.RuleFault.{RuleFault}
-use Rattle.mk_rules.specs.declared.fault.RuleFault.TheVariants as fault
-use Rattle.mk_rules.specs.declared.form.Form.{Form}
+use Rattle.mk_rule_lines.specs.declared.table.TargetTable.{TargetTable}
+use Rattle.mk_rule_lines.specs.declared.fault.RuleFault.{RuleFault}
+use Rattle.mk_rule_lines.specs.declared.fault.RuleFault.TheVariants as fault
+use Rattle.mk_rule_lines.specs.declared.form.Form.{Form}
 
 -- the forms from one on
 pub from_form : (forms : List Form) (k : ℕ) (form : Form) → k < length forms → form ≡ get_or forms k form → drop k forms ≡ form ∷ drop (k + 1) forms

@@ -3,7 +3,7 @@ use Rattle.std.proofs.Common.{◌≡◌, ℕ, ℤ, Bool, true, false, cond, List
 use Rattle.std.specs.Prelude.{IfSome}
 use Rattle.std.specs.Str.{bytes_eq}
 use Rattle.std.proofs.lemmas.Slice.Eq.{bytes_eq-Decides}
-use Rattle.mk_rules.proofs.NameLemmas.{bytes_eq-same}
+use Rattle.mk_rule_lines.proofs.NameLemmas.{bytes_eq-same}
 
 abbrev pub Fits : (known : List ℕ → Option (Option ℤ)) (times : List ℕ → Option ℤ) → Type 0
 Fits known times = (n : List ℕ) → IfSome (known n) (λ stamp. times n ≡ stamp)

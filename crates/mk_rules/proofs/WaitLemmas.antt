@@ -14,10 +14,10 @@ use Rattle.mk_graph.specs.Waits.{all_of, waits}
 use Rattle.mk_graph.proofs.CountedLemmas.{below_from_closed, closed_from_below}
 use Rattle.mk_graph.proofs.NameLemmas.{has_name_at}
 use Rattle.mk_graph.proofs.RowLemmas.{list_all-has}
-use Rattle.mk_rules.specs.Explicit.{is_wait}
-use Rattle.mk_rules.specs.Rules.{has}
+use Rattle.mk_rule_lines.specs.Explicit.{is_wait}
+use Rattle.mk_rule_lines.specs.Rules.{has}
 use Rattle.mk_rules.specs.Waits.{before_first, groups_of, orders}
-use Rattle.mk_rules.proofs.NameLemmas.{bytes_eq-same}
+use Rattle.mk_rule_lines.proofs.NameLemmas.{bytes_eq-same}
 
 -- a group that is begun, and the groups that go on with it
 abbrev pub onto : {A : Type 0} (group : List A) (groups : List (List A)) → List (List A)

@@ -1,12 +1,12 @@
 -- A graph and the parts that it is put together from.
 use Rattle.std.specs.Prelude.{◌≡◌, List, length}
 use Rattle.mk_graph.specs.declared.numbering.Numbered.{Numbered}
-use Rattle.mk_rules.specs.Goals.{settings_of}
+use Rattle.mk_rule_lines.specs.Goals.{settings_of}
 use Rattle.mk_rules.specs.Nodes.{AreMadeOf}
 use Rattle.mk_rules.specs.declared.graph.Graph.{Graph}
 use Rattle.mk_rules.specs.declared.known.Known.{Known}
 use Rattle.mk_rules.specs.declared.ordering.Ordered.{Ordered}
-use Rattle.mk_rules.specs.declared.rule_line.RuleLine.{RuleLine}
+use Rattle.mk_rule_lines.specs.declared.rule_line.RuleLine.{RuleLine}
 
 -- the graph has these lines, names and edges, and its nodes are made of what is known of the names
 pub record IsPutTogether (lines : List RuleLine) (n : Numbered Known) (o : Ordered) (graph : Graph) : Type 0 where

@@ -4,18 +4,18 @@ use Rattle.mk_graph.specs.Cycle.{IsCycle}
 use Rattle.mk_graph.specs.Numbering.{IsNumbering, name_at, has_name}
 use Rattle.mk_reader.specs.declared.item.Item.{Item}
 use Rattle.st_records.specs.declared.record.Entry.{Entry}
-use Rattle.mk_rules.specs.Forms.{forms_of}
-use Rattle.mk_rules.specs.Goals.{goals_of}
+use Rattle.mk_rule_lines.specs.Forms.{forms_of}
+use Rattle.mk_rule_lines.specs.Goals.{goals_of}
 use Rattle.mk_rules.specs.Graph.{AreHard}
-use Rattle.mk_rules.specs.Lines.{Defined, AreRuleLines, IsLinesFault}
+use Rattle.mk_rule_lines.specs.Lines.{Defined, AreRuleLines, IsLinesFault}
 use Rattle.mk_rules.specs.Prerequisites.{Inputs, is_target, is_there, hidden_of, prerequisites_of, is_made}
-use Rattle.mk_rules.specs.Rules.{has, targets_by, suffixes_of}
-use Rattle.mk_rules.specs.Source.{stem_of, source_at, source_of}
-use Rattle.mk_rules.specs.Supported.{HasRefusedLine}
-use Rattle.mk_rules.specs.Table.{HasTwoRecipes}
-use Rattle.mk_rules.specs.declared.fault.RuleFault.{RuleFault}
-use Rattle.mk_rules.specs.declared.fault.RuleFault.TheVariants as fault
-use Rattle.mk_rules.specs.declared.form.Form.{Form}
+use Rattle.mk_rule_lines.specs.Rules.{has, targets_by, suffixes_of}
+use Rattle.mk_rule_lines.specs.Source.{stem_of, source_at, source_of}
+use Rattle.mk_rule_lines.specs.Supported.{HasRefusedLine}
+use Rattle.mk_rule_lines.specs.Table.{HasTwoRecipes}
+use Rattle.mk_rule_lines.specs.declared.fault.RuleFault.{RuleFault}
+use Rattle.mk_rule_lines.specs.declared.fault.RuleFault.TheVariants as fault
+use Rattle.mk_rule_lines.specs.declared.form.Form.{Form}
 
 -- the names of the graph for these goals
 abbrev pub AreNames : Inputs → (named names : List (List ℕ)) → Type 0

@@ -5,10 +5,10 @@ use Rattle.mk_graph.specs.declared.numbering.Numbered.{Numbered}
 use Rattle.mk_rules.specs.Faults.{IsReachedFrom, HasUnmade, HasNamedCycle}
 use Rattle.mk_rules.specs.Known.{IsKnown}
 use Rattle.mk_rules.specs.Prerequisites.{Inputs, prerequisites_of, hidden_of, is_made}
-use Rattle.mk_rules.specs.Rules.{has}
+use Rattle.mk_rule_lines.specs.Rules.{has}
 use Rattle.mk_rules.specs.Stamps.{known_stamp}
-use Rattle.mk_rules.specs.declared.fault.RuleFault.{RuleFault}
-use Rattle.mk_rules.specs.declared.fault.RuleFault.TheVariants as fault
+use Rattle.mk_rule_lines.specs.declared.fault.RuleFault.{RuleFault}
+use Rattle.mk_rule_lines.specs.declared.fault.RuleFault.TheVariants as fault
 use Rattle.mk_rules.specs.declared.known.Known.{Known}
 use Rattle.mk_rules.specs.declared.stamps.Stamps.{Stamps}
 

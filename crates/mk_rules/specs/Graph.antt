@@ -4,9 +4,9 @@ use Rattle.mk_graph.specs.Edges.{row, has as has_number}
 use Rattle.mk_graph.specs.Cycle.{HasCycle}
 use Rattle.mk_graph.specs.Counted.{AreCounted}
 use Rattle.mk_graph.specs.Numbering.{IsNumbering, name_at, has_name}
-use Rattle.mk_rules.specs.Rules.{suffixes_of, has}
-use Rattle.mk_rules.specs.Taken.{AreTaken}
-use Rattle.mk_rules.specs.Goals.{goals_of, settings_of}
+use Rattle.mk_rule_lines.specs.Rules.{suffixes_of, has}
+use Rattle.mk_rule_lines.specs.Taken.{AreTaken}
+use Rattle.mk_rule_lines.specs.Goals.{goals_of, settings_of}
 use Rattle.mk_rules.specs.Node.{source_by, explicit_by}
 use Rattle.mk_rules.specs.Prerequisites.{Inputs, implicit_source, explicit_names, recipe_of, hard_of, is_node, prerequisites_of, judged_of, hidden_nodes, is_made}
 use Rattle.mk_rules.specs.Waits.{line_orders}

@@ -1,9 +1,9 @@
 -- The hidden prerequisites of a name, taken in behind the hard ones.
 use Rattle.std.specs.Prelude.{◌≡◌, ℕ, Bool, true, List, length, map, drop, filter}
 use Rattle.mk_graph.specs.Numbering.{all_added}
-use Rattle.mk_rules.specs.Rules.{has}
-use Rattle.mk_rules.specs.declared.fault.RuleFault.{RuleFault}
-use Rattle.mk_rules.specs.declared.fault.RuleFault.TheVariants as fault
+use Rattle.mk_rule_lines.specs.Rules.{has}
+use Rattle.mk_rule_lines.specs.declared.fault.RuleFault.{RuleFault}
+use Rattle.mk_rule_lines.specs.declared.fault.RuleFault.TheVariants as fault
 use Rattle.mk_rules.specs.declared.mentioned.Mentioned.{Mentioned}
 
 -- behind the hard prerequisites stand the hidden ones, and it is known which of them are nodes

@@ -2,16 +2,16 @@
 use Rattle.std.specs.Prelude.{◌≡◌, ◌⊎◌, ℕ, ℤ, Bool, true, List, length, map, drop, Option, option_map}
 use Rattle.st_records.specs.declared.record.Entry.{Entry}
 use Rattle.mk_rules.specs.Prerequisites.{Inputs, inputs_of, implicit_source, recipe_of, hard_of, judged_of, is_node, prerequisites_of}
-use Rattle.mk_rules.specs.Rules.{has}
+use Rattle.mk_rule_lines.specs.Rules.{has}
 use Rattle.mk_rules.specs.Source.{IsReached}
 use Rattle.mk_rules.specs.Stamps.{AgreesWith}
-use Rattle.mk_rules.specs.declared.rule_line.RuleLine.{RuleLine}
+use Rattle.mk_rule_lines.specs.declared.rule_line.RuleLine.{RuleLine}
 use Rattle.mk_rules.specs.declared.stamps.Stamps.{Stamps}
 use Rattle.mk_rules.specs.declared.known.Known.{Known}
-use Rattle.mk_rules.specs.declared.form.Form.{Form}
-use Rattle.mk_rules.specs.declared.table.TargetTable.{TargetTable}
-use Rattle.mk_rules.specs.declared.fault.RuleFault.{RuleFault}
-use Rattle.mk_rules.specs.declared.fault.RuleFault.TheVariants as fault
+use Rattle.mk_rule_lines.specs.declared.form.Form.{Form}
+use Rattle.mk_rule_lines.specs.declared.table.TargetTable.{TargetTable}
+use Rattle.mk_rule_lines.specs.declared.fault.RuleFault.{RuleFault}
+use Rattle.mk_rule_lines.specs.declared.fault.RuleFault.TheVariants as fault
 
 -- of the names as they are judged, behind the first so many, which are nodes
 abbrev pub nodes_among : (inputs : Inputs) (hard : ℕ) (judged : List (List ℕ)) → List Bool

@@ -2,8 +2,8 @@
 use Rattle.std.specs.Prelude.{◌≡◌, ℕ, List, map}
 use Rattle.mk_graph.specs.Cycle.{IsCycle}
 use Rattle.mk_graph.specs.Numbering.{name_at}
-use Rattle.mk_rules.specs.declared.fault.RuleFault.{RuleFault}
-use Rattle.mk_rules.specs.declared.fault.RuleFault.TheVariants as fault
+use Rattle.mk_rule_lines.specs.declared.fault.RuleFault.{RuleFault}
+use Rattle.mk_rule_lines.specs.declared.fault.RuleFault.TheVariants as fault
 
 -- these names are a cycle of the rows, by number
 pub record IsNamedCycle (hard : List (List ℕ)) (names cycle : List (List ℕ)) : Type 0 where

@@ -5,12 +5,12 @@ use Rattle.std.specs.Option.{option_map_or}
 use Rattle.std.specs.Str.{is_utf8}
 use Rattle.mk_graph.specs.Numbering.{all_added}
 use Rattle.st_records.specs.declared.record.Entry.{Entry}
-use Rattle.mk_rules.specs.Rules.{has, suffixes_of, recipe_places}
-use Rattle.mk_rules.specs.Explicit.{explicit_targets, explicit_of}
-use Rattle.mk_rules.specs.Source.{source_of}
-use Rattle.mk_rules.specs.Forms.{forms_of}
-use Rattle.mk_rules.specs.declared.form.Source.{Source}
-use Rattle.mk_rules.specs.declared.rule_line.RuleLine.{RuleLine}
+use Rattle.mk_rule_lines.specs.Rules.{has, suffixes_of, recipe_places}
+use Rattle.mk_rule_lines.specs.Explicit.{explicit_targets, explicit_of}
+use Rattle.mk_rule_lines.specs.Source.{source_of}
+use Rattle.mk_rule_lines.specs.Forms.{forms_of}
+use Rattle.mk_rule_lines.specs.declared.form.Source.{Source}
+use Rattle.mk_rule_lines.specs.declared.rule_line.RuleLine.{RuleLine}
 
 -- what a graph is made of: the rule lines, the times of files, and what the state has of each target
 pub record Inputs : Type 0 where

@@ -3,8 +3,8 @@ use Rattle.std.specs.Prelude.{◌≡◌, ℕ, ℤ, Bool, true, false, List, Opti
 use Rattle.indexmap.specs.IndexMap.{get_by}
 use Rattle.mk_rules.specs.Tree.{AskedOnce}
 use Rattle.mk_rules.specs.declared.stamps.Stamps.{Stamps}
-use Rattle.mk_rules.specs.declared.fault.RuleFault.{RuleFault}
-use Rattle.mk_rules.specs.declared.fault.RuleFault.TheVariants as fault
+use Rattle.mk_rule_lines.specs.declared.fault.RuleFault.{RuleFault}
+use Rattle.mk_rule_lines.specs.declared.fault.RuleFault.TheVariants as fault
 
 -- what is known of a name: nothing, that it has no file, or its time
 abbrev pub known_stamp : Stamps → (name : List ℕ) → Option (Option ℤ)

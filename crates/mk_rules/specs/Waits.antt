@@ -2,9 +2,9 @@
 use Rattle.std.specs.Prelude.{ℕ, Bool, false, ◌&&◌, ◌||◌, List, [], ◌∷◌, flat_map, if◌then◌else◌}
 use Rattle.std.specs.List.{list_any}
 use Rattle.mk_graph.specs.Numbering.{has_name}
-use Rattle.mk_rules.specs.Explicit.{is_wait}
-use Rattle.mk_rules.specs.Rules.{has, targets_by}
-use Rattle.mk_rules.specs.declared.rule_line.RuleLine.{RuleLine}
+use Rattle.mk_rule_lines.specs.Explicit.{is_wait}
+use Rattle.mk_rule_lines.specs.Rules.{has, targets_by}
+use Rattle.mk_rule_lines.specs.declared.rule_line.RuleLine.{RuleLine}
 
 -- a word at the front of the first group
 abbrev pub before_first : (word : List ℕ) → (groups : List (List (List ℕ))) → List (List (List ℕ))

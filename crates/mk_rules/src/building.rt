@@ -11,36 +11,30 @@ ghost use Rattle.mk_rules.specs.Known.{IsKnown};
 ghost use Rattle.mk_rules.specs.Node.{EachHasOneNumber};
 ghost use Rattle.mk_rules.specs.Assembly.{IsPutTogether};
 ghost use Rattle.mk_rules.specs.Stamps.{AgreesWith, Asks, Looks};
-ghost use Rattle.mk_rules.specs.Table.{is_named, named_at};
+ghost use Rattle.mk_rule_lines.specs.Table.{is_named, named_at};
 ghost use Rattle.mk_rules.specs.Tree.{AskedOnce};
 ghost use Rattle.mk_macros.specs.Ranks.{ranks_at};
-ghost use Rattle.mk_rules.specs.Lines.{behind_items};
+ghost use Rattle.mk_rule_lines.specs.Lines.{behind_items};
 ghost use Rattle.mk_rules.specs.Prerequisites.{Inputs, inputs_of, is_target, prerequisites_of};
-ghost use Rattle.mk_rules.specs.Goals.{goals_of};
+ghost use Rattle.mk_rule_lines.specs.Goals.{goals_of};
 ghost use Rattle.mk_rules.specs.Graph.{IsGraph, AreMade};
-ghost use Rattle.mk_rules.specs.Faults.{AreInputs, AreTold, IsRuleFault};
+ghost use Rattle.mk_rules.specs.Faults.{AreInputs, AreTold, IsGraphFault, IsRuleFault};
 
-use crate::fault::RuleFault;
 use crate::finder::Finder;
-use crate::goals::goals_of;
 use crate::graph::{Graph, MAX_NODES};
 use crate::known::Known;
-use crate::lines::rule_lines;
-use crate::makefile::Makefile;
 use crate::nodes::nodes_of;
 use crate::ordering::{Ordered, hard_edges, ordered_by};
-use crate::rule_line::RuleLine;
 use crate::rules::Rules;
-use crate::settings::Settings;
 use crate::soft::soft_edges;
 use crate::stamps::Stamps;
-use crate::table::TargetTable;
 use crate::tree::Tree;
 use byte_strings::{ByteString, ByteStrings};
 use mk_graph::{Numbered, NumberingFault, number};
 use mk_macros::Macros;
 use mk_reader::Item;
-use st_records::State;
+use mk_rule_lines::{Makefile, RuleFault, RuleLine, Settings, TargetTable, goals_of};
+use st_state::State;
 use std::alloc::{AllocError, Global};
 
 /// Numbers the names that the goals lead to, and gathers what is found of each.
@@ -181,6 +175,37 @@ fn put_together(
     })
 }
 
+/// The edges of the names that were found, and the order that they make. Each name has to have something that makes it.
+fn order_found(
+    alloc: Global,
+    makefile: &Makefile,
+    numbered: &Numbered<Known>,
+) -> Result<Ordered, RuleFault>
+    requires names { IsDistinct bytes_eq numbered.now.names }
+    requires row_count { length numbered.now.rows ≡ length numbered.now.names }
+    requires node_count { length numbered.now.nodes.items ≡ length numbered.now.names }
+    requires closed { IsTrue (is_closed numbered.now.rows) }
+    ensures hard_count { IfOk result (λ ordered. length ordered.hard ≡ length numbered.now.names) }
+    ensures soft_count { IfOk result (λ ordered. length ordered.soft ≡ length numbered.now.names) }
+    ensures counted_count { IfOk result (λ ordered. length ordered.counted ≡ length numbered.now.names) }
+    ensures hard_closed { IfOk result (λ ordered. IsTrue (is_closed ordered.hard)) }
+    ensures soft_closed { IfOk result (λ ordered. IsTrue (is_closed ordered.soft)) }
+    ensures counted_closed { IfOk result (λ ordered. IsTrue (is_closed ordered.counted)) }
+    ensures counted_ascending { IfOk result (λ ordered. (n : ℕ) → IsStrictlyIncreasing (row ordered.counted n)) }
+
+    // What is put together of them is the graph.
+    ensures graph { IfOk result (λ ordered. (inputs : Inputs) (named : List (List ℕ)) → inputs.lines ≡ makefile.now.lines.items
+        → AreFound inputs (goals_of inputs.lines named) numbered.now
+        → (graph : Graph) → IsPutTogether makefile.now.lines.items numbered.now ordered graph → IsGraph inputs named graph) }
+    ensures fault { IfErr result (λ fault. (inputs : Inputs) (named : List (List ℕ)) → inputs.lines ≡ makefile.now.lines.items
+        → AreFound inputs (goals_of inputs.lines named) numbered.now → IsGraphlessFault inputs named fault) }
+{
+    check_made(alloc, &makefile.lines, &makefile.targets, numbered)?;
+    let hard = hard_edges(alloc, numbered)?;
+    let soft = soft_edges(alloc, numbered, &makefile.lines, &makefile.suffixes)?;
+    ordered_by(alloc, &numbered.names, hard, soft)
+}
+
 /// The graph of names that were found.
 fn graph_of(
     alloc: Global,
@@ -199,17 +224,39 @@ fn graph_of(
     ensures fault { IfErr result (λ fault. (inputs : Inputs) (named : List (List ℕ)) → inputs.lines ≡ makefile.lines.items
         → AreFound inputs (goals_of inputs.lines named) numbered → IsGraphlessFault inputs named fault) }
 {
-    let Makefile {
-        lines,
-        suffixes,
-        targets,
-        ..
-    } = makefile;
-    check_made(alloc, &lines, &targets, &numbered)?;
-    let hard = hard_edges(alloc, &numbered)?;
-    let soft = soft_edges(alloc, &numbered, &lines, &suffixes)?;
-    let ordered = ordered_by(alloc, &numbered.names, hard, soft)?;
+    let ordered = order_found(alloc, &makefile, &numbered)?;
+    let Makefile { lines, .. } = makefile;
     Ok(put_together(alloc, lines, macros, numbered, ordered)?)
+}
+
+/// The names that the goals of a makefile lead to, with what was found of each.
+fn reached<T: Tree>(
+    alloc: Global,
+    makefile: &Makefile,
+    goals: ByteStrings,
+    tree: &mut T,
+    state: &State,
+) -> Result<Numbered<Known>, RuleFault>
+    ensures found { IfOk result (λ n. (times : List ℕ → Option ℤ) × AreTold T.honest (T.stamps tree.old) times
+        × AreFound (inputs_of makefile.now.lines.items (finmap.get state.now) times) (goals_of makefile.now.lines.items goals) n) }
+    ensures row_count { IfOk result (λ n. length n.rows ≡ length n.names) }
+    ensures node_count { IfOk result (λ n. length n.nodes.items ≡ length n.names) }
+    ensures closed { IfOk result (λ n. IsTrue (is_closed n.rows)) }
+    ensures few { IfOk result (λ n. length n.names ≤ MAX_NODES) }
+    ensures names { IfOk result (λ n. IsDistinct bytes_eq n.names) }
+    ensures fault { IfErr result (λ fault. (times : List ℕ → Option ℤ) × AreTold T.honest (T.stamps tree.old) times
+        × IsGraphFault (inputs_of makefile.now.lines.items (finmap.get state.now) times) (T.refuses tree.new) goals MAX_NODES fault) }
+    ensures same { T.stamps tree.new ≡ T.stamps tree.old }
+    ensures asked { AskedOnce (T.asked tree.old) (λ _. true) (T.asked tree.new) }
+{
+    let goals = goals_of(alloc, &makefile.lines, &makefile.suffixes, goals)?;
+    let rules = Rules {
+        lines: &makefile.lines,
+        targets: &makefile.targets,
+        forms: &makefile.forms,
+        state,
+    };
+    numbered_names(alloc, rules, tree, &goals)
 }
 
 /// The graph of a makefile's items for these goals, or for the makefile's first target where none is named.
@@ -234,15 +281,7 @@ pub fn build<T: Tree>(
     ensures asked { AskedOnce (T.asked tree.old) (λ _. true) (T.asked tree.new) }
 {
     let mut macros = macros;
-    let lines = rule_lines(alloc, items, &mut macros)?;
-    let makefile = Makefile::of_lines(alloc, lines)?;
-    let goals = goals_of(alloc, &makefile.lines, &makefile.suffixes, goals)?;
-    let rules = Rules {
-        lines: &makefile.lines,
-        targets: &makefile.targets,
-        forms: &makefile.forms,
-        state,
-    };
-    let numbered = numbered_names(alloc, rules, tree, &goals)?;
+    let makefile = Makefile::of_items(alloc, items, &mut macros)?;
+    let numbered = reached(alloc, &makefile, goals, tree, state)?;
     graph_of(alloc, makefile, macros, numbered)
 }

@@ -1,13 +1,12 @@
 //! Names looked up one by one while they are numbered.
-ghost use Rattle.std.specs.Prelude.{◌≡◌, ℕ, ℤ, List, Option, [], option_map, option_to_list, IfOk, IfErr, OnOk, is_ok};
+ghost use Rattle.std.specs.Prelude.{◌≡◌, ◌++◌, ℕ, ℤ, List, Option, [], length, option_map, option_to_list, IfOk, IfErr, OnOk, is_ok};
 ghost use Rattle.std.specs.FinMap as map;
-ghost use Rattle.mk_rules.specs.Prerequisites.{inputs_of, is_node, first_or, hidden_in, prerequisites_of};
+ghost use Rattle.mk_rule_lines.specs.Explicit.{explicit_of};
+ghost use Rattle.mk_rules.specs.Prerequisites.{inputs_of, is_node, first_or, hidden_in, prerequisites_of, source_names, distinct};
 ghost use Rattle.mk_rules.specs.Stamps.{AgreesWith, Asks, Looks};
 ghost use Rattle.mk_rules.specs.Hidden.{HasHidden, IsNamesFault};
 ghost use Rattle.mk_rules.specs.Known.{IsKnown, IsLookUpFault};
 
-use crate::fault::RuleFault;
-use crate::form::Source;
 use crate::known::Known;
 use crate::lookup::{add_hidden, implicit_source};
 use crate::mentioned::Mentioned;
@@ -16,6 +15,7 @@ use crate::stamps::Stamps;
 use crate::tree::Tree;
 use byte_strings::ByteString;
 use mk_graph::{Dependencies, Found};
+use mk_rule_lines::{RuleFault, Source};
 use st_records::Entry;
 use std::alloc::Global;
 
@@ -62,6 +62,63 @@ fn add_hidden_of<T: Tree>(
     }
 }
 
+/// The prerequisites of a name with this source and this entry, and how many of them are hard.
+fn mentioned_of<T: Tree>(
+    alloc: Global,
+    rules: &Rules,
+    tree: &mut T,
+    stamps: &mut Stamps,
+    name: &[u8],
+    source: &Option<Source>,
+    entry: &Option<Entry>,
+) -> Result<(Mentioned, usize), RuleFault>
+    ensures mentioned { IfOk result (λ of. (times : List ℕ → Option ℤ) → AgreesWith stamps.new times
+        → HasHidden (is_node (inputs_of rules.now.lines.now (map.get rules.now.state.now) times))
+        (distinct (source_names source.now ++ explicit_of rules.now.lines.now name.now)) (hidden_in entry.now) of.0) }
+    ensures hard { IfOk result (λ of. of.1 ≡ length (distinct (source_names source.now ++ explicit_of rules.now.lines.now name.now))) }
+    ensures looks { Looks T.honest stamps.old stamps.new (T.stamps tree.old) (T.stamps tree.new) (T.refuses tree.old) (T.refuses tree.new) }
+    ensures asks { Asks (is_ok result) stamps.old stamps.new (T.asked tree.old) (T.asked tree.new) }
+    ensures fault { IfErr result (IsNamesFault (T.refuses tree.new) (hidden_in entry.now)) }
+{
+    let explicit = rules.explicit(alloc, name)?;
+    let mut mentioned = Mentioned::hard(alloc, source, &explicit)?;
+    let hard = mentioned.judged.len();
+    add_hidden_of(alloc, rules, tree, stamps, &mut mentioned, entry)?;
+    Ok((mentioned, hard))
+}
+
+/// What is found of a name, put together.
+fn gathered(
+    stamp: Option<i128>,
+    source: Option<Source>,
+    own: Option<usize>,
+    entry: Option<Entry>,
+    mentioned: Mentioned,
+    hard: usize,
+) -> Found<Known>
+    ensures prerequisites { result.prerequisites ≡ mentioned.nodes }
+    ensures stamp { result.node.stamp ≡ stamp }
+    ensures stem { result.node.stem ≡ option_map (λ s. s.stem) source }
+    ensures recipe { result.node.recipe ≡ first_or (option_to_list own) (option_map (λ s. s.rule) source) }
+    ensures hard { result.node.hard ≡ hard }
+    ensures hidden { result.node.hidden.items ≡ mentioned.hidden.items }
+    ensures entry { result.node.entry ≡ entry }
+{
+    let Mentioned { nodes, hidden, .. } = mentioned;
+    let (stem, rule) = stem_and_rule(source);
+    Found {
+        prerequisites: nodes,
+        node: Known {
+            stamp,
+            stem,
+            recipe: own_or(own, rule),
+            hard,
+            hidden,
+            entry,
+        },
+    }
+}
+
 /// What the rules, the state and a tree say of a name.
 fn look_up<T: Tree>(
     alloc: Global,
@@ -81,25 +138,10 @@ fn look_up<T: Tree>(
 {
     let stamp = stamps.stamp(alloc, tree, name)?;
     let source = implicit_source(alloc, rules, tree, stamps, name)?;
-    let explicit = rules.explicit(alloc, name)?;
     let entry = rules.entry(alloc, name)?;
-    let mut mentioned = Mentioned::hard(alloc, &source, &explicit)?;
-    let hard = mentioned.judged.len();
-    add_hidden_of(alloc, rules, tree, stamps, &mut mentioned, &entry)?;
-    let Mentioned { nodes, hidden, .. } = mentioned;
-    let (stem, rule) = stem_and_rule(source);
-    let recipe = own_or(rules.recipe(name), rule);
-    Ok(Found {
-        prerequisites: nodes,
-        node: Known {
-            stamp,
-            stem,
-            recipe,
-            hard,
-            hidden,
-            entry,
-        },
-    })
+    let (mentioned, hard) = mentioned_of(alloc, rules, tree, stamps, name, &source, &entry)?;
+    let own = rules.recipe(name);
+    Ok(gathered(stamp, source, own, entry, mentioned, hard))
 }
 
 /// Looks names up in the rules, the state and a tree.

@@ -5,11 +5,10 @@ ghost use Rattle.mk_graph.specs.Edges.{row, is_closed};
 ghost use Rattle.mk_rules.specs.Node.{EachHasOneNumber, source_in, explicit_in};
 ghost use Rattle.mk_rules.specs.declared.graph.TheConstants.{MAX_NODES};
 
-use crate::rule_line::RuleLine;
-use crate::settings::Settings;
 use byte_strings::ByteString;
 use mk_graph::{Edges, Names};
 use mk_macros::Macros;
+use mk_rule_lines::{RuleLine, Settings};
 use st_records::Entry;
 
 /// How many names a graph may hold.

@@ -7,14 +7,13 @@ ghost use Rattle.mk_rules.specs.Stamps.{AgreesWith, Asks, Looks, IsLookFault};
 ghost use Rattle.mk_rules.specs.Source.{IsSourceFault};
 ghost use Rattle.mk_rules.specs.Hidden.{HasHidden, IsNamesFault};
 
-use crate::fault::RuleFault;
-use crate::form::Source;
 use crate::mentioned::Mentioned;
 use crate::rules::Rules;
 use crate::source::is_there;
 use crate::stamps::Stamps;
 use crate::tree::Tree;
 use byte_strings::ByteStrings;
+use mk_rule_lines::{RuleFault, Source};
 use std::alloc::Global;
 use std::str;
 

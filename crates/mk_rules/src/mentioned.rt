@@ -3,9 +3,9 @@ ghost use Rattle.std.specs.Prelude.{◌≡◌, ◌++◌, ◌∷◌, ◌||◌, []
 ghost use Rattle.mk_graph.specs.Numbering.{has_name, added, all_added};
 ghost use Rattle.mk_rules.specs.Prerequisites.{source_names, distinct};
 
-use crate::form::Source;
 use byte_strings::ByteStrings;
 use mk_graph::Names;
+use mk_rule_lines::Source;
 use std::alloc::{AllocError, Global};
 
 /// The prerequisites of a name so far.

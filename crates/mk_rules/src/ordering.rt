@@ -1,17 +1,20 @@
 //! What orders the names of a graph.
-ghost use Rattle.std.specs.Prelude.{◌≡◌, ℕ, length, IfOk, IfErr, IsTrue};
+ghost use Rattle.std.specs.Prelude.{◌≡◌, ℕ, true, length, map, nat_lt, IfOk, IfErr, IsTrue};
+ghost use Rattle.std.specs.List.{list_all};
 ghost use Rattle.std.specs.List.Sorted.{IsStrictlyIncreasing};
 ghost use Rattle.mk_graph.specs.Counted.{AreCounted};
 ghost use Rattle.mk_graph.specs.Cycle.{HasCycle};
 ghost use Rattle.mk_graph.specs.Edges.{row, is_closed};
+ghost use Rattle.mk_graph.specs.Numbering.{name_at};
 ghost use Rattle.mk_graph.specs.Plan.{IsPlan};
 ghost use Rattle.mk_rules.specs.Ordering.{IsCycleFault};
 ghost use Rattle.mk_rules.specs.Rows.{EachRow, IsHardRow};
 
-use crate::fault::{CycleNames, RuleFault};
 use crate::known::Known;
 use crate::rows::hard_rows;
+use byte_strings::ByteStrings;
 use mk_graph::{Counted, Edges, Names, Numbered, Order, count_edges};
+use mk_rule_lines::{CycleNames, RuleFault};
 use std::alloc::{AllocError, Global};
 
 /// The edges of a graph and the order that they make.
@@ -34,6 +37,18 @@ pub(crate) fn hard_edges(alloc: Global, numbered: &Numbered<Known>) -> Result<Ed
     ensures rows { IfOk result (λ hard. EachRow (IsHardRow numbered.now.rows numbered.now.nodes.items) hard) }
 {
     Ok(Edges::new(hard_rows(alloc, &numbered.rows, &numbered.nodes)?))
+}
+
+/// The names of a cycle's nodes.
+fn cycle_names(alloc: Global, names: &Names, cycle: &[usize]) -> Result<CycleNames, AllocError>
+    requires { list_all (λ n. nat_lt n (length names.now)) cycle.now ≡ true }
+    ensures { IfOk result (λ told. told.names ≡ map (name_at names.now) cycle.now) }
+{
+    let mut list = ByteStrings::empty(alloc);
+    for node in cycle {
+        list.push(names.name(*node))?;
+    }
+    Ok(CycleNames { names: list })
 }
 
 /// The order by these edges, or the cycle of hard ones as a fault.
@@ -63,7 +78,7 @@ pub(crate) fn ordered_by(
         order,
     } = count_edges(alloc, &hard, &soft)?;
     match order {
-        Order::Cycle(cycle) => Err(RuleFault::Cycle(CycleNames::of_nodes(alloc, names, &cycle)?)),
+        Order::Cycle(cycle) => Err(RuleFault::Cycle(cycle_names(alloc, names, &cycle)?)),
         Order::Plan(order) => Ok(Ordered {
             hard,
             soft,

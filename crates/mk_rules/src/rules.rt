@@ -1,22 +1,19 @@
 //! What a makefile's rules and the state say of a name.
 ghost use Rattle.std.specs.Prelude.{◌≡◌, ℕ, ℤ, List, Option, false, option_to_list, is_ok, IfOk, IfErr};
 ghost use Rattle.std.specs.FinMap as map;
-ghost use Rattle.mk_rules.specs.Rules.{has, suffixes_of, targets_by, places, recipe_places};
+ghost use Rattle.mk_rule_lines.specs.Rules.{has, suffixes_of, targets_by, places, recipe_places};
 ghost use Rattle.mk_rules.specs.Source.{IsSourceFault};
 ghost use Rattle.mk_rules.specs.Stamps.{AgreesWith, Asks};
-ghost use Rattle.mk_rules.specs.Table.{is_there, named_at};
-ghost use Rattle.mk_rules.specs.Forms.{forms_of};
+ghost use Rattle.mk_rule_lines.specs.Table.{is_there, named_at};
+ghost use Rattle.mk_rule_lines.specs.Forms.{forms_of};
 
-use crate::explicit::explicit_of;
-use crate::fault::RuleFault;
-use crate::form::{Form, Source};
-use crate::rule_line::RuleLine;
 use crate::source::source_of;
 use crate::stamps::Stamps;
-use crate::table::TargetTable;
 use crate::tree::Tree;
 use byte_strings::ByteStrings;
-use st_records::{Entry, State};
+use mk_rule_lines::{Form, RuleFault, RuleLine, Source, TargetTable, explicit_of};
+use st_records::Entry;
+use st_state::State;
 use std::alloc::{AllocError, Global};
 
 /// The rule lines of a makefile with what was made of them, and the state.
@@ -34,9 +31,9 @@ pub(crate) struct Rules<'m> {
 }
 
 impl<'m> Rules<'m> {
-    ghost use Rattle.mk_rules.specs.Explicit.{explicit_of};
+    ghost use Rattle.mk_rule_lines.specs.Explicit.{explicit_of};
     ghost use Rattle.mk_rules.specs.Prerequisites.{own_recipes, is_target};
-    ghost use Rattle.mk_rules.specs.Source.{source_of};
+    ghost use Rattle.mk_rule_lines.specs.Source.{source_of};
 
     /// The number of the line that has the name's recipe.
     pub fn recipe(&self, name: &[u8]) -> Option<usize>

@@ -7,14 +7,14 @@ ghost use Rattle.mk_graph.specs.Numbering.{AreDescribed, name_at};
 ghost use Rattle.mk_rules.specs.Graph.{AreSoft};
 ghost use Rattle.mk_rules.specs.Known.{IsKnown};
 ghost use Rattle.mk_rules.specs.Prerequisites.{Inputs, prerequisites_of};
-ghost use Rattle.mk_rules.specs.Rules.{suffixes_of};
+ghost use Rattle.mk_rule_lines.specs.Rules.{suffixes_of};
 
 use crate::known::Known;
 use crate::rows::hidden_rows;
-use crate::rule_line::RuleLine;
 use crate::waits::add_all_waits;
 use byte_strings::ByteStrings;
 use mk_graph::{Edges, Numbered};
+use mk_rule_lines::RuleLine;
 use std::alloc::{AllocError, Global};
 
 /// The soft edges: hidden prerequisites, and what `.WAIT`s say.

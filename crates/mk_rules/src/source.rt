@@ -1,14 +1,13 @@
 //! The implicit source of a name.
 ghost use Rattle.std.specs.Prelude.{◌≡◌, ℕ, ℤ, List, Option, false, IfOk, IfErr, IsErr, is_ok};
-ghost use Rattle.mk_rules.specs.Source.{source_of, IsSourceFault};
+ghost use Rattle.mk_rule_lines.specs.Source.{source_of};
+ghost use Rattle.mk_rules.specs.Source.{IsSourceFault};
 ghost use Rattle.mk_rules.specs.Stamps.{AgreesWith, Asks, IsLookFault};
-ghost use Rattle.mk_rules.specs.Table.{is_named, is_there, named_at};
+ghost use Rattle.mk_rule_lines.specs.Table.{is_named, is_there, named_at};
 
-use crate::fault::RuleFault;
-use crate::form::{Form, Source};
 use crate::stamps::Stamps;
-use crate::table::TargetTable;
 use crate::tree::Tree;
+use mk_rule_lines::{Form, RuleFault, Source, TargetTable};
 use std::alloc::Global;
 
 /// Whether some line makes the name, or it has a file.

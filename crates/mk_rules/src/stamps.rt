@@ -2,10 +2,10 @@
 ghost use Rattle.std.specs.Prelude.{◌≡◌, ℕ, ℤ, List, Option, None, IfOk, IfErr, IsSome, IsOk, is_ok};
 ghost use Rattle.mk_rules.specs.Stamps.{known_stamp, AgreesWith, Asks, IsLookFault};
 
-use crate::fault::RuleFault;
 use crate::tree::{Tree, TreeFault};
 use byte_strings::ByteString;
 use indexmap::IndexMap;
+use mk_rule_lines::RuleFault;
 use std::alloc::Global;
 
 /// What a tree has answered so far.

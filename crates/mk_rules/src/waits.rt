@@ -4,13 +4,12 @@ ghost use Rattle.std.specs.List.{IsDistinct, list_any, list_all};
 ghost use Rattle.std.specs.Str.{bytes_eq};
 ghost use Rattle.mk_graph.specs.Edges.{row, is_closed, has as has_number};
 ghost use Rattle.mk_graph.specs.Numbering.{has_name, name_at};
-ghost use Rattle.mk_rules.specs.Explicit.{is_wait};
+ghost use Rattle.mk_rule_lines.specs.Explicit.{is_wait};
 ghost use Rattle.mk_rules.specs.Waits.{groups_of, orders, line_orders};
 
-use crate::explicit::is_wait;
-use crate::rule_line::RuleLine;
 use byte_strings::ByteStrings;
 use mk_graph::{Names, add_waits};
+use mk_rule_lines::{RuleLine, is_wait};
 use std::alloc::{AllocError, Global};
 
 fn any_wait(words: &ByteStrings) -> bool

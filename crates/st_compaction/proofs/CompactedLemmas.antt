@@ -16,9 +16,9 @@ use Rattle.st_records.specs.declared.version.Version.{Version}
 use Rattle.st_records.specs.declared.version.Version.TheVariants as versions
 use Rattle.st_records.specs.declared.record.Record.{Record}
 use Rattle.st_records.specs.Limits.{IsGood}
-use Rattle.st_records.specs.State.{StateMap, replay}
-use Rattle.st_records.specs.Keepable.{kept_records, kept_bytes, AllCanBeKept}
-use Rattle.st_records.proofs.KeptLemmas.{kept_again, good_kept}
+use Rattle.st_state.specs.State.{StateMap, replay}
+use Rattle.st_state.specs.Keepable.{kept_records, kept_bytes, AllCanBeKept}
+use Rattle.st_state.proofs.KeptLemmas.{kept_again, good_kept}
 use Rattle.st_file.specs.Layout.{header_text}
 use Rattle.st_file.specs.Batch.{body, framed, may_stand, Batch, text_of, AreBatches, records_of}
 use Rattle.st_file.specs.Side.{HoldsUpTo}

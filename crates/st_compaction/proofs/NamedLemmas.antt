@@ -7,8 +7,8 @@ use Rattle.st_records.specs.declared.version.Version.TheVariants as versions
 use Rattle.st_records.specs.declared.record.Entry.{Entry}
 use Rattle.st_records.specs.declared.record.Record.{Record}
 use Rattle.st_records.specs.Encoding.{number}
-use Rattle.st_records.specs.State.{StateMap}
-use Rattle.st_records.specs.Keepable.{kept_record, kept_records}
+use Rattle.st_state.specs.State.{StateMap}
+use Rattle.st_state.specs.Keepable.{kept_record, kept_records}
 use Rattle.st_file.specs.Batch.{body, framed}
 use Rattle.st_file.specs.Grown.{IsFull}
 use Rattle.st_file.specs.declared.layout.TheConstants.{HEADER_BYTES}

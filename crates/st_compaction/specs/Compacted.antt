@@ -6,8 +6,8 @@ use Rattle.st_disk.specs.Crash.{UnsyncedWrites, settled, other}
 use Rattle.st_records.specs.declared.version.Version.{Version}
 use Rattle.st_records.specs.declared.version.Version.TheVariants as versions
 use Rattle.st_records.specs.declared.record.Record.{Record}
-use Rattle.st_records.specs.State.{StateMap}
-use Rattle.st_records.specs.Keepable.{kept_records}
+use Rattle.st_state.specs.State.{StateMap}
+use Rattle.st_state.specs.Keepable.{kept_records}
 use Rattle.st_file.specs.Layout.{header_text}
 use Rattle.st_file.specs.Batch.{framed}
 use Rattle.st_file.specs.Side.{IsVoid}

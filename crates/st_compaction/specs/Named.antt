@@ -3,7 +3,7 @@ use Rattle.std.specs.Prelude.{ℕ, List, map as list_map}
 use Rattle.std.specs.Borrow.{Bor}
 use Rattle.st_records.specs.declared.record.Entry.{Entry}
 use Rattle.st_records.specs.declared.record.Record.{Record}
-use Rattle.st_records.specs.Keepable.{kept_record}
+use Rattle.st_state.specs.Keepable.{kept_record}
 
 -- a name and its entry behind two references, as they are now
 abbrev pub entry_behind : Bor (List ℕ) × Bor Entry → List ℕ × Entry

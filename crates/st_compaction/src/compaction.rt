@@ -5,7 +5,7 @@ ghost use Rattle.st_disk.specs.Crash.{other};
 ghost use Rattle.st_disk.specs.Moments.{Throughout};
 ghost use Rattle.st_disk.specs.Faults.{Rises};
 ghost use Rattle.st_records.specs.declared.version.Version.TheVariants as versions;
-ghost use Rattle.st_records.specs.Keepable.{kept_records};
+ghost use Rattle.st_state.specs.Keepable.{kept_records};
 ghost use Rattle.st_file.specs.Side.{HoldsUpTo};
 ghost use Rattle.st_file.specs.Grown.{IsFull};
 ghost use Rattle.st_file.specs.declared.commit_fault.CommitFault.TheVariants as faults;

@@ -4,7 +4,7 @@ ghost use Rattle.std.specs.Prelude.{◌≡◌, ◌⊎◌, ◌↔◌, ◌<◌, �
 ghost use Rattle.std.specs.List.{AllByRecursion};
 ghost use Rattle.st_records.specs.declared.version.Version.TheVariants as versions;
 ghost use Rattle.st_records.specs.Limits.{IsGood};
-ghost use Rattle.st_records.specs.Keepable.{kept_records, kept_bytes, AllCanBeKept};
+ghost use Rattle.st_state.specs.Keepable.{kept_records, kept_bytes, AllCanBeKept};
 ghost use Rattle.st_file.specs.Layout.{header_text};
 ghost use Rattle.st_file.specs.Batch.{body};
 ghost use Rattle.st_file.specs.Grown.{IsFull};
@@ -13,7 +13,8 @@ ghost use Rattle.st_compaction.specs.Compacted.{one_batch, compacted_bytes};
 ghost use Rattle.st_compaction.specs.Named.{records_of_names};
 
 use st_file::{CommitFault, HEADER_BYTES, MAX_BODY_BYTES, new_header};
-use st_records::{Entry, State, append_kept};
+use st_records::{Entry, append_kept};
+use st_state::State;
 use std::alloc::{AllocError, Global};
 
 /// The bytes of a batch beside its body: the gate and two lengths.

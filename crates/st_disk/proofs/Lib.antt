@@ -6,11 +6,3 @@ pub mod MomentLaws
 pub mod CrashLaws
 -- for layers above: what one write leaves of a settled side
 pub mod TornLaws
--- for layers above: bytes written over others
-pub mod OverwrittenLaws
--- of the disk in memory: one call more
-pub mod MemoryLaws
--- of the disk in memory: what a power cut leaves is an image
-pub mod PowerCutLaws
--- of the disk in memory: one call of its replay
-mod ReplayLemmas

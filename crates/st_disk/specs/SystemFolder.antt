@@ -4,7 +4,7 @@ use Rattle.std.specs.String.{string_bytes}
 use Rattle.st_disk.specs.declared.which.Which.{Which}
 use Rattle.st_disk.specs.declared.system_folder.SystemFolder.{SystemFolder}
 use Rattle.st_disk.specs.declared.system_folder.SystemFile.{SystemFile}
-use Rattle.st_disk.specs.Memory.{pick}
+use Rattle.st_disk.specs.Which.{pick}
 
 -- the name of a side's file
 abbrev pub file_name : SystemFolder → Which → List ℕ

@@ -9,7 +9,7 @@ use thiserror::Error;
 pub struct DeviceFault;
 
 /// Counts one more failed call. The count stays at its last value.
-pub(crate) fn count_fault(faults: &mut u64) -> DeviceFault
+pub fn count_fault(faults: &mut u64) -> DeviceFault
     ensures { Rises faults.old faults.new }
 {
     *faults = faults.saturating_add(1);

@@ -2,7 +2,7 @@
 use Rattle.std.proofs.Common.{◌≡◌, List, [], ◌∷◌, ◌++◌, refl, sym, ap, ◌∙◌}
 use Rattle.std.specs.FinMap as map
 use Rattle.st_records.specs.declared.record.Record.{Record}
-use Rattle.st_records.specs.State.{StateMap, apply_record, replay}
+use Rattle.st_state.specs.State.{StateMap, apply_record, replay}
 use Rattle.st_file.specs.Sink.{AddsRecords}
 
 replay-push : (m : StateMap) (rs : List Record) (r : Record) → replay m (rs ++ r ∷ []) ≡ apply_record (replay m rs) r

@@ -3,10 +3,11 @@
 ghost use Rattle.std.specs.Prelude.{◌≡◌, List, [], ◌∷◌, OnOk};
 ghost use Rattle.std.specs.FinMap as map;
 ghost use Rattle.st_records.specs.declared.record.Record.{Record};
-ghost use Rattle.st_records.specs.State.{replay};
+ghost use Rattle.st_state.specs.State.{replay};
 ghost use Rattle.st_file.specs.Sink.{AddsRecords};
 
-use st_records::{Record, State};
+use st_records::Record;
+use st_state::State;
 use std::alloc::{AllocError, Global};
 
 /// What takes in the records of a side: a list of them, or the state that they make.

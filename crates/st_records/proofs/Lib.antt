@@ -8,8 +8,3 @@ pub mod Decoding
 pub mod Unfinished
 pub mod Stops
 pub mod FaultLemmas
-pub mod StateLemmas
-pub mod KeepableLemmas
-pub mod KeptLemmas
-pub mod RankLemmas
-pub mod Listed

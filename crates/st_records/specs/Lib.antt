@@ -7,16 +7,8 @@ pub mod Encoding
 pub mod Limits
 -- what bytes have that begin with no good record
 pub mod Faults
--- what is known of each target, and what a record makes of it
-pub mod State
--- which states can be written anew
-pub mod Keepable
--- a batch that stands by: the state before it, and its records
-pub mod Staged
 -- What private functions compute, said step by step; of public contracts `Gives` alone is a part:
 -- the tests of a record, one by one
 pub mod Tests
--- ranks of names, by which a listing is sorted
-pub mod Ranks
 -- reading from the left
 pub mod Reading

@@ -38,7 +38,7 @@ fn put_kept(out: &mut Vec<u8>, name: &[u8], entry: &Entry) -> Result<(), AllocEr
 
 /// What is left of `room` after the bytes of the kept record of this name and this entry in a file of version 2; None
 /// where they do not fit. It takes no memory.
-pub(crate) fn room_after_kept(name: &[u8], entry: &Entry, room: usize) -> Option<usize>
+pub fn room_after_kept(name: &[u8], entry: &Entry, room: usize) -> Option<usize>
     ensures { MatchOption result (room < length (encoding versions.Two (records.Kept name.now entry.now)))
         (λ left. left + length (encoding versions.Two (records.Kept name.now entry.now)) ≡ room) }
 {

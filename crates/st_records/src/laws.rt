@@ -1,8 +1,6 @@
 //! What holds of records and their bytes, beside what a call answers. Nothing here runs: each body is empty.
 
 ghost use Rattle.std.specs.Prelude.{◌≡◌, ◌<◌, ◌≤◌, ◌⊎◌, List, ℕ, ◌++◌, All, length, take};
-ghost use Rattle.std.specs.List.{AllByRecursion};
-ghost use Rattle.std.specs.FinMap as map;
 ghost use Rattle.st_records.specs.declared.version.Version.{Version};
 ghost use Rattle.st_records.specs.declared.version.Version.TheVariants as versions;
 ghost use Rattle.st_records.specs.declared.limits.TheConstants as limits;
@@ -10,9 +8,7 @@ ghost use Rattle.st_records.specs.declared.decoder.DecodeFault.{DecodeFault};
 ghost use Rattle.st_records.specs.declared.record.Record.{Record};
 ghost use Rattle.st_records.specs.Encoding.{encoding};
 ghost use Rattle.st_records.specs.Faults.{HasFault};
-ghost use Rattle.st_records.specs.Keepable.{AllCanBeKept};
 ghost use Rattle.st_records.specs.Limits.{max_name_bytes, max_record_bytes, IsGood, Encodes};
-ghost use Rattle.st_records.specs.State.{StateMap, apply_record, replay};
 
 /// Within a version no two good records have one encoding, and none begins another: whatever stands behind them, the
 /// front of some bytes is the encoding of one good record at most.
@@ -29,14 +25,6 @@ pub fn one_fault()
 /// Bytes have an answer: a good record stands at their front, or they have a fault.
 pub fn each_answered()
     ensures { (version : Version) (bytes : List ℕ) → All (λ byte. byte < 256) bytes → ((r : Record) × (n : ℕ) × (n ≤ length bytes) × Encodes version r (take n bytes)) ⊎ ((f : DecodeFault) × HasFault version f bytes) }
-{}
-
-/// Whatever good records are taken in, of either version, each entry of the state can be written as a good kept record of
-/// version 2: the bytes that a kept record has more than the records that left its entry don't count.
-pub fn entries_can_be_kept()
-    ensures empty { AllCanBeKept map.empty }
-    ensures one { (version : Version) (m : StateMap) (r : Record) → AllCanBeKept m → IsGood version r → AllCanBeKept (apply_record m r) }
-    ensures all { (version : Version) (m : StateMap) (rs : List Record) → AllCanBeKept m → AllByRecursion (IsGood version) rs → AllCanBeKept (replay m rs) }
 {}
 
 /// The limits in numbers.

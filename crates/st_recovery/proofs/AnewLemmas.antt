@@ -9,9 +9,9 @@ use Rattle.st_records.specs.declared.version.Version.{Version}
 use Rattle.st_records.specs.declared.version.Version.TheVariants as versions
 use Rattle.st_records.specs.declared.record.Record.{Record}
 use Rattle.st_records.specs.Limits.{IsGood}
-use Rattle.st_records.specs.State.{StateMap, replay}
-use Rattle.st_records.specs.Keepable.{AllCanBeKept}
-use Rattle.st_records.proofs.KeepableLemmas.{kept_in_empty, kept_replay}
+use Rattle.st_state.specs.State.{StateMap, replay}
+use Rattle.st_state.specs.Keepable.{AllCanBeKept}
+use Rattle.st_state.proofs.KeepableLemmas.{kept_in_empty, kept_replay}
 use Rattle.st_file.specs.Batch.{Batch, AreBatches, records_of}
 use Rattle.st_file.specs.Side.{HoldsUpTo}
 use Rattle.st_recovery.specs.declared.recovery.Chosen.{Chosen}

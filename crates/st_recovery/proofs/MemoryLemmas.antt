@@ -4,8 +4,8 @@ use Rattle.std.specs.FinMap as map
 use Rattle.std.specs.FinMap.{len-empty}
 use Rattle.st_records.specs.declared.record.Record.{Record}
 use Rattle.st_records.specs.declared.record.Entry.{Entry}
-use Rattle.st_records.specs.State.{StateMap, replay}
-use Rattle.st_records.proofs.StateLemmas.{by_bytes}
+use Rattle.st_state.specs.State.{StateMap, replay}
+use Rattle.st_state.proofs.StateLemmas.{by_bytes}
 use Rattle.st_file.proofs.SideLemmas.{comes_of_held}
 use Rattle.st_recovery.specs.Recovers.{Wins, Recovers, IsWhole, PairComesToRecords}
 

@@ -13,7 +13,7 @@ use Rattle.st_disk.proofs.DeviceCalls.{settled_seen}
 use Rattle.st_records.specs.declared.version.Version.{Version}
 use Rattle.st_records.specs.declared.version.Version.TheVariants as versions
 use Rattle.st_records.specs.declared.record.Record.{Record}
-use Rattle.st_records.specs.State.{StateMap, replay}
+use Rattle.st_state.specs.State.{StateMap, replay}
 use Rattle.st_file.specs.Batch.{framed, FillBatch}
 use Rattle.st_file.specs.Side.{IsVoid, HoldsUpTo, holding, blank}
 use Rattle.st_file.specs.Gated.{IsReady, IsClosedOrOpen, IsOpened}

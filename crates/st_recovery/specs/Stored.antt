@@ -7,7 +7,7 @@ use Rattle.st_disk.specs.Crash.{UnsyncedWrites, IsCrashImage, settled, Sides, wr
 use Rattle.st_records.specs.declared.version.Version.{Version}
 use Rattle.st_records.specs.declared.version.Version.TheVariants as versions
 use Rattle.st_records.specs.declared.record.Record.{Record}
-use Rattle.st_records.specs.State.{StateMap, replay}
+use Rattle.st_state.specs.State.{StateMap, replay}
 use Rattle.st_file.specs.declared.layout.TheConstants.{HEADER_BYTES}
 use Rattle.st_file.specs.Side.{IsVoid, HoldsUpTo}
 use Rattle.st_recovery.specs.Recovers.{HoldsGeneration, Recovers}

@@ -5,7 +5,7 @@ ghost use Rattle.std.specs.FinMap as map;
 ghost use Rattle.st_disk.specs.Crash.{writes_of, settled, EachPair};
 ghost use Rattle.st_disk.specs.Moments.{now, Throughout};
 ghost use Rattle.st_disk.specs.Faults.{CountsFaults, Rises};
-ghost use Rattle.st_records.specs.Keepable.{AllCanBeKept};
+ghost use Rattle.st_state.specs.Keepable.{AllCanBeKept};
 ghost use Rattle.st_file.specs.Side.{IsVoid};
 ghost use Rattle.st_file.specs.declared.fault.OpenFault.TheVariants as faults;
 ghost use Rattle.st_recovery.specs.Recovers.{Recovers, RefusesWith, IsChosen};
@@ -15,7 +15,8 @@ use crate::recovery::{Chosen, choose};
 use crate::store::Store;
 use st_disk::{DeviceFault, Disk, Which};
 use st_file::{HEADER_BYTES, Log, OpenFault, create, read_whole};
-use st_records::{HashKey, State, Version};
+use st_records::{HashKey, Version};
+use st_state::State;
 use std::alloc::Global;
 
 /// Opens the store that a disk holds: both sides are synced and read, both before either is judged, and the side of the

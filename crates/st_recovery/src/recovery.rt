@@ -7,7 +7,8 @@ ghost use Rattle.st_recovery.specs.Recovers.{IsChosen, RefusesWith, PairComesToR
 
 use st_disk::Which;
 use st_file::{Extent, OpenFault, read_side};
-use st_records::{HashKey, State};
+use st_records::HashKey;
+use st_state::State;
 use std::alloc::Global;
 
 /// The side of a pair that counts, and the state that its records make.

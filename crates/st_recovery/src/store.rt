@@ -6,10 +6,10 @@ ghost use Rattle.st_disk.specs.Moments.{now, Throughout};
 ghost use Rattle.st_disk.specs.Faults.{Rises};
 ghost use Rattle.st_records.specs.declared.version.Version.TheVariants as versions;
 ghost use Rattle.st_records.specs.declared.record.Record.{Record};
-ghost use Rattle.st_records.specs.Keepable.{AllCanBeKept};
+ghost use Rattle.st_state.specs.Keepable.{AllCanBeKept};
 ghost use Rattle.st_records.specs.Limits.{IsGood};
-ghost use Rattle.st_records.specs.State.{replay};
-ghost use Rattle.st_records.specs.Staged.{staged_state, staged_records};
+ghost use Rattle.st_state.specs.State.{replay};
+ghost use Rattle.st_state.specs.Staged.{staged_state, staged_records};
 ghost use Rattle.st_file.specs.Batch.{may_stand};
 ghost use Rattle.st_file.specs.Side.{HoldsUpTo};
 ghost use Rattle.st_file.specs.Grown.{IsFull};
@@ -18,7 +18,8 @@ ghost use Rattle.st_recovery.specs.Stored.{IsStoredOn, AllRecover, AllRecoverEit
 
 use st_disk::Disk;
 use st_file::{CommitFault, Log};
-use st_records::{Record, Staged, State};
+use st_records::Record;
+use st_state::{Staged, State};
 use std::alloc::Global;
 use std::mem;
 

@@ -2,7 +2,8 @@
 
 ghost use Rattle.std.specs.Prelude.{◌≡◌};
 
-use bd_lists::{Ticket, Told};
+use bd_ledger::Ticket;
+use bd_lists::Told;
 use st_records::Record;
 
 /// That the record of a submission was told, and in which batch. Only a look at a site makes one.

@@ -4,8 +4,9 @@ ghost use Rattle.std.specs.Prelude.{◌≡◌, ◌↔◌, IsTrue, Some, slice_ge
 ghost use Rattle.mk_recipe.specs.Line.{IsRecorded, Records};
 ghost use Rattle.bd_lists.specs.Admission.{run_of, IsOwn, IsOf, MaySend};
 
+use crate::Told;
 use crate::board::Spent;
-use crate::{Sent, Told};
+use bd_ledger::Sent;
 use byte_strings::ByteStrings;
 use mk_recipe::{Line, Outcome};
 use st_records::Record;

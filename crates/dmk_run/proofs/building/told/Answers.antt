@@ -1,5 +1,5 @@
 use Rattle.std.proofs.Common.{subst}
-use Rattle.st_records.specs.State.{StateMap}
+use Rattle.st_state.specs.State.{StateMap}
 use Rattle.dmk_run.specs.Known.{IsTold}
 use Rattle.dmk_run.proofs.building.told.Goals as goal
 

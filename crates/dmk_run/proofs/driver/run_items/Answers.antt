@@ -1,5 +1,5 @@
 use Rattle.std.proofs.Common.{sym, ◌∙◌}
-use Rattle.st_disk.specs.MemDisk.{memory_bytes, memory_moments}
+use Rattle.st_memory.specs.MemDisk.{memory_bytes, memory_moments}
 use Rattle.st_disk.specs.Moments.{now}
 use Rattle.dmk_drive.specs.Keeping.{keeps}
 use Rattle.dmk_run.proofs.DriverLemmas.{found_without_state}

@@ -1,6 +1,6 @@
 use Rattle.std.proofs.Common.{Some, sym, ap, ◌∙◌, arith}
 use Rattle.std.proofs.lemmas.Option.{slice_get-get_or, same_Some}
-use Rattle.bd_lists.specs.declared.end.End.TheVariants.{Built}
+use Rattle.bd_places.specs.declared.end.End.TheVariants.{Built}
 use Rattle.jb_closing.proofs.ClosingLemmas.{done_more, all_done, lacks_at}
 use Rattle.jb_closing.proofs.closing.first_lacking.Goals as goal
 

@@ -1,7 +1,7 @@
 use Rattle.std.proofs.Common.{◌+◌, unwrap_or, ap, ◌∙◌}
 use Rattle.std.proofs.lemmas.List.{length_push}
-use Rattle.bd_lists.specs.Settling.{end_of}
-use Rattle.bd_lists.specs.declared.end.End.TheVariants.{Abandoned}
+use Rattle.bd_places.specs.Settling.{end_of}
+use Rattle.bd_places.specs.declared.end.End.TheVariants.{Abandoned}
 use Rattle.jb_closing.proofs.ListLemmas.{at_push}
 use Rattle.jb_runner.proofs.pool.ends_of.Goals as goal
 

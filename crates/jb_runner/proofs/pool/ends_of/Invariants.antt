@@ -1,6 +1,6 @@
 use Rattle.std.proofs.Common.{◌≡◌, ℕ, ◌<◌, length, Some, slice_get, unwrap_or}
-use Rattle.bd_lists.specs.Settling.{end_of}
-use Rattle.bd_lists.specs.declared.end.End.TheVariants.{Abandoned}
+use Rattle.bd_places.specs.Settling.{end_of}
+use Rattle.bd_places.specs.declared.end.End.TheVariants.{Abandoned}
 use Rattle.jb_runner.proofs.pool.ends_of.Given as goal
 
 -- the ends of the nodes so far

@@ -2,12 +2,10 @@ use Rattle.std.proofs.Common.{◌≡◌, ◌-◌, refl, false, option_map, ◌�
 use Rattle.std.proofs.lemmas.Result.{err_from_is_err_and}
 use Rattle.byte_strings.specs.Blanks.{words}
 use Rattle.mk_reader.specs.Lines.{logical_lines}
-use Rattle.mk_reader.specs.Form.{form_of}
 use Rattle.mk_reader.specs.Makefile.{AnswersAs, EachIncluded}
 use Rattle.mk_reader.specs.Steps.{IncludedItems, LineItems, TextItems}
-use Rattle.mk_reader.specs.declared.form.Form.TheVariants as form
 use Rattle.mk_reader.proofs.LinesLemmas.{no_lines_left}
-use Rattle.mk_reader.proofs.MakefileLemmas.{included_deeper, each_fault, each_more, each_end, reaches_by, recipe_added, recipe_alone, line_refused, include_refused, include_added, definition_added, rule_added, lines_end, fault_passed_on, form_passed_on, refused_here, items_passed_on}
+use Rattle.mk_reader.proofs.MakefileLemmas.{Reaches, included_deeper, each_fault, each_more, each_end, none_gathered, line_taken-reaches, line_taken-reaches_behind, lines_end, fault_passed_on, taken_passed_on, items_passed_on}
 use Rattle.mk_reader.proofs.makefile.+reading.Goals as goal
 
 pub read_each-returns-in_err-included-clause-items : goal.read_each-returns-in_err-included-clause-items
@@ -51,92 +49,57 @@ read_included-returns-in-Some-clause-items g t c =
     included_deeper before c.args.levels deeper c.args.file.now c.args.number c.args.name.now (Some c.in-Some.text.items) o (omega arith)
     (λ h. sym (ap (option_map (λ v. v.items)) c.in-Some.is) ∙ c.in_ok-read.ensures.content h) items)
 
-pub read_text-returns-in_err-form_of-clause-items : goal.read_text-returns-in_err-form_of-clause-items
-read_text-returns-in_err-form_of-clause-items g t c =
-    let p = err_from_is_err_and c.from_residual-in_err-form_of.result c.from_residual-in_err-form_of.ensures.1 in
+pub read_text-loop-left-init : goal.read_text-loop-left-init
+read_text-loop-left-init g t c =
     let included = IncludedItems (AnswersAs g.I.Includes.honest (g.I.Includes.files c.args.includes.now)) c.args.levels c.args.file.now in
-    let all = logical_lines 1 (Some c.args.text.now) in
-    let more = logical_lines c.in_ok-line.next_number (option_copied c.in_ok-line.after) in
-    let at : logical_lines c.loop-left.number (option_copied c.loop-left.left) ≡ c.in_ok-line.line ∷ more = ap (λ left. logical_lines c.loop-left.number (option_copied left)) c.in-Some.is ∙ c.in_ok-line.ensures.line in
-    let told = form_passed_on c.in_err-form_of.field-0.0 (form_of c.args.file.now c.in_ok-line.line) (LineItems included c.args.file.now false all) c.in_err-form_of.ensures
-    (λ fault e. line_refused included c.args.file.now all c.loop-left.items.items c.loop-left.unfinished c.in_ok-line.line.number fault more
-    (reaches_by included c.args.file.now all c.loop-left.items.items c.loop-left.unfinished c.loop-left.unfinished _ more c.in_ok-line.line (Err fault) c.loop-left.invariant.gathered at e refl)) in
-    rw (p.1, p.2) told
-
-pub read_text-loop-left-preserved-in-Blank : goal.read_text-loop-left-preserved-in-Blank
-read_text-loop-left-preserved-in-Blank g t c =
-    let included = IncludedItems (AnswersAs g.I.Includes.honest (g.I.Includes.files c.args.includes.now)) c.args.levels c.args.file.now in
-    let all = logical_lines 1 (Some c.args.text.now) in
-    let more = logical_lines c.in_ok-line.next_number (option_copied c.in_ok-line.after) in
-    let at : logical_lines c.loop-left.number (option_copied c.loop-left.left) ≡ c.in_ok-line.line ∷ more = ap (λ left. logical_lines c.loop-left.number (option_copied left)) c.in-Some.is ∙ c.in_ok-line.ensures.line in
-    let by = reaches_by included c.args.file.now all c.loop-left.items.items c.loop-left.unfinished (c.loop-left.unfinished) _ more c.in_ok-line.line (Ok form.Blank) c.loop-left.invariant.gathered at (c.in_ok-form_of.ensures ∙ ap Ok c.in-Blank.is) refl in
-    record { gathered = by; same = c.loop-left.invariant.same }
-
-pub read_text-returns-in_default-unfinished-clause-items : goal.read_text-returns-in_default-unfinished-clause-items
-read_text-returns-in_default-unfinished-clause-items g t c =
-    let included = IncludedItems (AnswersAs g.I.Includes.honest (g.I.Includes.files c.args.includes.now)) c.args.levels c.args.file.now in
-    let all = logical_lines 1 (Some c.args.text.now) in
-    let more = logical_lines c.in_ok-line.next_number (option_copied c.in_ok-line.after) in
-    let at : logical_lines c.loop-left.number (option_copied c.loop-left.left) ≡ c.in_ok-line.line ∷ more = ap (λ left. logical_lines c.loop-left.number (option_copied left)) c.in-Some.is ∙ c.in_ok-line.ensures.line in
-    let by = reaches_by included c.args.file.now all c.loop-left.items.items c.loop-left.unfinished (None) _ more c.in_ok-line.line (Ok (form.Recipe c.in-Recipe.line)) c.loop-left.invariant.gathered at (c.in_ok-form_of.ensures ∙ ap Ok c.in-Recipe.is) c.in_default-unfinished.is in
-    refused_here c.refuse.result _ (LineItems included c.args.file.now false all) c.refuse.ensures
-    (recipe_alone included c.args.file.now all c.loop-left.items.items c.in_ok-line.line.number c.in-Recipe.line more by)
-
-pub read_text-loop-left-preserved-in-Recipe : goal.read_text-loop-left-preserved-in-Recipe
-read_text-loop-left-preserved-in-Recipe g t c =
-    let included = IncludedItems (AnswersAs g.I.Includes.honest (g.I.Includes.files c.args.includes.now)) c.args.levels c.args.file.now in
-    let all = logical_lines 1 (Some c.args.text.now) in
-    let more = logical_lines c.in_ok-line.next_number (option_copied c.in_ok-line.after) in
-    let at : logical_lines c.loop-left.number (option_copied c.loop-left.left) ≡ c.in_ok-line.line ∷ more = ap (λ left. logical_lines c.loop-left.number (option_copied left)) c.in-Some.is ∙ c.in_ok-line.ensures.line in
-    let by = reaches_by included c.args.file.now all c.loop-left.items.items c.loop-left.unfinished (Some c.in-Some-unfinished.rule) _ more c.in_ok-line.line (Ok (form.Recipe c.in-Recipe.line)) c.loop-left.invariant.gathered at (c.in_ok-form_of.ensures ∙ ap Ok c.in-Recipe.is) c.in-Some-unfinished.is in
     record {
-      gathered = recipe_added included c.args.file.now all c.loop-left.items.items c.in-Some-unfinished.rule c.in_ok-with_line-in-Recipe.field-0 c.in_ok-line.line.number c.in-Recipe.line more by c.in_ok-with_line-in-Recipe.ensures;
-      same = c.loop-left.invariant.same;
+      gathered = none_gathered included c.args.file.now (logical_lines 1 (Some c.args.text.now)) c.new-gathered.result.items.items c.new-gathered.result.unfinished c.new-gathered.ensures.items c.new-gathered.ensures.unfinished;
+      same = refl;
     }
 
-pub read_text-returns-in_err-included-in-Include-clause-items : goal.read_text-returns-in_err-included-in-Include-clause-items
-read_text-returns-in_err-included-in-Include-clause-items g t c =
-    let p = err_from_is_err_and c.from_residual-in_err-included-in-Include.result c.from_residual-in_err-included-in-Include.ensures.1 in
+pub read_text-returns-in_err-names-clause-items : goal.read_text-returns-in_err-names-clause-items
+read_text-returns-in_err-names-clause-items g t c =
+    let p = err_from_is_err_and c.from_residual-in_err-names.result c.from_residual-in_err-names.ensures.1 in
     let included = IncludedItems (AnswersAs g.I.Includes.honest (g.I.Includes.files c.args.includes.now)) c.args.levels c.args.file.now in
     let all = logical_lines 1 (Some c.args.text.now) in
     let more = logical_lines c.in_ok-line.next_number (option_copied c.in_ok-line.after) in
     let at : logical_lines c.loop-left.number (option_copied c.loop-left.left) ≡ c.in_ok-line.line ∷ more = ap (λ left. logical_lines c.loop-left.number (option_copied left)) c.in-Some.is ∙ c.in_ok-line.ensures.line in
-    let by = reaches_by included c.args.file.now all c.loop-left.items.items c.loop-left.unfinished (c.loop-left.unfinished) _ more c.in_ok-line.line (Ok (form.Include c.in-Include.names)) c.loop-left.invariant.gathered at (c.in_ok-form_of.ensures ∙ ap Ok c.in-Include.is) refl in
-    let told = fault_passed_on c.in_err-included-in-Include.field-0.0
+    let told = taken_passed_on c.in_err-names.field-0.0 _ _ _ (LineItems included c.args.file.now false all) c.in_err-names.ensures
+    (λ fault e. line_taken-reaches included c.args.file.now all c.loop-left.gathered.items.items c.loop-left.gathered.unfinished _ more c.in_ok-line.line (Err fault) c.loop-left.invariant.gathered at e) in
+    rw (p.1, p.2) told
+
+pub read_text-returns-in_err-included-clause-items : goal.read_text-returns-in_err-included-clause-items
+read_text-returns-in_err-included-clause-items g t c =
+    let p = err_from_is_err_and c.from_residual-in_err-included.result c.from_residual-in_err-included.ensures.1 in
+    let included = IncludedItems (AnswersAs g.I.Includes.honest (g.I.Includes.files c.args.includes.now)) c.args.levels c.args.file.now in
+    let all = logical_lines 1 (Some c.args.text.now) in
+    let more = logical_lines c.in_ok-line.next_number (option_copied c.in_ok-line.after) in
+    let at : logical_lines c.loop-left.number (option_copied c.loop-left.left) ≡ c.in_ok-line.line ∷ more = ap (λ left. logical_lines c.loop-left.number (option_copied left)) c.in-Some.is ∙ c.in_ok-line.ensures.line in
+    let behind = line_taken-reaches_behind included c.args.file.now all c.loop-left.gathered.items.items _ c.loop-left.gathered.unfinished _ _ more c.in_ok-line.line _ (Some c.in-Some-2.names) c.loop-left.invariant.gathered at c.in_ok-names.ensures c.in-Some-2.is in
+    let told = fault_passed_on c.in_err-included.field-0.0
     (EachIncluded (IncludedItems (AnswersAs g.I.Includes.honest (g.I.Includes.files c.loop-left.includes)) c.args.levels c.args.file.now c.in_ok-line.line.number) (words c.as_slice-names.result.now))
     (LineItems included c.args.file.now false all)
-    c.in_err-included-in-Include.ensures.items
-    (λ fault h. include_refused included c.args.file.now all c.loop-left.items.items c.loop-left.unfinished c.in_ok-line.line.number c.in-Include.names fault more by
-    (subst (λ files. EachIncluded (IncludedItems (AnswersAs g.I.Includes.honest files) c.args.levels c.args.file.now c.in_ok-line.line.number) (words c.in-Include.names) (Err fault)) c.loop-left.invariant.same
+    c.in_err-included.ensures.items
+    (λ fault h. behind.0 fault
+    (subst (λ files. EachIncluded (IncludedItems (AnswersAs g.I.Includes.honest files) c.args.levels c.args.file.now c.in_ok-line.line.number) (words c.in-Some-2.names) (Err fault)) c.loop-left.invariant.same
     (subst (λ names. EachIncluded (IncludedItems (AnswersAs g.I.Includes.honest (g.I.Includes.files c.loop-left.includes)) c.args.levels c.args.file.now c.in_ok-line.line.number) (words names) (Err fault)) (cc) h))) in
     rw (p.1, p.2) told
 
-pub read_text-loop-left-preserved-in-Include : goal.read_text-loop-left-preserved-in-Include
-read_text-loop-left-preserved-in-Include g t c =
+pub read_text-loop-left-preserved-in_ok-take_included : goal.read_text-loop-left-preserved-in_ok-take_included
+read_text-loop-left-preserved-in_ok-take_included g t c =
     let included = IncludedItems (AnswersAs g.I.Includes.honest (g.I.Includes.files c.args.includes.now)) c.args.levels c.args.file.now in
     let all = logical_lines 1 (Some c.args.text.now) in
     let more = logical_lines c.in_ok-line.next_number (option_copied c.in_ok-line.after) in
     let at : logical_lines c.loop-left.number (option_copied c.loop-left.left) ≡ c.in_ok-line.line ∷ more = ap (λ left. logical_lines c.loop-left.number (option_copied left)) c.in-Some.is ∙ c.in_ok-line.ensures.line in
-    let by = reaches_by included c.args.file.now all c.loop-left.items.items c.loop-left.unfinished (c.loop-left.unfinished) _ more c.in_ok-line.line (Ok (form.Include c.in-Include.names)) c.loop-left.invariant.gathered at (c.in_ok-form_of.ensures ∙ ap Ok c.in-Include.is) refl in
-    let front = c.in_ok-included-in-Include.included.items in
+    let behind = line_taken-reaches_behind included c.args.file.now all c.loop-left.gathered.items.items _ c.loop-left.gathered.unfinished _ _ more c.in_ok-line.line _ (Some c.in-Some-2.names) c.loop-left.invariant.gathered at c.in_ok-names.ensures c.in-Some-2.is in
+    let front = c.in_ok-included.included.items in
     record {
-      gathered = include_added included c.args.file.now all c.loop-left.items.items _ front c.append.new.self.items c.loop-left.unfinished c.in_ok-line.line.number c.in-Include.names more by c.in_ok-finish-in-Include.ensures.ok
-          (subst (λ files. EachIncluded (IncludedItems (AnswersAs g.I.Includes.honest files) c.args.levels c.args.file.now c.in_ok-line.line.number) (words c.in-Include.names) (Ok front)) c.loop-left.invariant.same
-          (subst (λ names. EachIncluded (IncludedItems (AnswersAs g.I.Includes.honest (g.I.Includes.files c.loop-left.includes)) c.args.levels c.args.file.now c.in_ok-line.line.number) (words names) (Ok front)) (cc) c.in_ok-included-in-Include.ensures.items))
-          c.in_ok-append-in-Include.ensures.items;
+      gathered = subst (λ rule. Reaches included c.args.file.now all c.take_included.new.self.items.items rule more) (sym c.in_ok-take_included.ensures.unfinished)
+          (behind.1 front c.take_included.new.self.items.items
+          (subst (λ files. EachIncluded (IncludedItems (AnswersAs g.I.Includes.honest files) c.args.levels c.args.file.now c.in_ok-line.line.number) (words c.in-Some-2.names) (Ok front)) c.loop-left.invariant.same
+          (subst (λ names. EachIncluded (IncludedItems (AnswersAs g.I.Includes.honest (g.I.Includes.files c.loop-left.includes)) c.args.levels c.args.file.now c.in_ok-line.line.number) (words names) (Ok front)) (cc) c.in_ok-included.ensures.items))
+          c.in_ok-take_included.ensures.items);
       same = c.read_each.ensures.same ∙ c.loop-left.invariant.same;
-    }
-
-pub read_text-loop-left-preserved-in_ok-push-in-Definition : goal.read_text-loop-left-preserved-in_ok-push-in-Definition
-read_text-loop-left-preserved-in_ok-push-in-Definition g t c =
-    let included = IncludedItems (AnswersAs g.I.Includes.honest (g.I.Includes.files c.args.includes.now)) c.args.levels c.args.file.now in
-    let all = logical_lines 1 (Some c.args.text.now) in
-    let more = logical_lines c.in_ok-line.next_number (option_copied c.in_ok-line.after) in
-    let at : logical_lines c.loop-left.number (option_copied c.loop-left.left) ≡ c.in_ok-line.line ∷ more = ap (λ left. logical_lines c.loop-left.number (option_copied left)) c.in-Some.is ∙ c.in_ok-line.ensures.line in
-    let by = reaches_by included c.args.file.now all c.loop-left.items.items c.loop-left.unfinished (c.loop-left.unfinished) _ more c.in_ok-line.line (Ok (form.Definition c.in-Definition.definition)) c.loop-left.invariant.gathered at (c.in_ok-form_of.ensures ∙ ap Ok c.in-Definition.is) refl in
-    record {
-      gathered = definition_added included c.args.file.now all c.loop-left.items.items _ c.push.new.self.items c.loop-left.unfinished c.in_ok-line.line.number c.in-Definition.definition more by c.in_ok-finish-in-Definition.ensures.ok c.in_ok-push-in-Definition.ensures.items;
-      same = c.loop-left.invariant.same;
     }
 
 pub read_text-loop-left-preserved : goal.read_text-loop-left-preserved
@@ -145,13 +108,10 @@ read_text-loop-left-preserved g t c =
     let all = logical_lines 1 (Some c.args.text.now) in
     let more = logical_lines c.in_ok-line.next_number (option_copied c.in_ok-line.after) in
     let at : logical_lines c.loop-left.number (option_copied c.loop-left.left) ≡ c.in_ok-line.line ∷ more = ap (λ left. logical_lines c.loop-left.number (option_copied left)) c.in-Some.is ∙ c.in_ok-line.ensures.line in
-    let by = reaches_by included c.args.file.now all c.loop-left.items.items c.loop-left.unfinished (c.loop-left.unfinished) _ more c.in_ok-line.line (Ok (form.Rule c.in-Rule.rule)) c.loop-left.invariant.gathered at (c.in_ok-form_of.ensures ∙ ap Ok c.in-Rule.is) refl in
-    record {
-      gathered = rule_added included c.args.file.now all c.loop-left.items.items c.finish-in-Rule.new.items.items c.loop-left.unfinished c.in_ok-line.line.number c.in-Rule.rule more by c.in_ok-finish-in-Rule.ensures.ok;
-      same = c.loop-left.invariant.same;
-    }
+    let behind = line_taken-reaches_behind included c.args.file.now all c.loop-left.gathered.items.items _ c.loop-left.gathered.unfinished _ _ more c.in_ok-line.line _ None c.loop-left.invariant.gathered at c.in_ok-names.ensures c.in_default-2.is in
+    record { gathered = behind; same = c.loop-left.invariant.same }
 
 pub read_text-returns-clause-items : goal.read_text-returns-clause-items
 read_text-returns-clause-items g t c =
     lines_end (IncludedItems (AnswersAs g.I.Includes.honest (g.I.Includes.files c.args.includes.now)) c.args.levels c.args.file.now) c.args.file.now (logical_lines 1 (Some c.args.text.now))
-    c.loop-left.items.items _ c.loop-left.unfinished _ c.loop-left.invariant.gathered (no_lines_left c.loop-left.number c.loop-left.left c.in_default.is) c.in_ok-finish.ensures.ok
+    c.loop-left.gathered.items.items _ c.loop-left.gathered.unfinished _ c.loop-left.invariant.gathered (no_lines_left c.loop-left.number c.loop-left.left c.in_default.is) c.in_ok-into_items.ensures

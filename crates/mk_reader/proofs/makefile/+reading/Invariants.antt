@@ -29,7 +29,7 @@ decreases-read_each-loop-name g l = length (words l.rest)
 abbrev pub invariant-read_text-loop-left : goal.invariant-read_text-loop-left
 invariant-read_text-loop-left g l = record {
   gathered : Reaches (IncludedItems (AnswersAs g.I.Includes.honest (g.I.Includes.files l.initial.includes)) l.levels l.file) l.file
-      (logical_lines 1 (option_copied l.initial.left)) l.items.items l.unfinished (logical_lines l.number (option_copied l.left));
+      (logical_lines 1 (option_copied l.initial.left)) l.gathered.items.items l.gathered.unfinished (logical_lines l.number (option_copied l.left));
   same : g.I.Includes.files l.includes ≡ g.I.Includes.files l.initial.includes;
 }
 

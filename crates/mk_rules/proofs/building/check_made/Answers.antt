@@ -3,7 +3,7 @@ use Rattle.std.specs.Prelude.{◌||◌, is_some, slice_get}
 use Rattle.std.proofs.lemmas.Option.{slice_get_read}
 use Rattle.mk_graph.specs.Numbering.{name_at, has_name}
 use Rattle.mk_rules.specs.Prerequisites.{is_made}
-use Rattle.mk_rules.specs.Table.{is_named, named_at}
+use Rattle.mk_rule_lines.specs.Table.{is_named, named_at}
 use Rattle.mk_rules.specs.declared.known.Known.{Known}
 use Rattle.mk_rules.proofs.MadeLemmas.{made_is, all_names, made_more, has_at}
 use Rattle.mk_rules.proofs.building.check_made.Goals as goal

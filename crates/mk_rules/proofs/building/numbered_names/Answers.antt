@@ -5,9 +5,9 @@ use Rattle.mk_rules.specs.Prerequisites.{inputs_of, prerequisites_of}
 use Rattle.mk_rules.specs.declared.graph.TheConstants.{MAX_NODES}
 use Rattle.mk_rules.specs.Tree.{AskedOnce}
 use Rattle.mk_rules.proofs.AskedLemmas.{asked_each_once}
-use Rattle.mk_rules.proofs.FoundLemmas.{with_agrees, with_told, if_err}
+use Rattle.mk_rules.proofs.FoundLemmas.{with_agrees, with_told}
 use Rattle.mk_rules.proofs.RowLaws.{distinct_names}
-use Rattle.mk_rules.proofs.LookupLemmas.{if_ok}
+use Rattle.mk_rule_lines.proofs.ResultLemmas.{if_ok, if_err}
 use Rattle.mk_rules.proofs.building.numbered_names.Goals as goal
 
 pub returns-clause-found : goal.returns-clause-found

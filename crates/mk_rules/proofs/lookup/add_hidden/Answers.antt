@@ -1,10 +1,10 @@
 use Rattle.std.proofs.Common.{◌≡◌, true, ℕ, List, [], sym, subst}
 use Rattle.std.specs.FinMap as map
 use Rattle.mk_rules.specs.Prerequisites.{inputs_of, is_node}
-use Rattle.mk_rules.specs.Rules.{has}
+use Rattle.mk_rule_lines.specs.Rules.{has}
 use Rattle.mk_rules.specs.Hidden.{IsNamesFault}
 use Rattle.mk_rules.proofs.HiddenLemmas.{HiddenSoFar, hidden_step, hidden_start, hidden_end, names_fault, has_first, has_later}
-use Rattle.mk_rules.proofs.LineLemmas.{handed_on}
+use Rattle.mk_rule_lines.proofs.LineLemmas.{handed_on}
 use Rattle.mk_rules.specs.LooksLaws.{looks_none, looks_on}
 use Rattle.mk_rules.specs.Stamps.{is_known}
 use Rattle.mk_rules.proofs.AskedLemmas.{in_vain}

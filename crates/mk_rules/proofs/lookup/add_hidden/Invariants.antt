@@ -1,7 +1,7 @@
 use Rattle.std.proofs.Common.{◌≡◌, true, List, ℕ, ℤ, Option}
 use Rattle.std.specs.FinMap as map
 use Rattle.mk_rules.specs.Prerequisites.{inputs_of, is_node}
-use Rattle.mk_rules.specs.Rules.{has}
+use Rattle.mk_rule_lines.specs.Rules.{has}
 use Rattle.mk_rules.specs.Stamps.{AgreesWith, Asks, Looks}
 use Rattle.mk_rules.proofs.HiddenLemmas.{HiddenSoFar}
 use Rattle.mk_rules.proofs.lookup.add_hidden.Given as goal

@@ -1,7 +1,8 @@
 use Rattle.std.proofs.Common.{◌≡◌, false}
 use Rattle.std.specs.Prelude.{is_some}
 use Rattle.std.specs.FinMap as map
-use Rattle.mk_rules.proofs.LookupLemmas.{if_ok, implicit_is}
+use Rattle.mk_rules.proofs.LookupLemmas.{implicit_is}
+use Rattle.mk_rule_lines.proofs.ResultLemmas.{if_ok}
 use Rattle.mk_rules.proofs.lookup.implicit_source.Goals as goal
 
 pub returns-clause-source : goal.returns-clause-source

@@ -1,7 +1,8 @@
 use Rattle.std.proofs.Common.{◌≡◌, true, ◌∙◌}
 use Rattle.std.specs.FinMap as map
 use Rattle.std.specs.Str.{is_utf8}
-use Rattle.mk_rules.proofs.LookupLemmas.{if_ok, node_there}
+use Rattle.mk_rules.proofs.LookupLemmas.{node_there}
+use Rattle.mk_rule_lines.proofs.ResultLemmas.{if_ok}
 use Rattle.mk_rules.proofs.lookup.is_node.Goals as goal
 
 pub returns-clause-node : goal.returns-clause-node

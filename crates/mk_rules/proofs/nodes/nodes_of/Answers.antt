@@ -2,7 +2,7 @@ use Rattle.std.proofs.Common.{rules, arith, ◌≡◌, ◌+◌, ◌∷◌, [], l
 use Rattle.std.specs.Vec.Iter.{into_iter_items, into_iter_len}
 use Rattle.mk_graph.specs.Edges.{row}
 use Rattle.mk_rules.specs.Nodes.{IsMadeOf, AreMadeOf}
-use Rattle.mk_rules.proofs.LineLemmas.{one_fewer, nothing_left}
+use Rattle.mk_rule_lines.proofs.LineLemmas.{one_fewer, nothing_left}
 use Rattle.mk_rules.proofs.NodeLemmas.{made_more, none_made, read_first, rest_behind}
 use Rattle.mk_rules.proofs.nodes.nodes_of.Goals as goal
 

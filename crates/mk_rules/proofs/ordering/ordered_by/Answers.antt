@@ -6,8 +6,8 @@ use Rattle.mk_rules.proofs.OrderLemmas.{counted-length, counted-ascending}
 use Rattle.mk_rules.proofs.RowLaws.{cycle_below}
 use Rattle.mk_rules.proofs.ordering.ordered_by.Goals as goal
 
-pub of_nodes-requires : goal.of_nodes-requires
-of_nodes-requires c =
+pub cycle_names-requires : goal.cycle_names-requires
+cycle_names-requires c =
     let cycle : IsCycle c.args.hard c.in-Cycle.cycle.items = subst (IsCountedOrder c.args.hard c.in_ok-edges.field-0.edges) c.in-Cycle.is c.in_ok-edges.ensures.order in
     let below : list_all (λ m. nat_lt m (length c.args.hard)) c.in-Cycle.cycle.items ≡ true = cycle_below c.args.hard c.requires.hard_closed c.in-Cycle.cycle.items cycle in
     subst (λ (l : ℕ). list_all (λ m. nat_lt m l) c.deref.result.now ≡ true) c.requires.hard_count

@@ -5,7 +5,7 @@ use Rattle.mk_graph.specs.Edges.{row, has as has_number}
 use Rattle.mk_graph.specs.Numbering.{name_at}
 use Rattle.mk_rules.specs.Prerequisites.{hidden_nodes}
 use Rattle.mk_rules.specs.Rows.{EachRow, IsHiddenRow}
-use Rattle.mk_rules.specs.Rules.{has, suffixes_of}
+use Rattle.mk_rule_lines.specs.Rules.{has, suffixes_of}
 use Rattle.mk_rules.specs.Waits.{line_orders}
 use Rattle.mk_rules.proofs.RowLaws.{are_hidden}
 use Rattle.mk_rules.proofs.soft.soft_edges.Goals as goal

@@ -2,12 +2,13 @@ use Rattle.std.proofs.Common.{◌≡◌, ◌+◌, ◌++◌, ◌∷◌, List, [],
 use Rattle.std.proofs.lemmas.List.{take-append-drop}
 use Rattle.mk_rules.specs.Stamps.{is_known}
 use Rattle.mk_rules.proofs.AskedLemmas.{in_vain}
-use Rattle.mk_rules.specs.Source.{stem_of, source_at, source_of, IsSourceFault}
-use Rattle.mk_rules.specs.Table.{is_there}
-use Rattle.mk_rules.specs.declared.form.Form.{Form}
-use Rattle.mk_rules.specs.declared.form.Source.{Source}
+use Rattle.mk_rule_lines.specs.Source.{stem_of, source_at, source_of}
+use Rattle.mk_rules.specs.Source.{IsSourceFault}
+use Rattle.mk_rule_lines.specs.Table.{is_there}
+use Rattle.mk_rule_lines.specs.declared.form.Form.{Form}
+use Rattle.mk_rule_lines.specs.declared.form.Source.{Source}
 use Rattle.mk_rules.proofs.SourceLemmas.{from_form, taken, passed, unfit, source_of-behind, none_more, reached_fault}
-use Rattle.mk_rules.proofs.LineLemmas.{handed_on}
+use Rattle.mk_rule_lines.proofs.LineLemmas.{handed_on}
 use Rattle.mk_rules.proofs.source.source_of.Goals as goal
 
 pub returns-then-branch-clause-source : goal.returns-then-branch-clause-source

@@ -1,7 +1,7 @@
 use Rattle.std.proofs.Common.{◌≡◌, true, take, List, ℕ, ℤ, Option, None}
-use Rattle.mk_rules.specs.Source.{source_of}
+use Rattle.mk_rule_lines.specs.Source.{source_of}
 use Rattle.mk_rules.specs.Stamps.{AgreesWith, Asks}
-use Rattle.mk_rules.specs.Table.{is_there}
+use Rattle.mk_rule_lines.specs.Table.{is_there}
 use Rattle.mk_rules.proofs.source.source_of.Given as goal
 
 abbrev pub invariant-loop-form : goal.invariant-loop-form

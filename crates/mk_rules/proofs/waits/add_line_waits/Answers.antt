@@ -6,7 +6,7 @@ use Rattle.std.proofs.lemmas.Result.{on_ok_weaker}
 use Rattle.mk_graph.specs.Edges.{row, is_closed, has as has_number}
 use Rattle.mk_graph.specs.Numbering.{name_at, has_name}
 use Rattle.mk_graph.specs.Waits.{waits}
-use Rattle.mk_rules.specs.Rules.{targets_by}
+use Rattle.mk_rule_lines.specs.Rules.{targets_by}
 use Rattle.mk_rules.specs.Waits.{groups_of, orders, line_orders}
 use Rattle.mk_rules.proofs.WaitLemmas.{are_below, line_waits, one_group, closed_waits, both_ok, and_none, or_none}
 use Rattle.mk_rules.proofs.waits.add_line_waits.Goals as goal

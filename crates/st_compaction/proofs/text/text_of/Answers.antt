@@ -4,7 +4,7 @@ use Rattle.std.specs.List.{AllByRecursion}
 use Rattle.st_records.specs.declared.version.Version.TheVariants as versions
 use Rattle.st_records.specs.declared.record.Record.{Record}
 use Rattle.st_records.specs.Limits.{IsGood}
-use Rattle.st_records.proofs.KeptLemmas.{good_kept}
+use Rattle.st_state.proofs.KeptLemmas.{good_kept}
 use Rattle.st_file.specs.Batch.{body}
 use Rattle.st_compaction.specs.Named.{entry_behind}
 use Rattle.st_compaction.proofs.NamedLemmas.{state_of_names}

@@ -1,5 +1,5 @@
 use Rattle.std.proofs.Common.{rules, ◌<◌}
-use Rattle.st_records.proofs.StateLemmas.{on_err}
+use Rattle.st_state.proofs.StateLemmas.{on_err}
 use Rattle.st_file.specs.Batch.{IsFramed, ComesToTarget}
 use Rattle.st_file.proofs.FrameLemmas.{no_batch_by_count, no_batch_by_body}
 use Rattle.st_file.proofs.batch.read_batch.Goals as goal

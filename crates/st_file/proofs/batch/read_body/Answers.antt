@@ -1,5 +1,5 @@
 use Rattle.std.proofs.Common.{rules, arith}
-use Rattle.st_records.proofs.StateLemmas.{on_err}
+use Rattle.st_state.proofs.StateLemmas.{on_err}
 use Rattle.st_file.proofs.BatchLemmas.{HandsOn-more, no_body_by_none, no_body_by_kept, is_whole, target_of_front, comes_to_target}
 use Rattle.st_file.proofs.batch.read_body.Goals as goal
 

@@ -1,6 +1,6 @@
 use Rattle.std.proofs.Common.{◌≡◌, ◌∙◌, rules}
 use Rattle.st_disk.proofs.MomentLaws.{at_end}
-use Rattle.st_records.specs.State.{replay}
+use Rattle.st_state.specs.State.{replay}
 use Rattle.st_file.proofs.CommitLemmas.{ends_closed, grown}
 use Rattle.st_recovery.proofs.StoredLemmas.{commits, uncommitted, stored_after}
 use Rattle.st_recovery.proofs.store.commit_parts.Goals as goal

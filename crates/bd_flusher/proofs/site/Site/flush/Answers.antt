@@ -2,7 +2,7 @@ use Rattle.std.proofs.Common.{◌≡◌, ◌<◌, Err, false, [], ◌∷◌, ◌
 use Rattle.std.proofs.lemmas.Result.{err_from_is_err_and}
 use Rattle.st_disk.specs.Crash.{other}
 use Rattle.st_disk.specs.Moments.{now}
-use Rattle.st_records.specs.State.{StateMap, replay}
+use Rattle.st_state.specs.State.{StateMap, replay}
 use Rattle.st_recovery.specs.Stored.{AllRecover}
 use Rattle.st_recovery.proofs.StoredLemmas.{all_recover}
 use Rattle.bd_flusher.specs.Faults.{fault_of}

@@ -1,4 +1,4 @@
-use Rattle.std.proofs.Common.{◌≡◌, ℕ, ◌<◌, ◌≤◌, ◌++◌, [], length, get_or, map, take, replicate, sym, ap, ◌∙◌, subst, arith}
+use Rattle.std.proofs.Common.{◌≡◌, ℕ, ◌<◌, ◌≤◌, ◌++◌, [], length, get_or, map, replicate, sym, ap, ◌∙◌, subst, arith}
 use Rattle.std.proofs.lemmas.List.{length-map, length-replicate, take_all, get_or-map}
 use Rattle.mk_graph.specs.Edges.{row, times}
 use Rattle.mk_graph.proofs.RowLemmas.{counts_more, rises_in_row, rises_none, ascending_everywhere, row_replicate}

@@ -1,8 +1,8 @@
 use Rattle.std.proofs.Common.{ap, not, ℕ, List, ◌∙◌}
 use Rattle.mk_reader.specs.Text.{is_empty}
-use Rattle.mk_rules.specs.Explicit.{explicit_targets}
-use Rattle.mk_rules.specs.Rules.{has}
-use Rattle.mk_rules.specs.declared.rule_line.RuleLine.{RuleLine}
+use Rattle.mk_rule_lines.specs.Explicit.{explicit_targets}
+use Rattle.mk_rule_lines.specs.Rules.{has}
+use Rattle.mk_rule_lines.specs.declared.rule_line.RuleLine.{RuleLine}
 use Rattle.mk_rules.proofs.RuleLemmas.{any_place}
 use Rattle.mk_rules.proofs.rules.Rules.is_target.Goals as goal
 

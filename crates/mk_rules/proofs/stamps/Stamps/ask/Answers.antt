@@ -4,7 +4,7 @@ use Rattle.std.specs.Str.{bytes_eq}
 use Rattle.mk_macros.proofs.DefinitionLemmas.{is_named}
 use Rattle.std.specs.Prelude.{is_some}
 use Rattle.mk_rules.proofs.AskedLemmas.{asked_more, asked_in_vain, some_known, in_vain}
-use Rattle.mk_rules.proofs.NameLemmas.{lookup-inserted}
+use Rattle.mk_rule_lines.proofs.NameLemmas.{lookup-inserted}
 use Rattle.mk_rules.proofs.StampLemmas.{Fits, stamp_is, before, later}
 use Rattle.mk_rules.specs.Stamps.{known_stamp}
 use Rattle.mk_rules.proofs.stamps.Stamps.ask.Given.{Over}

@@ -1,0 +1,5 @@
+pub mod FirstLemmas
+pub mod LinkedLemmas
+pub mod ListLemmas
+pub mod RingLemmas
+pub mod SpelledLemmas

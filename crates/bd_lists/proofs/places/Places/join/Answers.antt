@@ -1,5 +1,0 @@
-use Rattle.bd_lists.proofs.PlaceLemmas.{join_kept}
-use Rattle.bd_lists.proofs.places.Places.join.Goals as goal
-
-pub invariant_of-self : goal.invariant_of-self
-invariant_of-self c = join_kept c.self.inside c.self.invariant c.join.new.self c.join.ensures

@@ -1,0 +1,4 @@
+pub mod Placed
+pub mod Places
+pub mod Settling
+pub mod Tally

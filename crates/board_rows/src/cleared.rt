@@ -1,0 +1,86 @@
+//! Clearances that are yet to be spent.
+ghost use Rattle.std.specs.Prelude.{◌≡◌};
+ghost use Rattle.st_records.specs.declared.record.Record.TheVariants as record_of;
+
+use crate::desk::Run;
+use crate::note::Note;
+use crate::script::Script;
+use bd_links::Node;
+use bd_lists::{Clearance, Ended, Recipe, Told};
+use byte_strings::ByteString;
+use mk_recipe::{Line, Outcome};
+use std::alloc::{AllocError, Global};
+use std::cell::Cell;
+
+/// The clearance of a node, which its 'begun' with this target has.
+pub(crate) struct Cleared {
+    pub(crate) node: Node,
+    pub(crate) clearance: Clearance<Note>,
+    pub(crate) target: ByteString,
+    pub(crate) ghost own: { clearance.told.noted ≡ record_of.Begun target },
+}
+
+impl Drop for Cleared {
+    fn drop(self) {
+        let _ticket = self.give_up();
+    }
+}
+
+impl Cleared {
+    /// Gives the clearance up. The number of the receipt's ticket.
+    pub(crate) fn give_up(self) -> usize {
+        let Cleared {
+            node: _,
+            clearance,
+            target: _,
+        } = self;
+        clearance.give_up().ticket().number()
+    }
+
+    /// Runs these lines, and writes what came of it.
+    pub(crate) fn run(
+        self,
+        alloc: Global,
+        lines: Vec<Line>,
+        ignore: bool,
+        out: &mut String,
+    ) -> Result<Run<Note>, AllocError> {
+        let mut ended = Vec::with_capacity(alloc, lines.len())?;
+        let Cleared {
+            node,
+            clearance,
+            target,
+        } = self;
+        let recipe = Recipe {
+            target,
+            lines,
+            env: Vec::new(alloc),
+            ignore,
+        };
+        let script = Script {
+            alloc,
+            asked: Cell::new(0),
+        };
+        let spent = clearance.run(alloc, recipe, &script, &mut ended);
+        let run = Run { node, spent };
+        write_run(run.spent.outcome(), &ended, script.asked.get(), out)?;
+        Ok(run)
+    }
+}
+
+/// What a recipe came to, the statuses that it told, and how often it asked.
+fn write_run(
+    outcome: Outcome,
+    ended: &[Ended],
+    asked: usize,
+    out: &mut String,
+) -> Result<(), AllocError> {
+    match outcome {
+        Outcome::Done => out.push_str("done:")?,
+        Outcome::Failed(status) => write!(out, "failed {status}:")?,
+    }
+    for ended in ended {
+        write!(out, " {}", ended.status)?;
+    }
+    write!(out, ", asked {asked}")
+}

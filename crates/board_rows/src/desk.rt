@@ -1,0 +1,204 @@
+//! A board with the runs that wait to be handed in.
+ghost use Rattle.st_records.specs.Limits.{IsGood};
+ghost use Rattle.st_records.specs.declared.version.Version.TheVariants.{Two};
+
+use crate::ends::{read_end, write_stand};
+use crate::nodes::Nodes;
+use crate::records::{write_record, write_records};
+use crate::submission::{Submission, read_submission};
+use crate::words::{Trouble, Words};
+use bd_ledger::Ticket;
+use bd_links::Node;
+use bd_lists::{Board, Spent, Told};
+use bd_places::End;
+use st_records::Record;
+use std::alloc::{AllocError, Global};
+
+/// The most nodes that are emptied at once.
+const MANY: usize = 10_000_000;
+
+/// A run of a node that is yet to be handed in.
+pub(crate) struct Run<T: Drop> {
+    pub(crate) node: Node,
+    pub(crate) spent: Spent<T>,
+}
+
+impl<T: Drop> Run<T> {
+    fn into_spent(self) -> Spent<T> {
+        let Run { node: _, spent } = self;
+        spent
+    }
+}
+
+impl<T: Drop> Drop for Run<T> {
+    fn drop(self) {
+        let Run { node: _, spent } = self;
+        let _told = spent.give_up();
+    }
+}
+
+#[derive(Drop)]
+pub(crate) struct Desk<'a, T: Told + Drop> {
+    pub(crate) board: Board<T>,
+    pub(crate) nodes: Nodes<'a>,
+    pub(crate) runs: Vec<Run<T>>,
+}
+
+impl<T: Told + Drop> Desk<'_, T> {
+    /// Answers a call that a board takes.
+    pub(crate) fn call(
+        &mut self,
+        alloc: Global,
+        name: &str,
+        words: &mut Words<'_>,
+        out: &mut String,
+    ) -> Result<(), Trouble> {
+        match name {
+            "claim" => Ok(self.claim(out)?),
+            "submit" => self.submit(alloc, words, out),
+            "drain" => Ok(self.drain(alloc, out)?),
+            "settle" => self.settle(words, out),
+            "abandon" => self.abandon(words, out),
+            "empty" => Ok(write!(out, "{}", self.empty())?),
+            "stand" => self.stand(words, out),
+            "stands" => Ok(self.stands(out)?),
+            _ => Err(Trouble::NotReadable),
+        }
+    }
+
+    fn claim(&mut self, out: &mut String) -> Result<(), AllocError> {
+        match self.board.claim() {
+            Some(node) => self.nodes.write(node, out),
+            None => out.push_str("none"),
+        }
+    }
+
+    /// The run of a node, which is handed in with its next record.
+    fn take_run(&mut self, node: Node) -> Option<Spent<T>> {
+        let place = self.runs.iter().position(|run| run.node == node)?;
+        Some(self.runs.swap_remove(place).into_spent())
+    }
+
+    /// `submit NODE [as TARGET] [by NODE] RECORD`: with the run of the node, or of another one.
+    fn submit(
+        &mut self,
+        alloc: Global,
+        words: &mut Words<'_>,
+        out: &mut String,
+    ) -> Result<(), Trouble> {
+        let Submission { node, by, note } = read_submission(alloc, &self.nodes, words)?;
+        Ok(self.hand_in(node, note, by, out)?)
+    }
+
+    /// Submits a record. What isn't taken is written, and its run waits again.
+    pub(crate) fn hand_in(
+        &mut self,
+        node: Node,
+        note: Record,
+        by: Node,
+        out: &mut String,
+    ) -> Result<(), AllocError>
+        requires { IsGood Two note }
+    {
+        let run = self.take_run(by);
+        match self.board.submit(node, note, run) {
+            Ok((ticket, told)) => write_ticket(ticket, told.as_ref(), out),
+            Err((note, run)) => {
+                self.keep_run(by, run)?;
+                out.push_str("refused ")?;
+                write_record(&note, out)
+            }
+        }
+    }
+
+    fn keep_run(&mut self, node: Node, run: Option<Spent<T>>) -> Result<(), AllocError> {
+        if let Some(spent) = run {
+            self.runs.push(Run { node, spent })?;
+        }
+        Ok(())
+    }
+
+    fn drain(&mut self, alloc: Global, out: &mut String) -> Result<(), AllocError> {
+        let mut records = Vec::with_capacity(alloc, self.board.unflushed())?;
+        self.board.drain(&mut records);
+        write_records(&records, out)
+    }
+
+    fn settle(&mut self, words: &mut Words<'_>, out: &mut String) -> Result<(), Trouble> {
+        let node = self.nodes.next(words)?;
+        let end = read_end(words)?;
+        let is_taken = self.board.settle(node, end);
+        Ok(out.push_str(taken(is_taken))?)
+    }
+
+    fn abandon(&mut self, words: &mut Words<'_>, out: &mut String) -> Result<(), Trouble> {
+        let node = self.nodes.next(words)?;
+        let is_taken = self.board.abandon(node);
+        Ok(out.push_str(taken(is_taken))?)
+    }
+
+    /// Claims and settles nodes until none is ready. How many there were.
+    fn empty(&mut self) -> usize {
+        for count in 0..MANY {
+            match self.board.claim() {
+                Some(node) => {
+                    if !self.board.settle(node, End::Remade) {
+                        return count;
+                    }
+                }
+                None => return count,
+            }
+        }
+        MANY
+    }
+
+    fn stand(&self, words: &mut Words<'_>, out: &mut String) -> Result<(), Trouble> {
+        let node = self.nodes.next(words)?;
+        Ok(write_stand(self.board.stand(node), self.board.end(node), out)?)
+    }
+
+    /// Where each labelled node stands and two past the last, how many wait to be drained, and whether some wait or are ready.
+    fn stands(&self, out: &mut String) -> Result<(), AllocError> {
+        let count = self.nodes.labels.len();
+        for number in 0..count.saturating_add(2) {
+            self.write_node(Node::new(number), number < count, out)?;
+        }
+        write!(out, "{} unflushed", self.board.unflushed())?;
+        out.push_str(if self.board.waits() { ", waits" } else { "" })
+    }
+
+    /// Where a node stands, unless it is nowhere and isn't expected to be anywhere.
+    fn write_node(
+        &self,
+        node: Node,
+        is_expected: bool,
+        out: &mut String,
+    ) -> Result<(), AllocError> {
+        let stand = self.board.stand(node);
+        let end = self.board.end(node);
+        if is_expected || stand.is_some() || end.is_some() {
+            self.nodes.write(node, out)?;
+            out.push_str(" ")?;
+            write_stand(stand, end, out)?;
+            out.push_str(", ")?;
+        }
+        Ok(())
+    }
+}
+
+fn taken(is_taken: bool) -> &'static str {
+    if is_taken { "taken" } else { "refused" }
+}
+
+/// The ticket of a submission, and that of the receipt that it hands out.
+fn write_ticket<T: Told>(
+    ticket: Ticket,
+    told: Option<&T>,
+    out: &mut String,
+) -> Result<(), AllocError> {
+    write!(out, "{}", ticket.number())?;
+    match told {
+        Some(told) => write!(out, ", hands out {}", told.ticket().number()),
+        None => Ok(()),
+    }
+}

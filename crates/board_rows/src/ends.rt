@@ -1,0 +1,48 @@
+//! Where nodes stand, and how they ended.
+use crate::words::{Trouble, Words};
+use bd_links::Stand;
+use bd_places::End;
+use std::alloc::AllocError;
+
+pub(crate) fn read_end(words: &mut Words<'_>) -> Result<End, Trouble> {
+    match words.next() {
+        "uptodate" => Ok(End::UpToDate),
+        "remade" => Ok(End::Remade),
+        "built" => Ok(End::Built),
+        "abandoned" => Ok(End::Abandoned),
+        "failed" => match words.next().parse::<u32>() {
+            Ok(status) => Ok(End::Failed(status)),
+            Err(_) => Err(Trouble::NotReadable),
+        },
+        _ => Err(Trouble::NotReadable),
+    }
+}
+
+fn list(stand: Option<Stand>) -> &'static str {
+    match stand {
+        Some(Stand::Waiting) => "waiting",
+        Some(Stand::Ready) => "ready",
+        Some(Stand::Running) => "running",
+        Some(Stand::Unflushed) => "unflushed",
+        Some(Stand::Flushing) => "flushing",
+        Some(Stand::Settled) => "settled",
+        None => "nowhere",
+    }
+}
+
+/// A list, and the end of a node that has one.
+pub(crate) fn write_stand(
+    stand: Option<Stand>,
+    end: Option<End>,
+    out: &mut String,
+) -> Result<(), AllocError> {
+    out.push_str(list(stand))?;
+    match end {
+        Some(End::UpToDate) => out.push_str(" uptodate"),
+        Some(End::Remade) => out.push_str(" remade"),
+        Some(End::Built) => out.push_str(" built"),
+        Some(End::Failed(status)) => write!(out, " failed {status}"),
+        Some(End::Abandoned) => out.push_str(" abandoned"),
+        None => Ok(()),
+    }
+}

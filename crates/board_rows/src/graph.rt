@@ -1,0 +1,123 @@
+//! The graph of a row, and its board.
+use crate::nodes::Nodes;
+use crate::sets::are_sets;
+use crate::words::Trouble;
+use bd_links::Node;
+use bd_lists::{Board, Told};
+use byte_strings::ByteString;
+use mk_graph::{Edges, count_edges};
+use std::alloc::{AllocError, Global};
+
+/// Hard and soft prerequisites of each node.
+#[derive(Drop)]
+pub(crate) struct Graph {
+    hard: Vec<Vec<usize>>,
+    soft: Vec<Vec<usize>>,
+}
+
+/// The numbers of the named nodes.
+fn row(alloc: Global, nodes: &Nodes<'_>, names: &str) -> Result<Vec<usize>, Trouble> {
+    let mut row = Vec::new(alloc);
+    for word in names.split(' ') {
+        if !word.is_empty() {
+            row.push(nodes.find(word)?.number())?;
+        }
+    }
+    Ok(row)
+}
+
+impl Graph {
+    pub(crate) fn new(alloc: Global) -> Graph {
+        Graph {
+            hard: Vec::new(alloc),
+            soft: Vec::new(alloc),
+        }
+    }
+
+    fn push(&mut self, alloc: Global, hard: Vec<usize>) -> Result<(), AllocError> {
+        self.hard.push(hard)?;
+        self.soft.push(Vec::new(alloc))?;
+        Ok(())
+    }
+
+    /// Adds a node of a line `NAME: HARD .. | SOFT ..`, once all nodes have their labels.
+    pub(crate) fn add(
+        &mut self,
+        alloc: Global,
+        nodes: &Nodes<'_>,
+        line: &str,
+    ) -> Result<(), Trouble> {
+        let (_name, edges) = line.split_once(':').ok_or(Trouble::NotReadable)?;
+        let (hard, soft) = edges.split_once('|').unwrap_or((edges, ""));
+        self.hard.push(row(alloc, nodes, hard)?)?;
+        self.soft.push(row(alloc, nodes, soft)?)?;
+        Ok(())
+    }
+
+    /// A chain of so many nodes: each waits for the next one.
+    pub(crate) fn add_chain(&mut self, alloc: Global, nodes: usize) -> Result<(), AllocError> {
+        for node in 0..nodes {
+            let mut row = Vec::new(alloc);
+            if node + 1 < nodes {
+                row.push(node + 1)?;
+            }
+            self.push(alloc, row)?;
+        }
+        Ok(())
+    }
+
+    /// So many nodes that wait for each of as many others.
+    pub(crate) fn add_layers(&mut self, alloc: Global, nodes: usize) -> Result<(), AllocError> {
+        let twice = nodes.saturating_add(nodes);
+        for node in 0..twice {
+            let below = if node < nodes { nodes } else { twice };
+            let row = (below..twice).collect::<Vec<usize>>(alloc)?;
+            self.push(alloc, row)?;
+        }
+        Ok(())
+    }
+
+    /// The nodes' targets.
+    fn targets(&self, alloc: Global, nodes: &Nodes<'_>) -> Result<Vec<ByteString>, AllocError> {
+        let mut targets = Vec::with_capacity(alloc, self.hard.len())?;
+        for node in 0..self.hard.len() {
+            targets.push(nodes.target(alloc, Node::new(node))?)?;
+        }
+        Ok(targets)
+    }
+
+    /// The board of the graph, whose soft edges count unless they make a cycle.
+    pub(crate) fn board<T: Told>(
+        self,
+        alloc: Global,
+        nodes: &Nodes<'_>,
+    ) -> Result<Board<T>, Trouble> {
+        let targets = self.targets(alloc, nodes)?;
+        let Graph { hard, soft } = self;
+        board(alloc, Edges::new(hard), Edges::new(soft), targets)
+    }
+}
+
+/// The edges that order nodes, where these are graphs of the same nodes.
+fn counted(alloc: Global, hard: &Edges, soft: &Edges) -> Result<Edges, Trouble> {
+    if soft.len() != hard.len() || !hard.is_closed() || !soft.is_closed() {
+        return Err(Trouble::NotReadable);
+    }
+    Ok(count_edges(alloc, hard, soft)?.edges)
+}
+
+fn board<T: Told>(
+    alloc: Global,
+    hard: Edges,
+    soft: Edges,
+    targets: Vec<ByteString>,
+) -> Result<Board<T>, Trouble> {
+    let counted = counted(alloc, &hard, &soft)?;
+    if counted.len() != hard.len() || targets.len() != hard.len() || hard.len() > 1_000_000 {
+        return Err(Trouble::NotReadable);
+    }
+    if !are_sets(&counted) {
+        return Err(Trouble::NotReadable);
+    }
+    Ok(Board::of(alloc, counted, hard, targets)?)
+}

@@ -1,0 +1,129 @@
+//! A board alone, whose receipts a row makes up.
+ghost use Rattle.std.specs.Prelude.{◌≡◌, IfSome};
+
+use crate::cleared::Cleared;
+use crate::desk::Desk;
+use crate::note::Note;
+use crate::records::read_good;
+use crate::row::World;
+use crate::script::lines;
+use crate::words::{Trouble, Words};
+use bd_ledger::Ticket;
+use bd_links::Node;
+use bd_lists::{Advanced, Clearance};
+use byte_strings::ByteString;
+use st_records::Record;
+use std::alloc::{AllocError, Global};
+
+#[derive(Drop)]
+pub(crate) struct Lists<'a> {
+    pub(crate) desk: Desk<'a, Note>,
+    pub(crate) clearances: Vec<Cleared>,
+}
+
+impl World for Lists<'_> {
+    fn call(
+        &mut self,
+        alloc: Global,
+        words: &mut Words<'_>,
+        out: &mut String,
+    ) -> Result<(), Trouble> {
+        match words.next() {
+            "advance" => self.advance(alloc, words, out),
+            "run" => self.run(alloc, words, out),
+            "give_up" => self.give_up(words, out),
+            name => self.desk.call(alloc, name, words, out),
+        }
+    }
+}
+
+impl Lists<'_> {
+    /// `advance NODE TICKET [as TARGET] RECORD`: with the receipt of that record at that ticket.
+    fn advance(
+        &mut self,
+        alloc: Global,
+        words: &mut Words<'_>,
+        out: &mut String,
+    ) -> Result<(), Trouble> {
+        let node = self.desk.nodes.next(words)?;
+        let ticket = Ticket::new(words.number()?);
+        let named = self.desk.nodes.other(words, "as ", node)?;
+        let target = self.desk.nodes.target(alloc, named)?;
+        let answer = if words.rest == "begun" {
+            self.clear(alloc, node, ticket, target)?
+        } else {
+            let noted = read_good(alloc, target, words)?;
+            self.finish(node, Note { ticket, noted })
+        };
+        Ok(out.push_str(answer)?)
+    }
+
+    /// Advances a node with the receipt of a 'begun'.
+    fn clear(
+        &mut self,
+        alloc: Global,
+        node: Node,
+        ticket: Ticket,
+        target: ByteString,
+    ) -> Result<&'static str, AllocError> {
+        let noted = Record::Begun {
+            target: target.copy(alloc)?,
+        };
+        let (clearance, answer) = self.tell(node, Note { ticket, noted });
+        if let Some(clearance) = clearance {
+            self.clearances.push(Cleared {
+                node,
+                clearance,
+                target,
+            })?;
+        }
+        Ok(answer)
+    }
+
+    /// Advances a node with a receipt. The clearance that came, and what the row is answered.
+    fn tell(&mut self, node: Node, told: Note) -> (Option<Clearance<Note>>, &'static str)
+        ensures { IfSome result.0 (λ c. c.told ≡ told) }
+    {
+        match self.desk.board.advance(node, told) {
+            Ok(Advanced::Cleared(clearance)) => (Some(clearance), "cleared"),
+            Ok(Advanced::Settled(_told)) => (None, "settled"),
+            Err(_told) => (None, "refused"),
+        }
+    }
+
+    /// Advances a node with the receipt of another record.
+    fn finish(&mut self, node: Node, told: Note) -> &'static str {
+        let (clearance, answer) = self.tell(node, told);
+        if let Some(clearance) = clearance {
+            let _told = clearance.give_up();
+        }
+        answer
+    }
+
+    fn take(&mut self, node: Node) -> Result<Cleared, Trouble> {
+        match self.clearances.iter().position(|held| held.node == node) {
+            Some(place) => Ok(self.clearances.swap_remove(place)),
+            None => Err(Trouble::NotReadable),
+        }
+    }
+
+    /// `run NODE [ignore] $ LINE $ ..`: with the clearance of the node. The run waits to be handed in.
+    fn run(
+        &mut self,
+        alloc: Global,
+        words: &mut Words<'_>,
+        out: &mut String,
+    ) -> Result<(), Trouble> {
+        let node = self.desk.nodes.next(words)?;
+        let ignore = words.skip("ignore ");
+        let lines = lines(alloc, words.rest)?;
+        let run = self.take(node)?.run(alloc, lines, ignore, out)?;
+        self.desk.runs.push(run)?;
+        Ok(())
+    }
+
+    fn give_up(&mut self, words: &mut Words<'_>, out: &mut String) -> Result<(), Trouble> {
+        let node = self.desk.nodes.next(words)?;
+        Ok(write!(out, "{}", self.take(node)?.give_up())?)
+    }
+}

@@ -1,0 +1,61 @@
+//! The nodes of a row and their names.
+use crate::words::{Trouble, Words, number};
+use bd_links::Node;
+use byte_strings::ByteString;
+use std::alloc::{AllocError, Global};
+
+/// The nodes' labels in number order. A node's target is its label so many times, or `none` where it has no label.
+#[derive(Drop)]
+pub(crate) struct Nodes<'a> {
+    pub(crate) labels: Vec<&'a str>,
+    pub(crate) times: usize,
+}
+
+impl Nodes<'_> {
+    /// The node of a word: a label, or `#` and a number.
+    pub(crate) fn find(&self, word: &str) -> Result<Node, Trouble> {
+        if let Some(digits) = word.strip_prefix("#") {
+            return Ok(Node::new(number(digits)?));
+        }
+        match self.labels.iter().position(|label| *label == word) {
+            Some(place) => Ok(Node::new(place)),
+            None => Err(Trouble::NotReadable),
+        }
+    }
+
+    pub(crate) fn next(&self, words: &mut Words<'_>) -> Result<Node, Trouble> {
+        self.find(words.next())
+    }
+
+    /// The node behind a word such as `as `, or else this one.
+    pub(crate) fn other(
+        &self,
+        words: &mut Words<'_>,
+        word: &str,
+        node: Node,
+    ) -> Result<Node, Trouble> {
+        if words.skip(word) {
+            return self.next(words);
+        }
+        Ok(node)
+    }
+
+    pub(crate) fn target(&self, alloc: Global, node: Node) -> Result<ByteString, AllocError> {
+        let label = match self.labels.get(node.number()) {
+            Some(label) => *label,
+            None => return ByteString::from_slice(alloc, b"none"),
+        };
+        let mut bytes = Vec::new(alloc);
+        for _time in 0..self.times {
+            bytes.extend_from_slice(label.as_bytes())?;
+        }
+        Ok(ByteString::new(bytes))
+    }
+
+    pub(crate) fn write(&self, node: Node, out: &mut String) -> Result<(), AllocError> {
+        match self.labels.get(node.number()) {
+            Some(label) => out.push_str(label),
+            None => write!(out, "#{}", node.number()),
+        }
+    }
+}

@@ -1,0 +1,24 @@
+//! Receipts that tell what they were made with.
+use bd_ledger::Ticket;
+use bd_lists::Told;
+use st_records::Record;
+
+#[derive(Debug, Drop)]
+pub(crate) struct Note {
+    pub(crate) ticket: Ticket,
+    pub(crate) noted: Record,
+}
+
+impl Told for Note {
+    ghost ticket_of = { λ n. n.ticket };
+
+    ghost noted_of = { λ n. n.noted };
+
+    fn ticket(&self) -> Ticket {
+        self.ticket
+    }
+
+    fn noted(&self) -> &Record {
+        &self.noted
+    }
+}

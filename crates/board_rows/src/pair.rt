@@ -1,0 +1,175 @@
+//! A board with the site that is told its records.
+use crate::desk::Desk;
+use crate::records::read_good;
+use crate::row::World;
+use crate::store::{Tried, known_after_cuts, recovered, site, write_recovered, write_state};
+use crate::words::{Trouble, Words};
+use bd_flusher::{FlushFault, Receipt, Site};
+use bd_ledger::Ticket;
+use st_disk::Which;
+use st_memory::MemDisk;
+use st_records::Record;
+use std::alloc::{AllocError, Global};
+
+#[derive(Drop)]
+pub(crate) struct Pair<'a> {
+    pub(crate) desk: Desk<'a, Receipt>,
+    pub(crate) site: Site<Tried>,
+    /// After how many calls the disk stops.
+    pub(crate) stop: u64,
+}
+
+impl World for Pair<'_> {
+    fn call(
+        &mut self,
+        alloc: Global,
+        words: &mut Words<'_>,
+        out: &mut String,
+    ) -> Result<(), Trouble> {
+        match words.next() {
+            "begin" => self.begin(alloc, words, out),
+            "look" => self.look(alloc, words, out),
+            "take_in" => Ok(self.take_in(alloc, out)?),
+            "elsewhere" => self.take_elsewhere(alloc, out),
+            "flush" => Ok(self.flush(alloc, out)?),
+            "tidy" => Ok(self.tidy(alloc, out)?),
+            "told" => Ok(write!(out, "{}", self.site.told().len())?),
+            name => self.ask(alloc, name, words, out),
+        }
+    }
+}
+
+impl Pair<'_> {
+    /// Answers a call that only reads, or one of the board.
+    fn ask(
+        &mut self,
+        alloc: Global,
+        name: &str,
+        words: &mut Words<'_>,
+        out: &mut String,
+    ) -> Result<(), Trouble> {
+        match name {
+            "side" => self.side(words, out),
+            "open" => Ok(self.open_side(out)?),
+            "known" => Ok(write!(out, "{}", self.site.store().state().len())?),
+            "state" => Ok(write_state(alloc, self.site.store().state(), out)?),
+            "calls" => Ok(self.calls(out)?),
+            "cut" => self.cut(alloc, out),
+            "recovered" => Ok(write!(out, "{}", recovered(alloc, self.memory())?)?),
+            "recover" => write_recovered(alloc, self.memory(), out),
+            _ => self.desk.call(alloc, name, words, out),
+        }
+    }
+
+    fn memory(&self) -> &MemDisk {
+        &self.site.store().log.disk.inner.inner
+    }
+
+    /// `begin N`: claims the next N nodes and submits their 'begun's.
+    fn begin(
+        &mut self,
+        alloc: Global,
+        words: &mut Words<'_>,
+        out: &mut String,
+    ) -> Result<(), Trouble> {
+        for count in 0..words.number()? {
+            if count > 0 {
+                out.push_str(" ")?;
+            }
+            self.begin_next(alloc, out)?;
+        }
+        Ok(())
+    }
+
+    fn begin_next(&mut self, alloc: Global, out: &mut String) -> Result<(), Trouble> {
+        let Some(node) = self.desk.board.claim() else {
+            return Ok(out.push_str("none")?);
+        };
+        let target = self.desk.nodes.target(alloc, node)?;
+        let note = read_good(alloc, target, &mut Words { rest: "begun" })?;
+        Ok(self.desk.hand_in(node, note, node, out)?)
+    }
+
+    /// `look NODE TICKET RECORD`: the batch of the record, where it was told at the ticket.
+    fn look(
+        &mut self,
+        alloc: Global,
+        words: &mut Words<'_>,
+        out: &mut String,
+    ) -> Result<(), Trouble> {
+        let node = self.desk.nodes.next(words)?;
+        let ticket = Ticket::new(words.number()?);
+        let target = self.desk.nodes.target(alloc, node)?;
+        let note = read_good(alloc, target, words)?;
+        match self.batch(ticket, note) {
+            Some(batch) => Ok(write!(out, "batch {batch}")?),
+            None => Ok(out.push_str("none")?),
+        }
+    }
+
+    fn batch(&self, ticket: Ticket, note: Record) -> Option<usize> {
+        match self.site.look(ticket, note) {
+            Ok(receipt) => Some(receipt.batch()),
+            Err(_) => None,
+        }
+    }
+
+    fn take_in(&mut self, alloc: Global, out: &mut String) -> Result<(), AllocError> {
+        let answer = self.site.take_in(alloc, &mut self.desk.board);
+        write_answer(answer, out)
+    }
+
+    /// Another site takes in what waits.
+    fn take_elsewhere(&mut self, alloc: Global, out: &mut String) -> Result<(), Trouble> {
+        let mut elsewhere = site(alloc, MemDisk::new(alloc))?;
+        let answer = elsewhere.take_in(alloc, &mut self.desk.board);
+        Ok(write_answer(answer, out)?)
+    }
+
+    fn flush(&mut self, alloc: Global, out: &mut String) -> Result<(), AllocError> {
+        write_answer(self.site.flush(alloc), out)
+    }
+
+    fn tidy(&mut self, alloc: Global, out: &mut String) -> Result<(), AllocError> {
+        write_answer(self.site.tidy(alloc), out)
+    }
+
+    /// The bytes of a side.
+    fn side(&self, words: &mut Words<'_>, out: &mut String) -> Result<(), Trouble> {
+        let side = match words.next() {
+            "a" => Which::A,
+            "b" => Which::B,
+            _ => return Err(Trouble::NotReadable),
+        };
+        for byte in self.memory().bytes(side) {
+            write!(out, "{byte:02x}")?;
+        }
+        Ok(())
+    }
+
+    /// The open side, its version and its generation.
+    fn open_side(&self, out: &mut String) -> Result<(), AllocError> {
+        let log = &self.site.store().log;
+        write!(out, "{:?} {:?} {}", log.side, log.version, log.generation)
+    }
+
+    /// How many calls of the disk there were up to its stop, and how many were refused.
+    fn calls(&self, out: &mut String) -> Result<(), AllocError> {
+        let disk = &self.site.store().log.disk;
+        let refused = disk.refused.saturating_add(disk.inner.refused);
+        let made = self.stop.saturating_sub(disk.plan.calls_left);
+        write!(out, "{made}, {refused} refused")
+    }
+
+    fn cut(&self, alloc: Global, out: &mut String) -> Result<(), Trouble> {
+        let (least, most) = known_after_cuts(alloc, self.memory())?;
+        Ok(write!(out, "{least} to {most}")?)
+    }
+}
+
+fn write_answer(answer: Result<(), FlushFault>, out: &mut String) -> Result<(), AllocError> {
+    match answer {
+        Ok(()) => out.push_str("ok"),
+        Err(fault) => write!(out, "{fault:?}"),
+    }
+}

@@ -1,0 +1,122 @@
+//! What a row begins with.
+use crate::desk::Desk;
+use crate::graph::Graph;
+use crate::lists::Lists;
+use crate::nodes::Nodes;
+use crate::pair::Pair;
+use crate::store::site;
+use crate::words::{Trouble, Words, hex};
+use bd_lists::Told;
+use st_doubles::{FailOnce, Fuse};
+use st_memory::MemDisk;
+use std::alloc::Global;
+
+/// More calls of a disk than any row makes.
+const MANY: u64 = 1_000_000;
+
+/// The lines of a row before its first call.
+#[derive(Drop)]
+pub(crate) struct Setup<'a> {
+    /// The lines of nodes, behind their first word.
+    nodes: Vec<&'a str>,
+    chain: usize,
+    layers: usize,
+    times: usize,
+    pub(crate) has_site: bool,
+    a: Vec<u8>,
+    b: Vec<u8>,
+    stop: u64,
+    fail: u64,
+}
+
+impl<'a> Setup<'a> {
+    pub(crate) fn new(alloc: Global) -> Setup<'a> {
+        Setup {
+            nodes: Vec::new(alloc),
+            chain: 0,
+            layers: 0,
+            times: 1,
+            has_site: false,
+            a: Vec::new(alloc),
+            b: Vec::new(alloc),
+            stop: MANY,
+            fail: MANY,
+        }
+    }
+
+    /// Takes a line, if it is none of a call.
+    pub(crate) fn takes(&mut self, line: &'a str) -> Result<bool, Trouble> {
+        let mut words = Words { rest: line };
+        match words.next() {
+            "node" => self.nodes.push(words.rest)?,
+            "chain" => self.chain = words.number()?,
+            "layers" => self.layers = words.number()?,
+            "long" => self.times = words.number()?,
+            "site" => self.has_site = true,
+            "disk" => self.take_side(&mut words)?,
+            "stop" => self.stop = words.number()? as u64,
+            "fail" => self.fail = words.number()? as u64,
+            _ => return Ok(false),
+        }
+        Ok(true)
+    }
+
+    fn take_side(&mut self, words: &mut Words<'_>) -> Result<(), Trouble> {
+        match words.next() {
+            "a" => hex(&mut self.a, words.rest),
+            "b" => hex(&mut self.b, words.rest),
+            _ => Err(Trouble::NotReadable),
+        }
+    }
+
+    fn labels(&self, alloc: Global) -> Result<Vec<&'a str>, Trouble> {
+        let mut labels = Vec::new(alloc);
+        for line in &self.nodes {
+            let (label, _edges) = line.split_once(':').ok_or(Trouble::NotReadable)?;
+            labels.push(label)?;
+        }
+        Ok(labels)
+    }
+
+    fn graph(&self, alloc: Global, nodes: &Nodes<'a>) -> Result<Graph, Trouble> {
+        let mut graph = Graph::new(alloc);
+        for line in &self.nodes {
+            graph.add(alloc, nodes, line)?;
+        }
+        graph.add_chain(alloc, self.chain)?;
+        graph.add_layers(alloc, self.layers)?;
+        Ok(graph)
+    }
+
+    fn desk<T: Told + Drop>(&self, alloc: Global) -> Result<Desk<'a, T>, Trouble> {
+        let nodes = Nodes {
+            labels: self.labels(alloc)?,
+            times: self.times,
+        };
+        let board = self.graph(alloc, &nodes)?.board(alloc, &nodes)?;
+        Ok(Desk {
+            board,
+            nodes,
+            runs: Vec::new(alloc),
+        })
+    }
+
+    /// The board alone.
+    pub(crate) fn lists(&self, alloc: Global) -> Result<Lists<'a>, Trouble> {
+        Ok(Lists {
+            desk: self.desk(alloc)?,
+            clearances: Vec::new(alloc),
+        })
+    }
+
+    /// The board with a site over a disk.
+    pub(crate) fn pair(&self, alloc: Global) -> Result<Pair<'a>, Trouble> {
+        let memory = MemDisk::holding(alloc, &self.a, &self.b)?;
+        let disk = Fuse::new(FailOnce::new(memory, self.fail), self.stop);
+        Ok(Pair {
+            desk: self.desk(alloc)?,
+            site: site(alloc, disk)?,
+            stop: self.stop,
+        })
+    }
+}

@@ -1,0 +1,115 @@
+//! Stores over memory, and what a power cut leaves of them.
+use crate::words::Trouble;
+use bd_flusher::Site;
+use byte_strings::ByteString;
+use st_disk::{Disk, Which};
+use st_doubles::{FailOnce, Fuse};
+use st_memory::MemDisk;
+use st_records::{HashKey, Phase};
+use st_recovery::{Store, open};
+use st_state::State;
+use std::alloc::{AllocError, Global};
+
+/// A disk over memory that may stop, or fail one call.
+pub(crate) type Tried = Fuse<FailOnce<MemDisk>>;
+
+// What the places that a power cut leaves open are filled with.
+const FILLS: [&[u8]; 3] = [b"\x00", b"\x01", b"\xff"];
+
+pub(crate) fn opened<D: Disk + Drop>(alloc: Global, disk: D) -> Result<Store<D>, Trouble> {
+    match open(alloc, HashKey::fixed(), disk) {
+        Ok(store) => Ok(store),
+        Err((_fault, _disk)) => Err(Trouble::NotOpened),
+    }
+}
+
+/// A site over a disk that opens.
+pub(crate) fn site<D: Disk + Drop>(alloc: Global, disk: D) -> Result<Site<D>, Trouble> {
+    let store = opened(alloc, disk)?;
+    if store.is_dead() {
+        return Err(Trouble::NotOpened);
+    }
+    match Site::new(alloc, store) {
+        Ok(site) => Ok(site),
+        Err((_fault, _store)) => Err(Trouble::OutOfMemory),
+    }
+}
+
+/// How many targets a disk recovers.
+fn known(alloc: Global, disk: MemDisk) -> Result<usize, Trouble> {
+    Ok(opened(alloc, disk)?.state().len())
+}
+
+/// What a power cut now leaves: each side as short, or as long, as may be.
+fn cut(alloc: Global, disk: &MemDisk, longest: bool, fill: &[u8]) -> Result<MemDisk, Trouble> {
+    let (least_a, greatest_a) = disk.extreme_lengths(Which::A);
+    let (least_b, greatest_b) = disk.extreme_lengths(Which::B);
+    if least_a > greatest_a || least_b > greatest_b {
+        return Err(Trouble::NotReadable);
+    }
+    if longest {
+        return Ok(disk.power_cut(alloc, greatest_a, greatest_b, fill)?);
+    }
+    Ok(disk.power_cut(alloc, least_a, least_b, fill)?)
+}
+
+/// The least and the greatest number of targets that a power cut now leaves known.
+pub(crate) fn known_after_cuts(alloc: Global, disk: &MemDisk) -> Result<(usize, usize), Trouble> {
+    let mut least = usize::MAX;
+    let mut most = 0;
+    for fill in FILLS {
+        for longest in [false, true] {
+            let count = known(alloc, cut(alloc, disk, longest, fill)?)?;
+            least = least.min(count);
+            most = most.max(count);
+        }
+    }
+    Ok((least, most))
+}
+
+/// The targets that a state knows in byte order, each with its phase.
+pub(crate) fn write_state(
+    alloc: Global,
+    state: &State,
+    out: &mut String,
+) -> Result<(), AllocError> {
+    let entries = state.in_byte_order(alloc)?;
+    for place in 0..entries.len() {
+        if place > 0 {
+            out.push_str(", ")?;
+        }
+        let (name, entry) = entries[place];
+        write_entry(alloc, name, entry.phase, out)?;
+    }
+    Ok(())
+}
+
+fn write_entry(
+    alloc: Global,
+    name: &[u8],
+    phase: Phase,
+    out: &mut String,
+) -> Result<(), AllocError> {
+    let name = ByteString::from_slice(alloc, name)?;
+    write!(out, "{name} {phase:?}")
+}
+
+/// What the bytes recover that are on the disk.
+pub(crate) fn write_recovered(
+    alloc: Global,
+    disk: &MemDisk,
+    out: &mut String,
+) -> Result<(), Trouble> {
+    let again = opened(alloc, settled(alloc, disk)?)?;
+    Ok(write_state(alloc, again.state(), out)?)
+}
+
+/// How many targets the bytes recover that are on the disk.
+pub(crate) fn recovered(alloc: Global, disk: &MemDisk) -> Result<usize, Trouble> {
+    known(alloc, settled(alloc, disk)?)
+}
+
+/// A disk of the same bytes.
+fn settled(alloc: Global, disk: &MemDisk) -> Result<MemDisk, AllocError> {
+    MemDisk::holding(alloc, disk.bytes(Which::A), disk.bytes(Which::B))
+}

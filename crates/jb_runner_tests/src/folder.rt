@@ -1,0 +1,70 @@
+//! A folder in memory, whose times and texts are told as they stand.
+ghost use Rattle.std.specs.Prelude.{◌≡◌, find, bytes_eq, option_map, option_copied};
+
+use mk_reader::Includes;
+use mk_rules::{Tree, TreeFault};
+use std::alloc::{AllocError, Global};
+
+/// A file's name, its time and its text.
+pub type File = (&'static str, i128, &'static str);
+
+/// Files, and how often a text was asked for.
+#[derive(Drop)]
+pub struct Folder {
+    pub files: &'static [File],
+    pub reads: usize,
+}
+
+impl Folder {
+    pub fn new(files: &'static [File]) -> Folder {
+        Folder { files, reads: 0 }
+    }
+}
+
+/// The first file of this name.
+fn find_file(files: &'static [File], name: &[u8]) -> Option<File>
+    ensures { result ≡ find (λ file. bytes_eq file.0.now name.now) files.now }
+{
+    files.iter().copied().find(|file| file.0.as_bytes() == name)
+}
+
+fn text_of(files: &'static [File], name: &[u8]) -> Option<&'static [u8]>
+    ensures { option_copied result
+        ≡ option_map (λ file. file.2.now) (find (λ file. bytes_eq file.0.now name.now) files.now) }
+{
+    match find_file(files, name) {
+        Some(file) => Some(file.2.as_bytes()),
+        None => None,
+    }
+}
+
+impl Tree for Folder {
+    ghost honest = { Unit {0} };
+
+    ghost stamps = { λ folder name.
+        option_map (λ file. file.1) (find (λ file. bytes_eq file.0.now name) folder.files.now) };
+
+    ghost refuses = { λ _ _. ⊥ };
+
+    fn stamp(&mut self, _alloc: Global, name: &[u8]) -> Result<Option<i128>, TreeFault> {
+        match find_file(self.files, name) {
+            Some(file) => Ok(Some(file.1)),
+            None => Ok(None),
+        }
+    }
+}
+
+impl Includes for Folder {
+    ghost honest = { Unit {0} };
+
+    ghost files = { λ folder name.
+        option_map (λ file. file.2.now) (find (λ file. bytes_eq file.0.now name) folder.files.now) };
+
+    fn read(&mut self, alloc: Global, name: &[u8]) -> Result<Option<Vec<u8>>, AllocError> {
+        self.reads = self.reads.saturating_add(1);
+        match text_of(self.files, name) {
+            Some(text) => Ok(Some(Vec::from_slice(alloc, text)?)),
+            None => Ok(None),
+        }
+    }
+}

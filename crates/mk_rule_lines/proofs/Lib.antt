@@ -1,0 +1,9 @@
+pub mod ExplicitLemmas
+pub mod FormLemmas
+pub mod GoalLemmas
+pub mod LineLemmas
+pub mod NameLemmas
+pub mod PlaceLemmas
+pub mod ResultLemmas
+pub mod TableLemmas
+pub mod TakenLemmas

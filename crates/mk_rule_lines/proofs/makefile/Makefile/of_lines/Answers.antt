@@ -1,0 +1,26 @@
+use Rattle.std.proofs.Common.{◌≡◌, ◌≤◌, ℕ, List, length, true, false, ap, subst, ◌∙◌}
+use Rattle.mk_rule_lines.specs.Forms.{forms_of}
+use Rattle.mk_rule_lines.specs.Rules.{suffixes_of, targets_by, recipe_places}
+use Rattle.mk_rule_lines.specs.Supported.{AreSupported}
+use Rattle.mk_rule_lines.specs.Table.{IsTable}
+use Rattle.mk_rule_lines.proofs.TakenLemmas.{one_recipe_each, of_same}
+use Rattle.mk_rule_lines.proofs.makefile.Makefile.of_lines.Goals as goal
+
+pub invariant_of-result : goal.invariant_of-result
+invariant_of-result c =
+    let lines = c.args.lines.items in
+    let suffixes = c.in_ok-suffixes.suffixes in
+    let targets = c.in_ok-targets.targets in
+    let forms = c.in_ok-forms.forms.items in
+    let same : suffixes ≡ suffixes_of lines = c.in_ok-suffixes.ensures ∙ ap suffixes_of c.deref-2.ensures.value in
+    let table = of_same (λ ss ls. IsTable (targets_by false ss) ls targets) suffixes c.deref-3.result.now lines same c.deref-3.ensures.value c.in_ok-targets.ensures.table in
+    record {
+      suffixes_are = same;
+      table = table;
+      all_forms = of_same (λ ss ls. forms ≡ forms_of ss ls) suffixes c.deref-4.result.now lines same c.deref-4.ensures.value c.in_ok-forms.ensures.forms;
+      taken = record {
+        supported = subst AreSupported c.deref.ensures.value c.in_ok-check_lines.ensures.supported;
+        recipes = one_recipe_each lines targets table
+            (of_same (λ ss ls. (name : List ℕ) → length (recipe_places (targets_by true ss) 0 ls name) ≤ 1) suffixes c.deref-4.result.now lines same c.deref-4.ensures.value c.in_ok-forms.ensures.recipes);
+      };
+    }

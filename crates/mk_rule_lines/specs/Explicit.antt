@@ -1,0 +1,24 @@
+-- What rule lines say of a name by name: the lines that make it, their recipes and their prerequisites.
+use Rattle.std.specs.Prelude.{ℕ, Bool, false, not, List, filter, flat_map, bytes_eq, codes}
+use Rattle.mk_rule_lines.specs.Rules.{has, suffixes_of, targets_by}
+use Rattle.mk_rule_lines.specs.declared.rule_line.RuleLine.{RuleLine}
+
+-- the targets that a line makes by name
+abbrev pub explicit_targets : List RuleLine → RuleLine → List (List ℕ)
+explicit_targets lines l = targets_by false (suffixes_of lines) l
+
+-- the lines that make a name, in order
+abbrev pub lines_of : List RuleLine → (name : List ℕ) → List RuleLine
+lines_of lines name = filter (λ l. has name (explicit_targets lines l)) lines
+
+-- the word `.WAIT`, which is no prerequisite (dmake manual)
+abbrev pub is_wait : (word : List ℕ) → Bool
+is_wait word = bytes_eq word (codes ".WAIT")
+
+-- the prerequisites of a line, without `.WAIT`
+abbrev pub names_in : RuleLine → List (List ℕ)
+names_in l = filter (λ word. not (is_wait word)) l.prerequisites
+
+-- what a name is made from by name: the prerequisites of its lines, joined in order (make(1S), "Rules")
+abbrev pub explicit_of : List RuleLine → (name : List ℕ) → List (List ℕ)
+explicit_of lines name = flat_map names_in (lines_of lines name)

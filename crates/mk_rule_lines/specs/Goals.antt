@@ -1,0 +1,72 @@
+-- What is to be made, and what the special targets set.
+use Rattle.std.specs.Prelude.{◌≡◌, ℕ, Bool, true, false, not, ◌&&◌, ◌==◌, List, [], ◌∷◌, take, filter, flat_map, Option, Some}
+use Rattle.std.specs.List.{list_any}
+use Rattle.mk_reader.specs.declared.special.SpecialName.{SpecialName}
+use Rattle.mk_reader.specs.declared.special.SpecialName.TheVariants.{KeepState, NoParallel, Ignore, Silent}
+use Rattle.mk_rule_lines.specs.Rules.{suffixes_of, is_rule, is_pattern_rule, is_suffix_target}
+use Rattle.mk_rule_lines.specs.declared.fault.RuleFault.{RuleFault}
+use Rattle.mk_rule_lines.specs.declared.fault.RuleFault.TheVariants as fault
+use Rattle.mk_rule_lines.specs.declared.rule_line.RuleLine.{RuleLine}
+use Rattle.mk_rule_lines.specs.declared.settings.Settings.{Settings}
+
+abbrev pub is_slash : ℕ → Bool
+is_slash b = b == 47
+
+-- the name begins with a dot and has no slash
+abbrev pub is_dotted : (name : List ℕ) → Bool
+is_dotted [] = false
+is_dotted (b ∷ bs) = (b == 46) && not (list_any is_slash bs)
+
+-- the target of this line may be made where no goal is named: it is none of a special, pattern or suffix rule, and
+-- doesn't begin with a dot, or holds a slash (POSIX make, "OPERANDS")
+abbrev pub may_be_goal : (suffixes : List (List ℕ)) → RuleLine → (target : List ℕ) → Bool
+may_be_goal suffixes l target =
+    is_rule l && (not (is_pattern_rule l) && (not (is_suffix_target suffixes l target) && not (is_dotted target)))
+
+-- the first target of a line, where it may be a goal
+abbrev pub first_goal : (suffixes : List (List ℕ)) → RuleLine → List (List ℕ)
+first_goal suffixes l = filter (may_be_goal suffixes l) (take 1 l.targets)
+
+-- the first targets of all lines, where they may be goals
+abbrev pub first_goals : (suffixes : List (List ℕ)) → List RuleLine → List (List ℕ)
+first_goals suffixes lines = flat_map (first_goal suffixes) lines
+
+-- what is to be made: the names of the command line, else the first of the first targets
+abbrev pub goals_of : List RuleLine → (named : List (List ℕ)) → List (List ℕ)
+goals_of lines [] = take 1 (first_goals (suffixes_of lines) lines)
+goals_of lines (name ∷ names) = name ∷ names
+
+-- the fault where there is nothing to be made; want of memory says nothing
+abbrev pub IsGoalFault : List RuleLine → (named : List (List ℕ)) → RuleFault → Type 0
+IsGoalFault lines named fault.OutOfMemory = Unit {0}
+IsGoalFault lines named fault.NoTarget = goals_of lines named ≡ []
+IsGoalFault lines named _ = ⊥
+
+abbrev pub is_keep_state : Option SpecialName → Bool
+is_keep_state (Some KeepState) = true
+is_keep_state _ = false
+
+abbrev pub is_no_parallel : Option SpecialName → Bool
+is_no_parallel (Some NoParallel) = true
+is_no_parallel _ = false
+
+abbrev pub is_ignore : Option SpecialName → Bool
+is_ignore (Some Ignore) = true
+is_ignore _ = false
+
+abbrev pub is_silent : Option SpecialName → Bool
+is_silent (Some Silent) = true
+is_silent _ = false
+
+-- some line is of such a special rule
+abbrev pub has_special : (is_it : Option SpecialName → Bool) → List RuleLine → Bool
+has_special is_it lines = list_any (λ l. is_it l.special) lines
+
+-- what the special targets of these lines set (make(1S), "Special-Function Targets"; `.NO_PARALLEL` is dmake's)
+abbrev pub settings_of : List RuleLine → Settings
+settings_of lines = record {
+  keeps_state = has_special is_keep_state lines;
+  has_one_worker = has_special is_no_parallel lines;
+  ignores_statuses = has_special is_ignore lines;
+  prints_no_lines = has_special is_silent lines;
+}

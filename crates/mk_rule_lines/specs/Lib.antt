@@ -1,0 +1,9 @@
+pub mod Explicit
+pub mod Forms
+pub mod Goals
+pub mod Lines
+pub mod Rules
+pub mod Source
+pub mod Supported
+pub mod Table
+pub mod Taken

@@ -1,0 +1,96 @@
+-- What the rule lines of a makefile say of a name. A line stands here with its texts expanded and cut into words.
+use Rattle.std.specs.Prelude.{ℕ, ◌+◌, Bool, true, false, not, ◌&&◌, ◌||◌, ◌==◌, List, [], ◌∷◌, ◌++◌, filter, Option, Some, is_none, bytes_eq, if◌then◌else◌}
+use Rattle.std.specs.List.{list_any}
+use Rattle.std.specs.Option.{option_map_or}
+use Rattle.mk_macros.specs.Words.{without_front}
+use Rattle.mk_reader.specs.Text.{is_empty}
+use Rattle.mk_reader.specs.declared.special.SpecialName.{SpecialName}
+use Rattle.mk_reader.specs.declared.special.SpecialName.TheVariants.{Suffixes}
+use Rattle.mk_rule_lines.specs.declared.rule_line.RuleLine.{RuleLine}
+
+-- the name is one of these
+abbrev pub has : (name : List ℕ) → List (List ℕ) → Bool
+has name names = list_any (bytes_eq name) names
+
+-- the byte `%`, at which a pattern is parted
+abbrev pub is_percent : ℕ → Bool
+is_percent b = b == 37
+
+abbrev pub has_percent : (name : List ℕ) → Bool
+has_percent name = list_any is_percent name
+
+-- a line that is no special rule
+abbrev pub is_rule : RuleLine → Bool
+is_rule l = is_none l.special
+
+-- a rule that has a `%` in a target
+abbrev pub is_pattern_rule : RuleLine → Bool
+is_pattern_rule l = is_rule l && list_any has_percent l.targets
+
+-- the suffixes with those of a list that are new, in order (own: one that is there keeps its place)
+abbrev pub added : (suffixes names : List (List ℕ)) → List (List ℕ)
+added suffixes [] = suffixes
+added suffixes (name ∷ names) = added (if has name suffixes then suffixes else suffixes ++ name ∷ []) names
+
+-- the suffixes behind a `.SUFFIXES` rule: with names it adds them, without names it clears the list
+-- (make(1S), .SUFFIXES)
+abbrev pub with_names : (suffixes names : List (List ℕ)) → List (List ℕ)
+with_names suffixes [] = []
+with_names suffixes (name ∷ names) = added suffixes (name ∷ names)
+
+abbrev pub is_suffix_list : Option SpecialName → Bool
+is_suffix_list (Some Suffixes) = true
+is_suffix_list _ = false
+
+-- the suffixes behind these lines
+abbrev pub suffixes_after : (suffixes : List (List ℕ)) → List RuleLine → List (List ℕ)
+suffixes_after suffixes [] = suffixes
+suffixes_after suffixes (l ∷ lines) =
+    suffixes_after (if is_suffix_list l.special then with_names suffixes l.prerequisites else suffixes) lines
+
+-- the suffixes that count, for all lines: those of the last list, which begins empty
+abbrev pub suffixes_of : List RuleLine → List (List ℕ)
+suffixes_of lines = suffixes_after [] lines
+
+-- the suffix stands at the front of the name, and what is left is a suffix too
+abbrev pub joins : (suffixes : List (List ℕ)) → (name suffix : List ℕ) → Bool
+joins suffixes name suffix = option_map_or (λ rest. has rest suffixes) (without_front suffix name) false
+
+-- one suffix, or two joined
+abbrev pub is_suffix_name : (suffixes : List (List ℕ)) → (name : List ℕ) → Bool
+is_suffix_name suffixes name = has name suffixes || list_any (joins suffixes name) suffixes
+
+-- a line without prerequisites and with a recipe, whose targets may be suffix rules
+abbrev pub may_be_suffix_rule : RuleLine → Bool
+may_be_suffix_rule l = is_empty l.prerequisites && not (is_empty l.recipe)
+
+-- this target of the line is a suffix rule (make(1S), "Suffix Rules")
+abbrev pub is_suffix_target : (suffixes : List (List ℕ)) → RuleLine → (name : List ℕ) → Bool
+is_suffix_target suffixes l name = may_be_suffix_rule l && is_suffix_name suffixes name
+
+-- whether a test comes out so
+abbrev pub comes_out : (wanted answer : Bool) → Bool
+comes_out true answer = answer
+comes_out false answer = not answer
+
+-- the targets of a line that are suffix rules, or those that are not; a special or a pattern rule has neither
+abbrev pub targets_by : (suffix_rules : Bool) → (suffixes : List (List ℕ)) → RuleLine → List (List ℕ)
+targets_by suffix_rules suffixes l =
+    if is_rule l && not (is_pattern_rule l) then filter (λ t. comes_out suffix_rules (is_suffix_target suffixes l t)) l.targets else []
+
+-- the numbers, from k on, of the lines that pass a test
+abbrev pub places : (passes : RuleLine → Bool) → (k : ℕ) → List RuleLine → List ℕ
+places passes k [] = []
+places passes k (l ∷ lines) = if passes l then k ∷ places passes (k + 1) lines else places passes (k + 1) lines
+
+-- a number for each time that a name is among these
+abbrev pub times : (k : ℕ) → (name : List ℕ) → List (List ℕ) → List ℕ
+times k name [] = []
+times k name (t ∷ targets) = if bytes_eq name t then k ∷ times k name targets else times k name targets
+
+-- the numbers, from k on, of the lines that have a recipe for a name, each as often as the name is among its targets
+-- of this choice
+abbrev pub recipe_places : (targets : RuleLine → List (List ℕ)) → (k : ℕ) → List RuleLine → (name : List ℕ) → List ℕ
+recipe_places targets k [] name = []
+recipe_places targets k (l ∷ lines) name =
+    (if is_empty l.recipe then [] else times k name (targets l)) ++ recipe_places targets (k + 1) lines name

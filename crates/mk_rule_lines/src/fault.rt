@@ -1,0 +1,92 @@
+//! Why a makefile's rules make no graph.
+use bstr::ByteSlice;
+use byte_strings::{ByteString, ByteStrings};
+use mk_macros::MacroFault;
+use std::alloc::{AllocError, AllocFailed};
+use std::fmt;
+use thiserror::Error;
+
+/// What a rule line may not hold.
+#[derive(Clone, Copy, Debug, PartialEq, Eq, Error)]
+pub enum Unsupported {
+    /// A word `+` among the targets.
+    #[error("target group")]
+    TargetGroup,
+    /// A `(` in a target or a prerequisite.
+    #[error("library member")]
+    LibraryMember,
+    /// A `%` in a target, in another form than one target, one prerequisite, one `%` in each, and a recipe.
+    #[error("pattern rule")]
+    PatternRule,
+}
+
+/// Names of which each is a prerequisite of the one before. The last is the first again.
+#[derive(Debug, Drop)]
+pub struct CycleNames {
+    pub names: ByteStrings,
+}
+
+impl fmt::Display for CycleNames {
+    fn fmt<W: fmt::Write>(&self, f: &mut fmt::Formatter<W>) -> fmt::Result {
+        let mut is_first = true;
+        for name in self.names.iter() {
+            if !is_first {
+                f.write_str(" ")?;
+            }
+            is_first = false;
+            fmt::Display::fmt(&name.as_bstr(), f)?;
+        }
+        Ok(())
+    }
+}
+
+#[derive(Debug, Drop, Error)]
+pub enum RuleFault {
+    #[error("out of memory")]
+    OutOfMemory,
+    /// No goal is named, and no rule gives one.
+    #[error("no target")]
+    NoTarget,
+    /// The name has no file, and nothing makes it.
+    #[error("no rule for {0}")]
+    NoRule(ByteString),
+    /// The name, and the number of the rule line whose recipe is its second.
+    #[error("two recipes for {0} (line {1})")]
+    TwoRecipes(ByteString, usize),
+    #[error("cycle: {0}")]
+    Cycle(CycleNames),
+    /// There are more names than a graph holds.
+    #[error("too many targets")]
+    TooMany,
+    /// In the targets or the prerequisites of a rule.
+    #[error("{0}")]
+    Macro(MacroFault),
+    /// The number is that of the rule line.
+    #[error("not supported: {0} (line {1})")]
+    Unsupported(Unsupported, usize),
+    /// The tree can't tell whether the name has a file.
+    #[error("cannot look at {0}")]
+    Tree(ByteString),
+}
+
+impl From<AllocError> for RuleFault {
+    ghost use Rattle.std.specs.Prelude.{◌≡◌};
+    ghost use Rattle.mk_rule_lines.specs.declared.fault.RuleFault.TheVariants.{OutOfMemory};
+
+    ghost from_gives = { λ _ fault. fault ≡ OutOfMemory };
+
+    fn from(_error: AllocError) -> RuleFault {
+        RuleFault::OutOfMemory
+    }
+}
+
+impl<T: Drop> From<AllocFailed<T>> for RuleFault {
+    ghost use Rattle.std.specs.Prelude.{◌≡◌};
+    ghost use Rattle.mk_rule_lines.specs.declared.fault.RuleFault.TheVariants.{OutOfMemory};
+
+    ghost from_gives = { λ _ fault. fault ≡ OutOfMemory };
+
+    fn from(_error: AllocFailed<T>) -> RuleFault {
+        RuleFault::OutOfMemory
+    }
+}

@@ -1,0 +1,198 @@
+//! All implicit rules of a makefile, made once.
+ghost use Rattle.std.specs.Prelude.{◌≡◌, ◌<◌, true, ◌++◌, length, option_to_list, IfOk, OnOk, IfSome};
+ghost use Rattle.mk_macros.specs.Words.{place_of};
+ghost use Rattle.mk_rule_lines.specs.Rules.{targets_by};
+ghost use Rattle.mk_rule_lines.specs.Table.{IsTable, recipes_in};
+ghost use Rattle.mk_rule_lines.specs.Forms.{before_percent, behind_percent, pattern_form, form_of_line, suffix_form, pair_forms, single_forms, forms_from, suffix_forms, pattern_forms, forms_of};
+
+use crate::form::Form;
+use crate::rule_line::RuleLine;
+use crate::table::TargetTable;
+use byte_strings::{ByteString, ByteStrings};
+use std::alloc::{AllocError, Global};
+
+/// The place of the first `%`.
+fn percent(name: &[u8]) -> Option<usize>
+    ensures place { result ≡ place_of 37 name.now }
+    ensures within { IfSome result (λ place. place < length name.now) }
+{
+    name.iter().position(|b| *b == b'%')
+}
+
+fn before_percent(name: &[u8]) -> &[u8]
+    ensures { result.now ≡ before_percent name.now }
+{
+    match percent(name) {
+        Some(place) => &name[..place],
+        None => name,
+    }
+}
+
+fn behind_percent(name: &[u8]) -> &[u8]
+    ensures { result.now ≡ behind_percent name.now }
+{
+    match percent(name) {
+        Some(place) => &name[place + 1..],
+        None => &[],
+    }
+}
+
+fn pattern_form(
+    alloc: Global,
+    rule: usize,
+    target: &[u8],
+    source: &[u8],
+) -> Result<Form, AllocError>
+    ensures { IfOk result (λ form. form ≡ pattern_form rule target.now source.now) }
+{
+    Ok(Form {
+        before: ByteString::from_slice(alloc, before_percent(target))?,
+        after: ByteString::from_slice(alloc, behind_percent(target))?,
+        front: ByteString::from_slice(alloc, before_percent(source))?,
+        back: ByteString::from_slice(alloc, behind_percent(source))?,
+        takes_empty: false,
+        rule,
+    })
+}
+
+fn suffix_form(
+    alloc: Global,
+    after: &[u8],
+    back: &[u8],
+    takes_empty: bool,
+    rule: usize,
+) -> Result<Form, AllocError>
+    ensures { IfOk result (λ form. form ≡ suffix_form after.now back.now takes_empty rule) }
+{
+    Ok(Form {
+        before: ByteString::new(Vec::new(alloc)),
+        after: ByteString::from_slice(alloc, after)?,
+        front: ByteString::new(Vec::new(alloc)),
+        back: ByteString::from_slice(alloc, back)?,
+        takes_empty,
+        rule,
+    })
+}
+
+/// Adds the form of a line, where it is a pattern rule.
+fn add_form_of_line(
+    alloc: Global,
+    forms: &mut Vec<Form>,
+    rule: usize,
+    line: &RuleLine,
+) -> Result<(), AllocError>
+    ensures { OnOk result (forms.new.items ≡ forms.old.items ++ form_of_line rule line.now) }
+{
+    if !line.is_pattern_rule() || line.targets.len() != 1 || line.prerequisites.len() != 1 {
+        return Ok(());
+    }
+    if let (Some(target), Some(source)) = (line.targets.get(0), line.prerequisites.get(0)) {
+        forms.push(pattern_form(alloc, rule, target, source)?)?;
+    }
+    Ok(())
+}
+
+fn add_pattern_forms(
+    alloc: Global,
+    forms: &mut Vec<Form>,
+    lines: &[RuleLine],
+) -> Result<(), AllocError>
+    ensures { OnOk result (forms.new.items ≡ forms.old.items ++ pattern_forms 0 lines.now) }
+{
+    for (i, line) in lines.iter().enumerate() {
+        add_form_of_line(alloc, forms, i, line)?;
+    }
+    Ok(())
+}
+
+/// The line of the rule `st`, where the table has it.
+fn recipe_of_pair(
+    alloc: Global,
+    rules: &TargetTable,
+    s: &[u8],
+    t: &[u8],
+) -> Result<Option<usize>, AllocError>
+    ensures { IfOk result (λ rule. option_to_list rule ≡ recipes_in rules.now (s.now ++ t.now)) }
+{
+    let mut name = Vec::from_slice(alloc, s)?;
+    name.extend_from_slice(t)?;
+    Ok(rules.recipe(&name))
+}
+
+/// Adds the form of the rule `st`, where the table has it.
+fn add_pair(
+    alloc: Global,
+    forms: &mut Vec<Form>,
+    rules: &TargetTable,
+    s: &[u8],
+    t: &[u8],
+) -> Result<(), AllocError>
+    ensures { OnOk result (forms.new.items ≡ forms.old.items ++ pair_forms (recipes_in rules.now) s.now t.now) }
+{
+    if let Some(rule) = recipe_of_pair(alloc, rules, s, t)? {
+        forms.push(suffix_form(alloc, t, s, false, rule)?)?;
+    }
+    Ok(())
+}
+
+/// Adds the form of the rule `s`, where the table has it.
+fn add_single(
+    alloc: Global,
+    forms: &mut Vec<Form>,
+    rules: &TargetTable,
+    s: &[u8],
+) -> Result<(), AllocError>
+    ensures { OnOk result (forms.new.items ≡ forms.old.items ++ single_forms (recipes_in rules.now) s.now) }
+{
+    if let Some(rule) = rules.recipe(s) {
+        forms.push(suffix_form(alloc, &[], s, true, rule)?)?;
+    }
+    Ok(())
+}
+
+/// Adds the forms of the rules that begin with a suffix.
+fn add_forms_from(
+    alloc: Global,
+    forms: &mut Vec<Form>,
+    rules: &TargetTable,
+    suffixes: &ByteStrings,
+    s: &[u8],
+) -> Result<(), AllocError>
+    ensures { OnOk result (forms.new.items ≡ forms.old.items ++ forms_from (recipes_in rules.now) suffixes.now s.now) }
+{
+    for t in suffixes.iter() {
+        add_pair(alloc, forms, rules, s, t)?;
+    }
+    add_single(alloc, forms, rules, s)
+}
+
+fn add_suffix_forms(
+    alloc: Global,
+    forms: &mut Vec<Form>,
+    rules: &TargetTable,
+    suffixes: &ByteStrings,
+) -> Result<(), AllocError>
+    ensures { OnOk result (forms.new.items ≡ forms.old.items ++ suffix_forms (recipes_in rules.now) suffixes.now) }
+{
+    for s in suffixes.iter() {
+        add_forms_from(alloc, forms, rules, suffixes, s)?;
+    }
+    Ok(())
+}
+
+/// The forms of all pattern and suffix rules, in the order in which they are tried. `rules` is the table of the suffix
+/// rules.
+pub fn forms_of(
+    alloc: Global,
+    lines: &[RuleLine],
+    suffixes: &ByteStrings,
+    rules: &TargetTable,
+) -> Result<Vec<Form>, AllocError>
+    requires { IsTable (targets_by true suffixes.now) lines.now rules.now }
+    ensures { IfOk result (λ forms. forms.items ≡ forms_of suffixes.now lines.now) }
+{
+    let mut forms = Vec::new(alloc);
+    add_pattern_forms(alloc, &mut forms, lines)?;
+    add_suffix_forms(alloc, &mut forms, rules, suffixes)?;
+    Ok(forms)
+}

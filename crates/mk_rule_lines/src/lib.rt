@@ -1,0 +1,28 @@
+//! The rule lines of a makefile: what they say of each name, which implicit rules and goals they give, what they set.
+#![tactic(auto)]
+
+mod explicit;
+mod fault;
+mod form;
+mod forms;
+mod goals;
+mod lines;
+mod makefile;
+mod rule_line;
+mod settings;
+mod suffixes;
+mod supported;
+mod table;
+
+pub use explicit::{explicit_of, is_wait};
+pub use fault::{CycleNames, RuleFault, Unsupported};
+pub use form::{Form, Source};
+pub use forms::forms_of;
+pub use goals::goals_of;
+pub use lines::rule_lines;
+pub use makefile::Makefile;
+pub use rule_line::RuleLine;
+pub use settings::Settings;
+pub use suffixes::suffixes_of;
+pub use supported::check_lines;
+pub use table::TargetTable;

@@ -1,0 +1,123 @@
+//! One rule line of a makefile, with its texts expanded and cut into words.
+ghost use Rattle.std.specs.Prelude.{◌≡◌, not, IfOk};
+ghost use Rattle.std.specs.List.{list_any};
+ghost use Rattle.mk_reader.specs.Text.{is_empty};
+ghost use Rattle.mk_rule_lines.specs.Rules.{has, has_percent, is_rule, is_pattern_rule, is_suffix_list, joins, is_suffix_name, may_be_suffix_rule, is_suffix_target, comes_out, targets_by};
+
+use byte_strings::ByteStrings;
+use mk_reader::{Recipe, SpecialName};
+use std::alloc::{AllocError, Global};
+
+/// A rule line, or the line of a special rule.
+#[derive(Debug, Drop)]
+pub struct RuleLine {
+    /// The number of the line, from 1, in the file that holds it.
+    pub line: usize,
+    /// The special name that stands first, if one does.
+    pub special: Option<SpecialName>,
+    pub targets: ByteStrings,
+    pub prerequisites: ByteStrings,
+    pub recipe: Recipe,
+}
+
+/// Whether the name is one of these.
+pub(crate) fn has(names: &ByteStrings, name: &[u8]) -> bool
+    ensures { result ≡ has name.now names.now }
+{
+    names.iter().any(|n| name == n)
+}
+
+fn has_percent(name: &[u8]) -> bool
+    ensures { result ≡ has_percent name.now }
+{
+    name.iter().any(|b| *b == b'%')
+}
+
+fn any_percent(names: &ByteStrings) -> bool
+    ensures { result ≡ list_any has_percent names.now }
+{
+    names.iter().any(|name| has_percent(name))
+}
+
+fn joins(suffixes: &ByteStrings, name: &[u8], suffix: &[u8]) -> bool
+    ensures { result ≡ joins suffixes.now name.now suffix.now }
+{
+    match name.strip_prefix(suffix) {
+        Some(rest) => has(suffixes, rest),
+        None => false,
+    }
+}
+
+fn joins_any(suffixes: &ByteStrings, name: &[u8]) -> bool
+    ensures { result ≡ list_any (joins suffixes.now name.now) suffixes.now }
+{
+    suffixes.iter().any(|suffix| joins(suffixes, name, suffix))
+}
+
+/// Whether the name is a suffix, or two suffixes joined.
+fn is_suffix_name(suffixes: &ByteStrings, name: &[u8]) -> bool
+    ensures { result ≡ is_suffix_name suffixes.now name.now }
+{
+    has(suffixes, name) || joins_any(suffixes, name)
+}
+
+fn comes_out(wanted: bool, answer: bool) -> bool
+    ensures { result ≡ comes_out wanted answer }
+{
+    if wanted { answer } else { !answer }
+}
+
+impl RuleLine {
+    /// Whether it is no special rule.
+    pub fn is_rule(&self) -> bool
+        ensures { result ≡ is_rule self.now }
+    {
+        self.special.is_none()
+    }
+
+    pub fn is_pattern_rule(&self) -> bool
+        ensures { result ≡ is_pattern_rule self.now }
+    {
+        self.is_rule() && any_percent(&self.targets)
+    }
+
+    pub fn has_recipe(&self) -> bool
+        ensures { result ≡ not (is_empty self.now.recipe) }
+    {
+        !self.recipe.lines().is_empty()
+    }
+
+    fn may_be_suffix_rule(&self) -> bool
+        ensures { result ≡ may_be_suffix_rule self.now }
+    {
+        self.prerequisites.is_empty() && self.has_recipe()
+    }
+
+    /// Whether this target of the line is a suffix rule.
+    pub fn is_suffix_target(&self, suffixes: &ByteStrings, name: &[u8]) -> bool
+        ensures { result ≡ is_suffix_target suffixes.now self.now name.now }
+    {
+        self.may_be_suffix_rule() && is_suffix_name(suffixes, name)
+    }
+
+    /// Its targets that are suffix rules, or those that are not.
+    pub fn targets_by(
+        &self,
+        alloc: Global,
+        suffixes: &ByteStrings,
+        suffix_rules: bool,
+    ) -> Result<ByteStrings, AllocError>
+        ensures { IfOk result (λ targets. targets ≡ targets_by suffix_rules suffixes.now self.now) }
+    {
+        let mut targets = ByteStrings::empty(alloc);
+        if !self.is_rule() || self.is_pattern_rule() {
+            return Ok(targets);
+        }
+        for target in self.targets.iter() {
+            if comes_out(suffix_rules, self.is_suffix_target(suffixes, target)) {
+                targets.push(target)?;
+            }
+        }
+        Ok(targets)
+    }
+}

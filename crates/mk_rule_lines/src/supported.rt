@@ -1,0 +1,86 @@
+//! Which rule lines are refused.
+ghost use Rattle.std.specs.Prelude.{◌≡◌, ℕ, true, Some, MatchOption, OnOk, IfErr, slice_get};
+ghost use Rattle.mk_rule_lines.specs.Supported.{is_pattern, is_one_pattern, is_whole_pattern_rule, has_bracket, is_refused, IsSupported, AreSupported, IsRefusal};
+ghost use Rattle.std.specs.List.{list_any};
+
+use crate::fault::{RuleFault, Unsupported};
+use crate::rule_line::{RuleLine, has};
+use byte_strings::ByteStrings;
+
+fn is_pattern(name: &[u8]) -> bool
+    ensures { result ≡ is_pattern name.now }
+{
+    name.iter().filter(|b| **b == b'%').count() == 1
+}
+
+fn any_is_pattern(names: &ByteStrings) -> bool
+    ensures { result ≡ list_any is_pattern names.now }
+{
+    names.iter().any(|name| is_pattern(name))
+}
+
+fn is_one_pattern(names: &ByteStrings) -> bool
+    ensures { result ≡ is_one_pattern names.now }
+{
+    names.len() == 1 && any_is_pattern(names)
+}
+
+fn has_bracket(name: &[u8]) -> bool
+    ensures { result ≡ has_bracket name.now }
+{
+    name.iter().any(|b| *b == b'(')
+}
+
+fn any_has_bracket(names: &ByteStrings) -> bool
+    ensures { result ≡ list_any has_bracket names.now }
+{
+    names.iter().any(|name| has_bracket(name))
+}
+
+fn is_whole_pattern_rule(line: &RuleLine) -> bool
+    ensures { result ≡ is_whole_pattern_rule line.now }
+{
+    is_one_pattern(&line.targets) && is_one_pattern(&line.prerequisites) && line.has_recipe()
+}
+
+fn is_refused(what: Unsupported, line: &RuleLine) -> bool
+    ensures { result ≡ is_refused what line.now }
+{
+    match what {
+        Unsupported::TargetGroup => line.is_rule() && has(&line.targets, b"+"),
+        Unsupported::LibraryMember => {
+            line.is_rule()
+                && (any_has_bracket(&line.targets) || any_has_bracket(&line.prerequisites))
+        }
+        Unsupported::PatternRule => line.is_pattern_rule() && !is_whole_pattern_rule(line),
+    }
+}
+
+/// Why the line is refused, if it is.
+fn refusal(line: &RuleLine) -> Option<Unsupported>
+    ensures { MatchOption result (IsSupported line.now) (λ what. is_refused what line.now ≡ true) }
+{
+    if is_refused(Unsupported::TargetGroup, line) {
+        return Some(Unsupported::TargetGroup);
+    }
+    if is_refused(Unsupported::LibraryMember, line) {
+        return Some(Unsupported::LibraryMember);
+    }
+    if is_refused(Unsupported::PatternRule, line) {
+        return Some(Unsupported::PatternRule);
+    }
+    None
+}
+
+/// Refuses lines that hold what isn't supported.
+pub fn check_lines(lines: &[RuleLine]) -> Result<(), RuleFault>
+    ensures supported { OnOk result (AreSupported lines.now) }
+    ensures fault { IfErr result (IsRefusal lines.now) }
+{
+    for line in lines {
+        if let Some(what) = refusal(line) {
+            return Err(RuleFault::Unsupported(what, line.line));
+        }
+    }
+    Ok(())
+}

@@ -1,0 +1,79 @@
+use Rattle.std.proofs.Common.{◌≡◌, ℕ, ℤ, List, Option, true, false, refl, sym, ap, subst, ◌∙◌}
+use Rattle.std.specs.FinMap as map
+use Rattle.std.specs.Prelude.{option_to_list}
+use Rattle.mk_rules.specs.Faults.{AreTold, IsGraphFault}
+use Rattle.mk_rule_lines.specs.Forms.{forms_of}
+use Rattle.mk_rules.specs.Found.{AreFound, IsFindingFault}
+use Rattle.mk_rule_lines.specs.Goals.{goals_of, IsGoalFault}
+use Rattle.mk_rules.specs.Prerequisites.{inputs_of}
+use Rattle.mk_rule_lines.specs.Rules.{has, places, recipe_places, targets_by, suffixes_of}
+use Rattle.mk_rule_lines.specs.Table.{named_at}
+use Rattle.mk_rule_lines.specs.declared.fault.RuleFault.{RuleFault}
+use Rattle.mk_rules.specs.declared.graph.TheConstants.{MAX_NODES}
+use Rattle.mk_rule_lines.specs.declared.rule_line.RuleLine.{RuleLine}
+use Rattle.mk_rules.proofs.AskedLemmas.{asked_none}
+use Rattle.mk_rules.proofs.FaultLemmas.{no_goal, not_found}
+use Rattle.mk_rule_lines.proofs.LineLemmas.{handed_on}
+use Rattle.mk_rule_lines.proofs.ResultLemmas.{if_ok, if_err}
+use Rattle.mk_rules.proofs.building.reached.Goals as goal
+
+pub returns-clause-found : goal.returns-clause-found
+returns-clause-found g c =
+    let lines = c.args.makefile.now.lines.items in
+    let entries = map.get c.args.state.now in
+    let goals = c.in_ok-goals.goals in
+    let goals_are : goals ≡ goals_of lines c.args.goals = c.in_ok-goals.ensures.goals ∙ ap (λ (ls : List RuleLine). goals_of ls c.args.goals) c.deref.ensures.value in
+    if_ok c.numbered_names.result _ _
+    (λ n at. (
+      at.0,
+      at.1,
+      subst (λ (gs : List (List ℕ)). AreFound (inputs_of lines entries at.0) gs n) goals_are
+          (subst (λ (ls : List RuleLine). AreFound (inputs_of ls entries at.0) goals n) c.deref-2.ensures.value at.2),
+    ))
+    c.numbered_names.ensures.found
+
+pub returns-clause-fault : goal.returns-clause-fault
+returns-clause-fault g c =
+    let lines = c.args.makefile.now.lines.items in
+    let entries = map.get c.args.state.now in
+    let refuses = g.T.Tree.refuses c.numbered_names.new.tree in
+    let goals = c.in_ok-goals.goals in
+    let goals_are : goals ≡ goals_of lines c.args.goals = c.in_ok-goals.ensures.goals ∙ ap (λ (ls : List RuleLine). goals_of ls c.args.goals) c.deref.ensures.value in
+    if_err c.numbered_names.result _ _
+    (λ f at. (
+      at.0,
+      at.1,
+      not_found (inputs_of lines entries at.0) refuses c.args.goals MAX_NODES goals goals_are f
+          (subst (λ (ls : List RuleLine). IsFindingFault (inputs_of ls entries at.0) refuses goals MAX_NODES f) c.deref-2.ensures.value at.2),
+    ))
+    c.numbered_names.ensures.fault
+
+pub returns-in_err-goals-clause-fault : goal.returns-in_err-goals-clause-fault
+returns-in_err-goals-clause-fault g c =
+    let lines = c.args.makefile.now.lines.items in
+    let told = g.T.Tree.stamps c.args.tree.now in
+    let entries = map.get c.args.state.now in
+    let refuses = g.T.Tree.refuses c.args.tree.now in
+    let f = c.in_err-goals.field-0.0 in
+    handed_on _
+    (λ (e : RuleFault). (times : List ℕ → Option ℤ) × AreTold g.T.Tree.honest told times
+    × IsGraphFault (inputs_of lines entries times) refuses c.args.goals MAX_NODES e)
+    f (c.from_residual.ensures).1 (
+      told,
+      λ _ name. refl,
+      no_goal (inputs_of lines entries told) refuses c.args.goals MAX_NODES f
+          (subst (λ (ls : List RuleLine). IsGoalFault ls c.args.goals f) c.deref.ensures.value c.in_err-goals.ensures.fault),
+    )
+
+pub invariant_of-rules : goal.invariant_of-rules
+invariant_of-rules g c =
+    let m = c.args.makefile.now in
+    let read = sym c.deref-2.ensures.value in
+    record {
+      named = λ name. subst (λ (ls : List RuleLine). (named_at m.targets name).lines ≡ places (λ l. has name (targets_by false (suffixes_of ls) l)) 0 ls) read (m.table.named name);
+      recipes = λ name. subst (λ (ls : List RuleLine). option_to_list (named_at m.targets name).recipe ≡ recipe_places (targets_by false (suffixes_of ls)) 0 ls name) read (m.table.recipe name);
+      all_forms = subst (λ (ls : List RuleLine). c.deref-3.result.now ≡ forms_of (suffixes_of ls) ls) read (c.deref-3.ensures.value ∙ m.all_forms);
+    }
+
+pub returns-in_err-goals-clause-asked : goal.returns-in_err-goals-clause-asked
+returns-in_err-goals-clause-asked g c = asked_none (λ _. true) (g.T.Tree.asked c.args.tree.now)

@@ -1,7 +1,0 @@
-use Rattle.mk_macros.specs.Ranks.{ranks_at}
-use Rattle.mk_rules.proofs.LineLemmas.{told_fault}
-use Rattle.mk_rules.proofs.lines.expanded.Goals as goal
-
-pub returns-in-Err-clause-fault : goal.returns-in-Err-clause-fault
-returns-in-Err-clause-fault c =
-    told_fault (ranks_at c.args.macros.now) c.args.text.now c.in-Err.fault c.macro_fault.result c.macro_fault.ensures c.in-Err.ensures.fault

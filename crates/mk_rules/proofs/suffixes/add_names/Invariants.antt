@@ -1,6 +1,0 @@
-use Rattle.std.proofs.Common.{◌≡◌}
-use Rattle.mk_rules.specs.Rules.{added}
-use Rattle.mk_rules.proofs.suffixes.add_names.Given as goal
-
-abbrev pub invariant-loop-name : goal.invariant-loop-name
-invariant-loop-name l = added l.suffixes l.name-iterator ≡ added l.fn.suffixes l.names

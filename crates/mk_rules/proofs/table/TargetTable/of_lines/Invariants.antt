@@ -1,8 +1,0 @@
-use Rattle.std.proofs.Common.{List, ℕ, drop}
-use Rattle.mk_rules.specs.Rules.{targets_by}
-use Rattle.mk_rules.specs.Table.{named_at}
-use Rattle.mk_rules.proofs.PlaceLemmas.{LinesGo}
-use Rattle.mk_rules.proofs.table.TargetTable.of_lines.Given as goal
-
-abbrev pub invariant-loop-i : goal.invariant-loop-i
-invariant-loop-i l = (name : List ℕ) → LinesGo (targets_by l.suffix_rules l.suffixes) l.i (drop l.i l.lines) l.lines name (named_at l.table name)

@@ -1,7 +1,0 @@
-use Rattle.std.proofs.Common.{arith}
-use Rattle.st_records.specs.Ranks.{number_from}
-use Rattle.st_records.proofs.name_order.first_eight.Goals as goal
-
-pub returns : goal.returns
-unfolding number_from
-returns c = omega arith

@@ -1,0 +1,5 @@
+pub mod StateLemmas
+pub mod KeepableLemmas
+pub mod KeptLemmas
+pub mod RankLemmas
+pub mod Listed

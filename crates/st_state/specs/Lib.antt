@@ -1,0 +1,8 @@
+-- what is known of each target, and what a record makes of it
+pub mod State
+-- which states can be written anew
+pub mod Keepable
+-- a batch that stands by: the state before it, and its records
+pub mod Staged
+-- ranks of names, by which a listing is sorted
+pub mod Ranks

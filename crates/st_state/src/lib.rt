@@ -1,0 +1,13 @@
+//! The state: what the records so far say of each target. A record is taken in, or a batch of them; the state is
+//! listed in byte order of the names.
+#![tactic(auto)]
+
+mod laws;
+mod name_order;
+mod staged;
+mod state;
+mod taking;
+
+pub use laws::entries_can_be_kept;
+pub use staged::Staged;
+pub use state::State;

@@ -1,0 +1,236 @@
+//! The state: what the records so far say of each target, as a map from names to entries.
+
+ghost use Rattle.std.specs.Prelude.{◌≡◌, ◌+◌, ◌<◌, ◌⊎◌, None, OnOk, OnErr, IfOk, MatchOption, length, map as list_map};
+ghost use Rattle.std.specs.Option.{option_copied};
+ghost use Rattle.std.specs.FinMap as map;
+ghost use Rattle.st_state.specs.Keepable.{kept_bytes};
+ghost use Rattle.st_records.specs.Parts.{target_of};
+ghost use Rattle.st_state.specs.State.{SetsEntry, apply_record, known_hidden, unfinished};
+
+use crate::name_order::{with_ranks, without_ranks};
+use crate::staged::Staged;
+use crate::taking::take_in;
+use byte_strings::ByteStrings;
+use indexmap::IndexMap;
+use st_records::{Entry, Explicit, HashKey, Phase, Record, room_after_kept};
+use std::alloc::{AllocError, Global};
+use std::marker::Model;
+
+// Each name with its entry. Names are hashed under a key, so that a file's writer can't choose names that collide.
+pub(crate) type Entries = IndexMap<Vec<u8>, Entry, HashKey>;
+
+/// What is known of each target. Contracts see it as a finite map from names to entries.
+///
+/// The names stand in the order in which they were first seen, so that an entry is found by one look-up by hash. They
+/// are sorted where they are listed.
+#[derive(Debug, Drop)]
+pub struct State {
+    entries: Entries,
+}
+
+impl Model for State {
+    ghost use Rattle.st_state.specs.State.{StateMap, state_code, by_name};
+
+    ghost Value = { StateMap };
+
+    ghost coded = { state_code };
+
+    ghost view = { λ a. by_name (λ k. k.items) a.entries.entries };
+}
+
+impl State {
+    ghost use Rattle.std.specs.Prelude.{IfErr};
+    ghost use Rattle.st_state.specs.State.{by_name};
+    ghost use Rattle.st_state.specs.Staged.{staged_state, staged_records};
+
+    /// The state of no records: it knows no name. Its names are hashed under the fixed key.
+    pub fn new(alloc: Global) -> State
+        ensures { result ≡ map.empty }
+    {
+        State::with_key(alloc, HashKey::fixed())
+    }
+
+    /// The state of no records, whose names are hashed under this key.
+    pub fn with_key(alloc: Global, key: HashKey) -> State
+        ensures { result ≡ map.empty }
+    {
+        State {
+            entries: IndexMap::with_hasher(alloc, key),
+        }
+    }
+
+    /// How many names the state knows.
+    pub fn len(&self) -> usize
+        ensures { result ≡ map.len self.now }
+    {
+        self.entries.len()
+    }
+
+    /// What the state knows of `name`.
+    pub fn get(&self, name: &[u8]) -> Option<&Entry>
+        ensures { option_copied result ≡ map.get self.now name.now }
+    {
+        self.entries.get(name)
+    }
+
+    /// Each name with what is known of it, in byte order of the names.
+    pub fn in_byte_order(&self, alloc: Global) -> Result<Vec<(&[u8], &Entry)>, AllocError>
+        ensures { IfOk result (λ listed. list_map (λ e. (e.0.now, e.1.now)) listed.items ≡ map.entries self.now) }
+    {
+        let mut ranked = with_ranks(alloc, &self.entries)?;
+        ranked.sort_unstable_by_key(|named| (named.rank, named.name));
+        without_ranks(alloc, ranked.as_slice())
+    }
+
+    /// What is left of `room` after the bytes of a kept record for each entry, in a file of version 2; None where they do
+    /// not fit. It takes no memory.
+    pub fn room_after_kept(&self, room: usize) -> Option<usize>
+        ensures { MatchOption result (room < kept_bytes self.now) (λ left. left + kept_bytes self.now ≡ room) }
+    {
+        let mut left = room;
+        for (name, entry) in self.entries.iter() {
+            left = room_after_kept(name.as_slice(), entry, left)?;
+        }
+        Some(left)
+    }
+
+    /// An equal state. To copy one without names takes no memory.
+    pub fn copy(&self, alloc: Global) -> Result<State, AllocError>
+        ensures equal { IfOk result (λ copied. copied ≡ self.now) }
+        ensures memory { OnErr result (0 < map.len self.now) }
+    {
+        let mut copied = State::with_key(alloc, *self.entries.hasher());
+        for (name, entry) in self.entries.iter() {
+            copied.add(alloc, name.as_slice(), entry.copy(alloc)?)?;
+        }
+        Ok(copied)
+    }
+
+    /// Makes ready to take in a batch of records: the records are copied, and the map gets room for as many new names.
+    /// Without memory the state is handed back as it was; a batch without records takes none.
+    pub fn stage(self, alloc: Global, events: &[Record]) -> Result<Staged, State>
+        ensures staged { IfOk result (λ s. (staged_state s ≡ self) × (staged_records s ≡ events.now)) }
+        ensures err { IfErr result (λ s. s ≡ self) }
+        ensures memory { OnErr result (0 < length events.now) }
+    {
+        let mut entries = self.into_entries();
+        let events = match copies(alloc, events) {
+            Ok(events) => events,
+            Err(_) => return Err(State::from_entries(entries)),
+        };
+        match entries.reserve(events.len()) {
+            Ok(()) => Ok(Staged { entries, events }),
+            Err(_) => Err(State::from_entries(entries)),
+        }
+    }
+
+    /// Takes in one more record; without memory for it the state stays as it was.
+    ///
+    /// An entry is changed in its place after one search. Only a new name is copied.
+    pub fn apply(&mut self, alloc: Global, event: &Record) -> Result<(), AllocError>
+        ensures ok { OnOk result (self.new ≡ apply_record self.old event.now) }
+        ensures err { OnErr result (self.new ≡ self.old) }
+        // A recipe that began or failed takes memory for a new target alone.
+        ensures memory { OnErr result ((map.get self.old (target_of event.now) ≡ None) ⊎ SetsEntry event.now) }
+    {
+        match event {
+            Record::Begun { target } => self.set_unfinished(alloc, target.as_slice(), Phase::Begun),
+            Record::Done {
+                target,
+                commands,
+                hidden,
+                explicit,
+            } => {
+                let entry = Entry {
+                    phase: Phase::Done,
+                    commands: commands.copy(alloc)?,
+                    hidden: hidden.copy(alloc)?,
+                    explicit: explicit.copy(alloc)?,
+                };
+                self.set(alloc, target.as_slice(), entry)
+            }
+            Record::Failed { target, status } => {
+                self.set_unfinished(alloc, target.as_slice(), Phase::Failed(*status))
+            }
+            Record::Kept { target, entry } => {
+                self.set(alloc, target.as_slice(), entry.copy(alloc)?)
+            }
+        }
+    }
+
+    /// Takes in one more record as `apply` does, with the strings of the record in place of copies. Without memory the
+    /// state stays as it was, and the record is let go.
+    pub fn apply_owned(&mut self, alloc: Global, event: Record) -> Result<(), AllocError>
+        ensures ok { OnOk result (self.new ≡ apply_record self.old event) }
+        ensures err { OnErr result (self.new ≡ self.old) }
+        // Any record takes memory for a new target alone.
+        ensures memory { OnErr result (map.get self.old (target_of event) ≡ None) }
+    {
+        take_in(alloc, &mut self.entries, event)
+    }
+
+    pub(crate) fn from_entries(entries: Entries) -> State
+        ensures { result ≡ by_name (λ k. k.items) entries.entries }
+    {
+        State { entries }
+    }
+
+    fn into_entries(self) -> Entries
+        ensures { by_name (λ k. k.items) result.entries ≡ self }
+    {
+        let State { entries } = self;
+        entries
+    }
+
+    // A recipe that began or failed: no commands and no explicit names count any more, the hidden names stay as last known.
+    fn set_unfinished(&mut self, alloc: Global, name: &[u8], phase: Phase) -> Result<(), AllocError>
+        ensures ok { OnOk result (self.new ≡ map.insert self.old name.now (unfinished phase (known_hidden self.old name.now))) }
+        ensures err { OnErr result (self.new ≡ self.old) }
+        ensures memory { OnErr result (map.get self.old name.now ≡ None) }
+    {
+        if let Some(known) = self.entries.get_mut(name) {
+            known.phase = phase;
+            known.commands = ByteStrings::empty(alloc);
+            known.explicit = Explicit::Unknown;
+            return Ok(());
+        }
+        let entry = Entry {
+            phase,
+            commands: ByteStrings::empty(alloc),
+            hidden: ByteStrings::empty(alloc),
+            explicit: Explicit::Unknown,
+        };
+        self.add(alloc, name, entry)
+    }
+
+    fn set(&mut self, alloc: Global, name: &[u8], entry: Entry) -> Result<(), AllocError>
+        ensures ok { OnOk result (self.new ≡ map.insert self.old name.now entry) }
+        ensures err { OnErr result (self.new ≡ self.old) }
+        ensures memory { OnErr result (map.get self.old name.now ≡ None) }
+    {
+        if let Some(known) = self.entries.get_mut(name) {
+            *known = entry;
+            return Ok(());
+        }
+        self.add(alloc, name, entry)
+    }
+
+    fn add(&mut self, alloc: Global, name: &[u8], entry: Entry) -> Result<(), AllocError>
+        ensures ok { OnOk result (self.new ≡ map.insert self.old name.now entry) }
+        ensures err { OnErr result (self.new ≡ self.old) }
+    {
+        self.entries.insert(Vec::from_slice(alloc, name)?, entry)?;
+        Ok(())
+    }
+}
+
+fn copies(alloc: Global, events: &[Record]) -> Result<Vec<Record>, AllocError>
+    ensures equal { IfOk result (λ copied. copied.items ≡ events.now) }
+    ensures memory { OnErr result (0 < length events.now) }
+{
+    let mut copied = Vec::with_capacity(alloc, events.len())?;
+    for event in events {
+        copied.push(event.copy(alloc)?)?;
+    }
+    Ok(copied)
+}

@@ -1,0 +1,86 @@
+//! A record taken into the map of entries, with its strings in place of copies.
+
+ghost use Rattle.std.specs.Prelude.{◌≡◌, ◌+◌, ◌<◌, ◌≤◌, None, IsOk, OnOk, OnErr};
+ghost use Rattle.std.specs.FinMap as map;
+ghost use Rattle.indexmap.specs.IndexMap.{spare};
+ghost use Rattle.st_records.specs.Parts.{target_of};
+ghost use Rattle.st_state.specs.State.{by_name, apply_record, known_hidden, unfinished};
+
+use crate::state::Entries;
+use byte_strings::ByteStrings;
+use st_records::{Entry, Explicit, Phase, Record};
+use std::alloc::{AllocError, Global};
+
+/// Takes in one record. Without memory for a new name the map stays as it was, and the record is let go.
+pub(crate) fn take_in(alloc: Global, entries: &mut Entries, event: Record) -> Result<(), AllocError>
+    ensures ok { OnOk result (by_name (λ k. k.items) entries.new.entries ≡ apply_record (by_name (λ k. k.items) entries.old.entries) event) }
+    ensures err { OnErr result (by_name (λ k. k.items) entries.new.entries ≡ by_name (λ k. k.items) entries.old.entries) }
+    ensures memory { OnErr result (map.get (by_name (λ k. k.items) entries.old.entries) (target_of event) ≡ None) }
+    ensures succeeds { 0 < spare entries.old → IsOk result }
+    ensures room { spare entries.old ≤ spare entries.new + 1 }
+{
+    match event {
+        Record::Begun { target } => set_unfinished(alloc, entries, target.into_vec(), Phase::Begun),
+        Record::Done {
+            target,
+            commands,
+            hidden,
+            explicit,
+        } => {
+            let entry = Entry {
+                phase: Phase::Done,
+                commands,
+                hidden,
+                explicit,
+            };
+            set_entry(entries, target.into_vec(), entry)
+        }
+        Record::Failed { target, status } => {
+            set_unfinished(alloc, entries, target.into_vec(), Phase::Failed(status))
+        }
+        Record::Kept { target, entry } => set_entry(entries, target.into_vec(), entry),
+    }
+}
+
+fn set_entry(entries: &mut Entries, name: Vec<u8>, entry: Entry) -> Result<(), AllocError>
+    ensures ok { OnOk result (by_name (λ k. k.items) entries.new.entries ≡ map.insert (by_name (λ k. k.items) entries.old.entries) name.items entry) }
+    ensures err { OnErr result (by_name (λ k. k.items) entries.new.entries ≡ by_name (λ k. k.items) entries.old.entries) }
+    ensures memory { OnErr result (map.get (by_name (λ k. k.items) entries.old.entries) name.items ≡ None) }
+    ensures succeeds { 0 < spare entries.old → IsOk result }
+    ensures room { spare entries.old ≤ spare entries.new + 1 }
+{
+    entries.insert(name, entry)?;
+    Ok(())
+}
+
+// A recipe that began or failed: no commands and no explicit names count any more, the hidden names stay as last known.
+fn set_unfinished(
+    alloc: Global,
+    entries: &mut Entries,
+    name: Vec<u8>,
+    phase: Phase,
+) -> Result<(), AllocError>
+    ensures ok { OnOk result (by_name (λ k. k.items) entries.new.entries
+        ≡ map.insert (by_name (λ k. k.items) entries.old.entries) name.items (unfinished phase (known_hidden (by_name (λ k. k.items) entries.old.entries) name.items))) }
+    ensures err { OnErr result (by_name (λ k. k.items) entries.new.entries ≡ by_name (λ k. k.items) entries.old.entries) }
+    ensures memory { OnErr result (map.get (by_name (λ k. k.items) entries.old.entries) name.items ≡ None) }
+    ensures succeeds { 0 < spare entries.old → IsOk result }
+    ensures room { spare entries.old ≤ spare entries.new + 1 }
+{
+    let known = entries.entry(name)?.or_insert(Entry {
+        phase,
+        commands: ByteStrings::empty(alloc),
+        hidden: ByteStrings::empty(alloc),
+        explicit: Explicit::Unknown,
+    });
+    leave_unfinished(alloc, known, phase);
+    Ok(())
+}
+
+fn leave_unfinished(alloc: Global, known: &mut Entry, phase: Phase)
+    ensures { known.new ≡ unfinished phase known.old.hidden }
+{
+    known.phase = phase;
+    known.commands = ByteStrings::empty(alloc);
+    known.explicit = Explicit::Unknown;
+}

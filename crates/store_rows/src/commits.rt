@@ -1,0 +1,50 @@
+//! Stores over the files of a state, and batches of one begun record.
+
+ghost use Rattle.std.specs.Prelude.{◌≡◌, true, false, IfOk};
+ghost use Rattle.st_records.specs.declared.version.Version.TheVariants as versions;
+ghost use Rattle.st_records.specs.Limits.{IsGood};
+ghost use Rattle.st_file.specs.Batch.{may_stand};
+
+use st_disk::{Disk, FileDisk, SystemFolder};
+use st_records::{ByteString, HashKey, Record};
+use st_recovery::{Store, open};
+use std::alloc::{AllocError, Global};
+
+pub(crate) fn disk_over(rt: HostRuntime, file: &str) -> Result<FileDisk<SystemFolder>, AllocError> {
+    Ok(FileDisk::new(SystemFolder::new(rt, rt.alloc(), file)?))
+}
+
+/// The store of a disk that isn't refused.
+pub(crate) fn opened<D: Disk + Drop>(alloc: Global, disk: D) -> anyhow::Result<Store<D>> {
+    match open(alloc, HashKey::fixed(), disk) {
+        Ok(store) => Ok(store),
+        Err((fault, _disk)) => Err(fault.into()),
+    }
+}
+
+/// A record that a later batch may hold.
+pub(crate) fn begun(alloc: Global, target: &str) -> anyhow::Result<Record>
+    ensures { IfOk result (λ r. IsGood versions.Two r × (may_stand false r ≡ true)) }
+{
+    let record = Record::Begun {
+        target: ByteString::from_slice(alloc, target.as_bytes())?,
+    };
+    record.check()?;
+    Ok(record)
+}
+
+/// Commits that a target's recipe began, to a state file.
+pub(crate) fn commit_name(rt: HostRuntime, file: &str, target: &str) -> anyhow::Result<()> {
+    let mut store = opened(rt.alloc(), disk_over(rt, file)?)?;
+    commit_to(rt.alloc(), &mut store, target)
+}
+
+fn commit_to<D: Disk + Drop>(
+    alloc: Global,
+    store: &mut Store<D>,
+    target: &str,
+) -> anyhow::Result<()> {
+    let batch = [begun(alloc, target)?];
+    store.commit(alloc, &batch)?;
+    Ok(())
+}

@@ -1,0 +1,117 @@
+//! Calls of files of this machine, and how long some take.
+use crate::commits::commit_name;
+use crate::keys::say_keys;
+use crate::row_fault::RowFault;
+use crate::script::make_call;
+use crate::system_calls::say_system;
+use crate::times::{commits_in_files, commits_in_memory, compaction_in_files};
+use st_disk::{Disk, FileDisk, SystemFolder};
+use std::process::ExitCode;
+use std::{fs, io};
+
+/// Answers `file ..`, `system ..`, `keys ..`, `commit ..` or `time ..`: the first word, and those behind it.
+pub(crate) fn call(rt: HostRuntime, name: &str, words: &[String]) -> anyhow::Result<ExitCode> {
+    match (name, words) {
+        ("time", [what, file]) => print_time(rt, what.as_str(), file.as_str()),
+        ("commit", [file, target]) => commit(rt, file.as_str(), target.as_str()),
+        (_, [file, calls @ ..]) => print_answers(rt, name, file.as_str(), calls),
+        _ => unknown(rt, name),
+    }
+}
+
+fn unknown(rt: HostRuntime, name: &str) -> anyhow::Result<ExitCode> {
+    eprintln!(rt; "store_rows: no such call: {name}")?;
+    Ok(ExitCode::from(2))
+}
+
+fn commit(rt: HostRuntime, file: &str, target: &str) -> anyhow::Result<ExitCode> {
+    commit_name(rt, file, target)?;
+    Ok(ExitCode::from(0))
+}
+
+fn print_time(rt: HostRuntime, what: &str, file: &str) -> anyhow::Result<ExitCode> {
+    let nanoseconds = match what {
+        "commits" => commits_in_files(rt, file)?,
+        "memory" => commits_in_memory(rt, file)?,
+        "compaction" => compaction_in_files(rt, file)?,
+        _ => return unknown(rt, what),
+    };
+    println!(rt; "{nanoseconds} ns")?;
+    Ok(ExitCode::from(0))
+}
+
+fn print_answers(
+    rt: HostRuntime,
+    name: &str,
+    file: &str,
+    calls: &[String],
+) -> anyhow::Result<ExitCode> {
+    let mut said = String::new(rt.alloc());
+    let answered = say_answers(rt, &mut said, name, file, calls);
+    print_said(rt, said.as_str(), answered)
+}
+
+fn say_answers(
+    rt: HostRuntime,
+    said: &mut String,
+    name: &str,
+    file: &str,
+    calls: &[String],
+) -> Result<(), RowFault> {
+    match name {
+        "file" => say_file(rt, said, file, calls),
+        "system" => say_system(rt, said, file, calls),
+        "keys" => say_keys(rt, said, file),
+        _ => Err(RowFault::Word),
+    }
+}
+
+fn print_said(
+    rt: HostRuntime,
+    said: &str,
+    answered: Result<(), RowFault>,
+) -> anyhow::Result<ExitCode> {
+    match answered {
+        Ok(()) => {
+            println!(rt; "{said}")?;
+            Ok(ExitCode::from(0))
+        }
+        Err(fault) => {
+            eprintln!(rt; "store_rows: {fault:?}")?;
+            Ok(ExitCode::from(2))
+        }
+    }
+}
+
+/// The answers of a disk over the file and the one with `.2` behind its name.
+fn say_file(
+    rt: HostRuntime,
+    said: &mut String,
+    file: &str,
+    calls: &[String],
+) -> Result<(), RowFault> {
+    let mut disk = FileDisk::new(SystemFolder::new(rt, rt.alloc(), file)?);
+    say_calls(rt, said, &mut disk, file, calls)
+}
+
+// `=TEXT` has another make the file meanwhile, `-` another remove it.
+fn say_calls<D: Disk>(
+    rt: HostRuntime,
+    said: &mut String,
+    disk: &mut D,
+    file: &str,
+    calls: &[String],
+) -> Result<(), RowFault> {
+    for word in calls {
+        match word.strip_prefix('=') {
+            Some(text) => made_meanwhile(fs::write(&rt, file, text))?,
+            None if word.as_str() == "-" => made_meanwhile(fs::remove_file(&rt, file))?,
+            None => make_call(said, disk, word.as_str())?,
+        }
+    }
+    Ok(())
+}
+
+fn made_meanwhile(made: io::Result<()>) -> Result<(), RowFault> {
+    made.map_err(|_| RowFault::Word)
+}

@@ -1,0 +1,86 @@
+//! The system's own calls on a state file's name, one by one: what no contract can say of them.
+use crate::row_fault::RowFault;
+use st_disk::{Folder, SystemFile, SystemFolder, Which};
+use std::alloc::AllocError;
+use std::io;
+
+/// Makes the calls that are named, and says their answers with blanks between.
+///
+/// `find` says in which folder the file stands, or `none`; `make` says `there` in place of the folder where it was found;
+/// `len` says its length, `name` and `sync` say `+`. A call that fails says `!`.
+pub(crate) fn say_system(
+    rt: HostRuntime,
+    said: &mut String,
+    name: &str,
+    calls: &[String],
+) -> Result<(), RowFault> {
+    let mut files = SystemFolder::new(rt, rt.alloc(), name)?;
+    for word in calls {
+        if !said.is_empty() {
+            said.push(' ')?;
+        }
+        say_call(said, &mut files, word.as_str())?;
+    }
+    Ok(())
+}
+
+fn say_call(said: &mut String, files: &mut SystemFolder, word: &str) -> Result<(), RowFault> {
+    match word {
+        "find" => say_found(said, files.find(Which::A))?,
+        "make" => say_made(said, files)?,
+        "len" => say_len(said, len(files))?,
+        "name" => say_done(said, sync_name(files))?,
+        "sync" => say_done(said, sync(files))?,
+        _ => return Err(RowFault::Word),
+    }
+    Ok(())
+}
+
+fn say_found(said: &mut String, found: io::Result<Option<SystemFile>>) -> Result<(), AllocError> {
+    match found {
+        Ok(Some(file)) => said.push_str(file.folder()),
+        Ok(None) => said.push_str("none"),
+        Err(_) => said.push('!'),
+    }
+}
+
+fn say_made(said: &mut String, files: &mut SystemFolder) -> Result<(), AllocError> {
+    match files.find(Which::A) {
+        Ok(None) => say_found(said, files.create(Which::A).map(Some)),
+        Ok(Some(_)) => said.push_str("there"),
+        Err(_) => said.push('!'),
+    }
+}
+
+fn say_len(said: &mut String, len: io::Result<usize>) -> Result<(), AllocError> {
+    match len {
+        Ok(len) => write!(said, "{len}"),
+        Err(_) => said.push('!'),
+    }
+}
+
+fn say_done(said: &mut String, done: io::Result<()>) -> Result<(), AllocError> {
+    said.push(if done.is_ok() { '+' } else { '!' })
+}
+
+fn found(files: &mut SystemFolder) -> io::Result<SystemFile> {
+    match files.find(Which::A)? {
+        Some(file) => Ok(file),
+        None => Err(io::ErrorKind::NotFound.into()),
+    }
+}
+
+fn len(files: &mut SystemFolder) -> io::Result<usize> {
+    let file = found(files)?;
+    files.len(&file)
+}
+
+fn sync_name(files: &mut SystemFolder) -> io::Result<()> {
+    let file = found(files)?;
+    files.sync_name(&file)
+}
+
+fn sync(files: &mut SystemFolder) -> io::Result<()> {
+    let file = found(files)?;
+    files.sync(&file)
+}
