@@ -4,38 +4,9 @@
 set -u -o pipefail
 cd "$(dirname "$0")/.." || exit 2
 program=crates/store_rows/out/store_rows
-passed=0 failed=0
+. scripts/row_program.sh
 
-# add COMMAND..: shows its output, and adds the counts of its last line. A part with no count is one failure.
-add() {
-    local out good bad status=0
-    out=$(timeout 120 "$@") || status=$?
-    printf '%s\n' "$out" | sed '$d'
-    read -r good bad <<<"$(tail -n 1 <<<"$out" | sed -nE 's/^([0-9]+) passed, ([0-9]+) failed$/\1 \2/p')"
-    good=${good:-0} bad=${bad:-1}
-    [ "$status" -eq 0 ] || [ "$bad" -gt 0 ] || bad=1
-    passed=$((passed + good)) failed=$((failed + bad))
-}
-
-# refuses WHY TEXT: of these rows one has to fail.
-refuses() {
-    local out
-    if out=$(printf '%s' "$2" | "$program" 2>&1); then
-        echo "passed: $1"
-        failed=$((failed + 1))
-    elif [ "$(tail -n 1 <<<"$out")" != '0 passed, 1 failed' ]; then
-        echo "refused otherwise: $1: $out"
-        failed=$((failed + 1))
-    else
-        passed=$((passed + 1))
-    fi
-}
-
-files=(cases/store/*.rows)
-[ -s "${files[0]}" ] || { echo "no rows"; failed=1; }
-for file in "${files[@]}"; do
-    add "$program" "$file"
-done
+add_rows cases/store
 refuses 'an empty text' ''
 refuses 'no rows' '// nothing'
 refuses 'a row without calls' $'row r\nA 7\n'
@@ -61,5 +32,4 @@ refuses 'a place of a disk that is no number' $'row r\ndisk stop 1 abc Arx > !\n
 refuses 'a side of a disk that is not known' $'row r\ndisk stop 0 abc Cl > ! 100 abc\n'
 refuses 'a folder that is not known' $'row r\nfolder here 1 Al > 6 findA lenA\n'
 refuses 'a line before the first row' $'A 7\n'
-echo "$passed passed, $failed failed"
-[ "$failed" -eq 0 ]
+tell_counts
