@@ -8,7 +8,7 @@ for entries in 10 1000 100000; do
     for run in 1 2 3; do
         rm -f "$work"/*
         python3 scripts/state_file.py "done" "$work/state" "$entries"
-        took=$(crates/store_rows/out/store_rows time compaction "$work/state")
+        took=$(crates/call_rows/out/call_rows time compaction "$work/state")
         plain=$(python3 - "$work/state.2" "$work/plain" <<'END'
 import os, sys, time
 text = open(sys.argv[1], "rb").read()

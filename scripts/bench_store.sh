@@ -4,7 +4,7 @@
 # times to later. The files stand in a folder of their own in FOLDER (the current one). Nothing is tested.
 set -eu
 . "$(dirname "$0")/bench_folder.sh"
-program=crates/store_rows/out/store_rows
+program=crates/call_rows/out/call_rows
 
 # plain_writes FILE: the median time of 200 times what a commit asks of the system: a write behind the file's end of as many
 # bytes as one record takes, a sync, a write of the byte in front, and a sync.

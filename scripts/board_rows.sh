@@ -1,9 +1,9 @@
 #!/bin/bash
-# Runs the built board_rows on each file of cases/board, and on random lists of calls; and on texts that it has to refuse.
+# Runs `call_rows board` on each file of cases/board, and on random lists of calls; and on texts that it has to refuse.
 # cases/board/README.md has the language of rows. The last line is 'N passed, M failed'.
 set -u -o pipefail
 cd "$(dirname "$0")/.." || exit 2
-program=crates/board_rows/out/board_rows
+program=(crates/call_rows/out/call_rows board)
 . scripts/row_program.sh
 
 add_rows cases/board

@@ -1,5 +1,5 @@
 #!/usr/bin/env python3
-"""Random lists of calls on a board: what board_rows answers is compared with a board over six plain lists.
+"""Random lists of calls on a board: what `call_rows board` answers is compared with a board over six plain lists.
 
 usage: random_boards.py [LISTS [SEED]]
 
@@ -12,7 +12,7 @@ import subprocess
 import sys
 from pathlib import Path
 
-PROGRAM = Path(__file__).resolve().parent.parent / "crates/board_rows/out/board_rows"
+PROGRAM = Path(__file__).resolve().parent.parent / "crates/call_rows/out/call_rows"
 CALLS = 40
 LABELS = "abcdef"
 TEXTS = ["true", "cc", "false", "gone", "exit 3", "exit 256", "", "-false", "-gone", "?cc", "?false"]
@@ -326,7 +326,7 @@ def main(words):
     for number in range(lists):
         lines.append(f"row list {number} of seed {seed}")
         lines.extend(Caller(random.Random(f"{seed} {number}"), seen).write())
-    told = subprocess.run([PROGRAM], input="\n".join(lines) + "\n", stdout=subprocess.PIPE, text=True, check=False)
+    told = subprocess.run([PROGRAM, "board"], input="\n".join(lines) + "\n", stdout=subprocess.PIPE, text=True, check=False)
     report = told.stdout.splitlines()
     for line in report[:-1][:40]:
         print(line)

@@ -1,4 +1,4 @@
-# Sourced by the scripts that run a program of rows, which name the built one in `program`.
+# Sourced by the scripts that run a program of rows, which name the built one and the kind of its rows, in `program`.
 passed=0 failed=0
 
 # add COMMAND..: shows its output, and adds the counts of its last line. A part with no count is one failure.
@@ -17,14 +17,14 @@ add_rows() {
     local file files=("$1"/*.rows)
     [ -s "${files[0]}" ] || { echo "no rows"; failed=$((failed + 1)); return; }
     for file in "${files[@]}"; do
-        add "$program" "$file"
+        add "${program[@]}" "$file"
     done
 }
 
 # refuses WHY TEXT: of these rows one has to fail.
 refuses() {
     local out
-    if out=$(printf '%s' "$2" | "$program" 2>&1); then
+    if out=$(printf '%s' "$2" | "${program[@]}" 2>&1); then
         echo "passed: $1"
         failed=$((failed + 1))
     elif [ "$(tail -n 1 <<<"$out")" != '0 passed, 1 failed' ]; then

@@ -1,9 +1,9 @@
 #!/bin/bash
-# Runs the built store_rows on each file of cases/store, and on texts that it has to refuse.
+# Runs `call_rows store` on each file of cases/store, and on texts that it has to refuse.
 # cases/store/README.md has the language of rows. The last line is 'N passed, M failed'.
 set -u -o pipefail
 cd "$(dirname "$0")/.." || exit 2
-program=crates/store_rows/out/store_rows
+program=(crates/call_rows/out/call_rows store)
 . scripts/row_program.sh
 
 add_rows cases/store

@@ -6,16 +6,19 @@ use crate::ends::{read_end, write_stand};
 use crate::nodes::Nodes;
 use crate::records::{write_record, write_records};
 use crate::submission::{Submission, read_submission};
-use crate::words::{Trouble, Words};
 use bd_ledger::Ticket;
 use bd_links::Node;
 use bd_lists::{Board, Spent, Told};
 use bd_places::End;
+use row_files::{Answered, RowFault, Words};
 use st_records::Record;
 use std::alloc::{AllocError, Global};
 
 /// The most nodes that are emptied at once.
 const MANY: usize = 10_000_000;
+
+/// The tickets of a record that is taken, or the record and the run that aren't.
+type Submitted<T> = Result<(Ticket, Option<Ticket>), (Record, Option<Spent<T>>)>;
 
 /// A run of a node that is yet to be handed in.
 pub(crate) struct Run<T: Drop> {
@@ -52,24 +55,24 @@ impl<T: Told + Drop> Desk<'_, T> {
         name: &str,
         words: &mut Words<'_>,
         out: &mut String,
-    ) -> Result<(), Trouble> {
+    ) -> Answered {
         match name {
-            "claim" => Ok(self.claim(out)?),
+            "claim" => self.claim(out),
             "submit" => self.submit(alloc, words, out),
-            "drain" => Ok(self.drain(alloc, out)?),
+            "drain" => self.drain(alloc, out),
             "settle" => self.settle(words, out),
             "abandon" => self.abandon(words, out),
-            "empty" => Ok(write!(out, "{}", self.empty())?),
+            "empty" => self.write_emptied(out),
             "stand" => self.stand(words, out),
-            "stands" => Ok(self.stands(out)?),
-            _ => Err(Trouble::NotReadable),
+            "stands" => self.write_stands(out),
+            _ => Err(RowFault::Word),
         }
     }
 
-    fn claim(&mut self, out: &mut String) -> Result<(), AllocError> {
+    fn claim(&mut self, out: &mut String) -> Answered {
         match self.board.claim() {
-            Some(node) => self.nodes.write(node, out),
-            None => out.push_str("none"),
+            Some(node) => Ok(self.nodes.write(node, out)?),
+            None => Ok(out.push_str("none")?),
         }
     }
 
@@ -80,12 +83,7 @@ impl<T: Told + Drop> Desk<'_, T> {
     }
 
     /// `submit NODE [as TARGET] [by NODE] RECORD`: with the run of the node, or of another one.
-    fn submit(
-        &mut self,
-        alloc: Global,
-        words: &mut Words<'_>,
-        out: &mut String,
-    ) -> Result<(), Trouble> {
+    fn submit(&mut self, alloc: Global, words: &mut Words<'_>, out: &mut String) -> Answered {
         let Submission { node, by, note } = read_submission(alloc, &self.nodes, words)?;
         Ok(self.hand_in(node, note, by, out)?)
     }
@@ -100,15 +98,34 @@ impl<T: Told + Drop> Desk<'_, T> {
     ) -> Result<(), AllocError>
         requires { IsGood Two note }
     {
+        match self.submit_with(node, note, by) {
+            Ok((ticket, told)) => write_ticket(ticket, told, out),
+            Err((note, run)) => self.refuse(by, note, run, out),
+        }
+    }
+
+    /// Submits a record with the run of a node. Its ticket and that of the receipt which it hands out, or both come back.
+    fn submit_with(&mut self, node: Node, note: Record, by: Node) -> Submitted<T>
+        requires { IsGood Two note }
+    {
         let run = self.take_run(by);
         match self.board.submit(node, note, run) {
-            Ok((ticket, told)) => write_ticket(ticket, told.as_ref(), out),
-            Err((note, run)) => {
-                self.keep_run(by, run)?;
-                out.push_str("refused ")?;
-                write_record(&note, out)
-            }
+            Ok((ticket, told)) => Ok((ticket, ticket_of(told))),
+            Err(kept) => Err(kept),
         }
+    }
+
+    fn refuse(
+        &mut self,
+        by: Node,
+        note: Record,
+        run: Option<Spent<T>>,
+        out: &mut String,
+    ) -> Result<(), AllocError> {
+        let kept = self.keep_run(by, run);
+        let written = write_refused(&note, out);
+        drop(note);
+        kept.and(written)
     }
 
     fn keep_run(&mut self, node: Node, run: Option<Spent<T>>) -> Result<(), AllocError> {
@@ -118,20 +135,20 @@ impl<T: Told + Drop> Desk<'_, T> {
         Ok(())
     }
 
-    fn drain(&mut self, alloc: Global, out: &mut String) -> Result<(), AllocError> {
+    fn drain(&mut self, alloc: Global, out: &mut String) -> Answered {
         let mut records = Vec::with_capacity(alloc, self.board.unflushed())?;
         self.board.drain(&mut records);
-        write_records(&records, out)
+        Ok(write_records(&records, out)?)
     }
 
-    fn settle(&mut self, words: &mut Words<'_>, out: &mut String) -> Result<(), Trouble> {
+    fn settle(&mut self, words: &mut Words<'_>, out: &mut String) -> Answered {
         let node = self.nodes.next(words)?;
         let end = read_end(words)?;
         let is_taken = self.board.settle(node, end);
         Ok(out.push_str(taken(is_taken))?)
     }
 
-    fn abandon(&mut self, words: &mut Words<'_>, out: &mut String) -> Result<(), Trouble> {
+    fn abandon(&mut self, words: &mut Words<'_>, out: &mut String) -> Answered {
         let node = self.nodes.next(words)?;
         let is_taken = self.board.abandon(node);
         Ok(out.push_str(taken(is_taken))?)
@@ -152,19 +169,24 @@ impl<T: Told + Drop> Desk<'_, T> {
         MANY
     }
 
-    fn stand(&self, words: &mut Words<'_>, out: &mut String) -> Result<(), Trouble> {
+    fn write_emptied(&mut self, out: &mut String) -> Answered {
+        let count = self.empty();
+        Ok(write!(out, "{count}")?)
+    }
+
+    fn stand(&self, words: &mut Words<'_>, out: &mut String) -> Answered {
         let node = self.nodes.next(words)?;
         Ok(write_stand(self.board.stand(node), self.board.end(node), out)?)
     }
 
     /// Where each labelled node stands and two past the last, how many wait to be drained, and whether some wait or are ready.
-    fn stands(&self, out: &mut String) -> Result<(), AllocError> {
+    fn write_stands(&self, out: &mut String) -> Answered {
         let count = self.nodes.labels.len();
         for number in 0..count.saturating_add(2) {
             self.write_node(Node::new(number), number < count, out)?;
         }
         write!(out, "{} unflushed", self.board.unflushed())?;
-        out.push_str(if self.board.waits() { ", waits" } else { "" })
+        Ok(out.push_str(if self.board.waits() { ", waits" } else { "" })?)
     }
 
     /// Where a node stands, unless it is nowhere and isn't expected to be anywhere.
@@ -190,15 +212,24 @@ fn taken(is_taken: bool) -> &'static str {
     if is_taken { "taken" } else { "refused" }
 }
 
+fn ticket_of<T: Told + Drop>(told: Option<T>) -> Option<Ticket> {
+    told.map(|told| told.ticket())
+}
+
+fn write_refused(note: &Record, out: &mut String) -> Result<(), AllocError> {
+    out.push_str("refused ")?;
+    write_record(note, out)
+}
+
 /// The ticket of a submission, and that of the receipt that it hands out.
-fn write_ticket<T: Told>(
+fn write_ticket(
     ticket: Ticket,
-    told: Option<&T>,
+    handed_out: Option<Ticket>,
     out: &mut String,
 ) -> Result<(), AllocError> {
     write!(out, "{}", ticket.number())?;
-    match told {
-        Some(told) => write!(out, ", hands out {}", told.ticket().number()),
+    match handed_out {
+        Some(ticket) => write!(out, ", hands out {}", ticket.number()),
         None => Ok(()),
     }
 }

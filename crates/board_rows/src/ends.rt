@@ -1,10 +1,10 @@
 //! Where nodes stand, and how they ended.
-use crate::words::{Trouble, Words};
 use bd_links::Stand;
 use bd_places::End;
+use row_files::{RowFault, Words};
 use std::alloc::AllocError;
 
-pub(crate) fn read_end(words: &mut Words<'_>) -> Result<End, Trouble> {
+pub(crate) fn read_end(words: &mut Words<'_>) -> Result<End, RowFault> {
     match words.next() {
         "uptodate" => Ok(End::UpToDate),
         "remade" => Ok(End::Remade),
@@ -12,9 +12,9 @@ pub(crate) fn read_end(words: &mut Words<'_>) -> Result<End, Trouble> {
         "abandoned" => Ok(End::Abandoned),
         "failed" => match words.next().parse::<u32>() {
             Ok(status) => Ok(End::Failed(status)),
-            Err(_) => Err(Trouble::NotReadable),
+            Err(_) => Err(RowFault::Word),
         },
-        _ => Err(Trouble::NotReadable),
+        _ => Err(RowFault::Word),
     }
 }
 

@@ -1,11 +1,11 @@
 //! The graph of a row, and its board.
 use crate::nodes::Nodes;
 use crate::sets::are_sets;
-use crate::words::Trouble;
 use bd_links::Node;
 use bd_lists::{Board, Told};
 use byte_strings::ByteString;
 use mk_graph::{Edges, count_edges};
+use row_files::{Answered, RowFault};
 use std::alloc::{AllocError, Global};
 
 /// Hard and soft prerequisites of each node.
@@ -16,7 +16,7 @@ pub(crate) struct Graph {
 }
 
 /// The numbers of the named nodes.
-fn row(alloc: Global, nodes: &Nodes<'_>, names: &str) -> Result<Vec<usize>, Trouble> {
+fn row(alloc: Global, nodes: &Nodes<'_>, names: &str) -> Result<Vec<usize>, RowFault> {
     let mut row = Vec::new(alloc);
     for word in names.split(' ') {
         if !word.is_empty() {
@@ -41,13 +41,8 @@ impl Graph {
     }
 
     /// Adds a node of a line `NAME: HARD .. | SOFT ..`, once all nodes have their labels.
-    pub(crate) fn add(
-        &mut self,
-        alloc: Global,
-        nodes: &Nodes<'_>,
-        line: &str,
-    ) -> Result<(), Trouble> {
-        let (_name, edges) = line.split_once(':').ok_or(Trouble::NotReadable)?;
+    pub(crate) fn add(&mut self, alloc: Global, nodes: &Nodes<'_>, line: &str) -> Answered {
+        let (_name, edges) = line.split_once(':').ok_or(RowFault::Word)?;
         let (hard, soft) = edges.split_once('|').unwrap_or((edges, ""));
         self.hard.push(row(alloc, nodes, hard)?)?;
         self.soft.push(row(alloc, nodes, soft)?)?;
@@ -91,7 +86,7 @@ impl Graph {
         self,
         alloc: Global,
         nodes: &Nodes<'_>,
-    ) -> Result<Board<T>, Trouble> {
+    ) -> Result<Board<T>, RowFault> {
         let targets = self.targets(alloc, nodes)?;
         let Graph { hard, soft } = self;
         board(alloc, Edges::new(hard), Edges::new(soft), targets)
@@ -99,9 +94,9 @@ impl Graph {
 }
 
 /// The edges that order nodes, where these are graphs of the same nodes.
-fn counted(alloc: Global, hard: &Edges, soft: &Edges) -> Result<Edges, Trouble> {
+fn counted(alloc: Global, hard: &Edges, soft: &Edges) -> Result<Edges, RowFault> {
     if soft.len() != hard.len() || !hard.is_closed() || !soft.is_closed() {
-        return Err(Trouble::NotReadable);
+        return Err(RowFault::Word);
     }
     Ok(count_edges(alloc, hard, soft)?.edges)
 }
@@ -111,13 +106,13 @@ fn board<T: Told>(
     hard: Edges,
     soft: Edges,
     targets: Vec<ByteString>,
-) -> Result<Board<T>, Trouble> {
+) -> Result<Board<T>, RowFault> {
     let counted = counted(alloc, &hard, &soft)?;
     if counted.len() != hard.len() || targets.len() != hard.len() || hard.len() > 1_000_000 {
-        return Err(Trouble::NotReadable);
+        return Err(RowFault::Word);
     }
     if !are_sets(&counted) {
-        return Err(Trouble::NotReadable);
+        return Err(RowFault::Word);
     }
     Ok(Board::of(alloc, counted, hard, targets)?)
 }

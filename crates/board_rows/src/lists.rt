@@ -5,13 +5,12 @@ use crate::cleared::Cleared;
 use crate::desk::Desk;
 use crate::note::Note;
 use crate::records::read_good;
-use crate::row::World;
 use crate::script::lines;
-use crate::words::{Trouble, Words};
 use bd_ledger::Ticket;
 use bd_links::Node;
 use bd_lists::{Advanced, Clearance};
 use byte_strings::ByteString;
+use row_files::{Answered, RowFault, Words, World};
 use st_records::Record;
 use std::alloc::{AllocError, Global};
 
@@ -22,12 +21,7 @@ pub(crate) struct Lists<'a> {
 }
 
 impl World for Lists<'_> {
-    fn call(
-        &mut self,
-        alloc: Global,
-        words: &mut Words<'_>,
-        out: &mut String,
-    ) -> Result<(), Trouble> {
+    fn call(&mut self, alloc: Global, words: &mut Words<'_>, out: &mut String) -> Answered {
         match words.next() {
             "advance" => self.advance(alloc, words, out),
             "run" => self.run(alloc, words, out),
@@ -39,12 +33,7 @@ impl World for Lists<'_> {
 
 impl Lists<'_> {
     /// `advance NODE TICKET [as TARGET] RECORD`: with the receipt of that record at that ticket.
-    fn advance(
-        &mut self,
-        alloc: Global,
-        words: &mut Words<'_>,
-        out: &mut String,
-    ) -> Result<(), Trouble> {
+    fn advance(&mut self, alloc: Global, words: &mut Words<'_>, out: &mut String) -> Answered {
         let node = self.desk.nodes.next(words)?;
         let ticket = Ticket::new(words.number()?);
         let named = self.desk.nodes.other(words, "as ", node)?;
@@ -86,8 +75,14 @@ impl Lists<'_> {
     {
         match self.desk.board.advance(node, told) {
             Ok(Advanced::Cleared(clearance)) => (Some(clearance), "cleared"),
-            Ok(Advanced::Settled(_told)) => (None, "settled"),
-            Err(_told) => (None, "refused"),
+            Ok(Advanced::Settled(told)) => {
+                drop(told);
+                (None, "settled")
+            }
+            Err(told) => {
+                drop(told);
+                (None, "refused")
+            }
         }
     }
 
@@ -100,20 +95,15 @@ impl Lists<'_> {
         answer
     }
 
-    fn take(&mut self, node: Node) -> Result<Cleared, Trouble> {
+    fn take(&mut self, node: Node) -> Result<Cleared, RowFault> {
         match self.clearances.iter().position(|held| held.node == node) {
             Some(place) => Ok(self.clearances.swap_remove(place)),
-            None => Err(Trouble::NotReadable),
+            None => Err(RowFault::Word),
         }
     }
 
     /// `run NODE [ignore] $ LINE $ ..`: with the clearance of the node. The run waits to be handed in.
-    fn run(
-        &mut self,
-        alloc: Global,
-        words: &mut Words<'_>,
-        out: &mut String,
-    ) -> Result<(), Trouble> {
+    fn run(&mut self, alloc: Global, words: &mut Words<'_>, out: &mut String) -> Answered {
         let node = self.desk.nodes.next(words)?;
         let ignore = words.skip("ignore ");
         let lines = lines(alloc, words.rest)?;
@@ -122,7 +112,7 @@ impl Lists<'_> {
         Ok(())
     }
 
-    fn give_up(&mut self, words: &mut Words<'_>, out: &mut String) -> Result<(), Trouble> {
+    fn give_up(&mut self, words: &mut Words<'_>, out: &mut String) -> Answered {
         let node = self.desk.nodes.next(words)?;
         Ok(write!(out, "{}", self.take(node)?.give_up())?)
     }

@@ -1,7 +1,7 @@
 //! The nodes of a row and their names.
-use crate::words::{Trouble, Words, number};
 use bd_links::Node;
 use byte_strings::ByteString;
+use row_files::{RowFault, Words, number};
 use std::alloc::{AllocError, Global};
 
 /// The nodes' labels in number order. A node's target is its label so many times, or `none` where it has no label.
@@ -13,17 +13,17 @@ pub(crate) struct Nodes<'a> {
 
 impl Nodes<'_> {
     /// The node of a word: a label, or `#` and a number.
-    pub(crate) fn find(&self, word: &str) -> Result<Node, Trouble> {
+    pub(crate) fn find(&self, word: &str) -> Result<Node, RowFault> {
         if let Some(digits) = word.strip_prefix("#") {
             return Ok(Node::new(number(digits)?));
         }
         match self.labels.iter().position(|label| *label == word) {
             Some(place) => Ok(Node::new(place)),
-            None => Err(Trouble::NotReadable),
+            None => Err(RowFault::Word),
         }
     }
 
-    pub(crate) fn next(&self, words: &mut Words<'_>) -> Result<Node, Trouble> {
+    pub(crate) fn next(&self, words: &mut Words<'_>) -> Result<Node, RowFault> {
         self.find(words.next())
     }
 
@@ -33,7 +33,7 @@ impl Nodes<'_> {
         words: &mut Words<'_>,
         word: &str,
         node: Node,
-    ) -> Result<Node, Trouble> {
+    ) -> Result<Node, RowFault> {
         if words.skip(word) {
             return self.next(words);
         }

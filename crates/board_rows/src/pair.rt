@@ -1,11 +1,10 @@
 //! A board with the site that is told its records.
 use crate::desk::Desk;
 use crate::records::read_good;
-use crate::row::World;
 use crate::store::{Tried, known_after_cuts, recovered, site, write_recovered, write_state};
-use crate::words::{Trouble, Words};
 use bd_flusher::{FlushFault, Receipt, Site};
 use bd_ledger::Ticket;
+use row_files::{Answered, RowFault, Words, World};
 use st_disk::Which;
 use st_memory::MemDisk;
 use st_records::Record;
@@ -20,20 +19,15 @@ pub(crate) struct Pair<'a> {
 }
 
 impl World for Pair<'_> {
-    fn call(
-        &mut self,
-        alloc: Global,
-        words: &mut Words<'_>,
-        out: &mut String,
-    ) -> Result<(), Trouble> {
+    fn call(&mut self, alloc: Global, words: &mut Words<'_>, out: &mut String) -> Answered {
         match words.next() {
             "begin" => self.begin(alloc, words, out),
             "look" => self.look(alloc, words, out),
-            "take_in" => Ok(self.take_in(alloc, out)?),
+            "take_in" => self.take_in(alloc, out),
             "elsewhere" => self.take_elsewhere(alloc, out),
-            "flush" => Ok(self.flush(alloc, out)?),
-            "tidy" => Ok(self.tidy(alloc, out)?),
-            "told" => Ok(write!(out, "{}", self.site.told().len())?),
+            "flush" => self.flush(alloc, out),
+            "tidy" => self.tidy(alloc, out),
+            "told" => self.write_told(out),
             name => self.ask(alloc, name, words, out),
         }
     }
@@ -47,15 +41,15 @@ impl Pair<'_> {
         name: &str,
         words: &mut Words<'_>,
         out: &mut String,
-    ) -> Result<(), Trouble> {
+    ) -> Answered {
         match name {
             "side" => self.side(words, out),
-            "open" => Ok(self.open_side(out)?),
-            "known" => Ok(write!(out, "{}", self.site.store().state().len())?),
-            "state" => Ok(write_state(alloc, self.site.store().state(), out)?),
-            "calls" => Ok(self.calls(out)?),
+            "open" => self.open_side(out),
+            "known" => self.write_known(out),
+            "state" => self.write_state(alloc, out),
+            "calls" => self.calls(out),
             "cut" => self.cut(alloc, out),
-            "recovered" => Ok(write!(out, "{}", recovered(alloc, self.memory())?)?),
+            "recovered" => self.write_recovered(alloc, out),
             "recover" => write_recovered(alloc, self.memory(), out),
             _ => self.desk.call(alloc, name, words, out),
         }
@@ -65,13 +59,25 @@ impl Pair<'_> {
         &self.site.store().log.disk.inner.inner
     }
 
+    fn write_told(&self, out: &mut String) -> Answered {
+        Ok(write!(out, "{}", self.site.told().len())?)
+    }
+
+    fn write_known(&self, out: &mut String) -> Answered {
+        Ok(write!(out, "{}", self.site.store().state().len())?)
+    }
+
+    fn write_state(&self, alloc: Global, out: &mut String) -> Answered {
+        Ok(write_state(alloc, self.site.store().state(), out)?)
+    }
+
+    fn write_recovered(&self, alloc: Global, out: &mut String) -> Answered {
+        let count = recovered(alloc, self.memory())?;
+        Ok(write!(out, "{count}")?)
+    }
+
     /// `begin N`: claims the next N nodes and submits their 'begun's.
-    fn begin(
-        &mut self,
-        alloc: Global,
-        words: &mut Words<'_>,
-        out: &mut String,
-    ) -> Result<(), Trouble> {
+    fn begin(&mut self, alloc: Global, words: &mut Words<'_>, out: &mut String) -> Answered {
         for count in 0..words.number()? {
             if count > 0 {
                 out.push_str(" ")?;
@@ -81,7 +87,7 @@ impl Pair<'_> {
         Ok(())
     }
 
-    fn begin_next(&mut self, alloc: Global, out: &mut String) -> Result<(), Trouble> {
+    fn begin_next(&mut self, alloc: Global, out: &mut String) -> Answered {
         let Some(node) = self.desk.board.claim() else {
             return Ok(out.push_str("none")?);
         };
@@ -91,12 +97,7 @@ impl Pair<'_> {
     }
 
     /// `look NODE TICKET RECORD`: the batch of the record, where it was told at the ticket.
-    fn look(
-        &mut self,
-        alloc: Global,
-        words: &mut Words<'_>,
-        out: &mut String,
-    ) -> Result<(), Trouble> {
+    fn look(&mut self, alloc: Global, words: &mut Words<'_>, out: &mut String) -> Answered {
         let node = self.desk.nodes.next(words)?;
         let ticket = Ticket::new(words.number()?);
         let target = self.desk.nodes.target(alloc, node)?;
@@ -114,32 +115,32 @@ impl Pair<'_> {
         }
     }
 
-    fn take_in(&mut self, alloc: Global, out: &mut String) -> Result<(), AllocError> {
+    fn take_in(&mut self, alloc: Global, out: &mut String) -> Answered {
         let answer = self.site.take_in(alloc, &mut self.desk.board);
         write_answer(answer, out)
     }
 
     /// Another site takes in what waits.
-    fn take_elsewhere(&mut self, alloc: Global, out: &mut String) -> Result<(), Trouble> {
+    fn take_elsewhere(&mut self, alloc: Global, out: &mut String) -> Answered {
         let mut elsewhere = site(alloc, MemDisk::new(alloc))?;
         let answer = elsewhere.take_in(alloc, &mut self.desk.board);
-        Ok(write_answer(answer, out)?)
+        write_answer(answer, out)
     }
 
-    fn flush(&mut self, alloc: Global, out: &mut String) -> Result<(), AllocError> {
+    fn flush(&mut self, alloc: Global, out: &mut String) -> Answered {
         write_answer(self.site.flush(alloc), out)
     }
 
-    fn tidy(&mut self, alloc: Global, out: &mut String) -> Result<(), AllocError> {
+    fn tidy(&mut self, alloc: Global, out: &mut String) -> Answered {
         write_answer(self.site.tidy(alloc), out)
     }
 
     /// The bytes of a side.
-    fn side(&self, words: &mut Words<'_>, out: &mut String) -> Result<(), Trouble> {
+    fn side(&self, words: &mut Words<'_>, out: &mut String) -> Answered {
         let side = match words.next() {
             "a" => Which::A,
             "b" => Which::B,
-            _ => return Err(Trouble::NotReadable),
+            _ => return Err(RowFault::Word),
         };
         for byte in self.memory().bytes(side) {
             write!(out, "{byte:02x}")?;
@@ -148,28 +149,28 @@ impl Pair<'_> {
     }
 
     /// The open side, its version and its generation.
-    fn open_side(&self, out: &mut String) -> Result<(), AllocError> {
+    fn open_side(&self, out: &mut String) -> Answered {
         let log = &self.site.store().log;
-        write!(out, "{:?} {:?} {}", log.side, log.version, log.generation)
+        Ok(write!(out, "{:?} {:?} {}", log.side, log.version, log.generation)?)
     }
 
     /// How many calls of the disk there were up to its stop, and how many were refused.
-    fn calls(&self, out: &mut String) -> Result<(), AllocError> {
+    fn calls(&self, out: &mut String) -> Answered {
         let disk = &self.site.store().log.disk;
         let refused = disk.refused.saturating_add(disk.inner.refused);
         let made = self.stop.saturating_sub(disk.plan.calls_left);
-        write!(out, "{made}, {refused} refused")
+        Ok(write!(out, "{made}, {refused} refused")?)
     }
 
-    fn cut(&self, alloc: Global, out: &mut String) -> Result<(), Trouble> {
+    fn cut(&self, alloc: Global, out: &mut String) -> Answered {
         let (least, most) = known_after_cuts(alloc, self.memory())?;
         Ok(write!(out, "{least} to {most}")?)
     }
 }
 
-fn write_answer(answer: Result<(), FlushFault>, out: &mut String) -> Result<(), AllocError> {
+fn write_answer(answer: Result<(), FlushFault>, out: &mut String) -> Answered {
     match answer {
-        Ok(()) => out.push_str("ok"),
-        Err(fault) => write!(out, "{fault:?}"),
+        Ok(()) => Ok(out.push_str("ok")?),
+        Err(fault) => Ok(write!(out, "{fault:?}")?),
     }
 }

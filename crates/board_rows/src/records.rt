@@ -4,9 +4,9 @@ ghost use Rattle.st_records.specs.Limits.{IsGood, SaysExplicit};
 ghost use Rattle.st_records.specs.Parts.{status_of};
 ghost use Rattle.st_records.specs.declared.version.Version.TheVariants.{Two};
 
-use crate::words::{Trouble, Words};
 use bd_ledger::Ticket;
 use byte_strings::{ByteString, ByteStrings};
+use row_files::{RowFault, Words};
 use st_records::{Entry, Explicit, Phase, Record};
 use std::alloc::{AllocError, Global};
 
@@ -62,16 +62,16 @@ fn kept(alloc: Global, target: ByteString) -> Record {
 }
 
 /// The record of a target: `begun`, `done $ COMMAND $ ..`, `failed STATUS` or `kept`.
-fn read(alloc: Global, target: ByteString, words: &mut Words<'_>) -> Result<Record, Trouble> {
+fn read(alloc: Global, target: ByteString, words: &mut Words<'_>) -> Result<Record, RowFault> {
     match words.next() {
         "begun" => Ok(Record::Begun { target }),
         "done" => Ok(done(alloc, target, words.rest)?),
         "failed" => match words.next().parse::<u32>() {
             Ok(status) => Ok(Record::Failed { target, status }),
-            Err(_) => Err(Trouble::NotReadable),
+            Err(_) => Err(RowFault::Word),
         },
         "kept" => Ok(kept(alloc, target)),
-        _ => Err(Trouble::NotReadable),
+        _ => Err(RowFault::Word),
     }
 }
 
@@ -80,12 +80,12 @@ pub(crate) fn read_good(
     alloc: Global,
     target: ByteString,
     words: &mut Words<'_>,
-) -> Result<Record, Trouble>
+) -> Result<Record, RowFault>
     ensures { IfOk result (IsGood Two) }
 {
     let note = read(alloc, target, words)?;
     if !is_good(&note) {
-        return Err(Trouble::NotReadable);
+        return Err(RowFault::Word);
     }
     Ok(note)
 }

@@ -5,8 +5,8 @@ use crate::lists::Lists;
 use crate::nodes::Nodes;
 use crate::pair::Pair;
 use crate::store::site;
-use crate::words::{Trouble, Words, hex};
 use bd_lists::Told;
+use row_files::{Answered, Calls, Report, RowFault, Setup, Words, read_hex};
 use st_doubles::{FailOnce, Fuse};
 use st_memory::MemDisk;
 use std::alloc::Global;
@@ -16,22 +16,22 @@ const MANY: u64 = 1_000_000;
 
 /// The lines of a row before its first call.
 #[derive(Drop)]
-pub(crate) struct Setup<'a> {
+pub(crate) struct BoardSetup<'a> {
     /// The lines of nodes, behind their first word.
     nodes: Vec<&'a str>,
     chain: usize,
     layers: usize,
     times: usize,
-    pub(crate) has_site: bool,
+    has_site: bool,
     a: Vec<u8>,
     b: Vec<u8>,
     stop: u64,
     fail: u64,
 }
 
-impl<'a> Setup<'a> {
-    pub(crate) fn new(alloc: Global) -> Setup<'a> {
-        Setup {
+impl<'a> Setup<'a> for BoardSetup<'a> {
+    fn new(alloc: Global) -> BoardSetup<'a> {
+        BoardSetup {
             nodes: Vec::new(alloc),
             chain: 0,
             layers: 0,
@@ -44,8 +44,7 @@ impl<'a> Setup<'a> {
         }
     }
 
-    /// Takes a line, if it is none of a call.
-    pub(crate) fn takes(&mut self, line: &'a str) -> Result<bool, Trouble> {
+    fn takes(&mut self, _alloc: Global, line: &'a str) -> Result<bool, RowFault> {
         let mut words = Words { rest: line };
         match words.next() {
             "node" => self.nodes.push(words.rest)?,
@@ -53,7 +52,30 @@ impl<'a> Setup<'a> {
             "layers" => self.layers = words.number()?,
             "long" => self.times = words.number()?,
             "site" => self.has_site = true,
-            "disk" => self.take_side(&mut words)?,
+            name => return self.takes_disk(name, &mut words),
+        }
+        Ok(true)
+    }
+
+    /// Calls the board alone, or the board with its site.
+    fn are_met(
+        &mut self,
+        alloc: Global,
+        calls: &Calls<'a>,
+        report: &mut Report<'_>,
+    ) -> Result<bool, RowFault> {
+        if self.has_site {
+            return Ok(calls.are_met(alloc, &mut self.pair(alloc)?, report)?);
+        }
+        Ok(calls.are_met(alloc, &mut self.lists(alloc)?, report)?)
+    }
+}
+
+impl<'a> BoardSetup<'a> {
+    /// Takes a line of the disk.
+    fn takes_disk(&mut self, name: &str, words: &mut Words<'_>) -> Result<bool, RowFault> {
+        match name {
+            "disk" => self.take_side(words)?,
             "stop" => self.stop = words.number()? as u64,
             "fail" => self.fail = words.number()? as u64,
             _ => return Ok(false),
@@ -61,24 +83,24 @@ impl<'a> Setup<'a> {
         Ok(true)
     }
 
-    fn take_side(&mut self, words: &mut Words<'_>) -> Result<(), Trouble> {
+    fn take_side(&mut self, words: &mut Words<'_>) -> Answered {
         match words.next() {
-            "a" => hex(&mut self.a, words.rest),
-            "b" => hex(&mut self.b, words.rest),
-            _ => Err(Trouble::NotReadable),
+            "a" => read_hex(&mut self.a, words.rest),
+            "b" => read_hex(&mut self.b, words.rest),
+            _ => Err(RowFault::Word),
         }
     }
 
-    fn labels(&self, alloc: Global) -> Result<Vec<&'a str>, Trouble> {
+    fn labels(&self, alloc: Global) -> Result<Vec<&'a str>, RowFault> {
         let mut labels = Vec::new(alloc);
         for line in &self.nodes {
-            let (label, _edges) = line.split_once(':').ok_or(Trouble::NotReadable)?;
+            let (label, _edges) = line.split_once(':').ok_or(RowFault::Word)?;
             labels.push(label)?;
         }
         Ok(labels)
     }
 
-    fn graph(&self, alloc: Global, nodes: &Nodes<'a>) -> Result<Graph, Trouble> {
+    fn graph(&self, alloc: Global, nodes: &Nodes<'a>) -> Result<Graph, RowFault> {
         let mut graph = Graph::new(alloc);
         for line in &self.nodes {
             graph.add(alloc, nodes, line)?;
@@ -88,7 +110,7 @@ impl<'a> Setup<'a> {
         Ok(graph)
     }
 
-    fn desk<T: Told + Drop>(&self, alloc: Global) -> Result<Desk<'a, T>, Trouble> {
+    fn desk<T: Told + Drop>(&self, alloc: Global) -> Result<Desk<'a, T>, RowFault> {
         let nodes = Nodes {
             labels: self.labels(alloc)?,
             times: self.times,
@@ -102,7 +124,7 @@ impl<'a> Setup<'a> {
     }
 
     /// The board alone.
-    pub(crate) fn lists(&self, alloc: Global) -> Result<Lists<'a>, Trouble> {
+    fn lists(&self, alloc: Global) -> Result<Lists<'a>, RowFault> {
         Ok(Lists {
             desk: self.desk(alloc)?,
             clearances: Vec::new(alloc),
@@ -110,7 +132,7 @@ impl<'a> Setup<'a> {
     }
 
     /// The board with a site over a disk.
-    pub(crate) fn pair(&self, alloc: Global) -> Result<Pair<'a>, Trouble> {
+    fn pair(&self, alloc: Global) -> Result<Pair<'a>, RowFault> {
         let memory = MemDisk::holding(alloc, &self.a, &self.b)?;
         let disk = Fuse::new(FailOnce::new(memory, self.fail), self.stop);
         Ok(Pair {

@@ -1,7 +1,7 @@
 //! Stores over memory, and what a power cut leaves of them.
-use crate::words::Trouble;
 use bd_flusher::Site;
 use byte_strings::ByteString;
+use row_files::{Answered, RowFault};
 use st_disk::{Disk, Which};
 use st_doubles::{FailOnce, Fuse};
 use st_memory::MemDisk;
@@ -16,36 +16,36 @@ pub(crate) type Tried = Fuse<FailOnce<MemDisk>>;
 // What the places that a power cut leaves open are filled with.
 const FILLS: [&[u8]; 3] = [b"\x00", b"\x01", b"\xff"];
 
-pub(crate) fn opened<D: Disk + Drop>(alloc: Global, disk: D) -> Result<Store<D>, Trouble> {
+pub(crate) fn opened<D: Disk + Drop>(alloc: Global, disk: D) -> Result<Store<D>, RowFault> {
     match open(alloc, HashKey::fixed(), disk) {
         Ok(store) => Ok(store),
-        Err((_fault, _disk)) => Err(Trouble::NotOpened),
+        Err((_fault, _disk)) => Err(RowFault::NotOpen),
     }
 }
 
 /// A site over a disk that opens.
-pub(crate) fn site<D: Disk + Drop>(alloc: Global, disk: D) -> Result<Site<D>, Trouble> {
+pub(crate) fn site<D: Disk + Drop>(alloc: Global, disk: D) -> Result<Site<D>, RowFault> {
     let store = opened(alloc, disk)?;
     if store.is_dead() {
-        return Err(Trouble::NotOpened);
+        return Err(RowFault::NotOpen);
     }
     match Site::new(alloc, store) {
         Ok(site) => Ok(site),
-        Err((_fault, _store)) => Err(Trouble::OutOfMemory),
+        Err((_fault, _store)) => Err(RowFault::OutOfMemory),
     }
 }
 
 /// How many targets a disk recovers.
-fn known(alloc: Global, disk: MemDisk) -> Result<usize, Trouble> {
+fn known(alloc: Global, disk: MemDisk) -> Result<usize, RowFault> {
     Ok(opened(alloc, disk)?.state().len())
 }
 
 /// What a power cut now leaves: each side as short, or as long, as may be.
-fn cut(alloc: Global, disk: &MemDisk, longest: bool, fill: &[u8]) -> Result<MemDisk, Trouble> {
+fn cut(alloc: Global, disk: &MemDisk, longest: bool, fill: &[u8]) -> Result<MemDisk, RowFault> {
     let (least_a, greatest_a) = disk.extreme_lengths(Which::A);
     let (least_b, greatest_b) = disk.extreme_lengths(Which::B);
     if least_a > greatest_a || least_b > greatest_b {
-        return Err(Trouble::NotReadable);
+        return Err(RowFault::Word);
     }
     if longest {
         return Ok(disk.power_cut(alloc, greatest_a, greatest_b, fill)?);
@@ -54,7 +54,7 @@ fn cut(alloc: Global, disk: &MemDisk, longest: bool, fill: &[u8]) -> Result<MemD
 }
 
 /// The least and the greatest number of targets that a power cut now leaves known.
-pub(crate) fn known_after_cuts(alloc: Global, disk: &MemDisk) -> Result<(usize, usize), Trouble> {
+pub(crate) fn known_after_cuts(alloc: Global, disk: &MemDisk) -> Result<(usize, usize), RowFault> {
     let mut least = usize::MAX;
     let mut most = 0;
     for fill in FILLS {
@@ -95,17 +95,13 @@ fn write_entry(
 }
 
 /// What the bytes recover that are on the disk.
-pub(crate) fn write_recovered(
-    alloc: Global,
-    disk: &MemDisk,
-    out: &mut String,
-) -> Result<(), Trouble> {
+pub(crate) fn write_recovered(alloc: Global, disk: &MemDisk, out: &mut String) -> Answered {
     let again = opened(alloc, settled(alloc, disk)?)?;
     Ok(write_state(alloc, again.state(), out)?)
 }
 
 /// How many targets the bytes recover that are on the disk.
-pub(crate) fn recovered(alloc: Global, disk: &MemDisk) -> Result<usize, Trouble> {
+pub(crate) fn recovered(alloc: Global, disk: &MemDisk) -> Result<usize, RowFault> {
     known(alloc, settled(alloc, disk)?)
 }
 

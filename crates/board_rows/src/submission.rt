@@ -5,8 +5,8 @@ ghost use Rattle.st_records.specs.declared.version.Version.TheVariants.{Two};
 
 use crate::nodes::Nodes;
 use crate::records::read_good;
-use crate::words::{Trouble, Words};
 use bd_links::Node;
+use row_files::{RowFault, Words};
 use st_records::Record;
 use std::alloc::Global;
 
@@ -22,7 +22,7 @@ pub(crate) fn read_submission(
     alloc: Global,
     nodes: &Nodes<'_>,
     words: &mut Words<'_>,
-) -> Result<Submission, Trouble>
+) -> Result<Submission, RowFault>
     ensures { IfOk result (λ submission. IsGood Two submission.note) }
 {
     let node = nodes.next(words)?;

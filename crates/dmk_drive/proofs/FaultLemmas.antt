@@ -1,5 +1,5 @@
 -- The fault of a stage as one of the run.
-use Rattle.std.proofs.Common.{◌≡◌, ◌≢◌, ℕ, List, sym, subst, Result, Ok, Err, IfErr, IfSome, IsErrAnd}
+use Rattle.std.proofs.Common.{◌≡◌, ◌≢◌, ℕ, List, subst, Result, Ok, Err, IfErr, IfSome}
 use Rattle.mk_reader.specs.declared.item.Item.{Item}
 use Rattle.st_disk.specs.declared.which.Which.{Which}
 use Rattle.st_disk.specs.declared.which.Which.TheVariants as sides
@@ -39,11 +39,6 @@ module _ (Text : Fault → Type 0) (Items : List Item → Type 0) (Plan : List I
       ((f : _) → Plan items (Read f) → ⊥) → (Plan items Write → ⊥) → IfErr got (IsRunFault Text Items Plan)
   plan_result items are (Ok run) is no_makefile no_read no_write = tt
   plan_result items are (Err f) is no_makefile no_read no_write = plan_fault items are f is no_makefile no_read no_write
-
--- a fault that is handed on
-pub handed_on : {T : Type 0} (result : Result T Fault) (P : Fault → Type 0) (f : Fault) → IsErrAnd result (λ g. g ≡ f) → P f → IfErr result P
-handed_on (Ok x) P f is p = tt
-handed_on (Err g) P f is p = subst P (sym is) p
 
 -- a pair of sides that is refused has the fault that is answered
 pub refused_pair : (seen : Which → List ℕ) (f : OpenFault) → IfSome (outcome_of (Err f)) (HasOutcome (seen sides.A) (seen sides.B)) →

@@ -27,13 +27,25 @@ module _ (definitions environment : List Variable) (targets : List (List ℕ)) (
   kept : IsStateOn (keeps environment items) disk_honest seen state
   kept = subst (λ k. IsStateOn k disk_honest seen state) is_keeping found
 
-  pub rules_fault : (refuses : List ℕ → Type 0) (got : Fault) →
+  rules_fault : (refuses : List ℕ → Type 0) (got : Fault) →
       ((got ≡ fault.OutOfMemory) ⊎ ((f : RuleFault) × (got ≡ fault.Rules f)
       × IsRuleFault (first_defined definitions environment) items honest stamps (map.get state) refuses targets MAX_NODES f)) →
       IsPlanFault definitions environment targets honest stamps refuses disk_honest seen items got
   rules_fault refuses got (inl is) = subst (IsPlanFault definitions environment targets honest stamps refuses disk_honest seen items) (sym is) tt
   rules_fault refuses got (inr (f, is, meets)) =
       subst (IsPlanFault definitions environment targets honest stamps refuses disk_honest seen items) (sym is) (state, kept, meets)
+
+  pub rules_result : (refuses : List ℕ → Type 0) (got : Result Graph Fault) →
+      IfErr got (λ g. (g ≡ fault.OutOfMemory) ⊎ ((f : RuleFault) × (g ≡ fault.Rules f)
+      × IsRuleFault (first_defined definitions environment) items honest stamps (map.get state) refuses targets MAX_NODES f)) →
+      IfErr got (IsPlanFault definitions environment targets honest stamps refuses disk_honest seen items)
+  rules_result refuses (Ok graph) is = tt
+  rules_result refuses (Err f) is = rules_fault refuses f is
+
+  pub graph_result : (got : Result Graph Fault) → IfOk got (IsGraphOf definitions environment targets honest stamps items state) →
+      IfOk got (λ graph. (m : StateMap) × IsStateOn keeping disk_honest seen m × IsGraphOf definitions environment targets honest stamps items m graph)
+  graph_result (Ok graph) is = (state, found, is)
+  graph_result (Err f) is = tt
 
   module _ (graph : Graph) (is_graph : IsGraphOf definitions environment targets honest stamps items state graph) where
     pub recipes_fault : (refuses : List ℕ → Type 0) (got : Fault) → ((f : MacroFault) × (got ≡ fault.Recipe f) × IsListingFault keeping graph f) →

@@ -56,11 +56,35 @@ fn question_status(run: &DryRun) -> u8
 }
 
 /// Prints the fault and answers 2.
-fn refuse<E: Write>(state: &str, fault: &Fault, err: &mut E) -> u8
+fn refuse<E: Write>(state: &str, fault: Fault, err: &mut E) -> u8
     ensures { result ≡ 2 }
 {
-    print_fault(err, Message { state, fault });
+    let message = Message {
+        state,
+        fault: &fault,
+    };
+    print_fault(err, message);
     2
+}
+
+/// Prints what a dry run lists, or answers the question, and the status.
+fn answer<O: Write, E: Write>(mode: Mode, state: &str, run: &DryRun, out: &mut O, err: &mut E) -> u8
+    ensures listed { mode ≢ modes.Question → result ≡ 0 → Appends (O.contents out.old) (O.contents out.new) run.now.text.items }
+    ensures asked { mode ≡ modes.Question → result ≢ 2 → (listed : List (List RecipeText))
+        → run.now.lists_any ≡ not (is_empty listed) → result ≡ question_status listed }
+    ensures silent { mode ≡ modes.Question → Keeps (O.contents out.old) (O.contents out.new) }
+    ensures quiet { mode ≡ modes.Question → result ≢ 2 → err.new ≡ err.old }
+    ensures note { result ≡ 0 → run.now.soft_dropped ≡ false → err.new ≡ err.old }
+    ensures part { result ≡ 2 → AppendsPart (O.contents out.old) (O.contents out.new) run.now.text.items }
+    ensures status { (result ≡ 0) ⊎ (((result ≡ 1) × (mode ≡ modes.Question)) ⊎ (result ≡ 2)) }
+{
+    if matches!(mode, Mode::Question) {
+        return question_status(run);
+    }
+    match print_listing(run, out, err) {
+        Ok(()) => 0,
+        Err(fault) => refuse(state, fault, err),
+    }
 }
 
 /// Says what was found of a dry run, and the status.
@@ -82,16 +106,9 @@ fn say<O: Write, E: Write>(
     ensures part { result ≡ 2 → IfOk found (λ run. AppendsPart (O.contents out.old) (O.contents out.new) run.text.items) }
     ensures status { (result ≡ 0) ⊎ (((result ≡ 1) × (mode ≡ modes.Question)) ⊎ (result ≡ 2)) }
 {
-    let run = match found {
-        Ok(run) => run,
-        Err(fault) => return refuse(state, &fault, err),
-    };
-    if matches!(mode, Mode::Question) {
-        return question_status(&run);
-    }
-    match print_listing(&run, out, err) {
-        Ok(()) => 0,
-        Err(fault) => refuse(state, &fault, err),
+    match found {
+        Ok(run) => answer(mode, state, &run, out, err),
+        Err(fault) => refuse(state, fault, err),
     }
 }
 

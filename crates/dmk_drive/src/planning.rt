@@ -11,8 +11,10 @@ ghost use Rattle.mk_rules.specs.Faults.{IsRuleFault};
 ghost use Rattle.mk_rules.specs.declared.graph.TheConstants.{MAX_NODES};
 ghost use Rattle.mk_rule_lines.specs.declared.fault.RuleFault.{RuleFault as RulesFault};
 ghost use Rattle.dmk_drive.specs.Definitions.{first_defined};
+ghost use Rattle.dmk_drive.specs.Keeping.{keeps};
 ghost use Rattle.dmk_drive.specs.Makefile.{IsAbsent, MayBeThere};
 ghost use Rattle.st_disk.specs.Faults.{Rises};
+ghost use Rattle.st_state.specs.State.{StateMap};
 ghost use Rattle.st_file.specs.declared.fault.OpenFault.{OpenFault as StateFault};
 ghost use Rattle.st_file.specs.declared.fault.OpenFault.TheVariants as open_faults;
 ghost use Rattle.dmk_drive.specs.Passing.{IsListing, IsListingFault, listing_text};
@@ -78,14 +80,14 @@ fn graph_of<T: Tree>(
 }
 
 /// What the graph lists.
-fn listed(alloc: Global, keeping: bool, graph: &Graph) -> Result<DryRun, Fault>
-    requires { list_all (λ n. nat_lt n (length graph.now.nodes.items)) graph.now.order.items ≡ true }
-    ensures listing { IfOk result (λ run. (listed : List (List RecipeText)) × IsListing keeping graph.now listed
+fn listed(alloc: Global, keeping: bool, graph: Graph) -> Result<DryRun, Fault>
+    requires { list_all (λ n. nat_lt n (length graph.nodes.items)) graph.order.items ≡ true }
+    ensures listing { IfOk result (λ run. (listed : List (List RecipeText)) × IsListing keeping graph listed
         × (run.text.items ≡ listing_text listed) × (run.lists_any ≡ not (is_empty listed))) }
-    ensures dropped { IfOk result (λ run. run.soft_dropped ≡ graph.now.soft_dropped) }
-    ensures fault { IfErr result (λ fault. (f : ExpansionFault) × (fault ≡ faults.Recipe f) × IsListingFault keeping graph.now f) }
+    ensures dropped { IfOk result (λ run. run.soft_dropped ≡ graph.soft_dropped) }
+    ensures fault { IfErr result (λ fault. (f : ExpansionFault) × (fault ≡ faults.Recipe f) × IsListingFault keeping graph f) }
 {
-    match listing_of(alloc, keeping, graph) {
+    match listing_of(alloc, keeping, &graph) {
         Ok(Listing { text, lists_any }) => Ok(DryRun {
             text,
             lists_any,
@@ -115,6 +117,30 @@ fn kept_state<D: Disk>(
     }
 }
 
+/// The graph of the items, by the state that is kept.
+fn kept_graph<T: Tree, D: Disk>(
+    alloc: Global,
+    key: HashKey,
+    keeping: bool,
+    given: Given<'_, '_>,
+    targets: ByteStrings,
+    tree: &mut T,
+    disk: &mut D,
+    items: Vec<Item>,
+) -> Result<Graph, Fault>
+    requires { keeping ≡ keeps given.environment.now items.items }
+    ensures graph { IfOk result (λ graph. (m : StateMap) × IsStateOn keeping D.honest (D.seen disk.old) m
+        × IsGraphOf given.entry.definitions.now given.entry.environment.now targets T.honest (T.stamps tree.old) items.items m graph) }
+    ensures fault { IfErr result (IsPlanFault given.entry.definitions.now given.entry.environment.now targets T.honest (T.stamps tree.old)
+        (T.refuses tree.new) D.honest (D.seen disk.old) items.items) }
+    ensures seen { D.honest → D.seen disk.new ≡ D.seen disk.old }
+    ensures moments { D.honest → D.moments disk.new ≡ D.moments disk.old }
+    ensures device { IsErrOf result (faults.State open_faults.Device) → Rises (D.faults disk.old) (D.faults disk.new) }
+{
+    let state = kept_state(alloc, key, keeping, disk)?;
+    graph_of(alloc, given, targets, tree, items, &state)
+}
+
 /// What items that were read list.
 fn plan_items<T: Tree, D: Disk>(
     alloc: Global,
@@ -134,9 +160,8 @@ fn plan_items<T: Tree, D: Disk>(
     ensures device { IsErrOf result (faults.State open_faults.Device) → Rises (D.faults disk.old) (D.faults disk.new) }
 {
     let keeping = keeps_state(given.environment, &items);
-    let state = kept_state(alloc, key, keeping, disk)?;
-    let graph = graph_of(alloc, given, targets, tree, items, &state)?;
-    listed(alloc, keeping, &graph)
+    let graph = kept_graph(alloc, key, keeping, given, targets, tree, disk, items)?;
+    listed(alloc, keeping, graph)
 }
 
 /// What a run would build. It only reads.

@@ -1,7 +1,12 @@
 -- What a run over a store says of a makefile.
-use Rattle.std.proofs.Common.{◌≡◌, ◌≢◌, ◌⊎◌, inl, inr, ℕ, ℤ, Bool, true, false, List, [], Option, Result, Ok, Err, IfOk, refl, sym, subst}
+use Rattle.std.proofs.Common.{◌≡◌, ◌≢◌, ◌⊎◌, inl, inr, ℕ, ℤ, ◌≤◌, Bool, true, false, List, [], Option, Result, Ok, Err, IfOk, IsTrue, ◌∙◌, length, refl, sym, subst}
 use Rattle.std.specs.FinMap as map
+use Rattle.std.specs.List.{list_all}
 use Rattle.mk_reader.specs.declared.item.Item.{Item}
+use Rattle.mk_rules.specs.declared.graph.Graph.{Graph}
+use Rattle.jb_closing.specs.Report.{ends_well}
+use Rattle.jb_closing.specs.declared.fault.RunFault.{RunFault}
+use Rattle.jb_closing.specs.declared.report.Report.{Report}
 use Rattle.st_disk.specs.Crash.{Sides}
 use Rattle.st_disk.specs.declared.which.Which.{Which}
 use Rattle.st_disk.specs.declared.which.Which.TheVariants as which
@@ -10,8 +15,8 @@ use Rattle.st_recovery.specs.Recovers.{Recovers, recovered}
 use Rattle.st_recovery.proofs.RecoversLemmas.{one_recovery}
 use Rattle.bd_lists.specs.declared.recipe.Variable.{Variable}
 use Rattle.dmk_drive.specs.Keeping.{keeps}
-use Rattle.dmk_drive.specs.Planned.{AreItems}
-use Rattle.dmk_run.specs.Made.{Makes, MakesItems}
+use Rattle.dmk_drive.specs.Planned.{AreItems, IsGraphOf, IsStateOn}
+use Rattle.dmk_run.specs.Made.{HasEnded, IsMade, Makes, MakesItems}
 use Rattle.dmk_run.specs.declared.stop.Stop.{Stop}
 
 same_state : (m n : StateMap) → recovered m ≡ recovered n → m ≡ n
@@ -30,7 +35,42 @@ empty_state a b m is_a is_b found =
 pub at_ok : {A E : Type 0} (P : A → Type 0) (got : Result A E) (x : A) → got ≡ Ok x → IfOk got P → P x
 at_ok P got x is found = subst (λ g. IfOk g P) is found
 
+-- the status of a report is a report's
+pub status_of_report : (found : Result Report RunFault) (got : Result ℕ Stop) → IfOk got (λ s. (r : Report) × (found ≡ Ok r) × (s ≡ r.status))
+    → IfOk found (λ r. r.status ≤ 2) → IfOk got (λ s. s ≤ 2)
+status_of_report found (Ok s) (r, is, same) small = subst (λ n. n ≤ 2) (sym same) (at_ok (λ r. r.status ≤ 2) found r is small)
+status_of_report found (Err stop) is small = tt
+
+-- the status of a report is that of a graph that has ended
+pub has_ended : (graph : Graph) (keeping : Bool) (sound : Type 0) (sides : Sides) (found : Result Report RunFault) (got : Result ℕ Stop)
+    → IfOk got (λ s. (r : Report) × (found ≡ Ok r) × (s ≡ r.status)) → IfOk found (λ r. length r.ends.items ≡ length graph.nodes.items)
+    → IfOk found (λ r. r.status ≡ 0 → IsTrue (list_all ends_well r.ends.items)) → IfOk found (λ r. keeping ≡ true → IsMade graph sound sides r.status r.ends.items)
+    → IfOk got (HasEnded graph keeping sound sides)
+has_ended graph keeping sound sides found (Ok s) (r, is, same) all well made = record {
+  ends = r.ends.items;
+  all = at_ok (λ r. length r.ends.items ≡ length graph.nodes.items) found r is all;
+  well = λ none. at_ok (λ r. r.status ≡ 0 → IsTrue (list_all ends_well r.ends.items)) found r is well (sym same ∙ none);
+  made = λ kept.
+      subst (λ s. IsMade graph sound sides s r.ends.items) (sym same)
+      (at_ok (λ r. keeping ≡ true → IsMade graph sound sides r.status r.ends.items) found r is made kept);
+}
+has_ended graph keeping sound sides found (Err stop) is all well made = tt
+
 module _ (definitions environment : List Variable) (targets : List (List ℕ)) (honest : Type 0) (stamps : List ℕ → Option ℤ) where
+  -- so a graph of these items has
+  pub made_items : (items : List Item) (stored keeping : Bool) (disk_honest : Type 0) (seen : Which → List ℕ) (sides : Sides) (state : StateMap)
+      (graph : Graph) (kept : Bool) → IsStateOn stored disk_honest seen state → IsGraphOf definitions environment targets honest stamps items state graph →
+      kept ≡ keeping → (got : Result ℕ Stop) → IfOk got (HasEnded graph kept disk_honest sides) →
+      IfOk got (λ s. MakesItems definitions environment targets honest stamps items stored keeping disk_honest seen s sides)
+  made_items items stored keeping disk_honest seen sides state graph kept is_state is_graph same (Ok s) ended = record {
+    state = state;
+    is_state = is_state;
+    graph = graph;
+    is_graph = is_graph;
+    ended = subst (λ k. HasEnded graph k disk_honest sides s) same ended;
+  }
+  made_items items stored keeping disk_honest seen sides state graph kept is_state is_graph same (Err stop) ended = tt
+
   -- over a disk in memory that was empty nothing of a state is known
   module _ (items : List Item) (memory_honest : Type 0) (memory : Which → List ℕ) (works : memory_honest)
       (a : memory which.A ≡ []) (b : memory which.B ≡ []) (memory_sides : Sides) (disk_honest : Type 0) (seen : Which → List ℕ) (sides : Sides) where
@@ -42,10 +82,12 @@ module _ (definitions environment : List Variable) (targets : List (List ℕ)) (
       is_state = empty_state (memory which.A) (memory which.B) run.state a b (run.is_state works);
       graph = run.graph;
       is_graph = run.is_graph;
-      ends = run.ends;
-      all = run.all;
-      well = run.well;
-      made = λ keeping. absurd (no_value keeping);
+      ended = record {
+        ends = run.ended.ends;
+        all = run.ended.all;
+        well = run.ended.well;
+        made = λ keeping. absurd (no_value keeping);
+      };
     }
 
     pub found_without_state : (keeping : Bool) → false ≡ keeping → (got : Result ℕ Stop) →

@@ -31,9 +31,15 @@ pub record IsMade (graph : Graph) (sound : Type 0) (sides : Sides) (status : ℕ
   pub recovers : sound → AllRecover left sides
   pub known : status ≡ 0 → AreKnownDone graph left
 
--- so it is of some ends of the graph of these items, for the targets that are named, by the state that the disk recovers, if it
--- is stored there. Each node has one, and at status 0 each is up to date or was made. Where no state is kept nothing is said of
--- what the disk holds then
+-- so it is of some ends of a graph: each of its nodes has one, and at status 0 each is up to date or was made. Where no state is
+-- kept nothing is said of what the disk holds then
+pub record HasEnded (graph : Graph) (keeping : Bool) (sound : Type 0) (sides : Sides) (status : ℕ) : Type 0 where
+  pub ends : List End
+  pub all : length ends ≡ length graph.nodes.items
+  pub well : status ≡ 0 → IsTrue (list_all ends_well ends)
+  pub made : keeping ≡ true → IsMade graph sound sides status ends
+
+-- so the graph of these items has, for the targets that are named, by the state that the disk recovers, if it is stored there
 pub record MakesItems (definitions environment : List Variable) (targets : List (List ℕ)) (honest : Type 0)
     (stamps : List ℕ → Option ℤ) (items : List Item) (stored keeping : Bool) (disk_honest : Type 0) (seen : Which → List ℕ)
     (status : ℕ) (sides : Sides) : Type 0 where
@@ -41,10 +47,7 @@ pub record MakesItems (definitions environment : List Variable) (targets : List 
   pub is_state : IsStateOn stored disk_honest seen state
   pub graph : Graph
   pub is_graph : IsGraphOf definitions environment targets honest stamps items state graph
-  pub ends : List End
-  pub all : length ends ≡ length graph.nodes.items
-  pub well : status ≡ 0 → IsTrue (list_all ends_well ends)
-  pub made : keeping ≡ true → IsMade graph disk_honest sides status ends
+  pub ended : HasEnded graph keeping disk_honest sides status
 
 -- so it is for the items of a makefile
 pub record Makes (Answers : List ℕ → Option (List ℕ) → Type 0) (Absent : List ℕ → Type 0) (named : Option (List ℕ))

@@ -12,6 +12,7 @@ ghost use Rattle.dmk_run.specs.Made.{IsMade};
 
 use crate::driver::Means;
 use crate::known::are_known_done;
+use crate::stop::Stop;
 use bd_flusher::{FlushFault, Receipt, Site};
 use bd_lists::Exec;
 use dmk_drive::value_of;
@@ -84,6 +85,16 @@ fn told<D: Disk + Drop>(
     Built {
         found: Ok(report),
         store: closed,
+    }
+}
+
+/// The status of a report, or why there is none.
+pub(crate) fn reported(found: Result<Report, RunFault>) -> Result<u8, Stop>
+    ensures { IfOk result (λ s. (r : RunReport) × (found ≡ Ok r) × (s ≡ r.status)) }
+{
+    match found {
+        Ok(report) => Ok(report.status),
+        Err(fault) => Err(Stop::Run(fault)),
     }
 }
 

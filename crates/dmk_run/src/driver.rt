@@ -1,39 +1,33 @@
 //! The program over handed-in parts, where recipes are run.
 ghost use Rattle.std.specs.Prelude.{◌≡◌, ◌≢◌, ◌⊎◌, ◌≤◌, true, false, List, Ok, codes, option_copied, IfOk, IfErr};
-ghost use Rattle.std.specs.FinMap as finmap;
 ghost use Rattle.mk_reader.specs.Makefile.{AnswersAs};
 ghost use Rattle.mk_reader.specs.declared.item.Item.{Item as MakefileItem};
-ghost use Rattle.mk_rules.specs.Faults.{IsRuleFault};
-ghost use Rattle.mk_rules.specs.declared.graph.TheConstants.{MAX_NODES};
-ghost use Rattle.mk_rule_lines.specs.declared.fault.RuleFault.{RuleFault as RulesFault};
 ghost use Rattle.st_disk.specs.Moments.{now};
-ghost use Rattle.dmk_drive.specs.Definitions.{first_defined};
 ghost use Rattle.dmk_drive.specs.Makefile.{IsAbsent};
 ghost use Rattle.dmk_drive.specs.Keeping.{keeps, value_in};
 ghost use Rattle.dmk_drive.specs.Output.{AsksToRun};
-ghost use Rattle.dmk_drive.specs.Planned.{AreItems, IsGraphOf};
-ghost use Rattle.dmk_drive.specs.declared.fault.Fault.TheVariants as faults;
-ghost use Rattle.dmk_run.specs.Made.{Makes, MakesItems};
-ghost use Rattle.dmk_run.specs.declared.stop.Stop.TheVariants as stops;
+ghost use Rattle.dmk_drive.specs.Planned.{AreItems};
+ghost use Rattle.dmk_run.specs.Made.{HasEnded, Makes, MakesItems};
 
-use crate::building::{Built, build};
+use crate::building::{Built, build, reported};
 use crate::conducting::Wishes;
 use crate::guard::{Guard, hold_state};
 use crate::opening::{disk_of, open_store};
+use crate::planning::{Goals, Plan, planned};
 use crate::printer::Printer;
 use crate::stop::Stop;
 use bd_flusher::Receipt;
 use bd_lists::{Exec, Variable};
-use byte_strings::{ByteString, ByteStrings};
-use dmk_drive::{Fault, Message, Options, first_macros, items_of, keeps_state};
+use byte_strings::ByteString;
+use dmk_drive::{Fault, Message, Options, items_of, keeps_state};
 use jb_recipe::Place;
 use jb_slots::Banks;
 use mk_reader::{Includes, Item};
-use mk_rules::{Graph, Tree};
+use mk_rules::Tree;
 use st_disk::Disk;
 use st_memory::MemDisk;
 use st_records::HashKey;
-use st_state::State;
+use st_recovery::Store;
 use std::alloc::Global;
 use std::io::Write;
 use std::sync::Wait;
@@ -51,13 +45,6 @@ pub struct Means<'a, E, S, P> {
     pub place: &'a P,
 }
 
-/// What is to be made.
-#[derive(Drop)]
-struct Goals {
-    definitions: Vec<Variable>,
-    targets: ByteStrings,
-}
-
 fn slice_of(name: &Option<ByteString>) -> Option<&[u8]>
     ensures { option_copied result ≡ name.now }
 {
@@ -67,27 +54,33 @@ fn slice_of(name: &Option<ByteString>) -> Option<&[u8]>
     }
 }
 
-fn graph_of<T: Tree>(
+/// Makes what was planned over an opened store. The disk comes back.
+fn make<R, E, O, W, P, K, D>(
+    rt: &R,
     alloc: Global,
-    environment: &[Variable],
-    definitions: &[Variable],
-    targets: ByteStrings,
-    tree: &mut T,
-    items: Vec<Item>,
-    state: &State,
-) -> Result<Graph, Stop>
-    ensures graph { IfOk result (IsGraphOf definitions.now environment.now targets T.honest (T.stamps tree.old)
-        items.items state.now) }
-    ensures fault { IfErr result (λ stop. (stop ≡ stops.Before faults.OutOfMemory)
-        ⊎ ((f : RulesFault) × (stop ≡ stops.Before (faults.Rules f))
-        × IsRuleFault (first_defined definitions.now environment.now) items.items T.honest (T.stamps tree.old)
-        (finmap.get state.now) (T.refuses tree.new) targets MAX_NODES f)) }
+    means: &Means<'_, E, Printer<'_, R, O, W>, P>,
+    wishes: &Wishes,
+    plan: Plan,
+    banks: &mut K,
+    store: Store<D>,
+) -> (Result<u8, Stop>, D)
+where
+    R: Threads + Wait + Sync,
+    E: Exec<Receipt> + Sync,
+    O: Write + Drop + Send,
+    W: Write + Drop + Send,
+    P: Place + Sync,
+    K: Banks,
+    K::End: Drop + Send,
+    D: Disk + Drop + Send,
+    ensures status { IfOk result.0 (λ s. s ≤ 2) }
+    ensures ended { IfOk result.0 (HasEnded plan.graph plan.conduct.keeps_state D.honest (now (D.moments result.1))) }
+    ensures let_go { K.serves banks.old ≡ false → K.serves banks.new ≡ false }
 {
-    let macros = first_macros(alloc, definitions, environment)?;
-    match mk_rules::build(alloc, items, macros, targets, tree, state) {
-        Ok(graph) => Ok(graph),
-        Err(fault) => Err(Stop::Before(Fault::Rules(fault))),
-    }
+    let Plan { graph, conduct } = plan;
+    let workers = wishes.workers(&graph.settings);
+    let Built { found, store } = build(rt, alloc, means, &graph, conduct, workers, banks, store);
+    (reported(found), disk_of(store))
 }
 
 /// Opens the store of a disk and makes the goals over it. The disk comes back.
@@ -118,40 +111,25 @@ where
         (T.stamps tree.old) items.items true keeping D.honest (D.seen disk) s (now (D.moments result.1))) }
     ensures let_go { K.serves banks.old ≡ false → K.serves banks.new ≡ false }
 {
-    let Goals {
-        definitions,
-        targets,
-    } = goals;
     let store = match open_store(alloc, means.key, disk) {
         Ok(store) => store,
         Err((stop, disk)) => return (Err(stop), disk),
     };
+    let state = store.state();
     let environment = means.environment;
-    let graph = match graph_of(
+    match planned(
         alloc,
         environment,
-        &definitions,
-        targets,
+        means.say,
+        wishes,
+        keeping,
+        goals,
         tree,
         items,
-        store.state(),
+        state,
     ) {
-        Ok(graph) => graph,
-        Err(stop) => return (Err(stop), disk_of(store)),
-    };
-    if graph.soft_dropped {
-        means.say.soft_edges_dropped();
-    }
-    let conduct = match wishes.conduct(alloc, &graph.settings, keeping, definitions) {
-        Ok(conduct) => conduct,
-        Err(fault) => return (Err(Stop::from(fault)), disk_of(store)),
-    };
-    let workers = wishes.workers(&graph.settings);
-    let Built { found, store } = build(rt, alloc, means, &graph, conduct, workers, banks, store);
-    let disk = disk_of(store);
-    match found {
-        Ok(report) => (Ok(report.status), disk),
-        Err(fault) => (Err(Stop::Run(fault)), disk),
+        Ok(plan) => make(rt, alloc, means, wishes, plan, banks, store),
+        Err(stop) => (Err(stop), disk_of(store)),
     }
 }
 

@@ -7,6 +7,7 @@ mod driver;
 mod guard;
 mod known;
 mod opening;
+mod planning;
 mod printer;
 mod stop;
 

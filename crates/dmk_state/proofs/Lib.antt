@@ -1,1 +1,1 @@
-pub mod ListingLemmas
+pub mod OutputLemmas

@@ -4,16 +4,14 @@
 ghost use Rattle.std.specs.Prelude.{◌≡◌, ◌⊎◌};
 
 mod command_line;
-mod listing;
 mod output;
 mod sides;
-mod text;
 
 use command_line::{Request, read_words};
-use listing::{ListFault, list};
 use output::{refuse, show};
 use sides::read_sides;
 use st_file::OpenFault;
+use st_listing::{ListFault, list};
 use st_records::HashKey;
 use std::process::ExitCode;
 use std::thread;

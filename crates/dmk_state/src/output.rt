@@ -6,12 +6,12 @@ ghost use Rattle.st_state.specs.State.{StateMap};
 ghost use Rattle.st_file.specs.declared.fault.OpenFault.{OpenFault};
 ghost use Rattle.st_file.specs.Side.{IsRefused};
 ghost use Rattle.st_recovery.specs.Recovers.{Recovers, RefusesWith, PairComesToRecords};
-ghost use Rattle.dmk_state.specs.Listing.{listing};
-ghost use Rattle.dmk_state.specs.Writing.{AppendsPart, IsOfSide};
-ghost use Rattle.dmk_state.specs.declared.listing.ListFault.TheVariants as faults;
+ghost use Rattle.st_listing.specs.Listing.{listing};
+ghost use Rattle.st_listing.specs.Writing.{AppendsPart, IsOfSide};
+ghost use Rattle.st_listing.specs.declared.listing.ListFault.TheVariants as faults;
 
-use crate::listing::{ListFault, list};
 use st_disk::Which;
+use st_listing::{ListFault, list};
 use st_records::HashKey;
 use std::alloc::Global;
 use std::fmt;

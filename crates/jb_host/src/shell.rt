@@ -7,7 +7,7 @@ use mk_recipe::Line;
 use std::alloc::{AllocError, Global};
 use std::fs::File;
 use std::io;
-use std::process::{Command, Stdio};
+use std::process::{Command, Output, Stdio};
 use std::sync::OnceLock;
 
 /// The lock on a state, as the recipes of the run that keeps it inherit it: who has a handle to the file holds the lock.
@@ -56,31 +56,40 @@ fn text_of(bytes: &[u8]) -> Result<&str, NoCommand> {
     std::str::from_utf8(bytes).map_err(|_| NoCommand)
 }
 
+// An empty MAKEFLAGS says nothing to a make, and stands for one that is taken out.
+fn set_variable(command: &mut Command, variable: &Variable) -> Result<(), NoCommand> {
+    let name = text_of(variable.name.as_slice())?;
+    let value = text_of(variable.value.as_slice())?;
+    if name == "MAKEFLAGS" && value.is_empty() {
+        command.env_remove(name)?;
+    } else {
+        command.env(name, value)?;
+    }
+    Ok(())
+}
+
 impl<'a> Shell<'a> {
     pub fn new(rt: HostRuntime, alloc: Global, held: &'a OnceLock<HeldLock>) -> Shell<'a> {
         Shell { rt, alloc, held }
     }
 
-    // An empty MAKEFLAGS says nothing to a make, and stands for one that is taken out.
-    fn set_variables(&self, command: &mut Command, env: &[Variable]) -> Result<(), NoCommand> {
-        for variable in env {
-            let name = text_of(variable.name.as_slice())?;
-            if name == "MAKEFLAGS" && variable.value.as_slice().is_empty() {
-                command.env_remove(name)?;
-            } else {
-                command.env(name, text_of(variable.value.as_slice())?)?;
-            }
-        }
-        Ok(())
-    }
-
     fn command(&self, line: &Line, env: &[Variable]) -> Result<Command, NoCommand> {
         let mut command = Command::new(self.alloc, "/bin/sh")?;
-        let text = text_of(line.text.as_slice())?;
-        command.arg("-c")?.arg(text)?;
-        self.set_variables(&mut command, env)?;
-        self.hand_on(&mut command)?;
+        self.prepare(&mut command, line, env)?;
         Ok(command)
+    }
+
+    fn prepare(
+        &self,
+        command: &mut Command,
+        line: &Line,
+        env: &[Variable],
+    ) -> Result<(), NoCommand> {
+        command.arg("-c")?.arg(text_of(line.text.as_slice())?)?;
+        for variable in env {
+            set_variable(command, variable)?;
+        }
+        self.hand_on(command)
     }
 
     // A line that goes on behind a killed run keeps the lock by its standard input, so that the next run waits for it.
@@ -108,6 +117,16 @@ fn status_of(code: Option<i32>) -> u32
     }
 }
 
+fn ended(output: Output) -> Ended
+    ensures { result.status ≤ 256 }
+{
+    Ended {
+        status: status_of(output.status.code()),
+        out: ByteString::new(output.stdout),
+        err: ByteString::new(output.stderr),
+    }
+}
+
 impl<T> Exec<T> for Shell<'_> {
     ghost answers = { λ shell env line answer. Unit {0} };
 
@@ -119,11 +138,7 @@ impl<T> Exec<T> for Shell<'_> {
     ) -> Result<Ended, ExecFault> {
         let mut command = self.command(line, env).map_err(|_| ExecFault)?;
         match command.output(&self.rt) {
-            Ok(output) => Ok(Ended {
-                status: status_of(output.status.code()),
-                out: ByteString::new(output.stdout),
-                err: ByteString::new(output.stderr),
-            }),
+            Ok(output) => Ok(ended(output)),
             Err(_) => Err(ExecFault),
         }
     }

@@ -11,7 +11,7 @@ ghost use Rattle.jb_recipe.specs.Environment.{environment, report_path};
 ghost use Rattle.jb_recipe.specs.Noting.{known_of};
 
 use crate::{Conduct, environment};
-use bd_lists::Recipe;
+use bd_lists::{Recipe, Variable};
 use byte_strings::{ByteString, ByteStrings};
 use mk_plan::explicit_of;
 use mk_recipe::{Line, recorded};
@@ -26,6 +26,16 @@ pub fn is_writable(note: &Record) -> bool
     ensures { IsTrue result ↔ IsGood Two note.now }
 {
     note.check().is_ok()
+}
+
+/// A record where it may stand in the state.
+pub(crate) fn writable(note: Record) -> Option<Record>
+    requires status { status_of note ≤ 256 }
+    requires explicit { SaysExplicit Two note }
+    ensures good { IfSome result (λ r. IsGood Two r) }
+    ensures same { IfSome result (λ r. r ≡ note) }
+{
+    if is_writable(&note) { Some(note) } else { None }
 }
 
 /// What is needed to make a target: its recipe, the record that goes first, what a 'done' will say beside the hidden names, and
@@ -92,6 +102,67 @@ fn can_be_done(
     Ok(is_writable(&note))
 }
 
+/// What the records of a node say of it.
+#[derive(Drop)]
+struct Noted {
+    target: ByteString,
+    commands: ByteStrings,
+    explicit: ByteStrings,
+    known: ByteStrings,
+}
+
+impl Noted {
+    fn of(alloc: Global, graph: &Graph, number: usize, lines: &[Line]) -> Result<Noted, AllocError>
+        requires { number < length graph.now.nodes.items }
+        ensures target { IfOk result (λ noted. noted.target ≡ name_at graph.now.names number) }
+        ensures commands { IfOk result (λ noted. Records lines.now noted.commands) }
+        ensures explicit { IfOk result (λ noted. noted.explicit ≡ explicit_of graph.now number) }
+        ensures known { IfOk result (λ noted. noted.known ≡ known_of graph.now number) }
+    {
+        Ok(Noted {
+            target: ByteString::from_slice(alloc, graph.names.name(number))?,
+            commands: recorded(alloc, lines)?,
+            explicit: explicit_of(alloc, graph, number)?,
+            known: known_of(alloc, graph, number)?,
+        })
+    }
+
+    // The 'begun'; None where it, or a 'done' without hidden names, may not stand in the state.
+    fn begun(&self, alloc: Global) -> Result<Option<Record>, AllocError>
+        ensures within { IfOk result (λ begun. IfSome begun (λ note. IsWithin Two note)) }
+        ensures own { IfOk result (λ begun. IfSome begun (λ note. note ≡ records.Begun self.now.target)) }
+    {
+        if !can_be_done(alloc, &self.target, &self.commands, &self.explicit)? {
+            return Ok(None);
+        }
+        let target = self.target.copy(alloc)?;
+        Ok(writable(Record::Begun { target }))
+    }
+}
+
+// Where a node's report goes, and the environment of its recipe.
+fn surroundings(
+    alloc: Global,
+    conduct: &Conduct,
+    number: usize,
+    target: &[u8],
+) -> Result<(Option<ByteString>, Vec<Variable>), AllocError>
+    ensures report { IfOk result (λ s. s.0 ≡ report_path conduct.now.keeps_state conduct.now.state_name number) }
+    ensures env { IfOk result (λ s. s.1.items
+        ≡ environment conduct.now.definitions.items conduct.now.makeflags s.0 target.now) }
+{
+    let report = conduct.report_path(alloc, number)?;
+    let definitions = conduct.definitions.as_slice();
+    let env = environment(
+        alloc,
+        definitions,
+        &conduct.makeflags,
+        report.as_ref(),
+        target,
+    )?;
+    Ok((report, env))
+}
+
 impl Plan {
     /// The plan of a node; None where its 'begun', or a 'done' without hidden names, may not stand in the state.
     pub fn of(
@@ -112,27 +183,13 @@ impl Plan {
             conduct.now.makeflags p.report (name_at graph.now.names number))) }
         ensures ignore { IfOk result (λ plan. IfSome plan (λ p. p.recipe.ignore ≡ conduct.now.ignores_statuses)) }
     {
-        let target = ByteString::from_slice(alloc, graph.names.name(number))?;
-        let commands = recorded(alloc, &lines)?;
-        let explicit = explicit_of(alloc, graph, number)?;
-        let known = known_of(alloc, graph, number)?;
-        let begun = Record::Begun {
-            target: target.copy(alloc)?,
-        };
-        if !is_writable(&begun) || !can_be_done(alloc, &target, &commands, &explicit)? {
+        let noted = Noted::of(alloc, graph, number, &lines)?;
+        let Some(begun) = noted.begun(alloc)? else {
             return Ok(None);
-        }
-        let report = conduct.report_path(alloc, number)?;
-        let definitions = conduct.definitions.as_slice();
-        let env = environment(
-            alloc,
-            definitions,
-            &conduct.makeflags,
-            report.as_ref(),
-            target.as_slice(),
-        )?;
+        };
+        let (report, env) = surroundings(alloc, conduct, number, noted.target.as_slice())?;
         let recipe = Recipe {
-            target,
+            target: noted.target,
             lines: silenced(lines, conduct.prints_no_lines),
             env,
             ignore: conduct.ignores_statuses,
@@ -140,9 +197,9 @@ impl Plan {
         Ok(Some(Plan {
             begun,
             recipe,
-            commands,
-            explicit,
-            known,
+            commands: noted.commands,
+            explicit: noted.explicit,
+            known: noted.known,
             report,
         }))
     }

@@ -1,14 +1,14 @@
 //! How a target's recipe ended, as it is written.
 ghost use Rattle.std.specs.Prelude.{◌≡◌, ◌≤◌, IfOk, IfSome};
-ghost use Rattle.st_records.specs.Limits.{IsGood, SaysExplicit};
-ghost use Rattle.st_records.specs.Parts.{status_of};
+ghost use Rattle.st_records.specs.Limits.{IsGood};
 ghost use Rattle.st_records.specs.declared.version.Version.TheVariants.{Two};
 ghost use Rattle.st_records.specs.declared.record.Record.TheVariants as records;
 ghost use Rattle.st_records.specs.declared.record.Explicit.TheVariants.{Known};
+ghost use Rattle.mk_recipe.specs.declared.line_status.Outcome.TheVariants.{Done};
 ghost use Rattle.bd_lists.specs.Running.{FailsInRange};
 ghost use Rattle.jb_recipe.specs.Noting.{IsEndOf};
 
-use crate::noting::{Plan, is_writable};
+use crate::noting::{Plan, writable};
 use crate::{Place, PlaceFault};
 use bd_lists::Recipe;
 use byte_strings::{ByteString, ByteStrings};
@@ -35,33 +35,16 @@ impl Plan {
         ensures good { IfOk result (λ p. IsGood Two p.0) }
         ensures own { IfOk result (λ p. p.0 ≡ records.Begun p.1.target) }
     {
-        let Plan {
-            begun,
-            recipe,
-            commands,
-            explicit,
-            known,
-            report,
-        } = self;
+        let target = self.recipe.target.copy(alloc)?;
         let note = EndNote {
-            target: recipe.target.copy(alloc)?,
-            commands,
-            explicit,
-            known,
-            report,
+            target,
+            commands: self.commands,
+            explicit: self.explicit,
+            known: self.known,
+            report: self.report,
         };
-        Ok((begun, recipe, note))
+        Ok((self.begun, self.recipe, note))
     }
-}
-
-/// A record where it may stand in the state.
-fn writable(note: Record) -> Option<Record>
-    requires status { status_of note ≤ 256 }
-    requires explicit { SaysExplicit Two note }
-    ensures good { IfSome result (λ r. IsGood Two r) }
-    ensures same { IfSome result (λ r. r ≡ note) }
-{
-    if is_writable(&note) { Some(note) } else { None }
 }
 
 fn failed(target: ByteString, status: u32) -> Option<Record>
@@ -152,6 +135,36 @@ impl EndNote {
         }
     }
 
+    // The hidden names of a recipe that passed; None where the report can't be taken or the target's file isn't on the disk.
+    fn hidden_once_synced<P: Place>(
+        &self,
+        alloc: Global,
+        key: HashKey,
+        place: &P,
+    ) -> Result<Option<ByteStrings>, AllocError> {
+        let hidden = self.hidden(alloc, key, place);
+        self.remove_report(place);
+        let Some(hidden) = hidden? else {
+            return Ok(None);
+        };
+        if !self.is_synced(place)? {
+            return Ok(None);
+        }
+        Ok(Some(hidden))
+    }
+
+    // A 'done' where it may stand in the state, else a 'failed'.
+    fn into_done(self, alloc: Global, hidden: ByteStrings) -> Result<Option<Record>, AllocError>
+        ensures good { IfOk result (λ r. IfSome r (λ note. IsGood Two note)) }
+        ensures end { IfOk result (λ r. IfSome r (λ note. IsEndOf Done self.target self.commands self.explicit note)) }
+    {
+        let target = self.target.copy(alloc)?;
+        match writable(self.done(hidden)) {
+            Some(done) => Ok(Some(done)),
+            None => Ok(failed(target, NOT_TAKEN)),
+        }
+    }
+
     /// The record of the end: a 'done' only where the report was taken, the target's file is on the disk, and the record may
     /// stand in the state. None where not even a 'failed' may.
     pub fn last_record<P: Place>(
@@ -169,19 +182,9 @@ impl EndNote {
             self.remove_report(place);
             return Ok(self.into_failed(status));
         }
-        let hidden = self.hidden(alloc, key, place);
-        self.remove_report(place);
-        let Some(hidden) = hidden? else {
-            return Ok(self.into_failed(NOT_TAKEN));
-        };
-        if !self.is_synced(place)? {
-            return Ok(self.into_failed(NOT_TAKEN));
+        match self.hidden_once_synced(alloc, key, place)? {
+            Some(hidden) => self.into_done(alloc, hidden),
+            None => Ok(self.into_failed(NOT_TAKEN)),
         }
-        let target = self.target.copy(alloc)?;
-        let done = self.done(hidden);
-        if is_writable(&done) {
-            return Ok(Some(done));
-        }
-        Ok(failed(target, NOT_TAKEN))
     }
 }

@@ -1,16 +1,10 @@
--- From what the board hands out to the clearance of a record, and from the receipts of one report to those of a run.
-use Rattle.std.proofs.Common.{◌≡◌, ℕ, List, Option, Some, None, Result, Ok, Err, IfOk, refl, sym, subst}
-use Rattle.st_disk.specs.Crash.{Sides}
-use Rattle.st_records.specs.declared.record.Record.{Record}
+-- From what the board hands out to the clearance of a record, and what holds of an answer.
+use Rattle.std.proofs.Common.{◌≡◌, ℕ, Option, Some, None, Result, Ok, Err, IfOk, refl, sym, subst}
 use Rattle.bd_lists.specs.declared.board.Advanced.{Advanced}
 use Rattle.bd_places.specs.declared.end.End.{End}
 use Rattle.bd_lists.specs.Board.{CanAdvance, Advances, end_noted}
 use Rattle.bd_ledger.specs.Sheet.{Sheet}
 use Rattle.bd_flusher.specs.declared.site.receipt.Receipt.{Receipt}
-use Rattle.jb_closing.specs.declared.fault.RunFault.{RunFault}
-use Rattle.jb_closing.specs.declared.report.Report.{Report}
-use Rattle.jb_closing.specs.Agreement.{AreThoseOf}
-use Rattle.jb_closing.specs.Closing.{AreTrueOf}
 use Rattle.jb_runner.specs.Making.{IsHandedOut}
 
 -- what the board hands out for a receipt holds that receipt
@@ -24,14 +18,6 @@ pub all_handed : (b : Sheet) (node : ℕ) (told : Receipt) (after : Sheet) (answ
     → IfOk answer (λ a. IsHandedOut told a)
 all_handed b node told after (Ok a) ok = handed b node told (end_noted told.noted) a after ok.1
 all_handed b node told after (Err back) ok = tt
-
--- there are receipts of which a report is true: those that were gathered
-pub gathered : (told : List Record) (receipts : List Receipt) (sound : Type 0) (sides : Sides) (names : List (List ℕ))
-    (answer : Result Report RunFault)
-    → IfOk answer (λ r. AreThoseOf told receipts × AreTrueOf told receipts sound sides names r.ends.items)
-    → IfOk answer (λ r. (some : List Receipt) × AreThoseOf told some × AreTrueOf told some sound sides names r.ends.items)
-gathered told receipts sound sides names (Ok r) both = (receipts, both.0, both.1)
-gathered told receipts sound sides names (Err fault) true_of = tt
 
 -- what holds of a value holds of an answer that is this value
 pub if_same : {A E : Type 0} (P : A → Type 0) (answer : Result A E) (a : A) → IfOk answer (λ r. r ≡ a) → P a → IfOk answer P

@@ -29,30 +29,20 @@ enum Begun {
     Refused,
 }
 
-// A run that the board handed back. Only its receipt is left.
-fn let_go(run: Option<Spent<Receipt>>) -> Option<Receipt> {
-    match run {
-        Some(spent) => Some(spent.give_up()),
-        None => None,
-    }
-}
-
-// The ticket of a record that the board has taken.
-fn taken(
-    submitted: Result<(Ticket, Option<Receipt>), (Record, Option<Spent<Receipt>>)>,
-) -> Option<Ticket> {
-    match submitted {
-        Ok((ticket, _told)) => Some(ticket),
-        Err((_note, run)) => {
-            let _ = let_go(run);
-            None
-        }
-    }
-}
-
 // A receipt that the board didn't take, or whose step wasn't the one at which its node stood.
 fn unknown(receipt: Receipt) -> RunFault {
-    RunFault::Flush(FlushFault::Unknown(receipt.ticket()))
+    let ticket = receipt.ticket();
+    drop(receipt);
+    RunFault::Flush(FlushFault::Unknown(ticket))
+}
+
+// The receipt of an end that has settled its node.
+fn settled(advanced: Result<Advanced<Receipt>, Receipt>) -> Result<Receipt, RunFault> {
+    match advanced {
+        Ok(Advanced::Settled(receipt)) => Ok(receipt),
+        Ok(Advanced::Cleared(clearance)) => Err(unknown(clearance.give_up())),
+        Err(receipt) => Err(unknown(receipt)),
+    }
 }
 
 fn failed_status(note: &Record) -> Option<u32> {
@@ -63,20 +53,6 @@ fn failed_status(note: &Record) -> Option<u32> {
 }
 
 impl<D: Disk + Drop, E: Exec<Receipt>, S: Say, P: Place> Shop<'_, D, E, S, P> {
-    // The board's lock is held for the submission alone.
-    fn submit<R: Wait>(
-        &self,
-        rt: &R,
-        node: Node,
-        note: Record,
-        run: Option<Spent<Receipt>>,
-    ) -> Result<(Ticket, Option<Receipt>), (Record, Option<Spent<Receipt>>)>
-        requires { IsGood Two note }
-    {
-        let mut board = self.flusher.board.lock(rt);
-        board.submit(node, note, run)
-    }
-
     fn advance<R: Wait>(
         &self,
         rt: &R,
@@ -100,10 +76,30 @@ impl<D: Disk + Drop, E: Exec<Receipt>, S: Say, P: Place> Shop<'_, D, E, S, P> {
         requires { IsGood Two begun }
         ensures { IfOk result (λ b. IsClearedFor begun b) }
     {
-        let copy = begun.copy(alloc)?;
-        let Some(ticket) = taken(self.submit(rt, node, begun, None)) else {
-            return Ok(Begun::Refused);
+        let Ok(copy) = begun.copy(alloc) else {
+            drop(begun);
+            return Err(RunFault::OutOfMemory);
         };
+        match self.hand_in(rt, node, begun) {
+            Some(ticket) => self.clear(rt, alloc, node, ticket, copy),
+            None => {
+                drop(copy);
+                Ok(Begun::Refused)
+            }
+        }
+    }
+
+    // Waits until the 'begun' of this ticket is written.
+    fn clear<R: Wait>(
+        &self,
+        rt: &R,
+        alloc: Global,
+        node: Node,
+        ticket: Ticket,
+        copy: Record,
+    ) -> Result<Begun, RunFault>
+        ensures { IfOk result (λ b. IsClearedFor copy b) }
+    {
         let receipt = self.flusher.acknowledge(rt, alloc, ticket, copy)?;
         match self.advance(rt, node, receipt) {
             Ok(Advanced::Cleared(clearance)) => Ok(Begun::Cleared(clearance)),
@@ -142,25 +138,60 @@ impl<D: Disk + Drop, E: Exec<Receipt>, S: Say, P: Place> Shop<'_, D, E, S, P> {
         kept: &mut Kept,
     ) -> Result<(), RunFault> {
         let (begun, recipe, note) = plan.apart(alloc)?;
-        let clearance = match self.begin(rt, alloc, node, begun)? {
-            Begun::Cleared(clearance) => clearance,
-            Begun::Refused => {
-                self.not_recorded(rt, node, shift);
-                return Ok(());
+        match self.begin(rt, alloc, node, begun) {
+            Ok(Begun::Cleared(clearance)) => {
+                note.remove_report(self.place);
+                let ran = self.run_with_slot(rt, alloc, clearance, recipe, bank);
+                if self.complain(rt, bank) {
+                    shift.worsen(2);
+                }
+                self.end_run(rt, alloc, node, ran, note, shift, kept)
             }
-        };
-        note.remove_report(self.place);
-        let ran = self.run_with_slot(rt, alloc, clearance, recipe, bank);
-        if self.complain(rt, bank) {
-            shift.worsen(2);
+            Ok(Begun::Refused) => {
+                drop(recipe);
+                drop(note);
+                self.not_recorded(rt, node, shift);
+                Ok(())
+            }
+            Err(fault) => {
+                drop(recipe);
+                drop(note);
+                Err(fault)
+            }
         }
+    }
+
+    // The end of a recipe that was run, or given up for want of memory.
+    fn end_run<R: Wait>(
+        &self,
+        rt: &R,
+        alloc: Global,
+        node: Node,
+        ran: Result<Ran, Clearance<Receipt>>,
+        note: EndNote,
+        shift: &mut Shift,
+        kept: &mut Kept,
+    ) -> Result<(), RunFault>
+        requires { IfOk ran (λ r. FailsInRange r.spent.outcome) }
+    {
         match ran {
             Ok(ran) => self.end(rt, alloc, node, ran, note, shift, kept),
             Err(clearance) => {
-                kept.begun = Some(clearance.give_up());
+                drop(note);
+                kept.keep_begun(Some(clearance.give_up()));
                 Err(RunFault::OutOfMemory)
             }
         }
+    }
+
+    // What the lines wrote is said.
+    fn say_block(&self, ran: Ran) -> Spent<Receipt>
+        ensures { result ≡ ran.spent }
+    {
+        let Ran { ended, spent } = ran;
+        self.say.block(&ended);
+        drop(ended);
+        spent
     }
 
     // What the lines wrote is said, the report read, the target's file synced; then the end of the recipe is written.
@@ -176,18 +207,18 @@ impl<D: Disk + Drop, E: Exec<Receipt>, S: Say, P: Place> Shop<'_, D, E, S, P> {
     ) -> Result<(), RunFault>
         requires { FailsInRange ran.spent.outcome }
     {
-        let Ran { ended, spent } = ran;
-        self.say.block(&ended);
-        let Ok(last) = note.last_record(alloc, self.key, self.place, spent.outcome()) else {
-            kept.begun = Some(spent.give_up());
-            return Err(RunFault::OutOfMemory);
-        };
-        match last {
-            Some(last) => self.submit_end(rt, alloc, node, last, spent, shift, kept),
-            None => {
-                kept.begun = Some(spent.give_up());
+        let spent = self.say_block(ran);
+        let outcome = spent.outcome();
+        match note.last_record(alloc, self.key, self.place, outcome) {
+            Ok(Some(last)) => self.submit_end(rt, alloc, node, last, spent, shift, kept),
+            Ok(None) => {
+                kept.keep_begun(Some(spent.give_up()));
                 self.not_recorded(rt, node, shift);
                 Ok(())
+            }
+            Err(_) => {
+                kept.keep_begun(Some(spent.give_up()));
+                Err(RunFault::OutOfMemory)
             }
         }
     }
@@ -205,18 +236,18 @@ impl<D: Disk + Drop, E: Exec<Receipt>, S: Say, P: Place> Shop<'_, D, E, S, P> {
         requires { IsGood Two last }
     {
         let Ok(copy) = last.copy(alloc) else {
-            kept.begun = Some(spent.give_up());
+            drop(last);
+            kept.keep_begun(Some(spent.give_up()));
             return Err(RunFault::OutOfMemory);
         };
         let failed = failed_status(&last);
-        match self.submit(rt, node, last, Some(spent)) {
-            Ok((ticket, told)) => {
-                kept.begun = told;
+        match self.hand_in_end(rt, node, last, spent, kept) {
+            Some(ticket) => {
                 self.tell_end(node, failed, shift);
                 self.settle_end(rt, alloc, node, ticket, copy, failed, kept)
             }
-            Err((_note, run)) => {
-                kept.begun = let_go(run);
+            None => {
+                drop(copy);
                 self.not_recorded(rt, node, shift);
                 Ok(())
             }
@@ -243,23 +274,25 @@ impl<D: Disk + Drop, E: Exec<Receipt>, S: Say, P: Place> Shop<'_, D, E, S, P> {
         kept: &mut Kept,
     ) -> Result<(), RunFault> {
         let receipt = self.flusher.acknowledge(rt, alloc, ticket, note)?;
-        let advanced = {
-            let mut board = self.flusher.board.lock(rt);
-            let advanced = board.advance(node, receipt);
-            if failed.is_some() && !self.conduct.goes_on {
-                abandon_waiting(&mut *board, self.graph.len());
-            }
-            advanced
-        };
+        let advanced = self.advance_end(rt, node, receipt, failed);
         self.tell_idle();
-        match advanced {
-            Ok(Advanced::Settled(receipt)) => {
-                kept.end = Some(receipt);
-                Ok(())
-            }
-            Ok(Advanced::Cleared(clearance)) => { Err(unknown(clearance.give_up())) }
-            Err(receipt) => Err(unknown(receipt)),
+        kept.keep_end(settled(advanced)?);
+        Ok(())
+    }
+
+    fn advance_end<R: Wait>(
+        &self,
+        rt: &R,
+        node: Node,
+        receipt: Receipt,
+        failed: Option<u32>,
+    ) -> Result<Advanced<Receipt>, Receipt> {
+        let mut board = self.flusher.board.lock(rt);
+        let advanced = board.advance(node, receipt);
+        if failed.is_some() && !self.conduct.goes_on {
+            abandon_waiting(&mut *board, self.graph.len());
         }
+        advanced
     }
 
     fn tell_failed(&self, node: Node, status: u32) {

@@ -8,10 +8,12 @@ mod ending;
 mod gate;
 mod making;
 mod pool;
+mod served;
 mod serving;
 mod shift;
 mod shop;
 mod slotted;
+mod submitting;
 mod worker;
 
 pub use boards::board_of;

@@ -54,16 +54,16 @@ impl<D: Disk + Drop, E: Exec<Receipt>, S: Say, P: Place> Shop<'_, D, E, S, P> {
         let board = self.flusher.board.lock(rt);
         mark_remade(marks, &*board, self.graph.hard.row(number));
         mark_hidden(marks, &*board, &self.graph.nodes[number].hidden);
+        drop(board);
     }
 
     // A node that needs no recipe settles. One that can't, which its claim rules out, is abandoned, so that no other waits for it.
     fn settle<R: Wait>(&self, rt: &R, node: Node, end: End) {
-        {
-            let mut board = self.flusher.board.lock(rt);
-            if !board.settle(node, end) {
-                board.abandon(node);
-            }
+        let mut board = self.flusher.board.lock(rt);
+        if !board.settle(node, end) {
+            board.abandon(node);
         }
+        drop(board);
         self.tell_idle();
     }
 
@@ -90,16 +90,44 @@ impl<D: Disk + Drop, E: Exec<Receipt>, S: Say, P: Place> Shop<'_, D, E, S, P> {
             marks.as_slice(),
             number,
         ) {
-            Ok(Passed::UpToDate) => self.settle(rt, node, End::UpToDate),
-            Ok(Passed::Remade) => self.settle(rt, node, End::Remade),
-            Ok(Passed::Listed(lines)) => return self.build(rt, alloc, node, lines, bank, shift),
-            Err(MacroFault::OutOfMemory) => return Err(RunFault::OutOfMemory),
-            Err(fault) => {
-                self.say.tell(News::NotExpanded { fault: &fault });
-                shift.worsen(2);
-                self.lose(rt, node);
-            }
+            Ok(passed) => self.make_passed(rt, alloc, node, passed, bank, shift),
+            Err(fault) => self.not_expanded(rt, node, &fault, shift),
         }
+    }
+
+    fn make_passed<R: Wait, B: Bank>(
+        &self,
+        rt: &R,
+        alloc: Global,
+        node: Node,
+        passed: Passed,
+        bank: &mut B,
+        shift: &mut Shift,
+    ) -> Result<(), RunFault>
+        requires { node < length self.now.graph.now.nodes.items }
+    {
+        match passed {
+            Passed::UpToDate => self.settle(rt, node, End::UpToDate),
+            Passed::Remade => self.settle(rt, node, End::Remade),
+            Passed::Listed(lines) => return self.build(rt, alloc, node, lines, bank, shift),
+        }
+        Ok(())
+    }
+
+    // A line of its recipe can't be expanded: the node is lost, and the run goes on. Want of memory ends the run.
+    fn not_expanded<R: Wait>(
+        &self,
+        rt: &R,
+        node: Node,
+        fault: &MacroFault,
+        shift: &mut Shift,
+    ) -> Result<(), RunFault> {
+        if matches!(fault, MacroFault::OutOfMemory) {
+            return Err(RunFault::OutOfMemory);
+        }
+        self.say.tell(News::NotExpanded { fault });
+        shift.worsen(2);
+        self.lose(rt, node);
         Ok(())
     }
 

@@ -9,7 +9,7 @@ ghost use Rattle.bd_places.specs.declared.end.End.TheVariants.{Abandoned};
 ghost use Rattle.bd_places.specs.Settling.{end_of};
 ghost use Rattle.jb_closing.specs.Agreement.{AreThoseOf};
 ghost use Rattle.jb_closing.specs.Closing.{AreTrueOf};
-ghost use Rattle.jb_closing.specs.Report.{ends_well};
+ghost use Rattle.jb_closing.specs.Report.{ends_well, ComesTo};
 
 use crate::gate::{Gate, staying};
 use crate::{Shift, Shop, board_of, work};
@@ -26,7 +26,7 @@ use st_records::HashKey;
 use std::alloc::{AllocError, Global};
 use std::sync::{Mutex, Wait};
 use std::thread;
-use std::thread::Threads;
+use std::thread::{JoinHandle, Threads};
 
 /// One worker's part of the run, once it may begin.
 fn begin<R, D, E, S, P, B>(
@@ -64,6 +64,26 @@ impl<D: Disk + Drop, E, S: Say, P> Shop<'_, D, E, S, P> {
     }
 }
 
+/// Waits for the threads behind so many.
+fn join_last<R: Threads>(
+    rt: &R,
+    crew: &mut Shift,
+    threads: &mut Vec<JoinHandle<Shift>>,
+    staying: usize,
+) {
+    for _ in staying..threads.len() {
+        if let Some(thread) = threads.pop() {
+            crew.add(thread.join(rt));
+        }
+    }
+}
+
+fn join_all<R: Threads>(rt: &R, crew: &mut Shift, threads: Vec<JoinHandle<Shift>>) {
+    for thread in threads {
+        crew.add(thread.join(rt));
+    }
+}
+
 /// Starts a worker for each end of the jobserver, and waits for all of them. Where one can't be started no further one is, and
 /// the run goes on with those that there are.
 fn run_workers<R, D, E, S, P, B>(
@@ -90,6 +110,7 @@ where
             let mut crew = Shift::new(alloc);
             let asked = banks.len();
             let Ok(mut threads) = Vec::with_capacity(alloc, asked) else {
+                drop(banks);
                 crew.meet(RunFault::OutOfMemory);
                 return crew;
             };
@@ -99,21 +120,18 @@ where
                     Ok(thread) => {
                         let _ = threads.push(thread);
                     }
-                    Err(_) => break,
+                    Err(refused) => {
+                        drop(refused);
+                        break;
+                    }
                 }
             }
             let workers = staying(threads.len(), asked);
             gate.send_home(rt, workers);
-            for _ in workers..threads.len() {
-                if let Some(thread) = threads.pop() {
-                    crew.add(thread.join(rt));
-                }
-            }
+            join_last(rt, &mut crew, &mut threads, workers);
             shop.note_workers(rt, &mut crew, workers, asked);
             gate.open(rt);
-            for thread in threads {
-                crew.add(thread.join(rt));
-            }
+            join_all(rt, &mut crew, threads);
             crew
         },
     )
@@ -180,6 +198,30 @@ fn close<D: Disk + Drop>(
     closed.report(alloc, graph, Report::of(ends, status), &receipts)
 }
 
+/// The run of a shop, and its closing report.
+fn run_to_close<R, D, E, S, P, B>(
+    rt: &R,
+    alloc: Global,
+    graph: &Graph,
+    shop: Shop<'_, D, E, S, P>,
+    banks: Vec<B>,
+) -> (Result<Report, RunFault>, Closed<D>)
+where
+    R: Threads + Wait + Sync,
+    D: Disk + Drop + Send,
+    E: Exec<Receipt> + Sync,
+    S: Say + Sync,
+    P: Place + Sync,
+    B: Bank + Drop + Send,
+    ensures { ComesTo D.honest D.moments graph.now result.0 result.1.site }
+{
+    let (crew, site, board) = run_shop(rt, alloc, shop, banks);
+    let closed = Closed::new(site);
+    let report = close(&closed, alloc, graph, &board, crew);
+    drop(board);
+    (report, closed)
+}
+
 /// Makes what the graph's goals need: at most as many recipes run at once as there are ends of the jobserver. The report, or the fault
 /// that ended the run, and the site out of its lock.
 ///
@@ -213,17 +255,14 @@ where
         × AreTrueOf result.1.site.told receipts (D.honest × (result.1.site.dead ≡ false)) (now (D.moments result.1.site.disk))
         graph.now.names r.ends.items) }
 {
-    let board = match board_of(alloc, graph) {
-        Ok(board) => board,
-        Err(_) => return (Err(RunFault::OutOfMemory), Closed::new(site)),
+    let Ok(board) = board_of(alloc, graph) else {
+        drop(banks);
+        return (Err(RunFault::OutOfMemory), Closed::new(site));
     };
     let flusher = Flusher {
         site: Mutex::new(site),
         board: Mutex::new(board),
     };
     let shop = Shop::new(graph, conduct, exec, say, place, key, flusher);
-    let (crew, site, board) = run_shop(rt, alloc, shop, banks);
-    let closed = Closed::new(site);
-    let report = close(&closed, alloc, graph, &board, crew);
-    (report, closed)
+    run_to_close(rt, alloc, graph, shop, banks)
 }

@@ -4,6 +4,7 @@ ghost use Rattle.std.specs.Prelude.{◌≡◌, ◌≤◌, ◌++◌, Some, None, 
 use bd_flusher::Receipt;
 use jb_closing::RunFault;
 use std::alloc::Global;
+use std::mem;
 
 /// What one worker, or all of them, came to: the receipts that were gathered, the greatest status of the nodes, and the
 /// fault with which the first worker that met one ended.
@@ -86,6 +87,16 @@ impl Kept {
             begun: None,
             end: None,
         }
+    }
+
+    /// Keeps the receipt of the 'begun'.
+    pub(crate) fn keep_begun(&mut self, receipt: Option<Receipt>) {
+        drop(mem::replace(&mut self.begun, receipt));
+    }
+
+    /// Keeps the receipt of the end.
+    pub(crate) fn keep_end(&mut self, receipt: Receipt) {
+        drop(self.end.replace(receipt));
     }
 }
 

@@ -77,11 +77,10 @@ impl<'a, D: Disk + Drop, E, S: Say, P> Shop<'a, D, E, S, P> {
     pub(crate) fn next_node<R: Wait>(&self, rt: &R) -> Option<Node> {
         let mut board = self.flusher.board.lock(rt);
         for _ in rt.forever() {
-            if let Some(node) = board.claim() {
-                return Some(node);
-            }
-            if !board.waits() {
-                return None;
+            let claimed = board.claim();
+            if claimed.is_some() || !board.waits() {
+                drop(board);
+                return claimed;
             }
             board = self.changed.wait(rt, board);
         }
@@ -95,33 +94,30 @@ impl<'a, D: Disk + Drop, E, S: Say, P> Shop<'a, D, E, S, P> {
 
     /// A node can't be made: it is abandoned, unless its record is still to be drained. Without `-k` all that waits is too.
     pub(crate) fn lose<R: Wait>(&self, rt: &R, node: Node) {
-        {
-            let mut board = self.flusher.board.lock(rt);
-            board.abandon(node);
-            if !self.conduct.goes_on {
-                abandon_waiting(&mut *board, self.graph.len());
-            }
+        let mut board = self.flusher.board.lock(rt);
+        board.abandon(node);
+        if !self.conduct.goes_on {
+            abandon_waiting(&mut *board, self.graph.len());
         }
+        drop(board);
         self.tell_idle();
     }
 
     /// The run ends: all that waits is abandoned, so that the other workers end with the nodes that they have.
     pub(crate) fn stop<R: Wait>(&self, rt: &R) {
-        {
-            let mut board = self.flusher.board.lock(rt);
-            abandon_waiting(&mut *board, self.graph.len());
-        }
+        let mut board = self.flusher.board.lock(rt);
+        abandon_waiting(&mut *board, self.graph.len());
+        drop(board);
         self.tell_idle();
     }
 
     /// The same, and with it the node of the worker that ends the run, in one holding of the lock: nothing that the node frees is
     /// begun.
     pub(crate) fn stop_at<R: Wait>(&self, rt: &R, node: Node) {
-        {
-            let mut board = self.flusher.board.lock(rt);
-            board.abandon(node);
-            abandon_waiting(&mut *board, self.graph.len());
-        }
+        let mut board = self.flusher.board.lock(rt);
+        board.abandon(node);
+        abandon_waiting(&mut *board, self.graph.len());
+        drop(board);
         self.tell_idle();
     }
 

@@ -1,5 +1,5 @@
 //! A whole run with job slots from where MAKEFLAGS says.
-ghost use Rattle.std.specs.Prelude.{◌≡◌, ◌≤◌, List, false, length, IfOk, OnErr, IsTrue};
+ghost use Rattle.std.specs.Prelude.{◌≡◌, ◌≤◌, List, false, length, IfOk, IsTrue};
 ghost use Rattle.std.specs.List.{list_all};
 ghost use Rattle.mk_rules.specs.declared.graph.Graph.{Graph};
 ghost use Rattle.st_disk.specs.Moments.{now};
@@ -10,7 +10,8 @@ ghost use Rattle.jb_closing.specs.Closing.{AreTrueOf};
 ghost use Rattle.jb_closing.specs.Report.{ends_well, ComesTo};
 
 use crate::run;
-use crate::serving::{Source, is_one_word, served_flags, source_of};
+use crate::served::run_as_server;
+use crate::serving::{Source, source_of};
 use bd_flusher::{Receipt, Site};
 use bd_lists::Exec;
 use jb_closing::{Closed, Report, RunFault};
@@ -45,9 +46,9 @@ pub struct Slotting<'a> {
 }
 
 /// What a run comes to: its report or fault, and the closed site.
-type Came<D> = (Result<Report, RunFault>, Closed<D>);
+pub(crate) type Came<D> = (Result<Report, RunFault>, Closed<D>);
 
-fn no_memory<D: Disk + Drop>(site: Site<D>) -> Came<D>
+pub(crate) fn no_memory<D: Disk + Drop>(site: Site<D>) -> Came<D>
     ensures { (graph : Graph) → ComesTo D.honest D.moments graph result.0 result.1.site }
 {
     (Err(RunFault::OutOfMemory), Closed::new(site))
@@ -74,7 +75,7 @@ fn memory_ends<'a, R: Wait>(
 }
 
 /// A run whose slots are the implicit one and so many of a pool in memory.
-fn run_in_memory<R, D, E, S, P>(
+pub(crate) fn run_in_memory<R, D, E, S, P>(
     rt: &R,
     alloc: Global,
     parts: &Parts<'_, E, S, P>,
@@ -112,7 +113,7 @@ where
 }
 
 /// A run over the pool of a path, if it can be opened; else the site comes back.
-fn run_over_pool<R, D, E, S, P, K>(
+pub(crate) fn run_over_pool<R, D, E, S, P, K>(
     rt: &R,
     alloc: Global,
     parts: &Parts<'_, E, S, P>,
@@ -150,32 +151,63 @@ where
     }
 }
 
-/// Whether dmk serves a pool for its workers and recipes now, under a path that can be told to them.
-fn serves<K: Banks>(
-    alloc: Global,
-    banks: &mut K,
-    slotting: Slotting<'_>,
-) -> Result<bool, AllocError>
-    ensures none { IfOk result (λ made. made ≡ false → K.serves banks.old ≡ false → K.serves banks.new ≡ false) }
-    ensures err { OnErr result (K.serves banks.old ≡ false → K.serves banks.new ≡ false) }
-{
-    if slotting.pool.is_empty() || !is_one_word(slotting.pool) {
-        return Ok(false);
-    }
-    let further = slotting.workers.saturating_sub(1);
-    banks.serve(
-        alloc,
-        slotting.pool,
-        u8::try_from(further).unwrap_or(u8::MAX),
-    )
-}
-
-/// A run that serves a pool, or, where none can be served, has one in memory for its own workers.
-fn run_as_server<R, D, E, S, P, K>(
+/// A run of one worker, with the implicit slot.
+fn run_alone<R, D, E, S, P>(
     rt: &R,
     alloc: Global,
     parts: &Parts<'_, E, S, P>,
-    conduct: Conduct,
+    conduct: &mut Conduct,
+    site: Site<D>,
+) -> Came<D>
+where
+    R: Threads + Wait + Sync,
+    D: Disk + Drop + Send,
+    E: Exec<Receipt> + Sync,
+    S: Say + Sync,
+    P: Place + Sync,
+    ensures { ComesTo D.honest D.moments parts.now.graph.now result.0 result.1.site }
+{
+    conduct.makeflags = Makeflags::Removed;
+    run_in_memory(rt, alloc, parts, conduct, site, 1, 0)
+}
+
+/// A run over the pool of a path that MAKEFLAGS names, or alone where it can't be opened.
+fn run_as_client<R, D, E, S, P, K>(
+    rt: &R,
+    alloc: Global,
+    parts: &Parts<'_, E, S, P>,
+    conduct: &mut Conduct,
+    site: Site<D>,
+    workers: usize,
+    banks: &K,
+    path: &[u8],
+) -> Came<D>
+where
+    R: Threads + Wait + Sync,
+    D: Disk + Drop + Send,
+    E: Exec<Receipt> + Sync,
+    S: Say + Sync,
+    P: Place + Sync,
+    K: Banks,
+    K::End: Drop + Send,
+    ensures { ComesTo D.honest D.moments parts.now.graph.now result.0 result.1.site }
+{
+    conduct.makeflags = Makeflags::HandedOn;
+    match run_over_pool(rt, alloc, parts, conduct, site, workers, banks, path) {
+        Ok(came) => came,
+        Err(site) => {
+            parts.say.tell(News::SlotsUnused);
+            run_alone(rt, alloc, parts, conduct, site)
+        }
+    }
+}
+
+/// A run with slots from where MAKEFLAGS says.
+fn run_by_source<R, D, E, S, P, K>(
+    rt: &R,
+    alloc: Global,
+    parts: &Parts<'_, E, S, P>,
+    conduct: &mut Conduct,
     site: Site<D>,
     slotting: Slotting<'_>,
     banks: &mut K,
@@ -191,45 +223,18 @@ where
     ensures came { ComesTo D.honest D.moments parts.now.graph.now result.0 result.1.site }
     ensures let_go { K.serves banks.old ≡ false → K.serves banks.new ≡ false }
 {
-    let mut conduct = conduct;
     let workers = slotting.workers;
-    let Ok(flags) = served_flags(alloc, workers, slotting.pool) else {
-        return no_memory(site);
-    };
-    let mut site = site;
-    match serves(alloc, banks, slotting) {
-        Ok(true) => {
-            conduct.makeflags = Makeflags::Set(flags);
-            let came = run_over_pool(
-                rt,
-                alloc,
-                parts,
-                &conduct,
-                site,
-                workers,
-                banks,
-                slotting.pool,
-            );
-            banks.close(slotting.pool);
-            match came {
-                Ok(came) => return came,
-                Err(back) => site = back,
-            }
+    match source_of(slotting.makeflags, workers) {
+        Source::Server => run_as_server(rt, alloc, parts, conduct, site, slotting, banks),
+        Source::Client(path) => {
+            run_as_client(rt, alloc, parts, conduct, site, workers, banks, path)
         }
-        Ok(false) => {}
-        Err(_) => return no_memory(site),
+        Source::Alone => run_alone(rt, alloc, parts, conduct, site),
+        Source::Unused => {
+            parts.say.tell(News::SlotsUnused);
+            run_alone(rt, alloc, parts, conduct, site)
+        }
     }
-    parts.say.tell(News::NotServed);
-    conduct.makeflags = Makeflags::Removed;
-    run_in_memory(
-        rt,
-        alloc,
-        parts,
-        &conduct,
-        site,
-        workers,
-        workers.saturating_sub(1),
-    )
 }
 
 /// Makes what the graph's goals need, with job slots from where MAKEFLAGS says: as the client of a FIFO, as the server of one,
@@ -264,30 +269,7 @@ where
     ensures let_go { K.serves banks.old ≡ false → K.serves banks.new ≡ false }
 {
     let mut conduct = conduct;
-    let mut site = site;
-    let source = source_of(slotting.makeflags, slotting.workers);
-    if let Source::Server = source {
-        return run_as_server(rt, alloc, parts, conduct, site, slotting, banks);
-    }
-    if let Source::Client(path) = source {
-        conduct.makeflags = Makeflags::HandedOn;
-        match run_over_pool(
-            rt,
-            alloc,
-            parts,
-            &conduct,
-            site,
-            slotting.workers,
-            banks,
-            path,
-        ) {
-            Ok(came) => return came,
-            Err(back) => site = back,
-        }
-    }
-    if source != Source::Alone {
-        parts.say.tell(News::SlotsUnused);
-    }
-    conduct.makeflags = Makeflags::Removed;
-    run_in_memory(rt, alloc, parts, &conduct, site, 1, 0)
+    let came = run_by_source(rt, alloc, parts, &mut conduct, site, slotting, banks);
+    drop(conduct);
+    came
 }

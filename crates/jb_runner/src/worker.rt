@@ -20,19 +20,32 @@ pub fn work<R: Wait, D: Disk + Drop, E: Exec<Receipt>, S: Say, P: Place, B: Bank
 ) -> Shift {
     let mut bank = bank;
     let mut shift = Shift::new(alloc);
-    let Ok(mut marks) = vec![in alloc; false; shop.graph.len()] else {
-        shop.stop(rt);
-        shift.meet(RunFault::OutOfMemory);
-        return shift;
-    };
+    match vec![in alloc; false; shop.graph.len()] {
+        Ok(mut marks) => make_nodes(rt, alloc, shop, &mut marks, &mut bank, &mut shift),
+        Err(_) => {
+            shop.stop(rt);
+            shift.meet(RunFault::OutOfMemory);
+        }
+    }
+    shift
+}
+
+fn make_nodes<R: Wait, D: Disk + Drop, E: Exec<Receipt>, S: Say, P: Place, B: Bank>(
+    rt: &R,
+    alloc: Global,
+    shop: &Shop<'_, D, E, S, P>,
+    marks: &mut Vec<bool>,
+    bank: &mut B,
+    shift: &mut Shift,
+) {
     for _ in rt.forever() {
         let Some(node) = shop.next_node(rt) else {
-            return shift;
+            return;
         };
-        if let Err(fault) = shop.make(rt, alloc, node, &mut marks, &mut bank, &mut shift) {
+        if let Err(fault) = shop.make(rt, alloc, node, marks, bank, shift) {
             shop.stop_at(rt, node);
             shift.meet(fault);
-            return shift;
+            return;
         }
     }
     unreachable!()

@@ -12,7 +12,7 @@ use crate::edges::Edges;
 use std::alloc::{AllocError, Global};
 
 /// What orders the nodes of a graph.
-#[derive(Debug, Drop)]
+#[derive(Drop)]
 pub struct Counted {
     /// Hard and soft edges, or hard ones alone. Each row has a number once, and the numbers in their order.
     pub edges: Edges,

@@ -1,9 +1,8 @@
 //! Cycles: whoever isn't in the plan depends on one.
 
-ghost use Rattle.std.specs.Prelude.{◌≡◌, ℕ, ◌<◌, Bool, true, false, List, [], ◌∷◌, ◌++◌, length, take, drop, nat_eq, nat_lt, nat_le, slice_index, slice_index_or, IsTrue, IfOk, IfSome, IfNone, MatchOption};
+ghost use Rattle.std.specs.Prelude.{◌≡◌, ℕ, ◌<◌, Bool, true, false, List, [], ◌∷◌, ◌++◌, length, take, drop, nat_eq, nat_lt, nat_le, slice_index, slice_index_or, IsTrue, IfOk, IfSome, IfNone};
 ghost use Rattle.std.specs.List.{IsDistinct, list_all};
 ghost use Rattle.mk_graph.specs.Edges.{row, has, is_closed};
-ghost use Rattle.mk_graph.specs.Cycle.{IsCycle, HasCycle};
 ghost use Rattle.mk_graph.specs.Order.{IsOrder};
 ghost use Rattle.mk_graph.specs.Ring.{IsRing};
 
@@ -132,7 +131,7 @@ fn from_least(alloc: Global, ring: &[usize]) -> Result<Vec<usize>, AllocError>
 }
 
 /// What orders the nodes of a graph.
-#[derive(Debug, Drop)]
+#[derive(Drop)]
 pub enum Order {
     /// Their plan. The graph has no cycle, so each node is there.
     Plan(Vec<usize>),
@@ -153,16 +152,4 @@ pub fn order_nodes(alloc: Global, edges: &Edges) -> Result<Order, AllocError>
     };
     let ring = walk(alloc, edges, &passed, start)?;
     Ok(Order::Cycle(from_least(alloc, &ring)?))
-}
-
-/// A cycle of the graph, from its least node on, each node followed by one of its prerequisites; None where there is
-/// none. Of several cycles any may be given.
-pub fn find_cycle(alloc: Global, edges: &Edges) -> Result<Option<Vec<usize>>, AllocError>
-    requires { IsTrue (is_closed edges.now) }
-    ensures { IfOk result (λ found. MatchOption found (HasCycle edges.now → ⊥) (λ cycle. IsCycle edges.now cycle.items)) }
-{
-    match order_nodes(alloc, edges)? {
-        Order::Plan(_) => Ok(None),
-        Order::Cycle(cycle) => Ok(Some(cycle)),
-    }
 }

@@ -11,7 +11,7 @@ mod planning;
 mod waiting;
 
 pub use counting::{Counted, count_edges};
-pub use cycles::{Order, find_cycle, order_nodes};
+pub use cycles::{Order, order_nodes};
 pub use edges::Edges;
 pub use names::Names;
 pub use numbering::{Dependencies, Found, Numbered, NumberingFault, distinct_names, number};

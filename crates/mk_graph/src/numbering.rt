@@ -70,7 +70,7 @@ pub trait Dependencies {
 }
 
 /// Why names aren't numbered.
-#[derive(Debug, Drop)]
+#[derive(Drop)]
 pub enum NumberingFault<F> {
     OutOfMemory,
     /// There are more names than the limit.

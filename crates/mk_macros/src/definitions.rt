@@ -3,14 +3,12 @@ ghost use Rattle.std.specs.Prelude.{◌≡◌, ◌≢◌, ℕ, List, [], None, S
 ghost use Rattle.mk_macros.specs.Ranks.{ranks_at, no_ranks, in_force, with_rank, base_of, appended, redefined, with_definition, or_else};
 ghost use Rattle.mk_macros.specs.Shown.{ranks_of, texts_at};
 
-use bstr::{BStr, ByteSlice};
 use indexmap::IndexMap;
 use std::alloc::{AllocError, Global};
-use std::fmt;
 use std::marker::Model;
 
 /// Where a definition stands. An earlier rank hides a later one.
-#[derive(Clone, Copy, Debug, PartialEq, Eq)]
+#[derive(Clone, Copy)]
 pub enum Rank {
     CommandLine,
     Makefile,
@@ -34,21 +32,6 @@ fn text_of(text: &Option<Vec<u8>>) -> Option<&[u8]>
     match text {
         Some(text) => Some(text.as_slice()),
         None => None,
-    }
-}
-
-fn shown(text: &Option<Vec<u8>>) -> Option<BStr<'_>> {
-    Some(text_of(text)?.as_bstr())
-}
-
-impl fmt::Debug for Definition {
-    fn fmt<W: fmt::Write>(&self, f: &mut fmt::Formatter<W>) -> fmt::Result {
-        f.debug_struct("Definition")
-            .field("command_line", &shown(&self.command_line))
-            .field("makefile", &shown(&self.makefile))
-            .field("environment", &shown(&self.environment))
-            .field("tool", &shown(&self.tool))
-            .finish()
     }
 }
 
@@ -244,19 +227,5 @@ impl Macros {
         ensures { option_copied result ≡ in_force (ranks_at self.now name.now) }
     {
         text_in(&self.definitions, name)
-    }
-}
-
-/// Each name with its texts.
-impl fmt::Debug for Macros {
-    fn fmt<W: fmt::Write>(&self, f: &mut fmt::Formatter<W>) -> fmt::Result {
-        f.debug_map()
-            .entries(
-                self.definitions.iter().map(|(name, definition)| (
-                    name.as_slice().as_bstr(),
-                    definition,
-                )),
-            )
-            .finish()
     }
 }

@@ -5,7 +5,7 @@ use std::alloc::{AllocError, Global};
 use std::marker::Model;
 
 /// `NAME = VALUE`, or `NAME += VALUE`. Neither text is expanded.
-#[derive(Debug, Drop)]
+#[derive(Drop)]
 pub struct Definition {
     /// The file's name as it was given, or as it stands on the include line.
     pub file: ByteString,
@@ -18,7 +18,7 @@ pub struct Definition {
 }
 
 /// A line of a recipe, without its TAB.
-#[derive(Debug, Drop)]
+#[derive(Drop)]
 pub struct RecipeLine {
     pub text: ByteString,
     /// The number of the first physical line, from 1, in the rule's file.
@@ -26,7 +26,7 @@ pub struct RecipeLine {
 }
 
 /// The lines of a recipe, in order.
-#[derive(Debug, Drop)]
+#[derive(Drop)]
 pub struct Recipe {
     lines: Vec<RecipeLine>,
 }
@@ -68,7 +68,7 @@ impl Recipe {
 
 /// `TARGETS : PREREQUISITES`, with a recipe below it or behind a `;`. The texts aren't expanded, and have no
 /// blanks at their ends.
-#[derive(Debug, Drop)]
+#[derive(Drop)]
 pub struct Rule {
     pub file: ByteString,
     /// The number of the first physical line, from 1.
@@ -79,13 +79,13 @@ pub struct Rule {
 }
 
 /// A rule whose first target is a special name. Its other targets mean nothing.
-#[derive(Debug, Drop)]
+#[derive(Drop)]
 pub struct Special {
     pub name: SpecialName,
     pub rule: Rule,
 }
 
-#[derive(Debug, Drop)]
+#[derive(Drop)]
 pub enum Item {
     Definition(Definition),
     Rule(Rule),

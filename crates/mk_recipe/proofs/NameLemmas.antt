@@ -52,8 +52,8 @@ known_start target name known names none empty e =
     ∙ ap (λ b. b || has name known) (or_false (bytes_eq name target))
 
 -- one more was added, and is no longer left
-pub known_more : (first name : List ℕ) (names names' left left' whole : List (List ℕ)) → names' ≡ added names first → left ≡ first ∷ left'
-    → (has name names || has name left) ≡ has name whole → (has name names' || has name left') ≡ has name whole
+pub known_more : (first name : List ℕ) (names names' left left' : List (List ℕ)) (whole : Bool) → names' ≡ added names first → left ≡ first ∷ left'
+    → (has name names || has name left) ≡ whole → (has name names' || has name left') ≡ whole
 known_more first name names names' left left' whole e l h =
     ap (λ ns. has name ns || has name left') e
     ∙ ap (λ b. b || has name left') (has-added name first names)

@@ -1,7 +1,7 @@
 //! How the lines of a recipe ended, and what the recipe came to.
 
 /// How a line that was run ended.
-#[derive(Clone, Copy, Debug, PartialEq, Eq)]
+#[derive(Clone, Copy)]
 pub struct LineStatus {
     /// 0 to 255, or 256 where the line was stopped or not started.
     pub status: u32,
@@ -10,7 +10,7 @@ pub struct LineStatus {
 }
 
 /// What a recipe came to.
-#[derive(Clone, Copy, Debug, PartialEq, Eq)]
+#[derive(Clone, Copy)]
 pub enum Outcome {
     Done,
     /// The status of the line that failed.

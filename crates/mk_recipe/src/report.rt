@@ -1,9 +1,10 @@
 //! The report of a target: the files that its commands have read beside those that the makefile names.
-ghost use Rattle.std.specs.Prelude.{◌≡◌, ℕ, ◌∷◌, [], List, Some, IfOk, IfErr};
+ghost use Rattle.std.specs.Prelude.{◌≡◌, ℕ, ◌∷◌, [], List, Some, true, false, IfOk, IfErr, OnOk, ◌||◌, ◌⊎◌};
 ghost use Rattle.byte_strings.specs.Blanks.{words};
 ghost use Rattle.mk_reader.specs.Lines.{joined_lines};
 ghost use Rattle.mk_recipe.specs.Report.{has, mentioned, AreHidden, IsReportFault};
 ghost use Rattle.mk_recipe.specs.Reading.{Reads, Stops};
+ghost use Rattle.mk_recipe.specs.declared.report.ReportFault.TheVariants.{TooMany};
 
 use crate::name_set::NameSet;
 use crate::report_line::names_on;
@@ -40,6 +41,16 @@ impl From<AllocError> for ReportFault {
     }
 }
 
+/// Adds these names.
+fn add_all(alloc: Global, names: &mut NameSet, added: &ByteStrings) -> Result<(), AllocError>
+    ensures { OnOk result ((name : List ℕ) → has name names.new ≡ (has name names.old || has name added.now)) }
+{
+    for name in added {
+        names.add(alloc, name)?;
+    }
+    Ok(())
+}
+
 /// The names that are no hidden prerequisites.
 fn known_names(
     alloc: Global,
@@ -51,9 +62,7 @@ fn known_names(
 {
     let mut names = NameSet::new(alloc, key);
     names.add(alloc, target)?;
-    for name in known {
-        names.add(alloc, name)?;
-    }
+    add_all(alloc, &mut names, known)?;
     Ok(names)
 }
 
@@ -122,6 +131,26 @@ fn read_lines(
     Ok(left_out)
 }
 
+/// The names that the lines of a report say of the target and that weren't seen before.
+fn hidden_names(
+    alloc: Global,
+    seen: &mut NameSet,
+    report: &[u8],
+    target: &[u8],
+) -> Result<ByteStrings, ReportFault>
+    ensures names { IfOk result (λ hidden. Reads (mentioned target.now (joined_lines (Some report.now)))
+        seen.old [] seen.new hidden false) }
+    ensures fault { IfErr result (λ fault. Stops (mentioned target.now (joined_lines (Some report.now))) seen.old fault
+        ⊎ ((fault ≡ TooMany) × (hidden : List (List ℕ)) × Reads (mentioned target.now (joined_lines (Some report.now)))
+        seen.old [] seen.new hidden true)) }
+{
+    let mut hidden = ByteStrings::empty(alloc);
+    if read_lines(alloc, seen, &mut hidden, report, target)? {
+        return Err(ReportFault::TooMany);
+    }
+    Ok(hidden)
+}
+
 /// The hidden prerequisites that a target's report names, in order of their first mention: neither the target nor one
 /// of the names in `known`, which are its source and its explicit prerequisites.
 ///
@@ -141,9 +170,5 @@ pub fn read_report(
         return Err(ReportFault::NotText);
     }
     let mut seen = known_names(alloc, key, target, known)?;
-    let mut hidden = ByteStrings::empty(alloc);
-    if read_lines(alloc, &mut seen, &mut hidden, report, target)? {
-        return Err(ReportFault::TooMany);
-    }
-    Ok(hidden)
+    hidden_names(alloc, &mut seen, report, target)
 }

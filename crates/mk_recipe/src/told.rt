@@ -1,7 +1,7 @@
 //! Reasons in a user's words.
-ghost use Rattle.std.specs.Prelude.{◌≡◌, slice_get};
+ghost use Rattle.std.specs.Prelude.{◌≡◌, ◌++◌, List, slice_get, IfSome, IfNone};
 ghost use Rattle.bstr.specs.BStr.{bstr_bytes};
-ghost use Rattle.mk_recipe.specs.Told.{name_in};
+ghost use Rattle.mk_recipe.specs.Told.{name_in, name_at, words_for};
 
 use crate::verdict::{Prerequisite, Reason};
 use bstr::{BStr, ByteSlice};
@@ -39,6 +39,25 @@ fn name_at<'a>(prerequisites: &[Prerequisite<'a>], number: usize) -> BStr<'a>
     name.as_bstr()
 }
 
+/// The words for a reason, and the number of the prerequisite whose name follows them.
+fn words_for(reason: Reason) -> (&'static str, Option<usize>)
+    ensures named { IfSome result.1 (λ number. (prerequisites : List Prerequisite)
+        → words_for prerequisites reason ≡ result.0.now ++ name_at prerequisites number) }
+    ensures alone { IfNone result.1 ((prerequisites : List Prerequisite) → words_for prerequisites reason ≡ result.0.now) }
+{
+    match reason {
+        Reason::NoEntry => ("not recorded", None),
+        Reason::WasBegun => ("not finished", None),
+        Reason::WasFailed => ("failed", None),
+        Reason::CommandsChanged => ("commands changed", None),
+        Reason::PrerequisitesChanged => ("prerequisites changed", None),
+        Reason::Absent => ("no file", None),
+        Reason::Newer(number) => ("newer: ", Some(number)),
+        Reason::HiddenGone(number) => ("gone: ", Some(number)),
+        Reason::Remade(number) => ("remade: ", Some(number)),
+    }
+}
+
 impl fmt::Display for Told<'_> {
     ghost use Rattle.std.specs.Prelude.{Some};
     ghost use Rattle.mk_recipe.specs.Told.{words_for};
@@ -46,17 +65,10 @@ impl fmt::Display for Told<'_> {
     ghost output = { λ t. Some (words_for t.prerequisites.now t.reason) };
 
     fn fmt<W: fmt::Write>(&self, f: &mut fmt::Formatter<W>) -> fmt::Result {
-        let prerequisites = self.prerequisites;
-        match self.reason {
-            Reason::NoEntry => f.write_str("not recorded"),
-            Reason::WasBegun => f.write_str("not finished"),
-            Reason::WasFailed => f.write_str("failed"),
-            Reason::CommandsChanged => f.write_str("commands changed"),
-            Reason::PrerequisitesChanged => f.write_str("prerequisites changed"),
-            Reason::Absent => f.write_str("no file"),
-            Reason::Newer(number) => write!(f, "newer: {}", name_at(prerequisites, number)),
-            Reason::HiddenGone(number) => write!(f, "gone: {}", name_at(prerequisites, number)),
-            Reason::Remade(number) => write!(f, "remade: {}", name_at(prerequisites, number)),
+        let (words, number) = words_for(self.reason);
+        match number {
+            Some(number) => write!(f, "{words}{}", name_at(self.prerequisites, number)),
+            None => f.write_str(words),
         }
     }
 }

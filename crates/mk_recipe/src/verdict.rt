@@ -38,7 +38,7 @@ pub struct Target<'a> {
 }
 
 /// Why a target is out of date. A number is that of a prerequisite. The order is that in which reasons are looked for.
-#[derive(Clone, Copy, Debug, PartialEq, Eq)]
+#[derive(Clone, Copy)]
 pub enum Reason {
     /// The state has nothing about the target.
     NoEntry,
@@ -58,7 +58,7 @@ pub enum Reason {
 }
 
 /// Whether a target is finished.
-#[derive(Clone, Copy, Debug, PartialEq, Eq)]
+#[derive(Clone, Copy)]
 pub enum Verdict {
     UpToDate,
     OutOfDate(Reason),

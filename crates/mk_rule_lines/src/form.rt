@@ -10,7 +10,7 @@ use std::alloc::{AllocError, Global};
 ///
 /// The pattern rule `x%y : a%b` has all four, the suffix rule `.c.o` has `after` and `back`, and the suffix rule `.c`
 /// has `back` alone.
-#[derive(Debug, Drop)]
+#[derive(Drop)]
 pub struct Form {
     pub before: ByteString,
     pub after: ByteString,
@@ -23,7 +23,7 @@ pub struct Form {
 }
 
 /// What an implicit rule makes a name from.
-#[derive(Debug, Drop)]
+#[derive(Drop)]
 pub struct Source {
     pub name: ByteString,
     pub stem: ByteString,

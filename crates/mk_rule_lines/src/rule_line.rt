@@ -9,7 +9,7 @@ use mk_reader::{Recipe, SpecialName};
 use std::alloc::{AllocError, Global};
 
 /// A rule line, or the line of a special rule.
-#[derive(Debug, Drop)]
+#[derive(Drop)]
 pub struct RuleLine {
     /// The number of the line, from 1, in the file that holds it.
     pub line: usize,

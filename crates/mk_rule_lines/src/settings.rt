@@ -5,7 +5,7 @@ ghost use Rattle.mk_rule_lines.specs.Goals.{is_keep_state, is_no_parallel, is_ig
 use crate::rule_line::RuleLine;
 use mk_reader::SpecialName;
 
-#[derive(Clone, Copy, Debug, PartialEq, Eq)]
+#[derive(Clone, Copy)]
 pub struct Settings {
     /// `.KEEP_STATE:` stands in the makefile.
     pub keeps_state: bool,

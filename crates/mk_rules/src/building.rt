@@ -9,6 +9,7 @@ ghost use Rattle.mk_graph.specs.Numbering.{AreDescribed, name_at};
 ghost use Rattle.mk_rules.specs.Found.{AreFound, IsFindingFault, IsUnmadeFault, IsGraphlessFault};
 ghost use Rattle.mk_rules.specs.Known.{IsKnown};
 ghost use Rattle.mk_rules.specs.Node.{EachHasOneNumber};
+ghost use Rattle.mk_rules.specs.Nodes.{AreMadeOf};
 ghost use Rattle.mk_rules.specs.Assembly.{IsPutTogether};
 ghost use Rattle.mk_rules.specs.Stamps.{AgreesWith, Asks, Looks};
 ghost use Rattle.mk_rule_lines.specs.Table.{is_named, named_at};
@@ -21,7 +22,7 @@ ghost use Rattle.mk_rules.specs.Graph.{IsGraph, AreMade};
 ghost use Rattle.mk_rules.specs.Faults.{AreInputs, AreTold, IsGraphFault, IsRuleFault};
 
 use crate::finder::Finder;
-use crate::graph::{Graph, MAX_NODES};
+use crate::graph::{Graph, MAX_NODES, Node};
 use crate::known::Known;
 use crate::nodes::nodes_of;
 use crate::ordering::{Ordered, hard_edges, ordered_by};
@@ -30,7 +31,7 @@ use crate::soft::soft_edges;
 use crate::stamps::Stamps;
 use crate::tree::Tree;
 use byte_strings::{ByteString, ByteStrings};
-use mk_graph::{Numbered, NumberingFault, number};
+use mk_graph::{Names, Numbered, NumberingFault, number};
 use mk_macros::Macros;
 use mk_reader::Item;
 use mk_rule_lines::{Makefile, RuleFault, RuleLine, Settings, TargetTable, goals_of};
@@ -125,6 +126,27 @@ fn check_made(
     Ok(())
 }
 
+/// The names that were found, the numbers of the goals, and the node of each name.
+fn named_nodes(
+    alloc: Global,
+    numbered: Numbered<Known>,
+) -> Result<(Names, Vec<usize>, Vec<Node>), AllocError>
+    requires { length numbered.rows ≡ length numbered.nodes.items }
+    ensures names { IfOk result (λ of. of.0 ≡ numbered.names) }
+    ensures goals { IfOk result (λ of. of.1.items ≡ numbered.goals.items) }
+    ensures count { IfOk result (λ of. length of.2.items ≡ length numbered.nodes.items) }
+    ensures nodes { IfOk result (λ of. AreMadeOf numbered.nodes.items numbered.rows of.2.items) }
+{
+    let Numbered {
+        names,
+        goals,
+        rows,
+        nodes,
+    } = numbered;
+    let nodes = nodes_of(alloc, &rows, nodes)?;
+    Ok((names, goals, nodes))
+}
+
 /// The graph of names that were found and ordered.
 fn put_together(
     alloc: Global,
@@ -147,12 +169,7 @@ fn put_together(
     ensures graph { IfOk result (IsPutTogether lines.items numbered ordered) }
     ensures macros { IfOk result (λ graph. graph.macros ≡ macros) }
 {
-    let Numbered {
-        names,
-        goals,
-        rows,
-        nodes,
-    } = numbered;
+    let (names, goals, nodes) = named_nodes(alloc, numbered)?;
     let Ordered {
         hard,
         soft,
@@ -161,9 +178,9 @@ fn put_together(
         soft_dropped,
     } = ordered;
     Ok(Graph {
-        nodes: nodes_of(alloc, &rows, nodes)?,
         names,
         goals,
+        nodes,
         hard,
         soft,
         counted,
@@ -206,6 +223,13 @@ fn order_found(
     ordered_by(alloc, &numbered.names, hard, soft)
 }
 
+fn lines_of(makefile: Makefile) -> Vec<RuleLine>
+    ensures { result ≡ makefile.lines }
+{
+    let Makefile { lines, .. } = makefile;
+    lines
+}
+
 /// The graph of names that were found.
 fn graph_of(
     alloc: Global,
@@ -225,7 +249,7 @@ fn graph_of(
         → AreFound inputs (goals_of inputs.lines named) numbered → IsGraphlessFault inputs named fault) }
 {
     let ordered = order_found(alloc, &makefile, &numbered)?;
-    let Makefile { lines, .. } = makefile;
+    let lines = lines_of(makefile);
     Ok(put_together(alloc, lines, macros, numbered, ordered)?)
 }
 

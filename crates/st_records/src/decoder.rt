@@ -4,9 +4,10 @@ ghost use Rattle.std.specs.Prelude.{◌≡◌, ◌≤◌, ◌⊎◌, ℕ, length
 ghost use Rattle.st_records.specs.declared.decoder.DecodeFault.{DecodeFault};
 ghost use Rattle.st_records.specs.declared.decoder.DecodeFault.TheVariants as faults;
 ghost use Rattle.st_records.specs.declared.record.Record.{Record};
+ghost use Rattle.st_records.specs.declared.record.Record.TheVariants as records;
 ghost use Rattle.st_records.specs.Limits.{Encodes};
 ghost use Rattle.st_records.specs.Faults.{HasFault, HasWholeTarget};
-ghost use Rattle.st_records.specs.Reading.{Gives, target_at, number_at, string_at, items_at, strings_at, no_status_at, status_at, phase_at, done_explicit_at, kept_explicit_at, entry_at, record_at, good_at};
+ghost use Rattle.st_records.specs.Reading.{Gives, made_at, then_at, lists_at, target_at, number_at, string_at, items_at, strings_at, no_status_at, status_at, phase_at, done_explicit_at, kept_explicit_at, entry_at, record_at, good_at};
 
 use crate::limits::RecordFault;
 use crate::record::{Entry, Explicit, Phase, Record};
@@ -77,35 +78,55 @@ fn record_of(alloc: Global, version: Version, bytes: &[u8]) -> Result<(Record, &
 {
     match bytes {
         [] => Err(DecodeFault::Short),
-        [1, rest @ ..] => {
-            let (target, rest) = string_of(alloc, rest)?;
-            Ok((Record::Begun { target }, rest))
-        }
-        [2, rest @ ..] => {
-            let (target, rest) = string_of(alloc, rest)?;
-            let (commands, rest) = strings_of(alloc, rest)?;
-            let (hidden, rest) = strings_of(alloc, rest)?;
-            let (explicit, rest) = done_explicit_of(alloc, version, rest)?;
-            let record = Record::Done {
-                target,
-                commands,
-                hidden,
-                explicit,
-            };
-            Ok((record, rest))
-        }
-        [3, rest @ ..] => {
-            let (target, rest) = string_of(alloc, rest)?;
-            let (status, rest) = status_of(rest)?;
-            Ok((Record::Failed { target, status }, rest))
-        }
-        [4, rest @ ..] => {
-            let (target, rest) = string_of(alloc, rest)?;
-            let (entry, rest) = entry_of(alloc, version, rest)?;
-            Ok((Record::Kept { target, entry }, rest))
-        }
+        [1, rest @ ..] => begun_of(alloc, rest),
+        [2, rest @ ..] => done_of(alloc, version, rest),
+        [3, rest @ ..] => failed_of(alloc, rest),
+        [4, rest @ ..] => kept_of(alloc, version, rest),
         [_, ..] => Err(DecodeFault::BadKind),
     }
+}
+
+fn begun_of(alloc: Global, bytes: &[u8]) -> Result<(Record, &[u8]), DecodeFault>
+    ensures gives { Gives (λ x. (x.0, x.1.now)) result (made_at records.Begun string_at bytes.now) }
+    ensures memory { IsErrOf result faults.OutOfMemory → IsOk (string_at bytes.now) }
+{
+    let (target, rest) = string_of(alloc, bytes)?;
+    Ok((Record::Begun { target }, rest))
+}
+
+fn done_of(alloc: Global, version: Version, bytes: &[u8]) -> Result<(Record, &[u8]), DecodeFault>
+    ensures gives { Gives (λ x. (x.0, x.1.now)) result (made_at (λ x. records.Done x.0 x.1.0 x.1.1.0 x.1.1.1) (then_at string_at (lists_at (done_explicit_at version))) bytes.now) }
+    ensures memory { IsErrOf result faults.OutOfMemory → IsOk (string_at bytes.now) }
+{
+    let (target, rest) = string_of(alloc, bytes)?;
+    let (commands, rest) = strings_of(alloc, rest)?;
+    let (hidden, rest) = strings_of(alloc, rest)?;
+    let (explicit, rest) = done_explicit_of(alloc, version, rest)?;
+    let record = Record::Done {
+        target,
+        commands,
+        hidden,
+        explicit,
+    };
+    Ok((record, rest))
+}
+
+fn failed_of(alloc: Global, bytes: &[u8]) -> Result<(Record, &[u8]), DecodeFault>
+    ensures gives { Gives (λ x. (x.0, x.1.now)) result (made_at (λ x. records.Failed x.0 x.1) (then_at string_at status_at) bytes.now) }
+    ensures memory { IsErrOf result faults.OutOfMemory → IsOk (string_at bytes.now) }
+{
+    let (target, rest) = string_of(alloc, bytes)?;
+    let (status, rest) = status_of(rest)?;
+    Ok((Record::Failed { target, status }, rest))
+}
+
+fn kept_of(alloc: Global, version: Version, bytes: &[u8]) -> Result<(Record, &[u8]), DecodeFault>
+    ensures gives { Gives (λ x. (x.0, x.1.now)) result (made_at (λ x. records.Kept x.0 x.1) (then_at string_at (entry_at version)) bytes.now) }
+    ensures memory { IsErrOf result faults.OutOfMemory → IsOk (string_at bytes.now) }
+{
+    let (target, rest) = string_of(alloc, bytes)?;
+    let (entry, rest) = entry_of(alloc, version, rest)?;
+    Ok((Record::Kept { target, entry }, rest))
 }
 
 #[tactic(auto, unfolding(crate::specs::Reading::entry_at))]

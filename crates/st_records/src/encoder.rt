@@ -1,6 +1,7 @@
 //! From a record to its bytes.
 
-ghost use Rattle.std.specs.Prelude.{◌≡◌, ◌+◌, ◌<◌, ◌≤◌, ◌++◌, length, take, IfOk, OnOk, OnErr, vec_len, vec_capacity};
+ghost use Rattle.std.specs.Prelude.{◌≡◌, ◌+◌, ◌<◌, ◌≤◌, ◌++◌, ◌∷◌, length, take, IfOk, OnOk, OnErr, vec_len, vec_capacity};
+ghost use Rattle.st_records.specs.declared.record.Record.TheVariants as records;
 ghost use Rattle.st_records.specs.declared.version.Version.TheVariants as versions;
 ghost use Rattle.st_records.specs.Parts.{names_known};
 ghost use Rattle.st_records.specs.Encoding.{number, string, strings, lists, phase_fields, kept_explicit, entry_fields, encoding, FitsString, FitsStrings, FitsEntry, FitsRecord};
@@ -42,44 +43,57 @@ impl Record {
 fn put_record(out: &mut Vec<u8>, of: &Record) -> Result<(), AllocError>
     requires { FitsRecord versions.Two of.now }
     ensures ok { OnOk result (out.new.items ≡ out.old.items ++ encoding versions.Two of.now) }
-    ensures len { OnOk result (vec_len out.new ≡ vec_len out.old + length (encoding versions.Two of.now)) }
     ensures room { vec_capacity out.old ≤ vec_capacity out.new }
     ensures front { take (vec_len out.old) out.new.items ≡ out.old.items }
     ensures full { OnErr result (vec_capacity out.old < vec_len out.old + length (encoding versions.Two of.now)) }
 {
     match of {
-        Record::Begun { target } => {
-            out.push(1)?;
-            put_string(out, target.as_slice())?;
-        }
+        Record::Begun { target } => put_front(out, 1, target.as_slice()),
         Record::Done {
             target,
             commands,
             hidden,
             explicit,
         } => {
-            out.push(2)?;
-            put_string(out, target.as_slice())?;
-            put_lists(out, commands.iter(), hidden.iter(), explicit.names())?;
+            put_front(out, 2, target.as_slice())?;
+            put_lists(out, commands.iter(), hidden.iter(), explicit.names())
         }
         Record::Failed { target, status } => {
-            out.push(3)?;
-            put_string(out, target.as_slice())?;
-            put_number(out, *status)?;
+            put_front(out, 3, target.as_slice())?;
+            put_number(out, *status)
         }
-        Record::Kept { target, entry } => {
-            out.push(4)?;
-            put_string(out, target.as_slice())?;
-            put_entry(out, entry)?;
-        }
+        Record::Kept { target, entry } => put_kept(out, target.as_slice(), entry),
     }
-    Ok(())
 }
 
-pub(crate) fn put_entry(out: &mut Vec<u8>, of: &Entry) -> Result<(), AllocError>
+/// The kept record of this name and this entry.
+pub(crate) fn put_kept(out: &mut Vec<u8>, name: &[u8], entry: &Entry) -> Result<(), AllocError>
+    requires { FitsRecord versions.Two (records.Kept name.now entry.now) }
+    ensures ok { OnOk result (out.new.items ≡ out.old.items ++ encoding versions.Two (records.Kept name.now entry.now)) }
+    ensures full { OnErr result (vec_capacity out.old < vec_len out.old + length (encoding versions.Two (records.Kept name.now entry.now))) }
+    ensures front { take (vec_len out.old) out.new.items ≡ out.old.items }
+    ensures room { vec_capacity out.old ≤ vec_capacity out.new }
+{
+    put_front(out, 4, name)?;
+    put_entry(out, entry)
+}
+
+/// The byte of a record's kind, and its target.
+fn put_front(out: &mut Vec<u8>, kind: u8, target: &[u8]) -> Result<(), AllocError>
+    requires { FitsString target.now }
+    ensures ok { OnOk result (out.new.items ≡ out.old.items ++ (kind ∷ string target.now)) }
+    ensures len { OnOk result (vec_len out.new ≡ vec_len out.old + 1 + length (string target.now)) }
+    ensures room { vec_capacity out.old ≤ vec_capacity out.new }
+    ensures front { take (vec_len out.old) out.new.items ≡ out.old.items }
+    ensures full { OnErr result (vec_capacity out.old < vec_len out.old + 1 + length (string target.now)) }
+{
+    out.push(kind)?;
+    put_string(out, target)
+}
+
+fn put_entry(out: &mut Vec<u8>, of: &Entry) -> Result<(), AllocError>
     requires { FitsEntry versions.Two of.now }
     ensures ok { OnOk result (out.new.items ≡ out.old.items ++ entry_fields versions.Two of.now) }
-    ensures len { OnOk result (vec_len out.new ≡ vec_len out.old + length (entry_fields versions.Two of.now)) }
     ensures room { vec_capacity out.old ≤ vec_capacity out.new }
     ensures front { take (vec_len out.old) out.new.items ≡ out.old.items }
     ensures full { OnErr result (vec_capacity out.old < vec_len out.old + length (entry_fields versions.Two of.now)) }
@@ -93,19 +107,17 @@ pub(crate) fn put_entry(out: &mut Vec<u8>, of: &Entry) -> Result<(), AllocError>
 fn put_kept_explicit(out: &mut Vec<u8>, of: &Explicit) -> Result<(), AllocError>
     requires { FitsStrings (names_known of.now) }
     ensures ok { OnOk result (out.new.items ≡ out.old.items ++ kept_explicit versions.Two of.now) }
-    ensures len { OnOk result (vec_len out.new ≡ vec_len out.old + length (kept_explicit versions.Two of.now)) }
     ensures room { vec_capacity out.old ≤ vec_capacity out.new }
     ensures front { take (vec_len out.old) out.new.items ≡ out.old.items }
     ensures full { OnErr result (vec_capacity out.old < vec_len out.old + length (kept_explicit versions.Two of.now)) }
 {
     match of {
-        Explicit::Unknown => out.push(0)?,
+        Explicit::Unknown => Ok(out.push(0)?),
         Explicit::Known(names) => {
             out.push(1)?;
-            put_strings(out, names.iter())?;
+            put_strings(out, names.iter())
         }
     }
-    Ok(())
 }
 
 fn put_phase(out: &mut Vec<u8>, of: Phase) -> Result<(), AllocError>
@@ -132,7 +144,6 @@ fn put_lists(
 ) -> Result<(), AllocError>
     requires { FitsStrings commands × (FitsStrings hidden × FitsStrings explicit) }
     ensures ok { OnOk result (out.new.items ≡ out.old.items ++ lists commands.entry hidden.entry explicit.entry) }
-    ensures len { OnOk result (vec_len out.new ≡ vec_len out.old + length (lists commands.entry hidden.entry explicit.entry)) }
     ensures room { vec_capacity out.old ≤ vec_capacity out.new }
     ensures front { take (vec_len out.old) out.new.items ≡ out.old.items }
     ensures full { OnErr result (vec_capacity out.old < vec_len out.old + length (lists commands.entry hidden.entry explicit.entry)) }
@@ -157,7 +168,7 @@ fn put_strings(out: &mut Vec<u8>, items: Iter<'_>) -> Result<(), AllocError>
     Ok(())
 }
 
-pub(crate) fn put_string(out: &mut Vec<u8>, bytes: &[u8]) -> Result<(), AllocError>
+fn put_string(out: &mut Vec<u8>, bytes: &[u8]) -> Result<(), AllocError>
     requires { FitsString bytes.now }
     ensures ok { OnOk result (out.new.items ≡ out.old.items ++ string bytes.now) }
     ensures len { OnOk result (vec_len out.new ≡ vec_len out.old + length (string bytes.now)) }

@@ -1,6 +1,7 @@
 //! A record says what happened to one target; an entry is what the state knows of it.
 
 ghost use Rattle.std.specs.Prelude.{◌≡◌, IfOk};
+ghost use Rattle.st_records.specs.declared.record.Record.TheVariants as records;
 ghost use Rattle.st_records.specs.Parts.{names_known, target_of, commands_of, hidden_of, explicit_of};
 
 use byte_strings::{ByteString, ByteStrings, Iter};
@@ -145,28 +146,58 @@ impl Record {
         ensures { IfOk result (λ copied. copied ≡ self.now) }
     {
         match self {
-            Record::Begun { target } => Ok(Record::Begun {
-                target: target.copy(alloc)?,
-            }),
+            Record::Begun { target } => begun_copied(alloc, target),
             Record::Done {
                 target,
                 commands,
                 hidden,
                 explicit,
-            } => Ok(Record::Done {
-                target: target.copy(alloc)?,
-                commands: commands.copy(alloc)?,
-                hidden: hidden.copy(alloc)?,
-                explicit: explicit.copy(alloc)?,
-            }),
-            Record::Failed { target, status } => Ok(Record::Failed {
-                target: target.copy(alloc)?,
-                status: *status,
-            }),
-            Record::Kept { target, entry } => Ok(Record::Kept {
-                target: target.copy(alloc)?,
-                entry: entry.copy(alloc)?,
-            }),
+            } => done_copied(alloc, target, commands, hidden, explicit),
+            Record::Failed { target, status } => failed_copied(alloc, target, *status),
+            Record::Kept { target, entry } => kept_copied(alloc, target, entry),
         }
     }
+}
+
+fn begun_copied(alloc: Global, target: &ByteString) -> Result<Record, AllocError>
+    ensures { IfOk result (λ copied. copied ≡ records.Begun target.now) }
+{
+    Ok(Record::Begun {
+        target: target.copy(alloc)?,
+    })
+}
+
+fn done_copied(
+    alloc: Global,
+    target: &ByteString,
+    commands: &ByteStrings,
+    hidden: &ByteStrings,
+    explicit: &Explicit,
+) -> Result<Record, AllocError>
+    ensures { IfOk result (λ copied. copied ≡ records.Done target.now commands.now hidden.now explicit.now) }
+{
+    Ok(Record::Done {
+        target: target.copy(alloc)?,
+        commands: commands.copy(alloc)?,
+        hidden: hidden.copy(alloc)?,
+        explicit: explicit.copy(alloc)?,
+    })
+}
+
+fn failed_copied(alloc: Global, target: &ByteString, status: u32) -> Result<Record, AllocError>
+    ensures { IfOk result (λ copied. copied ≡ records.Failed target.now status) }
+{
+    Ok(Record::Failed {
+        target: target.copy(alloc)?,
+        status,
+    })
+}
+
+fn kept_copied(alloc: Global, target: &ByteString, entry: &Entry) -> Result<Record, AllocError>
+    ensures { IfOk result (λ copied. copied ≡ records.Kept target.now entry.now) }
+{
+    Ok(Record::Kept {
+        target: target.copy(alloc)?,
+        entry: entry.copy(alloc)?,
+    })
 }

@@ -12,6 +12,7 @@ use Rattle.st_records.specs.declared.record.Explicit.TheVariants.{Unknown, Known
 use Rattle.st_records.specs.declared.record.Entry.{Entry}
 use Rattle.st_records.specs.declared.record.Record.{Record}
 use Rattle.st_records.specs.declared.record.Record.TheVariants as records
+pub use Rattle.st_unfinished.specs.Unfinished.{unfinished}
 
 -- a finite map from names to entries, in byte order of the names (own)
 abbrev pub StateMap : Type 0
@@ -24,11 +25,6 @@ hidden_in (Some entry) = entry.hidden
 -- the hidden names that a state has of a target: none of a new name
 abbrev pub known_hidden : StateMap → List ℕ → List (List ℕ)
 known_hidden m name = hidden_in (map.get m name)
-
--- what is left of a target whose recipe is not done: no commands, the hidden names as last known, and no explicit
--- names that count
-abbrev pub unfinished : Phase → List (List ℕ) → Entry
-unfinished phase hidden = record { phase = phase; commands = []; hidden = hidden; explicit = Unknown }
 
 -- the state after one more record, which sets its target's entry and leaves every other name (make(1S), .KEEP_STATE:
 -- what the state remembers; own: a begun takes a done away, and the explicit names with it)

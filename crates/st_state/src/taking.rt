@@ -9,6 +9,7 @@ ghost use Rattle.st_state.specs.State.{by_name, apply_record, known_hidden, unfi
 use crate::state::Entries;
 use byte_strings::ByteStrings;
 use st_records::{Entry, Explicit, Phase, Record};
+use st_unfinished::leave_unfinished;
 use std::alloc::{AllocError, Global};
 
 /// Takes in one record. Without memory for a new name the map stays as it was, and the record is let go.
@@ -53,7 +54,7 @@ fn set_entry(entries: &mut Entries, name: Vec<u8>, entry: Entry) -> Result<(), A
     Ok(())
 }
 
-// A recipe that began or failed: no commands and no explicit names count any more, the hidden names stay as last known.
+// A recipe that began or failed.
 fn set_unfinished(
     alloc: Global,
     entries: &mut Entries,
@@ -75,12 +76,4 @@ fn set_unfinished(
     });
     leave_unfinished(alloc, known, phase);
     Ok(())
-}
-
-fn leave_unfinished(alloc: Global, known: &mut Entry, phase: Phase)
-    ensures { known.new ≡ unfinished phase known.old.hidden }
-{
-    known.phase = phase;
-    known.commands = ByteStrings::empty(alloc);
-    known.explicit = Explicit::Unknown;
 }

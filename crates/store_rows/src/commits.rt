@@ -5,9 +5,10 @@ ghost use Rattle.st_records.specs.declared.version.Version.TheVariants as versio
 ghost use Rattle.st_records.specs.Limits.{IsGood};
 ghost use Rattle.st_file.specs.Batch.{may_stand};
 
+use crate::held;
 use st_disk::{Disk, FileDisk, SystemFolder};
-use st_records::{ByteString, HashKey, Record};
-use st_recovery::{Store, open};
+use st_records::{ByteString, Record, RecordFault};
+use st_recovery::Store;
 use std::alloc::{AllocError, Global};
 
 pub(crate) fn disk_over(rt: HostRuntime, file: &str) -> Result<FileDisk<SystemFolder>, AllocError> {
@@ -16,35 +17,44 @@ pub(crate) fn disk_over(rt: HostRuntime, file: &str) -> Result<FileDisk<SystemFo
 
 /// The store of a disk that isn't refused.
 pub(crate) fn opened<D: Disk + Drop>(alloc: Global, disk: D) -> anyhow::Result<Store<D>> {
-    match open(alloc, HashKey::fixed(), disk) {
+    match held::opened(alloc, disk) {
         Ok(store) => Ok(store),
         Err((fault, _disk)) => Err(fault.into()),
     }
 }
 
 /// A record that a later batch may hold.
-pub(crate) fn begun(alloc: Global, target: &str) -> anyhow::Result<Record>
+pub(crate) fn begun(target: ByteString) -> Result<Record, RecordFault>
     ensures { IfOk result (λ r. IsGood versions.Two r × (may_stand false r ≡ true)) }
 {
-    let record = Record::Begun {
-        target: ByteString::from_slice(alloc, target.as_bytes())?,
-    };
-    record.check()?;
-    Ok(record)
+    let record = Record::Begun { target };
+    match record.check() {
+        Ok(()) => Ok(record),
+        Err(fault) => Err(fault),
+    }
 }
 
 /// Commits that a target's recipe began, to a state file.
 pub(crate) fn commit_name(rt: HostRuntime, file: &str, target: &str) -> anyhow::Result<()> {
-    let mut store = opened(rt.alloc(), disk_over(rt, file)?)?;
-    commit_to(rt.alloc(), &mut store, target)
+    let target = ByteString::from_slice(rt.alloc(), target.as_bytes())?;
+    commit_to_disk(rt.alloc(), disk_over(rt, file)?, target)
+}
+
+fn commit_to_disk<D: Disk + Drop>(
+    alloc: Global,
+    disk: D,
+    target: ByteString,
+) -> anyhow::Result<()> {
+    let mut store = opened(alloc, disk)?;
+    commit_to(alloc, &mut store, target)
 }
 
 fn commit_to<D: Disk + Drop>(
     alloc: Global,
     store: &mut Store<D>,
-    target: &str,
+    target: ByteString,
 ) -> anyhow::Result<()> {
-    let batch = [begun(alloc, target)?];
-    store.commit(alloc, &batch)?;
+    let batch = [begun(target)?];
+    held::commit_good(alloc, store, &batch)?;
     Ok(())
 }

@@ -1,31 +1,52 @@
 //! Calls of single disks: one that stops, one that fails a call, and the disk in memory with what a power cut leaves of it.
-use crate::bytes;
-use crate::power_cuts::cut;
-use crate::row_fault::RowFault;
+use crate::power_cuts::{Cut, after};
 use crate::script::answers;
-use crate::words::Words;
+use row_files::{RowFault, Words, bytes};
 use st_disk::Which;
-use st_doubles::{FailOnce, Fuse, Plan, Planned};
+use st_doubles::{FailsOne, Fuse, Plan, Planned, Stops};
 use st_memory::MemDisk;
 use std::alloc::{AllocError, Global};
 
 // Within each disk that is tried stands one that counts: it passes more calls than are made.
 const COUNTED: u64 = 100;
 
+/// What the shortest and the longest cut leave, with `?` in each open place, and the longest with `123` in them.
+const CUTS: [Cut; 3] = [
+    Cut::Shortest(b"?"),
+    Cut::Longest(b"?"),
+    Cut::Longest(b"123"),
+];
+
+/// What the longest cut leaves without a filling.
+const UNFILLED: [Cut; 1] = [Cut::Longest(b"")];
+
 /// Answers a call: its kind, its numbers, what the disk holds at first (`-`: nothing), and a script.
-pub(crate) fn call(
+pub(crate) fn call_disk(
     alloc: Global,
     said: &mut String,
     words: &mut Words<'_>,
 ) -> Result<(), RowFault> {
     match words.next() {
-        "stop" => stop(alloc, said, words),
-        "fail" => fail(alloc, said, words),
-        "memory" => memory(alloc, said, words),
+        "stop" => planned(alloc, said, stops(words.number()?), words),
+        "fail" => planned(alloc, said, fails_one(words.number()?), words),
+        "memory" => left(alloc, said, words, &[]),
         "cuts" => cuts(alloc, said, words),
-        "unfilled" => unfilled(alloc, said, words),
+        "unfilled" => left(alloc, said, words, &UNFILLED),
         "reserve" => reserve(alloc, said, words),
         _ => Err(RowFault::Word),
+    }
+}
+
+fn stops(passing: usize) -> Stops {
+    Stops {
+        calls_left: passing as u64,
+    }
+}
+
+pub(crate) fn fails_one(passing: usize) -> FailsOne {
+    FailsOne {
+        calls_left: passing as u64,
+        failed: false,
     }
 }
 
@@ -34,15 +55,17 @@ fn counting(alloc: Global, held: &str) -> Result<Fuse<MemDisk>, AllocError> {
     Ok(Fuse::new(disk, COUNTED))
 }
 
-fn stop(alloc: Global, said: &mut String, words: &mut Words<'_>) -> Result<(), RowFault> {
-    let passing = words.number()? as u64;
-    let mut disk = Fuse::new(counting(alloc, words.next())?, passing);
-    say_planned(said, &mut disk, words.rest)
-}
-
-fn fail(alloc: Global, said: &mut String, words: &mut Words<'_>) -> Result<(), RowFault> {
-    let passing = words.number()? as u64;
-    let mut disk = FailOnce::new(counting(alloc, words.next())?, passing);
+fn planned<P: Plan + Drop>(
+    alloc: Global,
+    said: &mut String,
+    plan: P,
+    words: &mut Words<'_>,
+) -> Result<(), RowFault> {
+    let mut disk = Planned {
+        inner: counting(alloc, words.next())?,
+        plan,
+        refused: 0,
+    };
     say_planned(said, &mut disk, words.rest)
 }
 
@@ -70,47 +93,41 @@ fn holding(alloc: Global, words: &mut Words<'_>) -> Result<MemDisk, AllocError> 
     MemDisk::holding(alloc, a, b)
 }
 
-fn memory(alloc: Global, said: &mut String, words: &mut Words<'_>) -> Result<(), RowFault> {
-    let mut disk = holding(alloc, words)?;
-    answers(said, &mut disk, words.rest)
-}
-
 fn say_side(said: &mut String, disk: &MemDisk) -> Result<(), AllocError> {
     said.push(' ')?;
     bytes::say_all(said, disk.bytes(Which::A))
 }
 
-fn say_cut(
+fn say_left(
     alloc: Global,
     said: &mut String,
     disk: &MemDisk,
-    longest: bool,
-    fill: &[u8],
+    cuts: &[Cut],
 ) -> Result<(), RowFault> {
-    let left = cut(alloc, disk, longest, fill)?;
-    Ok(say_side(said, &left)?)
+    for cut in cuts {
+        say_side(said, &after(alloc, disk, *cut)?)?;
+    }
+    Ok(())
 }
 
-fn say_cuts(alloc: Global, said: &mut String, disk: &MemDisk) -> Result<(), RowFault> {
-    say_side(said, disk)?;
-    say_cut(alloc, said, disk, false, b"?")?;
-    say_cut(alloc, said, disk, true, b"?")?;
-    say_cut(alloc, said, disk, true, b"123")
+/// The answers, and what each of some cuts leaves of side A.
+fn left(
+    alloc: Global,
+    said: &mut String,
+    words: &mut Words<'_>,
+    cuts: &[Cut],
+) -> Result<(), RowFault> {
+    let mut disk = holding(alloc, words)?;
+    answers(said, &mut disk, words.rest)?;
+    say_left(alloc, said, &disk, cuts)
 }
 
-/// What reads give of side A after a script, what the shortest and the longest cut leave, with `?` in each open place,
-/// and the longest with `123` in them.
+/// The answers, what reads then give of side A, and what cuts leave of it.
 fn cuts(alloc: Global, said: &mut String, words: &mut Words<'_>) -> Result<(), RowFault> {
     let mut disk = holding(alloc, words)?;
     answers(said, &mut disk, words.rest)?;
-    say_cuts(alloc, said, &disk)
-}
-
-/// What the longest cut leaves of side A without a filling.
-fn unfilled(alloc: Global, said: &mut String, words: &mut Words<'_>) -> Result<(), RowFault> {
-    let mut disk = holding(alloc, words)?;
-    answers(said, &mut disk, words.rest)?;
-    say_cut(alloc, said, &disk, true, b"")
+    say_side(said, &disk)?;
+    say_left(alloc, said, &disk, &CUTS)
 }
 
 /// The answers of a disk that has room for so many calls and bytes, or `refused`.

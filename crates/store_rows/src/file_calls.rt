@@ -1,16 +1,16 @@
 //! Calls of files of this machine, and how long some take.
 use crate::commits::commit_name;
 use crate::keys::say_keys;
-use crate::row_fault::RowFault;
 use crate::script::make_call;
 use crate::system_calls::say_system;
 use crate::times::{commits_in_files, commits_in_memory, compaction_in_files};
+use row_files::RowFault;
 use st_disk::{Disk, FileDisk, SystemFolder};
 use std::process::ExitCode;
 use std::{fs, io};
 
 /// Answers `file ..`, `system ..`, `keys ..`, `commit ..` or `time ..`: the first word, and those behind it.
-pub(crate) fn call(rt: HostRuntime, name: &str, words: &[String]) -> anyhow::Result<ExitCode> {
+pub fn call(rt: HostRuntime, name: &str, words: &[String]) -> anyhow::Result<ExitCode> {
     match (name, words) {
         ("time", [what, file]) => print_time(rt, what.as_str(), file.as_str()),
         ("commit", [file, target]) => commit(rt, file.as_str(), target.as_str()),
@@ -20,7 +20,7 @@ pub(crate) fn call(rt: HostRuntime, name: &str, words: &[String]) -> anyhow::Res
 }
 
 fn unknown(rt: HostRuntime, name: &str) -> anyhow::Result<ExitCode> {
-    eprintln!(rt; "store_rows: no such call: {name}")?;
+    eprintln!(rt; "call_rows: no such call: {name}")?;
     Ok(ExitCode::from(2))
 }
 
@@ -94,7 +94,6 @@ fn say_file(
     say_calls(rt, said, &mut disk, file, calls)
 }
 
-// `=TEXT` has another make the file meanwhile, `-` another remove it.
 fn say_calls<D: Disk>(
     rt: HostRuntime,
     said: &mut String,
@@ -103,13 +102,26 @@ fn say_calls<D: Disk>(
     calls: &[String],
 ) -> Result<(), RowFault> {
     for word in calls {
-        match word.strip_prefix('=') {
-            Some(text) => made_meanwhile(fs::write(&rt, file, text))?,
-            None if word.as_str() == "-" => made_meanwhile(fs::remove_file(&rt, file))?,
-            None => make_call(said, disk, word.as_str())?,
-        }
+        say_call(rt, said, disk, file, word.as_str())?;
     }
     Ok(())
+}
+
+// `=TEXT` has another make the file meanwhile, `-` another remove it.
+fn say_call<D: Disk>(
+    rt: HostRuntime,
+    said: &mut String,
+    disk: &mut D,
+    file: &str,
+    word: &str,
+) -> Result<(), RowFault> {
+    if word == "-" {
+        return made_meanwhile(fs::remove_file(&rt, file));
+    }
+    match word.strip_prefix('=') {
+        Some(text) => made_meanwhile(fs::write(&rt, file, text)),
+        None => make_call(said, disk, word),
+    }
 }
 
 fn made_meanwhile(made: io::Result<()>) -> Result<(), RowFault> {

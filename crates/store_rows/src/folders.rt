@@ -1,10 +1,12 @@
 //! Calls of a disk over two files: which calls it makes of its folder, and what it answers where one of them fails.
-use crate::bytes;
-use crate::row_fault::RowFault;
+ghost use Rattle.std.specs.Prelude.{◌≡◌, true};
+ghost use Rattle.st_disk.specs.declared.which.Which.TheVariants.{A, B};
+
+use crate::disks::fails_one;
 use crate::script::answers;
 use crate::twin::Twin;
-use crate::words::Words;
-use st_disk::{FileDisk, Which};
+use row_files::{RowFault, Words, bytes};
+use st_disk::{FileDisk, Folder, Which};
 use st_doubles::{FailsOne, FaultyFolder, MemFolder};
 use st_memory::MemDisk;
 use std::alloc::Global;
@@ -12,7 +14,7 @@ use std::alloc::Global;
 type Tried<F> = FileDisk<FaultyFolder<F, FailsOne>>;
 
 /// Answers a call: which files the folder has, how many calls of it pass before one fails, and a script.
-pub(crate) fn call(
+pub(crate) fn call_folder(
     alloc: Global,
     said: &mut String,
     words: &mut Words<'_>,
@@ -25,27 +27,14 @@ pub(crate) fn call(
     }
 }
 
-fn fails_one(passing: usize) -> FailsOne {
-    FailsOne {
-        calls_left: passing as u64,
-        failed: false,
-    }
-}
-
-fn over_twin(alloc: Global, len: Option<usize>, passing: usize) -> Tried<Twin> {
+/// Where `is_short` is so, a write that fails is made.
+fn over<F: Folder + Drop>(inner: F, passing: usize, is_short: bool) -> Tried<F>
+    requires { F.honest → (F.sound inner A ≡ true) × (F.sound inner B ≡ true) }
+{
     FileDisk::new(FaultyFolder {
-        inner: Twin::new(alloc, len),
+        inner,
         plan: fails_one(passing),
-        short: false,
-    })
-}
-
-/// Over two missing files, a write that fails being made.
-fn over_memory(alloc: Global, passing: usize) -> Tried<MemFolder<MemDisk>> {
-    FileDisk::new(FaultyFolder {
-        inner: MemFolder::without_files(MemDisk::new(alloc)),
-        plan: fails_one(passing),
-        short: true,
+        short: is_short,
     })
 }
 
@@ -55,7 +44,8 @@ fn twin(
     len: Option<usize>,
     words: &mut Words<'_>,
 ) -> Result<(), RowFault> {
-    let mut disk = over_twin(alloc, len, words.number()?);
+    let passing = words.number()?;
+    let mut disk = over(Twin::new(alloc, len), passing, false);
     say_twin(said, &mut disk, words.rest)
 }
 
@@ -65,8 +55,13 @@ fn say_twin(said: &mut String, disk: &mut Tried<Twin>, script: &str) -> Result<(
     Ok(said.push_str(disk.folder.inner.log.as_str())?)
 }
 
+fn without_files(alloc: Global) -> MemFolder<MemDisk> {
+    MemFolder::without_files(MemDisk::new(alloc))
+}
+
 fn memory(alloc: Global, said: &mut String, words: &mut Words<'_>) -> Result<(), RowFault> {
-    let mut disk = over_memory(alloc, words.number()?);
+    let passing = words.number()?;
+    let mut disk = over(without_files(alloc), passing, true);
     say_memory(said, &mut disk, words.rest)
 }
 

@@ -7,7 +7,8 @@ ghost use Rattle.st_records.specs.Limits.{IsGood, SaysExplicit};
 ghost use Rattle.st_records.specs.Parts.{status_of};
 ghost use Rattle.st_file.specs.Batch.{may_stand};
 
-use crate::row_fault::RowFault;
+use crate::notation::records_of;
+use row_files::RowFault;
 use st_compaction::compact;
 use st_disk::Disk;
 use st_doubles::{FailOnce, Fuse};
@@ -16,6 +17,9 @@ use st_memory::MemDisk;
 use st_records::{Explicit, HashKey, Record};
 use st_recovery::{Store, open};
 use std::alloc::Global;
+
+/// More calls of a disk than any row makes.
+pub(crate) const MANY: u64 = 1_000_000;
 
 /// A disk that may fail one call, and may stop.
 pub(crate) type Device = FailOnce<Fuse<MemDisk>>;
@@ -28,12 +32,44 @@ pub(crate) enum Held {
 }
 
 impl Held {
-    /// The disk within.
-    pub(crate) fn device(&self) -> Option<&Device> {
+    pub(crate) fn store(&mut self) -> Result<&mut Store<Device>, RowFault> {
         match self {
-            Held::Nothing => None,
-            Held::Disk(disk) => Some(disk),
-            Held::Store(store) => Some(&store.log.disk),
+            Held::Store(store) => Ok(store),
+            _ => Err(RowFault::NotOpen),
+        }
+    }
+
+    /// The disk within.
+    pub(crate) fn device(&self) -> Result<&Device, RowFault> {
+        match self {
+            Held::Nothing => Err(RowFault::NotOpen),
+            Held::Disk(disk) => Ok(disk),
+            Held::Store(store) => Ok(&store.log.disk),
+        }
+    }
+
+    pub(crate) fn into_device(self) -> Result<Device, RowFault> {
+        match self {
+            Held::Nothing => Err(RowFault::NotOpen),
+            Held::Disk(disk) => Ok(disk),
+            Held::Store(store) => Ok(store.log.disk),
+        }
+    }
+}
+
+/// `commit RECORDS`, or `compact`.
+#[derive(Drop)]
+pub(crate) enum Change {
+    Commit(Vec<Record>),
+    Compact,
+}
+
+impl Change {
+    pub(crate) fn of(alloc: Global, name: &str, rest: &str) -> Result<Change, RowFault> {
+        match name {
+            "commit" => Ok(Change::Commit(records_of(alloc, rest)?)),
+            "compact" => Ok(Change::Compact),
+            _ => Err(RowFault::Word),
         }
     }
 }
@@ -43,16 +79,9 @@ pub(crate) fn device_of(memory: MemDisk, stop: u64, fail: u64) -> Device {
     FailOnce::new(Fuse::new(memory, stop), fail)
 }
 
-fn store_of<D: Disk + Drop>(alloc: Global, disk: D) -> Result<Store<D>, (OpenFault, D)> {
+/// The store of a disk, or why it is refused, and the disk.
+pub(crate) fn opened<D: Disk + Drop>(alloc: Global, disk: D) -> Result<Store<D>, (OpenFault, D)> {
     open(alloc, HashKey::fixed(), disk)
-}
-
-/// The store of a disk, or the disk and why it is refused.
-pub(crate) fn opened(alloc: Global, disk: Device) -> (Held, Option<OpenFault>) {
-    match store_of(alloc, disk) {
-        Ok(store) => (Held::Store(store), None),
-        Err((fault, disk)) => (Held::Disk(disk), Some(fault)),
-    }
 }
 
 fn has_listed_parts(note: &Record) -> bool
@@ -87,15 +116,15 @@ fn all_may_be_committed(records: &[Record]) -> bool
 }
 
 /// Commits records that a later batch may hold.
-pub(crate) fn commit<D: Disk + Drop>(
+pub(crate) fn commit_good<D: Disk + Drop>(
     alloc: Global,
     store: &mut Store<D>,
     records: &[Record],
-) -> Result<Result<(), CommitFault>, RowFault> {
-    if !all_may_be_committed(records) {
-        return Err(RowFault::Word);
-    }
-    Ok(store.commit(alloc, records))
+) -> Result<(), CommitFault>
+    requires good { AllByRecursion (IsGood versions.Two) records.now }
+    requires later { AllByRecursion (λ r. may_stand false r ≡ true) records.now }
+{
+    store.commit(alloc, records)
 }
 
 pub(crate) fn compacted<D: Disk + Drop>(
@@ -103,4 +132,21 @@ pub(crate) fn compacted<D: Disk + Drop>(
     store: &mut Store<D>,
 ) -> Result<(), CommitFault> {
     compact(alloc, store)
+}
+
+/// Makes a change of a store: commits records that a later batch may hold, or compacts.
+pub(crate) fn changed(
+    alloc: Global,
+    store: &mut Store<Device>,
+    change: &Change,
+) -> Result<Result<(), CommitFault>, RowFault> {
+    match change {
+        Change::Compact => Ok(compacted(alloc, store)),
+        Change::Commit(records) => {
+            if !all_may_be_committed(records) {
+                return Err(RowFault::Word);
+            }
+            Ok(commit_good(alloc, store, records))
+        }
+    }
 }

@@ -1,5 +1,5 @@
 //! The keys that names are hashed under: no clause says that the system's are others than the fixed one.
-use crate::row_fault::RowFault;
+use row_files::RowFault;
 use st_records::HashKey;
 use std::alloc::AllocError;
 use std::hash::BuildHasher;

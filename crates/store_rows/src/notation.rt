@@ -2,36 +2,46 @@
 //!
 //! Behind the target a command has the mark `$`, a hidden name `<`, an explicit name `:` and a status `=`. A lone `:` says
 //! that there are no explicit names; where none has the mark, they are unknown. Words are written as `bytes` has it.
-use crate::bytes;
-use crate::row_fault::RowFault;
 use byte_strings::{ByteString, ByteStrings};
+use row_files::{RowFault, Words, bytes};
 use st_records::{Entry, Explicit, Phase, Record};
 use std::alloc::Global;
 
-fn marked(alloc: Global, text: &str, mark: char) -> Result<ByteStrings, RowFault> {
-    let mut items = ByteStrings::empty(alloc);
+fn push_marked(
+    alloc: Global,
+    items: &mut ByteStrings,
+    text: &str,
+    mark: char,
+) -> Result<(), RowFault> {
     for word in text.split(' ') {
         match word.strip_prefix(mark) {
             None | Some("") => {}
             Some(item) => items.push(bytes::read(alloc, item)?.as_slice())?,
         }
     }
+    Ok(())
+}
+
+fn marked(alloc: Global, text: &str, mark: char) -> Result<ByteStrings, RowFault> {
+    let mut items = ByteStrings::empty(alloc);
+    push_marked(alloc, &mut items, text, mark)?;
     Ok(items)
 }
 
-fn explicit_of(alloc: Global, text: &str) -> Result<Explicit, RowFault> {
-    if text.contains(" :") {
-        return Ok(Explicit::Known(marked(alloc, text, ':')?));
+fn explicit(is_known: bool, names: ByteStrings) -> Explicit {
+    if is_known {
+        Explicit::Known(names)
+    } else {
+        Explicit::Unknown
     }
-    Ok(Explicit::Unknown)
 }
 
 fn status_of(text: &str) -> Result<u32, RowFault> {
-    let Some((_front, back)) = text.split_once(" =") else {
-        return Err(RowFault::Word);
-    };
-    let (status, _rest) = back.split_once(' ').unwrap_or((back, ""));
-    status.parse::<u32>().map_err(|_| RowFault::Word)
+    let (_front, status) = text.split_once(" =").ok_or(RowFault::Word)?;
+    Words { rest: status }
+        .next()
+        .parse::<u32>()
+        .map_err(|_| RowFault::Word)
 }
 
 fn phase_of(kind: &str, text: &str) -> Result<Phase, RowFault> {
@@ -43,19 +53,13 @@ fn phase_of(kind: &str, text: &str) -> Result<Phase, RowFault> {
     }
 }
 
-fn entry_of(alloc: Global, kind: &str, text: &str) -> Result<Entry, RowFault> {
+fn entry_of(alloc: Global, phase: Phase, text: &str) -> Result<Entry, RowFault> {
     Ok(Entry {
-        phase: phase_of(kind, text)?,
+        phase,
         commands: marked(alloc, text, '$')?,
         hidden: marked(alloc, text, '<')?,
-        explicit: explicit_of(alloc, text)?,
+        explicit: explicit(text.contains(" :"), marked(alloc, text, ':')?),
     })
-}
-
-/// The target with which a text begins.
-fn target_of(alloc: Global, text: &str) -> Result<ByteString, RowFault> {
-    let (target, _rest) = text.split_once(' ').unwrap_or((text, ""));
-    Ok(ByteString::new(bytes::read(alloc, target)?))
 }
 
 fn unkept(target: ByteString, entry: Entry) -> Record {
@@ -77,35 +81,40 @@ fn unkept(target: ByteString, entry: Entry) -> Record {
     }
 }
 
-fn unkept_of(alloc: Global, text: &str) -> Result<Record, RowFault> {
-    let (kind, rest) = text.split_once(' ').unwrap_or((text, ""));
-    let entry = entry_of(alloc, kind, rest)?;
-    let target = target_of(alloc, rest)?;
-    Ok(unkept(target, entry))
-}
-
-fn kept_of(alloc: Global, text: &str) -> Result<Record, RowFault> {
-    let (kind, rest) = text.split_once(' ').unwrap_or((text, ""));
-    let entry = entry_of(alloc, kind, rest)?;
-    let target = target_of(alloc, rest)?;
-    Ok(Record::Kept { target, entry })
-}
-
-fn record_of(alloc: Global, text: &str) -> Result<Record, RowFault> {
-    match text.strip_prefix("kept ") {
-        Some(kept) => kept_of(alloc, kept),
-        None => unkept_of(alloc, text),
+/// The record of what is said of a target, kept or not.
+pub(crate) fn record(is_kept: bool, target: ByteString, entry: Entry) -> Record {
+    if is_kept {
+        Record::Kept { target, entry }
+    } else {
+        unkept(target, entry)
     }
 }
 
-/// The records of a text, with `;` between them.
-pub(crate) fn records_of(alloc: Global, text: &str) -> Result<Vec<Record>, RowFault> {
-    let mut records = Vec::new(alloc);
+fn record_of(alloc: Global, text: &str) -> Result<Record, RowFault> {
+    let kept = text.strip_prefix("kept ");
+    let mut words = Words {
+        rest: kept.unwrap_or(text),
+    };
+    let kind = words.next();
+    let phase = phase_of(kind, words.rest)?;
+    let entry = entry_of(alloc, phase, words.rest)?;
+    let target = bytes::read(alloc, words.next())?;
+    Ok(record(kept.is_some(), ByteString::new(target), entry))
+}
+
+fn push_records(alloc: Global, records: &mut Vec<Record>, text: &str) -> Result<(), RowFault> {
     for part in text.split(';') {
         let part = part.trim();
         if !part.is_empty() {
             records.push(record_of(alloc, part)?)?;
         }
     }
+    Ok(())
+}
+
+/// The records of a text, with `;` between them.
+pub(crate) fn records_of(alloc: Global, text: &str) -> Result<Vec<Record>, RowFault> {
+    let mut records = Vec::new(alloc);
+    push_records(alloc, &mut records, text)?;
     Ok(records)
 }

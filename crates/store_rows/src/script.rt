@@ -3,7 +3,7 @@
 //! A call is a word, its side `A` or `B` first: `Al` asks for the length, `Ar4` reads two bytes from 4 on, `Ar` reads none
 //! from 0 on, `Aw4PQ` writes `PQ` at 4, `Ac3` cuts to 3, and `As` syncs. The answer is the length or the bytes, `+` where
 //! there is nothing to say, and `!` for a fault.
-use crate::row_fault::RowFault;
+use row_files::RowFault;
 use st_disk::{DeviceFault, Disk, Which};
 use std::alloc::AllocError;
 
@@ -42,8 +42,21 @@ pub(crate) fn make_call<D: Disk>(
     disk: &mut D,
     word: &str,
 ) -> Result<(), RowFault> {
-    let (side, call) = call_of(word.as_bytes())?;
-    Ok(say(said, made(disk, side, call))?)
+    match word.as_bytes() {
+        [b'A', call @ ..] => make(said, disk, Which::A, call_of(call)?),
+        [b'B', call @ ..] => make(said, disk, Which::B, call_of(call)?),
+        _ => Err(RowFault::Word),
+    }
+}
+
+fn make<D: Disk>(
+    said: &mut String,
+    disk: &mut D,
+    side: Which,
+    call: Call<'_>,
+) -> Result<(), RowFault> {
+    let answer = made(disk, side, call);
+    Ok(say(said, answer)?)
 }
 
 fn say(said: &mut String, answer: Result<Answer, DeviceFault>) -> Result<(), AllocError> {
@@ -58,15 +71,7 @@ fn say(said: &mut String, answer: Result<Answer, DeviceFault>) -> Result<(), All
     }
 }
 
-fn call_of(word: &[u8]) -> Result<(Which, Call<'_>), RowFault> {
-    match word {
-        [b'A', call @ ..] => Ok((Which::A, call_of_side(call)?)),
-        [b'B', call @ ..] => Ok((Which::B, call_of_side(call)?)),
-        _ => Err(RowFault::Word),
-    }
-}
-
-fn call_of_side(call: &[u8]) -> Result<Call<'_>, RowFault> {
+fn call_of(call: &[u8]) -> Result<Call<'_>, RowFault> {
     match call {
         [b'l'] => Ok(Call::Len),
         [b'r'] => Ok(Call::ReadNone),
@@ -88,20 +93,18 @@ fn place(digit: u8) -> Result<usize, RowFault> {
 fn made<D: Disk>(disk: &mut D, side: Which, call: Call<'_>) -> Result<Answer, DeviceFault> {
     match call {
         Call::Len => Ok(Answer::Length(disk.len(side)?)),
+        Call::ReadNone => done(disk.read(side, 0, &mut [])),
         Call::ReadTwo(at) => read_two(disk, side, at),
-        _ => {
-            change(disk, side, call)?;
-            Ok(Answer::Done)
-        }
+        Call::Write(at, bytes) => done(write(disk, side, at, bytes)),
+        Call::Cut(len) => done(cut(disk, side, len)),
+        Call::Sync => done(disk.sync(side)),
     }
 }
 
-fn change<D: Disk>(disk: &mut D, side: Which, call: Call<'_>) -> Result<(), DeviceFault> {
-    match call {
-        Call::Len | Call::ReadNone | Call::ReadTwo(_) => disk.read(side, 0, &mut []),
-        Call::Write(at, bytes) => write(disk, side, at, bytes),
-        Call::Cut(len) => cut(disk, side, len),
-        Call::Sync => disk.sync(side),
+fn done(made: Result<(), DeviceFault>) -> Result<Answer, DeviceFault> {
+    match made {
+        Ok(()) => Ok(Answer::Done),
+        Err(fault) => Err(fault),
     }
 }
 

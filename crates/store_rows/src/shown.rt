@@ -1,69 +1,66 @@
 //! States as text: each entry in byte order of the names, written as a record of `notation`, with a `;` behind it.
-use crate::bytes;
-use byte_strings::ByteStrings;
+use byte_strings::Iter;
+use row_files::bytes;
 use st_records::{Entry, Explicit, Phase};
 use st_state::State;
 use std::alloc::{AllocError, Global};
 
-fn say_marked(said: &mut String, mark: &str, items: &ByteStrings) -> Result<(), AllocError> {
-    for item in items.iter() {
+fn say_marked(said: &mut String, mark: &str, items: Iter<'_>) -> Result<(), AllocError> {
+    for item in items {
         said.push_str(mark)?;
         bytes::say(said, item)?;
     }
     Ok(())
 }
 
-fn say_explicit(said: &mut String, explicit: &Explicit) -> Result<(), AllocError> {
+/// What stands for explicit names that are known to be none.
+fn no_names(explicit: &Explicit) -> &'static str {
     match explicit {
-        Explicit::Unknown => Ok(()),
-        Explicit::Known(names) if names.is_empty() => said.push_str(" :"),
-        Explicit::Known(names) => say_marked(said, " :", names),
+        Explicit::Known(names) => { if names.is_empty() { " :" } else { "" } }
+        Explicit::Unknown => "",
     }
 }
 
-fn say_phase(said: &mut String, phase: Phase, name: &[u8]) -> Result<(), AllocError> {
-    said.push_str(match phase {
+fn kind(phase: Phase) -> &'static str {
+    match phase {
         Phase::Begun => "begun ",
         Phase::Done => "done ",
         Phase::Failed(_) => "failed ",
-    })?;
-    bytes::say(said, name)?;
-    if let Phase::Failed(status) = phase {
-        write!(said, " ={status}")?;
     }
-    Ok(())
+}
+
+fn say_status(said: &mut String, phase: Phase) -> Result<(), AllocError> {
+    match phase {
+        Phase::Failed(status) => write!(said, " ={status}"),
+        _ => Ok(()),
+    }
 }
 
 fn say_entry(said: &mut String, name: &[u8], entry: &Entry) -> Result<(), AllocError> {
-    say_phase(said, entry.phase, name)?;
-    say_marked(said, " $", &entry.commands)?;
-    say_marked(said, " <", &entry.hidden)?;
-    say_explicit(said, &entry.explicit)?;
-    said.push_str(";")
+    said.push_str(kind(entry.phase))?;
+    bytes::say(said, name)?;
+    say_status(said, entry.phase)?;
+    say_marked(said, " $", entry.commands.iter())?;
+    say_marked(said, " <", entry.hidden.iter())?;
+    say_marked(said, " :", entry.explicit.names())?;
+    said.push_str(no_names(&entry.explicit))?;
+    said.push(';')
 }
 
-/// Says what a state knows; of no names, `nothing`.
-pub(crate) fn say_state(alloc: Global, said: &mut String, state: &State) -> Result<(), AllocError> {
-    if state.len() == 0 {
-        return said.push_str("nothing");
-    }
-    for (name, entry) in state.in_byte_order(alloc)? {
+fn say_entries(said: &mut String, entries: &[(&[u8], &Entry)]) -> Result<(), AllocError> {
+    for (name, entry) in entries {
         say_entry(said, name, entry)?;
     }
     Ok(())
 }
 
-/// The names that a state knows, in byte order.
-pub(crate) fn say_names(alloc: Global, said: &mut String, state: &State) -> Result<(), AllocError> {
-    let mut is_first = true;
-    for (name, _entry) in state.in_byte_order(alloc)? {
-        if !is_first {
-            said.push(' ')?;
-        }
-        is_first = false;
-        bytes::say(said, name)?;
+/// Says what a state knows; of no names, `nothing`.
+pub(crate) fn say_state(alloc: Global, said: &mut String, state: &State) -> Result<(), AllocError> {
+    let entries = state.in_byte_order(alloc)?;
+    if entries.is_empty() {
+        return said.push_str("nothing");
     }
-    Ok(())
+    say_entries(said, entries.as_slice())
 }
 
 /// Says a text unless it is among those that were said, with ` or ` between them.

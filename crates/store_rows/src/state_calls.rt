@@ -1,9 +1,8 @@
 //! Calls of states.
-use crate::bytes;
 use crate::notation::records_of;
-use crate::row_fault::RowFault;
-use crate::shown::{say_names, say_once, say_state};
+use crate::shown::{say_once, say_state};
 use byte_strings::ByteString;
+use row_files::{RowFault, bytes};
 use st_records::Record;
 use st_state::{Staged, State};
 use std::alloc::{AllocError, Global};
@@ -24,10 +23,10 @@ fn taken_over(alloc: Global, records: Vec<Record>) -> Result<State, AllocError> 
     Ok(state)
 }
 
-fn staged(alloc: Global, state: State, records: &[Record]) -> Result<Staged, RowFault> {
+fn staged(alloc: Global, state: State, records: &[Record]) -> Result<Staged, AllocError> {
     match state.stage(alloc, records) {
         Ok(staged) => Ok(staged),
-        Err(_state) => Err(RowFault::OutOfMemory),
+        Err(_state) => Err(AllocError),
     }
 }
 
@@ -38,28 +37,14 @@ fn say_unlike(alloc: Global, said: &mut String, state: &State) -> Result<(), All
     say_once(said, text.as_str())
 }
 
-fn say_copied(alloc: Global, said: &mut String, state: &State) -> Result<(), AllocError> {
-    let copied = state.copy(alloc)?;
-    say_unlike(alloc, said, &copied)
-}
-
 fn say_applied(alloc: Global, said: &mut String, records: &[Record]) -> Result<(), AllocError> {
     let state = applied(alloc, records)?;
     say_unlike(alloc, said, &state)?;
-    say_copied(alloc, said, &state)
+    say_unlike(alloc, said, &state.copy(alloc)?)
 }
 
-fn say_staged(alloc: Global, said: &mut String, records: &[Record]) -> Result<(), RowFault> {
+fn say_staged(alloc: Global, said: &mut String, records: &[Record]) -> Result<(), AllocError> {
     let state = staged(alloc, State::new(alloc), records)?.finish();
-    Ok(say_unlike(alloc, said, &state)?)
-}
-
-fn say_taken_over(
-    alloc: Global,
-    said: &mut String,
-    records: Vec<Record>,
-) -> Result<(), AllocError> {
-    let state = taken_over(alloc, records)?;
     say_unlike(alloc, said, &state)
 }
 
@@ -68,7 +53,8 @@ pub(crate) fn replay(alloc: Global, said: &mut String, text: &str) -> Result<(),
     let records = records_of(alloc, text)?;
     say_applied(alloc, said, records.as_slice())?;
     say_staged(alloc, said, records.as_slice())?;
-    Ok(say_taken_over(alloc, said, records)?)
+    let state = taken_over(alloc, records)?;
+    Ok(say_unlike(alloc, said, &state)?)
 }
 
 /// The state of the records before a `/`, with those behind it staged.
@@ -77,32 +63,48 @@ fn batch_over(alloc: Global, text: &str) -> Result<Staged, RowFault> {
     let before = records_of(alloc, before)?;
     let batch = records_of(alloc, batch)?;
     let state = applied(alloc, before.as_slice())?;
-    staged(alloc, state, batch.as_slice())
+    Ok(staged(alloc, state, batch.as_slice())?)
 }
 
-/// `discard BEFORE / BATCH`: the state beside a batch that is let go.
-pub(crate) fn discarded(alloc: Global, said: &mut String, text: &str) -> Result<(), RowFault> {
-    let state = batch_over(alloc, text)?.discard();
+/// `finish BEFORE / BATCH`, or `discard BEFORE / BATCH`: the state with a batch that is taken in, or beside one that is
+/// let go.
+pub(crate) fn batch(
+    alloc: Global,
+    said: &mut String,
+    text: &str,
+    is_taken_in: bool,
+) -> Result<(), RowFault> {
+    let staged = batch_over(alloc, text)?;
+    let state = if is_taken_in {
+        staged.finish()
+    } else {
+        staged.discard()
+    };
     Ok(say_state(alloc, said, &state)?)
 }
 
-/// `finish BEFORE / BATCH`: the state with a batch that is taken in.
-pub(crate) fn finished(alloc: Global, said: &mut String, text: &str) -> Result<(), RowFault> {
-    let state = batch_over(alloc, text)?.finish();
-    Ok(say_state(alloc, said, &state)?)
+fn begin(alloc: Global, state: &mut State, name: &str) -> Result<(), RowFault> {
+    let target = ByteString::new(bytes::read(alloc, name)?);
+    Ok(state.apply_owned(alloc, Record::Begun { target })?)
 }
 
-fn begun(alloc: Global, names: &str) -> Result<State, RowFault> {
-    let mut state = State::new(alloc);
-    for name in names.split(' ') {
-        let target = ByteString::new(bytes::read(alloc, name)?);
-        state.apply_owned(alloc, Record::Begun { target })?;
+fn say_names(alloc: Global, said: &mut String, state: &State) -> Result<(), AllocError> {
+    let mut is_first = true;
+    for (name, _entry) in state.in_byte_order(alloc)? {
+        if !is_first {
+            said.push(' ')?;
+        }
+        bytes::say(said, name)?;
+        is_first = false;
     }
-    Ok(state)
+    Ok(())
 }
 
 /// `order NAME ..`: the order in which a state lists names that it has seen in this order.
 pub(crate) fn order(alloc: Global, said: &mut String, names: &str) -> Result<(), RowFault> {
-    let state = begun(alloc, names)?;
+    let mut state = State::new(alloc);
+    for name in names.split(' ') {
+        begin(alloc, &mut state, name)?;
+    }
     Ok(say_names(alloc, said, &state)?)
 }

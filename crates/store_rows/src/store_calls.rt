@@ -1,37 +1,34 @@
 //! Calls of two sides and of the store that is open over them.
-use crate::bytes;
-use crate::cuts::{MANY, say_cuts};
-use crate::held::{Device, Held, commit, compacted, opened};
-use crate::notation::records_of;
-use crate::row_fault::RowFault;
+use crate::held::{Change, Device, Held, changed, opened};
+use crate::power_cuts::say_cuts;
 use crate::shown::say_state;
+use crate::sides::{Sides, side_named};
 use crate::sweeps::sweep;
-use crate::words::Words;
-use crate::world::World;
-use st_file::{CommitFault, Extent, OpenFault};
+use row_files::{RowFault, Words, bytes};
+use st_file::{CommitFault, Extent};
 use st_records::HashKey;
 use st_recovery::{Store, choose, recover};
 use std::alloc::{AllocError, Global};
 use std::mem;
 
 /// Answers a call behind `store`.
-pub(crate) fn call(
+pub(crate) fn call_store(
     alloc: Global,
     said: &mut String,
-    world: &mut World,
+    sides: &mut Sides,
     words: &mut Words<'_>,
 ) -> Result<(), RowFault> {
     match words.next() {
-        "recover" => Ok(say_recovered(alloc, said, &world.a, &world.b)?),
-        "chosen" => Ok(say_chosen(alloc, said, &world.a, &world.b)?),
-        "open" => open(alloc, said, world),
-        "reopen" => reopen(alloc, said, world),
-        "sweep" => sweep(alloc, said, world, words),
-        "calls" => counted(alloc, said, world, words),
-        "bytes" => say_bytes(said, world, words),
-        "cuts" => cuts(alloc, said, world),
-        "refused" => refused(said, world),
-        name => change_or_ask(alloc, said, world, name, words.rest),
+        "recover" => Ok(say_recovered(alloc, said, &sides.a, &sides.b)?),
+        "chosen" => Ok(say_chosen(alloc, said, &sides.a, &sides.b)?),
+        "open" => open(alloc, said, sides),
+        "reopen" => reopen(alloc, said, &mut sides.held),
+        "sweep" => sweep(alloc, said, sides, words),
+        "calls" => counted(alloc, said, &mut sides.held, words),
+        "bytes" => say_bytes(said, &sides.held, words),
+        "cuts" => say_cuts(alloc, said, "", &sides.held.device()?.inner.inner),
+        "refused" => say_refused(said, &sides.held),
+        name => change_or_ask(alloc, said, &mut sides.held, name, words.rest),
     }
 }
 
@@ -51,98 +48,48 @@ fn say_chosen(alloc: Global, said: &mut String, a: &[u8], b: &[u8]) -> Result<()
     }
 }
 
-fn say_open(said: &mut String, fault: Option<OpenFault>) -> Result<(), RowFault> {
-    match fault {
-        None => Ok(said.push_str("ok")?),
-        Some(fault) => Ok(write!(said, "{fault:?}")?),
-    }
-}
-
-fn keep_opened(
-    alloc: Global,
-    said: &mut String,
-    world: &mut World,
-    disk: Device,
-) -> Result<(), RowFault> {
-    let (held, fault) = opened(alloc, disk);
-    world.held = held;
-    say_open(said, fault)
-}
-
 /// Opens the store of the two sides.
-fn open(alloc: Global, said: &mut String, world: &mut World) -> Result<(), RowFault> {
-    let disk = world.device(alloc, world.stop, world.fail)?;
-    keep_opened(alloc, said, world, disk)
+fn open(alloc: Global, said: &mut String, sides: &mut Sides) -> Result<(), RowFault> {
+    let disk = sides.device_at(alloc, sides.stop, sides.fail)?;
+    Ok(open_disk(alloc, said, &mut sides.held, disk)?)
 }
 
 /// Opens what the disk holds once more.
-fn reopen(alloc: Global, said: &mut String, world: &mut World) -> Result<(), RowFault> {
-    match mem::replace(&mut world.held, Held::Nothing) {
-        Held::Nothing => Err(RowFault::NotOpen),
-        Held::Disk(disk) => keep_opened(alloc, said, world, disk),
-        Held::Store(store) => keep_opened(alloc, said, world, store.log.disk),
-    }
+fn reopen(alloc: Global, said: &mut String, held: &mut Held) -> Result<(), RowFault> {
+    let disk = mem::replace(held, Held::Nothing).into_device()?;
+    Ok(open_disk(alloc, said, held, disk)?)
 }
 
-fn calls_left(world: &World) -> Result<u64, RowFault> {
-    let device = world.held.device().ok_or(RowFault::NotOpen)?;
-    Ok(device.plan.calls_left)
+fn open_disk(
+    alloc: Global,
+    said: &mut String,
+    held: &mut Held,
+    disk: Device,
+) -> Result<(), AllocError> {
+    match opened(alloc, disk) {
+        Ok(store) => {
+            *held = Held::Store(store);
+            said.push_str("ok")
+        }
+        Err((fault, disk)) => {
+            *held = Held::Disk(disk);
+            write!(said, "{fault:?}")
+        }
+    }
 }
 
 /// `calls CALL`: what the call says, and how many calls of the disk it makes.
 fn counted(
     alloc: Global,
     said: &mut String,
-    world: &mut World,
+    held: &mut Held,
     words: &mut Words<'_>,
 ) -> Result<(), RowFault> {
-    let before = calls_left(world)?;
-    let name = words.next();
-    change_or_ask(alloc, said, world, name, words.rest)?;
-    let calls = before.saturating_sub(calls_left(world)?);
+    let store = held.store()?;
+    let before = store.log.disk.plan.calls_left;
+    change(alloc, said, store, words.next(), words.rest)?;
+    let calls = before.saturating_sub(store.log.disk.plan.calls_left);
     Ok(write!(said, ", {calls} calls")?)
-}
-
-/// `bytes A`: what a side holds.
-fn say_bytes(said: &mut String, world: &World, words: &mut Words<'_>) -> Result<(), RowFault> {
-    let side = words.side()?;
-    let device = world.held.device().ok_or(RowFault::NotOpen)?;
-    Ok(bytes::say_all(said, device.inner.inner.bytes(side))?)
-}
-
-fn cuts(alloc: Global, said: &mut String, world: &World) -> Result<(), RowFault> {
-    let device = world.held.device().ok_or(RowFault::NotOpen)?;
-    say_cuts(alloc, said, "", &device.inner.inner)
-}
-
-/// How many calls the disk has refused.
-fn refused(said: &mut String, world: &World) -> Result<(), RowFault> {
-    let device = world.held.device().ok_or(RowFault::NotOpen)?;
-    let refused = device.refused.saturating_add(device.inner.refused);
-    Ok(write!(said, "{refused}")?)
-}
-
-fn change_or_ask(
-    alloc: Global,
-    said: &mut String,
-    world: &mut World,
-    name: &str,
-    rest: &str,
-) -> Result<(), RowFault> {
-    match &mut world.held {
-        Held::Store(store) => change(alloc, said, store, name, rest),
-        _ => Err(RowFault::NotOpen),
-    }
-}
-
-pub(crate) fn say_change(
-    said: &mut String,
-    answer: Result<(), CommitFault>,
-) -> Result<(), AllocError> {
-    match answer {
-        Ok(()) => said.push_str("ok"),
-        Err(fault) => write!(said, "{fault:?}"),
-    }
 }
 
 /// `commit RECORDS`, or `compact`: `ok`, or the fault.
@@ -153,38 +100,54 @@ fn change(
     name: &str,
     rest: &str,
 ) -> Result<(), RowFault> {
-    match name {
-        "commit" => {
-            let records = records_of(alloc, rest)?;
-            let answer = commit(alloc, store, records.as_slice())?;
-            Ok(say_change(said, answer)?)
-        }
-        "compact" => Ok(say_change(said, compacted(alloc, store))?),
-        _ => ask(alloc, said, store, name),
+    let change = Change::of(alloc, name, rest)?;
+    let answer = changed(alloc, store, &change)?;
+    Ok(say_change(said, answer)?)
+}
+
+fn say_change(said: &mut String, answer: Result<(), CommitFault>) -> Result<(), AllocError> {
+    match answer {
+        Ok(()) => said.push_str("ok"),
+        Err(fault) => write!(said, "{fault:?}"),
     }
 }
 
-fn ask(
+fn change_or_ask(
     alloc: Global,
     said: &mut String,
-    store: &Store<Device>,
+    held: &mut Held,
     name: &str,
+    rest: &str,
 ) -> Result<(), RowFault> {
+    let store = held.store()?;
     match name {
         "state" => Ok(say_state(alloc, said, store.state())?),
+        "log" => Ok(say_log(said, store)?),
         "names" => Ok(write!(said, "{}", store.state().len())?),
         "dead" => Ok(write!(said, "{}", store.is_dead())?),
-        "log" => say_log(said, store),
-        _ => Err(RowFault::Word),
+        _ => change(alloc, said, store, name, rest),
     }
 }
 
 /// The open side, and what it has beside its records.
-fn say_log(said: &mut String, store: &Store<Device>) -> Result<(), RowFault> {
+fn say_log(said: &mut String, store: &Store<Device>) -> Result<(), AllocError> {
     let extent = Extent {
         version: store.log.version,
         generation: store.log.generation,
         end: store.log.end as u64,
     };
-    Ok(write!(said, "{:?} {extent:?}", store.log.side)?)
+    write!(said, "{:?} {extent:?}", store.log.side)
+}
+
+/// `bytes SIDE`: what a side holds.
+fn say_bytes(said: &mut String, held: &Held, words: &mut Words<'_>) -> Result<(), RowFault> {
+    let side = side_named(words.next())?;
+    Ok(bytes::say_all(said, held.device()?.inner.inner.bytes(side))?)
+}
+
+/// How many calls the disk has refused.
+fn say_refused(said: &mut String, held: &Held) -> Result<(), RowFault> {
+    let disk = held.device()?;
+    let refused = disk.refused.saturating_add(disk.inner.refused);
+    Ok(write!(said, "{refused}")?)
 }

@@ -1,5 +1,5 @@
 //! The system's own calls on a state file's name, one by one: what no contract can say of them.
-use crate::row_fault::RowFault;
+use row_files::RowFault;
 use st_disk::{Folder, SystemFile, SystemFolder, Which};
 use std::alloc::AllocError;
 use std::io;
@@ -15,11 +15,19 @@ pub(crate) fn say_system(
     calls: &[String],
 ) -> Result<(), RowFault> {
     let mut files = SystemFolder::new(rt, rt.alloc(), name)?;
+    say_calls(said, &mut files, calls)
+}
+
+fn say_calls(
+    said: &mut String,
+    files: &mut SystemFolder,
+    calls: &[String],
+) -> Result<(), RowFault> {
+    let mut between = "";
     for word in calls {
-        if !said.is_empty() {
-            said.push(' ')?;
-        }
-        say_call(said, &mut files, word.as_str())?;
+        said.push_str(between)?;
+        say_call(said, files, word.as_str())?;
+        between = " ";
     }
     Ok(())
 }

@@ -1,8 +1,16 @@
 //! How long a commit of one record takes, and a compaction of a whole state, in nanoseconds: opening isn't counted.
+
+ghost use Rattle.std.specs.Prelude.{◌≡◌, true, false};
+ghost use Rattle.std.specs.List.{AllByRecursion};
+ghost use Rattle.st_records.specs.declared.version.Version.TheVariants as versions;
+ghost use Rattle.st_records.specs.Limits.{IsGood};
+ghost use Rattle.st_file.specs.Batch.{may_stand};
+
 use crate::commits::{begun, disk_over, opened};
-use crate::held::compacted;
+use crate::held::{commit_good, compacted};
 use st_disk::Disk;
 use st_memory::MemDisk;
+use st_records::{ByteString, Record};
 use st_recovery::Store;
 use std::fs;
 use std::time::Instant;
@@ -38,9 +46,21 @@ fn times_of_commits<D: Disk + Drop>(
 }
 
 fn time_of_commit<D: Disk + Drop>(rt: HostRuntime, store: &mut Store<D>) -> anyhow::Result<u128> {
-    let batch = [begun(rt.alloc(), "obj/changed.o")?];
+    let target = ByteString::from_slice(rt.alloc(), b"obj/changed.o")?;
+    let batch = [begun(target)?];
+    time_of(rt, store, &batch)
+}
+
+fn time_of<D: Disk + Drop>(
+    rt: HostRuntime,
+    store: &mut Store<D>,
+    batch: &[Record],
+) -> anyhow::Result<u128>
+    requires good { AllByRecursion (IsGood versions.Two) batch.now }
+    requires later { AllByRecursion (λ r. may_stand false r ≡ true) batch.now }
+{
     let start = Instant::now(&rt)?;
-    store.commit(rt.alloc(), &batch)?;
+    commit_good(rt.alloc(), store, batch)?;
     Ok(start.elapsed(&rt)?.as_nanos())
 }
 
@@ -52,7 +72,11 @@ fn median(mut times: Vec<u128>) -> anyhow::Result<u128> {
 
 /// The time of a compaction of a state file.
 pub(crate) fn compaction_in_files(rt: HostRuntime, file: &str) -> anyhow::Result<u128> {
-    let mut store = opened(rt.alloc(), disk_over(rt, file)?)?;
+    compaction_of(rt, disk_over(rt, file)?)
+}
+
+fn compaction_of<D: Disk + Drop>(rt: HostRuntime, disk: D) -> anyhow::Result<u128> {
+    let mut store = opened(rt.alloc(), disk)?;
     time_of_compaction(rt, &mut store)
 }
 

@@ -1,7 +1,7 @@
 use Rattle.std.proofs.Common.{◌≡◌, ◌∙◌, sym, subst}
 use Rattle.st_file.specs.Side.{IsRefused}
-use Rattle.dmk_state.specs.Writing.{IsOfSide}
-use Rattle.dmk_state.specs.declared.listing.ListFault.TheVariants as faults
+use Rattle.st_listing.specs.Writing.{IsOfSide}
+use Rattle.st_listing.specs.declared.listing.ListFault.TheVariants as faults
 use Rattle.dmk_state.proofs.output.damaged_side.Goals as goal
 
 pub returns-in-Open-clause-only : goal.returns-in-Open-clause-only

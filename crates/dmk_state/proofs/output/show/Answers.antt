@@ -1,4 +1,4 @@
-use Rattle.dmk_state.proofs.ListingLemmas.{kept_at_refusal, cause_of_fault, part_at_fault}
+use Rattle.dmk_state.proofs.OutputLemmas.{kept_at_refusal, cause_of_fault, part_at_fault}
 use Rattle.dmk_state.proofs.output.show.Goals as goal
 
 pub returns-in-Ok-clause-refused : goal.returns-in-Ok-clause-refused

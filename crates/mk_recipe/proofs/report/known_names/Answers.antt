@@ -1,8 +1,8 @@
-use Rattle.std.proofs.Common.{◌∷◌}
-use Rattle.mk_recipe.proofs.NameLemmas.{known_more}
+use Rattle.std.proofs.Common.{◌∙◌}
+use Rattle.mk_recipe.proofs.NameLemmas.{known_start}
 use Rattle.mk_recipe.proofs.report.known_names.Goals as goal
 
-pub loop-name-preserved : goal.loop-name-preserved
-loop-name-preserved c = λ name.
-    known_more c.in-Some.name.now name c.loop-name.names c.add-in-loop-name.new.self c.loop-name.name-iterator c.next.new.self (c.args.target.now ∷ c.args.known.now)
-    c.in_ok-add-2.ensures c.in-Some.ensures.steps (c.loop-name.invariant name)
+pub returns : goal.returns
+returns c = λ name.
+    c.in_ok-add_all.ensures name
+    ∙ known_start c.args.target.now name c.args.known.now c.add.new.self c.new-names.result c.new-names.ensures c.in_ok-add.ensures

@@ -1,32 +1,26 @@
-use Rattle.std.proofs.Common.{◌≡◌, true, List, [], Some, ℕ, Bool, subst}
-use Rattle.std.proofs.lemmas.Result.{err_from_is_err_and}
+use Rattle.std.proofs.Common.{◌≡◌, true, sym, subst, ⊎_elim}
+use Rattle.std.proofs.lemmas.Result.{IfOk-weaker, IfErr-weaker}
 use Rattle.mk_reader.specs.Text.{is_text}
-use Rattle.mk_reader.specs.Lines.{joined_lines}
-use Rattle.mk_recipe.specs.Report.{mentioned}
-use Rattle.mk_recipe.specs.Reading.{Reads}
+use Rattle.mk_recipe.specs.Report.{IsReportFault}
 use Rattle.mk_recipe.proofs.AnswerLemmas.{all_hidden, too_many, stopped}
 use Rattle.mk_recipe.proofs.report.read_report.Goals as goal
-
-pub returns-in_err-read_lines-clause-fault : goal.returns-in_err-read_lines-clause-fault
-returns-in_err-read_lines-clause-fault c =
-    let text : is_text c.args.report.now ≡ true = cc in
-    let p = err_from_is_err_and c.from_residual-in_err-read_lines.result c.from_residual-in_err-read_lines.ensures.1 in
-    rw (p.1, p.2) (stopped c.args.report.now c.args.target.now c.args.known.now c.in_ok-seen.seen c.in_err-read_lines.field-0.0 text c.in_ok-seen.ensures c.in_err-read_lines.ensures.fault)
-
-pub returns-then-branch-clause-fault : goal.returns-then-branch-clause-fault
-returns-then-branch-clause-fault c =
-    let text : is_text c.args.report.now ≡ true = cc in
-    let all = mentioned c.args.target.now (joined_lines (Some c.args.report.now)) in
-    let seen = c.in_ok-seen.seen in
-    let read = subst (λ (b : Bool). Reads all seen [] c.read_lines.new.seen c.read_lines.new.hidden b) c.if-branch.true
-    (subst (λ (h : List (List ℕ)). Reads all seen h c.read_lines.new.seen c.read_lines.new.hidden c.in_ok-read_lines.field-0) c.empty-hidden.ensures c.in_ok-read_lines.ensures.ok) in
-    too_many c.args.report.now c.args.target.now c.args.known.now seen c.read_lines.new.seen c.read_lines.new.hidden text c.in_ok-seen.ensures read
 
 pub returns-clause-names : goal.returns-clause-names
 returns-clause-names c =
     let text : is_text c.args.report.now ≡ true = cc in
-    let all = mentioned c.args.target.now (joined_lines (Some c.args.report.now)) in
-    let seen = c.in_ok-seen.seen in
-    let read = subst (λ (b : Bool). Reads all seen [] c.read_lines.new.seen c.read_lines.new.hidden b) c.if-branch.false
-    (subst (λ (h : List (List ℕ)). Reads all seen h c.read_lines.new.seen c.read_lines.new.hidden c.in_ok-read_lines.field-0) c.empty-hidden.ensures c.in_ok-read_lines.ensures.ok) in
-    all_hidden c.args.report.now c.args.target.now c.args.known.now seen c.read_lines.new.seen c.read_lines.new.hidden text c.in_ok-seen.ensures read
+    IfOk-weaker c.hidden_names.result _ _
+    (λ hidden read. all_hidden c.args.report.now c.args.target.now c.args.known.now c.in_ok-seen.seen c.hidden_names.new.seen hidden text c.in_ok-seen.ensures read)
+    c.hidden_names.ensures.names
+
+pub returns-clause-fault : goal.returns-clause-fault
+returns-clause-fault c =
+    let text : is_text c.args.report.now ≡ true = cc in
+    let report = c.args.report.now in
+    let target = c.args.target.now in
+    let known = c.args.known.now in
+    IfErr-weaker c.hidden_names.result _ _
+    (λ fault why.
+    ⊎_elim (λ stops. stopped report target known c.in_ok-seen.seen fault text c.in_ok-seen.ensures stops)
+    (λ more. subst (IsReportFault report target known) (sym more.0) (too_many report target known c.in_ok-seen.seen c.hidden_names.new.seen more.1 text c.in_ok-seen.ensures more.2))
+    why)
+    c.hidden_names.ensures.fault

@@ -1,0 +1,97 @@
+//! What a run makes and how it goes, before anything is made.
+ghost use Rattle.std.specs.Prelude.{◌≡◌, ◌⊎◌, IfOk, IfErr};
+ghost use Rattle.std.specs.FinMap as finmap;
+ghost use Rattle.mk_rules.specs.Faults.{IsRuleFault};
+ghost use Rattle.mk_rules.specs.declared.graph.TheConstants.{MAX_NODES};
+ghost use Rattle.mk_rule_lines.specs.declared.fault.RuleFault.{RuleFault as RulesFault};
+ghost use Rattle.dmk_drive.specs.Definitions.{first_defined};
+ghost use Rattle.dmk_drive.specs.Planned.{IsGraphOf};
+ghost use Rattle.dmk_drive.specs.declared.fault.Fault.TheVariants as faults;
+ghost use Rattle.dmk_run.specs.declared.stop.Stop.TheVariants as stops;
+
+use crate::conducting::Wishes;
+use crate::printer::Printer;
+use crate::stop::Stop;
+use bd_lists::Variable;
+use byte_strings::ByteStrings;
+use dmk_drive::{Fault, first_macros};
+use jb_recipe::Conduct;
+use mk_reader::Item;
+use mk_rules::{Graph, Tree};
+use st_state::State;
+use std::alloc::Global;
+use std::io::Write;
+use std::sync::Wait;
+
+/// What is to be made.
+#[derive(Drop)]
+pub struct Goals {
+    pub definitions: Vec<Variable>,
+    pub targets: ByteStrings,
+}
+
+/// The graph of what is to be made, and how the run over it goes.
+#[derive(Drop)]
+pub struct Plan {
+    pub graph: Graph,
+    pub conduct: Conduct,
+}
+
+fn graph_of<T: Tree>(
+    alloc: Global,
+    environment: &[Variable],
+    definitions: &[Variable],
+    targets: ByteStrings,
+    tree: &mut T,
+    items: Vec<Item>,
+    state: &State,
+) -> Result<Graph, Stop>
+    ensures graph { IfOk result (IsGraphOf definitions.now environment.now targets T.honest (T.stamps tree.old)
+        items.items state.now) }
+    ensures fault { IfErr result (λ stop. (stop ≡ stops.Before faults.OutOfMemory)
+        ⊎ ((f : RulesFault) × (stop ≡ stops.Before (faults.Rules f))
+        × IsRuleFault (first_defined definitions.now environment.now) items.items T.honest (T.stamps tree.old)
+        (finmap.get state.now) (T.refuses tree.new) targets MAX_NODES f)) }
+{
+    let macros = first_macros(alloc, definitions, environment)?;
+    match mk_rules::build(alloc, items, macros, targets, tree, state) {
+        Ok(graph) => Ok(graph),
+        Err(fault) => Err(Stop::Before(Fault::Rules(fault))),
+    }
+}
+
+/// Plans the goals by a state, and says where soft edges are dropped.
+pub(crate) fn planned<R: Wait, T: Tree, O: Write + Drop, W: Write + Drop>(
+    alloc: Global,
+    environment: &[Variable],
+    printer: &Printer<'_, R, O, W>,
+    wishes: &Wishes,
+    keeping: bool,
+    goals: Goals,
+    tree: &mut T,
+    items: Vec<Item>,
+    state: &State,
+) -> Result<Plan, Stop>
+    ensures graph { IfOk result (λ plan. IsGraphOf goals.definitions.items environment.now goals.targets T.honest (T.stamps tree.old)
+        items.items state.now plan.graph) }
+    ensures keeping { IfOk result (λ plan. plan.conduct.keeps_state ≡ keeping) }
+{
+    let Goals {
+        definitions,
+        targets,
+    } = goals;
+    let graph = graph_of(
+        alloc,
+        environment,
+        &definitions,
+        targets,
+        tree,
+        items,
+        state,
+    )?;
+    if graph.soft_dropped {
+        printer.soft_edges_dropped();
+    }
+    let conduct = wishes.conduct(alloc, &graph.settings, keeping, definitions)?;
+    Ok(Plan { graph, conduct })
+}

@@ -1,0 +1,76 @@
+//! Records on their way to the board.
+ghost use Rattle.st_records.specs.Limits.{IsGood};
+ghost use Rattle.st_records.specs.declared.version.Version.TheVariants.{Two};
+
+use crate::Shop;
+use crate::shift::Kept;
+use bd_flusher::Receipt;
+use bd_ledger::Ticket;
+use bd_links::Node;
+use bd_lists::Spent;
+use jb_recipe::Say;
+use st_disk::Disk;
+use st_records::Record;
+use std::sync::Wait;
+
+// A run that the board handed back. Only its receipt is left.
+fn let_go(run: Option<Spent<Receipt>>) -> Option<Receipt> {
+    match run {
+        Some(spent) => Some(spent.give_up()),
+        None => None,
+    }
+}
+
+// The ticket of a record that the board has taken, and the receipt of the run that it was submitted with.
+fn apart(
+    submitted: Result<(Ticket, Option<Receipt>), (Record, Option<Spent<Receipt>>)>,
+) -> (Option<Ticket>, Option<Receipt>) {
+    match submitted {
+        Ok((ticket, told)) => (Some(ticket), told),
+        Err((note, run)) => {
+            drop(note);
+            (None, let_go(run))
+        }
+    }
+}
+
+impl<D: Disk + Drop, E, S: Say, P> Shop<'_, D, E, S, P> {
+    // The board's lock is held for the submission alone.
+    fn submit<R: Wait>(
+        &self,
+        rt: &R,
+        node: Node,
+        note: Record,
+        run: Option<Spent<Receipt>>,
+    ) -> Result<(Ticket, Option<Receipt>), (Record, Option<Spent<Receipt>>)>
+        requires { IsGood Two note }
+    {
+        let mut board = self.flusher.board.lock(rt);
+        board.submit(node, note, run)
+    }
+
+    /// The ticket of a 'begun'; None where it isn't taken.
+    pub(crate) fn hand_in<R: Wait>(&self, rt: &R, node: Node, begun: Record) -> Option<Ticket>
+        requires { IsGood Two begun }
+    {
+        let (ticket, none) = apart(self.submit(rt, node, begun, None));
+        drop(none);
+        ticket
+    }
+
+    /// The ticket of the end; None where it isn't taken. The receipt of the 'begun' is kept.
+    pub(crate) fn hand_in_end<R: Wait>(
+        &self,
+        rt: &R,
+        node: Node,
+        last: Record,
+        spent: Spent<Receipt>,
+        kept: &mut Kept,
+    ) -> Option<Ticket>
+        requires { IsGood Two last }
+    {
+        let (ticket, begun) = apart(self.submit(rt, node, last, Some(spent)));
+        kept.keep_begun(begun);
+        ticket
+    }
+}

@@ -1,0 +1,7 @@
+//! The listing of the state that two sides recover, as text in a writer.
+#![tactic(auto)]
+
+mod listing;
+mod text;
+
+pub use listing::{ListFault, list};

@@ -1,0 +1,117 @@
+//! The listing of the state that two sides recover.
+
+ghost use Rattle.std.specs.Prelude.{◌≡◌, ◌⊎◌, ◌<◌, ◌≤◌, length, take, MatchResult, OnOk, OnErr, IfOk, IfErr, IsErrOf};
+ghost use Rattle.std.specs.FinMap as map;
+ghost use Rattle.std.specs.Io.KnownBytes.{Appends, Keeps};
+ghost use Rattle.st_state.specs.State.{StateMap};
+ghost use Rattle.st_file.specs.declared.fault.OpenFault.{OpenFault};
+ghost use Rattle.st_file.specs.declared.fault.OpenFault.TheVariants as open_faults;
+ghost use Rattle.st_recovery.specs.Recovers.{Recovers, RefusesWith, PairComesToRecords};
+ghost use Rattle.st_listing.specs.Listing.{listing};
+ghost use Rattle.st_listing.specs.Writing.{IsCause, AppendsPart, LeavesText, LeavesWriter, IsOfMachine};
+ghost use Rattle.st_listing.specs.declared.listing.ListFault.TheVariants as faults;
+
+use crate::text::listing_text;
+use st_file::OpenFault;
+use st_records::HashKey;
+use st_recovery::recover;
+use st_state::State;
+use std::alloc::{AllocError, Global};
+use std::io::{self, Write};
+use thiserror::Error;
+
+/// Why a state isn't listed, or not as a whole.
+#[derive(Clone, Copy, Debug, PartialEq, Eq, Error)]
+pub enum ListFault {
+    /// The two sides recover no state, or there was no memory. Nothing was written.
+    #[error("{0}")]
+    Open(OpenFault),
+    /// The writer failed. A beginning of the listing may have gone out, but not all of it.
+    #[error("cannot write")]
+    Write,
+}
+
+impl From<AllocError> for ListFault {
+    ghost from_gives = { λ _ e. e ≡ faults.Open open_faults.OutOfMemory };
+
+    fn from(_error: AllocError) -> ListFault {
+        ListFault::Open(OpenFault::OutOfMemory)
+    }
+}
+
+/// Writes the listing of the state that the bytes of the two sides recover.
+pub fn list<W: Write>(
+    alloc: Global,
+    key: HashKey,
+    a: &[u8],
+    b: &[u8],
+    writer: &mut W,
+) -> Result<(), ListFault>
+    // A state that is recovered is listed, but for want of memory and the writer's faults.
+    ensures listed { (m : StateMap) → Recovers a.now b.now m → MatchResult result
+        (λ _. Appends (W.contents writer.old) (W.contents writer.new) (listing m)) IsOfMachine }
+    ensures refused { (f : OpenFault) → RefusesWith a.now b.now f → MatchResult result (λ _. ⊥)
+        (λ g. (g ≡ faults.Open f) ⊎ (g ≡ faults.Open open_faults.OutOfMemory)) }
+
+    // What is listed was recovered, and what is answered as a fault is so.
+    ensures found { MatchResult result
+        (λ _. (m : StateMap) × (Recovers a.now b.now m × Appends (W.contents writer.old) (W.contents writer.new) (listing m)))
+        (IsCause a.now b.now) }
+    ensures memory { IsErrOf result (faults.Open open_faults.OutOfMemory) → PairComesToRecords a.now b.now }
+
+    ensures left { IfErr result (λ f. LeavesWriter a.now b.now f (W.contents writer.old) (W.contents writer.new)) }
+{
+    match recover(alloc, key, a, b) {
+        Ok(state) => write_listing(alloc, &state, writer),
+        Err(fault) => Err(ListFault::Open(fault)),
+    }
+}
+
+// The listing is whole before its first byte is written, so no want of memory comes after that. A state without names
+// takes no memory.
+fn write_listing<W: Write>(alloc: Global, state: &State, writer: &mut W) -> Result<(), ListFault>
+    ensures listed { OnOk result (Appends (W.contents writer.old) (W.contents writer.new) (listing state.now)) }
+    ensures cause { IfErr result IsOfMachine }
+    ensures memory { IsErrOf result (faults.Open open_faults.OutOfMemory) → 0 < map.len state.now }
+    ensures left { IfErr result (λ f. LeavesText (listing state.now) f (W.contents writer.old) (W.contents writer.new)) }
+{
+    if state.len() == 0 {
+        return Ok(());
+    }
+    let text = listing_text(alloc, state)?;
+    write_text(text.as_slice(), writer)
+}
+
+fn write_text<W: Write>(text: &[u8], writer: &mut W) -> Result<(), ListFault>
+    ensures whole { OnOk result (Appends (W.contents writer.old) (W.contents writer.new) text.now) }
+    ensures part { OnErr result (AppendsPart (W.contents writer.old) (W.contents writer.new) text.now) }
+    ensures cause { IfErr result (λ f. f ≡ faults.Write) }
+{
+    let mut rest = text;
+    let mut tries = u64::MAX;
+    while !rest.is_empty() {
+        if tries == 0 {
+            return Err(ListFault::Write);
+        }
+        tries -= 1;
+        let written = write_some(rest, writer)?;
+        rest = &rest[written..];
+    }
+    Ok(())
+}
+
+// How many of the bytes were written, from the first on. A write that was interrupted wrote none.
+fn write_some<W: Write>(bytes: &[u8], writer: &mut W) -> Result<usize, ListFault>
+    ensures some { IfOk result (λ n. (n ≤ length bytes.now) × Appends (W.contents writer.old) (W.contents writer.new) (take n bytes.now)) }
+    ensures none { OnErr result (Keeps (W.contents writer.old) (W.contents writer.new)) }
+    ensures cause { IfErr result (λ f. f ≡ faults.Write) }
+{
+    match writer.write(bytes) {
+        Ok(0) => Err(ListFault::Write),
+        Ok(written) => Ok(written),
+        Err(fault) => match fault.kind() {
+            io::ErrorKind::Interrupted => Ok(0),
+            _ => Err(ListFault::Write),
+        },
+    }
+}

@@ -1,0 +1,165 @@
+//! The text of a listing, made in memory as a whole.
+
+ghost use Rattle.std.specs.Prelude.{◌≡◌, ◌++◌, OnOk, IfOk};
+ghost use Rattle.std.specs.List.{flat_map};
+ghost use Rattle.st_records.specs.Parts.{names_known};
+ghost use Rattle.st_listing.specs.Listing.{listing, entry_lines, phase_text, command_text, explicit_text, line, continued};
+
+use st_records::{ByteStrings, Entry, Explicit, Phase};
+use st_state::State;
+use std::alloc::{AllocError, Global};
+
+// How many entries are looked at before their lines are written.
+const BLOCK: usize = 64;
+
+// The bytes of a line for a command or a prerequisite, as most are.
+const USUAL_LINE: usize = 32;
+
+/// The listing of a state: for each name, in byte order, its phase, its commands, its hidden and its explicit names.
+pub fn listing_text(alloc: Global, state: &State) -> Result<Vec<u8>, AllocError>
+    ensures { IfOk result (λ text. text.items ≡ listing state.now) }
+{
+    let entries = state.in_byte_order(alloc)?;
+    let mut text = Vec::new(alloc);
+    append_blocks(alloc, &mut text, entries.as_slice())?;
+    Ok(text)
+}
+
+fn append_blocks(
+    alloc: Global,
+    text: &mut Vec<u8>,
+    entries: &[(&[u8], &Entry)],
+) -> Result<(), AllocError>
+    ensures { OnOk result (text.new.items ≡ text.old.items ++ flat_map (λ e. entry_lines (e.0.now, e.1.now)) entries.now) }
+{
+    let mut at = 0;
+    while at < entries.len() {
+        let end = at + BLOCK.min(entries.len() - at);
+        append_block(alloc, text, &entries[at..end])?;
+        at = end;
+    }
+    Ok(())
+}
+
+fn append_block(
+    alloc: Global,
+    text: &mut Vec<u8>,
+    block: &[(&[u8], &Entry)],
+) -> Result<(), AllocError>
+    ensures { OnOk result (text.new.items ≡ text.old.items ++ flat_map (λ e. entry_lines (e.0.now, e.1.now)) block.now) }
+{
+    text.reserve(usual_len(block))?;
+    for (name, entry) in block.iter() {
+        append_entry(alloc, text, name, entry)?;
+    }
+    Ok(())
+}
+
+// How many bytes the lines of these entries usually take. It decides nothing but how much room is made at once.
+//
+// Names and entries lie all over memory, and to fetch one takes longer than to write its lines. Looked at here one right
+// after another, many are fetched at a time; the first byte of a name is read for that alone.
+fn usual_len(block: &[(&[u8], &Entry)]) -> usize {
+    let mut len: usize = 0;
+    for (name, entry) in block.iter() {
+        let mark = match entry.phase {
+            Phase::Begun => 7,
+            Phase::Done => 6,
+            Phase::Failed(_) => 10,
+        };
+        let first = usize::from(name.first() == Some(&b'/'));
+        let below = entry.commands.len().saturating_add(entry.hidden.len());
+        len = len
+            .saturating_add(mark + first)
+            .saturating_add(name.len())
+            .saturating_add(below.saturating_mul(USUAL_LINE));
+    }
+    len
+}
+
+fn append_entry(
+    alloc: Global,
+    text: &mut Vec<u8>,
+    name: &[u8],
+    entry: &Entry,
+) -> Result<(), AllocError>
+    ensures { OnOk result (text.new.items ≡ text.old.items ++ entry_lines (name.now, entry.now)) }
+{
+    append_phase(alloc, text, name, entry.phase)?;
+    append_commands(text, &entry.commands)?;
+    append_names(text, b"    < ", &entry.hidden)?;
+    append_explicit(text, &entry.explicit)
+}
+
+fn append_phase(
+    alloc: Global,
+    text: &mut Vec<u8>,
+    name: &[u8],
+    phase: Phase,
+) -> Result<(), AllocError>
+    ensures { OnOk result (text.new.items ≡ text.old.items ++ line (phase_text name.now phase)) }
+{
+    match phase {
+        Phase::Begun => {
+            text.extend_from_slice(b"begun ")?;
+            text.extend_from_slice(name)?;
+        }
+        Phase::Done => {
+            text.extend_from_slice(b"done ")?;
+            text.extend_from_slice(name)?;
+        }
+        Phase::Failed(status) => {
+            text.extend_from_slice(b"failed ")?;
+            text.extend_from_slice(name)?;
+            text.extend_from_slice(b" ")?;
+            text.extend_from_slice(format!(in alloc; "{status}")?.as_bytes())?;
+        }
+    }
+    text.push(b'\n')?;
+    Ok(())
+}
+
+fn append_commands(text: &mut Vec<u8>, commands: &ByteStrings) -> Result<(), AllocError>
+    ensures { OnOk result (text.new.items ≡ text.old.items ++ flat_map (λ c. line (command_text c)) commands.now) }
+{
+    for command in commands.iter() {
+        text.extend_from_slice(b"    $ ")?;
+        append_continued(text, command)?;
+        text.push(b'\n')?;
+    }
+    Ok(())
+}
+
+fn append_continued(text: &mut Vec<u8>, command: &[u8]) -> Result<(), AllocError>
+    ensures { OnOk result (text.new.items ≡ text.old.items ++ flat_map continued command.now) }
+{
+    for byte in command {
+        text.push(*byte)?;
+        if *byte == b'\n' {
+            text.extend_from_slice(b"    > ")?;
+        }
+    }
+    Ok(())
+}
+
+fn append_explicit(text: &mut Vec<u8>, explicit: &Explicit) -> Result<(), AllocError>
+    ensures { OnOk result (text.new.items ≡ text.old.items
+        ++ flat_map (λ n. line (explicit_text n)) (names_known explicit.now)) }
+{
+    match explicit {
+        Explicit::Unknown => Ok(()),
+        Explicit::Known(names) => append_names(text, b"    : ", names),
+    }
+}
+
+// One line for each name, the mark before it.
+fn append_names(text: &mut Vec<u8>, mark: &[u8], names: &ByteStrings) -> Result<(), AllocError>
+    ensures { OnOk result (text.new.items ≡ text.old.items ++ flat_map (λ n. line (mark.now ++ n)) names.now) }
+{
+    for name in names.iter() {
+        text.extend_from_slice(mark)?;
+        text.extend_from_slice(name)?;
+        text.push(b'\n')?;
+    }
+    Ok(())
+}

@@ -1,0 +1,2 @@
+-- what is left of an entry
+pub mod Unfinished

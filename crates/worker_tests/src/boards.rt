@@ -1,0 +1,101 @@
+//! Boards and their first records.
+ghost use Rattle.std.specs.Prelude.{◌≡◌, IfOk, IfSome};
+ghost use Rattle.st_records.specs.Limits.{IsGood};
+ghost use Rattle.st_records.specs.declared.record.Record.TheVariants as records;
+ghost use Rattle.st_records.specs.declared.version.Version.TheVariants as versions;
+
+use crate::makefiles::{Asked, graph};
+use bd_flusher::{FlushFault, Flusher, Receipt, Site};
+use bd_ledger::Ticket;
+use bd_links::Node;
+use bd_lists::Board;
+use byte_strings::ByteString;
+use jb_runner::board_of;
+use st_disk::Disk;
+use st_records::Record;
+use st_state::State;
+use std::alloc::Global;
+use std::sync::Wait;
+use std::test::Fail;
+
+pub fn board(alloc: Global, asked: &Asked, state: &State) -> Result<Board<Receipt>, Fail> {
+    let graph = graph(alloc, asked, state)?;
+    Ok(board_of(alloc, &graph)?)
+}
+
+/// That the recipe of a target is about to be run, where there is memory for it.
+pub fn begun(alloc: Global, target: &[u8]) -> Option<Record>
+    ensures begun { IfSome result (λ note. note ≡ records.Begun target.now) }
+    ensures good { IfSome result (λ note. IsGood versions.Two note) }
+{
+    let target = ByteString::from_slice(alloc, target).ok()?;
+    let note = Record::Begun { target };
+    if note.check().is_err() {
+        return None;
+    }
+    Some(note)
+}
+
+/// Submits a 'begun' of a node. What isn't taken is let go.
+fn submit(board: &mut Board<Receipt>, node: Node, note: Record) -> Option<Ticket>
+    requires { IsGood versions.Two note }
+{
+    match board.submit(node, note, None) {
+        Ok((ticket, _none)) => Some(ticket),
+        Err((_note, run)) => {
+            let _receipt = run.map(|spent| spent.give_up());
+            None
+        }
+    }
+}
+
+/// Claims the next node, whose target is this one, and submits its 'begun'.
+pub fn submitted(
+    alloc: Global,
+    board: &mut Board<Receipt>,
+    target: &[u8],
+) -> Option<(Node, Ticket)> {
+    let node = board.claim()?;
+    let note = begun(alloc, target)?;
+    let ticket = submit(board, node, note)?;
+    Some((node, ticket))
+}
+
+pub fn take_in<D: Disk + Drop>(
+    alloc: Global,
+    site: &mut Site<D>,
+    board: &mut Board<Receipt>,
+) -> Result<(), FlushFault> {
+    site.take_in(alloc, board)
+}
+
+pub fn flush<D: Disk + Drop>(alloc: Global, site: &mut Site<D>) -> Result<(), FlushFault> {
+    site.flush(alloc)
+}
+
+/// The receipt of a record that was told at this ticket.
+pub fn look<D: Disk + Drop>(site: &Site<D>, ticket: Ticket, note: Record) -> Result<Receipt, Fail>
+    ensures { IfOk result (λ r. r.noted ≡ note) }
+{
+    match site.look(ticket, note) {
+        Ok(receipt) => Ok(receipt),
+        Err(_note) => Err("another record was told there".into()),
+    }
+}
+
+/// The batch of a target's record, once it was written.
+pub fn acknowledged<R: Wait, D: Disk + Drop>(
+    rt: &R,
+    alloc: Global,
+    flusher: &Flusher<D>,
+    target: &[u8],
+    ticket: Ticket,
+) -> Result<usize, FlushFault> {
+    let Some(note) = begun(alloc, target) else {
+        return Err(FlushFault::OutOfMemory);
+    };
+    match flusher.acknowledge(rt, alloc, ticket, note) {
+        Ok(receipt) => Ok(receipt.batch()),
+        Err(fault) => Err(fault),
+    }
+}

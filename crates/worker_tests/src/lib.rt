@@ -1,0 +1,51 @@
+//! What no program and no row can show of workers: job slots of pools that end or fail, batches that threads share, growths
+//! in vain, reports that aren't true, devices that stop, and how often included files are read. Runs go over memory: a
+//! makefile, files by their times, a state on a memory disk, recipe lines answered by their text.
+#![tactic(auto)]
+
+#[cfg(test)]
+mod boards;
+#[cfg(test)]
+mod closing;
+#[cfg(test)]
+mod counted_reads;
+#[cfg(test)]
+mod desk;
+#[cfg(test)]
+mod expected;
+#[cfg(test)]
+mod fake;
+#[cfg(test)]
+mod flush_growths;
+#[cfg(test)]
+mod folder;
+#[cfg(test)]
+mod lines;
+#[cfg(test)]
+mod makefiles;
+#[cfg(test)]
+mod memory_pool;
+#[cfg(test)]
+mod planned_pipe;
+#[cfg(test)]
+mod pool;
+#[cfg(test)]
+mod refused;
+#[cfg(test)]
+mod run_growths;
+#[cfg(test)]
+mod runs;
+#[cfg(test)]
+mod sharing;
+#[cfg(test)]
+mod states;
+#[cfg(test)]
+mod stopped_devices;
+#[cfg(test)]
+mod stopped_pools;
+#[cfg(test)]
+mod voice;
+#[cfg(test)]
+mod way;
+#[cfg(test)]
+mod workers;

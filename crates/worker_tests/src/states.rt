@@ -1,0 +1,71 @@
+//! Stores, and their states as texts.
+
+use bd_flusher::Site;
+use byte_strings::{ByteString, Iter};
+use st_disk::Disk;
+use st_file::OpenFault;
+use st_memory::MemDisk;
+use st_records::{HashKey, Phase};
+use st_recovery::{Store, open};
+use st_state::State;
+use std::alloc::{AllocError, Global};
+use std::test::Fail;
+
+/// The store of a disk.
+pub fn opened<D: Disk + Drop>(alloc: Global, disk: D) -> Result<Store<D>, OpenFault> {
+    match open(alloc, HashKey::fixed(), disk) {
+        Ok(store) => Ok(store),
+        Err((fault, _disk)) => Err(fault),
+    }
+}
+
+/// A store on a new disk.
+pub fn new_store(alloc: Global) -> Result<Store<MemDisk>, Fail> {
+    Ok(opened(alloc, MemDisk::new(alloc))?)
+}
+
+/// The site of a store.
+pub fn site_of<D: Disk + Drop>(alloc: Global, store: Store<D>) -> Result<Site<D>, Fail> {
+    if store.is_dead() {
+        return Err("the store is dead".into());
+    }
+    match Site::new(alloc, store) {
+        Ok(site) => Ok(site),
+        Err((fault, _store)) => Err(fault.into()),
+    }
+}
+
+fn phase_line(alloc: Global, name: &[u8], phase: Phase) -> Result<String, AllocError> {
+    let name = ByteString::from_slice(alloc, name)?;
+    match phase {
+        Phase::Begun => format!(in alloc; "begun {name}\n"),
+        Phase::Done => format!(in alloc; "done {name}\n"),
+        Phase::Failed(status) => format!(in alloc; "failed {name} {status}\n"),
+    }
+}
+
+fn push_lines(
+    alloc: Global,
+    text: &mut String,
+    sign: char,
+    strings: Iter<'_>,
+) -> Result<(), AllocError> {
+    for string in strings {
+        let string = ByteString::from_slice(alloc, string)?;
+        let line = format!(in alloc; "    {sign} {string}\n")?;
+        text.push_str(line.as_str())?;
+    }
+    Ok(())
+}
+
+/// The state as a text: each name in byte order behind its phase, then its commands, its hidden and its explicit names.
+pub fn listing(alloc: Global, state: &State) -> Result<String, AllocError> {
+    let mut text = String::new(alloc);
+    for (name, entry) in state.in_byte_order(alloc)? {
+        text.push_str(phase_line(alloc, name, entry.phase)?.as_str())?;
+        push_lines(alloc, &mut text, '$', entry.commands.iter())?;
+        push_lines(alloc, &mut text, '<', entry.hidden.iter())?;
+        push_lines(alloc, &mut text, ':', entry.explicit.names())?;
+    }
+    Ok(text)
+}
