@@ -2,8 +2,9 @@
 
 use jb_recipe::{Place, PlaceFault};
 use std::alloc::Global;
-use std::fs::{self, File};
+use std::fs::{self, File, OpenOptions};
 use std::io::{self, ErrorKind};
+use std::process::{Command, Stdio};
 
 /// The system's number of 'no such device or address'.
 const NO_SUCH_DEVICE: i32 = 6;
@@ -57,10 +58,32 @@ impl HostPlace {
         }
     }
 
-    fn sync_folder(&self, name: &str) -> io::Result<()> {
-        match if_there(File::open(&self.rt, HostPlace::folder_of(name)))? {
-            Some(folder) => folder.sync_all(),
-            None => Ok(()),
+    // What may not be read is opened to be written, and all file systems are synced where that is refused too: a folder, or a
+    // file that may only be run.
+    fn sync_path(&self, path: &str) -> io::Result<()> {
+        match File::open(&self.rt, path) {
+            Ok(file) => file.sync_all(),
+            Err(error) if error.kind() == ErrorKind::PermissionDenied => self.sync_unread(path),
+            Err(error) if is_passed_over(&error) => Ok(()),
+            Err(error) => Err(error),
+        }
+    }
+
+    fn sync_unread(&self, path: &str) -> io::Result<()> {
+        match OpenOptions::new().write(true).open(&self.rt, path) {
+            Ok(file) => file.sync_all(),
+            Err(_) => self.sync_all_files(),
+        }
+    }
+
+    // The program sync, by which any user may have all file systems synced.
+    fn sync_all_files(&self) -> io::Result<()> {
+        let mut command = Command::new(self.rt.alloc(), "/bin/sh")?;
+        command.arg("-c")?.arg("sync")?;
+        command.stdin(Stdio::null());
+        match command.output(&self.rt)?.status.code() {
+            Some(0) => Ok(()),
+            _ => Err(ErrorKind::PermissionDenied.into()),
         }
     }
 
@@ -70,11 +93,8 @@ impl HostPlace {
             Some(found) if found.is_file() || found.is_dir() => {}
             _ => return Ok(()),
         }
-        let Some(file) = if_there(File::open(&self.rt, name))? else {
-            return Ok(());
-        };
-        file.sync_all()?;
-        self.sync_folder(name)?;
+        self.sync_path(name)?;
+        self.sync_path(HostPlace::folder_of(name))?;
         self.sync_led_to(name)
     }
 
@@ -87,7 +107,7 @@ impl HostPlace {
         match if_there(fs::canonicalize(&self.rt, name))? {
             Some(led_to) => {
                 let led_to = led_to.into_string();
-                self.sync_folder(led_to.as_str())
+                self.sync_path(HostPlace::folder_of(led_to.as_str()))
             }
             None => Ok(()),
         }
