@@ -20,5 +20,7 @@ refuses 'a line of a setup behind a call' $'row r\nnode a:\nclaim > a\nnode b:\n
 refuses 'a number that is none' $'row r\nchain x\nempty > 0\n'
 refuses 'an end that is not known' $'row r\nnode a:\nsettle a made > refused\n'
 refuses 'a node that is not known' $'row r\nnode a: b\nclaim > a\n'
+refuses 'two nodes of one name' $'row r\nnode a:\nnode b:\nnode a:\nclaim > a\n' $':1: the setup of this row\n    NamedAlike\n'
+refuses 'nodes whose targets are all empty' $'row r\nlong 0\nnode a:\nnode b:\nclaim > a\n' NamedAlike
 refuses 'a line before the first row' $'node a:\n'
 tell_counts

@@ -1,7 +1,7 @@
 #!/bin/bash
 # Compares docs/GUARANTEES.md with the sources. In its tables each row is '| promise | call, clause | edits |':
 # - the first name of a part (parts end at ';') is a function, `Type::function`, a type, a trait, a `crate::module` or a
-#   lemma that is there; each later one is a clause of these, or one more of them;
+#   lemma that is there; each later one is a clause of these (of a record of specs/ a field), or one more of them;
 # - the must-fail and the planted edits of all crates are named, each once or more, and no other ones.
 # The must-not-compile edits are named in its text.
 # The last line is 'N passed, M failed'. A document without rows, calls or edits fails.
@@ -36,7 +36,10 @@ for path in glob.glob('crates/*/src/**/*.rt', recursive=True):
             for one in owner:
                 clauses[one, ''].add(member[1])
 for path in glob.glob('crates/*/specs/**/*.antt', recursive=True) + glob.glob('crates/*/proofs/*.antt'):
-    lemmas.update(re.findall(r'^\s*(?:abbrev |unfoldable )?pub (?:data |record )?([\w-]+)', open(path, encoding='utf-8').read(), re.M))
+    text = open(path, encoding='utf-8').read()
+    lemmas.update(re.findall(r'^\s*(?:abbrev |unfoldable )?pub (?:data |record )?([\w-]+)', text, re.M))
+    for name, body in re.findall(r'^pub record (\w+)(.*(?:\n .*)*)', text, re.M):
+        clauses['', name].update(re.findall(r'^  pub (\w+) :', body, re.M))
 
 def calls_of(name):
     """The (owner, function) pairs that a name stands for; (Type, None) for a type, or a module, and all its functions."""

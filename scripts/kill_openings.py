@@ -32,7 +32,9 @@ def make_tree(folder):
         out.writelines(f"{target}:\n\t{recipe(target)}\n" for target in TARGETS)
     with open(f"{folder}/.make.state", "wb") as out:
         out.write(header(1))
-        out.writelines(batch([done(target, [recipe(target)], [], [])]) for target in TARGETS)
+        # Each target is done three times: a side of which half can go is written anew.
+        for _ in range(3):
+            out.writelines(batch([done(target, [recipe(target)], [], [])]) for target in TARGETS)
         out.write(b"\0")
     gone = random.sample(TARGETS, 3)
     for target in TARGETS:

@@ -47,9 +47,6 @@ class Board:
     def name(self, node):
         return LABELS[node] if node < len(self.hard) else f"#{node}"
 
-    def target(self, node):
-        return LABELS[node] if node < len(self.hard) else "none"
-
     def list_of(self, node):
         return next((name for name in LISTS if node in self.lists[name]), None)
 
@@ -78,7 +75,7 @@ class Board:
 
     def submit(self, node, named, by, record):
         run = self.runs.pop(by, None)
-        text = f"{self.target(named)} {record[0]}" + (f" {record[1]}" if record[0] == "failed" else "")
+        text = f"{self.name(named)} {record[0]}" + (f" {record[1]}" if record[0] == "failed" else "")
         if not self.takes(node, named, record, run):
             if run is not None:
                 self.runs[by] = run

@@ -21,13 +21,13 @@ add_rows() {
     done
 }
 
-# refuses WHY TEXT: of these rows one has to fail.
+# refuses WHY TEXT [SAID]: of these rows one has to fail, and that has to be said.
 refuses() {
     local out
     if out=$(printf '%s' "$2" | "${program[@]}" 2>&1); then
         echo "passed: $1"
         failed=$((failed + 1))
-    elif [ "$(tail -n 1 <<<"$out")" != '0 passed, 1 failed' ]; then
+    elif [ "$(tail -n 1 <<<"$out")" != '0 passed, 1 failed' ] || [[ $out != *"${3:-}"* ]]; then
         echo "refused otherwise: $1: $out"
         failed=$((failed + 1))
     else

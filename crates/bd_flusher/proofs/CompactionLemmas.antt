@@ -1,5 +1,5 @@
 -- Which side a site is on after a compaction or a flush, and what stands there.
-use Rattle.std.proofs.Common.{◌≡◌, ℕ, ◌+◌, Bool, List, ◌++◌, Result, Ok, Err, OnOk, sym, subst}
+use Rattle.std.proofs.Common.{◌≡◌, ℕ, ◌+◌, Bool, List, ◌++◌, Result, Ok, Err, IfErr, OnOk, sym, subst}
 use Rattle.st_disk.specs.declared.which.Which.{Which}
 use Rattle.st_disk.specs.Crash.{other}
 use Rattle.st_records.specs.declared.version.Version.{Version}
@@ -10,18 +10,22 @@ use Rattle.st_state.specs.Keepable.{kept_records}
 use Rattle.st_file.specs.Side.{HoldsUpTo}
 use Rattle.st_compaction.specs.Compacted.{HasChangedSides}
 use Rattle.bd_flusher.specs.Site.{Facts, facts}
-use Rattle.bd_flusher.specs.Flushing.{IsCompacted}
+use Rattle.bd_flusher.specs.Tidying.{IsCompacted}
 
 pub ok_map : {T E P Q : Type 0} (r : Result T E) → OnOk r P → (P → Q) → OnOk r Q
 ok_map (Ok x) h f = f h
 ok_map (Err e) h f = tt
 
+pub err_map : {T E : Type 0} {P Q : E → Type 0} (r : Result T E) → IfErr r P → ((e : E) → P e → Q e) → IfErr r Q
+err_map (Ok x) h f = tt
+err_map (Err e) h f = f e h
+
 -- a site of equal parts
-pub same_facts : {D : Type 0} {disk disk' : D} {side side' : Which} {version version' : Version} {generation generation' end end' : ℕ} {dead dead' : Bool} {state state' : StateMap} {ends ends' : List ℕ} {size size' : ℕ}
-    (opening : StateMap) (told : List Record) (tickets : List ℕ) (held : List Record)
-    → disk ≡ disk' → side ≡ side' → version ≡ version' → generation ≡ generation' → end ≡ end' → dead ≡ dead' → state ≡ state' → ends ≡ ends' → size ≡ size'
-    → facts disk side version generation end dead state opening told tickets held ends size ≡ facts disk' side' version' generation' end' dead' state' opening told tickets held ends' size'
-same_facts opening told tickets held a b c d e f g h i = cc
+pub same_facts : {D : Type 0} {disk disk' : D} {side side' : Which} {version version' : Version} {generation generation' end end' : ℕ} {dead dead' : Bool} {state state' : StateMap} {told told' : List Record} {tickets tickets' : List ℕ} {held held' : List Record} {ends ends' : List ℕ} {size size' : ℕ}
+    (opening : StateMap) → disk ≡ disk' → side ≡ side' → version ≡ version' → generation ≡ generation' → end ≡ end' → dead ≡ dead' → state ≡ state'
+    → told ≡ told' → tickets ≡ tickets' → held ≡ held' → ends ≡ ends' → size ≡ size'
+    → facts disk side version generation end dead state opening told tickets held ends size ≡ facts disk' side' version' generation' end' dead' state' opening told' tickets' held' ends' size'
+same_facts opening a b c d e f g h i j k l = cc
 
 -- what a store's compaction says, said of the site
 pub is_compacted : {D : Type 0} {honest : Type 0} {seen : D → Which → List ℕ} (old new : Facts D) → HasChangedSides old.side new.side new.version old.generation new.generation → new.size ≡ new.end

@@ -12,7 +12,7 @@ use Rattle.bd_flusher.specs.declared.fault.FlushFault.TheVariants as faults
 use Rattle.bd_flusher.specs.Faults.{fault_of}
 use Rattle.bd_flusher.specs.Site.{Facts, IsSite, KeepsRecords, told_state, held_state}
 use Rattle.bd_flusher.specs.Flushing.{HasFlushed, Flushes}
-use Rattle.bd_flusher.proofs.StepLemmas.{first_of_either}
+use Rattle.bd_flusher.proofs.ImageLemmas.{first_of_either}
 use Rattle.bd_flusher.proofs.SiteLemmas.{length_zero}
 
 -- ---- moments
@@ -35,10 +35,10 @@ same_state m k held {m0} {m1} same so_far = subst (λ (n : StateMap). Throughout
 
 -- ---- exits
 
-err_is : {T : Type 0} (f g : FlushFault) → IsErrOf {T = T} (Err f) g → f ≡ g
+pub err_is : {T : Type 0} (f g : FlushFault) → IsErrOf {T = T} (Err f) g → f ≡ g
 err_is f g e = cc
 
-not_both : (b : Bool) → b ≡ true → b ≡ false → ⊥
+pub not_both : (b : Bool) → b ≡ true → b ≡ false → ⊥
 not_both b e f = cc
 
 pub memory_is_not_device : faults.OutOfMemory ≡ faults.Device → ⊥
@@ -50,7 +50,7 @@ dead_is_not_device e = cc
 pub turn_is_not_device : (ticket expected : ℕ) → faults.OutOfTurn ticket expected ≡ faults.Device → ⊥
 turn_is_not_device ticket expected e = cc
 
-full_is_not_device : faults.Full ≡ faults.Device → ⊥
+pub full_is_not_device : faults.Full ≡ faults.Device → ⊥
 full_is_not_device e = cc
 
 unknown_is_not_device : (ticket : ℕ) → faults.Unknown ticket ≡ faults.Device → ⊥

@@ -1,15 +1,10 @@
 pub mod ListLemmas
 pub mod BatchLemmas
-pub mod HistoryLemmas
-pub mod JudgeLemmas
-pub mod StepLemmas
-pub mod PromiseLemmas
+pub mod ImageLemmas
 pub mod SiteLemmas
 pub mod TurnLemmas
 pub mod FlushLemmas
 pub mod CompactionLemmas
-pub mod RunLemmas
-pub mod OtherLemmas
-pub mod ExampleLemmas
+pub mod AnswerLemmas
 pub mod WritableLemmas
 pub mod SameLemmas

@@ -15,7 +15,7 @@ use Rattle.bd_flusher.specs.Batches.{StandsAt, AreIncreasing, last_of}
 use Rattle.bd_flusher.specs.Site.{Facts, IsSite, facts, first_facts, told_state, held_state, holding}
 use Rattle.bd_flusher.proofs.ListLemmas.{all_both}
 use Rattle.bd_flusher.proofs.BatchLemmas.{AreIncreasing-push, last_of-push}
-use Rattle.bd_flusher.proofs.StepLemmas.{first_of_either, either_is_one}
+use Rattle.bd_flusher.proofs.ImageLemmas.{first_of_either, either_is_one}
 
 pub length_zero : {X : Type 0} (xs : List X) → length xs ≡ 0 → xs ≡ []
 length_zero [] e = refl

@@ -1,8 +1,8 @@
 -- Tickets that count up by one.
-use Rattle.std.proofs.Common.{◌≡◌, ◌↔◌, ℕ, Bool, false, Err, IsErrOf, ◌+◌, ◌<◌, List, length, take, slice_get, Some, sym, ap, subst, ◌∙◌, inl, inr, arith}
+use Rattle.std.proofs.Common.{◌≡◌, ◌↔◌, ℕ, Bool, false, ◌+◌, ◌<◌, List, length, take, slice_get, Some, sym, ap, subst, ◌∙◌, inl, inr, arith}
 use Rattle.std.proofs.lemmas.Bool.{cases_lt}
 use Rattle.bd_flusher.specs.declared.fault.FlushFault.TheVariants as faults
-use Rattle.bd_flusher.specs.Flushing.{AreInTurn, IsOutOfTurn}
+use Rattle.bd_flusher.specs.Turns.{AreInTurn, IsOutOfTurn}
 use Rattle.bd_flusher.proofs.ListLemmas.{some_is, at-take, at-take_back, take-whole}
 
 pub no_tickets : (from : ℕ) (tickets : List ℕ) → AreInTurn from (take 0 tickets)
@@ -47,14 +47,14 @@ in_turn_none from tickets t e all one = one.other (all one.place t one.there ∙
 
 -- ---- how a flush tells it
 
-turn_is : {T : Type 0} (t e u f : ℕ) → IsErrOf {T = T} (Err (faults.OutOfTurn t e)) (faults.OutOfTurn u f) → (t ≡ u) × (e ≡ f)
+turn_is : (t e u f : ℕ) → faults.OutOfTurn t e ≡ faults.OutOfTurn u f → (t ≡ u) × (e ≡ f)
 turn_is t e u f same = (cc, cc)
 
-pub out_of_turn_told : {T : Type 0} (dead : Bool) (from : ℕ) (tickets : List ℕ) (t e u f : ℕ) → dead ≡ false → IsOutOfTurn from tickets t e
-    → IsErrOf {T = T} (Err (faults.OutOfTurn t e)) (faults.OutOfTurn u f) ↔ ((dead ≡ false) × IsOutOfTurn from tickets u f)
-out_of_turn_told {T} dead from tickets t e u f alive one = (
-  (λ same. let are = turn_is {T = T} t e u f same in
+pub out_of_turn_told : (dead : Bool) (from : ℕ) (tickets : List ℕ) (t e u f : ℕ) → dead ≡ false → IsOutOfTurn from tickets t e
+    → (faults.OutOfTurn t e ≡ faults.OutOfTurn u f) ↔ ((dead ≡ false) × IsOutOfTurn from tickets u f)
+out_of_turn_told dead from tickets t e u f alive one = (
+  (λ same. let are = turn_is t e u f same in
       (alive, subst (λ (n : ℕ). IsOutOfTurn from tickets u n) are.1 (subst (λ (n : ℕ). IsOutOfTurn from tickets n e) are.0 one))),
   (λ other. let are = one_turn from tickets t e u f one other.1 in
-      ap (λ n. Err (faults.OutOfTurn n e)) are.0 ∙ ap (λ n. Err (faults.OutOfTurn u n)) are.1),
+      ap (λ n. faults.OutOfTurn n e) are.0 ∙ ap (λ n. faults.OutOfTurn u n) are.1),
 )

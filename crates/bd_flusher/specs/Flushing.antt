@@ -1,40 +1,20 @@
--- What a flush and a compaction do to a site, and that this is a list of steps. Own.
-use Rattle.std.specs.Prelude.{◌≡◌, ◌≢◌, ◌⊎◌, ℕ, ◌+◌, ◌<◌, ◌≤◌, ◌^◌, true, false, List, [], ◌∷◌, ◌++◌, length, take, drop, map as list_map, Some, None, slice_get, Result, OnOk, OnErr, IsErrOf}
-use Rattle.std.specs.List.{AllByRecursion}
+-- What a flush does to a site. Own.
+use Rattle.std.specs.Prelude.{◌≡◌, ◌≢◌, ◌⊎◌, ◌↔◌, ℕ, ◌+◌, ◌-◌, ◌<◌, ◌^◌, true, false, List, [], ◌∷◌, ◌++◌, length, Result, IsOk, IfErr, OnOk, OnErr, IsErrOf}
 use Rattle.st_disk.specs.declared.which.Which.{Which}
-use Rattle.st_disk.specs.Crash.{Sides, other}
 use Rattle.st_disk.specs.Moments.{Moments, now, Throughout}
-use Rattle.st_records.specs.declared.version.Version.{Version}
+use Rattle.st_disk.specs.Faults.{Rises}
 use Rattle.st_records.specs.declared.version.Version.TheVariants as versions
 use Rattle.st_records.specs.declared.record.Record.{Record}
 use Rattle.st_state.specs.Keepable.{kept_records}
+use Rattle.st_file.specs.declared.layout.TheConstants.{HEADER_BYTES}
+use Rattle.st_file.specs.Grown.{IsFull}
 use Rattle.st_file.specs.Side.{HoldsUpTo}
-use Rattle.st_state.specs.State.{StateMap}
 use Rattle.st_recovery.specs.Stored.{AllRecover, AllRecoverEither}
 use Rattle.bd_flusher.specs.declared.fault.FlushFault.{FlushFault}
 use Rattle.bd_flusher.specs.declared.fault.FlushFault.TheVariants as faults
-use Rattle.bd_flusher.specs.declared.site.receipt.Receipt.{Receipt}
-use Rattle.bd_flusher.specs.Batches.{StandsAt, IsInBatch}
-use Rattle.bd_flusher.specs.Site.{Facts, KeepsRecords, first_facts, told_state, held_state, holding}
-use Rattle.bd_flusher.specs.World.{World, opened}
-use Rattle.bd_flusher.specs.Event.{Event, drain, compaction_call, commit_call, commit_end, look, MayHappen, after}
-use Rattle.bd_flusher.specs.Run.{IsRun, after_all}
-
--- a side that ends here is to be compacted: it is longer than 2 ^ 20 bytes and than twice what it was
-abbrev pub IsLong : (end size : ℕ) → Type 0
-IsLong end size = (2 ^ 20 < end) × (size + size < end)
-
--- the site has gone on on the other side, of version 2 and of the next generation, which holds just these records
-pub record IsOnOtherSide {D : Type 0} (honest : Type 0) (seen : D → Which → List ℕ) (old new : Facts D) (held : List Record) : Type 0 where
-  pub side : new.side ≡ other old.side
-  pub version : new.version ≡ versions.Two
-  pub generation : new.generation ≡ old.generation + 1
-  pub holds : honest → HoldsUpTo (seen new.disk (other old.side)) versions.Two (old.generation + 1) held new.end
-
--- it was compacted: the other side holds a kept record for each entry of its state, and that side's length is kept
-pub record IsCompacted {D : Type 0} (honest : Type 0) (seen : D → Which → List ℕ) (old new : Facts D) : Type 0 where
-  pub changed : IsOnOtherSide honest seen old new (kept_records old.state)
-  pub size : new.size ≡ new.end
+use Rattle.bd_flusher.specs.Site.{Facts, KeepsRecords, told_state, held_state}
+use Rattle.bd_flusher.specs.Tidying.{IsLong, IsOnOtherSide, IsCompacted}
+use Rattle.bd_flusher.specs.Turns.{IsOutOfTurn}
 
 -- what it held stands behind a compaction, which came first: on the other side, behind a kept record for each entry of the
 -- state that it had; and the length that is kept is that of a side with these alone
@@ -50,18 +30,6 @@ pub record IsBehind {D : Type 0} (honest : Type 0) (seen : D → Which → List 
   pub size : new.size ≡ old.size
   pub holds : honest → (held : List Record) → HoldsUpTo (seen old.disk old.side) old.version old.generation held old.end
       → HoldsUpTo (seen new.disk old.side) old.version old.generation (held ++ old.held) new.end
-
--- the tickets count up by one from here
-abbrev pub AreInTurn : ℕ → (tickets : List ℕ) → Type 0
-AreInTurn from tickets = (place : ℕ) (ticket : ℕ) → slice_get tickets place ≡ Some ticket → ticket ≡ from + place
-
--- this ticket is the first that isn't its turn, which would be the other number
-pub record IsOutOfTurn (from : ℕ) (tickets : List ℕ) (ticket expected : ℕ) : Type 0 where
-  pub place : ℕ
-  pub there : slice_get tickets place ≡ Some ticket
-  pub turn : expected ≡ from + place
-  pub other : ticket ≢ expected
-  pub before : AreInTurn from (take place tickets)
 
 -- all that was held is told, and where something was, in one batch more
 pub record HasFlushed {D : Type 0} (old new : Facts D) : Type 0 where
@@ -85,59 +53,36 @@ pub record Flushes {D T : Type 0} (honest : Type 0) (moments : D → Moments) (o
   pub none : old.held ≡ [] → new ≡ old
   pub was_dead : old.dead ≡ true → new ≡ old
 
--- the site is as the steps so far have left it: what it has told and what it holds are the submitted records that are told and
--- taken, and a power cut may leave of its disk what it may leave of both sides
-pub record IsLeftBy {D : Type 0} (moments : D → Moments) (s : Facts D) (w : World) : Type 0 where
-  pub opening : s.opening ≡ w.opening
-  pub told : s.told ≡ take w.told w.submitted
-  pub count : length s.told ≡ w.told
-  pub taken : s.told ++ s.held ≡ take w.taken w.submitted
-  pub both : length s.told + length s.held ≡ w.taken
-  pub ends : s.ends ≡ w.ends
-  pub dead : s.dead ≡ w.dead
-  pub sides : now (moments s.disk) ≡ w.sides
-  pub running : w.left ≡ None
+-- a compaction comes first, if one is due, at each moment of which each pair recovers what was told; then the commit, which
+-- stays on its side and at each moment of which they recover that, or what was held too. Behind a compaction that the device
+-- refused there is none
+pub record CompactsFirst {D : Type 0} (honest : Type 0) (moments : D → Moments) (seen : D → Which → List ℕ) (old new : Facts D) : Type 0 where
+  pub between : Facts D
+  pub compaction : honest → Throughout (moments old.disk) (moments between.disk) (AllRecover (told_state old))
+  pub commit : honest → Throughout (moments between.disk) (moments new.disk) (AllRecoverEither (told_state old) (held_state old))
+  pub compacted : (between ≡ old) ⊎ (IsCompacted honest seen old between ⊎ (between.dead ≡ true))
+  pub stays : (new.side ≡ between.side) × (new.generation ≡ between.generation)
+  pub refused : between.dead ≡ true → new ≡ between
 
--- a call of the device, or the end of a commit
-abbrev pub IsOfFlush : Event → Type 0
-IsOfFlush (compaction_call sides failed) = Unit {0}
-IsOfFlush (commit_call sides failed) = Unit {0}
-IsOfFlush commit_end = Unit {0}
-IsOfFlush _ = ⊥
-
--- after so many of these steps, from the first on, a power cut may leave just this
-abbrev pub ComesBy : World → List Event → Sides → Type 0
-ComesBy w events sides = (n : ℕ) × ((after_all w (take n events)).sides ≡ sides)
-
--- the steps are those of a flush, each may be made in its turn, and they leave the site so; what a power cut may leave at any
--- moment of the flush, it may leave after some of them
-pub record AreStepsOf {D : Type 0} (moments : D → Moments) (old new : Facts D) (w : World) (events : List Event) : Type 0 where
-  pub own : AllByRecursion IsOfFlush events
-  pub run : IsRun w events
-  pub left : IsLeftBy moments new (after_all w events)
-  pub each_moment : (k : ℕ) → (moments old.disk).newest ≤ k → k ≤ (moments new.disk).newest → ComesBy w events ((moments new.disk).at k)
-
--- whatever steps have left a site so, what a flush of it does is some steps more
-abbrev pub FlushesAreRuns : {D : Type 0} → (T : Type 0) → (honest : Type 0) → (D → Moments) → Type 0
-FlushesAreRuns {D} T honest moments =
-    (old new : Facts D) (result : Result T FlushFault) (w : World) → honest → Flushes honest moments old new result
-    → IsLeftBy moments old w → (events : List Event) × AreStepsOf moments old new w events
-
--- where nothing is held, and what waits on the board are the submitted records behind those that are told, to take it in is a
--- step, and leaves the site so
-abbrev pub TakesAreSteps : {D : Type 0} → (D → Moments) → Type 0
-TakesAreSteps {D} moments =
-    (s : Facts D) (w : World) (notes : List (ℕ × Record)) → IsLeftBy moments s w → s.held ≡ []
-    → list_map (λ n. n.1) notes ≡ drop w.told w.submitted → MayHappen w drain × IsLeftBy moments (holding notes s) (after w drain)
-
--- a receipt that a site's look gives may be given by a step
-abbrev pub LooksAreSteps : {D : Type 0} → (D → Moments) → Type 0
-LooksAreSteps {D} moments =
-    (s : Facts D) (w : World) (receipt : Receipt) → IsLeftBy moments s w → StandsAt s.told receipt.ticket receipt.noted
-    → IsInBatch 0 s.ends receipt.ticket receipt.batch → MayHappen w (look receipt)
-
--- a site that was just made is as an opened world before any step
-abbrev pub NewIsOpened : {D : Type 0} → (D → Moments) → Type 0
-NewIsOpened {D} moments =
-    (disk : D) (side : Which) (version : Version) (generation end : ℕ) (state : StateMap)
-    → IsLeftBy moments (first_facts disk side version generation end state) (opened state (now (moments disk)))
+-- what a flush answers, and what stands after it; `count` is how many calls of the device have failed
+pub record FlushAnswer {D T : Type 0} (honest : Type 0) (moments : D → Moments) (seen : D → Which → List ℕ) (count : D → ℕ) (old new : Facts D) (result : Result T FlushFault) : Type 0 where
+  pub flushes : Flushes honest moments old new result
+  pub in_order : old.dead ≡ false → CompactsFirst honest moments seen old new
+  pub dead : IsErrOf result faults.Dead ↔ (old.dead ≡ true)
+  pub out_of_turn : (ticket expected : ℕ) → IsErrOf result (faults.OutOfTurn ticket expected)
+      ↔ ((old.dead ≡ false) × IsOutOfTurn (length old.told) old.tickets ticket expected)
+  pub device : IsErrOf result faults.Device → Rises (count old.disk) (count new.disk)
+  pub full : IsErrOf result faults.Full → old.version ≡ versions.Two → (IsLong old.end old.size → ⊥) → IsFull old.end old.held
+  pub too_long : IsErrOf result faults.Full → IsFull new.end old.held
+      ⊎ ((old.version ≡ versions.One) × IsFull HEADER_BYTES (kept_records old.state))
+  pub old_version : IsErrOf result faults.OldVersion → (old.version ≡ versions.One) × (old.generation ≡ 2 ^ 64 - 1)
+  -- a compaction comes before the batch
+  pub compacted : 0 < length old.held → OnOk result (IsBehind honest seen old new ⊎ IsBehindCompaction honest seen old new)
+  -- what the device didn't refuse was refused before its first call, or behind a compaction
+  pub unchanged : IfErr result (λ fault. fault ≢ faults.Device → (new ≡ old) ⊎ IsCompacted honest seen old new)
+  pub no_call : old.version ≡ versions.Two → (IsLong old.end old.size → ⊥) → IfErr result (λ fault. fault ≢ faults.Device → new ≡ old)
+  -- no side is left where no compaction is due
+  pub unneeded : old.version ≡ versions.Two → (IsLong old.end old.size → ⊥)
+      → (new.side ≡ old.side) × (new.generation ≡ old.generation) × (new.size ≡ old.size)
+  pub unknown : (ticket : ℕ) → IsErrOf result (faults.Unknown ticket) → ⊥
+  pub none : length old.held ≡ 0 → (new ≡ old) × (old.dead ≡ false → IsOk result)

@@ -1,32 +1,12 @@
--- Interleavings is the promise; what it says stands in Prefix, OutOfDate and OneBatch, over World, Event and Run.
-
 -- which commit wrote a submission
 pub mod Batches
--- begun, done, failed or kept
-pub mod Kind
--- what has happened so far
-pub mod World
--- one step of any worker, and what comes of it
-pub mod Event
--- a list of steps
-pub mod Run
--- a submission whose receipt was given
-pub mod Acknowledged
--- recovery gives a prefix
-pub mod Prefix
--- what was started and isn't done is out of date
-pub mod OutOfDate
--- a receipt names one batch
-pub mod OneBatch
--- the promise, over every list of steps
-pub mod Interleavings
+-- tickets that count up
+pub mod Turns
 -- how a refusal is told
 pub mod Faults
 -- the value behind the site lock
 pub mod Site
--- what a flush does, and that it is a list of steps
+-- when a site's store is compacted, and what that leaves
+pub mod Tidying
+-- what a flush does
 pub mod Flushing
--- what others do meanwhile
-pub mod Others
--- runs that there are
-pub mod Examples

@@ -1,6 +1,6 @@
 //! The two locks, and how a worker comes to a receipt.
 
-ghost use Rattle.std.specs.Prelude.{◌≡◌, ℕ, IfOk, IsErrOf};
+ghost use Rattle.std.specs.Prelude.{◌≡◌, ℕ, IfOk, IfErr, IsErrOf};
 ghost use Rattle.bd_flusher.specs.declared.fault.FlushFault.TheVariants as faults;
 
 use crate::{FlushFault, Receipt, Site};
@@ -31,6 +31,32 @@ impl<D: Disk + Drop> Flusher<D> {
         site.flush(alloc)
     }
 
+    /// The receipt of a record, or the record again, once all that waits was written.
+    fn look_or_write<R: Wait>(
+        &self,
+        rt: &R,
+        alloc: Global,
+        site: &mut Site<D>,
+        ticket: Ticket,
+        note: Record,
+    ) -> Result<Result<Receipt, Record>, FlushFault>
+        ensures ok { IfOk result (λ found. IfOk found (λ r. (r.ticket ≡ ticket) × (r.noted ≡ note))) }
+        ensures err { IfOk result (λ found. IfErr found (λ back. back ≡ note)) }
+        ensures unknown { (other : ℕ) → IsErrOf result (faults.Unknown other) → ⊥ }
+    {
+        let note = match site.look(ticket, note) {
+            Ok(receipt) => return Ok(Ok(receipt)),
+            Err(note) => note,
+        };
+        match self.write(rt, alloc, site) {
+            Ok(()) => Ok(Err(note)),
+            Err(fault) => {
+                drop(note);
+                Err(fault)
+            }
+        }
+    }
+
     /// The receipt of a record that was submitted with this ticket. Where another worker has written it meanwhile, the receipt
     /// is there at once; else all that waits is written, and others find theirs. A batch that an earlier call left held is
     /// written first, and the record then with the next one.
@@ -45,16 +71,29 @@ impl<D: Disk + Drop> Flusher<D> {
         ensures unknown { (other : ℕ) → IsErrOf result (faults.Unknown other) → other ≡ ticket }
     {
         let mut site = self.site.lock(rt);
-        let note = match site.look(ticket, note) {
+        self.write_until_told(rt, alloc, &mut site, ticket, note)
+    }
+
+    /// The same, with the site's lock.
+    fn write_until_told<R: Wait>(
+        &self,
+        rt: &R,
+        alloc: Global,
+        site: &mut Site<D>,
+        ticket: Ticket,
+        note: Record,
+    ) -> Result<Receipt, FlushFault>
+        ensures ok { IfOk result (λ r. (r.ticket ≡ ticket) × (r.noted ≡ note)) }
+        ensures unknown { (other : ℕ) → IsErrOf result (faults.Unknown other) → other ≡ ticket }
+    {
+        let note = match self.look_or_write(rt, alloc, site, ticket, note)? {
             Ok(receipt) => return Ok(receipt),
             Err(note) => note,
         };
-        self.write(rt, alloc, &mut site)?;
-        let note = match site.look(ticket, note) {
+        let note = match self.look_or_write(rt, alloc, site, ticket, note)? {
             Ok(receipt) => return Ok(receipt),
             Err(note) => note,
         };
-        self.write(rt, alloc, &mut site)?;
         match site.look(ticket, note) {
             Ok(receipt) => Ok(receipt),
             Err(_) => Err(FlushFault::Unknown(ticket)),

@@ -14,7 +14,7 @@ ghost use Rattle.st_recovery.specs.Stored.{AllRecover};
 ghost use Rattle.st_compaction.specs.Compacted.{HasChangedSides};
 ghost use Rattle.bd_flusher.specs.declared.fault.FlushFault.TheVariants as faults;
 ghost use Rattle.bd_flusher.specs.Faults.{fault_of};
-ghost use Rattle.bd_flusher.specs.Flushing.{IsLong};
+ghost use Rattle.bd_flusher.specs.Tidying.{IsLong};
 
 use crate::FlushFault;
 use st_compaction::compact;

@@ -14,7 +14,7 @@ use Rattle.bd_links.specs.declared.stand.Stand.TheVariants.{Waiting, Ready, Runn
 use Rattle.bd_ledger.specs.Ledger.{IsLedger}
 use Rattle.bd_places.specs.Placed.{Placed, nodes_of, placed_in, IsOpen}
 use Rattle.bd_places.specs.Settling.{Prerequisites, Standing, ended, gone_on, all_gone_on, is_doomed, can_go_on, users_of, looked_at, LooksOn, Settles, IsStanding}
-use Rattle.bd_ledger.specs.Sheet.{sent_count, sent_with, last_ticket, is_kept, IsWritable, AreWritable, AreOf}
+use Rattle.bd_ledger.specs.Sheet.{AreDistinct, sent_count, sent_with, last_ticket, is_kept, IsWritable, AreWritable, AreOf}
 use Rattle.bd_links.specs.SixLists.{SixLists, code, moved}
 use Rattle.bd_links.proofs.ListLemmas.{without-none, apart}
 use Rattle.bd_places.proofs.StandingLemmas.{nowhere_else, none_from_has, below_from_has, IsStanding-ended, IsEachOnce-moved}
@@ -35,6 +35,7 @@ pub put_ledger : (a : Inside) → IsLedger a → (n : ℕ) (to : Stand) → code
     → (places : Placed) → places ≡ placed_in n to a.places → IsLedger (record a { places = places })
 put_ledger a is n to other none places e = subst (λ (p : Placed). IsLedger (record a { places = p })) (sym e) (record {
   names = is.names;
+  distinct = is.distinct;
   sent = is.sent;
   own = subst (λ xs. AreOf a.names.items a.sent.items xs a.notes.items) (sym (unflushed-moved n to a.places.standing.lists other none)) is.own;
   notes = is.notes ∙ ap length (sym (unflushed-moved n to a.places.standing.lists other none));
@@ -87,6 +88,7 @@ pub settle_ledger : (a : Inside) → IsLedger a → (n : ℕ) (end : End) → Is
     → Settles a.places.prerequisites n end a.places.standing places.standing → IsLedger (record a { places = places })
 settle_ledger a is n end standing open_ places e settles = subst (λ (p : Placed). IsLedger (record a { places = p })) (sym e) (record {
   names = is.names;
+  distinct = is.distinct;
   sent = is.sent;
   own = subst (λ xs. AreOf a.names.items a.sent.items xs a.notes.items) (sym same) is.own;
   notes = is.notes ∙ ap length (sym same);
@@ -181,6 +183,7 @@ module _ (a : Inside) (is : IsLedger a) (standing : IsStanding a.places.prerequi
   pub submit_ledger : IsLedger next
   submit_ledger = record {
     names = ap (λ v. length v.items) names ∙ is.names ∙ sym nodes_same;
+    distinct = subst (λ v. AreDistinct v.items) (sym names) is.distinct;
     sent = ap length sents ∙ length-set a.sent.items n what ∙ is.sent ∙ sym nodes_same;
     own = subst (λ xs. AreOf next.names.items next.sent.items xs next.notes.items) (sym now)
         (subst (λ v. AreOf v.items next.sent.items (a.places.standing.lists.unflushed ++ n ∷ []) next.notes.items) (sym names)

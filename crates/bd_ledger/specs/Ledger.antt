@@ -2,7 +2,7 @@
 use Rattle.std.specs.Prelude.{◌≡◌, ◌+◌, ◌<◌, ◌≤◌, length, sum_by, vec_capacity}
 use Rattle.bd_ledger.specs.declared.ledger.Ledger.TheInside.{Inside}
 use Rattle.bd_places.specs.Placed.{nodes_of}
-use Rattle.bd_ledger.specs.Sheet.{Sheet, sent_count, AreWritable, AreOf}
+use Rattle.bd_ledger.specs.Sheet.{Sheet, sent_count, AreDistinct, AreWritable, AreOf}
 
 abbrev pub sheet_of : Inside → Sheet
 sheet_of a = record {
@@ -14,10 +14,11 @@ sheet_of a = record {
   submitted = a.submitted;
 }
 
--- the tables are as long as there are nodes, the records of Unflushed are its nodes' own, can be written and have room, and the
--- counts don't run over: a node submits two records at most, and a join needs a submission before it
+-- the tables are as long as there are nodes, no two of which have one name; the records of Unflushed are its nodes' own, can be
+-- written and have room; and the counts don't run over: a node submits two records at most, and a join needs a submission before it
 pub record IsLedger (a : Inside) : Type 0 where
   pub names : length a.names.items ≡ nodes_of a.places
+  pub distinct : AreDistinct a.names.items
   pub sent : length a.sent.items ≡ nodes_of a.places
   pub own : AreOf a.names.items a.sent.items a.places.standing.lists.unflushed a.notes.items
   pub notes : length a.notes.items ≡ length a.places.standing.lists.unflushed

@@ -1,5 +1,5 @@
 -- The board as contracts see it. Own.
-use Rattle.std.specs.Prelude.{◌≡◌, ℕ, ◌+◌, Bool, true, false, List, [], ◌∷◌, ◌++◌, length, slice_index_or, slice_set, replicate, Option, Some, None}
+use Rattle.std.specs.Prelude.{◌≡◌, ℕ, ◌+◌, ◌<◌, Bool, true, false, List, [], ◌∷◌, ◌++◌, length, slice_index_or, slice_set, replicate, Option, Some, None}
 use Rattle.std.specs.List.{AllByRecursion}
 use Rattle.st_records.specs.Limits.{IsGood}
 use Rattle.st_records.specs.declared.version.Version.TheVariants.{Two}
@@ -34,6 +34,10 @@ name_of b n = slice_index_or b.names n []
 
 abbrev pub sent_by : Sheet → ℕ → Sent
 sent_by b n = slice_index_or b.sent n sent.Nothing
+
+-- no two of the names are alike, so a record's target is the name of one node at most
+abbrev pub AreDistinct : (names : List (List ℕ)) → Type 0
+AreDistinct names = (n m : ℕ) → n < length names → m < length names → slice_index_or names n [] ≡ slice_index_or names m [] → n ≡ m
 
 -- the node goes to the end of a list
 abbrev pub relisted : ℕ → Stand → Sheet → Sheet

@@ -1,13 +1,13 @@
 //! The moves of a board, and what it keeps beside the lists.
 
-ghost use Rattle.std.specs.Prelude.{◌≡◌, ◌↔◌, ℕ, ◌+◌, ◌<◌, ◌≤◌, ◌++◌, true, IfOk, IfSome, replicate, IsTrue, MatchOption, length, slice_get, vec_len, vec_capacity};
+ghost use Rattle.std.specs.Prelude.{◌≡◌, ◌↔◌, ℕ, ◌+◌, ◌<◌, ◌≤◌, [], ◌++◌, true, IfOk, IfSome, replicate, IsTrue, MatchOption, length, slice_get, vec_len, vec_capacity};
 ghost use Rattle.st_records.specs.Parts.{target_of};
 ghost use Rattle.mk_graph.specs.Edges.{row, has, times};
 ghost use Rattle.bd_ledger.specs.declared.sent.Sent.TheVariants as sent;
 ghost use Rattle.bd_links.specs.declared.stand.Stand.TheVariants.{Running};
 ghost use Rattle.bd_places.specs.Placed.{waits_in, is_open, IsOpen};
 ghost use Rattle.bd_places.specs.Settling.{end_of, is_free, IsStanding};
-ghost use Rattle.bd_ledger.specs.Sheet.{first_sheet, nodes_on, name_of, sent_by, relisted, drained, sent_with, sent_count, submits, IsWritable, AreWritable, AreOf, SettlesOn};
+ghost use Rattle.bd_ledger.specs.Sheet.{first_sheet, nodes_on, name_of, AreDistinct, sent_by, relisted, drained, sent_with, sent_count, submits, IsWritable, AreWritable, AreOf, SettlesOn};
 ghost use Rattle.bd_links.specs.SixLists.{code, list_in, StandsIn};
 
 use crate::{Sent, Ticket};
@@ -80,6 +80,19 @@ fn nothing_sent(alloc: Global, nodes: usize) -> Result<Vec<Sent>, AllocError>
     Ok(vec![in alloc; Sent::Nothing; nodes]?)
 }
 
+/// Moves all records of one vector to the end of another, which has the room for them. Neither grows.
+fn hand_over(notes: &mut Vec<(Ticket, Record)>, records: &mut Vec<(Ticket, Record)>)
+    requires { vec_len records.old + vec_len notes.old ≤ vec_capacity records.old }
+    ensures records { records.new.items ≡ records.old.items ++ notes.old.items }
+    ensures notes { notes.new.items ≡ [] }
+    ensures capacity { vec_capacity records.new ≡ vec_capacity records.old }
+    ensures notes_capacity { vec_capacity notes.new ≡ vec_capacity notes.old }
+{
+    for note in notes.drain(..) {
+        records.push_reserved(note);
+    }
+}
+
 impl Ledger {
     /// The nodes that wait for nothing in Ready, the others in Waiting.
     pub fn new(
@@ -90,6 +103,7 @@ impl Ledger {
     ) -> Result<Ledger, AllocError>
         requires nodes { length hard ≡ length counted }
         requires names { length names.items ≡ length counted }
+        requires distinct { AreDistinct names.items }
         requires once { (u n : ℕ) → times n (row counted u) ≤ 1 }
         requires room { length counted + length counted + 6 ≤ usize.MAX }
         ensures { IfOk result (λ l. l ≡ first_sheet (record { counted = counted; hard = hard }) names.items) }
@@ -108,6 +122,7 @@ impl Ledger {
     pub fn stand(&self, node: Node) -> Option<Stand>
         ensures stand { MatchOption result (nodes_on self.now ≤ node) (λ s. (node < nodes_on self.now) × StandsIn self.now.standing.lists node s) }
         ensures standing { IsStanding self.now.prerequisites (nodes_on self.now) self.now.standing }
+        ensures distinct { AreDistinct self.now.names }
     {
         self.places.stand(node)
     }
@@ -207,18 +222,19 @@ impl Ledger {
         ticket
     }
 
-    /// All of Unflushed goes to the end of Flushing, and its records to the vector.
+    /// All of Unflushed goes to the end of Flushing, and its records to the vector, which doesn't grow.
     pub fn drain(&mut self, records: &mut Vec<(Ticket, Record)>)
         requires { vec_len records.old + length self.old.standing.lists.unflushed ≤ vec_capacity records.old }
         ensures drained { self.new ≡ drained self.old }
         ensures records { records.new.items ≡ records.old.items ++ self.old.notes }
+        ensures capacity { vec_capacity records.new ≡ vec_capacity records.old }
         ensures own { AreOf self.old.names self.old.sent self.old.standing.lists.unflushed self.old.notes }
         ensures writable { AreWritable self.old.notes }
     {
         if self.notes.is_empty() {
             return;
         }
-        records.append(&mut self.notes).unwrap();
+        hand_over(&mut self.notes, records);
         self.places.join();
     }
 

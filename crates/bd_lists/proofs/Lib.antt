@@ -1,3 +1,4 @@
+pub mod InTurnLemmas
 pub mod KeptLemmas
 pub mod OnceLemmas
 pub mod RunLemmas

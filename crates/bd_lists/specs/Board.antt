@@ -1,5 +1,5 @@
 -- What a board takes, and what its calls leave. Own.
-use Rattle.std.specs.Prelude.{◌≡◌, ℕ, true, false, Option, Some, None}
+use Rattle.std.specs.Prelude.{◌≡◌, ℕ, ◌<◌, true, false, Option, Some, None}
 use Rattle.mk_graph.specs.Edges.{has}
 use Rattle.st_records.specs.declared.record.Record.{Record}
 use Rattle.st_records.specs.declared.record.Record.TheVariants as records
@@ -12,10 +12,11 @@ use Rattle.bd_places.specs.declared.end.End.TheVariants as end
 use Rattle.bd_ledger.specs.declared.sent.Sent.TheVariants as sent
 use Rattle.bd_links.specs.declared.stand.Stand.TheVariants.{Running}
 use Rattle.bd_lists.specs.Admission.{Run, MaySend}
-use Rattle.bd_ledger.specs.Sheet.{Sheet, name_of, sent_by, last_ticket, is_kept, is_quiet, relisted, SettlesOn}
+use Rattle.bd_ledger.specs.Sheet.{Sheet, nodes_on, name_of, sent_by, last_ticket, is_kept, is_quiet, relisted, SettlesOn}
 
--- the node is in Running, the record is of its target, and the node may submit it
+-- the node is one of the board and in Running, the record is of its target, and the node may submit it
 pub record IsTaken (b : Sheet) (n : ℕ) (note : Record) (run : Option Run) : Type 0 where
+  pub within : n < nodes_on b
   pub runs : has b.standing.lists.running n ≡ true
   pub own : target_of note ≡ name_of b n
   pub kind : MaySend (sent_by b n) note run

@@ -1,3 +1,4 @@
 pub mod Admission
 pub mod Board
+pub mod InTurn
 pub mod Running

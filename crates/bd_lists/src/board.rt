@@ -11,7 +11,7 @@ ghost use Rattle.bd_lists.specs.Admission.{run_of};
 ghost use Rattle.bd_lists.specs.Board.{IsTaken, CanAdvance, Advances, IsUntouched, handed_out, end_noted};
 ghost use Rattle.bd_places.specs.Placed.{waits_in, IsOpen};
 ghost use Rattle.bd_places.specs.Settling.{end_of, is_free, IsStanding};
-ghost use Rattle.bd_ledger.specs.Sheet.{first_sheet, nodes_on, relisted, drained, submits, is_kept, is_quiet, last_ticket, AreWritable, AreOf, SettlesOn};
+ghost use Rattle.bd_ledger.specs.Sheet.{first_sheet, nodes_on, AreDistinct, relisted, drained, submits, is_kept, is_quiet, last_ticket, AreWritable, AreOf, SettlesOn};
 ghost use Rattle.bd_links.specs.SixLists.{StandsIn};
 
 mod admission;
@@ -96,8 +96,8 @@ fn hand_out<T>(run: Option<Spent<T>>) -> Option<T>
 }
 
 impl<T: Told> Board<T> {
-    /// The board of nodes with these prerequisites: those that they wait for, each once, and those without which they can't be
-    /// made. Nodes that wait for nothing are in Ready, the others in Waiting.
+    /// The board of nodes with these names, no two of them alike, and these prerequisites: those that they wait for, each once,
+    /// and those without which they can't be made. Nodes that wait for nothing are in Ready, the others in Waiting.
     pub fn of(
         alloc: Global,
         counted: Edges,
@@ -106,6 +106,7 @@ impl<T: Told> Board<T> {
     ) -> Result<Board<T>, AllocError>
         requires nodes { length hard ≡ length counted }
         requires names { length names.items ≡ length counted }
+        requires distinct { AreDistinct names.items }
         requires once { (u n : ℕ) → times n (row counted u) ≤ 1 }
         requires room { length counted + length counted + 6 ≤ usize.MAX }
         ensures { IfOk result (λ b. b ≡ first_sheet (record { counted = counted; hard = hard }) names.items) }
@@ -160,6 +161,7 @@ impl<T: Told> Board<T> {
     pub fn stand(&self, node: Node) -> Option<Stand>
         ensures stand { MatchOption result (nodes_on self.now ≤ node) (λ s. (node < nodes_on self.now) × StandsIn self.now.standing.lists node s) }
         ensures standing { IsStanding self.now.prerequisites (nodes_on self.now) self.now.standing }
+        ensures distinct { AreDistinct self.now.names }
     {
         self.ledger.stand(node)
     }
@@ -186,11 +188,13 @@ impl<T: Told> Board<T> {
         self.ledger.unflushed()
     }
 
-    /// All of Unflushed goes to the end of Flushing, and its records to the vector, each with its ticket.
+    /// All of Unflushed goes to the end of Flushing, and its records to the vector, each with its ticket. The vector
+    /// doesn't grow.
     pub fn drain(&mut self, records: &mut Vec<(Ticket, Record)>)
         requires { vec_len records.old + length self.old.standing.lists.unflushed ≤ vec_capacity records.old }
         ensures drained { self.new ≡ drained self.old }
         ensures records { records.new.items ≡ records.old.items ++ self.old.notes }
+        ensures capacity { vec_capacity records.new ≡ vec_capacity records.old }
         ensures own { AreOf self.old.names self.old.sent self.old.standing.lists.unflushed self.old.notes }
         ensures writable { AreWritable self.old.notes }
     {

@@ -4,10 +4,12 @@
 
 mod board;
 mod exec;
+mod laws;
 mod recipe;
 mod told;
 
 pub use board::{Advanced, Board, Clearance, Spent};
 pub use exec::{Ended, Exec, ExecFault};
+pub use laws::each_in_turn;
 pub use recipe::{Recipe, Variable};
 pub use told::Told;

@@ -1,4 +1,5 @@
 //! The graph of a row, and its board.
+use crate::distinct::are_distinct;
 use crate::nodes::Nodes;
 use crate::sets::are_sets;
 use bd_links::Node;
@@ -81,7 +82,7 @@ impl Graph {
         Ok(targets)
     }
 
-    /// The board of the graph, whose soft edges count unless they make a cycle.
+    /// The board of the graph, whose soft edges count unless they make a cycle. No two nodes may have one name.
     pub(crate) fn board<T: Told>(
         self,
         alloc: Global,
@@ -113,6 +114,9 @@ fn board<T: Told>(
     }
     if !are_sets(&counted) {
         return Err(RowFault::Word);
+    }
+    if !are_distinct(alloc, &targets)? {
+        return Err(RowFault::NamedAlike);
     }
     Ok(Board::of(alloc, counted, hard, targets)?)
 }

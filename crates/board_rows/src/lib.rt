@@ -5,6 +5,7 @@
 
 mod cleared;
 mod desk;
+mod distinct;
 mod ends;
 mod graph;
 mod lists;

@@ -4,7 +4,8 @@ use byte_strings::ByteString;
 use row_files::{RowFault, Words, number};
 use std::alloc::{AllocError, Global};
 
-/// The nodes' labels in number order. A node's target is its label so many times, or `none` where it has no label.
+/// The nodes' labels in number order. A node's name is its label, or `#` and its number where it has none, and its target is
+/// that name so many times.
 #[derive(Drop)]
 pub(crate) struct Nodes<'a> {
     pub(crate) labels: Vec<&'a str>,
@@ -41,13 +42,11 @@ impl Nodes<'_> {
     }
 
     pub(crate) fn target(&self, alloc: Global, node: Node) -> Result<ByteString, AllocError> {
-        let label = match self.labels.get(node.number()) {
-            Some(label) => *label,
-            None => return ByteString::from_slice(alloc, b"none"),
-        };
+        let mut name = String::new(alloc);
+        self.write(node, &mut name)?;
         let mut bytes = Vec::new(alloc);
         for _time in 0..self.times {
-            bytes.extend_from_slice(label.as_bytes())?;
+            bytes.extend_from_slice(name.as_bytes())?;
         }
         Ok(ByteString::new(bytes))
     }

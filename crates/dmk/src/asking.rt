@@ -5,6 +5,7 @@ ghost use Rattle.dmk_drive.specs.Output.{AsksToLook};
 
 use crate::command_line::{Request, read_words};
 use crate::host_files::HostFiles;
+use crate::reasons::print_reasons;
 use crate::standard_streams::with_patience;
 use bd_lists::Variable;
 use dmk_drive::{Fault, Message, Mode, Options, drive, print_fault, value_of};
@@ -41,18 +42,28 @@ impl Look {
         let folder = SystemFolder::new(host, alloc, options.state.as_str())?;
         let mut out = Vec::new(alloc);
         let mut err = Vec::with_capacity(alloc, FAULT_BYTES)?;
-        let (status, _disk) = drive(
+        let mut makefiles = HostFiles::tree(host);
+        let (reply, disk) = drive(
             alloc,
             HashKey::from_system(&host),
             options,
             environment,
             &mut HostFiles::tree(host),
-            &mut HostFiles::tree(host),
+            &mut makefiles,
             FileDisk::new(folder),
             &mut out,
             &mut err,
         );
-        Ok(Look { status, out, err })
+        // A vector takes a line as long as there is memory.
+        if !reply.is_told {
+            return Err(AllocError);
+        }
+        print_reasons(&mut err, &makefiles, &disk);
+        Ok(Look {
+            status: reply.status,
+            out,
+            err,
+        })
     }
 
     /// Looks, unless a run is asked for.
@@ -70,7 +81,7 @@ impl Look {
     /// Looks once more, for what the words ask.
     fn again(host: HostRuntime, environment: &[Variable]) -> Result<Option<Look>, AllocError> {
         match read_words(host) {
-            Ok(Request::Make(options)) => Look::if_asked(host, options, environment),
+            Ok(Request::Make(asked)) => Look::if_asked(host, asked.options, environment),
             _ => Ok(None),
         }
     }

@@ -21,10 +21,20 @@ variable KEEP_STATE, state is kept in .make.state and .make.state.2 (-K names ot
 
 Status: 0 all is well; 1 a target failed, or -q found one out of date; 2 a fault, told on standard error.";
 
+/// What the words ask of a run, and in which folder.
+#[derive(Drop)]
+pub struct Asked {
+    /// The folders that are gone to first, each from the one before.
+    pub folders: Vec<String>,
+    /// The folder is told where the run begins and where it ends.
+    pub tells_folder: bool,
+    pub options: Options,
+}
+
 /// What the words ask for.
 #[derive(Drop)]
 pub enum Request {
-    Make(Options),
+    Make(Asked),
     /// Nothing more: what there was to say was said. The program ends with this status.
     Leave(u8),
 }
@@ -42,6 +52,10 @@ pub enum WordsFault {
     /// `-f -` or `-K -`.
     #[error("standard input can't stand for a file")]
     StandardInput,
+    #[error("-t isn't supported: it would call targets made that aren't")]
+    Touch,
+    #[error("-l isn't supported: how busy the machine is isn't looked at")]
+    Load,
 }
 
 impl From<io::Error> for WordsFault {
@@ -62,11 +76,25 @@ impl From<AllocError> for WordsFault {
 /// Reads the words, and prints the help, the version or what is wrong with them.
 pub fn read_words(rt: HostRuntime) -> Result<Request, WordsFault> {
     let words = env::args(&rt)?.collect::<Vec<String>>(rt.alloc())?;
-    match read_options(rt.alloc(), words.as_slice()) {
-        Ok(options) if names_standard_input(&options) => Err(WordsFault::StandardInput),
-        Ok(options) => Ok(Request::Make(options)),
+    match find(rt.alloc(), words.as_slice()) {
+        Ok(found) => request_of(rt.alloc(), &found),
         Err(answer) => say(rt, answer),
     }
+}
+
+// What the words that were found ask for, unless it is refused by name.
+fn request_of(alloc: Global, found: &ArgMatches<'_>) -> Result<Request, WordsFault> {
+    if found.get_count("touches") > 0 {
+        return Err(WordsFault::Touch);
+    }
+    if found.contains_id("load") {
+        return Err(WordsFault::Load);
+    }
+    let asked = asked_of(alloc, found)?;
+    if names_standard_input(&asked.options) {
+        return Err(WordsFault::StandardInput);
+    }
+    Ok(Request::Make(asked))
 }
 
 fn names_standard_input(options: &Options) -> bool {
@@ -160,6 +188,38 @@ fn with_flags(alloc: Global, command: Command<'_>) -> Result<Command<'_>, AllocE
         .arg(flag(alloc, 'i', "ignore", "Ignore the statuses of all lines"))
 }
 
+fn with_folders(alloc: Global, command: Command<'_>) -> Result<Command<'_>, AllocError> {
+    let folders = Arg::new(alloc, "folders")
+        .short('C')
+        .value_name("DIR")
+        .action(ArgAction::Append)
+        .help("Go to DIR before all else; a further one counts from there");
+    let untold = Arg::new(alloc, "untold")
+        .long("no-print-directory")
+        .action(ArgAction::Count)
+        .help("Don't tell the folder, though there is -C");
+    command
+        .arg(folders)?
+        .arg(flag(
+            alloc,
+            'w',
+            "told",
+            "Tell the folder at the beginning and at the end, as -C does",
+        ))?
+        .arg(untold)
+}
+
+// Options of other makes that are refused by name, with the reason.
+fn with_refused(alloc: Global, command: Command<'_>) -> Result<Command<'_>, AllocError> {
+    let load = Arg::new(alloc, "load")
+        .short('l')
+        .num_args(0..=1)
+        .hide(true);
+    command
+        .arg(flag(alloc, 't', "touches", "").hide(true))?
+        .arg(load)
+}
+
 fn with_words(alloc: Global, command: Command<'_>) -> Result<Command<'_>, AllocError> {
     let words = Arg::new(alloc, "words")
         .value_name("NAME=VALUE | TARGET")
@@ -206,8 +266,26 @@ fn options_of(alloc: Global, found: &ArgMatches<'_>) -> Result<Options, AllocErr
     })
 }
 
-/// What the words ask for, or clap's answer where there is help, the version or a mistake to be told of.
-fn read_options(alloc: Global, words: &[String]) -> Result<Options, clap::Error> {
+/// The folders that were found.
+fn folders_of(alloc: Global, found: &ArgMatches<'_>) -> Result<Vec<String>, AllocError> {
+    let mut folders = Vec::new(alloc);
+    for folder in found.get_strs("folders").unwrap_or(&[]) {
+        folders.push(String::from_str(alloc, *folder)?)?;
+    }
+    Ok(folders)
+}
+
+/// Whether the folder is told: -w asks for it, and so does -C, but for -s and where it is told not to. A question prints nothing.
+fn tells_folder(found: &ArgMatches<'_>) -> bool {
+    if found.get_count("asks") > 0 || found.get_count("untold") > 0 {
+        return false;
+    }
+    found.get_count("told") > 0
+        || found.get_strs("folders").is_some() && found.get_count("silent") == 0
+}
+
+/// The words by what they are, or clap's answer where there is help, the version or a mistake to be told of.
+fn find<'w>(alloc: Global, words: &'w [String]) -> Result<ArgMatches<'w>, clap::Error> {
     let command = Command::new(alloc, "dmk")
         .bin_name("dmk")?
         .version("0.1.0")
@@ -215,11 +293,19 @@ fn read_options(alloc: Global, words: &[String]) -> Result<Options, clap::Error>
         .after_help(AFTER);
     let command = with_values(alloc, command)?;
     let command = with_flags(alloc, command)?;
-    let command = with_words(alloc, command)?;
-    let found = command.try_get_matches_from(words)?;
-    let mut options = options_of(alloc, &found)?;
+    let command = with_folders(alloc, command)?;
+    let command = with_refused(alloc, command)?;
+    with_words(alloc, command)?.try_get_matches_from(words)
+}
+
+fn asked_of(alloc: Global, found: &ArgMatches<'_>) -> Result<Asked, AllocError> {
+    let mut options = options_of(alloc, found)?;
     for word in found.get_strs("words").unwrap_or(&[]) {
         add_word(alloc, &mut options, *word)?;
     }
-    Ok(options)
+    Ok(Asked {
+        folders: folders_of(alloc, found)?,
+        tells_folder: tells_folder(found),
+        options,
+    })
 }

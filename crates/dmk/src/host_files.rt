@@ -12,9 +12,7 @@ pub struct HostFiles {
 
 impl HostFiles {
     pub fn tree(rt: HostRuntime) -> FileTree<HostFiles> {
-        FileTree {
-            calls: HostFiles { rt },
-        }
+        FileTree::new(HostFiles { rt })
     }
 }
 

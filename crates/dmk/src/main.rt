@@ -9,23 +9,27 @@ mod asking;
 mod child_signal;
 mod command_line;
 mod environment;
+mod folder;
 mod host_files;
 mod lock_file;
 mod pool_path;
+mod reasons;
 mod standard_streams;
 mod state_lock;
 
 use asking::ask;
 use bd_lists::Variable;
 use child_signal::run_anew;
-use command_line::{Request, read_words};
+use command_line::{Asked, Request, read_words};
 use dmk_drive::{Fault, Message, Mode, Options, value_of};
 use dmk_run::{Means, Printer, build_targets};
 use environment::read_environment;
+use folder::{FolderFault, enter, tell};
 use host_files::HostFiles;
 use jb_host::{HOLDS, HostPlace, Shell};
 use jb_slots::FifoBanks;
 use pool_path::PoolPath;
+use reasons::print_reasons;
 use st_disk::{FileDisk, SystemFolder};
 use st_records::HashKey;
 use standard_streams::{buffered, held_streams, with_patience};
@@ -37,9 +41,9 @@ use std::thread::Threads;
 
 fn main(rt: HostRuntime) -> ExitCode {
     match read_words(rt) {
-        Ok(Request::Make(options)) => match run_anew(rt) {
+        Ok(Request::Make(asked)) => match run_anew(rt) {
             Some(status) => ExitCode::from(status),
-            None => ExitCode::from(run(&rt, rt, options)),
+            None => ExitCode::from(run_there(&rt, rt, asked)),
         },
         Ok(Request::Leave(status)) => ExitCode::from(status),
         Err(fault) => {
@@ -47,6 +51,39 @@ fn main(rt: HostRuntime) -> ExitCode {
             ExitCode::from(2)
         }
     }
+}
+
+/// Runs in its folder what the words ask for, and answers the status.
+fn run_there<R: Threads + Wait + Sync>(rt: &R, host: HostRuntime, asked: Asked) -> u8 {
+    let Asked {
+        folders,
+        tells_folder,
+        options,
+    } = asked;
+    if let Err(fault) = begin(host, &folders, tells_folder) {
+        return refused(host, fault);
+    }
+    let status = run(rt, host, options);
+    if !tells_folder {
+        return status;
+    }
+    match tell(host, "Leaving") {
+        Ok(()) => status,
+        Err(fault) => refused(host, fault),
+    }
+}
+
+fn begin(host: HostRuntime, folders: &[String], tells_folder: bool) -> Result<(), FolderFault> {
+    enter(host, folders)?;
+    if tells_folder {
+        tell(host, "Entering")?;
+    }
+    Ok(())
+}
+
+fn refused(host: HostRuntime, fault: FolderFault) -> u8 {
+    let _ = eprintln!(host; "dmk: {fault}");
+    2
 }
 
 /// Runs what the words ask for, and answers the status.
@@ -110,17 +147,20 @@ fn make<R: Threads + Wait + Sync>(
         say: &printer,
         place: &place,
     };
-    let (status, _disk) = build_targets(
+    let mut makefiles = HostFiles::tree(host);
+    let (status, disk) = build_targets(
         rt,
         alloc,
         &means,
         &mut guard,
         options,
         &mut HostFiles::tree(host),
-        &mut HostFiles::tree(host),
+        &mut makefiles,
         &mut FifoBanks::new(host, "mkfifo"),
         FileDisk::new(folder),
     );
     pool.release();
+    let (_out, mut err) = printer.into_streams();
+    print_reasons(&mut err, &makefiles, &disk);
     Ok(status)
 }

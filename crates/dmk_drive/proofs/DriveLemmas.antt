@@ -1,14 +1,18 @@
 -- What was printed and answered, in the words of the plan.
-use Rattle.std.proofs.Common.{arith, ◌≡◌, ◌≢◌, ◌⊎◌, ◌||◌, ◌∙◌, inl, inr, ℕ, ℤ, Bool, true, false, not, List, Option, Result, Ok, Err, IfOk, IsOk, IsErr, refl, sym, ap, subst}
+use Rattle.std.proofs.Common.{arith, ◌≡◌, ◌≢◌, ◌⊎◌, ◌∙◌, inl, inr, ℕ, ℤ, Bool, true, false, not, List, Option, Result, Ok, Err, IfOk, IfErr, IsOk, IsErr, IsErrOf, refl, sym, ap, subst}
 use Rattle.std.specs.Io.KnownBytes.{Appends, Keeps}
 use Rattle.mk_reader.specs.Text.{is_empty}
 use Rattle.mk_reader.specs.declared.item.Item.{Item}
 use Rattle.mk_recipe.specs.declared.line.Line.{Line}
 use Rattle.st_disk.specs.declared.which.Which.{Which}
-use Rattle.dmk_drive.specs.Output.{AppendsPart, mode_of, question_status}
+use Rattle.st_file.specs.declared.fault.OpenFault.TheVariants as open_fault
+use Rattle.dmk_drive.specs.Faults.{IsFaultOf}
+use Rattle.dmk_drive.specs.Messages.{SaysFault, SaysCut}
+use Rattle.dmk_drive.specs.Output.{AppendsPart, CutsListing, TellsFault, mode_of, question_status}
 use Rattle.dmk_drive.specs.Passing.{listing_text}
 use Rattle.dmk_drive.specs.Planned.{AreItems, Tells, Plans}
 use Rattle.dmk_drive.specs.declared.fault.Fault.{Fault}
+use Rattle.dmk_drive.specs.declared.fault.Fault.TheVariants.{State}
 use Rattle.dmk_drive.specs.declared.options.Mode.{Mode}
 use Rattle.dmk_drive.specs.declared.options.Mode.TheVariants as mode
 use Rattle.dmk_drive.specs.declared.planning.DryRun.{DryRun}
@@ -46,17 +50,19 @@ module _ (Answers : List ℕ → Option (List ℕ) → Type 0) (Absent : List �
 
   pub listed_plan : (old new : Option (List ℕ)) (got : Result DryRun Fault) → IfOk got Told → IsOk got →
       IfOk got (λ run. Appends old new run.text.items) → (Quiet : Type 0) → IfOk got (λ run. run.soft_dropped ≡ false → Quiet) →
+      (Says : Bool → Type 0) → IfOk got (λ run. Says run.soft_dropped) →
       (plan : List (List Line)) × (dropped : Bool)
       × Plans Answers Absent named definitions environment targets honest stamps disk_honest seen plan dropped
-      × Appends old new (listing_text plan) × (dropped ≡ false → Quiet)
-  listed_plan old new (Ok run) (items, are, tells) found appended Quiet quiet = (
+      × Appends old new (listing_text plan) × (dropped ≡ false → Quiet) × Says dropped
+  listed_plan old new (Ok run) (items, are, tells) found appended Quiet quiet Says says = (
     tells.listed,
     run.soft_dropped,
     record { items = items; are_items = are; planned = tells.planned },
     subst (Appends old new) tells.text appended,
     quiet,
+    says,
   )
-  listed_plan old new (Err f) told found appended Quiet quiet = absurd (no_value found)
+  listed_plan old new (Err f) told found appended Quiet quiet Says says = absurd (no_value found)
 
   pub asked_plan : (status : ℕ) (got : Result DryRun Fault) → IfOk got Told → IsOk got →
       IfOk got (λ run. (listed : List (List Line)) → run.lists_any ≡ not (is_empty listed) → status ≡ question_status listed) →
@@ -70,18 +76,24 @@ module _ (Answers : List ℕ → Option (List ℕ) → Type 0) (Absent : List �
   )
   asked_plan status (Err f) told found answered = absurd (no_value found)
 
-  pub refused_plan : (status : ℕ) (old new : Option (List ℕ)) (got : Result DryRun Fault) → IfOk got Told →
-      (IsErr got → (status ≡ 2) × Keeps old new) → IfOk got (λ run. AppendsPart old new run.text.items) →
-      Keeps old new ⊎ ((plan : List (List Line)) × (dropped : Bool)
-      × Plans Answers Absent named definitions environment targets honest stamps disk_honest seen plan dropped × AppendsPart old new (listing_text plan))
-  refused_plan status old new (Ok run) (items, are, tells) refused part =
-      inr (
-        tells.listed,
-        run.soft_dropped,
-        record { items = items; are_items = are; planned = tells.planned },
-        subst (AppendsPart old new) tells.text part,
-      )
-  refused_plan status old new (Err f) told refused part = inl ((refused refl).1)
+  -- a fault that was found is told, and the listing of what was found is cut short
+  pub refused_plan : (Meets : Fault → Type 0) (Failed : Type 0) (told : Bool) (old new err err_after : Option (List ℕ)) (got : Result DryRun Fault) →
+      IfOk got Told → IfErr got Meets → (IsErrOf got (State open_fault.Device) → Failed) → (IsErr got → Keeps old new) →
+      IfErr got (λ f. told ≡ true → SaysFault err err_after f) →
+      IfOk got (λ run. AppendsPart old new run.text.items) → IfOk got (λ run. SaysCut err err_after told run.soft_dropped) →
+      TellsFault (λ f. Meets f × (f ≡ State open_fault.Device → Failed)) told old new err err_after
+      ⊎ CutsListing (Plans Answers Absent named definitions environment targets honest stamps disk_honest seen) told old new err err_after
+  refused_plan Meets Failed told old new err err_after (Ok run) (items, are, tells) meets failed kept line part cut =
+      inr (record {
+        plan = tells.listed;
+        dropped = run.soft_dropped;
+        planned = record { items = items; are_items = are; planned = tells.planned };
+        part = subst (AppendsPart old new) tells.text part;
+        line = cut;
+      })
+  refused_plan Meets Failed told old new err err_after (Err f) found meets failed kept line part cut =
+      let as_result : Fault → Result DryRun Fault = λ g. Err g in
+      inl (record { fault = f; meets = (meets, λ is. failed (ap as_result is)); silent = kept refl; line = line })
 
 pub told_of : (Answers : List ℕ → Option (List ℕ) → Type 0) (Absent : List ℕ → Type 0) (named name : Option (List ℕ))
     (definitions defined environment : List Variable) (targets : List (List ℕ)) (honest : Type 0) (stamps : List ℕ → Option ℤ)
@@ -91,3 +103,12 @@ pub told_of : (Answers : List ℕ → Option (List ℕ) → Type 0) (Absent : Li
 told_of Answers Absent named name definitions defined environment targets honest stamps disk_honest seen got is_name is_defined told =
     subst (λ n. IfOk got (Told Answers Absent n definitions environment targets honest stamps disk_honest seen)) is_name
     (subst (λ d. IfOk got (Told Answers Absent name d environment targets honest stamps disk_honest seen)) is_defined told)
+
+pub fault_of : (Answers : List ℕ → Option (List ℕ) → Type 0) (named name : Option (List ℕ)) (definitions defined environment : List Variable)
+    (targets : List (List ℕ)) (honest : Type 0) (stamps : List ℕ → Option ℤ) (refuses : List ℕ → Type 0) (disk_honest : Type 0)
+    (seen : Which → List ℕ) (got : Result DryRun Fault) → name ≡ named → defined ≡ definitions →
+    IfErr got (IsFaultOf Answers name defined environment targets honest stamps refuses disk_honest seen) →
+    IfErr got (IsFaultOf Answers named definitions environment targets honest stamps refuses disk_honest seen)
+fault_of Answers named name definitions defined environment targets honest stamps refuses disk_honest seen got is_name is_defined meets =
+    subst (λ n. IfErr got (IsFaultOf Answers n definitions environment targets honest stamps refuses disk_honest seen)) is_name
+    (subst (λ d. IfErr got (IsFaultOf Answers name d environment targets honest stamps refuses disk_honest seen)) is_defined meets)

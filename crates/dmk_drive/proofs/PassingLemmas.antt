@@ -1,5 +1,5 @@
 -- What stays true while the nodes of a graph are passed, and what its order says.
-use Rattle.std.proofs.Common.{◌≡◌, ◌+◌, ◌⊎◌, inl, inr, ℕ, Bool, true, false, not, ◌&&◌, ◌||◌, nat_lt, List, [], ◌∷◌, ◌++◌, length, drop, set, refl, sym, subst, append_assoc}
+use Rattle.std.proofs.Common.{◌≡◌, ◌+◌, ◌⊎◌, inl, inr, ℕ, Bool, true, false, not, ◌&&◌, ◌||◌, nat_lt, List, [], ◌∷◌, ◌++◌, length, drop, set, refl, sym, subst, append_assoc, true≢false}
 use Rattle.std.proofs.lemmas.Bool.{and_parts, and_from}
 use Rattle.std.proofs.lemmas.Grind.{flat_map-append}
 use Rattle.std.specs.List.{list_all}
@@ -63,6 +63,11 @@ pub listed_all : (keeping : Bool) (graph : Graph) (marks : List Bool) (i : ℕ) 
     drop i graph.order.items ≡ [] → listed ++ [] ≡ listed → ListedSoFar keeping graph marks i listed → IsListing keeping graph listed
 listed_all keeping graph marks i listed none same before =
     subst (IsListing keeping graph) same (before [] (subst (λ left. Lists keeping graph marks left []) (sym none) at_end))
+
+-- of a node that isn't listed there are no lines
+pub not_listed : (front : List (List Line)) → not (is_empty front) ≡ false → front ≡ []
+not_listed [] none = refl
+not_listed (lines ∷ front) none = absurd (true≢false none)
 
 -- the text of more
 pub text_more : (listed front : List (List Line)) → listing_text (listed ++ front) ≡ listing_text listed ++ listing_text front

@@ -17,9 +17,9 @@ use Rattle.st_state.specs.State.{StateMap}
 use Rattle.st_recovery.specs.Recovers.{RefusesWith}
 use Rattle.dmk_drive.specs.Definitions.{first_defined}
 use Rattle.dmk_drive.specs.Keeping.{keeps}
-use Rattle.dmk_drive.specs.Makefile.{IsMakefile, HasNoMakefile}
+use Rattle.dmk_drive.specs.Makefile.{IsAbsent, MayBeThere, IsMakefile, HasNoMakefile}
 use Rattle.dmk_drive.specs.Passing.{IsListingFault}
-use Rattle.dmk_drive.specs.Planned.{IsStateOn, IsGraphOf}
+use Rattle.dmk_drive.specs.Planned.{AreItems, IsStateOn, IsGraphOf}
 use Rattle.dmk_drive.specs.declared.fault.Fault.{Fault}
 use Rattle.dmk_drive.specs.declared.fault.Fault.TheVariants as fault
 use Rattle.bd_lists.specs.declared.recipe.Variable.{Variable}
@@ -69,3 +69,12 @@ IsRunFault Text Items Plan (fault.State f) = (items : List Item) × Items items 
 IsRunFault Text Items Plan (fault.Rules f) = (items : List Item) × Items items × Plan items (fault.Rules f)
 IsRunFault Text Items Plan (fault.Recipe f) = (items : List Item) × Items items × Plan items (fault.Recipe f)
 IsRunFault Text Items Plan fault.Write = ⊥
+
+-- so it is of the makefile that is named, or the usual one, for these targets
+abbrev pub IsFaultOf : (Answers : List ℕ → Option (List ℕ) → Type 0) (named : Option (List ℕ)) (definitions environment : List Variable)
+    (targets : List (List ℕ)) (honest : Type 0) (stamps : List ℕ → Option ℤ) (refuses : List ℕ → Type 0) (disk_honest : Type 0)
+    (seen : Which → List ℕ) → Fault → Type 0
+IsFaultOf Answers named definitions environment targets honest stamps refuses disk_honest seen =
+    IsRunFault (IsTextFault Answers (IsAbsent honest stamps) (MayBeThere honest stamps refuses) named)
+    (AreItems Answers (IsAbsent honest stamps) named)
+    (IsPlanFault definitions environment targets honest stamps refuses disk_honest seen)

@@ -10,7 +10,9 @@ pub mod Passing
 pub mod Planned
 -- Faults: what each fault says, and so what was met before it.
 pub mod Faults
--- Output: what went out.
+-- Messages: what is said of faults and of soft edges.
+pub mod Messages
+-- Output: what went out, and why a listing or an answer is refused.
 pub mod Output
 -- Files: what the system says of a file.
 pub mod Files

@@ -1,10 +1,13 @@
--- What went out.
+-- What went out, and why a listing or an answer is refused.
 use Rattle.std.specs.Prelude.{◌≡◌, ◌≢◌, ◌⊎◌, ◌↔◌, ◌||◌, ℕ, ◌<◌, Bool, true, false, List, ◌++◌, length, Option, codes, IsTrue, if◌then◌else◌}
-use Rattle.std.specs.Io.KnownBytes.{Appends}
+use Rattle.std.specs.Io.KnownBytes.{Appends, Keeps}
 use Rattle.mk_reader.specs.Text.{is_empty}
 use Rattle.mk_recipe.specs.declared.line.Line.{Line}
-use Rattle.jb_slots.specs.Auth.{AsksForDryRun}
+use Rattle.jb_auth.specs.Auth.{AsksForDryRun}
 use Rattle.dmk_drive.specs.Keeping.{value_in}
+use Rattle.dmk_drive.specs.Messages.{SaysFault, SaysCut}
+use Rattle.dmk_drive.specs.Passing.{listing_text}
+use Rattle.dmk_drive.specs.declared.fault.Fault.{Fault}
 use Rattle.dmk_drive.specs.declared.options.Mode.{Mode}
 use Rattle.dmk_drive.specs.declared.options.Mode.TheVariants as mode
 use Rattle.dmk_drive.specs.declared.options.Options.{Options}
@@ -17,6 +20,21 @@ pub record AppendsPart (old new : Option (List ℕ)) (text : List ℕ) : Type 0 
   pub parts : text ≡ front ++ rest
   pub missing : 0 < length rest
   pub appended : Appends old new front
+
+-- a fault is told: it is one of the run, nothing was listed, and where each line was taken its line stands on standard error
+pub record TellsFault (Meets : Fault → Type 0) (told : Bool) (out out_after err err_after : Option (List ℕ)) : Type 0 where
+  pub fault : Fault
+  pub meets : Meets fault
+  pub silent : Keeps out out_after
+  pub line : told ≡ true → SaysFault err err_after fault
+
+-- the listing of a plan is cut short: a part of it went out, and where each line was taken standard error says so
+pub record CutsListing (Plans : List (List Line) → Bool → Type 0) (told : Bool) (out out_after err err_after : Option (List ℕ)) : Type 0 where
+  pub plan : List (List Line)
+  pub dropped : Bool
+  pub planned : Plans plan dropped
+  pub part : AppendsPart out out_after (listing_text plan)
+  pub line : SaysCut err err_after told dropped
 
 -- how `-q` answers of what is listed: 1 where something is
 abbrev pub question_status : List (List Line) → ℕ

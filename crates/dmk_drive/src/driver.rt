@@ -1,14 +1,19 @@
 //! The program over handed-in parts.
-ghost use Rattle.std.specs.Prelude.{◌≡◌, ◌≢◌, ◌⊎◌, Bool, true, false, not, List, codes, option_copied, IfOk, IsOk, IsErr, OnOk, OnErr};
+ghost use Rattle.std.specs.Prelude.{◌≡◌, ◌≢◌, ◌⊎◌, Bool, true, false, not, List, codes, option_copied, IfOk, IfErr, IsOk, IsErr};
 ghost use Rattle.std.specs.Io.KnownBytes.{Appends, Keeps};
 ghost use Rattle.mk_reader.specs.Makefile.{AnswersAs};
 ghost use Rattle.mk_reader.specs.Text.{is_empty};
 ghost use Rattle.mk_recipe.specs.declared.line.Line.{Line as RecipeText};
+ghost use Rattle.st_disk.specs.Faults.{Rises};
+ghost use Rattle.st_file.specs.declared.fault.OpenFault.TheVariants as open_faults;
+ghost use Rattle.dmk_drive.specs.Faults.{IsFaultOf};
 ghost use Rattle.dmk_drive.specs.Keeping.{value_in};
 ghost use Rattle.dmk_drive.specs.Makefile.{IsAbsent};
-ghost use Rattle.dmk_drive.specs.Output.{AppendsPart, AsksForListing, AsksToLook, question_status};
+ghost use Rattle.dmk_drive.specs.Messages.{SaysFault, SaysNote, SaysCut};
+ghost use Rattle.dmk_drive.specs.Output.{AppendsPart, AsksForListing, AsksToLook, CutsListing, TellsFault, question_status};
 ghost use Rattle.dmk_drive.specs.Passing.{listing_text};
 ghost use Rattle.dmk_drive.specs.Planned.{Plans};
+ghost use Rattle.dmk_drive.specs.declared.fault.Fault.TheVariants as faults;
 ghost use Rattle.dmk_drive.specs.declared.options.Mode.TheVariants as modes;
 
 use crate::fault::Fault;
@@ -26,6 +31,14 @@ use st_records::HashKey;
 use std::alloc::Global;
 use std::io::Write;
 
+/// What was answered.
+#[derive(Clone, Copy)]
+pub struct Reply {
+    pub status: u8,
+    /// Standard error took each line that there was to say.
+    pub is_told: bool,
+}
+
 fn slice_of(name: &Option<ByteString>) -> Option<&[u8]>
     ensures { option_copied result ≡ name.now }
 {
@@ -35,16 +48,15 @@ fn slice_of(name: &Option<ByteString>) -> Option<&[u8]>
     }
 }
 
-/// Prints what is listed, with a note where soft edges are dropped.
-fn print_listing<O: Write, E: Write>(run: &DryRun, out: &mut O, err: &mut E) -> Result<(), Fault>
-    ensures whole { OnOk result (Appends (O.contents out.old) (O.contents out.new) run.now.text.items) }
-    ensures part { OnErr result (AppendsPart (O.contents out.old) (O.contents out.new) run.now.text.items) }
-    ensures note { run.now.soft_dropped ≡ false → err.new ≡ err.old }
+/// Says that soft edges are dropped, where they are, and tells whether that was taken.
+fn say_dropped<E: Write>(dropped: bool, err: &mut E) -> bool
+    ensures told { SaysNote (E.contents err.old) (E.contents err.new) result dropped }
+    ensures none { dropped ≡ false → err.new ≡ err.old }
 {
-    if run.soft_dropped {
-        print_note(err);
+    if !dropped {
+        return true;
     }
-    write_text(run.text.as_slice(), out)
+    print_note(err)
 }
 
 /// What a question is answered with: 1 where some recipe is listed, and else 0.
@@ -56,55 +68,98 @@ fn question_status(run: &DryRun) -> u8
 }
 
 /// Prints the fault and answers 2.
-fn refuse<E: Write>(state: &str, fault: Fault, err: &mut E) -> u8
-    ensures { result ≡ 2 }
+fn refuse<E: Write>(state: &str, fault: Fault, err: &mut E) -> Reply
+    ensures status { result.status ≡ 2 }
+    ensures told { result.is_told ≡ true → SaysFault (E.contents err.old) (E.contents err.new) fault }
 {
     let message = Message {
         state,
         fault: &fault,
     };
-    print_fault(err, message);
-    2
+    Reply {
+        status: 2,
+        is_told: print_fault(err, message),
+    }
 }
 
-/// Prints what a dry run lists, or answers the question, and the status.
-fn answer<O: Write, E: Write>(mode: Mode, state: &str, run: &DryRun, out: &mut O, err: &mut E) -> u8
-    ensures listed { mode ≢ modes.Question → result ≡ 0 → Appends (O.contents out.old) (O.contents out.new) run.now.text.items }
-    ensures asked { mode ≡ modes.Question → result ≢ 2 → (listed : List (List RecipeText))
-        → run.now.lists_any ≡ not (is_empty listed) → result ≡ question_status listed }
+/// Prints what is listed, with a note where soft edges are dropped.
+fn print_listing<O: Write, E: Write>(state: &str, run: &DryRun, out: &mut O, err: &mut E) -> Reply
+    ensures whole { result.status ≡ 0 → Appends (O.contents out.old) (O.contents out.new) run.now.text.items }
+    ensures noted { result.status ≡ 0 → SaysNote (E.contents err.old) (E.contents err.new) result.is_told run.now.soft_dropped }
+    ensures note { result.status ≡ 0 → run.now.soft_dropped ≡ false → err.new ≡ err.old }
+    ensures part { result.status ≡ 2 → AppendsPart (O.contents out.old) (O.contents out.new) run.now.text.items }
+    ensures cut { result.status ≡ 2 → SaysCut (E.contents err.old) (E.contents err.new) result.is_told run.now.soft_dropped }
+    ensures status { (result.status ≡ 0) ⊎ (result.status ≡ 2) }
+{
+    let is_noted = say_dropped(run.soft_dropped, err);
+    match write_text(run.text.as_slice(), out) {
+        Ok(()) => Reply {
+            status: 0,
+            is_told: is_noted,
+        },
+        Err(fault) => {
+            let refusal = refuse(state, fault, err);
+            Reply {
+                status: refusal.status,
+                is_told: is_noted && refusal.is_told,
+            }
+        }
+    }
+}
+
+/// Prints what a dry run lists, or answers the question.
+fn answer<O: Write, E: Write>(
+    mode: Mode,
+    state: &str,
+    run: &DryRun,
+    out: &mut O,
+    err: &mut E,
+) -> Reply
+    ensures listed { mode ≢ modes.Question → result.status ≡ 0 → Appends (O.contents out.old) (O.contents out.new) run.now.text.items }
+    ensures noted { mode ≢ modes.Question → result.status ≡ 0
+        → SaysNote (E.contents err.old) (E.contents err.new) result.is_told run.now.soft_dropped }
+    ensures asked { mode ≡ modes.Question → result.status ≢ 2 → (listed : List (List RecipeText))
+        → run.now.lists_any ≡ not (is_empty listed) → result.status ≡ question_status listed }
     ensures silent { mode ≡ modes.Question → Keeps (O.contents out.old) (O.contents out.new) }
-    ensures quiet { mode ≡ modes.Question → result ≢ 2 → err.new ≡ err.old }
-    ensures note { result ≡ 0 → run.now.soft_dropped ≡ false → err.new ≡ err.old }
-    ensures part { result ≡ 2 → AppendsPart (O.contents out.old) (O.contents out.new) run.now.text.items }
-    ensures status { (result ≡ 0) ⊎ (((result ≡ 1) × (mode ≡ modes.Question)) ⊎ (result ≡ 2)) }
+    ensures quiet { mode ≡ modes.Question → result.status ≢ 2 → err.new ≡ err.old }
+    ensures note { result.status ≡ 0 → run.now.soft_dropped ≡ false → err.new ≡ err.old }
+    ensures part { result.status ≡ 2 → AppendsPart (O.contents out.old) (O.contents out.new) run.now.text.items }
+    ensures cut { result.status ≡ 2 → SaysCut (E.contents err.old) (E.contents err.new) result.is_told run.now.soft_dropped }
+    ensures status { (result.status ≡ 0) ⊎ (((result.status ≡ 1) × (mode ≡ modes.Question)) ⊎ (result.status ≡ 2)) }
 {
     if matches!(mode, Mode::Question) {
-        return question_status(run);
+        return Reply {
+            status: question_status(run),
+            is_told: true,
+        };
     }
-    match print_listing(run, out, err) {
-        Ok(()) => 0,
-        Err(fault) => refuse(state, fault, err),
-    }
+    print_listing(state, run, out, err)
 }
 
-/// Says what was found of a dry run, and the status.
+/// Says what was found of a dry run.
 fn say<O: Write, E: Write>(
     mode: Mode,
     state: &str,
     found: Result<DryRun, Fault>,
     out: &mut O,
     err: &mut E,
-) -> u8
-    ensures listed { mode ≢ modes.Question → result ≡ 0 → IfOk found (λ run. Appends (O.contents out.old) (O.contents out.new) run.text.items) }
-    ensures found { result ≢ 2 → IsOk found }
-    ensures asked { mode ≡ modes.Question → result ≢ 2 → IfOk found (λ run. (listed : List (List RecipeText))
-        → run.lists_any ≡ not (is_empty listed) → result ≡ question_status listed) }
+) -> Reply
+    ensures listed { mode ≢ modes.Question → result.status ≡ 0
+        → IfOk found (λ run. Appends (O.contents out.old) (O.contents out.new) run.text.items) }
+    ensures noted { mode ≢ modes.Question → result.status ≡ 0
+        → IfOk found (λ run. SaysNote (E.contents err.old) (E.contents err.new) result.is_told run.soft_dropped) }
+    ensures found { result.status ≢ 2 → IsOk found }
+    ensures asked { mode ≡ modes.Question → result.status ≢ 2 → IfOk found (λ run. (listed : List (List RecipeText))
+        → run.lists_any ≡ not (is_empty listed) → result.status ≡ question_status listed) }
     ensures silent { mode ≡ modes.Question → Keeps (O.contents out.old) (O.contents out.new) }
-    ensures quiet { mode ≡ modes.Question → result ≢ 2 → err.new ≡ err.old }
-    ensures note { result ≡ 0 → IfOk found (λ run. run.soft_dropped ≡ false → err.new ≡ err.old) }
-    ensures refused { IsErr found → (result ≡ 2) × Keeps (O.contents out.old) (O.contents out.new) }
-    ensures part { result ≡ 2 → IfOk found (λ run. AppendsPart (O.contents out.old) (O.contents out.new) run.text.items) }
-    ensures status { (result ≡ 0) ⊎ (((result ≡ 1) × (mode ≡ modes.Question)) ⊎ (result ≡ 2)) }
+    ensures quiet { mode ≡ modes.Question → result.status ≢ 2 → err.new ≡ err.old }
+    ensures note { result.status ≡ 0 → IfOk found (λ run. run.soft_dropped ≡ false → err.new ≡ err.old) }
+    ensures refused { IsErr found → (result.status ≡ 2) × Keeps (O.contents out.old) (O.contents out.new) }
+    ensures told { IfErr found (λ fault. result.is_told ≡ true → SaysFault (E.contents err.old) (E.contents err.new) fault) }
+    ensures part { result.status ≡ 2 → IfOk found (λ run. AppendsPart (O.contents out.old) (O.contents out.new) run.text.items) }
+    ensures cut { result.status ≡ 2
+        → IfOk found (λ run. SaysCut (E.contents err.old) (E.contents err.new) result.is_told run.soft_dropped) }
+    ensures status { (result.status ≡ 0) ⊎ (((result.status ≡ 1) × (mode ≡ modes.Question)) ⊎ (result.status ≡ 2)) }
 {
     match found {
         Ok(run) => answer(mode, state, &run, out, err),
@@ -112,7 +167,7 @@ fn say<O: Write, E: Write>(
     }
 }
 
-/// Runs the program: answers its status, and hands the disk back, which was only read.
+/// Runs the program: answers, and hands the disk back, which was only read.
 ///
 /// `-n` prints the lines of all recipes that a run would come to, in an order in which it might. `-q` prints nothing and
 /// answers 1 where there are any.
@@ -126,29 +181,34 @@ pub fn drive<T: Tree, I: Includes, D: Disk, O: Write, E: Write>(
     disk: D,
     out: &mut O,
     err: &mut E,
-) -> (u8, D)
+) -> (Reply, D)
     // It lists or answers: a run of recipes isn't asked for.
     requires { AsksToLook options (value_in environment.now (codes "MAKEFLAGS")) }
 
-    // A listing is that of the plan. Only where soft edges are dropped is something said beside it.
-    ensures listed { AsksForListing options environment.now → result.0 ≡ 0 → (plan : List (List RecipeText)) × (dropped : Bool)
+    // A listing is that of the plan. Beside it only the note is said, and that where soft edges are dropped.
+    ensures listed { AsksForListing options environment.now → result.0.status ≡ 0 → (plan : List (List RecipeText)) × (dropped : Bool)
         × Plans (AnswersAs I.honest (I.files includes.old)) (IsAbsent T.honest (T.stamps tree.old)) options.makefile
         options.definitions.items environment.now options.targets T.honest (T.stamps tree.old) D.honest (D.seen disk) plan dropped
-        × Appends (O.contents out.old) (O.contents out.new) (listing_text plan) × (dropped ≡ false → err.new ≡ err.old) }
+        × Appends (O.contents out.old) (O.contents out.new) (listing_text plan) × (dropped ≡ false → err.new ≡ err.old)
+        × SaysNote (E.contents err.old) (E.contents err.new) result.0.is_told dropped }
     // The question is answered by the plan, and nothing is printed.
-    ensures asked { options.asks ≡ true → result.0 ≢ 2 → (plan : List (List RecipeText)) × (dropped : Bool)
+    ensures asked { options.asks ≡ true → result.0.status ≢ 2 → (plan : List (List RecipeText)) × (dropped : Bool)
         × Plans (AnswersAs I.honest (I.files includes.old)) (IsAbsent T.honest (T.stamps tree.old)) options.makefile
         options.definitions.items environment.now options.targets T.honest (T.stamps tree.old) D.honest (D.seen disk) plan dropped
-        × (result.0 ≡ question_status plan) }
+        × (result.0.status ≡ question_status plan) }
     ensures silent { options.asks ≡ true → Keeps (O.contents out.old) (O.contents out.new) }
-    ensures quiet { options.asks ≡ true → result.0 ≢ 2 → err.new ≡ err.old }
+    ensures quiet { options.asks ≡ true → result.0.status ≢ 2 → err.new ≡ err.old }
 
-    // At status 2 nothing went out, or a part of a listing.
-    ensures refused { result.0 ≡ 2 → Keeps (O.contents out.old) (O.contents out.new) ⊎ ((plan : List (List RecipeText)) × (dropped : Bool)
-        × Plans (AnswersAs I.honest (I.files includes.old)) (IsAbsent T.honest (T.stamps tree.old)) options.makefile
-        options.definitions.items environment.now options.targets T.honest (T.stamps tree.old) D.honest (D.seen disk) plan dropped
-        × AppendsPart (O.contents out.old) (O.contents out.new) (listing_text plan)) }
-    ensures status { (result.0 ≡ 0) ⊎ (((result.0 ≡ 1) × (options.asks ≡ true)) ⊎ (result.0 ≡ 2)) }
+    // At status 2 a fault of the run is told, of which a device's is a call of the disk that failed; or a listing is cut short.
+    ensures refused { result.0.status ≡ 2
+        → TellsFault (λ fault. IsFaultOf (AnswersAs I.honest (I.files includes.old)) options.makefile options.definitions.items environment.now
+        options.targets T.honest (T.stamps tree.old) (T.refuses tree.new) D.honest (D.seen disk) fault
+        × (fault ≡ faults.State open_faults.Device → Rises (D.faults disk) (D.faults result.1)))
+        result.0.is_told (O.contents out.old) (O.contents out.new) (E.contents err.old) (E.contents err.new)
+        ⊎ CutsListing (Plans (AnswersAs I.honest (I.files includes.old)) (IsAbsent T.honest (T.stamps tree.old)) options.makefile
+        options.definitions.items environment.now options.targets T.honest (T.stamps tree.old) D.honest (D.seen disk))
+        result.0.is_told (O.contents out.old) (O.contents out.new) (E.contents err.old) (E.contents err.new) }
+    ensures status { (result.0.status ≡ 0) ⊎ (((result.0.status ≡ 1) × (options.asks ≡ true)) ⊎ (result.0.status ≡ 2)) }
 
     // What reads give and what a crash may leave is what it was.
     ensures seen { D.honest → D.seen result.1 ≡ D.seen disk }
@@ -170,6 +230,6 @@ pub fn drive<T: Tree, I: Includes, D: Disk, O: Write, E: Write>(
         environment,
     };
     let found = dry_run(alloc, key, given, targets, tree, includes, &mut disk);
-    let status = say(mode, state.as_str(), found, out, err);
-    (status, disk)
+    let reply = say(mode, state.as_str(), found, out, err);
+    (reply, disk)
 }

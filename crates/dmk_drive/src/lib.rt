@@ -19,14 +19,15 @@ mod planning;
 mod recovered;
 
 pub use definitions::first_macros;
-pub use driver::drive;
+pub use driver::{Reply, drive};
 pub use fault::Fault;
 pub use file_calls::{FileCalls, FileStatus};
-pub use file_tree::FileTree;
+pub use file_tree::{FileTree, Unread};
 pub use keeping::{keeps_state, value_of};
 pub use laws::{one_listing, one_reading_of_the_settings, plan_of_the_graph};
 pub use makefile::items_of;
 pub use messages::{Message, SOFT_EDGES_NOTE};
 pub use options::{MAX_WORKERS, Mode, Options};
 pub use output::{print_fault, print_note};
+pub use passing::unlisted;
 pub use planning::{DryRun, Given, dry_run};

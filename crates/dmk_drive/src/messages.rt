@@ -1,4 +1,7 @@
 //! Every text of the program but the option reader's. Texts that belong to a crate below are its own, by `Display`.
+ghost use Rattle.std.specs.Prelude.{◌≡◌, None, IfSome};
+ghost use Rattle.dmk_drive.specs.Messages.{fault_text};
+
 use crate::fault::Fault;
 use st_disk::Which;
 use std::fmt;
@@ -14,7 +17,9 @@ pub struct Message<'a> {
 }
 
 /// The side that a message names, if it names one.
-fn named_side(fault: &Fault) -> Option<Which> {
+fn named_side(fault: &Fault) -> Option<Which>
+    ensures { IfSome result (λ _. fault_text fault.now ≡ None) }
+{
     match fault {
         Fault::State(fault) => fault.damaged_side(),
         _ => None,
@@ -22,6 +27,10 @@ fn named_side(fault: &Fault) -> Option<Which> {
 }
 
 impl fmt::Display for Message<'_> {
+    ghost use Rattle.dmk_drive.specs.Messages.{fault_text};
+
+    ghost output = { λ message. fault_text message.fault.now };
+
     fn fmt<W: fmt::Write>(&self, f: &mut fmt::Formatter<W>) -> fmt::Result {
         let state = self.state;
         let fault = self.fault;

@@ -1,6 +1,7 @@
 //! What goes out: the text of a listing, and one line with a fault or a note.
-ghost use Rattle.std.specs.Prelude.{◌≡◌, ◌≤◌, length, take, OnOk, OnErr, IfOk, IfErr};
+ghost use Rattle.std.specs.Prelude.{◌≡◌, ◌≤◌, true, length, take, OnOk, OnErr, IfOk, IfErr};
 ghost use Rattle.std.specs.Io.KnownBytes.{Appends, Keeps};
+ghost use Rattle.dmk_drive.specs.Messages.{SaysFault, note_lines};
 ghost use Rattle.dmk_drive.specs.Output.{AppendsPart};
 ghost use Rattle.dmk_drive.specs.declared.fault.Fault.TheVariants as faults;
 
@@ -43,12 +44,16 @@ fn write_some<W: Write>(bytes: &[u8], writer: &mut W) -> Result<usize, Fault>
     }
 }
 
-/// Prints one line with the fault. That it can't be printed changes nothing.
-pub fn print_fault<E: Write>(err: &mut E, message: Message<'_>) {
-    let _ = writeln!(err, "dmk: {message}");
+/// Prints one line with the fault, and tells whether the whole line was taken.
+pub fn print_fault<E: Write>(err: &mut E, message: Message<'_>) -> bool
+    ensures { result ≡ true → SaysFault (E.contents err.old) (E.contents err.new) message.entry.fault.now }
+{
+    writeln!(err, "dmk: {message}").is_ok()
 }
 
-/// Says that soft edges are dropped.
-pub fn print_note<E: Write>(err: &mut E) {
-    let _ = writeln!(err, "dmk: {SOFT_EDGES_NOTE}");
+/// Says that soft edges are dropped, and tells whether the whole line was taken.
+pub fn print_note<E: Write>(err: &mut E) -> bool
+    ensures { result ≡ true → Appends (E.contents err.old) (E.contents err.new) (note_lines true) }
+{
+    writeln!(err, "dmk: {SOFT_EDGES_NOTE}").is_ok()
 }

@@ -1,5 +1,5 @@
 //! The nodes of a graph passed in its order, and the recipes that are listed on the way.
-ghost use Rattle.std.specs.Prelude.{◌≡◌, ◌<◌, ◌||◌, not, true, List, length, nat_lt, IfOk, IfErr, OnOk, ◌++◌};
+ghost use Rattle.std.specs.Prelude.{◌≡◌, ◌<◌, ◌||◌, not, true, List, [], length, nat_lt, IfOk, IfErr, IfSome, OnOk, ◌++◌};
 ghost use Rattle.std.specs.List.{list_all};
 ghost use Rattle.mk_reader.specs.Text.{is_empty};
 ghost use Rattle.mk_recipe.specs.declared.line.Line.{Line as RecipeText};
@@ -66,4 +66,34 @@ pub fn listing_of(alloc: Global, keeping: bool, graph: &Graph) -> Result<Listing
         listing.add(&passed)?;
     }
     Ok(listing)
+}
+
+/// Whether a recipe is listed.
+fn is_listed(passed: &Passed) -> bool
+    ensures { result ≡ not (is_empty (listed_in passed.now)) }
+{
+    matches!(passed, Passed::Listed(_))
+}
+
+/// Which nodes count as remade where no recipe is listed, by their numbers. None where one is, and where that can't be found out.
+pub fn unlisted(alloc: Global, keeping: bool, graph: &Graph) -> Option<Vec<bool>>
+    ensures count { IfSome result (λ marks. length marks.items ≡ length graph.now.nodes.items) }
+    ensures listing { IfSome result (λ marks. IsListing keeping graph.now []) }
+{
+    let Ok(mut marks) = vec![in alloc; false; graph.len()] else {
+        return None;
+    };
+    for number in graph.order.as_slice() {
+        if *number >= graph.len() {
+            return None;
+        }
+        let Ok(passed) = pass(alloc, keeping, graph, &marks, *number) else {
+            return None;
+        };
+        if is_listed(&passed) {
+            return None;
+        }
+        marks[*number] = passed.is_remade();
+    }
+    Some(marks)
 }

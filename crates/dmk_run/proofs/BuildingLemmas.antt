@@ -1,5 +1,5 @@
 -- What a run leaves, by what its report says of the closed store.
-use Rattle.std.proofs.Common.{◌≡◌, ◌⊎◌, ℕ, ◌≤◌, Bool, true, false, List, Result, Ok, Err, IfOk, IsOk, IsTrue, refl, sym, subst, inl, inr, arith}
+use Rattle.std.proofs.Common.{◌≡◌, ◌⊎◌, ℕ, zero, suc, ◌≤◌, Bool, true, false, List, [], ◌∷◌, length, map, Result, Ok, Err, IfOk, IsOk, IsTrue, refl, sym, ap, subst, ◌∙◌, inl, inr, arith}
 use Rattle.std.specs.List.{list_all}
 use Rattle.std.proofs.lemmas.Result.{IfOk-at_ok}
 use Rattle.st_disk.specs.Crash.{Sides}
@@ -16,8 +16,10 @@ use Rattle.jb_closing.specs.declared.report.Report.{Report}
 use Rattle.jb_closing.specs.Agreement.{AreThoseOf}
 use Rattle.jb_closing.specs.Closing.{IsBuilt, IsNamed, IsTrueOf, AreTrueOf}
 use Rattle.jb_closing.specs.Report.{ends_well}
+use Rattle.dmk_run.specs.Judged.{IsBorneOut}
 use Rattle.dmk_run.specs.Known.{IsTold}
 use Rattle.dmk_run.specs.Made.{IsMade}
+use Rattle.dmk_run.specs.Settled.{unbuilt_end, IsReportOfNone}
 
 true_of : {told : List Record} {receipts : List Receipt} {wide narrow : Type 0} {sides : Sides} {name : List ℕ} → (narrow → wide) → IsTrueOf told receipts wide sides name → IsTrueOf told receipts narrow sides name
 true_of implies is = record {
@@ -60,7 +62,7 @@ is_made honest moments graph keeping found (Err fault) site disk m built tells s
 -- a status of 0 was 0
 zero_told : (old new : ℕ) → (new ≡ old) ⊎ ((old ≡ 0) × (new ≡ 1)) → new ≡ 0 → old ≡ 0
 zero_told old new (inl same) none = omega (arith, same, none)
-zero_told old new (inr (zero, one)) none = zero
+zero_told old new (inr (was, one)) none = was
 
 -- the ends of a report that is told are those of the run's
 pub well_told : (graph : Graph) (keeping : Bool) (m : StateMap) (found told : Result Report RunFault) → IfOk found (λ r. r.status ≡ 0 → IsTrue (list_all ends_well r.ends.items)) → IfOk told (λ r. (given : Report) × (found ≡ Ok given) × IsTold graph keeping m given r)
@@ -68,3 +70,48 @@ pub well_told : (graph : Graph) (keeping : Bool) (m : StateMap) (found told : Re
 well_told graph keeping m found (Ok r) well (given, is, tells) = λ none.
     subst (λ (e : List End). IsTrue (list_all ends_well e)) (sym tells.ends) (IfOk-at_ok (λ (g : Report). g.status ≡ 0 → IsTrue (list_all ends_well g.ends.items)) is well (zero_told given.status r.status tells.status none))
 well_told graph keeping m found (Err fault) well tells = tt
+
+-- and what bears out a status of 0
+pub borne_told : (graph : Graph) (keeping : Bool) (m : StateMap) (found told : Result Report RunFault) → IfOk told (λ r. (given : Report) × (found ≡ Ok given) × IsTold graph keeping m given r)
+    → IfOk told (λ r. r.status ≡ 0 → IsBorneOut keeping graph r.ends.items)
+borne_told graph keeping m found (Ok r) (given, is, tells) = λ none. inr (tells.judged none)
+borne_told graph keeping m found (Err fault) tells = tt
+
+-- ---- a run in which no recipe is to be run
+
+unbuilt_well : (remade : List Bool) → IsTrue (list_all ends_well (map unbuilt_end remade))
+unbuilt_well [] = refl
+unbuilt_well (true ∷ remade) = unbuilt_well remade
+unbuilt_well (false ∷ remade) = unbuilt_well remade
+
+count_unbuilt : (remade : List Bool) → length (map unbuilt_end remade) ≡ length remade
+count_unbuilt [] = refl
+count_unbuilt (m ∷ remade) = ap suc (count_unbuilt remade)
+
+none_built : (remade : List Bool) (node : ℕ) → IsBuilt (map unbuilt_end remade) node → ⊥
+none_built [] node built = cc
+none_built (true ∷ remade) zero built = cc
+none_built (false ∷ remade) zero built = cc
+none_built (m ∷ remade) (suc node) built = none_built remade node built
+
+none_ends_built : (ends : List End) (remade : List Bool) → ends ≡ map unbuilt_end remade → (node : ℕ) → IsBuilt ends node → ⊥
+none_ends_built ends remade same node built = none_built remade node (subst (λ (e : List End). IsBuilt e node) same built)
+
+pub none_well : {keeping : Bool} {graph : Graph} {m : StateMap} {r : Report} → IsReportOfNone keeping graph m r → IsTrue (list_all ends_well r.ends.items)
+none_well is = subst (λ (e : List End). IsTrue (list_all ends_well e)) (sym is.ends) (unbuilt_well is.remade)
+
+pub none_count : {keeping : Bool} {graph : Graph} {m : StateMap} {r : Report} → IsReportOfNone keeping graph m r → length r.ends.items ≡ length graph.nodes.items
+none_count is = ap length is.ends ∙ count_unbuilt is.remade ∙ is.count
+
+-- nothing was told, and no node ended as built
+pub none_made : (keeping : Bool) (graph : Graph) (m : StateMap) (r : Report) (honest : Type 0) (sides : Sides) → IsReportOfNone keeping graph m r → (honest → AllRecover m sides)
+    → keeping ≡ true → IsMade graph honest sides r.status r.ends.items
+none_made keeping graph m r honest sides is recovers kept = record {
+  told = [];
+  receipts = [];
+  are_those = λ ticket. refl;
+  are_true = λ node built. absurd (none_ends_built r.ends.items is.remade is.ends node built);
+  left = m;
+  recovers = recovers;
+  known = λ none. is.known kept;
+}

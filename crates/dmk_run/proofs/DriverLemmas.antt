@@ -16,6 +16,7 @@ use Rattle.st_recovery.proofs.RecoversLemmas.{one_recovery}
 use Rattle.bd_lists.specs.declared.recipe.Variable.{Variable}
 use Rattle.dmk_drive.specs.Keeping.{keeps}
 use Rattle.dmk_drive.specs.Planned.{AreItems, IsGraphOf, IsStateOn}
+use Rattle.dmk_run.specs.Judged.{IsBorneOut}
 use Rattle.dmk_run.specs.Made.{HasEnded, IsMade, Makes, MakesItems}
 use Rattle.dmk_run.specs.declared.stop.Stop.{Stop}
 
@@ -44,17 +45,18 @@ status_of_report found (Err stop) is small = tt
 -- the status of a report is that of a graph that has ended
 pub has_ended : (graph : Graph) (keeping : Bool) (sound : Type 0) (sides : Sides) (found : Result Report RunFault) (got : Result ℕ Stop)
     → IfOk got (λ s. (r : Report) × (found ≡ Ok r) × (s ≡ r.status)) → IfOk found (λ r. length r.ends.items ≡ length graph.nodes.items)
-    → IfOk found (λ r. r.status ≡ 0 → IsTrue (list_all ends_well r.ends.items)) → IfOk found (λ r. keeping ≡ true → IsMade graph sound sides r.status r.ends.items)
-    → IfOk got (HasEnded graph keeping sound sides)
-has_ended graph keeping sound sides found (Ok s) (r, is, same) all well made = record {
+    → IfOk found (λ r. r.status ≡ 0 → IsTrue (list_all ends_well r.ends.items)) → IfOk found (λ r. r.status ≡ 0 → IsBorneOut keeping graph r.ends.items)
+    → IfOk found (λ r. keeping ≡ true → IsMade graph sound sides r.status r.ends.items) → IfOk got (HasEnded graph keeping sound sides)
+has_ended graph keeping sound sides found (Ok s) (r, is, same) all well borne made = record {
   ends = r.ends.items;
   all = at_ok (λ r. length r.ends.items ≡ length graph.nodes.items) found r is all;
   well = λ none. at_ok (λ r. r.status ≡ 0 → IsTrue (list_all ends_well r.ends.items)) found r is well (sym same ∙ none);
+  borne_out = λ none. at_ok (λ r. r.status ≡ 0 → IsBorneOut keeping graph r.ends.items) found r is borne (sym same ∙ none);
   made = λ kept.
       subst (λ s. IsMade graph sound sides s r.ends.items) (sym same)
       (at_ok (λ r. keeping ≡ true → IsMade graph sound sides r.status r.ends.items) found r is made kept);
 }
-has_ended graph keeping sound sides found (Err stop) is all well made = tt
+has_ended graph keeping sound sides found (Err stop) is all well borne made = tt
 
 module _ (definitions environment : List Variable) (targets : List (List ℕ)) (honest : Type 0) (stamps : List ℕ → Option ℤ) where
   -- so a graph of these items has
@@ -86,6 +88,7 @@ module _ (definitions environment : List Variable) (targets : List (List ℕ)) (
         ends = run.ended.ends;
         all = run.ended.all;
         well = run.ended.well;
+        borne_out = run.ended.borne_out;
         made = λ keeping. absurd (no_value keeping);
       };
     }

@@ -1,3 +1,4 @@
 mod OpeningLemmas
+mod JudgingLemmas
 mod BuildingLemmas
 mod DriverLemmas

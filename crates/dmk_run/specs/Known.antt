@@ -8,6 +8,7 @@ use Rattle.st_records.specs.declared.record.Entry.{Entry}
 use Rattle.st_records.specs.declared.record.Phase.TheVariants as phases
 use Rattle.st_state.specs.State.{StateMap}
 use Rattle.jb_closing.specs.declared.report.Report.{Report}
+use Rattle.dmk_run.specs.Judged.{AreJudged}
 
 -- the state knows the target as done
 abbrev pub IsKnownDone : StateMap → (target : List ℕ) → Type 0
@@ -22,9 +23,10 @@ IsNodeKnownDone graph m node =
 abbrev pub AreKnownDone : Graph → StateMap → Type 0
 AreKnownDone graph m = (node : ℕ) → IsNodeKnownDone graph m node
 
--- a report as it is told of a closed store: that of the run, but that where state is kept a status of 0 which its state doesn't
--- bear out becomes 1
+-- a report as it is told of a closed store: that of the run, but that a status of 0 becomes 1 where a node that wasn't built isn't
+-- judged so, or where state is kept and the store's doesn't bear it out
 pub record IsTold (graph : Graph) (keeping : Bool) (m : StateMap) (given told : Report) : Type 0 where
   pub ends : told.ends.items ≡ given.ends.items
   pub status : (told.status ≡ given.status) ⊎ ((given.status ≡ 0) × (told.status ≡ 1))
   pub known : keeping ≡ true → told.status ≡ 0 → AreKnownDone graph m
+  pub judged : told.status ≡ 0 → AreJudged keeping graph told.ends.items

@@ -1,6 +1,10 @@
 -- Known: what a state knows of a graph's targets.
 pub mod Known
+-- Judged: what bears out that a run answers 0.
+pub mod Judged
 -- Made: what a run leaves on its disk.
 pub mod Made
 -- Opened: what a power cut may leave while a store is opened.
 pub mod Opened
+-- Settled: a run in which no recipe is to be run.
+pub mod Settled

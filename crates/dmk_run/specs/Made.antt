@@ -16,6 +16,7 @@ use Rattle.jb_closing.specs.Closing.{AreTrueOf}
 use Rattle.jb_closing.specs.Report.{ends_well}
 use Rattle.dmk_drive.specs.Planned.{AreItems, IsGraphOf, IsStateOn}
 use Rattle.dmk_drive.specs.Keeping.{keeps}
+use Rattle.dmk_run.specs.Judged.{IsBorneOut}
 use Rattle.dmk_run.specs.Known.{AreKnownDone}
 
 -- how the nodes of a graph ended, which is true of what the disk holds: workers gathered the receipts of all that was told, each
@@ -31,12 +32,13 @@ pub record IsMade (graph : Graph) (sound : Type 0) (sides : Sides) (status : ℕ
   pub recovers : sound → AllRecover left sides
   pub known : status ≡ 0 → AreKnownDone graph left
 
--- so it is of some ends of a graph: each of its nodes has one, and at status 0 each is up to date or was made. Where no state is
--- kept nothing is said of what the disk holds then
+-- so it is of some ends of a graph: each of its nodes has one, and at status 0 each is up to date or was made, and whatever wasn't
+-- built needn't be. Where no state is kept nothing is said of what the disk holds then
 pub record HasEnded (graph : Graph) (keeping : Bool) (sound : Type 0) (sides : Sides) (status : ℕ) : Type 0 where
   pub ends : List End
   pub all : length ends ≡ length graph.nodes.items
   pub well : status ≡ 0 → IsTrue (list_all ends_well ends)
+  pub borne_out : status ≡ 0 → IsBorneOut keeping graph ends
   pub made : keeping ≡ true → IsMade graph sound sides status ends
 
 -- so the graph of these items has, for the targets that are named, by the state that the disk recovers, if it is stored there

@@ -7,14 +7,18 @@ ghost use Rattle.bd_flusher.specs.declared.fault.FlushFault.TheVariants as refus
 ghost use Rattle.jb_closing.specs.declared.fault.RunFault.TheVariants as run_faults;
 ghost use Rattle.jb_closing.specs.declared.report.Report.{Report as RunReport};
 ghost use Rattle.jb_closing.specs.Report.{ends_well};
-ghost use Rattle.dmk_run.specs.Known.{IsTold};
+ghost use Rattle.dmk_run.specs.Judged.{AreJudged, IsBorneOut};
+ghost use Rattle.dmk_run.specs.Known.{AreKnownDone, IsTold};
 ghost use Rattle.dmk_run.specs.Made.{IsMade};
 
 use crate::driver::Means;
+use crate::judging::are_judged;
 use crate::known::are_known_done;
+use crate::settling::report_of_none;
 use crate::stop::Stop;
 use bd_flusher::{FlushFault, Receipt, Site};
 use bd_lists::Exec;
+use bd_places::End;
 use dmk_drive::value_of;
 use jb_closing::{Report, RunFault};
 use jb_recipe::{Conduct, Place, Say};
@@ -24,7 +28,7 @@ use mk_rules::Graph;
 use st_disk::Disk;
 use st_recovery::Store;
 use st_state::State;
-use std::alloc::Global;
+use std::alloc::{AllocError, Global};
 use std::sync::Wait;
 use std::thread::Threads;
 
@@ -45,19 +49,43 @@ fn dead<D: Disk + Drop>(store: Store<D>) -> Built<D>
     }
 }
 
-/// A report whose status is 0, where state is kept, only if the closed store's state knows each target with a recipe as done.
-fn checked(graph: &Graph, keeps_state: bool, state: &State, report: Report) -> Report
-    ensures { IsTold graph.now keeps_state state.now report result }
+/// Whether each node that wasn't built is judged so and, where state is kept, the state knows each target with a recipe as done.
+fn is_borne_out(
+    alloc: Global,
+    graph: &Graph,
+    keeps_state: bool,
+    state: &State,
+    ends: &[End],
+) -> Result<bool, AllocError>
+    ensures known { IfOk result (λ yes. yes ≡ true → keeps_state ≡ true → AreKnownDone graph.now state.now) }
+    ensures judged { IfOk result (λ yes. yes ≡ true → AreJudged keeps_state graph.now ends.now) }
 {
-    let Report { ends, status } = report;
-    if keeps_state && status == 0 && !are_known_done(graph, state) {
-        return Report { ends, status: 1 };
+    if keeps_state && !are_known_done(graph, state) {
+        return Ok(false);
     }
-    Report { ends, status }
+    are_judged(alloc, keeps_state, graph, ends)
 }
 
-/// What is told of a run whose store is closed: no report of a dead store, and status 0 only as far as its state bears it out.
+/// A report whose status is 0 only where that is borne out.
+fn checked(
+    alloc: Global,
+    graph: &Graph,
+    keeps_state: bool,
+    state: &State,
+    report: Report,
+) -> Result<Report, AllocError>
+    ensures { IfOk result (IsTold graph.now keeps_state state.now report) }
+{
+    let Report { ends, status } = report;
+    if status == 0 && !is_borne_out(alloc, graph, keeps_state, state, &ends)? {
+        return Ok(Report { ends, status: 1 });
+    }
+    Ok(Report { ends, status })
+}
+
+/// What is told of a run whose store is closed: no report of a dead store, and status 0 only where it is borne out.
 fn told<D: Disk + Drop>(
+    alloc: Global,
     graph: &Graph,
     keeps_state: bool,
     found: Result<Report, RunFault>,
@@ -66,8 +94,8 @@ fn told<D: Disk + Drop>(
     ensures store { result.store ≡ closed }
     ensures alive { IsOk result.found → closed.log.dead ≡ false }
     ensures report { IfOk result.found (λ r. (given : RunReport) × (found ≡ Ok given) × IsTold graph.now keeps_state closed.state given r) }
-    ensures fault { IfErr result.found (λ fault. (found ≡ Err fault)
-        ⊎ ((fault ≡ run_faults.Flush refusals.Dead) × (closed.log.dead ≡ true))) }
+    ensures fault { IfErr result.found (λ fault. (found ≡ Err fault) ⊎ ((fault ≡ run_faults.OutOfMemory)
+        ⊎ ((fault ≡ run_faults.Flush refusals.Dead) × (closed.log.dead ≡ true)))) }
 {
     let report = match found {
         Ok(report) => report,
@@ -81,10 +109,15 @@ fn told<D: Disk + Drop>(
     if closed.is_dead() {
         return dead(closed);
     }
-    let report = checked(graph, keeps_state, closed.state(), report);
-    Built {
-        found: Ok(report),
-        store: closed,
+    match checked(alloc, graph, keeps_state, closed.state(), report) {
+        Ok(report) => Built {
+            found: Ok(report),
+            store: closed,
+        },
+        Err(_) => Built {
+            found: Err(RunFault::OutOfMemory),
+            store: closed,
+        },
     }
 }
 
@@ -98,7 +131,8 @@ pub(crate) fn reported(found: Result<Report, RunFault>) -> Result<u8, Stop>
     }
 }
 
-/// Makes what the graph's goals need, with so many workers. A report comes only with a store that isn't dead.
+/// Makes what the graph's goals need, with so many workers; with none, where no recipe is to be run. A report comes only with a
+/// store that isn't dead.
 pub fn build<R, D, E, S, P, K>(
     rt: &R,
     alloc: Global,
@@ -123,6 +157,8 @@ where
     ensures ends { IfOk result.found (λ r. length r.ends.items ≡ length graph.now.nodes.items) }
     ensures status { IfOk result.found (λ r. r.status ≤ 2) }
     ensures well { IfOk result.found (λ r. r.status ≡ 0 → IsTrue (list_all ends_well r.ends.items)) }
+    // No status of 0 is made up: a node that wasn't built needn't be.
+    ensures borne_out { IfOk result.found (λ r. r.status ≡ 0 → IsBorneOut conduct.keeps_state graph.now r.ends.items) }
     ensures made { IfOk result.found (λ r. conduct.keeps_state ≡ true
         → IsMade graph.now D.honest (now (D.moments result.store.log.disk)) r.status r.ends.items) }
     // A store that is handed in dead is told as one, and comes back as it was.
@@ -133,6 +169,12 @@ where
 {
     if store.is_dead() {
         return dead(store);
+    }
+    if let Some(report) = report_of_none(alloc, conduct.keeps_state, graph, store.state()) {
+        return Built {
+            found: Ok(report),
+            store,
+        };
     }
     let site = match Site::new(alloc, store) {
         Ok(site) => site,
@@ -157,5 +199,5 @@ where
     };
     let keeps_state = conduct.keeps_state;
     let (found, closed) = run_slotted(rt, alloc, &parts, conduct, site, slotting, banks);
-    told(graph, keeps_state, found, closed.site.into_store())
+    told(alloc, graph, keeps_state, found, closed.site.into_store())
 }

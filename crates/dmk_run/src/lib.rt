@@ -5,10 +5,12 @@ mod building;
 mod conducting;
 mod driver;
 mod guard;
+mod judging;
 mod known;
 mod opening;
 mod planning;
 mod printer;
+mod settling;
 mod stop;
 
 pub use building::{Built, build};

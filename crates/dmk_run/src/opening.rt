@@ -1,10 +1,11 @@
 //! The store that a run goes by, opened and compacted.
-ghost use Rattle.std.specs.Prelude.{◌≡◌, ◌≢◌, ◌↔◌, ◌<◌, ◌≤◌, ◌^◌, false, IsTrue, IsOk, IsErrOf, IfOk, IfErr, OnOk};
+ghost use Rattle.std.specs.Prelude.{◌≡◌, ◌≢◌, ◌⊎◌, ◌↔◌, ◌<◌, ◌≤◌, ◌*◌, ◌^◌, false, IsTrue, IsOk, IsErrOf, IfOk, IfErr, OnOk};
 ghost use Rattle.st_disk.specs.Moments.{now, Throughout};
 ghost use Rattle.st_disk.specs.Faults.{Rises};
 ghost use Rattle.st_recovery.specs.Recovers.{Recovers};
 ghost use Rattle.st_recovery.specs.Stored.{AllRecover};
 ghost use Rattle.st_records.specs.declared.version.Version.TheVariants as versions;
+ghost use Rattle.st_state.specs.Keepable.{kept_bytes};
 ghost use Rattle.st_file.specs.declared.commit_fault.CommitFault.TheVariants as commits;
 ghost use Rattle.st_disk.specs.declared.which.Which.TheVariants as sides;
 ghost use Rattle.bd_flusher.specs.declared.fault.FlushFault.TheVariants as refusals;
@@ -21,9 +22,10 @@ use st_disk::Disk;
 use st_file::{CommitFault, Log};
 use st_records::{HashKey, Version};
 use st_recovery::{Store, open};
+use st_state::State;
 use std::alloc::Global;
 
-/// A side that ends behind this is written anew when it is opened.
+/// A side that ends behind this is long: it is written anew when it is opened, if half of it can go.
 const LONG: usize = 1 << 20;
 
 /// The disk of a store that is let go.
@@ -48,6 +50,20 @@ fn is_of_version_1(version: Version) -> bool
     matches!(version, Version::One)
 }
 
+/// Whether a side that ends there is as short as a compaction may leave it: it isn't long, or more than half of it would be kept.
+/// It takes no memory.
+fn is_compact(state: &State, end: usize) -> bool
+    ensures { IsTrue result ↔ ((end ≤ 2 ^ 20) ⊎ (end < 2 * kept_bytes state.now)) }
+{
+    if end <= LONG {
+        return true;
+    }
+    match state.room_after_kept(end) {
+        Some(left) => left < end - left,
+        None => true,
+    }
+}
+
 /// What a refused compaction comes to: it is passed over, unless the device refused it or the side is of version 1, which has
 /// to change.
 fn refusal(fault: CommitFault, is_old: bool) -> Result<(), RunFault>
@@ -60,7 +76,8 @@ fn refusal(fault: CommitFault, is_old: bool) -> Result<(), RunFault>
     Ok(())
 }
 
-/// Compacts a store whose side is of version 1 or long. Of a long side a refusal is passed over, unless it is the device's.
+/// Compacts a store whose side is of version 1, or long and at least twice what is kept of it. Of a long side a refusal is passed
+/// over, unless it is the device's.
 fn compact_at_opening<D: Disk + Drop>(alloc: Global, store: &mut Store<D>) -> Result<(), RunFault>
     requires { store.old.log.dead ≡ false }
     ensures any_moment { D.honest → Throughout (D.moments store.old.log.disk) (D.moments store.new.log.disk)
@@ -70,14 +87,14 @@ fn compact_at_opening<D: Disk + Drop>(alloc: Global, store: &mut Store<D>) -> Re
     ensures version { OnOk result (store.new.log.version ≡ versions.Two) }
     ensures refused { IfErr result (TellsNotCompacted
         (D.honest → StandsInVersion1 (D.seen store.new.log.disk) (now (D.moments store.new.log.disk)) store.new.state)) }
-    // A side that is neither of version 1 nor long stays as it is.
-    ensures unneeded { store.old.log.version ≡ versions.Two → store.old.log.end ≤ 2 ^ 20
-        → IsOk result × (store.new.log ≡ store.old.log) }
+    // A side of version 2 that is short, or of which more than half would be left, stays as it is.
+    ensures unneeded { store.old.log.version ≡ versions.Two
+        → (store.old.log.end ≤ 2 ^ 20) ⊎ (store.old.log.end < 2 * kept_bytes store.old.state) → IsOk result × (store.new.log ≡ store.old.log) }
     ensures device { IsErrOf result (run_faults.Flush refusals.Device)
         → Rises (D.faults store.old.log.disk) (D.faults store.new.log.disk) }
 {
     let is_old = is_of_version_1(store.log.version);
-    if !is_old && store.log.end <= LONG {
+    if !is_old && is_compact(&store.state, store.log.end) {
         return Ok(());
     }
     match compact(alloc, store) {
@@ -86,7 +103,7 @@ fn compact_at_opening<D: Disk + Drop>(alloc: Global, store: &mut Store<D>) -> Re
     }
 }
 
-/// Opens the store of a disk, and compacts it where its side is of version 1 or long. A refusal hands the disk back.
+/// Opens the store of a disk, and compacts it where its side is of version 1, or long and half of it can go. A refusal hands the disk back.
 pub fn open_store<D: Disk + Drop>(
     alloc: Global,
     key: HashKey,

@@ -4,7 +4,7 @@
 use bd_lists::Ended;
 use dmk_drive::{Message, print_fault, print_note};
 use jb_closing::RunFault;
-use jb_recipe::{News, Say};
+use jb_recipe::{News, NotDone, Say};
 use std::io::{self, Write};
 use std::sync::{Mutex, Wait};
 
@@ -58,9 +58,24 @@ fn write_failed<E: Write>(err: &mut E, target: &[u8], status: u32) {
     };
 }
 
+fn write_not_done<E: Write>(err: &mut E, target: &[u8], not_done: &NotDone) {
+    let _ = err.write_all(b"dmk: note: target ");
+    let _ = err.write_all(target);
+    let _ = writeln!(err, ": {not_done}");
+}
+
 fn write_news<E: Write>(err: &mut E, news: News<'_>) {
     match news {
-        News::Failed { target, status } => write_failed(err, target, status),
+        News::Failed {
+            target,
+            status,
+            not_done,
+        } => {
+            write_failed(err, target, status);
+            if let Some(not_done) = not_done {
+                write_not_done(err, target, not_done);
+            }
+        }
         News::NotRecorded { target } => {
             write_of_target(err, target);
             let _ = writeln!(err, " cannot be recorded");

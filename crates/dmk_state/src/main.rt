@@ -8,8 +8,8 @@ mod output;
 mod sides;
 
 use command_line::{Request, read_words};
-use output::{refuse, show};
-use sides::read_sides;
+use output::{print_failed_call, refuse, show};
+use sides::{Reading, Sides, read_sides};
 use st_file::OpenFault;
 use st_listing::{ListFault, list};
 use st_records::HashKey;
@@ -40,10 +40,10 @@ fn list_file(rt: HostRuntime, file: &str) -> u8
     ensures status { (result ≡ 0) ⊎ (result ≡ 2) }
 {
     let key = HashKey::from_system(&rt);
-    let mut sides = read_sides(rt, file);
+    let mut reading = read_sides(rt, file);
     for _ in 1..MAX_READINGS {
-        let found = list_sides(rt, key, &sides);
-        if !is_doubtful(&sides, found) {
+        let found = list_sides(rt, key, &reading.sides);
+        if !is_doubtful(&reading.sides, found) {
             return match found {
                 Ok(()) => 0,
                 Err(fault) => refuse(file, fault, &mut rt.stderr()),
@@ -51,21 +51,32 @@ fn list_file(rt: HostRuntime, file: &str) -> u8
         }
         thread::sleep(&rt, Duration::from_millis(PAUSE_MILLISECONDS));
         let again = read_sides(rt, file);
-        if are_same(&sides, &again) {
+        if are_same(&reading.sides, &again.sides) {
             break;
         }
-        sides = again;
+        reading = again;
     }
+    tell(rt, key, file, reading)
+}
+
+fn tell(rt: HostRuntime, key: HashKey, file: &str, reading: Reading) -> u8
+    ensures status { (result ≡ 0) ⊎ (result ≡ 2) }
+{
+    let Reading { sides, failed } = reading;
     let (out, err) = (&mut rt.stdout(), &mut rt.stderr());
     match sides {
         Ok((a, b)) => show(rt.alloc(), key, file, &a, &b, out, err),
-        Err(fault) => refuse(file, ListFault::Open(fault), err),
+        Err(fault) => {
+            let status = refuse(file, ListFault::Open(fault), err);
+            if let Some(failed) = failed {
+                print_failed_call(file, failed, err);
+            }
+            status
+        }
     }
 }
 
-type Read = Result<(Vec<u8>, Vec<u8>), OpenFault>;
-
-fn list_sides(rt: HostRuntime, key: HashKey, sides: &Read) -> Result<(), ListFault> {
+fn list_sides(rt: HostRuntime, key: HashKey, sides: &Sides) -> Result<(), ListFault> {
     match sides {
         Ok((a, b)) => list(rt.alloc(), key, a, b, &mut rt.stdout()),
         Err(fault) => Err(ListFault::Open(*fault)),
@@ -73,7 +84,7 @@ fn list_sides(rt: HostRuntime, key: HashKey, sides: &Read) -> Result<(), ListFau
 }
 
 // A reading that falls between two writes of a run may be refused, or find neither side's records; nothing was printed then.
-fn is_doubtful(sides: &Read, found: Result<(), ListFault>) -> bool {
+fn is_doubtful(sides: &Sides, found: Result<(), ListFault>) -> bool {
     match (sides, found) {
         (Ok((a, b)), Ok(())) => is_void(a) && is_void(b),
         (_, Err(ListFault::Open(fault))) => fault != OpenFault::OutOfMemory,
@@ -85,7 +96,7 @@ fn is_void(side: &[u8]) -> bool {
     matches!(side.first(), None | Some(0))
 }
 
-fn are_same(one: &Read, other: &Read) -> bool {
+fn are_same(one: &Sides, other: &Sides) -> bool {
     match (one, other) {
         (Ok(one), Ok(other)) => one.0 == other.0 && one.1 == other.1,
         (Err(one), Err(other)) => one == other,

@@ -10,7 +10,7 @@ ghost use Rattle.st_listing.specs.Listing.{listing};
 ghost use Rattle.st_listing.specs.Writing.{AppendsPart, IsOfSide};
 ghost use Rattle.st_listing.specs.declared.listing.ListFault.TheVariants as faults;
 
-use st_disk::Which;
+use st_disk::{FailedCall, FailedCallMessage, Which};
 use st_listing::{ListFault, list};
 use st_records::HashKey;
 use std::alloc::Global;
@@ -83,6 +83,15 @@ pub fn refuse<E: Write>(file: &str, fault: ListFault, err: &mut E) -> u8
 {
     print_fault(err, Message { file, fault });
     2
+}
+
+/// Says which call of the system failed, behind the fault that it came to.
+pub fn print_failed_call<E: Write>(file: &str, failed: FailedCall, err: &mut E) {
+    let message = FailedCallMessage {
+        state: file,
+        failed,
+    };
+    let _ = writeln!(err, "dmk_state: note: {message}");
 }
 
 /// Prints one line with the fault.

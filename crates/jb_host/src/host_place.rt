@@ -31,10 +31,14 @@ fn if_there<T>(answer: io::Result<T>) -> io::Result<Option<T>> {
     }
 }
 
+fn not_ordinary() -> io::Error {
+    io::Error::new(ErrorKind::InvalidInput, "not an ordinary file")
+}
+
 fn fault_of(error: io::Error) -> PlaceFault {
     match error.kind() {
         ErrorKind::OutOfMemory => PlaceFault::OutOfMemory,
-        _ => PlaceFault::Device,
+        _ => PlaceFault::Device(error),
     }
 }
 
@@ -83,7 +87,7 @@ impl HostPlace {
         command.stdin(Stdio::null());
         match command.output(&self.rt)?.status.code() {
             Some(0) => Ok(()),
-            _ => Err(ErrorKind::PermissionDenied.into()),
+            _ => Err(io::Error::other("the program sync failed")),
         }
     }
 
@@ -126,7 +130,7 @@ impl Place for HostPlace {
             return Ok(Vec::new(alloc));
         };
         match fs::metadata(&self.rt, name) {
-            Ok(found) if !found.is_file() => return Err(PlaceFault::Device),
+            Ok(found) if !found.is_file() => return Err(PlaceFault::Device(not_ordinary())),
             _ => {}
         }
         match fs::read(&self.rt, name) {

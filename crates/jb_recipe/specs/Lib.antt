@@ -1,3 +1,4 @@
 pub mod Environment
 pub mod Noting
 pub mod Running
+pub mod Silence

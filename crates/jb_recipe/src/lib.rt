@@ -2,17 +2,20 @@
 #![tactic(auto)]
 
 mod conduct;
+mod not_done;
 mod noting;
 mod place;
 mod recipe_run;
 mod reporting;
 mod say;
+mod silence;
 mod variables;
 
 pub use conduct::Conduct;
+pub use not_done::NotDone;
 pub use noting::{Plan, is_writable};
 pub use place::{Place, PlaceFault};
 pub use recipe_run::{Ran, run_recipe};
-pub use reporting::EndNote;
+pub use reporting::{EndNote, Last};
 pub use say::{News, Say};
 pub use variables::{Makeflags, environment};

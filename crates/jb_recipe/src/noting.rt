@@ -9,7 +9,9 @@ ghost use Rattle.st_records.specs.declared.version.Version.TheVariants.{Two};
 ghost use Rattle.st_records.specs.declared.record.Record.TheVariants as records;
 ghost use Rattle.jb_recipe.specs.Environment.{environment, report_path};
 ghost use Rattle.jb_recipe.specs.Noting.{known_of};
+ghost use Rattle.jb_recipe.specs.Silence.{as_run};
 
+use crate::silence::as_run;
 use crate::{Conduct, environment};
 use bd_lists::{Recipe, Variable};
 use byte_strings::{ByteString, ByteStrings};
@@ -73,17 +75,6 @@ fn known_of(alloc: Global, graph: &Graph, node: usize) -> Result<ByteStrings, Al
         names.push(name_of(graph, *prerequisite))?;
     }
     Ok(names)
-}
-
-// Lines of a silent run aren't printed.
-fn silenced(lines: Vec<Line>, silent: bool) -> Vec<Line> {
-    let mut lines = lines;
-    if silent {
-        for line in lines.iter_mut() {
-            line.is_printed = false;
-        }
-    }
-    lines
 }
 
 // Whether a 'done' without hidden names may stand in the state.
@@ -174,6 +165,8 @@ impl Plan {
     ) -> Result<Option<Plan>, AllocError>
         requires { number < length graph.now.nodes.items }
         ensures target { IfOk result (λ plan. IfSome plan (λ p. p.recipe.target ≡ name_at graph.now.names number)) }
+        ensures lines { IfOk result (λ plan. IfSome plan (λ p. p.recipe.lines.items
+            ≡ as_run conduct.now.prints_no_lines lines.items)) }
         ensures commands { IfOk result (λ plan. IfSome plan (λ p. Records lines.items p.commands)) }
         ensures explicit { IfOk result (λ plan. IfSome plan (λ p. p.explicit ≡ explicit_of graph.now number)) }
         ensures known { IfOk result (λ plan. IfSome plan (λ p. p.known ≡ known_of graph.now number)) }
@@ -190,7 +183,7 @@ impl Plan {
         let (report, env) = surroundings(alloc, conduct, number, noted.target.as_slice())?;
         let recipe = Recipe {
             target: noted.target,
-            lines: silenced(lines, conduct.prints_no_lines),
+            lines: as_run(lines, conduct.prints_no_lines),
             env,
             ignore: conduct.ignores_statuses,
         };

@@ -1,16 +1,17 @@
 //! The files of targets, beside what recipes do to them.
 
 use std::alloc::{AllocError, Global};
+use std::io;
 use thiserror::Error;
 
 /// A report couldn't be read, or a target's file couldn't be put on the disk.
-#[derive(Clone, Copy, Debug, PartialEq, Eq, Error)]
+#[derive(Clone, Copy, Debug, Error)]
 pub enum PlaceFault {
     #[error("out of memory")]
     OutOfMemory,
-    /// The system refused it.
-    #[error("device fault")]
-    Device,
+    /// The system refused it, by this error.
+    #[error("{0}")]
+    Device(io::Error),
 }
 
 impl From<AllocError> for PlaceFault {

@@ -9,10 +9,10 @@ ghost use Rattle.bd_lists.specs.Running.{FailsInRange};
 ghost use Rattle.jb_recipe.specs.Noting.{IsEndOf};
 
 use crate::noting::{Plan, writable};
-use crate::{Place, PlaceFault};
+use crate::{NotDone, Place, PlaceFault};
 use bd_lists::Recipe;
 use byte_strings::{ByteString, ByteStrings};
-use mk_recipe::{Outcome, ReportFault, read_report};
+use mk_recipe::{Outcome, read_report};
 use st_records::{Explicit, HashKey, Record};
 use std::alloc::{AllocError, Global};
 
@@ -29,11 +29,27 @@ pub struct EndNote {
     report: Option<ByteString>,
 }
 
+/// The last record of a target, and why it isn't a 'done' where the recipe passed.
+#[derive(Drop)]
+pub struct Last {
+    /// None where not even a 'failed' may stand in the state.
+    pub record: Option<Record>,
+    pub not_done: Option<NotDone>,
+}
+
 impl Plan {
     /// The 'begun', the recipe that it clears, and what the record of its end will say.
     pub fn apart(self, alloc: Global) -> Result<(Record, Recipe, EndNote), AllocError>
         ensures good { IfOk result (λ p. IsGood Two p.0) }
         ensures own { IfOk result (λ p. p.0 ≡ records.Begun p.1.target) }
+        ensures recipe { IfOk result (λ p. p.1 ≡ self.recipe) }
+        ensures note { IfOk result (λ p. p.2 ≡ record {
+          target = self.recipe.target;
+          commands = self.commands;
+          explicit = self.explicit;
+          known = self.known;
+          report = self.report;
+        }) }
     {
         let target = self.recipe.target.copy(alloc)?;
         let note = EndNote {
@@ -55,7 +71,7 @@ fn failed(target: ByteString, status: u32) -> Option<Record>
     writable(Record::Failed { target, status })
 }
 
-/// The hidden names of a report; None where the report can't be taken.
+/// The hidden names of a report, or why it can't be taken.
 fn taken<P: Place>(
     alloc: Global,
     key: HashKey,
@@ -63,16 +79,18 @@ fn taken<P: Place>(
     path: &ByteString,
     target: &ByteString,
     known: &ByteStrings,
-) -> Result<Option<ByteStrings>, AllocError> {
+) -> Result<Result<ByteStrings, NotDone>, AllocError> {
     let bytes = match place.report(alloc, path.as_slice()) {
         Ok(bytes) => bytes,
-        Err(PlaceFault::Device) => return Ok(None),
+        Err(PlaceFault::Device(error)) => return Ok(Err(NotDone::Unread(error))),
         Err(PlaceFault::OutOfMemory) => return Err(AllocError),
     };
     match read_report(alloc, key, &bytes, target.as_slice(), known) {
-        Ok(hidden) => Ok(Some(hidden)),
-        Err(ReportFault::OutOfMemory) => Err(AllocError),
-        Err(_) => Ok(None),
+        Ok(hidden) => Ok(Ok(hidden)),
+        Err(fault) => match NotDone::of_report(fault) {
+            Some(not_done) => Ok(Err(not_done)),
+            None => Err(AllocError),
+        },
     }
 }
 
@@ -84,16 +102,16 @@ impl EndNote {
         }
     }
 
-    // The hidden names that the recipe reported, none where no state is kept; None where the report can't be taken.
+    // The hidden names that the recipe reported, none where no state is kept, or why the report can't be taken.
     fn hidden<P: Place>(
         &self,
         alloc: Global,
         key: HashKey,
         place: &P,
-    ) -> Result<Option<ByteStrings>, AllocError> {
+    ) -> Result<Result<ByteStrings, NotDone>, AllocError> {
         match &self.report {
             Some(path) => taken(alloc, key, place, path, &self.target, &self.known),
-            None => Ok(Some(ByteStrings::empty(alloc))),
+            None => Ok(Ok(ByteStrings::empty(alloc))),
         }
     }
 
@@ -115,76 +133,86 @@ impl EndNote {
         }
     }
 
-    fn into_failed(self, status: u32) -> Option<Record>
+    fn into_failed(self, status: u32, not_done: Option<NotDone>) -> Last
         requires { status ≤ 256 }
-        ensures good { IfSome result (λ r. IsGood Two r) }
-        ensures note { IfSome result (λ r. r ≡ records.Failed self.target status) }
+        ensures good { IfSome result.record (λ r. IsGood Two r) }
+        ensures note { IfSome result.record (λ r. r ≡ records.Failed self.target status) }
     {
-        failed(self.target, status)
+        Last {
+            record: failed(self.target, status),
+            not_done,
+        }
     }
 
-    // Whether the target's file is on the disk. Only a state that is kept could outlive it.
-    fn is_synced<P: Place>(&self, place: &P) -> Result<bool, AllocError> {
+    // Puts the target's file on the disk, or says why it isn't there. Only a state that is kept could outlive it.
+    fn synced<P: Place>(&self, place: &P) -> Result<Result<(), NotDone>, AllocError> {
         if self.report.is_none() {
-            return Ok(true);
+            return Ok(Ok(()));
         }
         match place.sync(self.target.as_slice()) {
-            Ok(()) => Ok(true),
-            Err(PlaceFault::Device) => Ok(false),
+            Ok(()) => Ok(Ok(())),
+            Err(PlaceFault::Device(error)) => Ok(Err(NotDone::NotSynced(error))),
             Err(PlaceFault::OutOfMemory) => Err(AllocError),
         }
     }
 
-    // The hidden names of a recipe that passed; None where the report can't be taken or the target's file isn't on the disk.
+    // The hidden names of a recipe that passed, or why the report can't be taken or the target's file isn't on the disk.
     fn hidden_once_synced<P: Place>(
         &self,
         alloc: Global,
         key: HashKey,
         place: &P,
-    ) -> Result<Option<ByteStrings>, AllocError> {
+    ) -> Result<Result<ByteStrings, NotDone>, AllocError> {
         let hidden = self.hidden(alloc, key, place);
         self.remove_report(place);
-        let Some(hidden) = hidden? else {
-            return Ok(None);
+        let hidden = match hidden? {
+            Ok(hidden) => hidden,
+            Err(not_done) => return Ok(Err(not_done)),
         };
-        if !self.is_synced(place)? {
-            return Ok(None);
+        match self.synced(place)? {
+            Ok(()) => Ok(Ok(hidden)),
+            Err(not_done) => Ok(Err(not_done)),
         }
-        Ok(Some(hidden))
     }
 
     // A 'done' where it may stand in the state, else a 'failed'.
-    fn into_done(self, alloc: Global, hidden: ByteStrings) -> Result<Option<Record>, AllocError>
-        ensures good { IfOk result (λ r. IfSome r (λ note. IsGood Two note)) }
-        ensures end { IfOk result (λ r. IfSome r (λ note. IsEndOf Done self.target self.commands self.explicit note)) }
+    fn into_done(self, alloc: Global, hidden: ByteStrings) -> Result<Last, AllocError>
+        ensures good { IfOk result (λ l. IfSome l.record (λ note. IsGood Two note)) }
+        ensures end { IfOk result (λ l. IfSome l.record (λ note. IsEndOf Done self.target self.commands self.explicit note)) }
     {
         let target = self.target.copy(alloc)?;
         match writable(self.done(hidden)) {
-            Some(done) => Ok(Some(done)),
-            None => Ok(failed(target, NOT_TAKEN)),
+            Some(done) => Ok(Last {
+                record: Some(done),
+                not_done: None,
+            }),
+            None => Ok(Last {
+                record: failed(target, NOT_TAKEN),
+                not_done: Some(NotDone::LongRecord),
+            }),
         }
     }
 
     /// The record of the end: a 'done' only where the report was taken, the target's file is on the disk, and the record may
-    /// stand in the state. None where not even a 'failed' may.
+    /// stand in the state.
     pub fn last_record<P: Place>(
         self,
         alloc: Global,
         key: HashKey,
         place: &P,
         outcome: Outcome,
-    ) -> Result<Option<Record>, AllocError>
+    ) -> Result<Last, AllocError>
         requires { FailsInRange outcome }
-        ensures good { IfOk result (λ r. IfSome r (λ note. IsGood Two note)) }
-        ensures end { IfOk result (λ r. IfSome r (λ note. IsEndOf outcome self.target self.commands self.explicit note)) }
+        ensures good { IfOk result (λ l. IfSome l.record (λ note. IsGood Two note)) }
+        ensures end { IfOk result (λ l. IfSome l.record (λ note. IsEndOf outcome self.target self.commands self.explicit note)) }
     {
         if let Outcome::Failed(status) = outcome {
             self.remove_report(place);
-            return Ok(self.into_failed(status));
+            return Ok(self.into_failed(status, None));
         }
         match self.hidden_once_synced(alloc, key, place)? {
-            Some(hidden) => self.into_done(alloc, hidden),
-            None => Ok(self.into_failed(NOT_TAKEN)),
+            Ok(hidden) => self.into_done(alloc, hidden),
+            Err(not_done) => Ok(self.into_failed(NOT_TAKEN, Some(not_done))),
         }
     }
 }

@@ -1,17 +1,26 @@
 //! What is printed while recipes run.
 
+use crate::NotDone;
 use bd_lists::Ended;
 use mk_macros::MacroFault;
 
 /// What a run has to tell about its targets, on standard error.
 #[derive(Clone, Copy)]
 pub enum News<'a> {
-    /// Its recipe failed with this status: 256 where it was stopped or not started.
-    Failed { target: &'a [u8], status: u32 },
+    /// Its recipe failed with this status: 256 where it was stopped or not started, or where it passed and the target isn't done.
+    Failed {
+        target: &'a [u8],
+        status: u32,
+        not_done: Option<&'a NotDone>,
+    },
     /// A record of it may not stand in the state.
-    NotRecorded { target: &'a [u8] },
+    NotRecorded {
+        target: &'a [u8],
+    },
     /// A line of its recipe can't be expanded.
-    NotExpanded { fault: &'a MacroFault },
+    NotExpanded {
+        fault: &'a MacroFault,
+    },
     /// What MAKEFLAGS names isn't used: recipes run one by one.
     SlotsUnused,
     /// No pool could be served, so recipes are told of none.
@@ -19,7 +28,10 @@ pub enum News<'a> {
     /// A token couldn't be read from the jobserver or given back. It is told once in a run.
     JobserverFailed,
     /// So many workers run, fewer than were asked for: no more could be started.
-    FewerWorkers { workers: usize, asked: usize },
+    FewerWorkers {
+        workers: usize,
+        asked: usize,
+    },
 }
 
 /// What prints. It is called while no lock of the run is held, by several threads, so it takes a lock of its own.

@@ -3,7 +3,7 @@
 use Rattle.std.specs.Prelude.{◌≡◌, ℕ, ◌<◌, ◌≤◌, Bool, not, List, ◌++◌, codes, decimal}
 use Rattle.std.specs.List.{list_any}
 use Rattle.byte_strings.specs.Blanks.{is_blank}
-use Rattle.jb_slots.specs.Auth.{Authority, absent, disabled, fifo, descriptors, unreadable}
+use Rattle.jb_auth.specs.Auth.{Authority, absent, disabled, fifo, descriptors, unreadable}
 use Rattle.jb_runner.specs.declared.serving.Source.{Source}
 use Rattle.jb_runner.specs.declared.serving.Source.TheVariants.{Client, Server, Alone, Unused}
 

@@ -14,7 +14,7 @@ use bd_ledger::Ticket;
 use bd_links::Node;
 use bd_lists::{Advanced, Clearance, Exec, Recipe, Spent, Told};
 use jb_closing::RunFault;
-use jb_recipe::{EndNote, News, Place, Plan, Ran, Say, run_recipe};
+use jb_recipe::{EndNote, Last, News, NotDone, Place, Plan, Ran, Say, run_recipe};
 use jb_slots::Bank;
 use st_disk::Disk;
 use st_records::Record;
@@ -210,12 +210,14 @@ impl<D: Disk + Drop, E: Exec<Receipt>, S: Say, P: Place> Shop<'_, D, E, S, P> {
         let spent = self.say_block(ran);
         let outcome = spent.outcome();
         match note.last_record(alloc, self.key, self.place, outcome) {
-            Ok(Some(last)) => self.submit_end(rt, alloc, node, last, spent, shift, kept),
-            Ok(None) => {
-                kept.keep_begun(Some(spent.give_up()));
-                self.not_recorded(rt, node, shift);
-                Ok(())
-            }
+            Ok(Last { record, not_done }) => match record {
+                Some(last) => self.submit_end(rt, alloc, node, last, not_done, spent, shift, kept),
+                None => {
+                    kept.keep_begun(Some(spent.give_up()));
+                    self.not_recorded(rt, node, shift);
+                    Ok(())
+                }
+            },
             Err(_) => {
                 kept.keep_begun(Some(spent.give_up()));
                 Err(RunFault::OutOfMemory)
@@ -229,6 +231,7 @@ impl<D: Disk + Drop, E: Exec<Receipt>, S: Say, P: Place> Shop<'_, D, E, S, P> {
         alloc: Global,
         node: Node,
         last: Record,
+        not_done: Option<NotDone>,
         spent: Spent<Receipt>,
         shift: &mut Shift,
         kept: &mut Kept,
@@ -243,7 +246,7 @@ impl<D: Disk + Drop, E: Exec<Receipt>, S: Say, P: Place> Shop<'_, D, E, S, P> {
         let failed = failed_status(&last);
         match self.hand_in_end(rt, node, last, spent, kept) {
             Some(ticket) => {
-                self.tell_end(node, failed, shift);
+                self.tell_end(node, failed, not_done.as_ref(), shift);
                 self.settle_end(rt, alloc, node, ticket, copy, failed, kept)
             }
             None => {
@@ -254,9 +257,15 @@ impl<D: Disk + Drop, E: Exec<Receipt>, S: Say, P: Place> Shop<'_, D, E, S, P> {
         }
     }
 
-    fn tell_end(&self, node: Node, failed: Option<u32>, shift: &mut Shift) {
+    fn tell_end(
+        &self,
+        node: Node,
+        failed: Option<u32>,
+        not_done: Option<&NotDone>,
+        shift: &mut Shift,
+    ) {
         if let Some(status) = failed {
-            self.tell_failed(node, status);
+            self.tell_failed(node, status, not_done);
             shift.worsen(1);
         }
     }
@@ -295,11 +304,15 @@ impl<D: Disk + Drop, E: Exec<Receipt>, S: Say, P: Place> Shop<'_, D, E, S, P> {
         advanced
     }
 
-    fn tell_failed(&self, node: Node, status: u32) {
+    fn tell_failed(&self, node: Node, status: u32, not_done: Option<&NotDone>) {
         let number = node.number();
         if number < self.graph.names.len() {
             let target = self.graph.names.name(number);
-            self.say.tell(News::Failed { target, status });
+            self.say.tell(News::Failed {
+                target,
+                status,
+                not_done,
+            });
         }
     }
 }

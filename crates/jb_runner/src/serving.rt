@@ -2,7 +2,7 @@
 ghost use Rattle.std.specs.Prelude.{◌≡◌, IfOk};
 ghost use Rattle.std.specs.List.{list_any};
 ghost use Rattle.byte_strings.specs.Blanks.{is_blank};
-ghost use Rattle.jb_slots.specs.Auth.{Authority, Says};
+ghost use Rattle.jb_auth.specs.Auth.{Authority, Says};
 ghost use Rattle.jb_runner.specs.Serving.{ComesFrom, is_one_word, served_flags};
 
 use byte_strings::{ByteString, is_blank};

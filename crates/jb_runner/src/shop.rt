@@ -9,6 +9,7 @@ use jb_slots::{Bank, Slots};
 use mk_rules::Graph;
 use st_disk::Disk;
 use st_records::HashKey;
+use std::sync::atomic::{AtomicUsize, Ordering};
 use std::sync::{Condvar, Mutex, Wait};
 
 /// What the workers of a run share. Two locks stand in `flusher`, that of the site and that of the board; the site's may be
@@ -27,6 +28,8 @@ pub struct Shop<'a, D: Disk + Drop, E, S, P> {
     pub slots: Slots,
     /// Told whenever the board's lists have changed so that an idle worker may find a node, or none for ever.
     changed: Condvar,
+    /// How many workers are idle: it is changed while the board's lock is held.
+    idle: AtomicUsize,
     /// Whether the jobserver's fault was told.
     complained: Mutex<bool>,
 }
@@ -51,6 +54,7 @@ impl<'a, D: Disk + Drop, E, S: Say, P> Shop<'a, D, E, S, P> {
             flusher,
             slots: Slots::new(),
             changed: Condvar::new(),
+            idle: AtomicUsize::new(0),
             complained: Mutex::new(false),
         }
     }
@@ -67,6 +71,7 @@ impl<'a, D: Disk + Drop, E, S: Say, P> Shop<'a, D, E, S, P> {
             flusher,
             slots: _,
             changed: _,
+            idle: _,
             complained: _,
         } = self;
         let Flusher { site, board } = flusher;
@@ -82,14 +87,19 @@ impl<'a, D: Disk + Drop, E, S: Say, P> Shop<'a, D, E, S, P> {
                 drop(board);
                 return claimed;
             }
+            self.idle.fetch_add(1, Ordering::Relaxed);
             board = self.changed.wait(rt, board);
+            self.idle.fetch_sub(1, Ordering::Relaxed);
         }
         unreachable!()
     }
 
-    /// Tells idle workers that the board has changed.
+    /// Tells idle workers, if there are any, that the board has changed. The board's lock isn't held: a worker that became idle
+    /// before the change is counted, and one that looks at the board behind it sees it.
     pub(crate) fn tell_idle(&self) {
-        self.changed.notify_all();
+        if self.idle.load(Ordering::Relaxed) > 0 {
+            self.changed.notify_all();
+        }
     }
 
     /// A node can't be made: it is abandoned, unless its record is still to be drained. Without `-k` all that waits is too.

@@ -1,2 +1,1 @@
 pub mod TokensLemmas
-pub mod AuthLemmas

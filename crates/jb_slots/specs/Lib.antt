@@ -1,4 +1,3 @@
 pub mod Tokens
 pub mod Slots
 pub mod End
-pub mod Auth

@@ -1,7 +1,6 @@
-// Job slots: what MAKEFLAGS says of a jobserver, and dmk as its client and as its server.
+// Job slots: dmk as a client of a jobserver, and as its server.
 #![tactic(auto)]
 
-mod auth;
 mod bank;
 mod banks;
 mod end;
@@ -12,12 +11,12 @@ mod laws;
 mod memory_bank;
 mod slots;
 
-pub use auth::{Auth, dry, read_auth};
 pub use bank::{Bank, Taken};
 pub use banks::Banks;
 pub use end::{End, Pipe};
 pub use fault::BankFault;
 pub use fifo_bank::{Fifo, FifoBank, FifoBanks};
+pub use jb_auth::{Auth, dry, read_auth};
 pub use laws::returns_tokens;
 pub use memory_bank::{MemoryBank, MemoryPipe, MemoryPool};
 pub use slots::{Slot, Slots};

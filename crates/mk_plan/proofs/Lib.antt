@@ -1,3 +1,5 @@
+pub mod KnownLemmas
+pub mod NodeLemmas
 pub mod RecipeLemmas
 pub mod PassingLemmas
 pub mod SameLemmas

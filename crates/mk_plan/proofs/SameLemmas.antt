@@ -5,6 +5,7 @@ use Rattle.std.specs.List.{join_with_byte}
 use Rattle.std.specs.Str.{is_utf8}
 use Rattle.std.proofs.Common.{◌≡◌, ◌≢◌, ◌⊎◌, ◌∙◌, ℕ, Bool, true, false, List, [], ◌∷◌, map, Option, Some, None, refl, sym, ap, subst}
 use Rattle.std.proofs.lemmas.Option.{same_Some, slice_get-map}
+use Rattle.mk_graph.specs.Edges.{row}
 use Rattle.mk_macros.specs.Words.{to_directory, to_file, changed_words}
 use Rattle.mk_macros.specs.Dynamic.{whole_value, recipe_value}
 use Rattle.mk_macros.specs.Expansion.{Meaning, gives}
@@ -13,19 +14,20 @@ use Rattle.mk_macros.specs.declared.dynamic.RecipeNames.{RecipeNames}
 use Rattle.mk_macros.proofs.OutcomeLemmas.{expands_once}
 use Rattle.mk_reader.specs.declared.item.RecipeLine.{RecipeLine}
 use Rattle.mk_recipe.specs.Line.{IsLine, IsExempt}
-use Rattle.mk_recipe.specs.Verdict.{IsLater, NamesOthers, Holds, IsOutOfDate}
 use Rattle.mk_recipe.specs.declared.line.Line.{Line}
-use Rattle.mk_recipe.specs.declared.verdict.Prerequisite.{Prerequisite}
-use Rattle.mk_recipe.specs.declared.verdict.Target.{Target}
-use Rattle.mk_recipe.specs.declared.verdict.Reason.{Reason}
-use Rattle.mk_recipe.specs.declared.verdict.Reason.TheVariants as reason
 use Rattle.mk_recipe.proofs.RecordedLemmas.{same_records}
+use Rattle.mk_verdict.specs.Verdict.{IsLater, NamesOthers, Holds, IsOutOfDate}
+use Rattle.mk_verdict.specs.declared.verdict.Prerequisite.{Prerequisite}
+use Rattle.mk_verdict.specs.declared.verdict.Target.{Target}
+use Rattle.mk_verdict.specs.declared.verdict.Reason.{Reason}
+use Rattle.mk_verdict.specs.declared.verdict.Reason.TheVariants as reason
 use Rattle.mk_rules.specs.declared.graph.Graph.{Graph}
 use Rattle.st_records.specs.declared.record.Entry.{Entry}
 use Rattle.mk_plan.specs.Nodes.{recipe_of, entry_of}
 use Rattle.mk_plan.specs.Recipe.{IsExpandedLine, AreExpanded, AreNames, recipe_meaning, AreLinesOf}
 use Rattle.mk_plan.specs.Target.{Seen, shown, IsTargetOf}
-use Rattle.mk_plan.specs.Passing.{Passes, is_listed, is_up_to_date, has_no_recipe}
+use Rattle.mk_plan.specs.Passing.{Passes, is_listed, is_up_to_date, has_no_recipe, is_left}
+use Rattle.mk_plan.proofs.NodeLemmas.{same_newer}
 
 -- ---- one meaning
 
@@ -49,7 +51,7 @@ module _ (graph : Graph) (marks : List Bool) (n : ℕ) (a b : RecipeNames) (of_a
       ap (λ t. whole_from t a.source.now a.stem.now (map (λ word. word.now) a.newer.now) sign) (of_a.target ∙ sym of_b.target)
       ∙ ap (λ s. whole_from b.target.now s a.stem.now (map (λ word. word.now) a.newer.now) sign) (of_a.source ∙ sym of_b.source)
       ∙ ap (λ s. whole_from b.target.now b.source.now s (map (λ word. word.now) a.newer.now) sign) (of_a.stem ∙ sym of_b.stem)
-      ∙ ap (λ ws. whole_from b.target.now b.source.now b.stem.now ws sign) (of_a.newer ∙ sym of_b.newer)
+      ∙ ap (λ ws. whole_from b.target.now b.source.now b.stem.now ws sign) (same_newer graph marks n (row graph.hard n) _ _ of_a.newer of_b.newer)
 
   same_value : (name : List ℕ) → recipe_value a name ≡ recipe_value b name
   same_value [] = refl
@@ -180,11 +182,18 @@ module _ (keeping : Bool) (graph : Graph) (marks : List Bool) (n : ℕ) where
       (refl, ap (λ lines. lines ∷ []) (lines_of_recipes r s ls ms is_r is_s of_ls of_ms))
   passes_once p q a b (is_listed r ls t is_r of_ls is_t out) (is_up_to_date s ms u is_s of_ms is_u up) =
       absurd (not_both r s ls ms t u is_r is_s of_ls of_ms is_t is_u out up)
-  passes_once p q a b (is_listed r ls t is_r of_ls is_t out) (has_no_recipe none) = absurd (no_recipe r is_r none)
+  passes_once p q a b (is_listed r ls t is_r of_ls is_t out) (has_no_recipe none ends) = absurd (no_recipe r is_r none)
+  passes_once p q a b (is_listed r ls t is_r of_ls is_t out) (is_left none stays) = absurd (no_recipe r is_r none)
   passes_once p q a b (is_up_to_date r ls t is_r of_ls is_t up) (is_listed s ms u is_s of_ms is_u out) =
       absurd (not_both s r ms ls u t is_s is_r of_ms of_ls is_u is_t out up)
   passes_once p q a b (is_up_to_date r ls t is_r of_ls is_t up) (is_up_to_date s ms u is_s of_ms is_u up') = (refl, refl)
-  passes_once p q a b (is_up_to_date r ls t is_r of_ls is_t up) (has_no_recipe none) = absurd (no_recipe r is_r none)
-  passes_once p q a b (has_no_recipe none) (is_listed s ms u is_s of_ms is_u out) = absurd (no_recipe s is_s none)
-  passes_once p q a b (has_no_recipe none) (is_up_to_date s ms u is_s of_ms is_u up) = absurd (no_recipe s is_s none)
-  passes_once p q a b (has_no_recipe none) (has_no_recipe none') = (refl, refl)
+  passes_once p q a b (is_up_to_date r ls t is_r of_ls is_t up) (has_no_recipe none ends) = absurd (no_recipe r is_r none)
+  passes_once p q a b (is_up_to_date r ls t is_r of_ls is_t up) (is_left none stays) = absurd (no_recipe r is_r none)
+  passes_once p q a b (has_no_recipe none ends) (is_listed s ms u is_s of_ms is_u out) = absurd (no_recipe s is_s none)
+  passes_once p q a b (has_no_recipe none ends) (is_up_to_date s ms u is_s of_ms is_u up) = absurd (no_recipe s is_s none)
+  passes_once p q a b (has_no_recipe none ends) (has_no_recipe none' ends') = (refl, refl)
+  passes_once p q a b (has_no_recipe none ends) (is_left none' stays) = absurd (stays ends)
+  passes_once p q a b (is_left none stays) (is_listed s ms u is_s of_ms is_u out) = absurd (no_recipe s is_s none)
+  passes_once p q a b (is_left none stays) (is_up_to_date s ms u is_s of_ms is_u up) = absurd (no_recipe s is_s none)
+  passes_once p q a b (is_left none stays) (has_no_recipe none' ends) = absurd (stays ends)
+  passes_once p q a b (is_left none stays) (is_left none' stays') = (refl, refl)

@@ -1,10 +1,10 @@
 -- What a graph has under a number. Past the end there is nothing.
-use Rattle.std.specs.Prelude.{ℕ, ℤ, Bool, false, ◌||◌, List, [], map, filter, slice_get, slice_index_or, Option, is_none, option_map, option_and_then, unwrap_or}
-use Rattle.std.specs.List.{list_any}
+use Rattle.std.specs.Prelude.{◌≡◌, ◌⊎◌, ℕ, ℤ, Bool, false, IsTrue, List, [], ◌∷◌, map, slice_get, slice_index_or, Option, None, option_map, option_and_then, unwrap_or}
+use Rattle.std.specs.List.{Any}
 use Rattle.std.specs.Option.{option_map_or}
 use Rattle.mk_graph.specs.Edges.{row}
 use Rattle.mk_graph.specs.Numbering.{name_at}
-use Rattle.mk_recipe.specs.Tests.{is_later}
+use Rattle.mk_verdict.specs.Verdict.{IsLater}
 use Rattle.mk_reader.specs.declared.item.RecipeLine.{RecipeLine}
 use Rattle.mk_rules.specs.Node.{source_in, explicit_in}
 use Rattle.mk_rules.specs.declared.graph.Node.{Node}
@@ -47,15 +47,19 @@ recipe_of graph n =
 abbrev pub is_marked : (marks : List Bool) (n : ℕ) → Bool
 is_marked marks n = slice_index_or marks n false
 
--- the prerequisite m is among the words of `$?` for the target n: its file is later, or it was remade; all are where the
--- target has no file (make(1S), "Dynamic Macros"; that remade ones count: own)
-abbrev pub is_newer_word : Graph → (marks : List Bool) → (n m : ℕ) → Bool
-is_newer_word graph marks n m = is_none (stamp_of graph n) || (is_later (stamp_of graph m) (stamp_of graph n) || is_marked marks m)
+-- the prerequisite m is newer than the target n, as `$?` has it: its file is later, or it was remade; each is where the target
+-- has no file (make(1S), "Dynamic Macros"; that remade ones count: own)
+abbrev pub IsNewer : Graph → (marks : List Bool) → (n m : ℕ) → Type 0
+IsNewer graph marks n m = (stamp_of graph n ≡ None) ⊎ (IsLater (stamp_of graph m) (stamp_of graph n) ⊎ IsTrue (is_marked marks m))
 
--- the words of `$?`: of the source and the prerequisites by name, in order
-abbrev pub newer_words : Graph → (marks : List Bool) → (n : ℕ) → List (List ℕ)
-newer_words graph marks n = map (name_at graph.names) (filter (is_newer_word graph marks n) (row graph.hard n))
+-- the words that these prerequisites give `$?` of the target n: the names of those that are newer, in their order
+pub data AreNewer (graph : Graph) (marks : List Bool) (n : ℕ) : (prerequisites : List ℕ) → (words : List (List ℕ)) → Type 0 where
+  nothing : AreNewer graph marks n [] []
+  named : {prerequisites : List ℕ} {words : List (List ℕ)} (m : ℕ) → IsNewer graph marks n m →
+      AreNewer graph marks n prerequisites words → AreNewer graph marks n (m ∷ prerequisites) (name_at graph.names m ∷ words)
+  left_out : {prerequisites : List ℕ} {words : List (List ℕ)} (m : ℕ) → (IsNewer graph marks n m → ⊥) →
+      AreNewer graph marks n prerequisites words → AreNewer graph marks n (m ∷ prerequisites) words
 
 -- a node without a recipe was remade: it has no file, or a hard prerequisite was remade
-abbrev pub ends_remade : Graph → (marks : List Bool) → (n : ℕ) → Bool
-ends_remade graph marks n = is_none (stamp_of graph n) || list_any (is_marked marks) (row graph.hard n)
+abbrev pub EndsRemade : Graph → (marks : List Bool) → (n : ℕ) → Type 0
+EndsRemade graph marks n = (stamp_of graph n ≡ None) ⊎ Any (λ m. IsTrue (is_marked marks m)) (row graph.hard n)

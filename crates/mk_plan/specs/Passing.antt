@@ -4,18 +4,19 @@ use Rattle.std.specs.Prelude.{◌≡◌, ℕ, Bool, true, false, List, [], ◌�
 use Rattle.mk_macros.specs.declared.fault.MacroFault.{MacroFault}
 use Rattle.mk_macros.specs.declared.fault.MacroFault.TheVariants.{OutOfMemory}
 use Rattle.mk_reader.specs.declared.item.RecipeLine.{RecipeLine}
-use Rattle.mk_recipe.specs.Verdict.{IsOutOfDate}
 use Rattle.mk_recipe.specs.declared.line.Line.{Line}
-use Rattle.mk_recipe.specs.declared.verdict.Target.{Target}
+use Rattle.mk_verdict.specs.Verdict.{IsOutOfDate}
+use Rattle.mk_verdict.specs.declared.verdict.Target.{Target}
 use Rattle.mk_rules.specs.declared.graph.Graph.{Graph}
-use Rattle.mk_plan.specs.Nodes.{recipe_of, entry_of, ends_remade}
+use Rattle.mk_plan.specs.Nodes.{recipe_of, entry_of, EndsRemade}
 use Rattle.mk_plan.specs.Recipe.{AreLinesOf, IsFaultOf}
 use Rattle.mk_plan.specs.Target.{IsTargetOf}
 use Rattle.mk_plan.specs.declared.passing.Passed.{Passed}
 use Rattle.mk_plan.specs.declared.passing.Passed.TheVariants as passed
 
 -- node n is passed, where the marks are those of the nodes that were remade before it: whether it counts as remade, and
--- the lines that are listed of it. A node with a recipe is listed where it is out of date, and then counts as remade
+-- the lines that are listed of it. A node with a recipe is listed where it is out of date, and then counts as remade; of one
+-- without, nothing is listed
 pub data Passes (keeping : Bool) (graph : Graph) (marks : List Bool) (n : ℕ) : (remade : Bool) → (listed : List (List Line)) → Type 0 where
   is_listed : (recipe : List RecipeLine) (lines : List Line) (target : Target) →
       recipe_of graph n ≡ Some recipe → AreLinesOf graph marks n recipe lines → IsTargetOf graph marks n lines target →
@@ -23,7 +24,8 @@ pub data Passes (keeping : Bool) (graph : Graph) (marks : List Bool) (n : ℕ) :
   is_up_to_date : (recipe : List RecipeLine) (lines : List Line) (target : Target) →
       recipe_of graph n ≡ Some recipe → AreLinesOf graph marks n recipe lines → IsTargetOf graph marks n lines target →
       (IsOutOfDate keeping (entry_of graph n) target → ⊥) → Passes keeping graph marks n false []
-  has_no_recipe : recipe_of graph n ≡ None → Passes keeping graph marks n (ends_remade graph marks n) []
+  has_no_recipe : recipe_of graph n ≡ None → EndsRemade graph marks n → Passes keeping graph marks n true []
+  is_left : recipe_of graph n ≡ None → (EndsRemade graph marks n → ⊥) → Passes keeping graph marks n false []
 
 -- what passing a node came to, as `Passes` has it
 abbrev pub is_remade : Passed → Bool

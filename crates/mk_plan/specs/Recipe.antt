@@ -10,8 +10,9 @@ use Rattle.mk_reader.specs.declared.item.RecipeLine.{RecipeLine}
 use Rattle.mk_recipe.specs.Line.{IsLine}
 use Rattle.mk_recipe.specs.declared.line.Line.{Line}
 use Rattle.mk_rules.specs.declared.graph.Graph.{Graph}
+use Rattle.mk_graph.specs.Edges.{row}
 use Rattle.mk_graph.specs.Numbering.{name_at}
-use Rattle.mk_plan.specs.Nodes.{source_of, stem_of, newer_words}
+use Rattle.mk_plan.specs.Nodes.{source_of, stem_of, AreNewer}
 
 -- the line is what the unexpanded one gives, where names mean this
 pub record IsExpandedLine (meaning : List ℕ → Meaning) (raw : RecipeLine) (line : Line) : Type 0 where
@@ -37,12 +38,13 @@ abbrev pub IsRecipeFault : (meaning : List ℕ → Meaning) → List RecipeLine 
 IsRecipeFault meaning recipe OutOfMemory = Unit {0}
 IsRecipeFault meaning recipe fault = HasFirstFault meaning recipe fault
 
--- what the dynamic macros of node n stand for. The source and the stem are empty where no implicit rule makes it
+-- what the dynamic macros of node n stand for. The source and the stem are empty where no implicit rule makes it; the words of
+-- `$?` are of the source and the prerequisites by name
 pub record AreNames (graph : Graph) (marks : List Bool) (n : ℕ) (names : RecipeNames) : Type 0 where
   pub target : names.target.now ≡ name_at graph.names n
   pub source : names.source.now ≡ source_of graph n
   pub stem : names.stem.now ≡ stem_of graph n
-  pub newer : map (λ word. word.now) names.newer.now ≡ newer_words graph marks n
+  pub newer : AreNewer graph marks n (row graph.hard n) (map (λ word. word.now) names.newer.now)
 
 -- what a name means in a line of this recipe: recipe lines are expanded with all definitions of the makefile
 abbrev pub recipe_meaning : Graph → RecipeNames → (name : List ℕ) → Meaning

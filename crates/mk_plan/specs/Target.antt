@@ -4,8 +4,8 @@ use Rattle.mk_graph.specs.Edges.{row}
 use Rattle.mk_graph.specs.Numbering.{name_at}
 use Rattle.mk_recipe.specs.Line.{Records}
 use Rattle.mk_recipe.specs.declared.line.Line.{Line}
-use Rattle.mk_recipe.specs.declared.verdict.Prerequisite.{Prerequisite}
-use Rattle.mk_recipe.specs.declared.verdict.Target.{Target}
+use Rattle.mk_verdict.specs.declared.verdict.Prerequisite.{Prerequisite}
+use Rattle.mk_verdict.specs.declared.verdict.Target.{Target}
 use Rattle.mk_rules.specs.declared.graph.Graph.{Graph}
 use Rattle.mk_plan.specs.Nodes.{stamp_of, hidden_of, explicit_of, is_marked}
 

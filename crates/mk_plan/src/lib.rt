@@ -8,6 +8,6 @@ mod passing;
 mod recipe;
 mod target;
 
-pub use laws::one_passing;
+pub use laws::{nodes_by_name, one_passing};
 pub use nodes::explicit_of;
 pub use passing::{Passed, pass};

@@ -4,9 +4,10 @@ ghost use Rattle.std.specs.List.{list_any};
 ghost use Rattle.std.specs.Option.{option_copied, option_map_or};
 ghost use Rattle.mk_graph.specs.Edges.{row};
 ghost use Rattle.mk_graph.specs.Numbering.{name_at};
-ghost use Rattle.mk_recipe.specs.Tests.{is_later};
+ghost use Rattle.mk_verdict.specs.Tests.{is_later};
 ghost use Rattle.mk_rules.specs.Node.{source_in};
-ghost use Rattle.mk_plan.specs.Nodes.{node_at, stamp_of, entry_of, stem_of, source_of, explicit_of, recipe_of, is_marked, is_newer_word, newer_words, ends_remade};
+ghost use Rattle.mk_plan.specs.Nodes.{node_at, stamp_of, entry_of, stem_of, source_of, explicit_of, recipe_of, is_marked};
+ghost use Rattle.mk_plan.specs.Tests.{is_newer_word, newer_words, ends_remade};
 
 use byte_strings::ByteStrings;
 use mk_reader::RecipeLine;

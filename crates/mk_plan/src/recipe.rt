@@ -43,6 +43,7 @@ fn expanded_lines(
 }
 
 /// The lines of the recipe of a node, where the marks are those of the nodes that were remade before it.
+#[tactic(auto, using(crate::proofs::NodeLemmas::are_newer))]
 pub fn lines_of(
     alloc: Global,
     graph: &Graph,

@@ -1,7 +1,7 @@
 //! A node of a graph as it is judged.
 ghost use Rattle.std.specs.Prelude.{◌≡◌, ◌<◌, Some, None, true, false, length, map, IfOk};
-ghost use Rattle.mk_recipe.specs.Verdict.{IsVerdict};
-ghost use Rattle.mk_recipe.specs.declared.verdict.Target.{Target as Judged};
+ghost use Rattle.mk_verdict.specs.Verdict.{IsVerdict};
+ghost use Rattle.mk_verdict.specs.declared.verdict.Target.{Target as Judged};
 ghost use Rattle.mk_plan.specs.Nodes.{entry_of, hidden_of};
 ghost use Rattle.mk_plan.specs.Target.{shown, seen_at, seen_of, IsTargetOf};
 

@@ -1,10 +1,7 @@
 pub mod AnswerLemmas
-pub mod FirstLemmas
 pub mod HiddenLemmas
 pub mod OutcomeLemmas
 pub mod NameLemmas
-pub mod ReasonLemmas
 pub mod RecordedLemmas
 pub mod ReportLemmas
 pub mod ReportLineLemmas
-pub mod VerdictLemmas

@@ -1,4 +1,4 @@
--- Line, Outcome, Report, Told and Verdict are the model.
+-- Line, Outcome and Report are the model.
 -- Line: the parts of a recipe line, and which lines the state keeps.
 pub mod Line
 -- Outcome: what a recipe came to.
@@ -9,7 +9,3 @@ pub mod Reading
 pub mod Report
 -- Tests: what the private functions compute, by one test after the other.
 pub mod Tests
--- Told: a reason in a user's words.
-pub mod Told
--- Verdict: why a target is out of date.
-pub mod Verdict

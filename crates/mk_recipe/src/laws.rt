@@ -1,20 +1,13 @@
 //! What holds of the definitions alone. The functions do nothing: what they ensure is the law.
-ghost use Rattle.std.specs.Prelude.{◌≡◌, ℕ, Bool, true, not, ◌&&◌, List, ◌∷◌, Option, Some, bytes_eq};
+ghost use Rattle.std.specs.Prelude.{◌≡◌, ℕ, Bool, not, ◌&&◌, List, ◌∷◌, Some, bytes_eq};
 ghost use Rattle.std.specs.List.{IsDistinct};
 ghost use Rattle.mk_reader.specs.Lines.{joined_lines};
-ghost use Rattle.st_records.specs.declared.record.Entry.{Entry};
-ghost use Rattle.st_records.specs.declared.record.Phase.TheVariants as phase;
-ghost use Rattle.mk_recipe.specs.declared.verdict.Target.{Target};
-ghost use Rattle.mk_recipe.specs.declared.verdict.Verdict.{Verdict};
-ghost use Rattle.mk_recipe.specs.declared.verdict.Verdict.TheVariants as verdict;
-ghost use Rattle.mk_recipe.specs.declared.verdict.Reason.TheVariants as reason;
 ghost use Rattle.mk_recipe.specs.declared.line.Line.{Line};
 ghost use Rattle.mk_recipe.specs.declared.line_status.LineStatus.{LineStatus};
 ghost use Rattle.mk_recipe.specs.declared.line_status.Outcome.{Outcome};
 ghost use Rattle.mk_recipe.specs.Line.{Records};
 ghost use Rattle.mk_recipe.specs.Outcome.{IsOutcome};
 ghost use Rattle.mk_recipe.specs.Report.{has, mentioned, AreHidden};
-ghost use Rattle.mk_recipe.specs.Verdict.{IsVerdict};
 
 /// The lines of a recipe have one list of commands that the state keeps.
 pub fn one_record()
@@ -25,23 +18,6 @@ pub fn one_record()
 pub fn one_outcome()
     ensures { (ignore : Bool) (lines : List LineStatus) (a b : Outcome)
         → IsOutcome ignore lines a → IsOutcome ignore lines b → a ≡ b }
-{}
-
-/// A target has one verdict.
-pub fn one_verdict()
-    ensures { (keeping : Bool) (entry : Option Entry) (target : Target) (a b : Verdict)
-        → IsVerdict keeping entry target a → IsVerdict keeping entry target b → a ≡ b }
-{}
-
-/// A target whose recipe was begun and didn't come to an end is out of date, whatever the times of files.
-pub fn begun_is_out_of_date()
-    ensures { (entry : Entry) (target : Target) (a : Verdict) → entry.phase ≡ phase.Begun
-        → IsVerdict true (Some entry) target a → a ≡ verdict.OutOfDate reason.WasBegun }
-{}
-
-/// Each target has a verdict.
-pub fn each_judged()
-    ensures { (keeping : Bool) (entry : Option Entry) (target : Target) → (a : Verdict) × IsVerdict keeping entry target a }
 {}
 
 /// A name is hidden just where a line of the report says it of the target, and it is neither the target nor known. None

@@ -1,5 +1,5 @@
-//! Recipe lines and verdicts: what a line of a recipe is, what a target's recipe leaves behind in the state, what its
-//! report says, and whether a target is finished.
+//! Recipes: what a line of one is, what a target's recipe leaves behind in the state, what it came to, and what its report
+//! says. Verdicts are those of `mk_verdict`.
 //!
 //! A blank is a space or a TAB, as in `byte_strings`.
 #![tactic(auto)]
@@ -11,15 +11,10 @@ mod line_status;
 mod name_set;
 mod report;
 mod report_line;
-mod told;
-mod verdict;
 
 pub use exit_status::outcome;
-pub use laws::{
-    begun_is_out_of_date, each_judged, hidden_as_mentioned, one_outcome, one_record, one_verdict,
-};
+pub use laws::{hidden_as_mentioned, one_outcome, one_record};
 pub use line::{Line, recorded, split_line};
 pub use line_status::{LineStatus, Outcome};
+pub use mk_verdict::{Prerequisite, Reason, Target, Told, Verdict, judge};
 pub use report::{ReportFault, read_report};
-pub use told::Told;
-pub use verdict::{Prerequisite, Reason, Target, Verdict, judge};

@@ -1,5 +1,5 @@
 -- What is found of all names, in terms of the inputs.
-use Rattle.std.proofs.Common.{◌≡◌, ℕ, ℤ, ◌<◌, Bool, true, false, not, List, length, inl, inr, Option, Some, None, refl, sym, ap, subst, ◌∙◌}
+use Rattle.std.proofs.Common.{◌≡◌, ℕ, ℤ, ◌<◌, Bool, true, false, not, List, [], length, inl, inr, Option, Some, None, refl, sym, ap, subst, ◌∙◌}
 use Rattle.std.specs.Prelude.{◌⊎◌, IfSome, unwrap_or, take, slice_get}
 use Rattle.mk_graph.specs.Numbering.{IsNumbering, AreDescribed, has_name}
 use Rattle.mk_graph.specs.NumberingFault.{IsNumberingFault}
@@ -12,7 +12,7 @@ use Rattle.mk_rules.specs.Faults.{AreTold, IsReachedFrom}
 use Rattle.mk_rule_lines.specs.Forms.{forms_of}
 use Rattle.mk_rules.specs.Found.{times_with, IsFindingFault}
 use Rattle.mk_rules.specs.Known.{IsAsked, IsLookUpFault}
-use Rattle.mk_rules.specs.Prerequisites.{inputs_of, is_target, hidden_in, hidden_of, prerequisites_of}
+use Rattle.mk_rules.specs.Prerequisites.{IsTextAmong, inputs_of, own_recipes, is_target, hidden_in, hidden_of, prerequisites_of}
 use Rattle.mk_rule_lines.specs.Rules.{has, places, targets_by, suffixes_of}
 use Rattle.mk_rules.specs.Source.{IsReached}
 use Rattle.mk_rule_lines.specs.Source.{source_of}
@@ -61,8 +61,9 @@ module _ (lines : List RuleLine) (targets : TargetTable)
     (named : (name : List ℕ) → (table.named_at targets name).lines ≡ places (λ l. has name (targets_by false (suffixes_of lines) l)) 0 lines)
     (forms : List Form) (all_forms : forms ≡ forms_of (suffixes_of lines) lines) (entries : (name : List ℕ) → Option Entry)
     (stamps : Stamps) (times : List ℕ → Option ℤ) (agrees : AgreesWith stamps times) where
-  reached : (node name : List ℕ) → IsReached targets stamps forms node name → IsReachedFrom (inputs_of lines entries times) node name
-  reached node name r = record {
+  reached : (node name : List ℕ) → own_recipes lines node ≡ [] → IsReached targets stamps forms node name → IsReachedFrom (inputs_of lines entries times) node name
+  reached node name none r = record {
+    no_recipe = none;
     place = r.place;
     form = r.form;
     stem = r.stem;
@@ -75,15 +76,15 @@ module _ (lines : List RuleLine) (targets : TargetTable)
         ∙ ap (λ (fs : List Form). source_of (table.is_there targets times) (take r.place fs) node) (sym all_forms) ∙ r.earlier times agrees;
   }
 
-  asked : (node name : List ℕ) → IsAsked targets stamps forms (hidden_in (entries node)) node name →
-      (name ≡ node) ⊎ ((has name (hidden_of (inputs_of lines entries times) node) ≡ true) ⊎ IsReachedFrom (inputs_of lines entries times) node name)
+  asked : (node name : List ℕ) → IsAsked targets stamps forms (own_recipes lines node) (hidden_in (entries node)) node name →
+      (name ≡ node) ⊎ (IsTextAmong (hidden_of (inputs_of lines entries times) node) name ⊎ IsReachedFrom (inputs_of lines entries times) node name)
   asked node name (inl own) = inl own
   asked node name (inr (inl hidden)) = inr (inl hidden)
-  asked node name (inr (inr r)) = inr (inr (reached node name r))
+  asked node name (inr (inr (none, r))) = inr (inr (reached node name none r))
 
   -- a name that can't be looked up is one that the goals lead to
   pub finding_fault : (refuses : List ℕ → Type 0) (goals : List (List ℕ)) (limit : ℕ) (node : List ℕ) (f : RuleFault) →
-      IsLookUpFault targets stamps refuses forms (hidden_in (entries node)) node f →
+      IsLookUpFault targets stamps refuses forms (own_recipes lines node) (hidden_in (entries node)) node f →
       ((names : List (List ℕ)) → IsNumbering (prerequisites_of (inputs_of lines entries times)) goals names → has_name names node ≡ true) →
       IsFindingFault (inputs_of lines entries times) refuses goals limit f
   finding_fault refuses goals limit node fault.OutOfMemory meets is = tt

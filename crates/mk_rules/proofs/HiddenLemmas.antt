@@ -1,12 +1,14 @@
 -- The hidden prerequisites of a name, one at a time.
 use Rattle.std.proofs.Common.{arith, ◌≡◌, ◌≤◌, ℕ, Bool, true, false, not, cond, List, [], ◌∷◌, ◌++◌, length, map, drop, filter, refl, sym, ap, ◌∙◌, length-append}
 use Rattle.std.specs.Prelude.{◌||◌, bytes_eq}
+use Rattle.std.specs.Str.{is_utf8}
 use Rattle.std.proofs.lemmas.List.{drop-append-le, map-append}
 use Rattle.std.proofs.lemmas.List.Folds.{list_any-append}
 use Rattle.mk_graph.specs.Numbering.{has_name, added, all_added}
 use Rattle.mk_rule_lines.specs.Rules.{has}
 use Rattle.mk_rules.specs.Stamps.{IsLookFault}
 use Rattle.mk_rules.specs.Hidden.{HasHidden, IsNamesFault}
+use Rattle.mk_rules.specs.Prerequisites.{IsTextAmong}
 use Rattle.mk_rules.specs.declared.mentioned.Mentioned.{Mentioned}
 use Rattle.mk_rule_lines.specs.declared.fault.RuleFault.{RuleFault}
 use Rattle.mk_rule_lines.specs.declared.fault.RuleFault.TheVariants as fault
@@ -143,10 +145,19 @@ pub hidden_end : (p : List ℕ → Bool) (hard hidden : List (List ℕ)) (m : Me
 hidden_end p hard hidden m so = record { judged = so.judged_go; nodes = so.nodes_go; among = so.among_are }
 
 -- a name that can't be looked at is one of those that are left, and so of all
-pub names_fault : (refuses : List ℕ → Type 0) (names : List (List ℕ)) (name : List ℕ) → has name names ≡ true → (f : RuleFault) → IsLookFault refuses name f → IsNamesFault refuses names f
+pub names_fault : (refuses : List ℕ → Type 0) (names : List (List ℕ)) (name : List ℕ) → IsTextAmong names name → (f : RuleFault) → IsLookFault refuses name f → IsNamesFault refuses names f
 names_fault refuses names name is fault.OutOfMemory meets = tt
-names_fault refuses names name is (fault.Tree n) meets = (ap (λ (m : List ℕ). has m names) meets.0 ∙ is, meets.1)
+names_fault refuses names name is (fault.Tree n) meets =
+    ((ap (λ (m : List ℕ). has m names) meets.0 ∙ is.0, ap (λ (m : List ℕ). is_utf8 m) meets.0 ∙ is.1), meets.1)
 names_fault refuses names name is _ meets = meets
+
+text_at : (name : List ℕ) (b : Bool) → is_utf8 name ≡ b → (is_utf8 name ≡ false → false ≡ true) → is_utf8 name ≡ true
+text_at name true e never = e
+text_at name false e never = e ∙ never e
+
+-- a name is text where looking at it fails: at one that isn't nobody looks
+pub text_where_refused : (name : List ℕ) → (is_utf8 name ≡ false → false ≡ true) → is_utf8 name ≡ true
+text_where_refused name never = text_at name (is_utf8 name) refl never
 
 pub has_first : (name : List ℕ) (left : List (List ℕ)) → has name (name ∷ left) ≡ true
 has_first name left = let same : bytes_eq name name ≡ true = (bytes_eq-Decides name name).1 refl in simp same refl

@@ -21,6 +21,10 @@ pub ok_both : {T E : Type 0} (r : Result T E) (P Q : T → Type 0) → IfOk r P 
 ok_both (Ok v) P Q p q = (p, q)
 ok_both (Err e) P Q p q = tt
 
+-- a test has one answer
+pub one_answer : {A : Type 0} (b : Bool) → b ≡ true → b ≡ false → A
+one_answer b is isnt = cc
+
 -- a table without a recipe for a name
 pub no_own : (recipe : Option ℕ) → is_some recipe ≡ false → option_to_list recipe ≡ []
 no_own None none = refl

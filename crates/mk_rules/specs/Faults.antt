@@ -8,8 +8,8 @@ use Rattle.mk_rule_lines.specs.Forms.{forms_of}
 use Rattle.mk_rule_lines.specs.Goals.{goals_of}
 use Rattle.mk_rules.specs.Graph.{AreHard}
 use Rattle.mk_rule_lines.specs.Lines.{Defined, AreRuleLines, IsLinesFault}
-use Rattle.mk_rules.specs.Prerequisites.{Inputs, is_target, is_there, hidden_of, prerequisites_of, is_made}
-use Rattle.mk_rule_lines.specs.Rules.{has, targets_by, suffixes_of}
+use Rattle.mk_rules.specs.Prerequisites.{Inputs, IsTextAmong, own_recipes, is_target, is_there, hidden_of, prerequisites_of, is_made}
+use Rattle.mk_rule_lines.specs.Rules.{targets_by, suffixes_of}
 use Rattle.mk_rule_lines.specs.Source.{stem_of, source_at, source_of}
 use Rattle.mk_rule_lines.specs.Supported.{HasRefusedLine}
 use Rattle.mk_rule_lines.specs.Table.{HasTwoRecipes}
@@ -38,9 +38,10 @@ pub record HasNamedCycle (inputs : Inputs) (named cycle : List (List ℕ)) : Typ
   pub is_cycle : IsCycle hard numbers
   pub told : cycle ≡ map (name_at names) numbers
 
--- the search for a source of the node reaches the name: no line makes it, it is that of a candidate, and no candidate of
--- an earlier form is there
+-- the search for a source of the node reaches the name: no line has a recipe for the node, the name is that of a candidate,
+-- no line makes it, and no candidate of an earlier form is there
 pub record IsReachedFrom (inputs : Inputs) (node name : List ℕ) : Type 0 where
+  pub no_recipe : own_recipes inputs.lines node ≡ []
   pub place : ℕ
   pub form : Form
   pub stem : List ℕ
@@ -50,11 +51,12 @@ pub record IsReachedFrom (inputs : Inputs) (node name : List ℕ) : Type 0 where
   pub no_target : is_target inputs.lines name ≡ false
   pub earlier : source_of (is_there inputs) (take place (forms_of (suffixes_of inputs.lines) inputs.lines)) node ≡ None
 
--- the name is one of the graph, a hidden prerequisite of one, or the candidate that the search for a source of one reaches
+-- the name is one of the graph, a hidden prerequisite of one that is text, or the candidate that the search for a source of
+-- one reaches
 pub record IsLookedAt (inputs : Inputs) (named : List (List ℕ)) (name : List ℕ) : Type 0 where
   pub node : List ℕ
   pub is_name : (names : List (List ℕ)) → AreNames inputs named names → has_name names node ≡ true
-  pub asked : (name ≡ node) ⊎ ((has name (hidden_of inputs node) ≡ true) ⊎ IsReachedFrom inputs node name)
+  pub asked : (name ≡ node) ⊎ (IsTextAmong (hidden_of inputs node) name ⊎ IsReachedFrom inputs node name)
 
 -- the fault of these inputs, for the goals that are named. A name that can't be looked at is one that the tree refuses; that
 -- memory was wanted stands outside the inputs

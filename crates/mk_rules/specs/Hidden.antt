@@ -1,7 +1,7 @@
 -- The hidden prerequisites of a name, taken in behind the hard ones.
-use Rattle.std.specs.Prelude.{◌≡◌, ℕ, Bool, true, List, length, map, drop, filter}
+use Rattle.std.specs.Prelude.{◌≡◌, ℕ, Bool, List, length, map, drop, filter}
 use Rattle.mk_graph.specs.Numbering.{all_added}
-use Rattle.mk_rule_lines.specs.Rules.{has}
+use Rattle.mk_rules.specs.Prerequisites.{IsTextAmong}
 use Rattle.mk_rule_lines.specs.declared.fault.RuleFault.{RuleFault}
 use Rattle.mk_rule_lines.specs.declared.fault.RuleFault.TheVariants as fault
 use Rattle.mk_rules.specs.declared.mentioned.Mentioned.{Mentioned}
@@ -12,8 +12,8 @@ pub record HasHidden (is_node : List ℕ → Bool) (hard hidden : List (List ℕ
   pub nodes : m.nodes ≡ all_added hard (filter is_node hidden)
   pub among : m.hidden.items ≡ map is_node (drop (length hard) m.judged)
 
--- the fault of looking at some names
+-- the fault of looking at some names, of which those that aren't text aren't looked at
 abbrev pub IsNamesFault : (refuses : List ℕ → Type 0) → (names : List (List ℕ)) → RuleFault → Type 0
 IsNamesFault refuses names fault.OutOfMemory = Unit {0}
-IsNamesFault refuses names (fault.Tree n) = (has n names ≡ true) × refuses n
+IsNamesFault refuses names (fault.Tree n) = IsTextAmong names n × refuses n
 IsNamesFault refuses names _ = ⊥

@@ -1,5 +1,5 @@
 -- What the rules, the files and the state say of a name: what makes it and what it is made from.
-use Rattle.std.specs.Prelude.{ℕ, ℤ, Bool, not, ◌&&◌, ◌||◌, List, [], ◌∷◌, ◌++◌, filter, Option, Some, None, is_some, option_map, option_to_list}
+use Rattle.std.specs.Prelude.{◌≡◌, ℕ, ℤ, Bool, true, not, ◌&&◌, ◌||◌, List, [], ◌∷◌, ◌++◌, filter, Option, Some, None, is_some, option_map, option_to_list}
 use Rattle.std.specs.List.{list_any}
 use Rattle.std.specs.Option.{option_map_or}
 use Rattle.std.specs.Str.{is_utf8}
@@ -74,6 +74,10 @@ hidden_in entry = option_map_or (λ e. e.hidden) entry []
 
 abbrev pub hidden_of : Inputs → (name : List ℕ) → List (List ℕ)
 hidden_of inputs name = hidden_in (inputs.entries name)
+
+-- the name is one of these and is text: of the others it isn't asked whether they are there
+abbrev pub IsTextAmong : (names : List (List ℕ)) (name : List ℕ) → Type 0
+IsTextAmong names name = (has name names ≡ true) × (is_utf8 name ≡ true)
 
 -- a hidden prerequisite that is a node: its name is text, and there is a file of it or a line that makes it (own); else
 -- it is gone

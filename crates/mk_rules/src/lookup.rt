@@ -1,8 +1,8 @@
 //! What is found of a name: what makes it, and what it is made from.
-ghost use Rattle.std.specs.Prelude.{◌≡◌, ℕ, ℤ, List, Option, [], IfOk, IfErr, OnOk, is_ok};
+ghost use Rattle.std.specs.Prelude.{◌≡◌, ◌⊎◌, ℕ, ℤ, List, Option, [], false, IfOk, IfErr, OnOk, IsOk, is_ok};
 ghost use Rattle.std.specs.FinMap as map;
 ghost use Rattle.std.specs.Str.{is_utf8};
-ghost use Rattle.mk_rules.specs.Prerequisites.{inputs_of, is_node, implicit_source, prerequisites_of};
+ghost use Rattle.mk_rules.specs.Prerequisites.{inputs_of, is_node, implicit_source, own_recipes, prerequisites_of};
 ghost use Rattle.mk_rules.specs.Stamps.{AgreesWith, Asks, Looks, IsLookFault};
 ghost use Rattle.mk_rules.specs.Source.{IsSourceFault};
 ghost use Rattle.mk_rules.specs.Hidden.{HasHidden, IsNamesFault};
@@ -39,6 +39,8 @@ fn is_node<T: Tree>(
     ensures looks { Looks T.honest stamps.old stamps.new (T.stamps tree.old) (T.stamps tree.new) (T.refuses tree.old) (T.refuses tree.new) }
     ensures asks { Asks (is_ok result) stamps.old stamps.new (T.asked tree.old) (T.asked tree.new) }
     ensures fault { IfErr result (IsLookFault (T.refuses tree.new) name.now) }
+    // A name that isn't text is neither asked for nor looked at.
+    ensures unasked { is_utf8 name.now ≡ false → (tree.new ≡ tree.old) × ((stamps.new ≡ stamps.old) × IsOk result) }
 {
     if !is_utf8(name) {
         return Ok(false);
@@ -59,6 +61,8 @@ pub(crate) fn implicit_source<T: Tree>(
     ensures looks { Looks T.honest stamps.old stamps.new (T.stamps tree.old) (T.stamps tree.new) (T.refuses tree.old) (T.refuses tree.new) }
     ensures asks { Asks (is_ok result) stamps.old stamps.new (T.asked tree.old) (T.asked tree.new) }
     ensures fault { IfErr result (IsSourceFault rules.now.targets.now stamps.new (T.refuses tree.new) rules.now.forms.now name.now) }
+    // Beside a recipe of its own no source is looked for.
+    ensures unasked { (own_recipes rules.now.lines.now name.now ≡ []) ⊎ ((tree.new ≡ tree.old) × ((stamps.new ≡ stamps.old) × IsOk result)) }
 {
     if rules.recipe(name).is_some() {
         return Ok(None);

@@ -8,6 +8,8 @@ pub enum RowFault {
     Word,
     /// What is called isn't open.
     NotOpen,
+    /// Two things have one name that are to have names of their own.
+    NamedAlike,
 }
 
 /// Whether a line is answered.

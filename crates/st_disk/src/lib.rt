@@ -2,6 +2,7 @@
 #![tactic(auto)]
 
 mod disk;
+mod failed_call;
 mod fault;
 mod file_disk;
 mod folder;
@@ -12,6 +13,7 @@ mod system_folder;
 mod which;
 
 pub use disk::Disk;
+pub use failed_call::{Call, FailedCall, FailedCallMessage};
 pub use fault::{DeviceFault, count_fault};
 pub use file_disk::FileDisk;
 pub use folder::Folder;

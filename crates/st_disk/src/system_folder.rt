@@ -6,6 +6,7 @@ ghost use Rattle.st_disk.specs.SystemModel.{SystemKeepsModel, nothing_claimed};
 ghost use Rattle.st_disk.specs.declared.which.Which.TheVariants.{A};
 
 use crate::Which;
+use crate::failed_call::{Call, FailedCall};
 use crate::folder::Folder;
 use crate::refusal::refuses_writing;
 use std::alloc::{AllocError, Global};
@@ -20,14 +21,22 @@ pub struct SystemFolder {
     alloc: Global,
     a: String,
     b: String,
+    failed: Option<FailedCall>,
 }
 
-/// An open file, and the name of the folder that it stands in.
+/// An open file, its side, and the name of the folder that it stands in.
 #[derive(Drop)]
 pub struct SystemFile {
     file: File,
+    side: Which,
     folder: String,
 }
+
+const NOT_ORDINARY: &str = "not an ordinary file";
+
+const ONE_FILE: &str = "both sides are one file";
+
+const IN_PART: &str = "only a part was written; the disk may be full";
 
 impl SystemFolder {
     ghost use Rattle.st_disk.specs.SystemFolder.{file_name};
@@ -42,10 +51,26 @@ impl SystemFolder {
             alloc,
             a: String::from_str(alloc, name)?,
             b: format!(in alloc; "{name}.2")?,
+            failed: None,
         })
     }
 
-    fn name(&self, side: Which) -> &str
+    /// The last call that failed.
+    pub fn failed_call(&self) -> Option<FailedCall> {
+        self.failed
+    }
+
+    // Keeps the error of a call, where it failed.
+    fn noted<T>(&mut self, call: Call, side: Which, answer: io::Result<T>) -> io::Result<T> {
+        if let Err(error) = &answer {
+            let error = *error;
+            self.failed = Some(FailedCall { call, side, error });
+        }
+        answer
+    }
+
+    /// The name of a side's file.
+    pub fn name(&self, side: Which) -> &str
         ensures { result.now ≡ file_name self.now side }
     {
         match side {
@@ -65,9 +90,9 @@ impl SystemFolder {
 
     // Opened once, to be written too where that may be, so that no other file is written than was read. A folder can be
     // opened and a pipe would be waited for, so the kind is asked first.
-    fn open(&self, name: &str) -> io::Result<SystemFile> {
+    fn open(&self, side: Which, name: &str) -> io::Result<SystemFile> {
         if !fs::metadata(&self.rt, name)?.is_file() {
-            return Err(ErrorKind::InvalidInput.into());
+            return Err(io::Error::new(ErrorKind::InvalidInput, NOT_ORDINARY));
         }
         let folder = String::from_str(self.alloc, folder_of(name))?;
         let file = match OpenOptions::new()
@@ -79,7 +104,7 @@ impl SystemFolder {
             Err(error) if refuses_writing(&error) => File::open(&self.rt, name)?,
             Err(error) => return Err(error),
         };
-        Ok(SystemFile { file, folder })
+        Ok(SystemFile { file, side, folder })
     }
 
     // Of two sides in one file, a write of the one would change the other.
@@ -99,11 +124,29 @@ impl SystemFolder {
     }
 
     fn open_apart(&self, side: Which, name: &str) -> io::Result<SystemFile> {
-        let opened = self.open(name)?;
+        let opened = self.open(side, name)?;
         if self.is_other_side(side, &opened.file)? {
-            return Err(ErrorKind::InvalidInput.into());
+            return Err(io::Error::new(ErrorKind::InvalidInput, ONE_FILE));
         }
         Ok(opened)
+    }
+
+    fn look_for(&self, side: Which) -> io::Result<Option<SystemFile>> {
+        match self.target(side) {
+            Ok(name) => Ok(Some(self.open_apart(side, name.as_str())?)),
+            Err(error) if error.kind() == ErrorKind::NotFound => Ok(None),
+            Err(error) => Err(error),
+        }
+    }
+
+    fn make(&self, side: Which) -> io::Result<SystemFile> {
+        let folder = String::from_str(self.alloc, folder_of(self.name(side)))?;
+        let file = OpenOptions::new()
+            .read(true)
+            .write(true)
+            .create_new(true)
+            .open(&self.rt, self.name(side))?;
+        Ok(SystemFile { file, side, folder })
     }
 
     fn sync_folder(&self, folder: &str) -> io::Result<()> {
@@ -146,50 +189,55 @@ impl Folder for SystemFolder {
     ghost held_is_image = { λ _ keeps _. nothing_claimed keeps };
 
     fn find(&mut self, side: Which) -> io::Result<Option<SystemFile>> {
-        match self.target(side) {
-            Ok(name) => Ok(Some(self.open_apart(side, name.as_str())?)),
-            Err(error) if error.kind() == ErrorKind::NotFound => Ok(None),
-            Err(error) => Err(error),
-        }
+        let found = self.look_for(side);
+        self.noted(Call::Open, side, found)
     }
 
     fn create(&mut self, side: Which) -> io::Result<SystemFile> {
-        let folder = String::from_str(self.alloc, folder_of(self.name(side)))?;
-        let file = OpenOptions::new()
-            .read(true)
-            .write(true)
-            .create_new(true)
-            .open(&self.rt, self.name(side))?;
-        Ok(SystemFile { file, folder })
+        let made = self.make(side);
+        self.noted(Call::Open, side, made)
     }
 
     fn len(&mut self, file: &SystemFile) -> io::Result<usize> {
-        Ok(file.file.metadata()?.len() as usize)
+        let found = self.noted(Call::Read, file.side, file.file.metadata())?;
+        Ok(found.len() as usize)
     }
 
     fn read_at(&mut self, file: &SystemFile, buf: &mut [u8], at: usize) -> io::Result<usize> {
-        file.file.read_exact_at(buf, at as u64)?;
+        let read = file.file.read_exact_at(buf, at as u64);
+        self.noted(Call::Read, file.side, read)?;
         Ok(buf.len())
     }
 
     fn write_at(&mut self, file: &SystemFile, bytes: &[u8], at: usize) -> io::Result<usize> {
-        file.file.write_at(bytes, at as u64)
+        let written = whole(file.file.write_at(bytes, at as u64), bytes.len());
+        self.noted(Call::Write, file.side, written)
     }
 
     fn set_len(&mut self, file: &SystemFile, len: usize) -> io::Result<()> {
-        file.file.set_len(len as u64)
+        self.noted(Call::Cut, file.side, file.file.set_len(len as u64))
     }
 
     fn sync(&mut self, file: &SystemFile) -> io::Result<()> {
-        file.file.sync_all()
+        self.noted(Call::Sync, file.side, file.file.sync_all())
     }
 
     fn sync_name(&mut self, file: &SystemFile) -> io::Result<()> {
-        self.sync_folder(file.folder.as_str())
+        let synced = self.sync_folder(file.folder.as_str());
+        self.noted(Call::SyncFolder, file.side, synced)
     }
 
     fn sync_missing(&mut self, side: Which) -> io::Result<()> {
-        self.sync_folder(folder_of(self.name(side)))
+        let synced = self.sync_folder(folder_of(self.name(side)));
+        self.noted(Call::SyncFolder, side, synced)
+    }
+}
+
+// A write that was cut short has no error of the system.
+fn whole(written: io::Result<usize>, len: usize) -> io::Result<usize> {
+    match written {
+        Ok(count) if count < len => Err(io::Error::new(ErrorKind::WriteZero, IN_PART)),
+        answer => answer,
     }
 }
 

@@ -7,6 +7,7 @@ pub mod WalkLemmas
 pub mod ReadingLemmas
 pub mod DecisionLemmas
 pub mod TotalLemmas
+pub mod CountLemmas
 pub mod GatedLemmas
 pub mod CreatedLemmas
 pub mod LogLemmas

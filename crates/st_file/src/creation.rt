@@ -1,6 +1,6 @@
 //! The creation of a side.
 
-ghost use Rattle.std.specs.Prelude.{◌≡◌, ◌↔◌, ◌<◌, IsTrue, IfOk, OnOk};
+ghost use Rattle.std.specs.Prelude.{◌≡◌, ◌↔◌, ◌+◌, ◌<◌, ◌≤◌, IsTrue, IfOk, OnOk};
 ghost use Rattle.st_disk.specs.Crash.{writes_of, other, settled, SideHas};
 ghost use Rattle.st_disk.specs.Moments.{now, Throughout};
 ghost use Rattle.st_disk.specs.Faults.{CountsFaults};
@@ -21,6 +21,7 @@ pub fn create<D: Disk>(disk: &mut D, side: Which, generation: u64) -> Result<(),
     ensures any_moment { D.honest → Throughout (D.moments disk.old) (D.moments disk.new)
         (SideHas side (writes_of (other side) (now (D.moments disk.old))) (IsVoidOrNew generation)) }
     ensures created { D.honest → OnOk result (IsCreated generation (D.seen disk.new side) (writes_of side (now (D.moments disk.new)))) }
+    ensures calls { D.honest → (D.moments disk.new).newest ≤ (D.moments disk.old).newest + 6 }
     ensures faults { CountsFaults result (D.faults disk.old) (D.faults disk.new) }
 {
     close_gate(disk, side)?;
@@ -35,6 +36,7 @@ pub fn close_gate<D: Disk>(disk: &mut D, side: Which) -> Result<(), DeviceFault>
     ensures any_moment { D.honest → Throughout (D.moments disk.old) (D.moments disk.new)
         (SideHas side (writes_of (other side) (now (D.moments disk.old))) IsVoid) }
     ensures ready { D.honest → OnOk result (IsReady (D.seen disk.new side) (writes_of side (now (D.moments disk.new))) 0) }
+    ensures calls { D.honest → (D.moments disk.new).newest ≤ (D.moments disk.old).newest + 2 }
     ensures faults { CountsFaults result (D.faults disk.old) (D.faults disk.new) }
 {
     if has_closed_gate(disk, side)? {

@@ -1,6 +1,6 @@
 //! A text put on a side so that a power cut leaves all of it or none.
 
-ghost use Rattle.std.specs.Prelude.{◌≡◌, ◌+◌, ◌<◌, ◌^◌, length, take, OnOk};
+ghost use Rattle.std.specs.Prelude.{◌≡◌, ◌+◌, ◌<◌, ◌≤◌, ◌^◌, length, take, OnOk};
 ghost use Rattle.st_disk.specs.Crash.{writes_of, other, SideHas};
 ghost use Rattle.st_disk.specs.Moments.{now, Throughout};
 ghost use Rattle.st_disk.specs.Faults.{CountsFaults};
@@ -23,6 +23,8 @@ pub fn append_gated<D: Disk>(
         (SideHas side (writes_of (other side) (now (D.moments disk.old))) (IsClosedOrOpen (take gate (D.seen disk.old side)) text.now)) }
     ensures opened { D.honest → OnOk result (IsOpened (take gate (D.seen disk.old side)) text.now
         (D.seen disk.new side) (writes_of side (now (D.moments disk.new)))) }
+    // At most four calls change what a crash may leave.
+    ensures calls { D.honest → (D.moments disk.new).newest ≤ (D.moments disk.old).newest + 4 }
     ensures faults { CountsFaults result (D.faults disk.old) (D.faults disk.new) }
 {
     disk.write_at(side, gate + 1, text)?;

@@ -53,6 +53,7 @@ impl<D: Disk + Drop> Log<D> {
             (IsClosedOrOpen (take self.old.end (D.seen self.old.disk self.old.side)) text.now)) }
         ensures opened { D.honest → OnOk result (IsOpened (take self.old.end (D.seen self.old.disk self.old.side)) text.now
             (D.seen self.new.disk self.old.side) (writes_of self.old.side (now (D.moments self.new.disk)))) }
+        ensures calls { D.honest → (D.moments self.new.disk).newest ≤ (D.moments self.old.disk).newest + 4 }
         ensures faults { CountsFaults result (D.faults self.old.disk) (D.faults self.new.disk) }
         ensures ok { OnOk result ((self.new.end ≡ self.old.end + length text.now) × (self.new.dead ≡ false)) }
         ensures err { OnErr result ((self.new.end ≡ self.old.end) × (self.new.dead ≡ true)) }
@@ -121,6 +122,9 @@ impl<D: Disk + Drop> Log<D> {
             → HoldsUpTo (D.seen self.old.disk self.old.side) self.old.version self.old.generation held self.old.end
             → OnOk result (HoldsUpTo (D.seen self.new.disk self.old.side) self.old.version self.old.generation
             (held ++ records.now) self.new.end) }
+        // At most four calls change what a crash may leave, and an Ok has met no fault.
+        ensures calls { D.honest → (D.moments self.new.disk).newest ≤ (D.moments self.old.disk).newest + 4 }
+        ensures success { OnOk result (D.faults self.new.disk ≡ D.faults self.old.disk) }
         ensures alive { OnOk result ((self.old.dead ≡ false) × (self.new.dead ≡ false)) }
         ensures device { IsErrOf result faults.Device → (self.new.dead ≡ true) × Rises (D.faults self.old.disk) (D.faults self.new.disk) }
         ensures unchanged { IfErr result (λ fault. fault ≢ faults.Device → self.new ≡ self.old) }

@@ -2,3 +2,4 @@ pub mod RecoversLemmas
 pub mod StoredLemmas
 pub mod AnewLemmas
 pub mod MemoryLemmas
+pub mod OpeningLemmas

@@ -1,9 +1,10 @@
 -- A store on a disk, and what every pair of crash images of it recovers. The rule is this project's own.
-use Rattle.std.specs.Prelude.{◌≡◌, ◌⊎◌, ℕ, ◌<◌, List}
+use Rattle.std.specs.Prelude.{◌≡◌, ◌⊎◌, ℕ, ◌+◌, ◌<◌, ◌≤◌, List, length}
 use Rattle.std.specs.FinMap as map
 use Rattle.st_disk.specs.declared.which.Which.{Which}
 use Rattle.st_disk.specs.declared.which.Which.TheVariants.{A}
 use Rattle.st_disk.specs.Crash.{UnsyncedWrites, IsCrashImage, settled, Sides, writes_of, other, EachPair}
+use Rattle.st_disk.specs.Moments.{Moments}
 use Rattle.st_records.specs.declared.version.Version.{Version}
 use Rattle.st_records.specs.declared.version.Version.TheVariants as versions
 use Rattle.st_records.specs.declared.record.Record.{Record}
@@ -47,6 +48,15 @@ ArePossible start = EachPair (λ a b. IsCrashImage start.a a × IsCrashImage sta
 abbrev pub ArePossibleOrNew : (seen_a seen_b : List ℕ) → Sides → Sides → Type 0
 ArePossibleOrNew seen_a seen_b start = EachPair (λ a b. (IsCrashImage start.a a × IsCrashImage start.b b)
     ⊎ (IsVoid seen_a × (IsVoid seen_b × Recovers a b map.empty)))
+
+-- one side or the other has a byte
+abbrev pub HaveBytes : List ℕ → List ℕ → Type 0
+HaveBytes a b = (0 < length a) ⊎ (0 < length b)
+
+-- meanwhile at most two calls changed what a crash may leave or, both sides being void, at most eight
+abbrev pub AreFewCalls : (seen_a seen_b : List ℕ) → (old new : Moments) → Type 0
+AreFewCalls seen_a seen_b old new =
+    (new.newest ≤ old.newest + 2) ⊎ (IsVoid seen_a × (IsVoid seen_b × (new.newest ≤ old.newest + 8)))
 
 -- the log of a store that was created: on side A, of version 2 and generation 1, behind the header
 pub record IsNewLog (side : Which) (v : Version) (generation end : ℕ) : Type 0 where

@@ -1,6 +1,6 @@
 //! The opening of a disk.
 
-ghost use Rattle.std.specs.Prelude.{◌≡◌, ◌⊎◌, false, IfOk, IfErr, IfSome, IfNone, OnOk, IsErrOf};
+ghost use Rattle.std.specs.Prelude.{◌≡◌, ◌⊎◌, ◌+◌, ◌≤◌, false, IfOk, IfErr, IfSome, IfNone, OnOk, IsErrOf, MatchResult};
 ghost use Rattle.std.specs.FinMap as map;
 ghost use Rattle.st_disk.specs.Crash.{writes_of, settled, EachPair};
 ghost use Rattle.st_disk.specs.Moments.{now, Throughout};
@@ -9,7 +9,7 @@ ghost use Rattle.st_state.specs.Keepable.{AllCanBeKept};
 ghost use Rattle.st_file.specs.Side.{IsVoid};
 ghost use Rattle.st_file.specs.declared.fault.OpenFault.TheVariants as faults;
 ghost use Rattle.st_recovery.specs.Recovers.{Recovers, RefusesWith, IsChosen};
-ghost use Rattle.st_recovery.specs.Stored.{AllRecover, IsNewLog, ArePossible, ArePossibleOrNew};
+ghost use Rattle.st_recovery.specs.Stored.{AllRecover, IsNewLog, ArePossible, ArePossibleOrNew, AreFewCalls, HaveBytes};
 
 use crate::recovery::{Chosen, choose};
 use crate::store::Store;
@@ -39,7 +39,14 @@ pub fn open<D: Disk + Drop>(
         → IsNewLog store.log.side store.log.version store.log.generation store.log.end) }
     ensures refused { IfErr result (λ e. D.honest → (e.0 ≡ faults.Device) ⊎ ((e.0 ≡ faults.OutOfMemory)
         ⊎ RefusesWith (D.seen disk Which.A) (D.seen disk Which.B) e.0)) }
+    // Memory is wanted only where a side has a byte.
+    ensures memory { IfErr result (λ e. D.honest → e.0 ≡ faults.OutOfMemory
+        → HaveBytes (D.seen disk Which.A) (D.seen disk Which.B)) }
     ensures device { IfErr result (λ e. e.0 ≡ faults.Device → Rises (D.faults disk) (D.faults e.1)) }
+    ensures success { IfOk result (λ store. D.faults store.log.disk ≡ D.faults disk) }
+    ensures calls { D.honest → MatchResult result
+        (λ store. AreFewCalls (D.seen disk Which.A) (D.seen disk Which.B) (D.moments disk) (D.moments store.log.disk))
+        (λ e. AreFewCalls (D.seen disk Which.A) (D.seen disk Which.B) (D.moments disk) (D.moments e.1)) }
 {
     let mut disk = disk;
     match find(alloc, key, &mut disk) {
@@ -97,6 +104,9 @@ fn open_new<D: Disk + Drop>(
     ensures state { IfOk result (λ store. store.state ≡ map.empty) }
     ensures alive { IfOk result (λ store. store.log.dead ≡ false) }
     ensures device { IfErr result (λ e. (e.0 ≡ faults.Device) × Rises (D.faults disk) (D.faults e.1)) }
+    ensures success { IfOk result (λ store. D.faults store.log.disk ≡ D.faults disk) }
+    ensures calls { D.honest → MatchResult result (λ store. (D.moments store.log.disk).newest ≤ (D.moments disk).newest + 6)
+        (λ e. (D.moments e.1).newest ≤ (D.moments disk).newest + 6) }
 {
     let mut disk = disk;
     match create(&mut disk, Which::A, 1) {
@@ -132,8 +142,11 @@ fn find<D: Disk + Drop>(
     ensures void { D.honest → IfOk result (λ o. IfNone o (IsVoid (D.seen disk.old Which.A) × IsVoid (D.seen disk.old Which.B))) }
     ensures refused { D.honest → IfErr result (λ fault. (fault ≡ faults.Device) ⊎ ((fault ≡ faults.OutOfMemory)
         ⊎ RefusesWith (D.seen disk.old Which.A) (D.seen disk.old Which.B) fault)) }
+    ensures memory { D.honest → IsErrOf result faults.OutOfMemory
+        → HaveBytes (D.seen disk.old Which.A) (D.seen disk.old Which.B) }
     ensures success { OnOk result (D.faults disk.new ≡ D.faults disk.old) }
     ensures device { IsErrOf result faults.Device → Rises (D.faults disk.old) (D.faults disk.new) }
+    ensures calls { D.honest → (D.moments disk.new).newest ≤ (D.moments disk.old).newest + 2 }
 {
     settle_both(disk)?;
     let a = read_whole(alloc, disk, Which::A)?;
@@ -147,6 +160,7 @@ fn settle_both<D: Disk + Drop>(disk: &mut D) -> Result<(), DeviceFault>
     ensures on_a { D.honest → OnOk result (writes_of Which.A (now (D.moments disk.new)) ≡ settled (D.seen disk.old Which.A)) }
     ensures on_b { D.honest → OnOk result (writes_of Which.B (now (D.moments disk.new)) ≡ settled (D.seen disk.old Which.B)) }
     ensures seen { D.honest → D.seen disk.new ≡ D.seen disk.old }
+    ensures calls { D.honest → (D.moments disk.new).newest ≤ (D.moments disk.old).newest + 2 }
     ensures faults { CountsFaults result (D.faults disk.old) (D.faults disk.new) }
 {
     disk.sync(Which::A)?;

@@ -1,6 +1,6 @@
 //! A store: the side of a disk that counts, and the state that its records make.
 
-ghost use Rattle.std.specs.Prelude.{◌≡◌, ◌≢◌, ◌↔◌, ◌<◌, ◌++◌, List, length, true, false, IfOk, IfErr, IsOk, OnOk, OnErr, IsErrOf};
+ghost use Rattle.std.specs.Prelude.{◌≡◌, ◌≢◌, ◌↔◌, ◌+◌, ◌<◌, ◌≤◌, ◌++◌, List, length, true, false, IfOk, IfErr, IsOk, OnOk, OnErr, IsErrOf};
 ghost use Rattle.std.specs.List.{AllByRecursion};
 ghost use Rattle.st_disk.specs.Moments.{now, Throughout};
 ghost use Rattle.st_disk.specs.Faults.{Rises};
@@ -68,6 +68,9 @@ impl<D: Disk + Drop> Store<D> {
             (held ++ records.now) self.new.log.end) }
         ensures ok { OnOk result (self.new.state ≡ replay self.old.state records.now) }
         ensures alive { OnOk result ((self.old.log.dead ≡ false) × (self.new.log.dead ≡ false)) }
+        // At most four calls change what a crash may leave, and an Ok has met no fault.
+        ensures calls { D.honest → (D.moments self.new.log.disk).newest ≤ (D.moments self.old.log.disk).newest + 4 }
+        ensures success { OnOk result (D.faults self.new.log.disk ≡ D.faults self.old.log.disk) }
         ensures err { OnErr result (self.new.state ≡ self.old.state) }
         ensures device { IsErrOf result faults.Device
             → (self.new.log.dead ≡ true) × Rises (D.faults self.old.log.disk) (D.faults self.new.log.disk) }
@@ -116,6 +119,8 @@ fn commit_parts<D: Disk + Drop>(
         (held ++ records.now) log.new.end) }
     ensures ok { OnOk result (state.new ≡ replay state.old records.now) }
     ensures alive { OnOk result ((log.old.dead ≡ false) × (log.new.dead ≡ false)) }
+    ensures calls { D.honest → (D.moments log.new.disk).newest ≤ (D.moments log.old.disk).newest + 4 }
+    ensures success { OnOk result (D.faults log.new.disk ≡ D.faults log.old.disk) }
     ensures err { OnErr result (state.new ≡ state.old) }
     ensures device { IsErrOf result faults.Device → (log.new.dead ≡ true) × Rises (D.faults log.old.disk) (D.faults log.new.disk) }
     ensures unchanged { IfErr result (λ fault. fault ≢ faults.Device → log.new ≡ log.old) }

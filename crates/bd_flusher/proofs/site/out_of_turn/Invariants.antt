@@ -1,5 +1,5 @@
 use Rattle.std.proofs.Common.{◌≡◌, ◌+◌, take}
-use Rattle.bd_flusher.specs.Flushing.{AreInTurn}
+use Rattle.bd_flusher.specs.Turns.{AreInTurn}
 use Rattle.bd_flusher.proofs.site.out_of_turn.Given as goal
 
 -- those so far are in turn, and the next one's turn is known

@@ -1,7 +1,10 @@
 use Rattle.std.proofs.Common.{option_copied}
 use Rattle.mk_reader.specs.Makefile.{AnswersAs}
+use Rattle.st_disk.specs.Faults.{Rises}
+use Rattle.dmk_drive.specs.Faults.{IsFaultOf}
 use Rattle.dmk_drive.specs.Makefile.{IsAbsent}
-use Rattle.dmk_drive.proofs.DriveLemmas.{told_of, asked_mode, unasked_mode, listed_plan, asked_plan, refused_plan, not_two}
+use Rattle.dmk_drive.specs.Messages.{SaysNote}
+use Rattle.dmk_drive.proofs.DriveLemmas.{told_of, asked_mode, unasked_mode, listed_plan, asked_plan, refused_plan, fault_of, not_two}
 use Rattle.dmk_drive.proofs.driver.drive.Goals as goal
 
 pub returns-clause-listed : goal.returns-clause-listed
@@ -16,8 +19,10 @@ returns-clause-listed g c = λ asks zero.
     let (asked, iff, is) = c.mode-mode.ensures in
     listed_plan answers absent c.args.options.makefile c.args.options.definitions.items c.args.environment.now c.args.options.targets
     g.T.Tree.honest stamps g.D.Disk.honest seen (g.O.Write.contents c.args.out.now)
-    (g.O.Write.contents c.say-status.new.out) c.dry_run-found.result told (c.say-status.ensures.found (not_two c.say-status.result zero))
-    (c.say-status.ensures.listed (unasked_mode c.args.options.asks _ c.mode-mode.result asks.0 is) zero) _ (c.say-status.ensures.note zero)
+    (g.O.Write.contents c.say-reply.new.out) c.dry_run-found.result told (c.say-reply.ensures.found (not_two c.say-reply.result.status zero))
+    (c.say-reply.ensures.listed (unasked_mode c.args.options.asks _ c.mode-mode.result asks.0 is) zero) _ (c.say-reply.ensures.note zero)
+    (SaysNote (g.E.Write.contents c.args.err.now) (g.E.Write.contents c.say-reply.new.err) c.say-reply.result.is_told)
+    (c.say-reply.ensures.noted (unasked_mode c.args.options.asks _ c.mode-mode.result asks.0 is) zero)
 
 pub returns-clause-asked : goal.returns-clause-asked
 returns-clause-asked g c = λ asks other.
@@ -30,8 +35,8 @@ returns-clause-asked g c = λ asks other.
     c.slice_of-named.ensures c.deref.ensures.value c.dry_run-found.ensures.tells in
     let (asked, iff, is) = c.mode-mode.ensures in
     asked_plan answers absent c.args.options.makefile c.args.options.definitions.items c.args.environment.now c.args.options.targets
-    g.T.Tree.honest stamps g.D.Disk.honest seen c.say-status.result c.dry_run-found.result told
-    (c.say-status.ensures.found other) (c.say-status.ensures.asked (asked_mode c.args.options.asks _ c.mode-mode.result asks is) other)
+    g.T.Tree.honest stamps g.D.Disk.honest seen c.say-reply.result.status c.dry_run-found.result told
+    (c.say-reply.ensures.found other) (c.say-reply.ensures.asked (asked_mode c.args.options.asks _ c.mode-mode.result asks is) other)
 
 pub returns-clause-refused : goal.returns-clause-refused
 returns-clause-refused g c = λ two.
@@ -42,6 +47,15 @@ returns-clause-refused g c = λ two.
     let told = told_of answers absent c.args.options.makefile (option_copied c.slice_of-named.result) c.args.options.definitions.items
     c.deref.result.now c.args.environment.now c.args.options.targets g.T.Tree.honest stamps g.D.Disk.honest seen c.dry_run-found.result
     c.slice_of-named.ensures c.deref.ensures.value c.dry_run-found.ensures.tells in
+    let refuses = g.T.Tree.refuses c.dry_run-found.new.tree in
+    let meets = fault_of answers c.args.options.makefile (option_copied c.slice_of-named.result) c.args.options.definitions.items
+    c.deref.result.now c.args.environment.now c.args.options.targets g.T.Tree.honest stamps refuses g.D.Disk.honest seen c.dry_run-found.result
+    c.slice_of-named.ensures c.deref.ensures.value c.dry_run-found.ensures.fault in
     refused_plan answers absent c.args.options.makefile c.args.options.definitions.items c.args.environment.now c.args.options.targets
-    g.T.Tree.honest stamps g.D.Disk.honest seen c.say-status.result (g.O.Write.contents c.args.out.now)
-    (g.O.Write.contents c.say-status.new.out) c.dry_run-found.result told c.say-status.ensures.refused (c.say-status.ensures.part two)
+    g.T.Tree.honest stamps g.D.Disk.honest seen
+    (IsFaultOf answers c.args.options.makefile c.args.options.definitions.items c.args.environment.now c.args.options.targets
+    g.T.Tree.honest stamps refuses g.D.Disk.honest seen)
+    (Rises (g.D.Disk.faults c.args.disk) (g.D.Disk.faults c.dry_run-found.new.disk)) c.say-reply.result.is_told
+    (g.O.Write.contents c.args.out.now) (g.O.Write.contents c.say-reply.new.out) (g.E.Write.contents c.args.err.now)
+    (g.E.Write.contents c.say-reply.new.err) c.dry_run-found.result told meets c.dry_run-found.ensures.device
+    (λ failed. (c.say-reply.ensures.refused failed).1) c.say-reply.ensures.told (c.say-reply.ensures.part two) (c.say-reply.ensures.cut two)

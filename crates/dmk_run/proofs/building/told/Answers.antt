@@ -3,6 +3,6 @@ use Rattle.st_state.specs.State.{StateMap}
 use Rattle.dmk_run.specs.Known.{IsTold}
 use Rattle.dmk_run.proofs.building.told.Goals as goal
 
-pub returns-clause-report : goal.returns-clause-report
-returns-clause-report g c =
-    (c.in-Ok.report, c.in-Ok.is, subst (λ (m : StateMap). IsTold c.args.graph.now c.args.keeps_state m c.in-Ok.report c.checked-report.result) c.state.ensures c.checked-report.ensures)
+pub returns-in-Ok-checked-clause-report : goal.returns-in-Ok-checked-clause-report
+returns-in-Ok-checked-clause-report g c =
+    (c.in-Ok.report, c.in-Ok.is, subst (λ (m : StateMap). IsTold c.args.graph.now c.args.keeps_state m c.in-Ok.report c.in-Ok-checked.report) c.state.ensures c.in-Ok-checked.ensures)

@@ -4,8 +4,8 @@ use Rattle.st_recovery.proofs.StoredLemmas.{all_recover}
 use Rattle.dmk_run.proofs.opening.compact_at_opening.Goals as goal
 
 -- no call of the device
-pub returns-then-store-le-LONG-clause-any_moment : goal.returns-then-store-le-LONG-clause-any_moment
-returns-then-store-le-LONG-clause-any_moment g c = λ honest.
+pub returns-then-is_compact-clause-any_moment : goal.returns-then-is_compact-clause-any_moment
+returns-then-is_compact-clause-any_moment g c = λ honest.
     let store = c.args.store.now in
     let moments = g.D.Disk.moments store.log.disk in
     started moments (all_recover store.log.side (now moments) (store.stored honest c.requires))

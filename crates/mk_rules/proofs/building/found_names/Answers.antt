@@ -6,7 +6,7 @@ use Rattle.mk_rules.specs.declared.graph.TheConstants.{MAX_NODES}
 use Rattle.mk_rules.specs.declared.known.Known.{Known}
 use Rattle.mk_rules.specs.Found.{AreFound, IsFindingFault}
 use Rattle.mk_rules.specs.Known.{IsKnown, IsAllowed, IsLookUpFault}
-use Rattle.mk_rules.specs.Prerequisites.{Inputs, inputs_of, prerequisites_of, hidden_in}
+use Rattle.mk_rules.specs.Prerequisites.{Inputs, inputs_of, own_recipes, prerequisites_of, hidden_in}
 use Rattle.mk_rules.specs.declared.rules.Rules.{Rules}
 use Rattle.mk_rules.proofs.FoundLemmas.{described_at, finding_fault, too_many, of_source}
 use Rattle.mk_rules.proofs.building.found_names.Goals as goal
@@ -41,7 +41,7 @@ returns-in-Err-Source-clause-fault g c = λ times agrees.
     let inputs = inputs_of ends.lines.now (map.get ends.state.now) times in
     let e = c.in-Err-Source.ensures in
     let meets = of_source (IsAllowed c.number.new.source.stamps.now ends.lines.now (map.get ends.state.now))
-    (λ name f. IsLookUpFault ends.targets.now c.number.new.source.stamps.now (g.T.Tree.refuses c.number.new.source.tree.now) ends.forms.now (hidden_in (map.get ends.state.now name)) name f)
+    (λ name f. IsLookUpFault ends.targets.now c.number.new.source.stamps.now (g.T.Tree.refuses c.number.new.source.tree.now) ends.forms.now (own_recipes ends.lines.now name) (hidden_in (map.get ends.state.now name)) name f)
     c.args.goals.now MAX_NODES _ c.in-Err-Source.cause c.in-Err-Source.field-0-is e.fault in
     subst (λ (i : Inputs). IsFindingFault i (g.T.Tree.refuses c.number.new.source.tree.now) c.args.goals.now MAX_NODES c.in-Err-Source.cause)
     (ap (λ (r : Rules). inputs_of r.lines.now (map.get r.state.now) times) (e.follows).0)

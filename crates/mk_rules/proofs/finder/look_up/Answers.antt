@@ -1,9 +1,11 @@
 use Rattle.std.proofs.Common.{◌++◌, ◌∙◌, refl}
 use Rattle.std.specs.FinMap as map
-use Rattle.mk_rules.proofs.FinderLemmas.{nodes_are, known_is}
+use Rattle.mk_rules.proofs.FinderLemmas.{nodes_are, known_is, source_look}
 use Rattle.mk_rule_lines.specs.Explicit.{explicit_of}
 use Rattle.mk_rules.specs.LooksLaws.{looks_on}
-use Rattle.mk_rules.specs.Prerequisites.{inputs_of, source_names, distinct}
+use Rattle.mk_rule_lines.proofs.LineLemmas.{handed_on}
+use Rattle.mk_rules.specs.Known.{IsLookUpFault}
+use Rattle.mk_rules.specs.Prerequisites.{inputs_of, source_names, distinct, hidden_in, own_recipes}
 use Rattle.mk_rules.specs.Stamps.{is_known}
 use Rattle.mk_rules.proofs.AskedLemmas.{in_vain}
 use Rattle.mk_rules.proofs.finder.look_up.Goals as goal
@@ -64,3 +66,16 @@ returns-in_err-source-clause-asks g c = in_vain _ _ _ _ _ _ (c.from_residual-in_
 pub returns-in_err-entry-clause-asks : goal.returns-in_err-entry-clause-asks
 returns-in_err-entry-clause-asks g c = in_vain _ _ _ _ _ _ (c.from_residual-in_err-entry.ensures).1
     (λ earlier once. (is_known c.implicit_source.new.stamps, c.in_ok-source.ensures.asks earlier (c.in_ok-stamp.ensures.asks earlier once)))
+
+pub returns-in_err-source-clause-fault : goal.returns-in_err-source-clause-fault
+returns-in_err-source-clause-fault g c =
+    let rules = c.args.rules.now in
+    let name = c.args.name.now in
+    let own = own_recipes rules.lines.now name in
+    let hidden = hidden_in (map.get rules.state.now name) in
+    let stamps = c.implicit_source.new.stamps in
+    let refuses = g.T.Tree.refuses c.implicit_source.new.tree in
+    let met = c.in_err-source.ensures in
+    handed_on _ (IsLookUpFault rules.targets.now stamps refuses rules.forms.now own hidden name) c.in_err-source.field-0.0
+    (c.from_residual-in_err-source.ensures).1
+    (source_look rules.targets.now stamps refuses rules.forms.now own hidden name met.unasked (λ beside. (beside.1).1) c.in_err-source.field-0.0 met.fault)

@@ -3,7 +3,7 @@ use Rattle.std.specs.FinMap as map
 use Rattle.mk_rules.specs.Prerequisites.{inputs_of, is_node}
 use Rattle.mk_rule_lines.specs.Rules.{has}
 use Rattle.mk_rules.specs.Hidden.{IsNamesFault}
-use Rattle.mk_rules.proofs.HiddenLemmas.{HiddenSoFar, hidden_step, hidden_start, hidden_end, names_fault, has_first, has_later}
+use Rattle.mk_rules.proofs.HiddenLemmas.{HiddenSoFar, hidden_step, hidden_start, hidden_end, names_fault, text_where_refused, has_first, has_later}
 use Rattle.mk_rule_lines.proofs.LineLemmas.{handed_on}
 use Rattle.mk_rules.specs.LooksLaws.{looks_none, looks_on}
 use Rattle.mk_rules.specs.Stamps.{is_known}
@@ -40,8 +40,9 @@ returns-in_err-node-clause-fault g c =
     let refuses = g.T.Tree.refuses c.is_node.new.tree in
     let within = c.loop-name.invariant.within name
     (subst (λ (ls : List (List ℕ)). has name ls ≡ true) (sym c.in-Some.ensures.steps) (has_first name c.next.new.self)) in
+    let text = text_where_refused name (λ e. ((c.in_err-node.ensures.unasked e).1).1) in
     handed_on _ (IsNamesFault refuses c.args.hidden.now) c.in_err-node.field-0.0 (c.from_residual.ensures).1
-    (names_fault refuses c.args.hidden.now name within c.in_err-node.field-0.0 c.in_err-node.ensures.fault)
+    (names_fault refuses c.args.hidden.now name (within, text) c.in_err-node.field-0.0 c.in_err-node.ensures.fault)
 
 pub returns-in_err-node-clause-looks : goal.returns-in_err-node-clause-looks
 returns-in_err-node-clause-looks g c = looks_on _ _ _ _ _ _ _ _ _ _ c.loop-name.invariant.looks c.in_err-node.ensures.looks

@@ -1,7 +1,7 @@
-use Rattle.std.proofs.Common.{◌≡◌, false}
+use Rattle.std.proofs.Common.{◌≡◌, ◌∙◌, false, inl, sym}
 use Rattle.std.specs.Prelude.{is_some}
 use Rattle.std.specs.FinMap as map
-use Rattle.mk_rules.proofs.LookupLemmas.{implicit_is}
+use Rattle.mk_rules.proofs.LookupLemmas.{implicit_is, no_own}
 use Rattle.mk_rule_lines.proofs.ResultLemmas.{if_ok}
 use Rattle.mk_rules.proofs.lookup.implicit_source.Goals as goal
 
@@ -19,3 +19,8 @@ pub returns-clause-looks : goal.returns-clause-looks
 returns-clause-looks g c =
     let tells = c.source.ensures in
     record { grows = tells.grows; answers = tells.honest; same = tells.same; kept = tells.kept }
+
+pub returns-clause-unasked : goal.returns-clause-unasked
+returns-clause-unasked g c =
+    let none : is_some c.recipe.result ≡ false = cc in
+    inl (sym c.recipe.ensures ∙ no_own c.recipe.result none)

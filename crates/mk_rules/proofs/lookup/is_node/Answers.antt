@@ -1,7 +1,7 @@
 use Rattle.std.proofs.Common.{◌≡◌, true, ◌∙◌}
 use Rattle.std.specs.FinMap as map
 use Rattle.std.specs.Str.{is_utf8}
-use Rattle.mk_rules.proofs.LookupLemmas.{node_there}
+use Rattle.mk_rules.proofs.LookupLemmas.{node_there, one_answer}
 use Rattle.mk_rule_lines.proofs.ResultLemmas.{if_ok}
 use Rattle.mk_rules.proofs.lookup.is_node.Goals as goal
 
@@ -17,3 +17,8 @@ pub returns-clause-looks : goal.returns-clause-looks
 returns-clause-looks g c =
     let tells = c.is_there.ensures in
     record { grows = tells.grows; answers = tells.honest; same = tells.same; kept = tells.kept }
+
+pub returns-clause-unasked : goal.returns-clause-unasked
+returns-clause-unasked g c = λ no_text.
+    let text : is_utf8 c.args.name.now ≡ true = cc in
+    one_answer (is_utf8 c.args.name.now) text no_text

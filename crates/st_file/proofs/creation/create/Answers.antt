@@ -16,3 +16,12 @@ pub returns-clause-created : goal.returns-clause-created
 returns-clause-created g c = λ honest.
     let fits : c.args.generation < 2 ^ 64 = omega arith in
     created_by c.requires.some fits c.new_header.ensures (c.in_ok-append_gated.ensures.opened honest)
+
+pub returns-in_err-close_gate-clause-calls : goal.returns-in_err-close_gate-clause-calls
+returns-in_err-close_gate-clause-calls g c = λ honest. omega (arith, c.close_gate.ensures.calls honest)
+
+pub returns-in_err-append_gated-clause-calls : goal.returns-in_err-append_gated-clause-calls
+returns-in_err-append_gated-clause-calls g c = λ honest. omega (arith, c.close_gate.ensures.calls honest, c.append_gated.ensures.calls honest)
+
+pub returns-clause-calls : goal.returns-clause-calls
+returns-clause-calls g c = λ honest. omega (arith, c.close_gate.ensures.calls honest, c.append_gated.ensures.calls honest)

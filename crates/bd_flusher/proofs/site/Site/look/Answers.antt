@@ -9,7 +9,7 @@ batch_of-batch-requires-clause-increasing g c = rw c.deref-2.ensures.value c.sel
 
 pub batch_of-batch-requires-clause-told : goal.batch_of-batch-requires-clause-told
 batch_of-batch-requires-clause-told g c =
-    let stands : StandsAt c.self.inside.told.items c.args.ticket c.args.note =
+    let stands : StandsAt c.self.inside.records.told.items c.args.ticket c.args.note =
     subst (λ (notes : List Record). StandsAt notes c.args.ticket c.args.note) c.deref.ensures.value (c.has.ensures.0 c.if-not-has.false) in
-    let below : c.args.ticket < last_of 0 c.self.inside.ends.items = told_below c.self.inside.told.items c.self.inside.ends.items c.args.ticket c.args.note c.self.invariant.0.last stands in
+    let below : c.args.ticket < last_of 0 c.self.inside.records.ends.items = told_below c.self.inside.records.told.items c.self.inside.records.ends.items c.args.ticket c.args.note c.self.invariant.0.last stands in
     rw (c.number.ensures, c.deref-2.ensures.value) below

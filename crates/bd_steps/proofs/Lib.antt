@@ -1,0 +1,11 @@
+pub mod HistoryLemmas
+pub mod JudgeLemmas
+pub mod StepLemmas
+pub mod PromiseLemmas
+pub mod CallLemmas
+pub mod RunLemmas
+pub mod OtherLemmas
+pub mod BoardLemmas
+pub mod MoveLemmas
+pub mod ExampleLemmas
+pub mod CompactedExample

@@ -1,0 +1,85 @@
+//! Whether the ends of a run are borne out: each node that wasn't built is judged again, by how the others ended.
+ghost use Rattle.std.specs.Prelude.{◌≡◌, ◌<◌, true, [], length, map, IfOk};
+ghost use Rattle.mk_plan.specs.Passing.{Passes};
+ghost use Rattle.dmk_run.specs.Judged.{counts_as_remade, IsJudged, AreJudged};
+
+use bd_places::End;
+use mk_macros::MacroFault;
+use mk_plan::{Passed, pass};
+use mk_rules::Graph;
+use std::alloc::{AllocError, Global};
+
+fn counts_as_remade(end: End) -> bool
+    ensures { result ≡ counts_as_remade end }
+{
+    matches!(end, End::Remade | End::Built)
+}
+
+fn marks_of(alloc: Global, ends: &[End]) -> Result<Vec<bool>, AllocError>
+    ensures { IfOk result (λ marks. marks.items ≡ map counts_as_remade ends.now) }
+{
+    let mut marks = Vec::with_capacity(alloc, ends.len())?;
+    for end in ends {
+        marks.push(counts_as_remade(*end))?;
+    }
+    Ok(marks)
+}
+
+/// Whether a node is passed with nothing to be run, and counts as remade or not.
+fn passes_so(
+    alloc: Global,
+    keeping: bool,
+    graph: &Graph,
+    marks: &[bool],
+    node: usize,
+    remade: bool,
+) -> Result<bool, AllocError>
+    requires { node < length graph.now.nodes.items }
+    ensures { IfOk result (λ yes. yes ≡ true → Passes keeping graph.now marks.now node remade []) }
+{
+    match pass(alloc, keeping, graph, marks, node) {
+        Ok(Passed::Listed(_)) => Ok(false),
+        Ok(Passed::Remade) => Ok(remade),
+        Ok(Passed::UpToDate) => Ok(!remade),
+        Err(MacroFault::OutOfMemory) => Err(AllocError),
+        Err(_) => Ok(false),
+    }
+}
+
+fn is_judged(
+    alloc: Global,
+    keeping: bool,
+    graph: &Graph,
+    marks: &[bool],
+    node: usize,
+    end: End,
+) -> Result<bool, AllocError>
+    ensures { IfOk result (λ yes. yes ≡ true → IsJudged keeping graph.now marks.now node end) }
+{
+    if node >= graph.len() {
+        return Ok(false);
+    }
+    match end {
+        End::UpToDate => passes_so(alloc, keeping, graph, marks, node, false),
+        End::Remade => passes_so(alloc, keeping, graph, marks, node, true),
+        _ => Ok(true),
+    }
+}
+
+/// Whether each node that wasn't built is judged so, where those count as remade that ended as remade or built.
+pub(crate) fn are_judged(
+    alloc: Global,
+    keeping: bool,
+    graph: &Graph,
+    ends: &[End],
+) -> Result<bool, AllocError>
+    ensures { IfOk result (λ yes. yes ≡ true → AreJudged keeping graph.now ends.now) }
+{
+    let marks = marks_of(alloc, ends)?;
+    for (node, end) in ends.iter().enumerate() {
+        if !is_judged(alloc, keeping, graph, &marks, node, *end)? {
+            return Ok(false);
+        }
+    }
+    Ok(true)
+}

@@ -1,0 +1,36 @@
+//! Why a target isn't done though its recipe passed.
+
+use mk_recipe::ReportFault;
+use st_records::{MAX_HIDDEN_NAMES, MAX_NAME_BYTES, MAX_RECORD_BYTES};
+use std::io;
+use thiserror::Error;
+
+/// Why a target isn't done though its recipe passed. Its status is 256.
+#[derive(Clone, Copy, Debug, Error)]
+pub enum NotDone {
+    #[error("its report cannot be read: {0}")]
+    Unread(io::Error),
+    #[error("its report is not text")]
+    NotText,
+    #[error("its report has a name of more than {most} bytes", most = MAX_NAME_BYTES)]
+    LongName,
+    #[error("its report has more than {most} names", most = MAX_HIDDEN_NAMES)]
+    ManyNames,
+    /// With the names of its report.
+    #[error("its record has more than {most} bytes", most = MAX_RECORD_BYTES)]
+    LongRecord,
+    #[error("its file cannot be put on the disk: {0}")]
+    NotSynced(io::Error),
+}
+
+impl NotDone {
+    /// What is wrong with a report; None where memory was refused.
+    pub(crate) fn of_report(fault: ReportFault) -> Option<NotDone> {
+        match fault {
+            ReportFault::OutOfMemory => None,
+            ReportFault::NotText => Some(NotDone::NotText),
+            ReportFault::TooLong => Some(NotDone::LongName),
+            ReportFault::TooMany => Some(NotDone::ManyNames),
+        }
+    }
+}

@@ -1,0 +1,51 @@
+-- The node of a name has what is known of the name.
+use Rattle.std.specs.Prelude.{slice_get, option_map, option_and_then, unwrap_or}
+use Rattle.std.specs.Option.{option_map_or}
+use Rattle.std.proofs.Common.{◌≡◌, ◌∙◌, ◌<◌, ℕ, List, [], length, map, Option, Some, None, inl, inr, refl, sym, ap, arith}
+use Rattle.std.proofs.lemmas.Option.{slice_get_cases}
+use Rattle.mk_graph.specs.Edges.{row}
+use Rattle.mk_graph.specs.Numbering.{name_at}
+use Rattle.mk_rules.specs.Graph.{IsNode, IsGraph, judged}
+use Rattle.mk_rules.specs.Node.{source_by, source_in, explicit_in}
+use Rattle.mk_rules.specs.Prerequisites.{Inputs, implicit_source, recipe_of as rule_of}
+use Rattle.mk_rules.specs.declared.graph.Node.{Node}
+use Rattle.mk_rules.specs.declared.graph.Graph.{Graph}
+use Rattle.mk_plan.specs.Known.{IsNodeOf}
+
+or_map : {A B : Type 0} (f : A → B) (o : Option A) (d : B) → unwrap_or (option_map f o) d ≡ option_map_or f o d
+or_map f None d = refl
+or_map f (Some x) d = refl
+
+module _ (inputs : Inputs) (named : List (List ℕ)) (graph : Graph) (is : IsGraph inputs named graph) (n : ℕ) (within : n < length graph.nodes.items) where
+  of_node : (node : Node) → slice_get graph.nodes.items n ≡ Some node → IsNodeOf inputs graph n (name_at graph.names n)
+  of_node node at =
+      let name : List ℕ = name_at graph.names n in
+      let hard : List ℕ = row graph.hard n in
+      let known : IsNode inputs graph.names hard name node = is.node n node at in
+      record {
+        stamp = ap (option_and_then (λ (m : Node). m.stamp)) at ∙ known.stamp;
+        entry = ap (option_and_then (λ (m : Node). m.entry)) at ∙ known.entry;
+        stem =
+            ap (λ o. unwrap_or (option_and_then (λ (m : Node). m.stem) o) []) at ∙ ap (λ o. unwrap_or o []) known.stem
+            ∙ or_map (λ s. s.stem) (implicit_source inputs name) [];
+        source =
+            ap (λ o. option_map_or (name_at graph.names) (source_in o hard) []) at
+            ∙ sym (or_map (name_at graph.names) (source_by node.stem hard) []) ∙ ap (λ o. unwrap_or o []) known.source
+            ∙ or_map (λ s. s.name) (implicit_source inputs name) [];
+        recipe =
+            ap (λ o. option_map (λ l. l.recipe) (option_and_then (slice_get graph.lines.items) (option_and_then (λ (m : Node). m.recipe) o))) at
+            ∙ ap (λ o. option_map (λ l. l.recipe) (option_and_then (slice_get graph.lines.items) o)) known.recipe
+            ∙ ap (λ lines. option_map (λ l. l.recipe) (option_and_then (slice_get lines) (rule_of inputs name))) is.lines;
+        hard = is.hard.1 n (omega (arith, is.nodes));
+        explicit = ap (λ o. map (name_at graph.names) (explicit_in o hard)) at ∙ known.explicit;
+        prerequisites =
+            ap (λ o. map (option_map (name_at graph.names)) (judged hard (option_map_or (λ (m : Node). m.hidden.items) o []))) at
+            ∙ known.prerequisites;
+      }
+
+  pub node_of_name : IsNodeOf inputs graph n (name_at graph.names n)
+  node_of_name =
+      elim (slice_get_cases graph.nodes.items n).1 [
+        | inl there ↦ let (node, inside, at, same) = there in of_node node at
+        | inr beyond ↦ let (past, none) = beyond in absurd (omega arith)
+      ]

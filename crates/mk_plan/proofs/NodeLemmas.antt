@@ -1,0 +1,80 @@
+-- What the tests of a node mean, one by one; the words of `$?` are one list.
+use Rattle.std.specs.Prelude.{◌<ℤ◌, int_lt, is_none}
+use Rattle.std.specs.Bool.{Decides}
+use Rattle.std.specs.List.{list_any}
+use Rattle.std.proofs.Common.{◌≡◌, ◌∙◌, ℕ, ℤ, Bool, true, false, cond, ◌||◌, List, [], ◌∷◌, map, filter, Option, Some, None, refl, sym, ap, subst, arith}
+use Rattle.std.proofs.lemmas.Bool.Decides.{Decides-or}
+use Rattle.std.proofs.lemmas.Int.{ints}
+use Rattle.std.proofs.lemmas.List.Folds.{Any-from_list_any, list_any-from_Any}
+use Rattle.mk_graph.specs.Edges.{row}
+use Rattle.mk_graph.specs.Numbering.{name_at}
+use Rattle.mk_verdict.specs.Tests.{is_later}
+use Rattle.mk_verdict.specs.Verdict.{IsLater}
+use Rattle.mk_rules.specs.declared.graph.Graph.{Graph}
+use Rattle.mk_plan.specs.Nodes.{stamp_of, is_marked, IsNewer, AreNewer, nothing, named, left_out, EndsRemade}
+use Rattle.mk_plan.specs.Tests.{is_newer_word, newer_words, ends_remade}
+
+-- ---- times
+
+absent_decides : (stamp : Option ℤ) → Decides (is_none stamp) (stamp ≡ None)
+absent_decides None = ((λ e. refl), λ e. refl)
+absent_decides (Some s) = ((λ e. absurd cc), λ e. absurd cc)
+
+below_yes : (a b : ℤ) → int_lt a b ≡ true → a <ℤ b
+below_yes a b e = grind (arith, ints)
+
+below_no : (a b : ℤ) → a <ℤ b → int_lt a b ≡ true
+below_no a b e = grind (arith, ints)
+
+some_is : (a b : ℤ) → Some a ≡ Some b → a ≡ b
+some_is a b e = cc
+
+later_decides : (stamp target : Option ℤ) → Decides (is_later stamp target) (IsLater stamp target)
+later_decides None target = ((λ e. absurd cc), λ (p, t, has, is, lt). absurd cc)
+later_decides (Some s) None = ((λ e. absurd cc), λ (p, t, has, is, lt). absurd cc)
+later_decides (Some s) (Some u) = (
+  (λ e. (s, u, refl, refl, below_yes u s e)),
+  λ (p, t, has, is, lt). below_no u s (rw (some_is s p has, some_is u t is) lt),
+)
+
+-- ---- what was remade, and what is newer
+
+module _ (graph : Graph) (marks : List Bool) (n : ℕ) where
+  pub ends_remade-decides : Decides (ends_remade graph marks n) (EndsRemade graph marks n)
+  ends_remade-decides =
+      Decides-or (is_none (stamp_of graph n)) (list_any (is_marked marks) (row graph.hard n)) (absent_decides (stamp_of graph n))
+      (Any-from_list_any (is_marked marks) (row graph.hard n), list_any-from_Any (is_marked marks) (row graph.hard n))
+
+  newer_decides : (m : ℕ) → Decides (is_newer_word graph marks n m) (IsNewer graph marks n m)
+  newer_decides m =
+      Decides-or (is_none (stamp_of graph n)) (is_later (stamp_of graph m) (stamp_of graph n) || is_marked marks m) (absent_decides (stamp_of graph n))
+      (Decides-or (is_later (stamp_of graph m) (stamp_of graph n)) (is_marked marks m) (later_decides (stamp_of graph m) (stamp_of graph n)) ((λ e. e), λ e. e))
+
+  newer_one : (m : ℕ) (ms : List ℕ) (b : Bool) → is_newer_word graph marks n m ≡ b →
+      AreNewer graph marks n ms (map (name_at graph.names) (filter (is_newer_word graph marks n) ms)) →
+      AreNewer graph marks n (m ∷ ms)
+      (map (name_at graph.names) (cond b (m ∷ filter (is_newer_word graph marks n) ms) (filter (is_newer_word graph marks n) ms)))
+  newer_one m ms true e rest = named m ((newer_decides m).0 e) rest
+  newer_one m ms false e rest = left_out m (λ is. let both : false ≡ true = sym e ∙ (newer_decides m).1 is in cc) rest
+
+  newer_by : (ms : List ℕ) → AreNewer graph marks n ms (map (name_at graph.names) (filter (is_newer_word graph marks n) ms))
+  newer_by [] = nothing
+  newer_by (m ∷ ms) = newer_one m ms (is_newer_word graph marks n m) refl (newer_by ms)
+
+  -- the words that pass the test are those of `$?`
+  pub are_newer : (words : List (List ℕ)) → words ≡ newer_words graph marks n → AreNewer graph marks n (row graph.hard n) words
+  are_newer words is = subst (AreNewer graph marks n (row graph.hard n)) (sym is) (newer_by (row graph.hard n))
+
+  -- ---- one list of words
+
+  same_behind : (m : ℕ) (ms : List ℕ) (a b : List (List ℕ)) →
+      ((x y : List (List ℕ)) → AreNewer graph marks n ms x → AreNewer graph marks n ms y → x ≡ y) →
+      AreNewer graph marks n (m ∷ ms) a → AreNewer graph marks n (m ∷ ms) b → a ≡ b
+  same_behind m ms a b same (named _ is here) (named _ is' there) = ap (λ words. name_at graph.names m ∷ words) (same _ _ here there)
+  same_behind m ms a b same (named _ is here) (left_out _ other there) = absurd (other is)
+  same_behind m ms a b same (left_out _ other here) (named _ is there) = absurd (other is)
+  same_behind m ms a b same (left_out _ other here) (left_out _ other' there) = same _ _ here there
+
+  pub same_newer : (ms : List ℕ) (a b : List (List ℕ)) → AreNewer graph marks n ms a → AreNewer graph marks n ms b → a ≡ b
+  same_newer [] a b nothing nothing = refl
+  same_newer (m ∷ ms) a b h k = same_behind m ms a b (same_newer ms) h k

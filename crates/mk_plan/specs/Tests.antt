@@ -1,0 +1,20 @@
+-- What the private functions compute, by one test after the other. `Nodes` says what it means.
+use Rattle.std.specs.Prelude.{ℕ, Bool, ◌||◌, List, map, filter, is_none}
+use Rattle.std.specs.List.{list_any}
+use Rattle.mk_graph.specs.Edges.{row}
+use Rattle.mk_graph.specs.Numbering.{name_at}
+use Rattle.mk_verdict.specs.Tests.{is_later}
+use Rattle.mk_rules.specs.declared.graph.Graph.{Graph}
+use Rattle.mk_plan.specs.Nodes.{stamp_of, is_marked}
+
+-- the prerequisite m is newer than the target n
+abbrev pub is_newer_word : Graph → (marks : List Bool) → (n m : ℕ) → Bool
+is_newer_word graph marks n m = is_none (stamp_of graph n) || (is_later (stamp_of graph m) (stamp_of graph n) || is_marked marks m)
+
+-- the words of `$?`: of the source and the prerequisites by name
+abbrev pub newer_words : Graph → (marks : List Bool) → (n : ℕ) → List (List ℕ)
+newer_words graph marks n = map (name_at graph.names) (filter (is_newer_word graph marks n) (row graph.hard n))
+
+-- a node without a recipe was remade
+abbrev pub ends_remade : Graph → (marks : List Bool) → (n : ℕ) → Bool
+ends_remade graph marks n = is_none (stamp_of graph n) || list_any (is_marked marks) (row graph.hard n)

@@ -1,0 +1,3 @@
+pub mod FirstLemmas
+pub mod ReasonLemmas
+pub mod VerdictLemmas
