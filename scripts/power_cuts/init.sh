@@ -1,7 +1,7 @@
 #!/bin/busybox sh
 # The first program of the virtual machine of power_cuts.py. The kernel's line has mode=, tools=, pause=, expire=. Each tool has a
 # disk of its own, with a tree; mode 'judge' has one more, for its answers.
-/bin/busybox mkdir -p /proc /sys /dev /d /r /tmp
+/bin/busybox mkdir -p /proc /sys /dev /d /r /tmp /usr
 /bin/busybox --install -s /bin
 mount -t proc proc /proc
 mount -t sysfs sys /sys
@@ -34,7 +34,7 @@ dry() {
 }
 
 # named TOOL: how many targets its dry run shows.
-named() { dry "$1" | grep -o '@t_[0-9]*@' | sort -u | wc -l; }
+named() { dry "$1" | grep -o '@[^@ ]*@' | sort -u | wc -l; }
 
 # judge TOOL: into /r/TOOL what a dry run says and what the targets' files are; of dmk also what a run that isn't cut makes of
 # them, what there is to do behind it, and what once a hidden prerequisite has changed.
@@ -53,11 +53,16 @@ judge() {
     dry "$tool" >"$into/left_over" 2>&1
     # File times go by steps of a hundredth of a second.
     sleep 1
-    touch h/table
+    sh ./hidden.sh
     dry "$tool" >"$into/hidden" 2>&1
 }
 
-set -- a b c d e f g h
+# A compiler, where the tree wants one.
+if [ -e /dev/ubdh ]; then
+    mount -t ext4 -o ro,noload /dev/ubdh /usr || echo "NOT MOUNTED /usr"
+    export PATH=/bin:/usr/bin
+fi
+set -- a b c d e f g
 for tool in $tools; do
     mkdir -p "/d/$tool" "/r/$tool"
     mount -t ext4 "/dev/ubd$1" "/d/$tool" || echo "NOT MOUNTED $tool"
@@ -78,7 +83,7 @@ prepare)
         echo "WHOLE $tool $(named "$tool")"
         sync
         sleep 1
-        cp /d/$tool/later/* "/d/$tool/s/"
+        (cd "/d/$tool" && sh ./later.sh)
         echo "CHANGED $tool $(named "$tool")"
         sync
         umount "/d/$tool"

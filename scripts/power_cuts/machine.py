@@ -93,6 +93,8 @@ class Machines:
     def __init__(self, args, work):
         self.args, self.work = args, work
         self.numbers = itertools.count()
+        # A disk with a compiler, which all machines read.
+        self.compiler = None
 
     def make_initramfs(self):
         root = self.work / "root"
@@ -114,10 +116,11 @@ class Machines:
 
     def start(self, mode, tools, disks, pause="0"):
         """Starts a machine with a disk for each tool, and behind them one for answers where it judges."""
-        words = [self.args.linux, "mem=192M", f"umid=cut{os.getpid()}-{next(self.numbers)}", f"uml_dir={self.work}/uml/",
+        words = [self.args.linux, f"mem={self.args.memory}M", f"umid=cut{os.getpid()}-{next(self.numbers)}", f"uml_dir={self.work}/uml/",
                  f"initrd={self.work}/initramfs", "quiet", "con=null", "con0=null,fd:1", "ssl=null", f"mode={mode}",
                  f"tools={','.join(tools)}", f"pause={pause}", f"expire={self.args.expire}"]
-        words += [f"ubd{letter}={file}" for letter, file in zip("abcdefgh", disks)]
+        words += [f"ubd{letter}={file}" for letter, file in zip("abcdefg", disks)]
+        words += [f"ubdhrc={self.compiler}"] if self.compiler else []
         return subprocess.Popen(words, stdin=subprocess.DEVNULL, stdout=subprocess.PIPE, stderr=subprocess.STDOUT, text=True,
                                 errors="replace", start_new_session=True, env=dict(os.environ, TMPDIR=str(self.work)))
 

@@ -3,7 +3,7 @@
 looks at which targets each tool takes as up to date, and whether these have their right contents. A cut is wrong for a tool where
 a target that isn't in its dry run hasn't its contents.
 
-  power_cuts.py --work FOLDER --linux LINUX --dmk DMK [--tools LIST] [--expire N] [--first N] [--cuts N] [--at-once N]
+  power_cuts.py --work FOLDER --linux LINUX --dmk DMK [--tree NAME] [--tools LIST] [--expire N] [--first N] [--cuts N] [--at-once N]
   power_cuts.py --summary TABLE..
 
 The machine is user-mode Linux (LINUX, such as Debian's linux.uml), one for each build. A cut is SIGKILL of it: what it had sent to
@@ -35,9 +35,11 @@ import tarfile
 import threading
 import traceback
 
+import farm_tree
 import tree
 from machine import Machines, call, copy_of, wait_for_end
 
+TREES = {"recipes": tree, "farm": farm_tree}
 CONTROLS = ["dmk-unsynced-targets", "dmk-unsynced"]
 TOOLS = ["dmk", "make", "ninja", *CONTROLS]
 # What is asked of dmk alone, behind the cut.
@@ -59,16 +61,24 @@ class PowerCuts:
         self.work = pathlib.Path(args.work).resolve()
         self.table = self.work / "table.tsv"
         self.machines = Machines(args, self.work)
-        self.right = {"fresh": tree.digests(1), "again": tree.digests(2)}
+        self.tree = TREES[args.tree]
+        self.right = {"fresh": self.tree.digests(1), "again": self.tree.digests(2)}
         self.lengths = {}
         self.lock, self.wrong = threading.Lock(), collections.Counter()
+
+    def make_compiler(self):
+        place, self.machines.compiler = self.work / "usr", self.work / "usr.disk"
+        farm_tree.write_compiler(place)
+        call("truncate", "-s", "256M", self.machines.compiler)
+        call("mke2fs", "-q", "-t", "ext4", "-d", place, self.machines.compiler)
+        shutil.rmtree(place)
 
     def make_disks(self):
         """For each tool a disk with a tree from which nothing was built, and one with a tree that was built from older sources. The
         tool has to name no target of a tree that is whole, and all of one whose sources have changed."""
         for tool in self.tools:
             place, image = self.work / "tree", self.work / "image"
-            tree.write(place, tool)
+            self.tree.write(place, tool)
             call("truncate", "-s", "256M", image)
             call("mke2fs", "-q", "-t", "ext4", "-b", "4096", "-N", "4096", "-E", "lazy_itable_init=0,lazy_journal_init=0", "-d",
                  place, image)
@@ -79,7 +89,7 @@ class PowerCuts:
         disks = [self.work / f"again.{tool}" for tool in self.tools]
         said = set(wait_for_end(self.machines.start("prepare", self.tools, disks), "PREPARED").splitlines())
         for tool in self.tools:
-            for line in (f"END {tool} 0", f"WHOLE {tool} 0", f"CHANGED {tool} {tree.COUNT}"):
+            for line in (f"END {tool} 0", f"WHOLE {tool} 0", f"CHANGED {tool} {self.tree.COUNT}"):
                 if line not in said:
                     sys.exit(f"power_cuts.py: no '{line}': " + "\n".join(sorted(said)))
 
@@ -140,22 +150,22 @@ class PowerCuts:
             return int((place / name).read_text())
 
         def named(name):
-            return set(re.findall(r"@(t_\d+)@", (place / name).read_text(errors="replace")))
+            return set(re.findall(r"@([^@\s]+)@", (place / name).read_text(errors="replace")))
 
         digests, status, listed = digests_of("sums"), status_of("dry.status"), named("dry")
         # A tool that refuses takes nothing as up to date.
-        trusted = [target for target in tree.ALL if target.tag not in listed] if status == 0 else []
+        trusted = [target for target in self.tree.ALL if target.tag not in listed] if status == 0 else []
         wrong = [target for target in trusted if digests.get(target.name) != right[target.name]]
         row = dict.fromkeys(FURTHER, "-")
         if tool == "dmk":
-            after, hidden = digests_of("again.sums"), {target.tag for target in tree.ALL if target.kind == "hidden"}
+            after, hidden = digests_of("again.sums"), {target.tag for target in self.tree.ALL if target.kind == "hidden"}
             row = {
                 "again_status": status_of("again.status"),
-                "wrong_after": sum(after.get(target.name) != right[target.name] for target in tree.ALL),
+                "wrong_after": sum(after.get(target.name) != right[target.name] for target in self.tree.ALL),
                 "left_over": len(named("left_over")), "unseen": len(hidden - named("hidden")),
             }
         row.update({
-            "there": len(digests), "right": sum(digests.get(target.name) == right[target.name] for target in tree.ALL),
+            "there": len(digests), "right": sum(digests.get(target.name) == right[target.name] for target in self.tree.ALL),
             "dry_status": status, "up_to_date": len(trusted), "wrong": len(wrong), "done_recorded": self.recorded(place, tool),
             "wrong_targets": ",".join(f"{target.tag}:{target.kind}" for target in wrong) or "-",
         })
@@ -196,6 +206,8 @@ class PowerCuts:
             sys.exit(f"power_cuts.py: there is a {self.table} already")
         (self.work / "kept").mkdir(parents=True, exist_ok=True)
         self.machines.make_initramfs()
+        if self.args.tree == "farm":
+            self.make_compiler()
         self.make_disks()
         self.build_without_cuts()
         self.table.write_text("\t".join(COLUMNS) + "\n")
@@ -240,6 +252,9 @@ def main():
     for name in ("--work", "--linux", "--dmk"):
         parser.add_argument(name, help="needed but for --summary")
     parser.add_argument("--dmk-state", help="lists the state that each cut left; without it that column is '-'")
+    parser.add_argument("--tree", choices=TREES, default="recipes", help="recipes: those of tree.py; farm: examples/farm, which gcc"
+                        " compiles in the machine")
+    parser.add_argument("--memory", type=at_least_one, default=192, help="of a machine, in MiB")
     parser.add_argument("--tools", default="dmk,make,ninja,dmk-unsynced-targets", help="of " + ",".join(TOOLS))
     parser.add_argument("--first", type=int, default=1)
     parser.add_argument("--cuts", type=at_least_one, default=100)

@@ -93,6 +93,8 @@ def write(place, tool):
         (place / name).mkdir(parents=True)
     (place / "recipe.sh").write_text(RECIPE)
     (place / "h/table").write_text("hidden\n")
+    (place / "later.sh").write_text("cp later/* s/\n")
+    (place / "hidden.sh").write_text("touch h/table\n")
     (place / "targets").write_text("".join(target.name + "\n" for target in ALL))
     for target in ALL:
         (place / target.source).write_text(target.front(1))

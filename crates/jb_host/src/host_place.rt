@@ -125,17 +125,18 @@ impl Place for HostPlace {
         }
     }
 
-    fn report(&self, alloc: Global, path: &[u8]) -> Result<Vec<u8>, PlaceFault> {
+    fn report(&self, _alloc: Global, path: &[u8]) -> Result<Option<Vec<u8>>, PlaceFault> {
         let Ok(name) = std::str::from_utf8(path) else {
-            return Ok(Vec::new(alloc));
+            return Ok(None);
         };
         match fs::metadata(&self.rt, name) {
             Ok(found) if !found.is_file() => return Err(PlaceFault::Device(not_ordinary())),
+            Err(error) if error.kind() == ErrorKind::NotFound => return Ok(None),
             _ => {}
         }
         match fs::read(&self.rt, name) {
-            Ok(bytes) => Ok(bytes),
-            Err(error) if error.kind() == ErrorKind::NotFound => Ok(Vec::new(alloc)),
+            Ok(bytes) => Ok(Some(bytes)),
+            Err(error) if error.kind() == ErrorKind::NotFound => Ok(None),
             Err(error) => Err(fault_of(error)),
         }
     }

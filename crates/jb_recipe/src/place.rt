@@ -30,8 +30,8 @@ pub trait Place {
     /// Removes a report. One that isn't there, or can't be removed, is passed over.
     fn remove(&self, path: &[u8]);
 
-    /// The bytes of a report, none where there is no report.
-    fn report(&self, alloc: Global, path: &[u8]) -> Result<Vec<u8>, PlaceFault>;
+    /// The bytes of a report; None where there is no report.
+    fn report(&self, alloc: Global, path: &[u8]) -> Result<Option<Vec<u8>>, PlaceFault>;
 
     /// Puts a target's file on the disk, and its folder, before its 'done' is written. What isn't there or can't be opened is
     /// passed over: many targets are no files.

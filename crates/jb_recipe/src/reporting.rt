@@ -71,6 +71,19 @@ fn failed(target: ByteString, status: u32) -> Option<Record>
     writable(Record::Failed { target, status })
 }
 
+/// The bytes of a report, which isn't left behind; None where there is none.
+fn taken_away<P: Place>(
+    alloc: Global,
+    place: &P,
+    path: &[u8],
+) -> Result<Option<Vec<u8>>, PlaceFault> {
+    let found = place.report(alloc, path);
+    if !matches!(found, Ok(None)) {
+        place.remove(path);
+    }
+    found
+}
+
 /// The hidden names of a report, or why it can't be taken.
 fn taken<P: Place>(
     alloc: Global,
@@ -80,8 +93,9 @@ fn taken<P: Place>(
     target: &ByteString,
     known: &ByteStrings,
 ) -> Result<Result<ByteStrings, NotDone>, AllocError> {
-    let bytes = match place.report(alloc, path.as_slice()) {
-        Ok(bytes) => bytes,
+    let bytes = match taken_away(alloc, place, path.as_slice()) {
+        Ok(Some(bytes)) => bytes,
+        Ok(None) => return Ok(Ok(ByteStrings::empty(alloc))),
         Err(PlaceFault::Device(error)) => return Ok(Err(NotDone::Unread(error))),
         Err(PlaceFault::OutOfMemory) => return Err(AllocError),
     };
@@ -95,7 +109,7 @@ fn taken<P: Place>(
 }
 
 impl EndNote {
-    /// A report of an earlier run must not be taken for this one's; nor is one left behind.
+    /// A report of an earlier run must not be taken for this one's; nor is one of a failed recipe left behind.
     pub fn remove_report<P: Place>(&self, place: &P) {
         if let Some(path) = &self.report {
             place.remove(path.as_slice());
@@ -163,9 +177,7 @@ impl EndNote {
         key: HashKey,
         place: &P,
     ) -> Result<Result<ByteStrings, NotDone>, AllocError> {
-        let hidden = self.hidden(alloc, key, place);
-        self.remove_report(place);
-        let hidden = match hidden? {
+        let hidden = match self.hidden(alloc, key, place)? {
             Ok(hidden) => hidden,
             Err(not_done) => return Ok(Err(not_done)),
         };

@@ -7,7 +7,7 @@ ghost use Rattle.bd_lists.specs.Running.{FailsInRange};
 ghost use Rattle.jb_runner.specs.Making.{IsClearedFor, IsHandedOut};
 
 use crate::abandoning::abandon_waiting;
-use crate::shift::Kept;
+use crate::pending::Pending;
 use crate::{Shift, Shop};
 use bd_flusher::{FlushFault, Receipt};
 use bd_ledger::Ticket;
@@ -65,13 +65,14 @@ impl<D: Disk + Drop, E: Exec<Receipt>, S: Say, P: Place> Shop<'_, D, E, S, P> {
         board.advance(node, receipt)
     }
 
-    // Submits the 'begun' and waits until it is written. No recipe is run before.
+    // Submits the 'begun' and waits until it is written, with the end that is pending in the same batch. No recipe is run before.
     fn begin<R: Wait>(
         &self,
         rt: &R,
         alloc: Global,
         node: Node,
         begun: Record,
+        shift: &mut Shift,
     ) -> Result<Begun, RunFault>
         requires { IsGood Two begun }
         ensures { IfOk result (λ b. IsClearedFor begun b) }
@@ -80,7 +81,12 @@ impl<D: Disk + Drop, E: Exec<Receipt>, S: Say, P: Place> Shop<'_, D, E, S, P> {
             drop(begun);
             return Err(RunFault::OutOfMemory);
         };
-        match self.hand_in(rt, node, begun) {
+        let handed_in = self.hand_in(rt, node, begun);
+        if let Err(fault) = self.settle_pending(rt, alloc, shift) {
+            drop(copy);
+            return Err(fault);
+        }
+        match handed_in {
             Some(ticket) => self.clear(rt, alloc, node, ticket, copy),
             None => {
                 drop(copy);
@@ -126,7 +132,7 @@ impl<D: Disk + Drop, E: Exec<Receipt>, S: Say, P: Place> Shop<'_, D, E, S, P> {
         ran
     }
 
-    /// Makes a target. What it gathers of receipts goes to `kept`, also where a fault ends the run.
+    /// Makes a target, up to its end: that is pending then.
     pub(crate) fn build_planned<R: Wait, B: Bank>(
         &self,
         rt: &R,
@@ -135,17 +141,16 @@ impl<D: Disk + Drop, E: Exec<Receipt>, S: Say, P: Place> Shop<'_, D, E, S, P> {
         plan: Plan,
         bank: &mut B,
         shift: &mut Shift,
-        kept: &mut Kept,
     ) -> Result<(), RunFault> {
         let (begun, recipe, note) = plan.apart(alloc)?;
-        match self.begin(rt, alloc, node, begun) {
+        match self.begin(rt, alloc, node, begun, shift) {
             Ok(Begun::Cleared(clearance)) => {
                 note.remove_report(self.place);
                 let ran = self.run_with_slot(rt, alloc, clearance, recipe, bank);
                 if self.complain(rt, bank) {
                     shift.worsen(2);
                 }
-                self.end_run(rt, alloc, node, ran, note, shift, kept)
+                self.end_run(rt, alloc, node, ran, note, shift)
             }
             Ok(Begun::Refused) => {
                 drop(recipe);
@@ -170,15 +175,14 @@ impl<D: Disk + Drop, E: Exec<Receipt>, S: Say, P: Place> Shop<'_, D, E, S, P> {
         ran: Result<Ran, Clearance<Receipt>>,
         note: EndNote,
         shift: &mut Shift,
-        kept: &mut Kept,
     ) -> Result<(), RunFault>
         requires { IfOk ran (λ r. FailsInRange r.spent.outcome) }
     {
         match ran {
-            Ok(ran) => self.end(rt, alloc, node, ran, note, shift, kept),
+            Ok(ran) => self.end(rt, alloc, node, ran, note, shift),
             Err(clearance) => {
                 drop(note);
-                kept.keep_begun(Some(clearance.give_up()));
+                shift.keep(clearance.give_up());
                 Err(RunFault::OutOfMemory)
             }
         }
@@ -203,7 +207,6 @@ impl<D: Disk + Drop, E: Exec<Receipt>, S: Say, P: Place> Shop<'_, D, E, S, P> {
         ran: Ran,
         note: EndNote,
         shift: &mut Shift,
-        kept: &mut Kept,
     ) -> Result<(), RunFault>
         requires { FailsInRange ran.spent.outcome }
     {
@@ -211,15 +214,15 @@ impl<D: Disk + Drop, E: Exec<Receipt>, S: Say, P: Place> Shop<'_, D, E, S, P> {
         let outcome = spent.outcome();
         match note.last_record(alloc, self.key, self.place, outcome) {
             Ok(Last { record, not_done }) => match record {
-                Some(last) => self.submit_end(rt, alloc, node, last, not_done, spent, shift, kept),
+                Some(last) => self.submit_end(rt, alloc, node, last, not_done, spent, shift),
                 None => {
-                    kept.keep_begun(Some(spent.give_up()));
+                    shift.keep(spent.give_up());
                     self.not_recorded(rt, node, shift);
                     Ok(())
                 }
             },
             Err(_) => {
-                kept.keep_begun(Some(spent.give_up()));
+                shift.keep(spent.give_up());
                 Err(RunFault::OutOfMemory)
             }
         }
@@ -234,20 +237,25 @@ impl<D: Disk + Drop, E: Exec<Receipt>, S: Say, P: Place> Shop<'_, D, E, S, P> {
         not_done: Option<NotDone>,
         spent: Spent<Receipt>,
         shift: &mut Shift,
-        kept: &mut Kept,
     ) -> Result<(), RunFault>
         requires { IsGood Two last }
     {
         let Ok(copy) = last.copy(alloc) else {
             drop(last);
-            kept.keep_begun(Some(spent.give_up()));
+            shift.keep(spent.give_up());
             return Err(RunFault::OutOfMemory);
         };
         let failed = failed_status(&last);
-        match self.hand_in_end(rt, node, last, spent, kept) {
+        match self.hand_in_end(rt, node, last, spent, shift) {
             Some(ticket) => {
                 self.tell_end(node, failed, not_done.as_ref(), shift);
-                self.settle_end(rt, alloc, node, ticket, copy, failed, kept)
+                let end = Pending {
+                    node,
+                    ticket,
+                    note: copy,
+                    failed,
+                };
+                self.leave_pending(rt, alloc, end, shift)
             }
             None => {
                 drop(copy);
@@ -270,23 +278,24 @@ impl<D: Disk + Drop, E: Exec<Receipt>, S: Say, P: Place> Shop<'_, D, E, S, P> {
         }
     }
 
-    // Waits until the end is written, and settles the node. Without `-k` a failed target abandons all that waits, in the same
-    // holding of the lock: no further recipe is begun.
-    fn settle_end<R: Wait>(
+    /// Waits until the end is written, and settles its node. Without `-k` a failed target abandons all that waits, in the same
+    /// holding of the lock: no further recipe is begun.
+    pub(crate) fn settle_end<R: Wait>(
         &self,
         rt: &R,
         alloc: Global,
-        node: Node,
-        ticket: Ticket,
-        note: Record,
-        failed: Option<u32>,
-        kept: &mut Kept,
-    ) -> Result<(), RunFault> {
+        end: Pending,
+    ) -> Result<Receipt, RunFault> {
+        let Pending {
+            node,
+            ticket,
+            note,
+            failed,
+        } = end;
         let receipt = self.flusher.acknowledge(rt, alloc, ticket, note)?;
         let advanced = self.advance_end(rt, node, receipt, failed);
         self.tell_idle();
-        kept.keep_end(settled(advanced)?);
-        Ok(())
+        settled(advanced)
     }
 
     fn advance_end<R: Wait>(
@@ -298,7 +307,7 @@ impl<D: Disk + Drop, E: Exec<Receipt>, S: Say, P: Place> Shop<'_, D, E, S, P> {
     ) -> Result<Advanced<Receipt>, Receipt> {
         let mut board = self.flusher.board.lock(rt);
         let advanced = board.advance(node, receipt);
-        if failed.is_some() && !self.conduct.goes_on {
+        if self.ends_run(failed) {
             abandon_waiting(&mut *board, self.graph.len());
         }
         advanced

@@ -7,6 +7,7 @@ mod boards;
 mod ending;
 mod gate;
 mod making;
+mod pending;
 mod pool;
 mod served;
 mod serving;

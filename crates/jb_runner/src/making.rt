@@ -2,7 +2,6 @@
 ghost use Rattle.std.specs.Prelude.{◌≡◌, ◌<◌, length};
 ghost use Rattle.jb_runner.specs.Making.{is_remade};
 
-use crate::shift::Kept;
 use crate::{Shift, Shop};
 use bd_flusher::Receipt;
 use bd_links::Node;
@@ -148,10 +147,7 @@ impl<D: Disk + Drop, E: Exec<Receipt>, S: Say, P: Place> Shop<'_, D, E, S, P> {
             self.not_recorded(rt, node, shift);
             return Ok(());
         };
-        let mut kept = Kept::new();
-        let built = self.build_planned(rt, alloc, node, plan, bank, shift, &mut kept);
-        shift.keep(kept);
-        built
+        self.build_planned(rt, alloc, node, plan, bank, shift)
     }
 
     /// A record of the node may not stand in the state: the node is lost.

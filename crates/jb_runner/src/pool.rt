@@ -190,6 +190,7 @@ fn close<D: Disk + Drop>(
         receipts,
         status,
         fault,
+        pending: _,
     } = crew;
     if let Some(fault) = fault {
         return Err(fault);

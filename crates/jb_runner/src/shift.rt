@@ -1,10 +1,10 @@
 //! What a worker brings home.
 ghost use Rattle.std.specs.Prelude.{◌≡◌, ◌≤◌, ◌++◌, Some, None, unwrap_or, IfSome};
 
+use crate::pending::Pending;
 use bd_flusher::Receipt;
 use jb_closing::RunFault;
 use std::alloc::Global;
-use std::mem;
 
 /// What one worker, or all of them, came to: the receipts that were gathered, the greatest status of the nodes, and the
 /// fault with which the first worker that met one ended.
@@ -14,7 +14,14 @@ pub struct Shift {
     /// 2 where a recipe couldn't be expanded or the jobserver failed, else 1 where a target failed or couldn't be recorded.
     pub status: u8,
     pub fault: Option<RunFault>,
+    /// The end that a worker submitted last, until its node has settled. None is brought home.
+    pub(crate) pending: Option<Pending>,
     ghost in_range: { status ≤ 2 },
+}
+
+// A worker that has ended leaves none.
+fn let_go(pending: Option<Pending>) {
+    drop(pending);
 }
 
 impl Shift {
@@ -26,6 +33,7 @@ impl Shift {
             receipts: Vec::new(alloc),
             status: 0,
             fault: None,
+            pending: None,
         }
     }
 
@@ -61,7 +69,9 @@ impl Shift {
             mut receipts,
             status,
             fault,
+            pending,
         } = other;
+        let_go(pending);
         self.worsen(status);
         if let Some(fault) = fault {
             self.meet(fault);
@@ -72,56 +82,19 @@ impl Shift {
     }
 }
 
-/// The receipts of one node.
-#[derive(Drop)]
-pub(crate) struct Kept {
-    pub(crate) begun: Option<Receipt>,
-    pub(crate) end: Option<Receipt>,
-}
-
-impl Kept {
-    pub(crate) fn new() -> Kept
-        ensures { result ≡ record { begun = None; end = None } }
-    {
-        Kept {
-            begun: None,
-            end: None,
-        }
-    }
-
-    /// Keeps the receipt of the 'begun'.
-    pub(crate) fn keep_begun(&mut self, receipt: Option<Receipt>) {
-        drop(mem::replace(&mut self.begun, receipt));
-    }
-
-    /// Keeps the receipt of the end.
-    pub(crate) fn keep_end(&mut self, receipt: Receipt) {
-        drop(self.end.replace(receipt));
-    }
-}
-
 impl Shift {
-    /// Makes room for the receipts of one node: to keep them takes no memory then.
+    /// Makes room for the receipts of one node and of the end that is pending: to keep them takes no memory then.
     pub(crate) fn make_room(&mut self) -> Result<(), RunFault>
         ensures same { (self.new.status ≡ self.old.status) × (self.new.fault ≡ self.old.fault) }
     {
-        self.receipts.reserve(2)?;
+        self.receipts.reserve(3)?;
         Ok(())
     }
 
-    /// Keeps the receipts of one node.
-    pub(crate) fn keep(&mut self, kept: Kept) {
-        let Kept { begun, end } = kept;
-        self.keep_one(begun);
-        self.keep_one(end);
-    }
-
-    // There is room for it. Were there none, the closing report would miss the receipt and refuse the run.
-    fn keep_one(&mut self, receipt: Option<Receipt>) {
-        if let Some(receipt) = receipt {
-            if self.receipts.push(receipt).is_err() {
-                self.meet(RunFault::OutOfMemory);
-            }
+    /// Keeps a receipt. There is room for it. Were there none, the closing report would miss it and refuse the run.
+    pub(crate) fn keep(&mut self, receipt: Receipt) {
+        if self.receipts.push(receipt).is_err() {
+            self.meet(RunFault::OutOfMemory);
         }
     }
 }

@@ -78,6 +78,12 @@ impl<'a, D: Disk + Drop, E, S: Say, P> Shop<'a, D, E, S, P> {
         (site.into_inner(), board.into_inner())
     }
 
+    /// A node that can be made now.
+    pub(crate) fn claim_ready<R: Wait>(&self, rt: &R) -> Option<Node> {
+        let mut board = self.flusher.board.lock(rt);
+        board.claim()
+    }
+
     /// The next node to be made. While none can be, and some node still waits, the worker sleeps; None where none waits.
     pub(crate) fn next_node<R: Wait>(&self, rt: &R) -> Option<Node> {
         let mut board = self.flusher.board.lock(rt);

@@ -2,8 +2,7 @@
 ghost use Rattle.st_records.specs.Limits.{IsGood};
 ghost use Rattle.st_records.specs.declared.version.Version.TheVariants.{Two};
 
-use crate::Shop;
-use crate::shift::Kept;
+use crate::{Shift, Shop};
 use bd_flusher::Receipt;
 use bd_ledger::Ticket;
 use bd_links::Node;
@@ -65,12 +64,14 @@ impl<D: Disk + Drop, E, S: Say, P> Shop<'_, D, E, S, P> {
         node: Node,
         last: Record,
         spent: Spent<Receipt>,
-        kept: &mut Kept,
+        shift: &mut Shift,
     ) -> Option<Ticket>
         requires { IsGood Two last }
     {
         let (ticket, begun) = apart(self.submit(rt, node, last, Some(spent)));
-        kept.keep_begun(begun);
+        if let Some(begun) = begun {
+            shift.keep(begun);
+        }
         ticket
     }
 }

@@ -39,12 +39,13 @@ fn make_nodes<R: Wait, D: Disk + Drop, E: Exec<Receipt>, S: Say, P: Place, B: Ba
     shift: &mut Shift,
 ) {
     for _ in rt.forever() {
-        let Some(node) = shop.next_node(rt) else {
+        let Some(node) = shop.claim_next(rt, alloc, shift) else {
             return;
         };
         if let Err(fault) = shop.make(rt, alloc, node, marks, bank, shift) {
             shop.stop_at(rt, node);
             shift.meet(fault);
+            shop.settle_last(rt, alloc, shift);
             return;
         }
     }

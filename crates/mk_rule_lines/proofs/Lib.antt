@@ -1,9 +1,15 @@
 pub mod ExplicitLemmas
 pub mod FormLemmas
 pub mod GoalLemmas
+pub mod ImplicitLemmas
+pub mod KindLemmas
 pub mod LineLemmas
 pub mod NameLemmas
+pub mod OwnGoalLemmas
 pub mod PlaceLemmas
+pub mod RecipeLemmas
 pub mod ResultLemmas
+pub mod SuffixLemmas
+pub mod SupportedLemmas
 pub mod TableLemmas
 pub mod TakenLemmas

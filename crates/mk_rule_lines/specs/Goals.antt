@@ -1,24 +1,65 @@
 -- What is to be made, and what the special targets set.
-use Rattle.std.specs.Prelude.{◌≡◌, ℕ, Bool, true, false, not, ◌&&◌, ◌==◌, List, [], ◌∷◌, take, filter, flat_map, Option, Some}
-use Rattle.std.specs.List.{list_any}
+use Rattle.std.specs.Prelude.{◌≡◌, ℕ, Bool, true, false, not, ◌&&◌, ◌==◌, List, [], ◌∷◌, ◌++◌, take, filter, flat_map, Option, Some}
+use Rattle.std.specs.List.{All, list_any}
+use Rattle.mk_macros.specs.Spelled.{Lacks}
 use Rattle.mk_reader.specs.declared.special.SpecialName.{SpecialName}
 use Rattle.mk_reader.specs.declared.special.SpecialName.TheVariants.{KeepState, NoParallel, Ignore, Silent}
+use Rattle.mk_rule_lines.specs.Kinds.{IsRule, IsPatternRule, IsSuffixRule}
 use Rattle.mk_rule_lines.specs.Rules.{suffixes_of, is_rule, is_pattern_rule, is_suffix_target}
 use Rattle.mk_rule_lines.specs.declared.fault.RuleFault.{RuleFault}
 use Rattle.mk_rule_lines.specs.declared.fault.RuleFault.TheVariants as fault
 use Rattle.mk_rule_lines.specs.declared.rule_line.RuleLine.{RuleLine}
 use Rattle.mk_rule_lines.specs.declared.settings.Settings.{Settings}
 
+-- Goals
+
+-- the name begins with a dot and has no slash
+abbrev pub IsDotted : (name : List ℕ) → Type 0
+IsDotted name = (rest : List ℕ) × (name ≡ 46 ∷ rest) × Lacks 47 rest
+
+-- the line's first target is what is to be made where no goal is named and no line above gives one: it is none of a special,
+-- pattern or suffix rule, and doesn't begin with a dot, or holds a slash (POSIX make, "OPERANDS")
+pub record GivesGoal (suffixes : List (List ℕ)) (l : RuleLine) (target : List ℕ) : Type 0 where
+  pub rule : IsRule l
+  pub no_pattern : IsPatternRule l → ⊥
+  pub others : List (List ℕ)
+  pub first : l.targets ≡ target ∷ others
+  pub no_suffix_rule : IsSuffixRule suffixes l target → ⊥
+  pub undotted : IsDotted target → ⊥
+
+abbrev pub GivesNoGoal : (suffixes : List (List ℕ)) → RuleLine → Type 0
+GivesNoGoal suffixes l = (target : List ℕ) → GivesGoal suffixes l target → ⊥
+
+-- the goal is that of the first line that gives one
+pub record IsFirstGoal (suffixes : List (List ℕ)) (lines : List RuleLine) (goal : List ℕ) : Type 0 where
+  pub above : List RuleLine
+  pub line : RuleLine
+  pub below : List RuleLine
+  pub whole : lines ≡ above ++ line ∷ below
+  pub earlier : All (GivesNoGoal suffixes) above
+  pub gives : GivesGoal suffixes line goal
+
+-- what is to be made where no goal is named: the goal of the first line that gives one, or nothing where none does
+abbrev pub AreOwnGoals : (suffixes : List (List ℕ)) → List RuleLine → (goals : List (List ℕ)) → Type 0
+AreOwnGoals suffixes lines [] = All (GivesNoGoal suffixes) lines
+AreOwnGoals suffixes lines (goal ∷ []) = IsFirstGoal suffixes lines goal
+AreOwnGoals suffixes lines (goal ∷ other ∷ more) = ⊥
+
+-- what is to be made: the names of the command line, or else what the lines give
+abbrev pub AreGoals : List RuleLine → (named goals : List (List ℕ)) → Type 0
+AreGoals lines [] goals = AreOwnGoals (suffixes_of lines) lines goals
+AreGoals lines (name ∷ names) goals = goals ≡ name ∷ names
+
+-- The same, computed
+
 abbrev pub is_slash : ℕ → Bool
 is_slash b = b == 47
 
--- the name begins with a dot and has no slash
 abbrev pub is_dotted : (name : List ℕ) → Bool
 is_dotted [] = false
 is_dotted (b ∷ bs) = (b == 46) && not (list_any is_slash bs)
 
--- the target of this line may be made where no goal is named: it is none of a special, pattern or suffix rule, and
--- doesn't begin with a dot, or holds a slash (POSIX make, "OPERANDS")
+-- the target of this line may be made where no goal is named
 abbrev pub may_be_goal : (suffixes : List (List ℕ)) → RuleLine → (target : List ℕ) → Bool
 may_be_goal suffixes l target =
     is_rule l && (not (is_pattern_rule l) && (not (is_suffix_target suffixes l target) && not (is_dotted target)))
@@ -41,6 +82,8 @@ abbrev pub IsGoalFault : List RuleLine → (named : List (List ℕ)) → RuleFau
 IsGoalFault lines named fault.OutOfMemory = Unit {0}
 IsGoalFault lines named fault.NoTarget = goals_of lines named ≡ []
 IsGoalFault lines named _ = ⊥
+
+-- Settings
 
 abbrev pub is_keep_state : Option SpecialName → Bool
 is_keep_state (Some KeepState) = true

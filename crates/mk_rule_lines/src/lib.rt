@@ -6,6 +6,7 @@ mod fault;
 mod form;
 mod forms;
 mod goals;
+mod laws;
 mod lines;
 mod makefile;
 mod rule_line;
@@ -19,6 +20,9 @@ pub use fault::{CycleNames, RuleFault, Unsupported};
 pub use form::{Form, Source};
 pub use forms::forms_of;
 pub use goals::goals_of;
+pub use laws::{
+    goals_are_named_or_first, implicit_rules_in_order, rules_by_name, suffixes_are_the_last_list,
+};
 pub use lines::rule_lines;
 pub use makefile::Makefile;
 pub use rule_line::RuleLine;

@@ -1,6 +1,7 @@
 //! Which rule lines are refused.
-ghost use Rattle.std.specs.Prelude.{◌≡◌, ℕ, true, Some, MatchOption, OnOk, IfErr, slice_get};
-ghost use Rattle.mk_rule_lines.specs.Supported.{is_pattern, is_one_pattern, is_whole_pattern_rule, has_bracket, is_refused, IsSupported, AreSupported, IsRefusal};
+ghost use Rattle.std.specs.Prelude.{◌≡◌, ℕ, Some, MatchOption, OnOk, IfErr, slice_get};
+ghost use Rattle.mk_rule_lines.specs.Supported.{IsRefused, IsSupported, AreSupported, IsRefusal};
+ghost use Rattle.mk_rule_lines.specs.Tests.{is_pattern, is_one_pattern, is_whole_pattern_rule, has_bracket, is_refused};
 ghost use Rattle.std.specs.List.{list_any};
 
 use crate::fault::{RuleFault, Unsupported};
@@ -58,7 +59,7 @@ fn is_refused(what: Unsupported, line: &RuleLine) -> bool
 
 /// Why the line is refused, if it is.
 fn refusal(line: &RuleLine) -> Option<Unsupported>
-    ensures { MatchOption result (IsSupported line.now) (λ what. is_refused what line.now ≡ true) }
+    ensures { MatchOption result (IsSupported line.now) (λ what. IsRefused what line.now) }
 {
     if is_refused(Unsupported::TargetGroup, line) {
         return Some(Unsupported::TargetGroup);

@@ -11,9 +11,9 @@ impl<R: Wait + Clock + Copy> Place for Fake<R> {
         self.say(b"~remove ", path);
     }
 
-    fn report(&self, alloc: Global, path: &[u8]) -> Result<Vec<u8>, PlaceFault> {
+    fn report(&self, alloc: Global, path: &[u8]) -> Result<Option<Vec<u8>>, PlaceFault> {
         self.say(b"~report ", path);
-        Ok(Vec::new(alloc))
+        Ok(Some(Vec::new(alloc)))
     }
 
     fn sync(&self, target: &[u8]) -> Result<(), PlaceFault> {

@@ -18,35 +18,60 @@ use std::time::Clock;
 // Each file is newer than those that it is made from: times alone list nothing.
 const FILES: &[File] = &[("z", 9, ""), ("x", 8, ""), ("y", 1, "")];
 
-const EARLIER: Asked = Asked {
-    makefile: "A = 1\nz: x\n\techo z\nx: y\n\techo $(A)\n",
-    files: FILES,
+/// What an earlier run and a later one are asked for: two recipes, of which `echo z` is the last one.
+struct Pair {
+    earlier: Asked,
+    later: Asked,
+}
+
+/// The second recipe waits for the first; each record is a batch of its own.
+static CHAIN: Pair = Pair {
+    earlier: Asked {
+        makefile: "A = 1\nz: x\n\techo z\nx: y\n\techo $(A)\n",
+        files: FILES,
+    },
+    later: Asked {
+        makefile: "A = 2\nz: x\n\techo z\nx: y\n\techo $(A)\n",
+        files: FILES,
+    },
 };
 
-const LATER: Asked = Asked {
-    makefile: "A = 2\nz: x\n\techo z\nx: y\n\techo $(A)\n",
-    files: FILES,
+/// It doesn't wait: with one worker the end of the first and the begin of the second are one batch.
+static APART: Pair = Pair {
+    earlier: Asked {
+        makefile: "A = 1\nall: x z\nx: y\n\techo $(A)\nz: y\n\t: $(A)\n\techo z\n",
+        files: FILES,
+    },
+    later: Asked {
+        makefile: "A = 2\nall: x z\nx: y\n\techo $(A)\nz: y\n\t: $(A)\n\techo z\n",
+        files: FILES,
+    },
 };
 
 // More calls than opening and four commits make.
 const MANY: u64 = 40;
 
 /// What an earlier run left.
-fn left<R: Threads + Wait + Clock + Sync + Copy>(rt: &R, alloc: Global) -> Result<MemDisk, Fail> {
+fn left<R: Threads + Wait + Clock + Sync + Copy>(
+    rt: &R,
+    alloc: Global,
+    asked: &Asked,
+) -> Result<MemDisk, Fail> {
     let store = new_store(alloc)?;
-    Ok(made(rt, alloc, &EARLIER, &ALONE, store)?.into_disk())
+    Ok(made(rt, alloc, asked, &ALONE, store)?.into_disk())
 }
 
 /// What a later run came to whose disk makes so many calls, if it could be opened.
 fn stopped_after<R: Threads + Wait + Clock + Sync + Copy>(
     rt: &R,
     alloc: Global,
+    pair: &Pair,
     way: &Way,
     calls: u64,
 ) -> Result<Option<Came<Fuse<MemDisk>>>, Fail> {
-    let disk: Fuse<MemDisk> = Fuse::new(left(rt, alloc)?, calls);
+    let disk: Fuse<MemDisk> = Fuse::new(left(rt, alloc, &pair.earlier)?, calls);
     match opened(alloc, disk) {
-        Ok(store) => Ok(Some(made(rt, alloc, &LATER, way, store)?)),
+        Ok(store) => Ok(Some(made(rt, alloc, &pair.later, way, store)?)),
         Err(_) => Ok(None),
     }
 }
@@ -55,9 +80,9 @@ fn stopped_after<R: Threads + Wait + Clock + Sync + Copy>(
 #[derive(Clone, Copy)]
 enum Stop {
     BeforeTheFirst,
-    /// The recipe of `x` was run, that of `z` wasn't.
+    /// A recipe was run, and no last line of `z`.
     BeforeTheSecond,
-    /// Both were run, and the run doesn't know that the second's end was told.
+    /// That was run, and the run doesn't know that its end was told.
     BeforeTheEnd,
     Nowhere,
 }
@@ -78,9 +103,9 @@ fn stop_of(came: &Came<Fuse<MemDisk>>) -> Stop {
 
 /// Whether the later run's recipes are to be run again over what it left; None where the state doesn't know where it
 /// stopped. Once a recipe was run, what the earlier run left of it counts no more.
-fn known(alloc: Global, stop: Stop, state: &State) -> Result<Option<bool>, Fail> {
-    let by_earlier = lists_any(alloc, &EARLIER, state)?;
-    let by_later = lists_any(alloc, &LATER, state)?;
+fn known(alloc: Global, pair: &Pair, stop: Stop, state: &State) -> Result<Option<bool>, Fail> {
+    let by_earlier = lists_any(alloc, &pair.earlier, state)?;
+    let by_later = lists_any(alloc, &pair.later, state)?;
     let knows = match stop {
         Stop::BeforeTheFirst => by_later,
         Stop::BeforeTheSecond | Stop::BeforeTheEnd => by_earlier,
@@ -89,9 +114,9 @@ fn known(alloc: Global, stop: Stop, state: &State) -> Result<Option<bool>, Fail>
     Ok(if knows { Some(by_later) } else { None })
 }
 
-fn is_listed(alloc: Global, stop: Stop, disk: MemDisk) -> Result<Option<bool>, Fail> {
+fn is_listed(alloc: Global, pair: &Pair, stop: Stop, disk: MemDisk) -> Result<Option<bool>, Fail> {
     match opened(alloc, disk) {
-        Ok(store) => known(alloc, stop, store.state()),
+        Ok(store) => known(alloc, pair, stop, store.state()),
         Err(_) => Ok(None),
     }
 }
@@ -100,32 +125,44 @@ fn is_listed(alloc: Global, stop: Stop, disk: MemDisk) -> Result<Option<bool>, F
 fn stop_after<R: Threads + Wait + Clock + Sync + Copy>(
     rt: &R,
     alloc: Global,
+    pair: &Pair,
     way: &Way,
     calls: u64,
 ) -> Result<(Stop, bool), Fail> {
-    let Some(came) = stopped_after(rt, alloc, way, calls)? else {
+    let Some(came) = stopped_after(rt, alloc, pair, way, calls)? else {
         return Ok((Stop::BeforeTheFirst, true));
     };
     let stop = stop_of(&came);
-    match is_listed(alloc, stop, came.into_disk().inner)? {
+    match is_listed(alloc, pair, stop, came.into_disk().inner)? {
         Some(is_listed) => Ok((stop, is_listed)),
         None => Err("what the run left says something else".into()),
     }
 }
 
+/// Stops the device after each number of calls. Whether the last recipe was then listed again, and whether all was made at last.
+fn stopped_everywhere<R: Threads + Wait + Clock + Sync + Copy>(
+    rt: &R,
+    alloc: Global,
+    pair: &Pair,
+    way: &Way,
+) -> Result<(bool, bool), Fail> {
+    let mut is_listed_again = false;
+    let mut is_nowhere = false;
+    for calls in 0..MANY {
+        match stop_after(rt, alloc, pair, way, calls)? {
+            (Stop::BeforeTheEnd, true) => is_listed_again = true,
+            (Stop::Nowhere, _) => is_nowhere = true,
+            _ => {}
+        }
+    }
+    Ok((is_listed_again, is_nowhere))
+}
+
 #[test]
 fn a_recipe_that_was_run_is_listed_wherever_the_device_stops(rt: HostRuntime) -> Result<(), Fail> {
-    for way in [ALONE, SIDE_BY_SIDE] {
-        let mut is_listed_again = false;
-        let mut is_nowhere = false;
-        for calls in 0..MANY {
-            match stop_after(&rt, rt.alloc(), &way, calls)? {
-                (Stop::BeforeTheEnd, true) => is_listed_again = true,
-                (Stop::Nowhere, _) => is_nowhere = true,
-                _ => {}
-            }
-        }
-        assert!(rt; is_listed_again && is_nowhere);
+    for (pair, way) in [(&CHAIN, ALONE), (&CHAIN, SIDE_BY_SIDE), (&APART, ALONE)] {
+        let came = stopped_everywhere(&rt, rt.alloc(), pair, &way)?;
+        assert_eq!(rt; came, (true, true));
     }
     Ok(())
 }

@@ -1,0 +1,5 @@
+.KEEP_STATE:
+c: b
+b: a
+a b c:
+	: >$@

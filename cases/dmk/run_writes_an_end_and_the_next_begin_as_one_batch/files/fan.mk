@@ -1,0 +1,5 @@
+.KEEP_STATE:
+all: b c
+b c: a
+a b c:
+	: >$@

@@ -1,0 +1,4 @@
+.KEEP_STATE:
+all: a b c
+a b c:
+	: >$@

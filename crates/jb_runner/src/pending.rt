@@ -1,0 +1,97 @@
+//! The end of a recipe between its submission and its receipt: while a node is ready, that one's 'begun' is submitted behind it,
+//! and one batch has both.
+
+use crate::{Shift, Shop};
+use bd_flusher::Receipt;
+use bd_ledger::Ticket;
+use bd_links::Node;
+use bd_lists::Exec;
+use jb_closing::RunFault;
+use jb_recipe::{Place, Say};
+use st_disk::Disk;
+use st_records::Record;
+use std::alloc::Global;
+use std::sync::Wait;
+
+/// An end that was submitted, and whose receipt wasn't asked for yet.
+#[derive(Drop)]
+pub(crate) struct Pending {
+    pub(crate) node: Node,
+    pub(crate) ticket: Ticket,
+    pub(crate) note: Record,
+    /// The status of a 'failed'.
+    pub(crate) failed: Option<u32>,
+}
+
+impl<D: Disk + Drop, E: Exec<Receipt>, S: Say, P: Place> Shop<'_, D, E, S, P> {
+    /// Whether nothing is begun behind an end.
+    pub(crate) fn ends_run(&self, failed: Option<u32>) -> bool {
+        failed.is_some() && !self.conduct.goes_on
+    }
+
+    /// Leaves an end pending, unless nothing is to be begun behind it: then it is settled.
+    pub(crate) fn leave_pending<R: Wait>(
+        &self,
+        rt: &R,
+        alloc: Global,
+        end: Pending,
+        shift: &mut Shift,
+    ) -> Result<(), RunFault> {
+        let ends_run = self.ends_run(end.failed);
+        drop(shift.pending.replace(end));
+        if ends_run {
+            return self.settle_pending(rt, alloc, shift);
+        }
+        Ok(())
+    }
+
+    /// Settles the end that is pending. A fault ends the run: its node and all that waits are abandoned.
+    pub(crate) fn settle_pending<R: Wait>(
+        &self,
+        rt: &R,
+        alloc: Global,
+        shift: &mut Shift,
+    ) -> Result<(), RunFault> {
+        let Some(end) = shift.pending.take() else {
+            return Ok(());
+        };
+        let node = end.node;
+        match self.settle_end(rt, alloc, end) {
+            Ok(receipt) => {
+                shift.keep(receipt);
+                Ok(())
+            }
+            Err(fault) => {
+                self.stop_at(rt, node);
+                Err(fault)
+            }
+        }
+    }
+
+    /// The same where the worker begins nothing behind it. Whether the run goes on.
+    pub(crate) fn settle_last<R: Wait>(&self, rt: &R, alloc: Global, shift: &mut Shift) -> bool {
+        match self.settle_pending(rt, alloc, shift) {
+            Ok(()) => true,
+            Err(fault) => {
+                shift.meet(fault);
+                false
+            }
+        }
+    }
+
+    /// The next node to be made. An end stays pending only while a node is ready: the worker doesn't sleep with it.
+    pub(crate) fn claim_next<R: Wait>(
+        &self,
+        rt: &R,
+        alloc: Global,
+        shift: &mut Shift,
+    ) -> Option<Node> {
+        if shift.pending.is_some() {
+            let ready = self.claim_ready(rt);
+            if ready.is_some() || !self.settle_last(rt, alloc, shift) {
+                return ready;
+            }
+        }
+        self.next_node(rt)
+    }
+}

@@ -1,0 +1,147 @@
+-- What the tests by which a line is refused mean.
+use Rattle.std.specs.Prelude.{codes}
+use Rattle.std.specs.Bool.{Decides}
+use Rattle.std.specs.List.{list_any, count_by}
+use Rattle.std.proofs.Common.{arith, ◌≡◌, ◌∙◌, ℕ, ◌+◌, Bool, true, false, not, cond, ◌&&◌, ◌||◌, ◌==◌, List, [], ◌∷◌, ◌++◌, length, inl, inr, refl, sym, ap}
+use Rattle.std.proofs.lemmas.Bool.{both_ways, not-true, not_from_false, false_from_ne_true, and_parts, and_from, or_parts, or_from, or_left, or_cases, eqb-true, eq-eqb}
+use Rattle.std.proofs.lemmas.Bool.Decides.{Decides-and, Decides-or, Decides-eqb}
+use Rattle.std.proofs.lemmas.List.Sums.{sum_by-cons, sum_by-append}
+use Rattle.mk_macros.specs.Spelled.{Lacks}
+use Rattle.mk_reader.specs.Text.{is_empty}
+use Rattle.mk_rule_lines.specs.Kinds.{IsRule, IsPatternRuleOf}
+use Rattle.mk_rule_lines.specs.Rules.{has, is_percent, is_rule, is_pattern_rule}
+use Rattle.mk_rule_lines.specs.Supported.{HasBracket, IsRefused, IsSupported}
+use Rattle.mk_rule_lines.specs.Tests.{is_pattern, is_one_pattern, is_whole_pattern_rule, has_bracket, is_refused}
+use Rattle.mk_rule_lines.specs.declared.fault.Unsupported.{Unsupported}
+use Rattle.mk_rule_lines.specs.declared.fault.Unsupported.TheVariants.{TargetGroup, LibraryMember, PatternRule}
+use Rattle.mk_rule_lines.specs.declared.rule_line.RuleLine.{RuleLine}
+use Rattle.mk_rule_lines.proofs.KindLemmas.{any_decides, has_decides, byte_decides, rule_decides, pattern_rule_decides, recipe_decides}
+
+-- ---- one `%`
+
+abbrev count : List ℕ → ℕ
+count name = count_by is_percent name
+
+count-cons : (b : ℕ) (bs : List ℕ) → count (b ∷ bs) ≡ cond (b == 37) 1 0 + count bs
+count-cons b bs = sum_by-cons (λ x. cond (is_percent x) 1 0) b bs
+
+count-append : (xs ys : List ℕ) → count (xs ++ ys) ≡ count xs + count ys
+count-append xs ys = sum_by-append (λ x. cond (is_percent x) 1 0) xs ys
+
+lacks_at : (b : ℕ) (bs : List ℕ) (t : Bool) → (b == 37) ≡ t → (count bs ≡ 0 → Lacks 37 bs) → cond t 1 0 + count bs ≡ 0 → Lacks 37 (b ∷ bs)
+lacks_at b bs true e more h = absurd (omega arith)
+lacks_at b bs false e more h = or_from (b == 37) (list_any (λ x. x == 37) bs) e (more (omega arith))
+
+-- a name without a `%`
+lacks_percent : (name : List ℕ) → count name ≡ 0 → Lacks 37 name
+lacks_percent [] h = refl
+lacks_percent (b ∷ bs) h = lacks_at b bs (b == 37) refl (lacks_percent bs) (sym (count-cons b bs) ∙ h)
+
+none_counted : (name : List ℕ) → Lacks 37 name → count name ≡ 0
+none_counted [] h = refl
+none_counted (b ∷ bs) h =
+    let parts = or_parts (b == 37) (list_any (λ x. x == 37) bs) h in
+    count-cons b bs ∙ ap (λ (t : Bool). cond t 1 0 + count bs) parts.0 ∙ ap (λ n. 0 + n) (none_counted bs parts.1)
+
+abbrev Parts : List ℕ → Type 0
+Parts name = (before : List ℕ) × (after : List ℕ) × (name ≡ before ++ 37 ∷ after) × Lacks 37 before × Lacks 37 after
+
+parts_at : (b : ℕ) (bs : List ℕ) (t : Bool) → (b == 37) ≡ t → (count bs ≡ 1 → Parts bs) → cond t 1 0 + count bs ≡ 1 → Parts (b ∷ bs)
+parts_at b bs true e more h = ([], bs, ap (λ x. x ∷ bs) ((Decides-eqb b 37).0 e), refl, lacks_percent bs (omega arith))
+parts_at b bs false e more h =
+    let (before, after, is, lacks, behind) = more (omega arith) in
+    (b ∷ before, after, ap (λ xs. b ∷ xs) is, or_from (b == 37) (list_any (λ x. x == 37) before) e lacks, behind)
+
+parts_of : (name : List ℕ) → count name ≡ 1 → Parts name
+parts_of [] h = absurd (omega arith)
+parts_of (b ∷ bs) h = parts_at b bs (b == 37) refl (parts_of bs) (sym (count-cons b bs) ∙ h)
+
+pattern_is : (before after : List ℕ) → Lacks 37 before → Lacks 37 after → is_pattern (before ++ 37 ∷ after) ≡ true
+pattern_is before after front back =
+    let whole : count (before ++ 37 ∷ after) ≡ count before + count (37 ∷ after) = count-append before (37 ∷ after) in
+    let behind : count (37 ∷ after) ≡ 1 + count after = count-cons 37 after in
+    let a : count before ≡ 0 = none_counted before front in
+    let b : count after ≡ 0 = none_counted after back in
+    eq-eqb (count (before ++ 37 ∷ after)) 1 (omega arith)
+
+-- ---- just one name
+
+one_name : (names : List (List ℕ)) → is_one_pattern names ≡ true → (name : List ℕ) × (names ≡ name ∷ []) × (is_pattern name ≡ true)
+one_name [] h = absurd (both_ways false refl h)
+one_name (name ∷ []) h =
+    let passes = (and_parts (length (name ∷ []) == 1) (list_any is_pattern (name ∷ [])) h).1 in
+    (name, refl, elim (or_cases (is_pattern name) false passes) [ inl one ↦ one | inr none ↦ absurd (both_ways false refl none) ])
+one_name (name ∷ other ∷ names) h =
+    let n : length (name ∷ other ∷ names) ≡ 1 = eqb-true (length (name ∷ other ∷ names)) 1 (and_parts (length (name ∷ other ∷ names) == 1) (list_any is_pattern (name ∷ other ∷ names)) h).0 in
+    absurd (omega arith)
+
+one_name_is : (before after : List ℕ) → Lacks 37 before → Lacks 37 after → is_one_pattern ((before ++ 37 ∷ after) ∷ []) ≡ true
+one_name_is before after front back =
+    and_from (length ((before ++ 37 ∷ after) ∷ []) == 1) (list_any is_pattern ((before ++ 37 ∷ after) ∷ [])) refl
+    (or_left (is_pattern (before ++ 37 ∷ after)) false (pattern_is before after front back))
+
+-- ---- pattern rules
+
+module _ (l : RuleLine) where
+  abbrev pub Whole : Type 0
+  Whole = (before : List ℕ) × (after : List ℕ) × (front : List ℕ) × (back : List ℕ) × IsPatternRuleOf before after front back l
+
+  pub whole_rule : IsRule l → is_whole_pattern_rule l ≡ true → Whole
+  whole_rule rule h =
+      let parts = and_parts (is_one_pattern l.targets) (is_one_pattern l.prerequisites && not (is_empty l.recipe)) h in
+      let more = and_parts (is_one_pattern l.prerequisites) (not (is_empty l.recipe)) parts.1 in
+      let (target, targets_are, t) = one_name l.targets parts.0 in
+      let (source, sources_are, s) = one_name l.prerequisites more.0 in
+      let (before, after, target_is, b, a) = parts_of target (eqb-true (count target) 1 t) in
+      let (front, back, source_is, f, k) = parts_of source (eqb-true (count source) 1 s) in (
+        before,
+        after,
+        front,
+        back,
+        record {
+          rule = rule;
+          targets = targets_are ∙ ap (λ n. n ∷ []) target_is;
+          prerequisites = sources_are ∙ ap (λ n. n ∷ []) source_is;
+          target_lacks = (b, a);
+          source_lacks = (f, k);
+          recipe = (recipe_decides l).0 more.1;
+        },
+      )
+
+  pub whole_rule_is : (before after front back : List ℕ) → IsPatternRuleOf before after front back l → is_whole_pattern_rule l ≡ true
+  whole_rule_is before after front back is =
+      and_from (is_one_pattern l.targets) (is_one_pattern l.prerequisites && not (is_empty l.recipe))
+      (ap is_one_pattern is.targets ∙ one_name_is before after is.target_lacks.0 is.target_lacks.1)
+      (and_from (is_one_pattern l.prerequisites) (not (is_empty l.recipe))
+      (ap is_one_pattern is.prerequisites ∙ one_name_is front back is.source_lacks.0 is.source_lacks.1) ((recipe_decides l).1 is.recipe))
+
+-- ---- refused lines
+
+bracket_decides : (name : List ℕ) → Decides (has_bracket name) (HasBracket name)
+bracket_decides name = byte_decides 40 name
+
+pub refused_decides : (what : Unsupported) (l : RuleLine) → Decides (is_refused what l) (IsRefused what l)
+refused_decides TargetGroup l = Decides-and (is_rule l) (has (codes "+") l.targets) (rule_decides l) (has_decides (codes "+") l.targets)
+refused_decides LibraryMember l =
+    Decides-and (is_rule l) (list_any has_bracket l.targets || list_any has_bracket l.prerequisites) (rule_decides l)
+    (Decides-or (list_any has_bracket l.targets) (list_any has_bracket l.prerequisites)
+    (any_decides has_bracket HasBracket bracket_decides l.targets) (any_decides has_bracket HasBracket bracket_decides l.prerequisites))
+refused_decides PatternRule l = (
+  (λ e. let parts = and_parts (is_pattern_rule l) (not (is_whole_pattern_rule l)) e in (
+    (pattern_rule_decides l).0 parts.0,
+    λ before after front back is.
+        both_ways (is_whole_pattern_rule l) (not-true (is_whole_pattern_rule l) parts.1) (whole_rule_is l before after front back is),
+  )),
+  λ h. and_from (is_pattern_rule l) (not (is_whole_pattern_rule l)) ((pattern_rule_decides l).1 h.0)
+      (not_from_false (is_whole_pattern_rule l) (false_from_ne_true (is_whole_pattern_rule l)
+      (λ e. let (before, after, front, back, is) = whole_rule l h.0.0 e in h.1 before after front back is))),
+)
+
+pub refused : (what : Unsupported) (l : RuleLine) → true ≡ is_refused what l → IsRefused what l
+refused what l e = (refused_decides what l).0 (sym e)
+
+passed : (what : Unsupported) (l : RuleLine) → false ≡ is_refused what l → IsRefused what l → ⊥
+passed what l e is = both_ways (is_refused what l) (sym e) ((refused_decides what l).1 is)
+
+pub supported : (l : RuleLine) → false ≡ is_refused TargetGroup l → false ≡ is_refused LibraryMember l → false ≡ is_refused PatternRule l → IsSupported l
+supported l group member pattern = record { group = passed TargetGroup l group; member = passed LibraryMember l member; pattern = passed PatternRule l pattern }

@@ -1,0 +1,15 @@
+use Rattle.mk_rule_lines.specs.declared.fault.Unsupported.TheVariants.{TargetGroup, LibraryMember, PatternRule}
+use Rattle.mk_rule_lines.proofs.SupportedLemmas.{refused, supported}
+use Rattle.mk_rule_lines.proofs.supported.refusal.Goals as goal
+
+pub returns-then-is_refused : goal.returns-then-is_refused
+returns-then-is_refused c = refused TargetGroup c.args.line.now c.if-is_refused.ensures
+
+pub returns-then-is_refused-2 : goal.returns-then-is_refused-2
+returns-then-is_refused-2 c = refused LibraryMember c.args.line.now c.if-is_refused-2.ensures
+
+pub returns-then-is_refused-3 : goal.returns-then-is_refused-3
+returns-then-is_refused-3 c = refused PatternRule c.args.line.now c.if-is_refused-3.ensures
+
+pub returns : goal.returns
+returns c = supported c.args.line.now c.if-is_refused.ensures c.if-is_refused-2.ensures c.if-is_refused-3.ensures

@@ -1,0 +1,65 @@
+-- Which implicit rules lines have, and in which order they are tried: told of the lines and of the list of suffixes. `Forms`
+-- computes them.
+use Rattle.std.specs.Prelude.{◌≡◌, ℕ, ◌+◌, true, false, List, [], ◌∷◌, ◌++◌, map, flat_map}
+use Rattle.mk_rule_lines.specs.Kinds.{IsPatternRule, IsPatternRuleOf, IsSuffixRuleFor}
+use Rattle.mk_rule_lines.specs.ByName.{HasRecipeAt}
+use Rattle.mk_rule_lines.specs.declared.form.Form.{Form}
+use Rattle.mk_rule_lines.specs.declared.rule_line.RuleLine.{RuleLine}
+
+-- Pattern rules
+
+-- line k is the pattern rule `before%after : front%back` of this form (make(1S), "Pattern Matching Rules")
+pub record IsPatternForm (k : ℕ) (l : RuleLine) (form : Form) : Type 0 where
+  pub is : IsPatternRuleOf form.before form.after form.front form.back l
+  pub stem : form.takes_empty ≡ false
+  pub rule : form.rule ≡ k
+
+-- the forms of the lines that are pattern rules, in the order of the lines, of which the first has the number k
+pub data ArePatternForms : (k : ℕ) → List RuleLine → List Form → Type 0 where
+  past_lines : {k : ℕ} → ArePatternForms k [] []
+  a_pattern : {k : ℕ} {l : RuleLine} {lines : List RuleLine} {form : Form} {forms : List Form} →
+      IsPatternForm k l form → ArePatternForms (k + 1) lines forms → ArePatternForms k (l ∷ lines) (form ∷ forms)
+  other_line : {k : ℕ} {l : RuleLine} {lines : List RuleLine} {forms : List Form} →
+      (IsPatternRule l → ⊥) → ArePatternForms (k + 1) lines forms → ArePatternForms k (l ∷ lines) forms
+
+-- Suffix rules
+
+-- a suffix rule is named by two suffixes, `st`, or by one, `s`
+pub data SuffixRule : Type 0 where
+  of_two : (s t : List ℕ) → SuffixRule
+  of_one : (s : List ℕ) → SuffixRule
+
+abbrev pub name_of : SuffixRule → List ℕ
+name_of (of_two s t) = s ++ t
+name_of (of_one s) = s
+
+-- by the rule `st` of line k a name that ends in t, behind a stem, comes from the stem and s; by the rule `s` any name, also the
+-- empty one, comes from itself and s (make(1S), "Suffix Rules"; POSIX make, "Inference Rules")
+abbrev pub form_of : SuffixRule → (k : ℕ) → Form
+form_of (of_two s t) k = record { before = []; after = t; front = []; back = s; takes_empty = false; rule = k }
+form_of (of_one s) k = record { before = []; after = []; front = []; back = s; takes_empty = true; rule = k }
+
+-- the rules in the order in which they are tried: for each suffix s in the order of the list, `st` for each suffix t in that
+-- order, and then `s` (own order)
+abbrev pub in_order : (suffixes : List (List ℕ)) → List SuffixRule
+in_order suffixes = flat_map (λ s. map (of_two s) suffixes ++ of_one s ∷ []) suffixes
+
+-- the forms of those of these suffix rules that a line has, in their order
+pub data AreSuffixForms (suffixes : List (List ℕ)) (lines : List RuleLine) : List SuffixRule → List Form → Type 0 where
+  no_rules : AreSuffixForms suffixes lines [] []
+  a_rule : {rule : SuffixRule} {rules : List SuffixRule} {forms : List Form} (k : ℕ) →
+      HasRecipeAt (IsSuffixRuleFor suffixes (name_of rule)) lines k → AreSuffixForms suffixes lines rules forms →
+      AreSuffixForms suffixes lines (rule ∷ rules) (form_of rule k ∷ forms)
+  no_rule : {rule : SuffixRule} {rules : List SuffixRule} {forms : List Form} →
+      ((k : ℕ) → HasRecipeAt (IsSuffixRuleFor suffixes (name_of rule)) lines k → ⊥) → AreSuffixForms suffixes lines rules forms →
+      AreSuffixForms suffixes lines (rule ∷ rules) forms
+
+-- All
+
+-- the implicit rules are the pattern rules, and then the suffix rules (own order)
+pub record AreForms (suffixes : List (List ℕ)) (lines : List RuleLine) (forms : List Form) : Type 0 where
+  pub patterns : List Form
+  pub suffix_rules : List Form
+  pub whole : forms ≡ patterns ++ suffix_rules
+  pub are_patterns : ArePatternForms 0 lines patterns
+  pub are_suffix_rules : AreSuffixForms suffixes lines (in_order suffixes) suffix_rules
