@@ -21,11 +21,13 @@ scripts/planted.record has for each crate a sum of all that its verdicts rest on
 crates below). A crate whose sum is there is passed over, but for --all. The last line is 'N passed, M failed'.
 """
 import argparse
+import concurrent.futures
 import os
-import resource
 import shutil
 import sys
 import tempfile
+import threading
+import time
 
 sys.dont_write_bytecode = True  # a test leaves nothing in scripts/
 
@@ -118,47 +120,52 @@ def is_fresh(crate):
     return os.path.isdir(crate.rlib) and os.path.getmtime(f"{crate.rlib}/format") >= max(map(os.path.getmtime, files))
 
 
-def processor_seconds():
-    used = resource.getrusage(resource.RUSAGE_CHILDREN)
-    return used.ru_utime + used.ru_stime
-
-
 class Run:
-    """Counts of a whole run, over the crates that it is given."""
+    """Counts of a whole run, over the crates that it is given. Several crates may be tried at once."""
 
     def __init__(self, options):
-        self.options, self.known = options, record.read()
+        self.options, self.known, self.building, self.telling = options, record.read(), threading.Lock(), threading.Lock()
         self.passed = self.failed = self.tried = self.recorded = 0
 
     def tell(self, name, well, text):
         print(f"{name}: {text}", flush=True)
         self.passed, self.failed = self.passed + well, self.failed + (not well)
 
+    def lacks_libraries(self, crate):
+        """Whether a library below the crate isn't proved. One that isn't there, or is older than its text, is built first."""
+        if self.options.built:
+            return not all(os.path.isdir(it.rlib) for it in crate.below())
+        with self.building:
+            return any(not is_fresh(it) and it.build_rlib(["--jobs", self.options.jobs], anew=False) for it in crate.below())
+
     def crate(self, crate, log):
         """Tries the edits of a crate, unless they are recorded."""
-        folder, before = f"{crate.folder}/{self.options.folder}", self.failed
+        folder = f"{crate.folder}/{self.options.folder}"
         files = sorted(os.listdir(folder)) if os.path.isdir(folder) else []
         edits = [f"{folder}/{it}" for it in files if it.endswith(".edit")]
         is_planted = self.options.folder == "planted"
         key = record.key_of(crate, edits) if is_planted and edits else None
-        for odd in [it for it in files if not it.endswith((".edit", ".md"))]:
-            self.tell(f"{crate.name}/{odd}", False, "BAD EDIT: an edit's name ends in .edit")
-        if not edits:
-            return self.tell(crate.name, False, f"no edits in {self.options.folder}/")
-        if not self.options.all and self.known.get(crate.name) == (key, len(edits)):
-            print(f"{crate.name}: {len(edits)} edits, as recorded")
-            self.passed, self.recorded = self.passed + len(edits), self.recorded + len(edits)
-            return None
-        flags, started = ["--jobs", self.options.jobs], processor_seconds()
-        if any(not is_fresh(it) and it.build_rlib(flags, anew=False) for it in crate.below()):
-            return self.tell(crate.name, False, "a library below it isn't proved")
-        answers = try_crate(crate, edits, is_planted, flags, self.options.kept, log)
-        self.tried += len(edits)
-        print(f"{crate.name}: {len(edits)} edits, {processor_seconds() - started:.0f} s of processor time")
-        for edit in edits:
-            self.tell(f"{crate.name}/{os.path.basename(edit)}", *answers[edit])
-        self.note(crate, key, len(edits), self.failed == before)
-        return None
+        is_known = bool(edits) and not self.options.all and self.known.get(crate.name) == (key, len(edits))
+        started, answers, why = time.monotonic(), {}, None if edits else f"no edits in {self.options.folder}/"
+        if edits and not is_known:
+            why = "a library below it isn't proved" if self.lacks_libraries(crate) else None
+            flags = ["--jobs", self.options.jobs]
+            answers = {} if why else try_crate(crate, edits, is_planted, flags, self.options.kept, log)
+        with self.telling:
+            before = self.failed
+            for odd in [it for it in files if not it.endswith((".edit", ".md"))]:
+                self.tell(f"{crate.name}/{odd}", False, "BAD EDIT: an edit's name ends in .edit")
+            if why:
+                self.tell(crate.name, False, why)
+            elif is_known:
+                print(f"{crate.name}: {len(edits)} edits, as recorded")
+                self.passed, self.recorded = self.passed + len(edits), self.recorded + len(edits)
+            else:
+                self.tried += len(edits)
+                print(f"{crate.name}: {len(edits)} edits, {time.monotonic() - started:.0f} s")
+                for edit in edits:
+                    self.tell(f"{crate.name}/{os.path.basename(edit)}", *answers[edit])
+                self.note(crate, key, len(edits), self.failed == before)
 
     def note(self, crate, key, count, is_well):
         """Writes a crate that passed into the record, and takes one that failed out of it."""
@@ -179,6 +186,8 @@ def options_of(words):
     other = "take the edits of another folder, such as must-fail, which need no goal"
     parser.add_argument("--from", dest="folder", default="planted", metavar="FOLDER", help=other)
     parser.add_argument("--jobs", default="1", help="jobs of a check")
+    parser.add_argument("--lanes", default=1, type=int, help="how many crates are tried at once (1)")
+    parser.add_argument("--built", action="store_true", help="the libraries in out/ are those of this text: `rt ci` has just passed")
     parser.add_argument("--log", default=os.devnull, metavar="FILE", help="where to put what the checks print")
     return parser.parse_args(words)
 
@@ -189,12 +198,13 @@ def main(words):
     crates = {it.name: it for it in rtlib.crates_below(os.getcwd())}
     names = options.crates or [it for it in crates if os.path.isdir(f"{crates[it].folder}/{options.folder}")]
     run = Run(options)
-    with open(options.log, "w", buffering=1, encoding="utf-8") as log:
-        for name in names:
-            if name in crates:
-                run.crate(crates[name], log)
-            else:
-                run.tell(name, False, "crates.txt has no such crate")
+    for name in names:
+        if name not in crates:
+            run.tell(name, False, "crates.txt has no such crate")
+    rtlib.guarded()  # its first call sets a signal's handler, which only the main thread may
+    with open(options.log, "w", buffering=1, encoding="utf-8") as log, concurrent.futures.ThreadPoolExecutor(options.lanes) as lanes:
+        for done in [lanes.submit(run.crate, crates[name], log) for name in names if name in crates]:
+            done.result()
     if not names:
         run.tell("planted", False, "no edits were found")
     print(f"{run.tried} edits were tried, {run.recorded} are as recorded")

@@ -29,7 +29,7 @@ started=$SECONDS
 run_part env RT_JOBS="${RT_JOBS:-$lanes}" rt ci
 if [ "$failed" -eq 0 ]; then
     run_part bash scripts/must_not_compile.sh
-    run_part python3 scripts/planted.py
+    run_part python3 scripts/planted.py --built --lanes "$lanes"
     run_part bash scripts/cases.sh
     run_part python3 scripts/rows.py
     run_part bash scripts/store_rows.sh
