@@ -42,7 +42,7 @@ impl Look {
         let folder = SystemFolder::new(host, alloc, options.state.as_str())?;
         let mut out = Vec::new(alloc);
         let mut err = Vec::with_capacity(alloc, FAULT_BYTES)?;
-        let mut makefiles = HostFiles::tree(host);
+        let mut makefiles = HostFiles::texts(host);
         let (reply, disk) = drive(
             alloc,
             HashKey::from_system(&host),

@@ -1,5 +1,5 @@
 //! Files by the system's own calls.
-use dmk_drive::{FileCalls, FileStatus, FileTree};
+use dmk_drive::{FileCalls, FileStatus, FileTexts, FileTree};
 use std::alloc::Global;
 use std::os::unix::fs::MetadataExt;
 use std::{fs, io};
@@ -12,7 +12,11 @@ pub struct HostFiles {
 
 impl HostFiles {
     pub fn tree(rt: HostRuntime) -> FileTree<HostFiles> {
-        FileTree::new(HostFiles { rt })
+        FileTree::new(rt.alloc(), HostFiles { rt })
+    }
+
+    pub fn texts(rt: HostRuntime) -> FileTexts<HostFiles> {
+        FileTexts::new(rt.alloc(), HostFiles { rt })
     }
 }
 

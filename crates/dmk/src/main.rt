@@ -147,7 +147,7 @@ fn make<R: Threads + Wait + Sync>(
         say: &printer,
         place: &place,
     };
-    let mut makefiles = HostFiles::tree(host);
+    let mut makefiles = HostFiles::texts(host);
     let (status, disk) = build_targets(
         rt,
         alloc,

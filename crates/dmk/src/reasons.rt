@@ -1,7 +1,7 @@
 //! What the system said of the files that a fault is about, behind the fault.
 
 use crate::host_files::HostFiles;
-use dmk_drive::FileTree;
+use dmk_drive::FileTexts;
 use st_disk::{FailedCallMessage, FileDisk, SystemFolder, Which};
 use std::io::Write;
 
@@ -9,7 +9,7 @@ use std::io::Write;
 /// changes nothing.
 pub fn print_reasons<W: Write>(
     err: &mut W,
-    makefiles: &FileTree<HostFiles>,
+    makefiles: &FileTexts<HostFiles>,
     disk: &FileDisk<SystemFolder>,
 ) {
     if let Some(unread) = makefiles.unread() {

@@ -40,19 +40,18 @@ no_value is = cc
 pub not_two : (status : ℕ) → status ≡ 0 → status ≢ 2
 not_two status zero = λ two. omega (arith, zero, two)
 
-module _ (Answers : List ℕ → Option (List ℕ) → Type 0) (Absent : List ℕ → Type 0) (named : Option (List ℕ))
-    (definitions environment : List Variable) (targets : List (List ℕ)) (honest : Type 0) (stamps : List ℕ → Option ℤ)
-    (disk_honest : Type 0) (seen : Which → List ℕ) where
+module _ (files : List ℕ → Option (List ℕ)) (times : List ℕ → Option ℤ) (named : Option (List ℕ))
+    (definitions environment : List Variable) (targets : List (List ℕ)) (disk_honest : Type 0) (seen : Which → List ℕ) where
   -- what is told of a run for the makefile that is found
   abbrev pub Told : DryRun → Type 0
-  Told run = (items : List Item) × AreItems Answers Absent named items
-      × Tells definitions environment targets honest stamps disk_honest seen items run
+  Told run = (items : List Item) × AreItems files times named items
+      × Tells definitions environment targets times disk_honest seen items run
 
   pub listed_plan : (old new : Option (List ℕ)) (got : Result DryRun Fault) → IfOk got Told → IsOk got →
       IfOk got (λ run. Appends old new run.text.items) → (Quiet : Type 0) → IfOk got (λ run. run.soft_dropped ≡ false → Quiet) →
       (Says : Bool → Type 0) → IfOk got (λ run. Says run.soft_dropped) →
       (plan : List (List Line)) × (dropped : Bool)
-      × Plans Answers Absent named definitions environment targets honest stamps disk_honest seen plan dropped
+      × Plans files times named definitions environment targets disk_honest seen plan dropped
       × Appends old new (listing_text plan) × (dropped ≡ false → Quiet) × Says dropped
   listed_plan old new (Ok run) (items, are, tells) found appended Quiet quiet Says says = (
     tells.listed,
@@ -67,7 +66,7 @@ module _ (Answers : List ℕ → Option (List ℕ) → Type 0) (Absent : List �
   pub asked_plan : (status : ℕ) (got : Result DryRun Fault) → IfOk got Told → IsOk got →
       IfOk got (λ run. (listed : List (List Line)) → run.lists_any ≡ not (is_empty listed) → status ≡ question_status listed) →
       (plan : List (List Line)) × (dropped : Bool)
-      × Plans Answers Absent named definitions environment targets honest stamps disk_honest seen plan dropped × (status ≡ question_status plan)
+      × Plans files times named definitions environment targets disk_honest seen plan dropped × (status ≡ question_status plan)
   asked_plan status (Ok run) (items, are, tells) found answered = (
     tells.listed,
     run.soft_dropped,
@@ -82,7 +81,7 @@ module _ (Answers : List ℕ → Option (List ℕ) → Type 0) (Absent : List �
       IfErr got (λ f. told ≡ true → SaysFault err err_after f) →
       IfOk got (λ run. AppendsPart old new run.text.items) → IfOk got (λ run. SaysCut err err_after told run.soft_dropped) →
       TellsFault (λ f. Meets f × (f ≡ State open_fault.Device → Failed)) told old new err err_after
-      ⊎ CutsListing (Plans Answers Absent named definitions environment targets honest stamps disk_honest seen) told old new err err_after
+      ⊎ CutsListing (Plans files times named definitions environment targets disk_honest seen) told old new err err_after
   refused_plan Meets Failed told old new err err_after (Ok run) (items, are, tells) meets failed kept line part cut =
       inr (record {
         plan = tells.listed;
@@ -95,20 +94,20 @@ module _ (Answers : List ℕ → Option (List ℕ) → Type 0) (Absent : List �
       let as_result : Fault → Result DryRun Fault = λ g. Err g in
       inl (record { fault = f; meets = (meets, λ is. failed (ap as_result is)); silent = kept refl; line = line })
 
-pub told_of : (Answers : List ℕ → Option (List ℕ) → Type 0) (Absent : List ℕ → Type 0) (named name : Option (List ℕ))
-    (definitions defined environment : List Variable) (targets : List (List ℕ)) (honest : Type 0) (stamps : List ℕ → Option ℤ)
-    (disk_honest : Type 0) (seen : Which → List ℕ) (got : Result DryRun Fault) → name ≡ named → defined ≡ definitions →
-    IfOk got (Told Answers Absent name defined environment targets honest stamps disk_honest seen) →
-    IfOk got (Told Answers Absent named definitions environment targets honest stamps disk_honest seen)
-told_of Answers Absent named name definitions defined environment targets honest stamps disk_honest seen got is_name is_defined told =
-    subst (λ n. IfOk got (Told Answers Absent n definitions environment targets honest stamps disk_honest seen)) is_name
-    (subst (λ d. IfOk got (Told Answers Absent name d environment targets honest stamps disk_honest seen)) is_defined told)
+pub told_of : (files : List ℕ → Option (List ℕ)) (times : List ℕ → Option ℤ) (named name : Option (List ℕ))
+    (definitions defined environment : List Variable) (targets : List (List ℕ)) (disk_honest : Type 0) (seen : Which → List ℕ)
+    (got : Result DryRun Fault) → name ≡ named → defined ≡ definitions →
+    IfOk got (Told files times name defined environment targets disk_honest seen) →
+    IfOk got (Told files times named definitions environment targets disk_honest seen)
+told_of files times named name definitions defined environment targets disk_honest seen got is_name is_defined told =
+    subst (λ n. IfOk got (Told files times n definitions environment targets disk_honest seen)) is_name
+    (subst (λ d. IfOk got (Told files times name d environment targets disk_honest seen)) is_defined told)
 
-pub fault_of : (Answers : List ℕ → Option (List ℕ) → Type 0) (named name : Option (List ℕ)) (definitions defined environment : List Variable)
-    (targets : List (List ℕ)) (honest : Type 0) (stamps : List ℕ → Option ℤ) (refuses : List ℕ → Type 0) (disk_honest : Type 0)
+pub fault_of : (files : List ℕ → Option (List ℕ)) (times : List ℕ → Option ℤ) (named name : Option (List ℕ))
+    (definitions defined environment : List Variable) (targets : List (List ℕ)) (refuses : List ℕ → Type 0) (disk_honest : Type 0)
     (seen : Which → List ℕ) (got : Result DryRun Fault) → name ≡ named → defined ≡ definitions →
-    IfErr got (IsFaultOf Answers name defined environment targets honest stamps refuses disk_honest seen) →
-    IfErr got (IsFaultOf Answers named definitions environment targets honest stamps refuses disk_honest seen)
-fault_of Answers named name definitions defined environment targets honest stamps refuses disk_honest seen got is_name is_defined meets =
-    subst (λ n. IfErr got (IsFaultOf Answers n definitions environment targets honest stamps refuses disk_honest seen)) is_name
-    (subst (λ d. IfErr got (IsFaultOf Answers name d environment targets honest stamps refuses disk_honest seen)) is_defined meets)
+    IfErr got (IsFaultOf files times name defined environment targets refuses disk_honest seen) →
+    IfErr got (IsFaultOf files times named definitions environment targets refuses disk_honest seen)
+fault_of files times named name definitions defined environment targets refuses disk_honest seen got is_name is_defined meets =
+    subst (λ n. IfErr got (IsFaultOf files times n definitions environment targets refuses disk_honest seen)) is_name
+    (subst (λ d. IfErr got (IsFaultOf files times name d environment targets refuses disk_honest seen)) is_defined meets)

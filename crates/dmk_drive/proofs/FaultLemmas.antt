@@ -1,5 +1,5 @@
 -- The fault of a stage as one of the run.
-use Rattle.std.proofs.Common.{◌≡◌, ℕ, List, Option, None, Some, refl, subst, Result, Ok, Err, IfErr, IfSome}
+use Rattle.std.proofs.Common.{◌≡◌, ◌∙◌, ℕ, List, Option, None, Some, refl, sym, subst, Result, Ok, Err, IfErr, IsErrAnd, IsErrOf, IfSome}
 use Rattle.mk_reader.specs.declared.item.Item.{Item}
 use Rattle.st_disk.specs.declared.which.Which.{Which}
 use Rattle.st_disk.specs.declared.which.Which.TheVariants as sides
@@ -36,11 +36,11 @@ module _ (Text : Fault → Type 0) (Items : List Item → Type 0) (Plan : List I
   plan_fault items are (Recipe f) is no_makefile no_read no_write = (items, are, is)
   plan_fault items are Write is no_makefile no_read no_write = no_write is
 
-  -- so too where the plan's fault is that of a result
-  pub plan_result : {T : Type 0} → (items : List Item) → Items items → (got : Result T Fault) → IfErr got (Plan items) → (Plan items NoMakefile → ⊥) →
-      ((f : _) → Plan items (Read f) → ⊥) → (Plan items Write → ⊥) → IfErr got (IsRunFault Text Items Plan)
-  plan_result items are (Ok run) is no_makefile no_read no_write = tt
-  plan_result items are (Err f) is no_makefile no_read no_write = plan_fault items are f is no_makefile no_read no_write
+-- a result whose fault is the makefile's has none of the state's
+pub no_state : {T : Type 0} (Text : Fault → Type 0) (got : Result T Fault) (fault : Fault) (f : OpenFault) → IsErrAnd got (λ g. g ≡ fault) →
+    Text fault → (Text (State f) → ⊥) → IsErrOf got (State f) → ⊥
+no_state Text (Ok x) fault f is meets none of = absurd is
+no_state Text (Err g) fault f is meets none of = let same : g ≡ State f = cc in none (subst Text (sym is ∙ same) meets)
 
 -- a pair of sides that is refused has the fault that is answered
 pub refused_pair : (seen : Which → List ℕ) (f : OpenFault) → IfSome (outcome_of (Err f)) (HasOutcome (seen sides.A) (seen sides.B)) →

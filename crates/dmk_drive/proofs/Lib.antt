@@ -1,9 +1,12 @@
 pub mod KeepingLemmas
 pub mod PassingLemmas
 pub mod FaultLemmas
+pub mod FileLemmas
 pub mod OutputLemmas
 pub mod MakefileLemmas
 pub mod PlanLemmas
 pub mod DriveLemmas
 pub mod ListingLemmas
+pub mod AllowedLemmas
 pub mod DefinitionLemmas
+pub mod OnePlanLemmas

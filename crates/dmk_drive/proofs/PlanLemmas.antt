@@ -21,42 +21,30 @@ use Rattle.dmk_drive.specs.declared.fault.Fault.TheVariants as fault
 use Rattle.dmk_drive.specs.declared.planning.DryRun.{DryRun}
 use Rattle.bd_lists.specs.declared.recipe.Variable.{Variable}
 
-module _ (definitions environment : List Variable) (targets : List (List ℕ)) (honest : Type 0) (stamps : List ℕ → Option ℤ)
+module _ (definitions environment : List Variable) (targets : List (List ℕ)) (times : List ℕ → Option ℤ)
     (disk_honest : Type 0) (seen : Which → List ℕ) (items : List Item) (keeping : Bool) (is_keeping : keeping ≡ keeps environment items)
     (state : StateMap) (found : IsStateOn keeping disk_honest seen state) where
   kept : IsStateOn (keeps environment items) disk_honest seen state
   kept = subst (λ k. IsStateOn k disk_honest seen state) is_keeping found
 
-  rules_fault : (refuses : List ℕ → Type 0) (got : Fault) →
+  pub rules_fault : (refuses : List ℕ → Type 0) (Allowed : (List ℕ → Option ℤ) → Type 0) → Allowed times → (got : Fault) →
       ((got ≡ fault.OutOfMemory) ⊎ ((f : RuleFault) × (got ≡ fault.Rules f)
-      × IsRuleFault (first_defined definitions environment) items honest stamps (map.get state) refuses targets MAX_NODES f)) →
-      IsPlanFault definitions environment targets honest stamps refuses disk_honest seen items got
-  rules_fault refuses got (inl is) = subst (IsPlanFault definitions environment targets honest stamps refuses disk_honest seen items) (sym is) tt
-  rules_fault refuses got (inr (f, is, meets)) =
-      subst (IsPlanFault definitions environment targets honest stamps refuses disk_honest seen items) (sym is) (state, kept, meets)
+      × ((ts : List ℕ → Option ℤ) → Allowed ts → IsRuleFault (first_defined definitions environment) items ts (map.get state) refuses targets MAX_NODES f))) →
+      IsPlanFault definitions environment targets times refuses disk_honest seen items got
+  rules_fault refuses Allowed may got (inl is) = subst (IsPlanFault definitions environment targets times refuses disk_honest seen items) (sym is) tt
+  rules_fault refuses Allowed may got (inr (f, is, meets)) =
+      subst (IsPlanFault definitions environment targets times refuses disk_honest seen items) (sym is) (state, kept, meets times may)
 
-  pub rules_result : (refuses : List ℕ → Type 0) (got : Result Graph Fault) →
-      IfErr got (λ g. (g ≡ fault.OutOfMemory) ⊎ ((f : RuleFault) × (g ≡ fault.Rules f)
-      × IsRuleFault (first_defined definitions environment) items honest stamps (map.get state) refuses targets MAX_NODES f)) →
-      IfErr got (IsPlanFault definitions environment targets honest stamps refuses disk_honest seen items)
-  rules_result refuses (Ok graph) is = tt
-  rules_result refuses (Err f) is = rules_fault refuses f is
-
-  pub graph_result : (got : Result Graph Fault) → IfOk got (IsGraphOf definitions environment targets honest stamps items state) →
-      IfOk got (λ graph. (m : StateMap) × IsStateOn keeping disk_honest seen m × IsGraphOf definitions environment targets honest stamps items m graph)
-  graph_result (Ok graph) is = (state, found, is)
-  graph_result (Err f) is = tt
-
-  module _ (graph : Graph) (is_graph : IsGraphOf definitions environment targets honest stamps items state graph) where
+  module _ (graph : Graph) (is_graph : IsGraphOf definitions environment targets times items state graph) where
     pub recipes_fault : (refuses : List ℕ → Type 0) (got : Fault) → ((f : MacroFault) × (got ≡ fault.Recipe f) × IsListingFault keeping graph f) →
-        IsPlanFault definitions environment targets honest stamps refuses disk_honest seen items got
+        IsPlanFault definitions environment targets times refuses disk_honest seen items got
     recipes_fault refuses got (f, is, meets) =
-        subst (IsPlanFault definitions environment targets honest stamps refuses disk_honest seen items) (sym is)
+        subst (IsPlanFault definitions environment targets times refuses disk_honest seen items) (sym is)
         (state, kept, (graph, is_graph, subst (λ k. IsListingFault k graph f) is_keeping meets))
 
     pub told : (run : DryRun) → ((listed : List (List Line)) × IsListing keeping graph listed × (run.text.items ≡ listing_text listed)
         × (run.lists_any ≡ not (is_empty listed))) → run.soft_dropped ≡ graph.soft_dropped →
-        Tells definitions environment targets honest stamps disk_honest seen items run
+        Tells definitions environment targets times disk_honest seen items run
     told run (listed, lists, text, any) dropped = record {
       listed = listed;
       planned = record {
@@ -73,13 +61,13 @@ module _ (definitions environment : List Variable) (targets : List (List ℕ)) (
 
     pub recipes_result : (refuses : List ℕ → Type 0) (got : Result DryRun Fault) →
         IfErr got (λ g. (f : MacroFault) × (g ≡ fault.Recipe f) × IsListingFault keeping graph f) →
-        IfErr got (IsPlanFault definitions environment targets honest stamps refuses disk_honest seen items)
+        IfErr got (IsPlanFault definitions environment targets times refuses disk_honest seen items)
     recipes_result refuses (Ok run) is = tt
     recipes_result refuses (Err f) is = recipes_fault refuses f is
 
     pub told_result : (got : Result DryRun Fault) →
         IfOk got (λ run. (listed : List (List Line)) × IsListing keeping graph listed × (run.text.items ≡ listing_text listed)
         × (run.lists_any ≡ not (is_empty listed))) → IfOk got (λ run. run.soft_dropped ≡ graph.soft_dropped) →
-        IfOk got (Tells definitions environment targets honest stamps disk_honest seen items)
+        IfOk got (Tells definitions environment targets times disk_honest seen items)
     told_result (Ok run) listing dropped = told run listing dropped
     told_result (Err f) listing dropped = tt

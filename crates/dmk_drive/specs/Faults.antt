@@ -2,7 +2,7 @@
 -- that of the cases here.
 use Rattle.std.specs.Prelude.{◌≡◌, ℕ, ℤ, true, List, Option, Err}
 use Rattle.std.specs.FinMap as map
-use Rattle.mk_reader.specs.Makefile.{TextItems, depth}
+use Rattle.mk_reader.specs.Makefile.{AnswersOf, TextItems, depth}
 use Rattle.mk_reader.specs.declared.item.Item.{Item}
 use Rattle.mk_reader.specs.declared.fault.ReadFault.{ReadFault}
 use Rattle.mk_reader.specs.declared.fault.ReadFault.TheVariants as read_fault
@@ -17,7 +17,7 @@ use Rattle.st_state.specs.State.{StateMap}
 use Rattle.st_recovery.specs.Recovers.{RefusesWith}
 use Rattle.dmk_drive.specs.Definitions.{first_defined}
 use Rattle.dmk_drive.specs.Keeping.{keeps}
-use Rattle.dmk_drive.specs.Makefile.{IsAbsent, MayBeThere, IsMakefile, HasNoMakefile}
+use Rattle.dmk_drive.specs.Makefile.{IsMakefile, HasNoMakefile}
 use Rattle.dmk_drive.specs.Passing.{IsListingFault}
 use Rattle.dmk_drive.specs.Planned.{AreItems, IsStateOn, IsGraphOf}
 use Rattle.dmk_drive.specs.declared.fault.Fault.{Fault}
@@ -25,11 +25,11 @@ use Rattle.dmk_drive.specs.declared.fault.Fault.TheVariants as fault
 use Rattle.bd_lists.specs.declared.recipe.Variable.{Variable}
 
 -- the makefile's text has a first line that is refused; want of memory says nothing of it
-abbrev pub IsReadFault : (Answers : List ℕ → Option (List ℕ) → Type 0) (Absent : List ℕ → Type 0) (named : Option (List ℕ)) →
+abbrev pub IsReadFault : (files : List ℕ → Option (List ℕ)) (times : List ℕ → Option ℤ) (named : Option (List ℕ)) →
     ReadFault → Type 0
-IsReadFault Answers Absent named read_fault.OutOfMemory = Unit {0}
-IsReadFault Answers Absent named (read_fault.Refused refusal) =
-    (file : List ℕ) × (text : List ℕ) × IsMakefile Answers Absent named file text × TextItems Answers depth file text (Err refusal)
+IsReadFault files times named read_fault.OutOfMemory = Unit {0}
+IsReadFault files times named (read_fault.Refused refusal) =
+    (file : List ℕ) × (text : List ℕ) × IsMakefile files times named file text × TextItems (AnswersOf files) depth file text (Err refusal)
 
 -- the fault of the two sides; a device and want of memory say nothing of their bytes
 abbrev pub IsOpenFault : (seen : Which → List ℕ) → OpenFault → Type 0
@@ -38,27 +38,27 @@ IsOpenFault seen open_fault.OutOfMemory = Unit {0}
 IsOpenFault seen f = RefusesWith (seen sides.A) (seen sides.B) f
 
 -- the fault that looking for the makefile and reading it gives
-abbrev pub IsTextFault : (Answers : List ℕ → Option (List ℕ) → Type 0) (Absent There : List ℕ → Type 0)
-    (named : Option (List ℕ)) → Fault → Type 0
-IsTextFault Answers Absent There named fault.OutOfMemory = Unit {0}
-IsTextFault Answers Absent There named fault.NoMakefile = HasNoMakefile Answers Absent There named
-IsTextFault Answers Absent There named (fault.Read f) = IsReadFault Answers Absent named f
-IsTextFault Answers Absent There named _ = ⊥
+abbrev pub IsTextFault : (files : List ℕ → Option (List ℕ)) (times : List ℕ → Option ℤ)
+    (refuses : List ℕ → Type 0) (named : Option (List ℕ)) → Fault → Type 0
+IsTextFault files times refuses named fault.OutOfMemory = Unit {0}
+IsTextFault files times refuses named fault.NoMakefile = HasNoMakefile files times refuses named
+IsTextFault files times refuses named (fault.Read f) = IsReadFault files times named f
+IsTextFault files times refuses named _ = ⊥
 
 -- the fault of a plan for items that were read
-abbrev pub IsPlanFault : (definitions environment : List Variable) (targets : List (List ℕ)) (honest : Type 0)
-    (stamps : List ℕ → Option ℤ) (refuses : List ℕ → Type 0) (disk_honest : Type 0) (seen : Which → List ℕ) (items : List Item) →
+abbrev pub IsPlanFault : (definitions environment : List Variable) (targets : List (List ℕ)) (times : List ℕ → Option ℤ)
+    (refuses : List ℕ → Type 0) (disk_honest : Type 0) (seen : Which → List ℕ) (items : List Item) →
     Fault → Type 0
-IsPlanFault definitions environment targets honest stamps refuses disk_honest seen items fault.OutOfMemory = Unit {0}
-IsPlanFault definitions environment targets honest stamps refuses disk_honest seen items (fault.State f) =
+IsPlanFault definitions environment targets times refuses disk_honest seen items fault.OutOfMemory = Unit {0}
+IsPlanFault definitions environment targets times refuses disk_honest seen items (fault.State f) =
     (keeps environment items ≡ true) × (disk_honest → IsOpenFault seen f)
-IsPlanFault definitions environment targets honest stamps refuses disk_honest seen items (fault.Rules f) =
+IsPlanFault definitions environment targets times refuses disk_honest seen items (fault.Rules f) =
     (state : StateMap) × IsStateOn (keeps environment items) disk_honest seen state
-    × IsRuleFault (first_defined definitions environment) items honest stamps (map.get state) refuses targets MAX_NODES f
-IsPlanFault definitions environment targets honest stamps refuses disk_honest seen items (fault.Recipe f) =
+    × IsRuleFault (first_defined definitions environment) items times (map.get state) refuses targets MAX_NODES f
+IsPlanFault definitions environment targets times refuses disk_honest seen items (fault.Recipe f) =
     (state : StateMap) × IsStateOn (keeps environment items) disk_honest seen state
-    × ((graph : Graph) × IsGraphOf definitions environment targets honest stamps items state graph × IsListingFault (keeps environment items) graph f)
-IsPlanFault definitions environment targets honest stamps refuses disk_honest seen items _ = ⊥
+    × ((graph : Graph) × IsGraphOf definitions environment targets times items state graph × IsListingFault (keeps environment items) graph f)
+IsPlanFault definitions environment targets times refuses disk_honest seen items _ = ⊥
 
 -- a fault of the makefile comes before all else; the others are those of a plan for its items
 abbrev pub IsRunFault : (Text : Fault → Type 0) (Items : List Item → Type 0) (Plan : List Item → Fault → Type 0) → Fault → Type 0
@@ -71,10 +71,9 @@ IsRunFault Text Items Plan (fault.Recipe f) = (items : List Item) × Items items
 IsRunFault Text Items Plan fault.Write = ⊥
 
 -- so it is of the makefile that is named, or the usual one, for these targets
-abbrev pub IsFaultOf : (Answers : List ℕ → Option (List ℕ) → Type 0) (named : Option (List ℕ)) (definitions environment : List Variable)
-    (targets : List (List ℕ)) (honest : Type 0) (stamps : List ℕ → Option ℤ) (refuses : List ℕ → Type 0) (disk_honest : Type 0)
+abbrev pub IsFaultOf : (files : List ℕ → Option (List ℕ)) (times : List ℕ → Option ℤ) (named : Option (List ℕ))
+    (definitions environment : List Variable) (targets : List (List ℕ)) (refuses : List ℕ → Type 0) (disk_honest : Type 0)
     (seen : Which → List ℕ) → Fault → Type 0
-IsFaultOf Answers named definitions environment targets honest stamps refuses disk_honest seen =
-    IsRunFault (IsTextFault Answers (IsAbsent honest stamps) (MayBeThere honest stamps refuses) named)
-    (AreItems Answers (IsAbsent honest stamps) named)
-    (IsPlanFault definitions environment targets honest stamps refuses disk_honest seen)
+IsFaultOf files times named definitions environment targets refuses disk_honest seen =
+    IsRunFault (IsTextFault files times refuses named) (AreItems files times named)
+    (IsPlanFault definitions environment targets times refuses disk_honest seen)

@@ -2,7 +2,7 @@
 use Rattle.std.specs.Prelude.{◌≡◌, ℕ, ℤ, Bool, true, false, not, List, Option, Ok}
 use Rattle.std.specs.FinMap as map
 use Rattle.mk_macros.specs.Ranks.{ranks_at}
-use Rattle.mk_reader.specs.Makefile.{TextItems, depth}
+use Rattle.mk_reader.specs.Makefile.{AnswersOf, TextItems, depth}
 use Rattle.mk_reader.specs.Text.{is_empty}
 use Rattle.mk_reader.specs.declared.item.Item.{Item}
 use Rattle.mk_recipe.specs.declared.line.Line.{Line}
@@ -32,46 +32,46 @@ abbrev pub IsStateOn : (keeping : Bool) (disk_honest : Type 0) (seen : Which →
 IsStateOn true disk_honest seen m = disk_honest → IsStateOf true seen m
 IsStateOn false disk_honest seen m = IsStateOf false seen m
 
--- the items are those of the makefile: how files answer is `Answers`, and that there is none of a name is `Absent`
-pub record AreItems (Answers : List ℕ → Option (List ℕ) → Type 0) (Absent : List ℕ → Type 0) (named : Option (List ℕ))
+-- the items are those of the makefile, by what the files hold and whether there is a file of a name
+pub record AreItems (files : List ℕ → Option (List ℕ)) (times : List ℕ → Option ℤ) (named : Option (List ℕ))
     (items : List Item) : Type 0 where
   pub file : List ℕ
   pub text : List ℕ
-  pub is_makefile : IsMakefile Answers Absent named file text
-  pub read : TextItems Answers depth file text (Ok items)
+  pub is_makefile : IsMakefile files times named file text
+  pub read : TextItems (AnswersOf files) depth file text (Ok items)
 
 -- the graph of these items for the targets that are named, with this state
-pub record IsGraphOf (definitions environment : List Variable) (targets : List (List ℕ)) (honest : Type 0)
-    (stamps : List ℕ → Option ℤ) (items : List Item) (state : StateMap) (graph : Graph) : Type 0 where
+pub record IsGraphOf (definitions environment : List Variable) (targets : List (List ℕ)) (times : List ℕ → Option ℤ)
+    (items : List Item) (state : StateMap) (graph : Graph) : Type 0 where
   pub inputs : Inputs
-  pub are_inputs : AreInputs (first_defined definitions environment) items honest stamps (map.get state) inputs
+  pub are_inputs : AreInputs (first_defined definitions environment) items times (map.get state) inputs
   pub is_graph : IsGraph inputs targets graph
   pub macros : ranks_at graph.macros ≡ behind_items (first_defined definitions environment) items
 
 -- a dry run of these items lists these recipes, where the disk is honest by a state that its sides recover; `dropped`
 -- says that soft edges make a cycle and don't count
-pub record IsPlanned (definitions environment : List Variable) (targets : List (List ℕ)) (honest : Type 0)
-    (stamps : List ℕ → Option ℤ) (disk_honest : Type 0) (seen : Which → List ℕ) (items : List Item)
+pub record IsPlanned (definitions environment : List Variable) (targets : List (List ℕ)) (times : List ℕ → Option ℤ)
+    (disk_honest : Type 0) (seen : Which → List ℕ) (items : List Item)
     (listed : List (List Line)) (dropped : Bool) : Type 0 where
   pub state : StateMap
   pub is_state : IsStateOn (keeps environment items) disk_honest seen state
   pub graph : Graph
-  pub is_graph : IsGraphOf definitions environment targets honest stamps items state graph
+  pub is_graph : IsGraphOf definitions environment targets times items state graph
   pub lists : IsListing (keeps environment items) graph listed
   pub soft : dropped ≡ graph.soft_dropped
 
 -- what is told of a dry run: the text of the recipes that it lists, and whether it lists any
-pub record Tells (definitions environment : List Variable) (targets : List (List ℕ)) (honest : Type 0)
-    (stamps : List ℕ → Option ℤ) (disk_honest : Type 0) (seen : Which → List ℕ) (items : List Item) (run : DryRun) : Type 0 where
+pub record Tells (definitions environment : List Variable) (targets : List (List ℕ)) (times : List ℕ → Option ℤ)
+    (disk_honest : Type 0) (seen : Which → List ℕ) (items : List Item) (run : DryRun) : Type 0 where
   pub listed : List (List Line)
-  pub planned : IsPlanned definitions environment targets honest stamps disk_honest seen items listed run.soft_dropped
+  pub planned : IsPlanned definitions environment targets times disk_honest seen items listed run.soft_dropped
   pub text : run.text.items ≡ listing_text listed
   pub any : run.lists_any ≡ not (is_empty listed)
 
--- the recipes that a dry run lists, for the makefile that is found, and whether soft edges make a cycle
-pub record Plans (Answers : List ℕ → Option (List ℕ) → Type 0) (Absent : List ℕ → Type 0) (named : Option (List ℕ))
-    (definitions environment : List Variable) (targets : List (List ℕ)) (honest : Type 0) (stamps : List ℕ → Option ℤ)
-    (disk_honest : Type 0) (seen : Which → List ℕ) (listed : List (List Line)) (dropped : Bool) : Type 0 where
+-- the recipes that a dry run lists, for the makefile that is found by these files and times, and whether soft edges make a
+-- cycle
+pub record Plans (files : List ℕ → Option (List ℕ)) (times : List ℕ → Option ℤ) (named : Option (List ℕ))
+    (definitions environment : List Variable) (targets : List (List ℕ)) (disk_honest : Type 0) (seen : Which → List ℕ) (listed : List (List Line)) (dropped : Bool) : Type 0 where
   pub items : List Item
-  pub are_items : AreItems Answers Absent named items
-  pub planned : IsPlanned definitions environment targets honest stamps disk_honest seen items listed dropped
+  pub are_items : AreItems files times named items
+  pub planned : IsPlanned definitions environment targets times disk_honest seen items listed dropped

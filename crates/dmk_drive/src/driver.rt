@@ -1,14 +1,12 @@
 //! The program over handed-in parts.
-ghost use Rattle.std.specs.Prelude.{◌≡◌, ◌≢◌, ◌⊎◌, Bool, true, false, not, List, codes, option_copied, IfOk, IfErr, IsOk, IsErr};
+ghost use Rattle.std.specs.Prelude.{◌≡◌, ◌≢◌, ◌⊎◌, ℕ, ℤ, Bool, true, false, not, List, Option, codes, option_copied, IfOk, IfErr, IsOk, IsErr};
 ghost use Rattle.std.specs.Io.KnownBytes.{Appends, Keeps};
-ghost use Rattle.mk_reader.specs.Makefile.{AnswersAs};
 ghost use Rattle.mk_reader.specs.Text.{is_empty};
 ghost use Rattle.mk_recipe.specs.declared.line.Line.{Line as RecipeText};
 ghost use Rattle.st_disk.specs.Faults.{Rises};
 ghost use Rattle.st_file.specs.declared.fault.OpenFault.TheVariants as open_faults;
 ghost use Rattle.dmk_drive.specs.Faults.{IsFaultOf};
 ghost use Rattle.dmk_drive.specs.Keeping.{value_in};
-ghost use Rattle.dmk_drive.specs.Makefile.{IsAbsent};
 ghost use Rattle.dmk_drive.specs.Messages.{SaysFault, SaysNote, SaysCut};
 ghost use Rattle.dmk_drive.specs.Output.{AppendsPart, AsksForListing, AsksToLook, CutsListing, TellsFault, question_status};
 ghost use Rattle.dmk_drive.specs.Passing.{listing_text};
@@ -185,28 +183,31 @@ pub fn drive<T: Tree, I: Includes, D: Disk, O: Write, E: Write>(
     // It lists or answers: a run of recipes isn't asked for.
     requires { AsksToLook options (value_in environment.now (codes "MAKEFLAGS")) }
 
-    // A listing is that of the plan. Beside it only the note is said, and that where soft edges are dropped.
-    ensures listed { AsksForListing options environment.now → result.0.status ≡ 0 → (plan : List (List RecipeText)) × (dropped : Bool)
-        × Plans (AnswersAs I.honest (I.files includes.old)) (IsAbsent T.honest (T.stamps tree.old)) options.makefile
-        options.definitions.items environment.now options.targets T.honest (T.stamps tree.old) D.honest (D.seen disk) plan dropped
+    // A listing is that of the plan, for all texts and times that agree with what was answered. Beside it only the note is
+    // said, and that where soft edges are dropped.
+    ensures listed { AsksForListing options environment.now → result.0.status ≡ 0
+        → (files : List ℕ → Option (List ℕ)) (times : List ℕ → Option ℤ) → I.allows includes.new files → T.allows tree.new times
+        → (plan : List (List RecipeText)) × (dropped : Bool)
+        × Plans files times options.makefile options.definitions.items environment.now options.targets D.honest (D.seen disk) plan dropped
         × Appends (O.contents out.old) (O.contents out.new) (listing_text plan) × (dropped ≡ false → err.new ≡ err.old)
         × SaysNote (E.contents err.old) (E.contents err.new) result.0.is_told dropped }
     // The question is answered by the plan, and nothing is printed.
-    ensures asked { options.asks ≡ true → result.0.status ≢ 2 → (plan : List (List RecipeText)) × (dropped : Bool)
-        × Plans (AnswersAs I.honest (I.files includes.old)) (IsAbsent T.honest (T.stamps tree.old)) options.makefile
-        options.definitions.items environment.now options.targets T.honest (T.stamps tree.old) D.honest (D.seen disk) plan dropped
+    ensures asked { options.asks ≡ true → result.0.status ≢ 2
+        → (files : List ℕ → Option (List ℕ)) (times : List ℕ → Option ℤ) → I.allows includes.new files → T.allows tree.new times
+        → (plan : List (List RecipeText)) × (dropped : Bool)
+        × Plans files times options.makefile options.definitions.items environment.now options.targets D.honest (D.seen disk) plan dropped
         × (result.0.status ≡ question_status plan) }
     ensures silent { options.asks ≡ true → Keeps (O.contents out.old) (O.contents out.new) }
     ensures quiet { options.asks ≡ true → result.0.status ≢ 2 → err.new ≡ err.old }
 
     // At status 2 a fault of the run is told, of which a device's is a call of the disk that failed; or a listing is cut short.
     ensures refused { result.0.status ≡ 2
-        → TellsFault (λ fault. IsFaultOf (AnswersAs I.honest (I.files includes.old)) options.makefile options.definitions.items environment.now
-        options.targets T.honest (T.stamps tree.old) (T.refuses tree.new) D.honest (D.seen disk) fault
+        → (files : List ℕ → Option (List ℕ)) (times : List ℕ → Option ℤ) → I.allows includes.new files → T.allows tree.new times
+        → TellsFault (λ fault. IsFaultOf files times options.makefile options.definitions.items environment.now
+        options.targets (T.refuses tree.new) D.honest (D.seen disk) fault
         × (fault ≡ faults.State open_faults.Device → Rises (D.faults disk) (D.faults result.1)))
         result.0.is_told (O.contents out.old) (O.contents out.new) (E.contents err.old) (E.contents err.new)
-        ⊎ CutsListing (Plans (AnswersAs I.honest (I.files includes.old)) (IsAbsent T.honest (T.stamps tree.old)) options.makefile
-        options.definitions.items environment.now options.targets T.honest (T.stamps tree.old) D.honest (D.seen disk))
+        ⊎ CutsListing (Plans files times options.makefile options.definitions.items environment.now options.targets D.honest (D.seen disk))
         result.0.is_told (O.contents out.old) (O.contents out.new) (E.contents err.old) (E.contents err.new) }
     ensures status { (result.0.status ≡ 0) ⊎ (((result.0.status ≡ 1) × (options.asks ≡ true)) ⊎ (result.0.status ≡ 2)) }
 

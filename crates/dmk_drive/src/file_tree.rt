@@ -1,36 +1,20 @@
-//! A makefile's files by the system's calls: their times, and the texts that are read.
-ghost use Rattle.std.specs.Prelude.{◌≡◌, true, false, None, IfOk, IfErr, IsErr};
+//! The times of files by the system's calls, each looked at once.
+ghost use Rattle.std.specs.Prelude.{◌≡◌, ℕ, ℤ, true, false, List, Option, None, IfOk, IfErr, IsErr, IsSome};
 ghost use Rattle.std.specs.IoError.{error_kind};
+ghost use Rattle.mk_rules.specs.Stamps.{known_stamp, AgreesWith};
 ghost use Rattle.mk_rules.specs.Tree.{IsTreeFault};
 ghost use Rattle.dmk_drive.specs.Files.{IsMissing, nanoseconds_of};
 
 use crate::file_calls::{FileCalls, FileStatus};
-use mk_reader::Includes;
-use mk_rules::{Tree, TreeFault};
-use std::alloc::{AllocError, Global};
-use std::fmt;
+use mk_rules::{Stamps, Tree, TreeFault};
+use std::alloc::Global;
 use std::io::{self, ErrorKind};
 
-/// A file that is there and couldn't be read, by the system's own error.
-#[derive(Drop)]
-pub struct Unread {
-    pub name: String,
-    pub error: io::Error,
-}
-
-impl fmt::Display for Unread {
-    fn fmt<W: fmt::Write>(&self, f: &mut fmt::Formatter<W>) -> fmt::Result {
-        let name = self.name.as_str();
-        let error = self.error;
-        write!(f, "cannot read {name}: {error}")
-    }
-}
-
-/// The files of the current folder.
+/// The files of the current folder. What was answered of a name holds from then on.
 #[derive(Drop)]
 pub struct FileTree<C: FileCalls + Drop> {
     calls: C,
-    unread: Option<Unread>,
+    stamps: Stamps,
 }
 
 /// Whether an error says that no file has the name.
@@ -74,76 +58,52 @@ fn stamp_of(answer: io::Result<FileStatus>) -> Result<Option<i128>, TreeFault>
     }
 }
 
-/// Whether an error of reading a file is to be told beside what comes of it.
-fn needs_a_note(error: &io::Error) -> bool {
-    let kind = error.kind();
-    kind != ErrorKind::OutOfMemory && kind != ErrorKind::NotFound
-}
-
-/// The text that was read; none where it wasn't, but for want of memory.
-fn text_read(found: io::Result<Vec<u8>>) -> Result<Option<Vec<u8>>, AllocError>
-    ensures text { IfOk found (λ text. result ≡ Ok (Some text)) }
-    ensures none { IfErr found (λ _. IfOk result (λ answer. answer ≡ None)) }
+/// What the system says of a name.
+fn time_of<C: FileCalls>(calls: &mut C, name: &[u8]) -> Result<Option<i128>, TreeFault>
+    ensures { IfErr result (IsTreeFault (Unit {0})) }
 {
-    match found {
-        Ok(text) => Ok(Some(text)),
-        Err(error) if error.kind() == ErrorKind::OutOfMemory => Err(AllocError),
-        Err(_) => Ok(None),
-    }
+    let Ok(name) = std::str::from_utf8(name) else {
+        return Err(TreeFault::CannotLook);
+    };
+    stamp_of(calls.status(name))
 }
 
 impl<C: FileCalls + Drop> FileTree<C> {
-    pub fn new(calls: C) -> FileTree<C> {
+    pub fn new(alloc: Global, calls: C) -> FileTree<C> {
         FileTree {
             calls,
-            unread: None,
+            stamps: Stamps::new(alloc),
         }
     }
 
-    /// The last file that is there and couldn't be read as a makefile.
-    pub fn unread(&self) -> Option<&Unread> {
-        self.unread.as_ref()
-    }
-
-    /// The bytes of a file. Only an ordinary one is opened: a pipe would be waited for, and a device may never end.
-    fn text_of(&mut self, alloc: Global, name: &str) -> io::Result<Vec<u8>> {
-        if !self.calls.status(name)?.is_ordinary {
-            return Err(io::Error::new(ErrorKind::InvalidInput, "not an ordinary file"));
+    /// When the file of this name was last changed. The system is asked where the name isn't known.
+    fn look(&mut self, alloc: Global, name: &[u8]) -> Result<Option<i128>, TreeFault>
+        ensures stamp { IfOk result (λ stamp. (times : List ℕ → Option ℤ) → AgreesWith self.new.stamps times → stamp ≡ times name.now) }
+        ensures grows { (times : List ℕ → Option ℤ) → AgreesWith self.new.stamps times → AgreesWith self.old.stamps times }
+        ensures known { IsSome (known_stamp self.old.stamps name.now) → self.new ≡ self.old }
+        ensures fault { IfErr result (IsTreeFault (Unit {0})) }
+    {
+        if let Some(known) = self.stamps.get(name) {
+            return Ok(known);
         }
-        self.calls.contents(alloc, name)
+        let stamp = time_of(&mut self.calls, name)?;
+        match self.stamps.add(alloc, name, stamp) {
+            Ok(()) => Ok(stamp),
+            Err(_) => Err(TreeFault::OutOfMemory),
+        }
     }
 }
 
 impl<C: FileCalls + Drop> Tree for FileTree<C> {
-    ghost honest = { ⊥ };
+    ghost use Rattle.mk_rules.specs.LooksLaws.{known_times, known_agrees};
 
-    ghost stamps = { λ _ _. None };
+    ghost allows = { λ tree times. AgreesWith tree.stamps times };
 
     ghost refuses = { λ _ _. Unit {0} };
 
-    fn stamp(&mut self, _alloc: Global, name: &[u8]) -> Result<Option<i128>, TreeFault> {
-        let Ok(name) = std::str::from_utf8(name) else {
-            return Err(TreeFault::CannotLook);
-        };
-        stamp_of(self.calls.status(name))
+    fn stamp(&mut self, alloc: Global, name: &[u8]) -> Result<Option<i128>, TreeFault> {
+        self.look(alloc, name)
     }
-}
 
-impl<C: FileCalls + Drop> Includes for FileTree<C> {
-    ghost honest = { ⊥ };
-
-    ghost files = { λ _ _. None };
-
-    fn read(&mut self, alloc: Global, name: &[u8]) -> Result<Option<Vec<u8>>, AllocError> {
-        let Ok(name) = std::str::from_utf8(name) else {
-            return Ok(None);
-        };
-        let error = match self.text_of(alloc, name) {
-            Err(error) if needs_a_note(&error) => error,
-            found => return text_read(found),
-        };
-        let name = String::from_str(alloc, name)?;
-        self.unread = Some(Unread { name, error });
-        Ok(None)
-    }
+    ghost possible = { λ tree. (known_times tree.stamps, known_agrees tree.stamps) };
 }

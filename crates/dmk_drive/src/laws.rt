@@ -1,5 +1,5 @@
 //! What holds of the definitions alone. The functions do nothing: what they ensure is the law.
-ghost use Rattle.std.specs.Prelude.{◌≡◌, ℕ, Bool, List};
+ghost use Rattle.std.specs.Prelude.{◌≡◌, ℕ, ℤ, Bool, List, Option};
 ghost use Rattle.std.specs.List.{list_any};
 ghost use Rattle.mk_reader.specs.declared.item.Item.{Item};
 ghost use Rattle.mk_rule_lines.specs.Goals.{is_keep_state, has_special};
@@ -11,11 +11,20 @@ ghost use Rattle.mk_rule_lines.specs.declared.rule_line.RuleLine.{RuleLine};
 ghost use Rattle.dmk_drive.specs.Keeping.{is_keep_item};
 ghost use Rattle.mk_recipe.specs.declared.line.Line.{Line};
 ghost use Rattle.dmk_drive.specs.Passing.{Lists, PassesEach};
+ghost use Rattle.dmk_drive.specs.Planned.{AreItems, Plans};
+ghost use Rattle.st_disk.specs.declared.which.Which.{Which};
+ghost use Rattle.bd_lists.specs.declared.recipe.Variable.{Variable};
 
 /// State is kept by the items of a makefile just where it is by their rule lines.
 pub fn one_reading_of_the_settings()
     ensures { (ranks : Defined) (items : List Item) (lines : List RuleLine) → AreRuleLines ranks items lines
         → has_special is_keep_state lines ≡ list_any is_keep_item items }
+{}
+
+/// By the same files and times there is one makefile, with one list of items.
+pub fn one_makefile()
+    ensures { (files : List ℕ → Option (List ℕ)) (times : List ℕ → Option ℤ) (named : Option (List ℕ)) (a b : List Item)
+        → AreItems files times named a → AreItems files times named b → a ≡ b }
 {}
 
 /// A plan passes each node of its graph just once, behind all that it counts.
@@ -27,4 +36,14 @@ pub fn plan_of_the_graph()
 pub fn one_listing()
     ensures { (keeping : Bool) (graph : Graph) (marks : List Bool) (order : List ℕ) (a b : List (List Line))
         → Lists keeping graph marks order a → Lists keeping graph marks order b → a ≡ b }
+{}
+
+/// By the same files, times and state there is one plan: two plans list the same, and soft edges make a cycle in both or in none.
+/// Where state is kept, that is where the disk keeps its model.
+pub fn one_plan()
+    ensures { (files : List ℕ → Option (List ℕ)) (times : List ℕ → Option ℤ) (named : Option (List ℕ)) (definitions environment : List Variable)
+        (targets : List (List ℕ)) (honest : Type 0) (seen : Which → List ℕ) (a b : List (List Line)) (d e : Bool) → honest
+        → Plans files times named definitions environment targets honest seen a d
+        → Plans files times named definitions environment targets honest seen b e
+        → (a ≡ b) × (d ≡ e) }
 {}

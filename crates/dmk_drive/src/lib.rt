@@ -7,6 +7,7 @@ mod definitions;
 mod driver;
 mod fault;
 mod file_calls;
+mod file_texts;
 mod file_tree;
 mod keeping;
 mod laws;
@@ -17,14 +18,18 @@ mod output;
 mod passing;
 mod planning;
 mod recovered;
+mod texts;
 
 pub use definitions::first_macros;
 pub use driver::{Reply, drive};
 pub use fault::Fault;
 pub use file_calls::{FileCalls, FileStatus};
-pub use file_tree::{FileTree, Unread};
+pub use file_texts::{FileTexts, Unread};
+pub use file_tree::FileTree;
 pub use keeping::{keeps_state, value_of};
-pub use laws::{one_listing, one_reading_of_the_settings, plan_of_the_graph};
+pub use laws::{
+    one_listing, one_makefile, one_plan, one_reading_of_the_settings, plan_of_the_graph,
+};
 pub use makefile::items_of;
 pub use messages::{Message, SOFT_EDGES_NOTE};
 pub use options::{MAX_WORKERS, Mode, Options};

@@ -1,7 +1,6 @@
 //! The makefile: which file it is, and its items.
 ghost use Rattle.std.specs.Prelude.{◌≡◌, ◌⊎◌, ℕ, ℤ, List, Option, Some, None, IfOk, IfErr, IfSome, IsTrue, option_map, option_copied, false};
-ghost use Rattle.mk_reader.specs.Makefile.{AnswersAs};
-ghost use Rattle.dmk_drive.specs.Makefile.{IsAbsent, MayBeThere, IsMakefile, HasNoMakefile};
+ghost use Rattle.dmk_drive.specs.Makefile.{MayBeThere, IsMakefile};
 ghost use Rattle.dmk_drive.specs.Planned.{AreItems};
 ghost use Rattle.dmk_drive.specs.Faults.{IsTextFault};
 ghost use Rattle.dmk_drive.specs.declared.fault.Fault.TheVariants.{OutOfMemory, NoMakefile};
@@ -29,9 +28,10 @@ fn file_named<I: Includes>(
     name: &[u8],
     includes: &mut I,
 ) -> Result<Option<Makefile>, Fault>
-    ensures read { IfOk result (λ found. AnswersAs I.honest (I.files includes.old) name.now (option_map (λ m. m.text.items) found)) }
+    ensures read { IfOk result (λ found. (files : List ℕ → Option (List ℕ)) → I.allows includes.new files
+        → files name.now ≡ option_map (λ m. m.text.items) found) }
     ensures name { IfOk result (λ found. IfSome found (λ m. m.file ≡ name.now)) }
-    ensures same { I.files includes.new ≡ I.files includes.old }
+    ensures files { (files : List ℕ → Option (List ℕ)) → I.allows includes.new files → I.allows includes.old files }
     ensures fault { IfErr result (λ fault. fault ≡ OutOfMemory) }
 {
     match includes.read(alloc, name)? {
@@ -45,9 +45,10 @@ fn file_named<I: Includes>(
 
 /// Whether there is no file of this name, not even one that can't be read.
 fn is_absent<T: Tree>(alloc: Global, name: &[u8], tree: &mut T) -> Result<bool, Fault>
-    ensures absent { IfOk result (λ absent. IsTrue absent → IsAbsent T.honest (T.stamps tree.old) name.now) }
-    ensures there { IfOk result (λ absent. absent ≡ false → MayBeThere T.honest (T.stamps tree.old) (T.refuses tree.new) name.now) }
-    ensures same { T.stamps tree.new ≡ T.stamps tree.old }
+    ensures absent { IfOk result (λ absent. IsTrue absent → (times : List ℕ → Option ℤ) → T.allows tree.new times → times name.now ≡ None) }
+    ensures there { IfOk result (λ absent. absent ≡ false → (times : List ℕ → Option ℤ) → T.allows tree.new times
+        → MayBeThere times (T.refuses tree.new) name.now) }
+    ensures times { (times : List ℕ → Option ℤ) → T.allows tree.new times → T.allows tree.old times }
     ensures kept { (n : List ℕ) → T.refuses tree.old n → T.refuses tree.new n }
     ensures fault { IfErr result (λ fault. fault ≡ OutOfMemory) }
 {
@@ -64,12 +65,12 @@ fn usual_makefile<T: Tree, I: Includes>(
     tree: &mut T,
     includes: &mut I,
 ) -> Result<Makefile, Fault>
-    ensures makefile { IfOk result (λ m. IsMakefile (AnswersAs I.honest (I.files includes.old)) (IsAbsent T.honest (T.stamps tree.old))
-        None m.file m.text.items) }
-    ensures fault { IfErr result (IsTextFault (AnswersAs I.honest (I.files includes.old)) (IsAbsent T.honest (T.stamps tree.old))
-        (MayBeThere T.honest (T.stamps tree.old) (T.refuses tree.new)) None) }
-    ensures files { I.files includes.new ≡ I.files includes.old }
-    ensures stamps { T.stamps tree.new ≡ T.stamps tree.old }
+    ensures makefile { IfOk result (λ m. (files : List ℕ → Option (List ℕ)) (times : List ℕ → Option ℤ) → I.allows includes.new files → T.allows tree.new times
+        → IsMakefile files times None m.file m.text.items) }
+    ensures fault { IfErr result (λ fault. (files : List ℕ → Option (List ℕ)) (times : List ℕ → Option ℤ) → I.allows includes.new files → T.allows tree.new times
+        → IsTextFault files times (T.refuses tree.new) None fault) }
+    ensures files { (files : List ℕ → Option (List ℕ)) → I.allows includes.new files → I.allows includes.old files }
+    ensures times { (times : List ℕ → Option ℤ) → T.allows tree.new times → T.allows tree.old times }
     ensures kept { (n : List ℕ) → T.refuses tree.old n → T.refuses tree.new n }
 {
     if let Some(makefile) = file_named(alloc, FIRST_NAME, includes)? {
@@ -91,10 +92,10 @@ fn named_makefile<I: Includes>(
     includes: &mut I,
 ) -> Result<Makefile, Fault>
     ensures file { IfOk result (λ m. m.file ≡ name.now) }
-    ensures text { IfOk result (λ m. AnswersAs I.honest (I.files includes.old) name.now (Some m.text.items)) }
+    ensures text { IfOk result (λ m. (files : List ℕ → Option (List ℕ)) → I.allows includes.new files → files name.now ≡ Some m.text.items) }
     ensures missing { IfErr result (λ fault. (fault ≡ OutOfMemory)
-        ⊎ ((fault ≡ NoMakefile) × AnswersAs I.honest (I.files includes.old) name.now None)) }
-    ensures same { I.files includes.new ≡ I.files includes.old }
+        ⊎ ((fault ≡ NoMakefile) × ((files : List ℕ → Option (List ℕ)) → I.allows includes.new files → files name.now ≡ None))) }
+    ensures files { (files : List ℕ → Option (List ℕ)) → I.allows includes.new files → I.allows includes.old files }
 {
     match file_named(alloc, name, includes)? {
         Some(makefile) => Ok(makefile),
@@ -109,12 +110,12 @@ fn makefile_of<T: Tree, I: Includes>(
     tree: &mut T,
     includes: &mut I,
 ) -> Result<Makefile, Fault>
-    ensures makefile { IfOk result (λ m. IsMakefile (AnswersAs I.honest (I.files includes.old)) (IsAbsent T.honest (T.stamps tree.old))
-        (option_copied named.entry) m.file m.text.items) }
-    ensures fault { IfErr result (IsTextFault (AnswersAs I.honest (I.files includes.old)) (IsAbsent T.honest (T.stamps tree.old))
-        (MayBeThere T.honest (T.stamps tree.old) (T.refuses tree.new)) (option_copied named.entry)) }
-    ensures files { I.files includes.new ≡ I.files includes.old }
-    ensures stamps { T.stamps tree.new ≡ T.stamps tree.old }
+    ensures makefile { IfOk result (λ m. (files : List ℕ → Option (List ℕ)) (times : List ℕ → Option ℤ) → I.allows includes.new files → T.allows tree.new times
+        → IsMakefile files times (option_copied named.entry) m.file m.text.items) }
+    ensures fault { IfErr result (λ fault. (files : List ℕ → Option (List ℕ)) (times : List ℕ → Option ℤ) → I.allows includes.new files → T.allows tree.new times
+        → IsTextFault files times (T.refuses tree.new) (option_copied named.entry) fault) }
+    ensures files { (files : List ℕ → Option (List ℕ)) → I.allows includes.new files → I.allows includes.old files }
+    ensures times { (times : List ℕ → Option ℤ) → T.allows tree.new times → T.allows tree.old times }
     ensures kept { (n : List ℕ) → T.refuses tree.old n → T.refuses tree.new n }
 {
     match named {
@@ -130,11 +131,11 @@ pub fn items_of<T: Tree, I: Includes>(
     tree: &mut T,
     includes: &mut I,
 ) -> Result<Vec<Item>, Fault>
-    ensures items { IfOk result (λ items. AreItems (AnswersAs I.honest (I.files includes.old)) (IsAbsent T.honest (T.stamps tree.old))
-        (option_copied named.entry) items.items) }
-    ensures fault { IfErr result (IsTextFault (AnswersAs I.honest (I.files includes.old)) (IsAbsent T.honest (T.stamps tree.old))
-        (MayBeThere T.honest (T.stamps tree.old) (T.refuses tree.new)) (option_copied named.entry)) }
-    ensures stamps { T.stamps tree.new ≡ T.stamps tree.old }
+    ensures items { IfOk result (λ items. (files : List ℕ → Option (List ℕ)) (times : List ℕ → Option ℤ) → I.allows includes.new files → T.allows tree.new times
+        → AreItems files times (option_copied named.entry) items.items) }
+    ensures fault { IfErr result (λ fault. (files : List ℕ → Option (List ℕ)) (times : List ℕ → Option ℤ) → I.allows includes.new files → T.allows tree.new times
+        → IsTextFault files times (T.refuses tree.new) (option_copied named.entry) fault) }
+    ensures times { (times : List ℕ → Option ℤ) → T.allows tree.new times → T.allows tree.old times }
     ensures kept { (n : List ℕ) → T.refuses tree.old n → T.refuses tree.new n }
 {
     let makefile = makefile_of(alloc, named, tree, includes)?;

@@ -4,7 +4,7 @@ ghost use Rattle.dmk_drive.specs.Output.{AsksFor, mode_of};
 
 use bd_lists::Variable;
 use byte_strings::{ByteString, ByteStrings};
-use jb_slots::dry;
+use jb_auth::dry;
 
 /// The most workers that `-j` may ask for.
 pub const MAX_WORKERS: u16 = 256;

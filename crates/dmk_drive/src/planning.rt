@@ -1,9 +1,8 @@
 //! From a makefile to what is listed, stage by stage. The first stage that has a fault ends it.
-ghost use Rattle.std.specs.Prelude.{◌≡◌, ◌⊎◌, ℕ, true, not, List, length, nat_lt, IfOk, IfErr, IsErrOf, option_copied};
+ghost use Rattle.std.specs.Prelude.{◌≡◌, ◌⊎◌, ℕ, ℤ, true, not, List, Option, length, nat_lt, IfOk, IfErr, IsErrOf, option_copied};
 ghost use Rattle.std.specs.FinMap as finmap;
 ghost use Rattle.std.specs.List.{list_all};
 ghost use Rattle.mk_macros.specs.declared.fault.MacroFault.{MacroFault as ExpansionFault};
-ghost use Rattle.mk_reader.specs.Makefile.{AnswersAs};
 ghost use Rattle.mk_reader.specs.Text.{is_empty};
 ghost use Rattle.mk_reader.specs.declared.item.Item.{Item as MakefileItem};
 ghost use Rattle.mk_recipe.specs.declared.line.Line.{Line as RecipeText};
@@ -12,7 +11,6 @@ ghost use Rattle.mk_rules.specs.declared.graph.TheConstants.{MAX_NODES};
 ghost use Rattle.mk_rule_lines.specs.declared.fault.RuleFault.{RuleFault as RulesFault};
 ghost use Rattle.dmk_drive.specs.Definitions.{first_defined};
 ghost use Rattle.dmk_drive.specs.Keeping.{keeps};
-ghost use Rattle.dmk_drive.specs.Makefile.{IsAbsent, MayBeThere};
 ghost use Rattle.st_disk.specs.Faults.{Rises};
 ghost use Rattle.st_state.specs.State.{StateMap};
 ghost use Rattle.st_file.specs.declared.fault.OpenFault.{OpenFault as StateFault};
@@ -66,11 +64,13 @@ fn graph_of<T: Tree>(
     items: Vec<Item>,
     state: &State,
 ) -> Result<Graph, Fault>
-    ensures graph { IfOk result (IsGraphOf given.entry.definitions.now given.entry.environment.now targets T.honest (T.stamps tree.old)
-        items.items state.now) }
+    ensures graph { IfOk result (λ graph. (times : List ℕ → Option ℤ) → T.allows tree.new times
+        → IsGraphOf given.entry.definitions.now given.entry.environment.now targets times items.items state.now graph) }
     ensures fault { IfErr result (λ fault. (fault ≡ faults.OutOfMemory) ⊎ ((f : RulesFault) × (fault ≡ faults.Rules f)
-        × IsRuleFault (first_defined given.entry.definitions.now given.entry.environment.now) items.items T.honest (T.stamps tree.old)
-        (finmap.get state.now) (T.refuses tree.new) targets MAX_NODES f)) }
+        × ((times : List ℕ → Option ℤ) → T.allows tree.new times
+        → IsRuleFault (first_defined given.entry.definitions.now given.entry.environment.now) items.items times
+        (finmap.get state.now) (T.refuses tree.new) targets MAX_NODES f))) }
+    ensures times { (times : List ℕ → Option ℤ) → T.allows tree.new times → T.allows tree.old times }
 {
     let macros = first_macros(alloc, given.definitions, given.environment)?;
     match build(alloc, items, macros, targets, tree, state) {
@@ -130,9 +130,12 @@ fn kept_graph<T: Tree, D: Disk>(
 ) -> Result<Graph, Fault>
     requires { keeping ≡ keeps given.environment.now items.items }
     ensures graph { IfOk result (λ graph. (m : StateMap) × IsStateOn keeping D.honest (D.seen disk.old) m
-        × IsGraphOf given.entry.definitions.now given.entry.environment.now targets T.honest (T.stamps tree.old) items.items m graph) }
-    ensures fault { IfErr result (IsPlanFault given.entry.definitions.now given.entry.environment.now targets T.honest (T.stamps tree.old)
-        (T.refuses tree.new) D.honest (D.seen disk.old) items.items) }
+        × ((times : List ℕ → Option ℤ) → T.allows tree.new times
+        → IsGraphOf given.entry.definitions.now given.entry.environment.now targets times items.items m graph)) }
+    ensures fault { IfErr result (λ fault. (times : List ℕ → Option ℤ) → T.allows tree.new times
+        → IsPlanFault given.entry.definitions.now given.entry.environment.now targets times (T.refuses tree.new) D.honest (D.seen disk.old)
+        items.items fault) }
+    ensures times { (times : List ℕ → Option ℤ) → T.allows tree.new times → T.allows tree.old times }
     ensures seen { D.honest → D.seen disk.new ≡ D.seen disk.old }
     ensures moments { D.honest → D.moments disk.new ≡ D.moments disk.old }
     ensures device { IsErrOf result (faults.State open_faults.Device) → Rises (D.faults disk.old) (D.faults disk.new) }
@@ -151,10 +154,12 @@ fn plan_items<T: Tree, D: Disk>(
     disk: &mut D,
     items: Vec<Item>,
 ) -> Result<DryRun, Fault>
-    ensures tells { IfOk result (Tells given.entry.definitions.now given.entry.environment.now targets T.honest (T.stamps tree.old)
-        D.honest (D.seen disk.old) items.items) }
-    ensures fault { IfErr result (IsPlanFault given.entry.definitions.now given.entry.environment.now targets T.honest (T.stamps tree.old)
-        (T.refuses tree.new) D.honest (D.seen disk.old) items.items) }
+    ensures tells { IfOk result (λ run. (times : List ℕ → Option ℤ) → T.allows tree.new times
+        → Tells given.entry.definitions.now given.entry.environment.now targets times D.honest (D.seen disk.old) items.items run) }
+    ensures fault { IfErr result (λ fault. (times : List ℕ → Option ℤ) → T.allows tree.new times
+        → IsPlanFault given.entry.definitions.now given.entry.environment.now targets times (T.refuses tree.new) D.honest (D.seen disk.old)
+        items.items fault) }
+    ensures times { (times : List ℕ → Option ℤ) → T.allows tree.new times → T.allows tree.old times }
     ensures seen { D.honest → D.seen disk.new ≡ D.seen disk.old }
     ensures moments { D.honest → D.moments disk.new ≡ D.moments disk.old }
     ensures device { IsErrOf result (faults.State open_faults.Device) → Rises (D.faults disk.old) (D.faults disk.new) }
@@ -176,17 +181,14 @@ pub fn dry_run<T: Tree, I: Includes, D: Disk>(
     includes: &mut I,
     disk: &mut D,
 ) -> Result<DryRun, Fault>
-    ensures tells { IfOk result (λ run. (items : List MakefileItem)
-        × AreItems (AnswersAs I.honest (I.files includes.old)) (IsAbsent T.honest (T.stamps tree.old))
-        (option_copied given.entry.makefile) items
-        × Tells given.entry.definitions.now given.entry.environment.now targets T.honest (T.stamps tree.old) D.honest (D.seen disk.old) items run) }
-    ensures fault { IfErr result (IsRunFault
-        (IsTextFault (AnswersAs I.honest (I.files includes.old)) (IsAbsent T.honest (T.stamps tree.old))
-        (MayBeThere T.honest (T.stamps tree.old) (T.refuses tree.new)) (option_copied given.entry.makefile))
-        (AreItems (AnswersAs I.honest (I.files includes.old)) (IsAbsent T.honest (T.stamps tree.old))
-        (option_copied given.entry.makefile))
-        (IsPlanFault given.entry.definitions.now given.entry.environment.now targets T.honest (T.stamps tree.old) (T.refuses tree.new)
-        D.honest (D.seen disk.old))) }
+    ensures tells { IfOk result (λ run. (files : List ℕ → Option (List ℕ)) (times : List ℕ → Option ℤ) → I.allows includes.new files → T.allows tree.new times
+        → (items : List MakefileItem) × AreItems files times (option_copied given.entry.makefile) items
+        × Tells given.entry.definitions.now given.entry.environment.now targets times D.honest (D.seen disk.old) items run) }
+    ensures fault { IfErr result (λ fault. (files : List ℕ → Option (List ℕ)) (times : List ℕ → Option ℤ) → I.allows includes.new files → T.allows tree.new times
+        → IsRunFault (IsTextFault files times (T.refuses tree.new) (option_copied given.entry.makefile))
+        (AreItems files times (option_copied given.entry.makefile))
+        (IsPlanFault given.entry.definitions.now given.entry.environment.now targets times (T.refuses tree.new) D.honest (D.seen disk.old))
+        fault) }
     ensures seen { D.honest → D.seen disk.new ≡ D.seen disk.old }
     ensures moments { D.honest → D.moments disk.new ≡ D.moments disk.old }
     ensures device { IsErrOf result (faults.State open_faults.Device) → Rises (D.faults disk.old) (D.faults disk.new) }

@@ -58,12 +58,12 @@ has_ended graph keeping sound sides found (Ok s) (r, is, same) all well borne ma
 }
 has_ended graph keeping sound sides found (Err stop) is all well borne made = tt
 
-module _ (definitions environment : List Variable) (targets : List (List ℕ)) (honest : Type 0) (stamps : List ℕ → Option ℤ) where
+module _ (definitions environment : List Variable) (targets : List (List ℕ)) (times : List ℕ → Option ℤ) where
   -- so a graph of these items has
   pub made_items : (items : List Item) (stored keeping : Bool) (disk_honest : Type 0) (seen : Which → List ℕ) (sides : Sides) (state : StateMap)
-      (graph : Graph) (kept : Bool) → IsStateOn stored disk_honest seen state → IsGraphOf definitions environment targets honest stamps items state graph →
+      (graph : Graph) (kept : Bool) → IsStateOn stored disk_honest seen state → IsGraphOf definitions environment targets times items state graph →
       kept ≡ keeping → (got : Result ℕ Stop) → IfOk got (HasEnded graph kept disk_honest sides) →
-      IfOk got (λ s. MakesItems definitions environment targets honest stamps items stored keeping disk_honest seen s sides)
+      IfOk got (λ s. MakesItems definitions environment targets times items stored keeping disk_honest seen s sides)
   made_items items stored keeping disk_honest seen sides state graph kept is_state is_graph same (Ok s) ended = record {
     state = state;
     is_state = is_state;
@@ -77,8 +77,8 @@ module _ (definitions environment : List Variable) (targets : List (List ℕ)) (
   module _ (items : List Item) (memory_honest : Type 0) (memory : Which → List ℕ) (works : memory_honest)
       (a : memory which.A ≡ []) (b : memory which.B ≡ []) (memory_sides : Sides) (disk_honest : Type 0) (seen : Which → List ℕ) (sides : Sides) where
     pub without_state : (status : ℕ) →
-        MakesItems definitions environment targets honest stamps items true false memory_honest memory status memory_sides →
-        MakesItems definitions environment targets honest stamps items false false disk_honest seen status sides
+        MakesItems definitions environment targets times items true false memory_honest memory status memory_sides →
+        MakesItems definitions environment targets times items false false disk_honest seen status sides
     without_state status run = record {
       state = run.state;
       is_state = empty_state (memory which.A) (memory which.B) run.state a b (run.is_state works);
@@ -94,10 +94,10 @@ module _ (definitions environment : List Variable) (targets : List (List ℕ)) (
     }
 
     pub found_without_state : (keeping : Bool) → false ≡ keeping → (got : Result ℕ Stop) →
-        IfOk got (λ s. MakesItems definitions environment targets honest stamps items true false memory_honest memory s memory_sides) →
-        IfOk got (λ s. MakesItems definitions environment targets honest stamps items keeping keeping disk_honest seen s sides)
+        IfOk got (λ s. MakesItems definitions environment targets times items true false memory_honest memory s memory_sides) →
+        IfOk got (λ s. MakesItems definitions environment targets times items keeping keeping disk_honest seen s sides)
     found_without_state keeping is (Ok status) run =
-        subst (λ k. MakesItems definitions environment targets honest stamps items k k disk_honest seen status sides) is
+        subst (λ k. MakesItems definitions environment targets times items k k disk_honest seen status sides) is
         (without_state status run)
     found_without_state keeping is (Err stop) run = tt
 

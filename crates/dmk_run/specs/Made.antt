@@ -42,20 +42,19 @@ pub record HasEnded (graph : Graph) (keeping : Bool) (sound : Type 0) (sides : S
   pub made : keeping ≡ true → IsMade graph sound sides status ends
 
 -- so the graph of these items has, for the targets that are named, by the state that the disk recovers, if it is stored there
-pub record MakesItems (definitions environment : List Variable) (targets : List (List ℕ)) (honest : Type 0)
-    (stamps : List ℕ → Option ℤ) (items : List Item) (stored keeping : Bool) (disk_honest : Type 0) (seen : Which → List ℕ)
+pub record MakesItems (definitions environment : List Variable) (targets : List (List ℕ)) (times : List ℕ → Option ℤ)
+    (items : List Item) (stored keeping : Bool) (disk_honest : Type 0) (seen : Which → List ℕ)
     (status : ℕ) (sides : Sides) : Type 0 where
   pub state : StateMap
   pub is_state : IsStateOn stored disk_honest seen state
   pub graph : Graph
-  pub is_graph : IsGraphOf definitions environment targets honest stamps items state graph
+  pub is_graph : IsGraphOf definitions environment targets times items state graph
   pub ended : HasEnded graph keeping disk_honest sides status
 
--- so it is for the items of a makefile
-pub record Makes (Answers : List ℕ → Option (List ℕ) → Type 0) (Absent : List ℕ → Type 0) (named : Option (List ℕ))
-    (definitions environment : List Variable) (targets : List (List ℕ)) (honest : Type 0) (stamps : List ℕ → Option ℤ)
-    (disk_honest : Type 0) (seen : Which → List ℕ) (status : ℕ) (sides : Sides) : Type 0 where
+-- so it is for the items of the makefile that is found by these files and times
+pub record Makes (files : List ℕ → Option (List ℕ)) (times : List ℕ → Option ℤ) (named : Option (List ℕ))
+    (definitions environment : List Variable) (targets : List (List ℕ)) (disk_honest : Type 0) (seen : Which → List ℕ) (status : ℕ) (sides : Sides) : Type 0 where
   pub items : List Item
-  pub are_items : AreItems Answers Absent named items
-  pub made : MakesItems definitions environment targets honest stamps items (keeps environment items) (keeps environment items)
+  pub are_items : AreItems files times named items
+  pub made : MakesItems definitions environment targets times items (keeps environment items) (keeps environment items)
       disk_honest seen status sides

@@ -1,9 +1,7 @@
 //! The program over handed-in parts, where recipes are run.
-ghost use Rattle.std.specs.Prelude.{◌≡◌, ◌≢◌, ◌⊎◌, ◌≤◌, true, false, List, Ok, codes, option_copied, IfOk, IfErr};
-ghost use Rattle.mk_reader.specs.Makefile.{AnswersAs};
+ghost use Rattle.std.specs.Prelude.{◌≡◌, ◌≢◌, ◌⊎◌, ◌≤◌, ℕ, ℤ, true, false, List, Option, Ok, codes, option_copied, IfOk, IfErr};
 ghost use Rattle.mk_reader.specs.declared.item.Item.{Item as MakefileItem};
 ghost use Rattle.st_disk.specs.Moments.{now};
-ghost use Rattle.dmk_drive.specs.Makefile.{IsAbsent};
 ghost use Rattle.dmk_drive.specs.Keeping.{keeps, value_in};
 ghost use Rattle.dmk_drive.specs.Output.{AsksToRun};
 ghost use Rattle.dmk_drive.specs.Planned.{AreItems};
@@ -107,8 +105,10 @@ where
     K::End: Drop + Send,
     D: Disk + Drop + Send,
     ensures status { IfOk result.0 (λ s. s ≤ 2) }
-    ensures makes { IfOk result.0 (λ s. MakesItems goals.definitions.items means.now.environment.now goals.targets T.honest
-        (T.stamps tree.old) items.items true keeping D.honest (D.seen disk) s (now (D.moments result.1))) }
+    ensures makes { IfOk result.0 (λ s. (times : List ℕ → Option ℤ) → T.allows tree.new times
+        → MakesItems goals.definitions.items means.now.environment.now goals.targets times items.items true keeping
+        D.honest (D.seen disk) s (now (D.moments result.1))) }
+    ensures times { (times : List ℕ → Option ℤ) → T.allows tree.new times → T.allows tree.old times }
     ensures let_go { K.serves banks.old ≡ false → K.serves banks.new ≡ false }
 {
     let store = match open_store(alloc, means.key, disk) {
@@ -158,9 +158,11 @@ where
     K::End: Drop + Send,
     D: Disk + Drop + Send,
     ensures status { IfOk result.0 (λ s. s ≤ 2) }
-    ensures makes { IfOk result.0 (λ s. MakesItems goals.definitions.items means.now.environment.now goals.targets T.honest
-        (T.stamps tree.old) items.items (keeps means.now.environment.now items.items)
-        (keeps means.now.environment.now items.items) D.honest (D.seen disk) s (now (D.moments result.1))) }
+    ensures makes { IfOk result.0 (λ s. (times : List ℕ → Option ℤ) → T.allows tree.new times
+        → MakesItems goals.definitions.items means.now.environment.now goals.targets times items.items
+        (keeps means.now.environment.now items.items) (keeps means.now.environment.now items.items)
+        D.honest (D.seen disk) s (now (D.moments result.1))) }
+    ensures times { (times : List ℕ → Option ℤ) → T.allows tree.new times → T.allows tree.old times }
     ensures untouched { keeps means.now.environment.now items.items ≡ false → result.1 ≡ disk }
     ensures let_go { K.serves banks.old ≡ false → K.serves banks.new ≡ false }
 {
@@ -206,11 +208,12 @@ where
     K::End: Drop + Send,
     D: Disk + Drop + Send,
     ensures status { IfOk result.0 (λ s. s ≤ 2) }
-    ensures makes { IfOk result.0 (λ s. Makes (AnswersAs I.honest (I.files includes.old)) (IsAbsent T.honest (T.stamps tree.old))
-        (option_copied named.entry) goals.definitions.items means.now.environment.now goals.targets T.honest (T.stamps tree.old)
+    ensures makes { IfOk result.0 (λ s. (files : List ℕ → Option (List ℕ)) (times : List ℕ → Option ℤ) → I.allows includes.new files → T.allows tree.new times
+        → Makes files times (option_copied named.entry) goals.definitions.items means.now.environment.now goals.targets
         D.honest (D.seen disk) s (now (D.moments result.1))) }
-    ensures untouched { (result.1 ≡ disk) ⊎ ((items : List MakefileItem) × AreItems (AnswersAs I.honest (I.files includes.old))
-        (IsAbsent T.honest (T.stamps tree.old)) (option_copied named.entry) items × (keeps means.now.environment.now items ≡ true)) }
+    ensures untouched { (files : List ℕ → Option (List ℕ)) (times : List ℕ → Option ℤ) → I.allows includes.new files → T.allows tree.new times
+        → (result.1 ≡ disk) ⊎ ((items : List MakefileItem) × AreItems files times (option_copied named.entry) items
+        × (keeps means.now.environment.now items ≡ true)) }
     ensures let_go { K.serves banks.old ≡ false → K.serves banks.new ≡ false }
 {
     match items_of(alloc, named, tree, includes) {
@@ -304,13 +307,15 @@ where
     requires { AsksToRun options (value_in means.now.environment.now (codes "MAKEFLAGS")) }
     ensures status { result.0 ≤ 2 }
     // At another status than 2 each target that was built is done in every pair of crash images, with the commands of the
-    // 'done' whose receipt its worker gathered.
-    ensures makes { result.0 ≢ 2 → Makes (AnswersAs I.honest (I.files includes.old)) (IsAbsent T.honest (T.stamps tree.old))
-        options.makefile options.definitions.items means.now.environment.now options.targets T.honest (T.stamps tree.old)
+    // 'done' whose receipt its worker gathered: so for all texts and times that agree with what was answered.
+    ensures makes { result.0 ≢ 2
+        → (files : List ℕ → Option (List ℕ)) (times : List ℕ → Option ℤ) → I.allows includes.new files → T.allows tree.new times
+        → Makes files times options.makefile options.definitions.items means.now.environment.now options.targets
         D.honest (D.seen disk) result.0 (now (D.moments result.1)) }
     // Unless a makefile that was read keeps state, the disk is handed back as it came.
-    ensures untouched { (result.1 ≡ disk) ⊎ ((items : List MakefileItem) × AreItems (AnswersAs I.honest (I.files includes.old))
-        (IsAbsent T.honest (T.stamps tree.old)) options.makefile items × (keeps means.now.environment.now items ≡ true)) }
+    ensures untouched { (files : List ℕ → Option (List ℕ)) (times : List ℕ → Option ℤ) → I.allows includes.new files → T.allows tree.new times
+        → (result.1 ≡ disk) ⊎ ((items : List MakefileItem) × AreItems files times options.makefile items
+        × (keeps means.now.environment.now items ≡ true)) }
     // A pool that is served for the run is let go at its end.
     ensures let_go { K.serves banks.old ≡ false → K.serves banks.new ≡ false }
 {

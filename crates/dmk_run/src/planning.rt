@@ -1,5 +1,5 @@
 //! What a run makes and how it goes, before anything is made.
-ghost use Rattle.std.specs.Prelude.{◌≡◌, ◌⊎◌, IfOk, IfErr};
+ghost use Rattle.std.specs.Prelude.{◌≡◌, ◌⊎◌, ℕ, ℤ, List, Option, IfOk, IfErr};
 ghost use Rattle.std.specs.FinMap as finmap;
 ghost use Rattle.mk_rules.specs.Faults.{IsRuleFault};
 ghost use Rattle.mk_rules.specs.declared.graph.TheConstants.{MAX_NODES};
@@ -46,12 +46,14 @@ fn graph_of<T: Tree>(
     items: Vec<Item>,
     state: &State,
 ) -> Result<Graph, Stop>
-    ensures graph { IfOk result (IsGraphOf definitions.now environment.now targets T.honest (T.stamps tree.old)
-        items.items state.now) }
+    ensures graph { IfOk result (λ graph. (times : List ℕ → Option ℤ) → T.allows tree.new times
+        → IsGraphOf definitions.now environment.now targets times items.items state.now graph) }
     ensures fault { IfErr result (λ stop. (stop ≡ stops.Before faults.OutOfMemory)
         ⊎ ((f : RulesFault) × (stop ≡ stops.Before (faults.Rules f))
-        × IsRuleFault (first_defined definitions.now environment.now) items.items T.honest (T.stamps tree.old)
-        (finmap.get state.now) (T.refuses tree.new) targets MAX_NODES f)) }
+        × ((times : List ℕ → Option ℤ) → T.allows tree.new times
+        → IsRuleFault (first_defined definitions.now environment.now) items.items times
+        (finmap.get state.now) (T.refuses tree.new) targets MAX_NODES f))) }
+    ensures times { (times : List ℕ → Option ℤ) → T.allows tree.new times → T.allows tree.old times }
 {
     let macros = first_macros(alloc, definitions, environment)?;
     match mk_rules::build(alloc, items, macros, targets, tree, state) {
@@ -72,8 +74,9 @@ pub(crate) fn planned<R: Wait, T: Tree, O: Write + Drop, W: Write + Drop>(
     items: Vec<Item>,
     state: &State,
 ) -> Result<Plan, Stop>
-    ensures graph { IfOk result (λ plan. IsGraphOf goals.definitions.items environment.now goals.targets T.honest (T.stamps tree.old)
-        items.items state.now plan.graph) }
+    ensures graph { IfOk result (λ plan. (times : List ℕ → Option ℤ) → T.allows tree.new times
+        → IsGraphOf goals.definitions.items environment.now goals.targets times items.items state.now plan.graph) }
+    ensures times { (times : List ℕ → Option ℤ) → T.allows tree.new times → T.allows tree.old times }
     ensures keeping { IfOk result (λ plan. plan.conduct.keeps_state ≡ keeping) }
 {
     let Goals {

@@ -3,3 +3,5 @@ pub mod NodeLemmas
 pub mod RecipeLemmas
 pub mod PassingLemmas
 pub mod SameLemmas
+pub mod AlikeLemmas
+pub mod OneNodeLemmas

@@ -1,7 +1,6 @@
 pub mod BlankLemmas
 pub mod FormLemmas
 pub mod GrammarLemmas
-pub mod HonestLemmas
 pub mod JoinedLemmas
 pub mod LinesLemmas
 pub mod MakefileLemmas

@@ -1,18 +1,22 @@
 -- A text has one outcome.
-use Rattle.std.proofs.Common.{◌≡◌, ℕ, zero, suc, Bool, true, false, List, [], ◌∷◌, refl, sym, ap, subst, ◌∙◌, Option, Some, None, Result, Ok, Err}
+use Rattle.std.proofs.Common.{◌≡◌, ℕ, zero, suc, Bool, true, false, List, [], ◌∷◌, refl, sym, ap, subst, ◌∙◌, Option, Some, None, Result, Ok, Err, Vec}
+use Rattle.std.specs.declared.alloc.Global.{Global}
 use Rattle.byte_strings.specs.Blanks.{words}
 use Rattle.mk_reader.specs.Lines.{logical_lines}
 use Rattle.mk_reader.specs.Form.{form_of}
 use Rattle.mk_reader.specs.Grammar.{refusal, IsForm}
 use Rattle.mk_reader.specs.declared.fault.Cause.TheVariants.{TabFirst, IncludeDepth, IncludeMissing}
 use Rattle.mk_reader.specs.declared.item.RecipeLine.{RecipeLine}
+use Rattle.mk_reader.specs.declared.item.Item.{Item}
 use Rattle.mk_reader.specs.declared.item.Item.TheVariants as item
+use Rattle.mk_reader.specs.declared.fault.ReadFault.{ReadFault}
 use Rattle.mk_reader.specs.declared.fault.Refusal.{Refusal}
 use Rattle.mk_reader.specs.declared.line.LogicalLine.{LogicalLine}
 use Rattle.mk_reader.specs.declared.form.Form.{Form}
 use Rattle.mk_reader.specs.declared.form.Form.TheVariants as form
-use Rattle.mk_reader.specs.Makefile.{Outcome, with_front, Then, with_lines, recipe_from, BelowRule, EachIncluded, FormItems, RecipeBelow, LineItems, AnswerItems, IncludedItems, TextItems}
+use Rattle.mk_reader.specs.Makefile.{Outcome, GivesItems, with_front, Then, with_lines, recipe_from, BelowRule, EachIncluded, FormItems, RecipeBelow, LineItems, AnswersOf, AnswerItems, IncludedItems, TextItems}
 use Rattle.mk_reader.proofs.GrammarLemmas.{form_said, form_back}
+use Rattle.mk_reader.proofs.MakefileLemmas.{items_passed_on}
 
 -- at most one outcome is of this kind
 abbrev IsOne : (Outcome → Type 0) → Type 0
@@ -64,16 +68,20 @@ module _ (files : List ℕ → Option (List ℕ)) where
   answer_one Included i file number name None one other a b = a ∙ sym b
   answer_one Included i file number name (Some text) one other a b = line_one (Included name) (i name) name false (logical_lines 1 (Some text)) one other a b
 
-  included_one : (levels : ℕ) (file : List ℕ) (number : ℕ) (name : List ℕ) → IsOne (IncludedItems (λ name answer. answer ≡ files name) levels file number name)
+  included_one : (levels : ℕ) (file : List ℕ) (number : ℕ) (name : List ℕ) → IsOne (IncludedItems (AnswersOf files) levels file number name)
   included_one zero file number name one other a b = a ∙ sym b
   included_one (suc levels) file number name one other a b =
-      let deeper = IncludedItems (λ name answer. answer ≡ files name) levels in
+      let deeper = IncludedItems (AnswersOf files) levels in
       answer_one deeper (included_one levels) file number name (files name) one other
       (subst (λ answer. AnswerItems deeper file number name answer one) a.1 a.2)
       (subst (λ answer. AnswerItems deeper file number name answer other) b.1 b.2)
 
-  pub text_one : (levels : ℕ) (file text : List ℕ) (one other : Outcome) → TextItems (λ name answer. answer ≡ files name) levels file text one → TextItems (λ name answer. answer ≡ files name) levels file text other → one ≡ other
-  text_one levels file text one other a b = line_one (IncludedItems (λ name answer. answer ≡ files name) levels file) (included_one levels file) file false (logical_lines 1 (Some text)) one other a b
+  pub text_one : (levels : ℕ) (file text : List ℕ) (one other : Outcome) → TextItems (AnswersOf files) levels file text one → TextItems (AnswersOf files) levels file text other → one ≡ other
+  text_one levels file text one other a b = line_one (IncludedItems (AnswersOf files) levels file) (included_one levels file) file false (logical_lines 1 (Some text)) one other a b
+
+  -- so what is an outcome of the text is this one
+  pub one_given : (levels : ℕ) (file text : List ℕ) (result : Result (Vec Item Global) ReadFault) (outcome : Outcome) → GivesItems result (TextItems (AnswersOf files) levels file text) → TextItems (AnswersOf files) levels file text outcome → GivesItems result (λ given. given ≡ outcome)
+  one_given levels file text result outcome given is = items_passed_on result (TextItems (AnswersOf files) levels file text) (λ o. o ≡ outcome) given (λ o h. text_one levels file text o outcome h is)
 
 -- There is an outcome.
 
@@ -124,13 +132,13 @@ module _ (files : List ℕ → Option (List ℕ)) where
   answer_some Included i file number name None = (Err (refusal file number (IncludeMissing name)), refl)
   answer_some Included i file number name (Some text) = line_some (Included name) (i name) name false (logical_lines 1 (Some text))
 
-  included_some : (levels : ℕ) (file : List ℕ) (number : ℕ) (name : List ℕ) → Some_of (IncludedItems (λ name answer. answer ≡ files name) levels file number name)
+  included_some : (levels : ℕ) (file : List ℕ) (number : ℕ) (name : List ℕ) → Some_of (IncludedItems (AnswersOf files) levels file number name)
   included_some zero file number name = (Err (refusal file number IncludeDepth), refl)
   included_some (suc levels) file number name =
-      let deeper = IncludedItems (λ name answer. answer ≡ files name) levels in
+      let deeper = IncludedItems (AnswersOf files) levels in
       let found = answer_some deeper (included_some levels) file number name (files name) in
       (found.0, (files name, refl, found.1))
 
-  pub text_some : (levels : ℕ) (file text : List ℕ) → Some_of (TextItems (λ name answer. answer ≡ files name) levels file text)
+  pub text_some : (levels : ℕ) (file text : List ℕ) → Some_of (TextItems (AnswersOf files) levels file text)
   text_some levels file text =
-      line_some (IncludedItems (λ name answer. answer ≡ files name) levels file) (included_some levels file) file false (logical_lines 1 (Some text))
+      line_some (IncludedItems (AnswersOf files) levels file) (included_some levels file) file false (logical_lines 1 (Some text))

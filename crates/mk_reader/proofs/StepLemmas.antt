@@ -29,7 +29,7 @@ below_gives : (file : List ℕ) (number : ℕ) (above : Bool) (P Q : Bool → Ou
 below_gives file number true P Q h o r = h true o r
 below_gives file number false P Q h o e = e
 
-pub form_gives : (I J : ℕ → List ℕ → Outcome → Type 0) → ((number : ℕ) (name : List ℕ) → Gives (I number name) (J number name)) → (file : List ℕ) (number : ℕ) (above : Bool) (told : Result Form Refusal) (below : List RecipeLine) (P Q : Bool → Outcome → Type 0) → ((now : Bool) → Gives (P now) (Q now)) →
+form_gives : (I J : ℕ → List ℕ → Outcome → Type 0) → ((number : ℕ) (name : List ℕ) → Gives (I number name) (J number name)) → (file : List ℕ) (number : ℕ) (above : Bool) (told : Result Form Refusal) (below : List RecipeLine) (P Q : Bool → Outcome → Type 0) → ((now : Bool) → Gives (P now) (Q now)) →
     Gives (FormItems I file number above told below P) (FormItems J file number above told below Q)
 form_gives I J i file number above (Err fault) below P Q h o e = e
 form_gives I J i file number above (Ok form.Blank) below P Q h o r = h above o r

@@ -90,9 +90,9 @@ LineItems Included file above (line ∷ more) outcome =
     (told : Result Form Refusal) × IsForm file line told × (below : List RecipeLine) × RecipeBelow file more below
     × FormItems Included file line.number above told below (λ now. LineItems Included file now more) outcome
 
--- how files answer: where their contents can be told, with their content; else in any way
-abbrev pub AnswersAs : Type 0 → (List ℕ → Option (List ℕ)) → List ℕ → Option (List ℕ) → Type 0
-AnswersAs honest files name answer = honest → answer ≡ files name
+-- how files answer: with their content
+abbrev pub AnswersOf : (files : List ℕ → Option (List ℕ)) → List ℕ → Option (List ℕ) → Type 0
+AnswersOf files name answer = answer ≡ files name
 
 -- what a file gives that an include line names, and that has this content, or can't be read
 abbrev pub AnswerItems : (List ℕ → ℕ → List ℕ → Outcome → Type 0) → List ℕ → ℕ → List ℕ → Option (List ℕ) → Outcome → Type 0

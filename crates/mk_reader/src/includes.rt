@@ -5,16 +5,16 @@ use std::alloc::{AllocError, Global};
 
 /// Gives the files that a makefile includes.
 pub trait Includes {
-    /// Holds where the contents can be told before they are read, as with files in memory. Of the files of a disk
-    /// nothing can be told: there it stays open, and any answer is allowed.
-    ghost honest: { Type 0 };
+    /// Which contents, one of each name whose file can be read, agree with all that was answered so far.
+    ghost allows: { Self → (List ℕ → Option (List ℕ)) → Type 0 };
 
-    /// The content of the file of this name, where there is one that can be read.
-    ghost files: { Self → List ℕ → Option (List ℕ) };
-
-    /// The content of the file, or `None` where it can't be read. Names are as they stand in the makefile.
+    /// The content of the file, or `None` where it can't be read. Names are as they stand in the makefile. An answer narrows
+    /// what is still possible and never widens it.
     fn read(&mut self, alloc: Global, name: &[u8]) -> Result<Option<Vec<u8>>, AllocError>
-        ensures content { IfOk result (λ answer.
-            honest → option_map (λ text. text.items) answer ≡ files self.old name.now) }
-        ensures same { files self.new ≡ files self.old };
+        ensures content { IfOk result (λ answer. (files : List ℕ → Option (List ℕ)) → allows self.new files
+            → option_map (λ text. text.items) answer ≡ files name.now) }
+        ensures grows { (files : List ℕ → Option (List ℕ)) → allows self.new files → allows self.old files };
+
+    // Something is always possible.
+    ghost possible: { (source : Self) → (files : List ℕ → Option (List ℕ)) × allows source files };
 }

@@ -7,7 +7,7 @@ ghost use Rattle.mk_reader.specs.Form.{form_of};
 ghost use Rattle.mk_reader.specs.Text.{is_text};
 ghost use Rattle.mk_reader.specs.Grammar.{Lacks, HasSpecial, is_refused_with, IsForm};
 ghost use Rattle.mk_reader.specs.Printed.{line_of_text, IsPlainName, IsPlainValue, ArePlainTargets, ArePlainPrerequisites, definition_text, definition_on, rule_text, rule_on, PlainItem, ArePlain, printed, items_on};
-ghost use Rattle.mk_reader.specs.Makefile.{Outcome, GivesItems, AnswersAs, TextItems};
+ghost use Rattle.mk_reader.specs.Makefile.{Outcome, GivesItems, AnswersOf, TextItems};
 ghost use Rattle.mk_reader.specs.declared.fault.ReadFault.{ReadFault};
 ghost use Rattle.mk_reader.specs.declared.fault.Refusal.{Refusal};
 ghost use Rattle.mk_reader.specs.declared.form.Form.{Form};
@@ -15,8 +15,6 @@ ghost use Rattle.mk_reader.specs.declared.form.Form.TheVariants as form;
 ghost use Rattle.mk_reader.specs.declared.special.SpecialName.{SpecialName};
 ghost use Rattle.mk_reader.specs.declared.item.Item.{Item};
 ghost use Rattle.mk_reader.specs.declared.line.LogicalLine.{LogicalLine};
-
-use crate::includes::Includes;
 
 /// Each byte of a text belongs to one physical line, and each physical line to one logical line. No other lines, and no
 /// other groups of them, are the text's.
@@ -28,28 +26,26 @@ pub fn text_is_its_lines()
         → (groups (lines_left (Some text)) ≡ parts) ↔ AreGroups text parts }
 {}
 
-/// Where the included files' contents can be told, a text has at most one outcome.
+/// With the files' contents a text has at most one outcome.
 pub fn one_outcome()
     ensures { (files : List ℕ → Option (List ℕ)) (levels : ℕ) (file text : List ℕ) (one other : Outcome)
-        → TextItems (λ name answer. answer ≡ files name) levels file text one
-        → TextItems (λ name answer. answer ≡ files name) levels file text other
+        → TextItems (AnswersOf files) levels file text one
+        → TextItems (AnswersOf files) levels file text other
         → one ≡ other }
 {}
 
-/// Where the included files' contents can be told, a text has an outcome.
+/// With the files' contents a text has an outcome.
 pub fn an_outcome()
     ensures { (files : List ℕ → Option (List ℕ)) (levels : ℕ) (file text : List ℕ)
-        → (outcome : Outcome) × TextItems (λ name answer. answer ≡ files name) levels file text outcome }
+        → (outcome : Outcome) × TextItems (AnswersOf files) levels file text outcome }
 {}
 
-/// Of a source whose files' contents can be told, `read_makefile` answers the outcome that the laws speak of, unless
-/// memory ran out.
-pub fn an_honest_source_gives_the_outcome<I: Includes>()
-    ensures { I.honest
-        → (files : List ℕ → Option (List ℕ)) (levels : ℕ) (file text : List ℕ)
+/// What `read_makefile` says that it answers is that one outcome, unless memory ran out.
+pub fn the_outcome_is_given()
+    ensures { (files : List ℕ → Option (List ℕ)) (levels : ℕ) (file text : List ℕ)
         (result : Result (Vec Item Global) ReadFault) (outcome : Outcome)
-        → GivesItems result (TextItems (AnswersAs I.honest files) levels file text)
-        → TextItems (λ name answer. answer ≡ files name) levels file text outcome
+        → GivesItems result (TextItems (AnswersOf files) levels file text)
+        → TextItems (AnswersOf files) levels file text outcome
         → GivesItems result (λ given. given ≡ outcome) }
 {}
 
@@ -75,7 +71,7 @@ pub fn printed_lines_are_read_back()
 /// A makefile that is printed from plain items is read back as these.
 pub fn printed_items_are_read_back()
     ensures { (files : List ℕ → Option (List ℕ)) (levels : ℕ) (file : List ℕ) (items : List PlainItem) → ArePlain items
-        → TextItems (λ name answer. answer ≡ files name) levels file (printed items) (Ok (items_on file 1 items)) }
+        → TextItems (AnswersOf files) levels file (printed items) (Ok (items_on file 1 items)) }
 {}
 
 /// A `#` and what follows it in its line change nothing. The byte 35 is `#`.

@@ -1,8 +1,8 @@
 //! Reads a whole makefile, with the files that it includes, line by line.
-ghost use Rattle.std.specs.Prelude.{◌≡◌};
+ghost use Rattle.std.specs.Prelude.{ℕ, List, Option};
 ghost use Rattle.byte_strings.specs.Blanks.{words};
 ghost use Rattle.mk_reader.specs.Makefile as makefile;
-ghost use Rattle.mk_reader.specs.Makefile.{depth, AnswersAs, GivesItems, EachIncluded};
+ghost use Rattle.mk_reader.specs.Makefile.{depth, AnswersOf, GivesItems, EachIncluded};
 ghost use Rattle.mk_reader.specs.Steps.{TextItems, IncludedItems};
 
 use crate::fault::{Cause, ReadFault};
@@ -27,9 +27,9 @@ fn read_text<I: Includes>(
     text: &[u8],
     includes: &mut I,
 ) -> Result<Vec<Item>, ReadFault>
-    ensures items { GivesItems result
-        (TextItems (AnswersAs I.honest (I.files includes.old)) levels file.now text.now) }
-    ensures same { I.files includes.new ≡ I.files includes.old }
+    ensures items { (files : List ℕ → Option (List ℕ)) → I.allows includes.new files
+        → GivesItems result (TextItems (AnswersOf files) levels file.now text.now) }
+    ensures grows { (files : List ℕ → Option (List ℕ)) → I.allows includes.new files → I.allows includes.old files }
 {
     let mut gathered = Gathered::new(alloc);
     let mut left = Some(text);
@@ -58,10 +58,9 @@ fn read_each<I: Includes>(
     names: &[u8],
     includes: &mut I,
 ) -> Result<Vec<Item>, ReadFault>
-    ensures items { GivesItems result (EachIncluded
-        (IncludedItems (AnswersAs I.honest (I.files includes.old)) levels file.now number)
-        (words names.now)) }
-    ensures same { I.files includes.new ≡ I.files includes.old }
+    ensures items { (files : List ℕ → Option (List ℕ)) → I.allows includes.new files
+        → GivesItems result (EachIncluded (IncludedItems (AnswersOf files) levels file.now number) (words names.now)) }
+    ensures grows { (files : List ℕ → Option (List ℕ)) → I.allows includes.new files → I.allows includes.old files }
 {
     let mut items = Vec::new(alloc);
     let mut rest = names;
@@ -83,9 +82,9 @@ fn read_included<I: Includes>(
     name: &[u8],
     includes: &mut I,
 ) -> Result<Vec<Item>, ReadFault>
-    ensures items { GivesItems result
-        (IncludedItems (AnswersAs I.honest (I.files includes.old)) levels file.now number name.now) }
-    ensures same { I.files includes.new ≡ I.files includes.old }
+    ensures items { (files : List ℕ → Option (List ℕ)) → I.allows includes.new files
+        → GivesItems result (IncludedItems (AnswersOf files) levels file.now number name.now) }
+    ensures grows { (files : List ℕ → Option (List ℕ)) → I.allows includes.new files → I.allows includes.old files }
 {
     let place = LinePlace {
         alloc,
@@ -107,16 +106,16 @@ fn read_included<I: Includes>(
 /// The items of a makefile's text, in order; included files are read in their place.
 ///
 /// `file` is the name that items and faults give for the text itself. Of several faults the first in the order of
-/// reading is answered, and an `Err` gives no items.
+/// reading is answered, and an `Err` gives no items. So it is for any contents that agree with what was answered.
 pub fn read_makefile<I: Includes>(
     alloc: Global,
     file: &[u8],
     bytes: &[u8],
     includes: &mut I,
 ) -> Result<Vec<Item>, ReadFault>
-    ensures items { GivesItems result
-        (makefile.TextItems (AnswersAs I.honest (I.files includes.old)) depth file.now bytes.now) }
-    ensures same { I.files includes.new ≡ I.files includes.old }
+    ensures items { (files : List ℕ → Option (List ℕ)) → I.allows includes.new files
+        → GivesItems result (makefile.TextItems (AnswersOf files) depth file.now bytes.now) }
+    ensures grows { (files : List ℕ → Option (List ℕ)) → I.allows includes.new files → I.allows includes.old files }
 {
     read_text(alloc, MAX_INCLUDE_DEPTH, file, bytes, includes)
 }

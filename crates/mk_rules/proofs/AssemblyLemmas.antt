@@ -1,8 +1,8 @@
 -- A graph of its parts.
-use Rattle.std.proofs.Common.{◌≡◌, ℕ, List, length, map, sym, ap, subst, ◌∙◌}
+use Rattle.std.proofs.Common.{◌≡◌, ℕ, true, List, length, map, sym, ap, subst, ◌∙◌}
 use Rattle.mk_graph.specs.Counted.{AreCounted}
 use Rattle.mk_graph.specs.Cycle.{HasCycle}
-use Rattle.mk_graph.specs.Edges.{row}
+use Rattle.mk_graph.specs.Edges.{row, is_closed}
 use Rattle.mk_graph.specs.Numbering.{IsNumbering, name_at}
 use Rattle.mk_graph.specs.Plan.{IsPlan}
 use Rattle.mk_graph.specs.declared.numbering.Numbered.{Numbered}
@@ -26,7 +26,7 @@ module _ (inputs : Inputs) (named : List (List ℕ)) (lines : List RuleLine) (li
     (found : AreFound inputs (goals_of inputs.lines named) n) (node_count : length n.nodes.items ≡ length n.names) where
   module _ (o : Ordered) (hard_count : length o.hard ≡ length n.names) (rows : EachRow (IsHardRow n.rows n.nodes.items) o.hard) (taken : AreTaken lines)
       (made : AreMade inputs n.names) (soft : AreSoft inputs n.names o.soft) (counted : AreCounted o.hard o.soft o.counted o.soft_dropped)
-      (acyclic : HasCycle o.hard → ⊥) (order : IsPlan o.counted o.order.items) (graph : Graph) (p : IsPutTogether lines n o graph) where
+      (acyclic : HasCycle o.hard → ⊥) (order : IsPlan o.counted o.order.items) (closed : is_closed n.rows ≡ true) (graph : Graph) (p : IsPutTogether lines n o graph) where
     hard_is : AreHard inputs n.names o.hard
     hard_is = are_hard inputs n.names n.rows n.nodes.items found.rows_are found.known node_count o.hard (hard_count ∙ sym node_count) rows
 
@@ -48,7 +48,7 @@ module _ (inputs : Inputs) (named : List (List ℕ)) (lines : List RuleLine) (li
       node = λ k node at.
           subst (λ ns. IsNode inputs ns (row graph.hard k) (name_at ns k) node) (sym p.names)
           (subst (λ h. IsNode inputs n.names (row h k) (name_at n.names k) node) (sym p.hard)
-          (nodes_are inputs n.names n.rows n.nodes.items found.rows_are found.known node_count o.hard (hard_count ∙ sym node_count) rows graph.nodes.items p.nodes k node at));
+          (nodes_are inputs n.names n.rows n.nodes.items found.rows_are found.known node_count closed o.hard (hard_count ∙ sym node_count) rows graph.nodes.items p.nodes k node at));
       hard = subst (λ ns. AreHard inputs ns graph.hard) (sym p.names) (subst (AreHard inputs n.names) (sym p.hard) hard_is);
       soft = subst (λ ns. AreSoft inputs ns graph.soft) (sym p.names) (subst (AreSoft inputs n.names) (sym p.soft) soft);
       counted = counted_is;

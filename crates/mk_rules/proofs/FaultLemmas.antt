@@ -1,19 +1,18 @@
 -- Each part's fault as one of the whole: of a makefile, a tree and a state.
-use Rattle.std.proofs.Common.{◌≡◌, ℕ, ℤ, Bool, List, inl, inr, Option, refl, sym, subst}
+use Rattle.std.proofs.Common.{◌≡◌, ℕ, ℤ, Bool, List, inl, inr, Option, sym, subst}
 use Rattle.mk_graph.specs.Numbering.{IsNumbering}
 use Rattle.mk_reader.specs.declared.item.Item.{Item}
 use Rattle.st_records.specs.declared.record.Entry.{Entry}
 use Rattle.mk_rules.specs.Faults.{IsGraphFault, IsRuleFault, AreInputs, AreNames}
 use Rattle.mk_rules.specs.Found.{IsFindingFault, IsUnmadeFault}
 use Rattle.mk_rule_lines.specs.Goals.{goals_of, IsGoalFault}
-use Rattle.mk_rule_lines.specs.Lines.{Defined, AreRuleLines, IsLinesFault}
-use Rattle.mk_rules.specs.Prerequisites.{Inputs, inputs_of, prerequisites_of}
+use Rattle.mk_rule_lines.specs.Lines.{Defined, IsLinesFault}
+use Rattle.mk_rules.specs.Prerequisites.{Inputs, prerequisites_of}
 use Rattle.mk_rule_lines.specs.Rules.{targets_by, suffixes_of}
 use Rattle.mk_rule_lines.specs.Supported.{IsRefusal}
 use Rattle.mk_rule_lines.specs.Table.{IsTableFault}
 use Rattle.mk_rule_lines.specs.declared.fault.RuleFault.{RuleFault}
 use Rattle.mk_rule_lines.specs.declared.fault.RuleFault.TheVariants as fault
-use Rattle.mk_rule_lines.specs.declared.rule_line.RuleLine.{RuleLine}
 
 -- ---- faults of the inputs
 
@@ -65,15 +64,11 @@ module _ (inputs : Inputs) (refuses : List ℕ → Type 0) (named : List (List �
 
 -- ---- faults of the whole
 
-module _ (ranks : Defined) (items : List Item) (honest : Type 0) (told : (name : List ℕ) → Option ℤ) (entries : (name : List ℕ) → Option Entry)
+module _ (ranks : Defined) (items : List Item) (times : (name : List ℕ) → Option ℤ) (entries : (name : List ℕ) → Option Entry)
     (refuses : List ℕ → Type 0) (named : List (List ℕ)) (limit : ℕ) where
-  pub line_fault : (f : RuleFault) → IsLinesFault ranks items f → IsRuleFault ranks items honest told entries refuses named limit f
+  pub line_fault : (f : RuleFault) → IsLinesFault ranks items f → IsRuleFault ranks items times entries refuses named limit f
   line_fault f meets = inl meets
 
-  pub graph_fault : (inputs : Inputs) → AreInputs ranks items honest told entries inputs → (f : RuleFault) → IsGraphFault inputs refuses named limit f →
-      IsRuleFault ranks items honest told entries refuses named limit f
+  pub graph_fault : (inputs : Inputs) → AreInputs ranks items times entries inputs → (f : RuleFault) → IsGraphFault inputs refuses named limit f →
+      IsRuleFault ranks items times entries refuses named limit f
   graph_fault inputs are f meets = inr (inputs, are, meets)
-
-  -- before the tree is asked, any times will do that it could tell
-  pub before_looks : (lines : List RuleLine) → AreRuleLines ranks items lines → AreInputs ranks items honest told entries (inputs_of lines entries told)
-  before_looks lines are = record { lines = are; times = λ _ name. refl; entries_are = refl }

@@ -1,6 +1,6 @@
 -- What is found of all names, in terms of the inputs.
-use Rattle.std.proofs.Common.{◌≡◌, ℕ, ℤ, ◌<◌, Bool, true, false, not, List, [], length, inl, inr, Option, Some, None, refl, sym, ap, subst, ◌∙◌}
-use Rattle.std.specs.Prelude.{◌⊎◌, IfSome, unwrap_or, take, slice_get}
+use Rattle.std.proofs.Common.{◌≡◌, ℕ, ℤ, ◌<◌, Bool, true, false, not, List, [], length, inl, inr, Option, Some, None, sym, ap, subst, ◌∙◌}
+use Rattle.std.specs.Prelude.{◌⊎◌, IfSome, take, slice_get}
 use Rattle.mk_graph.specs.Numbering.{IsNumbering, AreDescribed, has_name}
 use Rattle.mk_graph.specs.NumberingFault.{IsNumberingFault}
 use Rattle.mk_graph.specs.declared.numbering.NumberingFault.{NumberingFault}
@@ -8,9 +8,9 @@ use Rattle.mk_graph.specs.declared.numbering.NumberingFault.TheVariants.{TooMany
 use Rattle.mk_reader.specs.Text.{is_empty}
 use Rattle.st_records.specs.declared.record.Entry.{Entry}
 use Rattle.mk_rule_lines.specs.Explicit.{explicit_targets}
-use Rattle.mk_rules.specs.Faults.{AreTold, IsReachedFrom}
+use Rattle.mk_rules.specs.Faults.{IsReachedFrom}
 use Rattle.mk_rule_lines.specs.Forms.{forms_of}
-use Rattle.mk_rules.specs.Found.{times_with, IsFindingFault}
+use Rattle.mk_rules.specs.Found.{IsFindingFault}
 use Rattle.mk_rules.specs.Known.{IsAsked, IsLookUpFault}
 use Rattle.mk_rules.specs.Prerequisites.{IsTextAmong, inputs_of, own_recipes, is_target, hidden_in, hidden_of, prerequisites_of}
 use Rattle.mk_rule_lines.specs.Rules.{has, places, targets_by, suffixes_of}
@@ -27,28 +27,16 @@ use Rattle.mk_rule_lines.specs.declared.table.TargetTable.{TargetTable}
 use Rattle.mk_rules.proofs.LookupLemmas.{same_there}
 use Rattle.mk_rules.proofs.RuleLemmas.{any_place}
 
-known_at : (known : Option (Option ℤ)) (t : Option ℤ) → IfSome known (λ s. unwrap_or known t ≡ s)
-known_at None t = tt
-known_at (Some s) t = refl
-
-told_at : (known : Option (Option ℤ)) (t : Option ℤ) → IfSome known (λ s. t ≡ s) → unwrap_or known t ≡ t
-told_at None t is = refl
-told_at (Some s) t is = sym is
-
--- the times that are known, with others, agree with what is known
-pub with_agrees : (stamps : Stamps) (told : List ℕ → Option ℤ) → AgreesWith stamps (times_with stamps told)
-with_agrees stamps told name = known_at (known_stamp stamps name) (told name)
-
 nothing_known : (known : Option (Option ℤ)) (t : Option ℤ) → known ≡ None → IfSome known (λ s. t ≡ s)
 nothing_known None t none = tt
 nothing_known (Some s) t none = cc
 
--- where nothing was known before, they are the times that the tree tells, where it does
-pub with_told : (honest : Type 0) (a b : Stamps) (told told_b : List ℕ → Option ℤ) (refuses refuses_b : List ℕ → Type 0) →
-    Looks honest a b told told_b refuses refuses_b → ((name : List ℕ) → known_stamp a name ≡ None) → AreTold honest told (times_with b told)
-with_told honest a b told told_b refuses refuses_b looks none = λ is name.
-    told_at (known_stamp b name) (told name)
-    (subst (AgreesWith b) looks.same (looks.answers is (λ n. nothing_known (known_stamp a n) (told n) (none n))) name)
+-- where nothing was known before, what is known is what the tree answered
+pub all_answered : (a b : Stamps) (possible possible_b : (List ℕ → Option ℤ) → Type 0) (refuses refuses_b : List ℕ → Type 0) →
+    Looks a b possible possible_b refuses refuses_b → ((name : List ℕ) → known_stamp a name ≡ None) →
+    (times : List ℕ → Option ℤ) → possible_b times → AgreesWith b times
+all_answered a b possible possible_b refuses refuses_b looks none times now =
+    looks.answers times now (λ name. nothing_known (known_stamp a name) (times name) (none name))
 
 module _ (lines : List RuleLine) (targets : TargetTable)
     (named : (name : List ℕ) → (table.named_at targets name).lines ≡ places (λ l. has name (targets_by false (suffixes_of lines) l)) 0 lines) where

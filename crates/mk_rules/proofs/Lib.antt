@@ -7,9 +7,12 @@ pub mod FinderLemmas
 pub mod FoundLemmas
 pub mod FreshLemmas
 pub mod HiddenLemmas
+pub mod InputLemmas
 pub mod LookupLemmas
 pub mod MadeLemmas
 pub mod NodeLemmas
+pub mod OneGraphLemmas
+pub mod OneNumberingLemmas
 pub mod OrderLemmas
 pub mod PartsLaws
 pub mod RowLaws

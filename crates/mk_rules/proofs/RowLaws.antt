@@ -13,7 +13,7 @@ use Rattle.mk_graph.proofs.NameLemmas.{distinct_all_added, distinct_none}
 use Rattle.mk_graph.specs.Cycle.{IsChain, IsCycle}
 use Rattle.std.proofs.lemmas.List.Folds.{list_all-append}
 use Rattle.mk_graph.specs.Numbering.{name_at, AreDescribed, IsNumbering}
-use Rattle.mk_rules.specs.Graph.{judged, judged_name, AreHard, IsNode}
+use Rattle.mk_rules.specs.Graph.{judged, judged_name, is_numbered, AreHard, IsNode}
 use Rattle.mk_rules.specs.Known.{IsKnown, nodes_among}
 use Rattle.mk_rules.specs.Prerequisites.{Inputs, prerequisites_of, judged_of, hard_of, hidden_of, hidden_nodes, is_node}
 use Rattle.mk_rules.specs.Rows.{EachRow, IsHardRow, IsHiddenRow, spread}
@@ -227,6 +227,24 @@ module _ (inputs : Inputs) (names : List (List ℕ)) (g : List (List ℕ)) (know
       ≡ map (judged_name inputs (hard_of inputs (name_at names n))) (judged_of inputs (name_at names n))
   node_judged n k within at = judged_names inputs names (name_at names n) k (described n k at) (row g n) (row_at n within)
 
+-- ---- the numbers of hidden prerequisites
+
+abbrev are_all_below : (count : ℕ) → List ℕ → Bool
+are_all_below count ns = list_all (λ n. nat_lt n count) ns
+
+drop_below : (count k : ℕ) (ns : List ℕ) → are_all_below count ns ≡ true → are_all_below count (drop k ns) ≡ true
+drop_below count zero ns all = all
+drop_below count (suc k) [] all = all
+drop_below count (suc k) (n ∷ ns) all = drop_below count k ns ((and_parts (nat_lt n count) (are_all_below count ns) all).1)
+
+spread_numbered : (count : ℕ) (bs : List Bool) (ns : List ℕ) → are_all_below count ns ≡ true → list_all (is_numbered count) (spread bs ns) ≡ true
+spread_numbered count [] ns all = refl
+spread_numbered count (false ∷ bs) ns all = spread_numbered count bs ns all
+spread_numbered count (true ∷ bs) [] all = spread_numbered count bs [] refl
+spread_numbered count (true ∷ bs) (n ∷ ns) all =
+    let parts = and_parts (nat_lt n count) (are_all_below count ns) all in
+    and_from (nat_lt n count) (list_all (is_numbered count) (spread bs ns)) parts.0 (spread_numbered count bs ns parts.1)
+
 -- ---- what a graph is put together from
 
 pub distinct_names : (of : List ℕ → List (List ℕ)) (goals names : List (List ℕ)) → IsNumbering of goals names → IsDistinct bytes_eq names
@@ -247,7 +265,12 @@ cycle_below g closed cycle is =
     ap (list_all (λ m. nat_lt m (length g))) is.whole ∙ and_from (nat_lt is.first (length g)) (list_all (λ m. nat_lt m (length g)) (is.between ++ is.first ∷ [])) first.0 behind
 
 module _ (inputs : Inputs) (names : List (List ℕ)) (g : List (List ℕ)) (known : List Known) (rows_are : map (map (name_at names)) g ≡ map (prerequisites_of inputs) names)
-    (described : AreDescribed (IsKnown inputs) names known) (count : length known ≡ length names) where
+    (described : AreDescribed (IsKnown inputs) names known) (count : length known ≡ length names) (closed : is_closed g ≡ true) where
+  row_below : (n : ℕ) → n < length names → are_all_below (length names) (row g n) ≡ true
+  row_below n within =
+      let same : length g ≡ length names = rows_count inputs names g known rows_are described count in
+      ap (λ l. are_all_below l (row g n)) (sym same) ∙ closed_row g closed n (subst (λ l. n < l) (sym same) within)
+
   -- the nodes that are made of what is known of all names
   pub nodes_are : (hard : List (List ℕ)) → length hard ≡ length known → EachRow (IsHardRow g known) hard → (nodes : List Node) → AreMadeOf known g nodes →
       (n : ℕ) (node : Node) → slice_get nodes n ≡ Some node → IsNode inputs names (row hard n) (name_at names n) node
@@ -270,4 +293,8 @@ module _ (inputs : Inputs) (names : List (List ℕ)) (g : List (List ℕ)) (know
             ∙ ap (λ h. map (option_map (name_at names)) (judged (take k.hard (row g n)) h)) is.hidden
             ∙ node_judged inputs names g known rows_are described count n k (subst (λ l. n < l) count within) from.1;
         entry = is.entry ∙ known_is.entry;
+        numbered =
+            ap (list_all (is_numbered (length names))) is.hidden
+            ∙ spread_numbered (length names) k.hidden.items (drop k.hard (row g n))
+            (drop_below (length names) k.hard (row g n) (row_below n (subst (λ l. n < l) count within)));
       }

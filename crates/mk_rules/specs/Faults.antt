@@ -72,19 +72,16 @@ IsGraphFault inputs refuses named limit (fault.Macro f) = ⊥
 IsGraphFault inputs refuses named limit (fault.Unsupported what line) = HasRefusedLine inputs.lines what line
 IsGraphFault inputs refuses named limit (fault.Tree name) = IsLookedAt inputs named name × refuses name
 
--- the times are those that a tree tells beforehand, where it does
-abbrev pub AreTold : (honest : Type 0) (told times : (name : List ℕ) → Option ℤ) → Type 0
-AreTold honest told times = honest → (name : List ℕ) → times name ≡ told name
-
--- the inputs that a makefile, a tree and a state give
-pub record AreInputs (ranks : Defined) (items : List Item) (honest : Type 0) (told : (name : List ℕ) → Option ℤ)
+-- the inputs that a makefile, the times of files and a state give
+pub record AreInputs (ranks : Defined) (items : List Item) (times : (name : List ℕ) → Option ℤ)
     (entries : (name : List ℕ) → Option Entry) (inputs : Inputs) : Type 0 where
   pub lines : AreRuleLines ranks items inputs.lines
-  pub times : AreTold honest told inputs.times
+  pub times_are : inputs.times ≡ times
   pub entries_are : inputs.entries ≡ entries
 
--- the fault of a makefile, a tree and a state: a macro's, met while the lines are expanded, or that of what they give
-abbrev pub IsRuleFault : (ranks : Defined) (items : List Item) (honest : Type 0) (told : (name : List ℕ) → Option ℤ)
+-- the fault of a makefile, the times of files and a state: a macro's, met while the lines are expanded, or that of what they
+-- give
+abbrev pub IsRuleFault : (ranks : Defined) (items : List Item) (times : (name : List ℕ) → Option ℤ)
     (entries : (name : List ℕ) → Option Entry) (refuses : List ℕ → Type 0) (named : List (List ℕ)) (limit : ℕ) → RuleFault → Type 0
-IsRuleFault ranks items honest told entries refuses named limit f =
-    IsLinesFault ranks items f ⊎ ((inputs : Inputs) × AreInputs ranks items honest told entries inputs × IsGraphFault inputs refuses named limit f)
+IsRuleFault ranks items times entries refuses named limit f =
+    IsLinesFault ranks items f ⊎ ((inputs : Inputs) × AreInputs ranks items times entries inputs × IsGraphFault inputs refuses named limit f)

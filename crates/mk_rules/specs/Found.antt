@@ -1,19 +1,13 @@
 -- What is found of all names that goals lead to.
-use Rattle.std.specs.Prelude.{◌≡◌, ℕ, ℤ, ◌<◌, ◌⊎◌, true, false, List, length, map, Option, unwrap_or}
+use Rattle.std.specs.Prelude.{◌≡◌, ℕ, ◌<◌, ◌⊎◌, true, false, List, length, map}
 use Rattle.mk_graph.specs.Numbering.{IsNumbering, AreDescribed, name_at, has_name}
 use Rattle.mk_graph.specs.declared.numbering.Numbered.{Numbered}
 use Rattle.mk_rules.specs.Faults.{IsReachedFrom, HasUnmade, HasNamedCycle}
 use Rattle.mk_rules.specs.Known.{IsKnown}
 use Rattle.mk_rules.specs.Prerequisites.{Inputs, IsTextAmong, prerequisites_of, hidden_of, is_made}
-use Rattle.mk_rules.specs.Stamps.{known_stamp}
 use Rattle.mk_rule_lines.specs.declared.fault.RuleFault.{RuleFault}
 use Rattle.mk_rule_lines.specs.declared.fault.RuleFault.TheVariants as fault
 use Rattle.mk_rules.specs.declared.known.Known.{Known}
-use Rattle.mk_rules.specs.declared.stamps.Stamps.{Stamps}
-
--- the times that are known, and for the other names those that a tree tells
-abbrev pub times_with : Stamps → (told : (name : List ℕ) → Option ℤ) → (name : List ℕ) → Option ℤ
-times_with stamps told name = unwrap_or (known_stamp stamps name) (told name)
 
 -- the names that the goals lead to by these inputs, with their prerequisites by number, and what the inputs say of each
 pub record AreFound (inputs : Inputs) (goals : List (List ℕ)) (n : Numbered Known) : Type 0 where

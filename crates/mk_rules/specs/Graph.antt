@@ -1,5 +1,5 @@
 -- The graph of the names that goals lead to.
-use Rattle.std.specs.Prelude.{◌≡◌, ℕ, ◌<◌, ◌||◌, Bool, true, List, ◌++◌, length, map, Option, Some, None, option_map, slice_get, if◌then◌else◌}
+use Rattle.std.specs.Prelude.{◌≡◌, ℕ, ◌<◌, nat_lt, ◌||◌, Bool, true, List, ◌++◌, length, map, Option, Some, None, option_map, slice_get, if◌then◌else◌}
 use Rattle.mk_graph.specs.Edges.{row, has as has_number}
 use Rattle.mk_graph.specs.Cycle.{HasCycle}
 use Rattle.mk_graph.specs.Counted.{AreCounted}
@@ -11,7 +11,8 @@ use Rattle.mk_rules.specs.Node.{source_by, explicit_by}
 use Rattle.mk_rules.specs.Prerequisites.{Inputs, implicit_source, explicit_names, recipe_of, hard_of, is_node, prerequisites_of, judged_of, hidden_nodes, is_made}
 use Rattle.mk_rules.specs.Waits.{line_orders}
 use Rattle.mk_graph.specs.Plan.{IsPlan}
-use Rattle.std.specs.List.{list_any}
+use Rattle.std.specs.List.{list_all, list_any}
+use Rattle.std.specs.Option.{option_map_or}
 use Rattle.mk_rules.specs.declared.graph.Node.{Node}
 use Rattle.mk_rules.specs.declared.graph.Graph.{Graph}
 
@@ -24,6 +25,10 @@ judged hard hidden = map Some hard ++ hidden
 abbrev pub judged_name : Inputs → (hard : List (List ℕ)) → (name : List ℕ) → Option (List ℕ)
 judged_name inputs hard name = if has name hard || is_node inputs name then Some name else None
 
+-- a hidden prerequisite as a node has it: it is gone, or the number of one of so many names
+abbrev pub is_numbered : (count : ℕ) → (hidden : Option ℕ) → Bool
+is_numbered count hidden = option_map_or (λ n. nat_lt n count) hidden true
+
 -- what is known of a name: the row is that of its hard prerequisites
 pub record IsNode (inputs : Inputs) (names : List (List ℕ)) (hard : List ℕ) (name : List ℕ) (node : Node) : Type 0 where
   pub stamp : node.stamp ≡ inputs.times name
@@ -35,6 +40,7 @@ pub record IsNode (inputs : Inputs) (names : List (List ℕ)) (hard : List ℕ) 
       map (option_map (name_at names)) (judged hard node.hidden.items)
       ≡ map (judged_name inputs (hard_of inputs name)) (judged_of inputs name)
   pub entry : node.entry ≡ inputs.entries name
+  pub numbered : list_all (is_numbered (length names)) node.hidden.items ≡ true
 
 -- p comes before q where it may: it is a hidden prerequisite of q and no hard one, or some line's `.WAIT` says so
 abbrev pub is_soft : Inputs → (names : List (List ℕ)) → (q p : List ℕ) → Bool

@@ -1,5 +1,5 @@
 -- The times of files that are known so far.
-use Rattle.std.specs.Prelude.{◌≡◌, ℕ, ℤ, Bool, true, false, List, Option, IfSome, is_some, bytes_eq}
+use Rattle.std.specs.Prelude.{◌≡◌, ℕ, ℤ, Bool, true, false, List, Option, Some, IfSome, is_some, bytes_eq, if◌then◌else◌}
 use Rattle.indexmap.specs.IndexMap.{get_by}
 use Rattle.mk_rules.specs.Tree.{AskedOnce}
 use Rattle.mk_rules.specs.declared.stamps.Stamps.{Stamps}
@@ -12,6 +12,14 @@ known_stamp stamps name = get_by (λ k. bytes_eq name k.items) stamps.known
 
 abbrev pub is_known : Stamps → (name : List ℕ) → Bool
 is_known stamps name = is_some (known_stamp stamps name)
+
+-- behind a call the name is known by this, and each other one as before
+abbrev pub Adds : (name : List ℕ) (stamp : Option ℤ) (before after : Stamps) → Type 0
+Adds name stamp before after =
+    (n : List ℕ) → known_stamp after n ≡ (if bytes_eq n name then Some stamp else known_stamp before n)
+
+abbrev pub KnowsTheSame : (before after : Stamps) → Type 0
+KnowsTheSame before after = after.known.entries ≡ before.known.entries
 
 -- a call asks for no name that is known, and for none twice: where the known names were asked for once, so they are behind
 -- it; behind a call without an answer some names are
@@ -29,10 +37,10 @@ IsLookFault refuses name fault.OutOfMemory = Unit {0}
 IsLookFault refuses name (fault.Tree n) = (n ≡ name) × refuses n
 IsLookFault refuses name _ = ⊥
 
--- what looking at names leaves true: what is known grows, and where a tree can be told beforehand it is what the tree
--- tells; what it tells stays, and so does what it refuses
-pub record Looks (honest : Type 0) (before after : Stamps) (told told_after : List ℕ → Option ℤ) (refuses refuses_after : List ℕ → Type 0) : Type 0 where
+-- what looking at names leaves true: what is known grows, and by what the tree answers alone; what is still possible of
+-- the tree narrows, and what it refuses stays refused
+pub record Looks (before after : Stamps) (possible possible_after : (List ℕ → Option ℤ) → Type 0) (refuses refuses_after : List ℕ → Type 0) : Type 0 where
   pub grows : (times : List ℕ → Option ℤ) → AgreesWith after times → AgreesWith before times
-  pub answers : honest → AgreesWith before told → AgreesWith after told_after
-  pub same : told_after ≡ told
+  pub answers : (times : List ℕ → Option ℤ) → possible_after times → AgreesWith before times → AgreesWith after times
+  pub narrows : (times : List ℕ → Option ℤ) → possible_after times → possible times
   pub kept : (n : List ℕ) → refuses n → refuses_after n

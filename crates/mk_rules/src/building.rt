@@ -19,7 +19,7 @@ ghost use Rattle.mk_rule_lines.specs.Lines.{behind_items};
 ghost use Rattle.mk_rules.specs.Prerequisites.{Inputs, inputs_of, is_target, prerequisites_of};
 ghost use Rattle.mk_rule_lines.specs.Goals.{goals_of};
 ghost use Rattle.mk_rules.specs.Graph.{IsGraph, AreMade};
-ghost use Rattle.mk_rules.specs.Faults.{AreInputs, AreTold, IsGraphFault, IsRuleFault};
+ghost use Rattle.mk_rules.specs.Faults.{AreInputs, IsGraphFault, IsRuleFault};
 
 use crate::finder::Finder;
 use crate::graph::{Graph, MAX_NODES, Node};
@@ -55,7 +55,7 @@ fn found_names<T: Tree>(
         → IsFindingFault (inputs_of finder.old.rules.lines.now (finmap.get finder.old.rules.state.now) times) (T.refuses finder.new.tree.now)
         goals.now MAX_NODES fault) }
     ensures same { finder.new.tree.ghost_name ≡ finder.old.tree.ghost_name }
-    ensures looks { Looks T.honest finder.old.stamps.now finder.new.stamps.now (T.stamps finder.old.tree.now) (T.stamps finder.new.tree.now)
+    ensures looks { Looks finder.old.stamps.now finder.new.stamps.now (T.allows finder.old.tree.now) (T.allows finder.new.tree.now)
         (T.refuses finder.old.tree.now) (T.refuses finder.new.tree.now) }
     ensures asks { Asks (is_ok result) finder.old.stamps.now finder.new.stamps.now (T.asked finder.old.tree.now) (T.asked finder.new.tree.now) }
 {
@@ -74,17 +74,17 @@ fn numbered_names<T: Tree>(
     tree: &mut T,
     goals: &ByteStrings,
 ) -> Result<Numbered<Known>, RuleFault>
-    ensures found { IfOk result (λ n. (times : List ℕ → Option ℤ) × AreTold T.honest (T.stamps tree.old) times
-        × AreFound (inputs_of rules.entry.lines.now (finmap.get rules.entry.state.now) times) goals.now n) }
+    ensures found { IfOk result (λ n. (times : List ℕ → Option ℤ) → T.allows tree.new times
+        → AreFound (inputs_of rules.entry.lines.now (finmap.get rules.entry.state.now) times) goals.now n) }
     ensures row_count { IfOk result (λ n. length n.rows ≡ length n.names) }
     ensures node_count { IfOk result (λ n. length n.nodes.items ≡ length n.names) }
     ensures closed { IfOk result (λ n. IsTrue (is_closed n.rows)) }
     ensures few { IfOk result (λ n. length n.names ≤ MAX_NODES) }
     ensures goals { IfOk result (λ n. map (name_at n.names) n.goals.items ≡ goals.now) }
-    ensures fault { IfErr result (λ fault. (times : List ℕ → Option ℤ) × AreTold T.honest (T.stamps tree.old) times
-        × IsFindingFault (inputs_of rules.entry.lines.now (finmap.get rules.entry.state.now) times) (T.refuses tree.new) goals.now MAX_NODES fault) }
+    ensures fault { IfErr result (λ fault. (times : List ℕ → Option ℤ) → T.allows tree.new times
+        → IsFindingFault (inputs_of rules.entry.lines.now (finmap.get rules.entry.state.now) times) (T.refuses tree.new) goals.now MAX_NODES fault) }
     ensures names { IfOk result (λ n. IsDistinct bytes_eq n.names) }
-    ensures same { T.stamps tree.new ≡ T.stamps tree.old }
+    ensures narrows { (times : List ℕ → Option ℤ) → T.allows tree.new times → T.allows tree.old times }
     ensures asked { AskedOnce (T.asked tree.old) (λ _. true) (T.asked tree.new) }
 {
     let mut stamps = Stamps::new(alloc);
@@ -261,16 +261,16 @@ fn reached<T: Tree>(
     tree: &mut T,
     state: &State,
 ) -> Result<Numbered<Known>, RuleFault>
-    ensures found { IfOk result (λ n. (times : List ℕ → Option ℤ) × AreTold T.honest (T.stamps tree.old) times
-        × AreFound (inputs_of makefile.now.lines.items (finmap.get state.now) times) (goals_of makefile.now.lines.items goals) n) }
+    ensures found { IfOk result (λ n. (times : List ℕ → Option ℤ) → T.allows tree.new times
+        → AreFound (inputs_of makefile.now.lines.items (finmap.get state.now) times) (goals_of makefile.now.lines.items goals) n) }
     ensures row_count { IfOk result (λ n. length n.rows ≡ length n.names) }
     ensures node_count { IfOk result (λ n. length n.nodes.items ≡ length n.names) }
     ensures closed { IfOk result (λ n. IsTrue (is_closed n.rows)) }
     ensures few { IfOk result (λ n. length n.names ≤ MAX_NODES) }
     ensures names { IfOk result (λ n. IsDistinct bytes_eq n.names) }
-    ensures fault { IfErr result (λ fault. (times : List ℕ → Option ℤ) × AreTold T.honest (T.stamps tree.old) times
-        × IsGraphFault (inputs_of makefile.now.lines.items (finmap.get state.now) times) (T.refuses tree.new) goals MAX_NODES fault) }
-    ensures same { T.stamps tree.new ≡ T.stamps tree.old }
+    ensures fault { IfErr result (λ fault. (times : List ℕ → Option ℤ) → T.allows tree.new times
+        → IsGraphFault (inputs_of makefile.now.lines.items (finmap.get state.now) times) (T.refuses tree.new) goals MAX_NODES fault) }
+    ensures narrows { (times : List ℕ → Option ℤ) → T.allows tree.new times → T.allows tree.old times }
     ensures asked { AskedOnce (T.asked tree.old) (λ _. true) (T.asked tree.new) }
 {
     let goals = goals_of(alloc, &makefile.lines, &makefile.suffixes, goals)?;
@@ -285,8 +285,8 @@ fn reached<T: Tree>(
 
 /// The graph of a makefile's items for these goals, or for the makefile's first target where none is named.
 ///
-/// The files are those that the tree tells of. It is asked for a name once at most. The macros take in the definitions
-/// of the makefile.
+/// It is the graph for any times that agree with what the tree answered. The tree is asked for a name once at most. The
+/// macros take in the definitions of the makefile.
 pub fn build<T: Tree>(
     alloc: Global,
     items: Vec<Item>,
@@ -295,13 +295,13 @@ pub fn build<T: Tree>(
     tree: &mut T,
     state: &State,
 ) -> Result<Graph, RuleFault>
-    ensures graph { IfOk result (λ graph. (inputs : Inputs)
-        × AreInputs (ranks_at macros) items.items T.honest (T.stamps tree.old) (finmap.get state.now) inputs
+    ensures graph { IfOk result (λ graph. (times : List ℕ → Option ℤ) → T.allows tree.new times → (inputs : Inputs)
+        × AreInputs (ranks_at macros) items.items times (finmap.get state.now) inputs
         × IsGraph inputs goals graph) }
     ensures macros { IfOk result (λ graph. ranks_at graph.macros ≡ behind_items (ranks_at macros) items.items) }
-    ensures fault { IfErr result (IsRuleFault (ranks_at macros) items.items T.honest (T.stamps tree.old) (finmap.get state.now)
-        (T.refuses tree.new) goals MAX_NODES) }
-    ensures same { T.stamps tree.new ≡ T.stamps tree.old }
+    ensures fault { IfErr result (λ fault. (times : List ℕ → Option ℤ) → T.allows tree.new times
+        → IsRuleFault (ranks_at macros) items.items times (finmap.get state.now) (T.refuses tree.new) goals MAX_NODES fault) }
+    ensures narrows { (times : List ℕ → Option ℤ) → T.allows tree.new times → T.allows tree.old times }
     ensures asked { AskedOnce (T.asked tree.old) (λ _. true) (T.asked tree.new) }
 {
     let mut macros = macros;

@@ -52,7 +52,7 @@ fn add_hidden_of<T: Tree>(
     requires none { mentioned.old.hidden.items ≡ [] }
     ensures hidden { OnOk result ((times : List ℕ → Option ℤ) → AgreesWith stamps.new times
         → HasHidden (is_node (inputs_of rules.now.lines.now (map.get rules.now.state.now) times)) mentioned.old.judged (hidden_in entry.now) mentioned.new) }
-    ensures looks { Looks T.honest stamps.old stamps.new (T.stamps tree.old) (T.stamps tree.new) (T.refuses tree.old) (T.refuses tree.new) }
+    ensures looks { Looks stamps.old stamps.new (T.allows tree.old) (T.allows tree.new) (T.refuses tree.old) (T.refuses tree.new) }
     ensures asks { Asks (is_ok result) stamps.old stamps.new (T.asked tree.old) (T.asked tree.new) }
     ensures fault { IfErr result (IsNamesFault (T.refuses tree.new) (hidden_in entry.now)) }
 {
@@ -76,7 +76,7 @@ fn mentioned_of<T: Tree>(
         → HasHidden (is_node (inputs_of rules.now.lines.now (map.get rules.now.state.now) times))
         (distinct (source_names source.now ++ explicit_of rules.now.lines.now name.now)) (hidden_in entry.now) of.0) }
     ensures hard { IfOk result (λ of. of.1 ≡ length (distinct (source_names source.now ++ explicit_of rules.now.lines.now name.now))) }
-    ensures looks { Looks T.honest stamps.old stamps.new (T.stamps tree.old) (T.stamps tree.new) (T.refuses tree.old) (T.refuses tree.new) }
+    ensures looks { Looks stamps.old stamps.new (T.allows tree.old) (T.allows tree.new) (T.refuses tree.old) (T.refuses tree.new) }
     ensures asks { Asks (is_ok result) stamps.old stamps.new (T.asked tree.old) (T.asked tree.new) }
     ensures fault { IfErr result (IsNamesFault (T.refuses tree.new) (hidden_in entry.now)) }
 {
@@ -131,7 +131,7 @@ fn look_up<T: Tree>(
         → found.prerequisites ≡ prerequisites_of (inputs_of rules.now.lines.now (map.get rules.now.state.now) times) name.now) }
     ensures node { IfOk result (λ found. (times : List ℕ → Option ℤ) → AgreesWith stamps.new times
         → IsKnown (inputs_of rules.now.lines.now (map.get rules.now.state.now) times) name.now found.node) }
-    ensures looks { Looks T.honest stamps.old stamps.new (T.stamps tree.old) (T.stamps tree.new) (T.refuses tree.old) (T.refuses tree.new) }
+    ensures looks { Looks stamps.old stamps.new (T.allows tree.old) (T.allows tree.new) (T.refuses tree.old) (T.refuses tree.new) }
     ensures asks { Asks (is_ok result) stamps.old stamps.new (T.asked tree.old) (T.asked tree.new) }
     ensures fault { IfErr result (IsLookUpFault rules.now.targets.now stamps.new (T.refuses tree.new) rules.now.forms.now
         (own_recipes rules.now.lines.now name.now) (hidden_in (map.get rules.now.state.now name.now)) name.now) }
@@ -175,7 +175,7 @@ impl<'m, 't, 's, T: Tree> Dependencies for Finder<'m, 't, 's, T> {
         (own_recipes f.rules.lines.now name) (hidden_in (map.get f.rules.state.now name)) name fault };
 
     ghost follows = { λ f answers g. (g.rules ≡ f.rules) × (g.tree.ghost_name ≡ f.tree.ghost_name)
-        × Looks T.honest f.stamps.now g.stamps.now (T.stamps f.tree.now) (T.stamps g.tree.now) (T.refuses f.tree.now) (T.refuses g.tree.now)
+        × Looks f.stamps.now g.stamps.now (T.allows f.tree.now) (T.allows g.tree.now) (T.refuses f.tree.now) (T.refuses g.tree.now)
         × Asks answers f.stamps.now g.stamps.now (T.asked f.tree.now) (T.asked g.tree.now) };
 
     fn prerequisites(&mut self, alloc: Global, name: &[u8]) -> Result<Found<Known>, RuleFault> {
@@ -187,12 +187,12 @@ impl<'m, 't, 's, T: Tree> Dependencies for Finder<'m, 't, 's, T> {
       allowed_by_known f.stamps.now f.rules.lines.now (map.get f.rules.state.now),
     ) };
 
-    ghost stays = { λ f. (refl, refl, looks_none _ _ _ _, λ earlier once. once) };
+    ghost stays = { λ f. (refl, refl, looks_none _ _ _, λ earlier once. once) };
 
     ghost through = { λ a b c answers first next. (
       next.0 ∙ first.0,
       next.1 ∙ first.1,
-      looks_on _ _ _ _ _ _ _ _ _ _ first.2 next.2,
+      looks_on _ _ _ _ _ _ _ _ _ first.2 next.2,
       asks_on answers _ _ _ _ _ _ first.3 next.3,
     ) };
 

@@ -36,7 +36,7 @@ fn is_node<T: Tree>(
 ) -> Result<bool, RuleFault>
     ensures node { IfOk result (λ node. (times : List ℕ → Option ℤ) → AgreesWith stamps.new times
         → node ≡ is_node (inputs_of rules.now.lines.now (map.get rules.now.state.now) times) name.now) }
-    ensures looks { Looks T.honest stamps.old stamps.new (T.stamps tree.old) (T.stamps tree.new) (T.refuses tree.old) (T.refuses tree.new) }
+    ensures looks { Looks stamps.old stamps.new (T.allows tree.old) (T.allows tree.new) (T.refuses tree.old) (T.refuses tree.new) }
     ensures asks { Asks (is_ok result) stamps.old stamps.new (T.asked tree.old) (T.asked tree.new) }
     ensures fault { IfErr result (IsLookFault (T.refuses tree.new) name.now) }
     // A name that isn't text is neither asked for nor looked at.
@@ -58,7 +58,7 @@ pub(crate) fn implicit_source<T: Tree>(
 ) -> Result<Option<Source>, RuleFault>
     ensures source { IfOk result (λ found. (times : List ℕ → Option ℤ) → AgreesWith stamps.new times
         → found ≡ implicit_source (inputs_of rules.now.lines.now (map.get rules.now.state.now) times) name.now) }
-    ensures looks { Looks T.honest stamps.old stamps.new (T.stamps tree.old) (T.stamps tree.new) (T.refuses tree.old) (T.refuses tree.new) }
+    ensures looks { Looks stamps.old stamps.new (T.allows tree.old) (T.allows tree.new) (T.refuses tree.old) (T.refuses tree.new) }
     ensures asks { Asks (is_ok result) stamps.old stamps.new (T.asked tree.old) (T.asked tree.new) }
     ensures fault { IfErr result (IsSourceFault rules.now.targets.now stamps.new (T.refuses tree.new) rules.now.forms.now name.now) }
     // Beside a recipe of its own no source is looked for.
@@ -83,7 +83,7 @@ pub(crate) fn add_hidden<T: Tree>(
     requires none { mentioned.old.hidden.items ≡ [] }
     ensures hidden { OnOk result ((times : List ℕ → Option ℤ) → AgreesWith stamps.new times
         → HasHidden (is_node (inputs_of rules.now.lines.now (map.get rules.now.state.now) times)) mentioned.old.judged hidden.now mentioned.new) }
-    ensures looks { Looks T.honest stamps.old stamps.new (T.stamps tree.old) (T.stamps tree.new) (T.refuses tree.old) (T.refuses tree.new) }
+    ensures looks { Looks stamps.old stamps.new (T.allows tree.old) (T.allows tree.new) (T.refuses tree.old) (T.refuses tree.new) }
     ensures asks { Asks (is_ok result) stamps.old stamps.new (T.asked tree.old) (T.asked tree.new) }
     ensures fault { IfErr result (IsNamesFault (T.refuses tree.new) hidden.now) }
 {

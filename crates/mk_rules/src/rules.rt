@@ -67,8 +67,8 @@ impl<'m> Rules<'m> {
         ensures source { IfOk result (λ found. (times : List ℕ → Option ℤ) → AgreesWith stamps.new times
             → found ≡ source_of (is_there self.now.targets.now times) self.now.forms.now name.now) }
         ensures grows { (times : List ℕ → Option ℤ) → AgreesWith stamps.new times → AgreesWith stamps.old times }
-        ensures honest { T.honest → AgreesWith stamps.old (T.stamps tree.old) → AgreesWith stamps.new (T.stamps tree.new) }
-        ensures same { T.stamps tree.new ≡ T.stamps tree.old }
+        ensures answers { (times : List ℕ → Option ℤ) → T.allows tree.new times → AgreesWith stamps.old times → AgreesWith stamps.new times }
+        ensures narrows { (times : List ℕ → Option ℤ) → T.allows tree.new times → T.allows tree.old times }
         ensures kept { (n : List ℕ) → T.refuses tree.old n → T.refuses tree.new n }
         ensures asks { Asks (is_ok result) stamps.old stamps.new (T.asked tree.old) (T.asked tree.new) }
         ensures fault { IfErr result (IsSourceFault self.now.targets.now stamps.new (T.refuses tree.new) self.now.forms.now name.now) }

@@ -21,8 +21,8 @@ pub(crate) fn is_there<T: Tree>(
     ensures there { IfOk result (λ there. (times : List ℕ → Option ℤ)
         → AgreesWith stamps.new times → there ≡ is_there targets.now times name.now) }
     ensures grows { (times : List ℕ → Option ℤ) → AgreesWith stamps.new times → AgreesWith stamps.old times }
-    ensures honest { T.honest → AgreesWith stamps.old (T.stamps tree.old) → AgreesWith stamps.new (T.stamps tree.new) }
-    ensures same { T.stamps tree.new ≡ T.stamps tree.old }
+    ensures answers { (times : List ℕ → Option ℤ) → T.allows tree.new times → AgreesWith stamps.old times → AgreesWith stamps.new times }
+    ensures narrows { (times : List ℕ → Option ℤ) → T.allows tree.new times → T.allows tree.old times }
     ensures kept { (n : List ℕ) → T.refuses tree.old n → T.refuses tree.new n }
     ensures asks { Asks (is_ok result) stamps.old stamps.new (T.asked tree.old) (T.asked tree.new) }
     ensures fault { IfErr result (IsLookFault (T.refuses tree.new) name.now) }
@@ -50,8 +50,8 @@ pub fn source_of<T: Tree>(
     ensures source { IfOk result (λ found. (times : List ℕ → Option ℤ)
         → AgreesWith stamps.new times → found ≡ source_of (is_there targets.now times) forms.now name.now) }
     ensures grows { (times : List ℕ → Option ℤ) → AgreesWith stamps.new times → AgreesWith stamps.old times }
-    ensures honest { T.honest → AgreesWith stamps.old (T.stamps tree.old) → AgreesWith stamps.new (T.stamps tree.new) }
-    ensures same { T.stamps tree.new ≡ T.stamps tree.old }
+    ensures answers { (times : List ℕ → Option ℤ) → T.allows tree.new times → AgreesWith stamps.old times → AgreesWith stamps.new times }
+    ensures narrows { (times : List ℕ → Option ℤ) → T.allows tree.new times → T.allows tree.old times }
     ensures kept { (n : List ℕ) → T.refuses tree.old n → T.refuses tree.new n }
     ensures asks { Asks (is_ok result) stamps.old stamps.new (T.asked tree.old) (T.asked tree.new) }
     ensures fault { IfErr result (IsSourceFault targets.now stamps.new (T.refuses tree.new) forms.now name.now) }

@@ -1,12 +1,12 @@
 //! The times of files, each asked for once.
-ghost use Rattle.std.specs.Prelude.{◌≡◌, ℕ, ℤ, List, Option, None, IfOk, IfErr, IsSome, IsOk, is_ok};
-ghost use Rattle.mk_rules.specs.Stamps.{known_stamp, AgreesWith, Asks, IsLookFault};
+ghost use Rattle.std.specs.Prelude.{◌≡◌, ℕ, ℤ, List, Option, None, IfOk, IfErr, OnOk, OnErr, IsSome, IsOk, is_ok};
+ghost use Rattle.mk_rules.specs.Stamps.{known_stamp, Adds, KnowsTheSame, AgreesWith, Asks, IsLookFault};
 
 use crate::tree::{Tree, TreeFault};
 use byte_strings::ByteString;
 use indexmap::IndexMap;
 use mk_rule_lines::RuleFault;
-use std::alloc::Global;
+use std::alloc::{AllocError, Global};
 
 /// What a tree has answered so far.
 #[derive(Drop)]
@@ -23,6 +23,22 @@ impl Stamps {
         }
     }
 
+    /// What is known of a name: nothing, that it has no file, or its time.
+    pub fn get(&self, name: &[u8]) -> Option<Option<i128>>
+        ensures { result ≡ known_stamp self.now name.now }
+    {
+        self.known.get(name).copied()
+    }
+
+    /// Takes in what a name was answered with.
+    pub fn add(&mut self, alloc: Global, name: &[u8], stamp: Option<i128>) -> Result<(), AllocError>
+        ensures ok { OnOk result (Adds name.now stamp self.old self.new) }
+        ensures err { OnErr result (KnowsTheSame self.old self.new) }
+    {
+        self.known.insert(Vec::from_slice(alloc, name)?, stamp)?;
+        Ok(())
+    }
+
     /// The time of the file of this name, if there is one. The tree is asked where the name isn't known.
     pub fn stamp<T: Tree>(
         &mut self,
@@ -33,15 +49,15 @@ impl Stamps {
         ensures stamp { IfOk result (λ stamp. (times : List ℕ → Option ℤ)
             → AgreesWith self.new times → stamp ≡ times name.now) }
         ensures grows { (times : List ℕ → Option ℤ) → AgreesWith self.new times → AgreesWith self.old times }
-        ensures honest { T.honest → AgreesWith self.old (T.stamps tree.old) → AgreesWith self.new (T.stamps tree.new) }
+        ensures answers { (times : List ℕ → Option ℤ) → T.allows tree.new times → AgreesWith self.old times → AgreesWith self.new times }
         ensures known { IsSome (known_stamp self.old name.now) → tree.new ≡ tree.old }
         ensures found { IsSome (known_stamp self.old name.now) → IsOk result }
-        ensures same { T.stamps tree.new ≡ T.stamps tree.old }
+        ensures narrows { (times : List ℕ → Option ℤ) → T.allows tree.new times → T.allows tree.old times }
         ensures kept { (n : List ℕ) → T.refuses tree.old n → T.refuses tree.new n }
         ensures fault { IfErr result (IsLookFault (T.refuses tree.new) name.now) }
         ensures asks { Asks (is_ok result) self.old self.new (T.asked tree.old) (T.asked tree.new) }
     {
-        match self.known.get(name).copied() {
+        match self.get(name) {
             Some(stamp) => Ok(stamp),
             None => self.ask(alloc, tree, name),
         }
@@ -58,15 +74,15 @@ impl Stamps {
         ensures stamp { IfOk result (λ stamp. (times : List ℕ → Option ℤ)
             → AgreesWith self.new times → stamp ≡ times name.now) }
         ensures grows { (times : List ℕ → Option ℤ) → AgreesWith self.new times → AgreesWith self.old times }
-        ensures honest { T.honest → AgreesWith self.old (T.stamps tree.old) → AgreesWith self.new (T.stamps tree.new) }
-        ensures same { T.stamps tree.new ≡ T.stamps tree.old }
+        ensures answers { (times : List ℕ → Option ℤ) → T.allows tree.new times → AgreesWith self.old times → AgreesWith self.new times }
+        ensures narrows { (times : List ℕ → Option ℤ) → T.allows tree.new times → T.allows tree.old times }
         ensures kept { (n : List ℕ) → T.refuses tree.old n → T.refuses tree.new n }
         ensures fault { IfErr result (IsLookFault (T.refuses tree.new) name.now) }
         ensures asks { Asks (is_ok result) self.old self.new (T.asked tree.old) (T.asked tree.new) }
     {
         match tree.stamp(alloc, name) {
             Ok(stamp) => {
-                self.known.insert(Vec::from_slice(alloc, name)?, stamp)?;
+                self.add(alloc, name, stamp)?;
                 Ok(stamp)
             }
             Err(TreeFault::OutOfMemory) => Err(RuleFault::OutOfMemory),

@@ -1,5 +1,5 @@
 //! A folder in memory, whose times and texts are told as they stand.
-ghost use Rattle.std.specs.Prelude.{◌≡◌, find, bytes_eq, option_map, option_copied};
+ghost use Rattle.std.specs.Prelude.{◌≡◌, ℕ, List, find, bytes_eq, option_map, option_copied, refl};
 
 use mk_reader::Includes;
 use mk_rules::{Tree, TreeFault};
@@ -39,10 +39,8 @@ fn text_of(files: &'static [File], name: &[u8]) -> Option<&'static [u8]>
 }
 
 impl Tree for Folder {
-    ghost honest = { Unit {0} };
-
-    ghost stamps = { λ folder name.
-        option_map (λ file. file.1) (find (λ file. bytes_eq file.0.now name) folder.files.now) };
+    ghost allows = { λ folder times. (name : List ℕ)
+        → times name ≡ option_map (λ file. file.1) (find (λ file. bytes_eq file.0.now name) folder.files.now) };
 
     ghost refuses = { λ _ _. ⊥ };
 
@@ -52,13 +50,16 @@ impl Tree for Folder {
             None => Ok(None),
         }
     }
+
+    ghost possible = { λ folder. (
+      λ name. option_map (λ file. file.1) (find (λ file. bytes_eq file.0.now name) folder.files.now),
+      λ name. refl,
+    ) };
 }
 
 impl Includes for Folder {
-    ghost honest = { Unit {0} };
-
-    ghost files = { λ folder name.
-        option_map (λ file. file.2.now) (find (λ file. bytes_eq file.0.now name) folder.files.now) };
+    ghost allows = { λ folder files. (name : List ℕ)
+        → files name ≡ option_map (λ file. file.2.now) (find (λ file. bytes_eq file.0.now name) folder.files.now) };
 
     fn read(&mut self, alloc: Global, name: &[u8]) -> Result<Option<Vec<u8>>, AllocError> {
         self.reads = self.reads.saturating_add(1);
@@ -67,4 +68,9 @@ impl Includes for Folder {
             None => Ok(None),
         }
     }
+
+    ghost possible = { λ folder. (
+      λ name. option_map (λ file. file.2.now) (find (λ file. bytes_eq file.0.now name) folder.files.now),
+      λ name. refl,
+    ) };
 }

@@ -1,24 +1,32 @@
-use Rattle.std.proofs.Common.{IfErr, option_copied, subst}
-use Rattle.mk_reader.specs.Makefile.{AnswersAs}
+use Rattle.std.proofs.Common.{option_copied}
+use Rattle.st_file.specs.declared.fault.OpenFault.TheVariants as open_faults
+use Rattle.mk_rule_lines.proofs.ResultLemmas.{if_ok, if_err}
 use Rattle.dmk_drive.specs.Faults.{IsTextFault, IsPlanFault}
-use Rattle.dmk_drive.specs.Makefile.{IsAbsent, MayBeThere}
 use Rattle.dmk_drive.specs.Planned.{AreItems}
-use Rattle.dmk_drive.proofs.FaultLemmas.{plan_result}
+use Rattle.dmk_drive.proofs.FaultLemmas.{plan_fault, no_state}
 use Rattle.dmk_drive.proofs.planning.dry_run.Goals as goal
+
+pub returns-clause-tells : goal.returns-clause-tells
+returns-clause-tells g c =
+    if_ok c.plan_items.result _ _
+    (λ run tells files times text now. (c.in_ok-items.items.items, c.in_ok-items.ensures.items files times text (c.plan_items.ensures.times times now), tells times now))
+    c.plan_items.ensures.tells
 
 pub returns-clause-fault : goal.returns-clause-fault
 returns-clause-fault g c =
-    let answers = AnswersAs g.I.Includes.honest (g.I.Includes.files c.args.includes.now) in
-    let absent = IsAbsent g.T.Tree.honest (g.T.Tree.stamps c.args.tree.now) in
     let refuses = g.T.Tree.refuses c.plan_items.new.tree in
     let named = option_copied c.args.given.makefile in
-    plan_result (IsTextFault answers absent (MayBeThere g.T.Tree.honest (g.T.Tree.stamps c.args.tree.now) refuses) named)
-    (AreItems answers absent named)
-    (IsPlanFault c.args.given.definitions.now c.args.given.environment.now c.args.targets g.T.Tree.honest (g.T.Tree.stamps c.args.tree.now)
-    refuses g.D.Disk.honest (g.D.Disk.seen c.args.disk.now))
-    c.in_ok-items.items.items c.in_ok-items.ensures.items c.plan_items.result
-    (subst
-    (λ stamps. IfErr c.plan_items.result (IsPlanFault c.args.given.definitions.now c.args.given.environment.now c.args.targets
-    g.T.Tree.honest stamps refuses g.D.Disk.honest (g.D.Disk.seen c.args.disk.now) c.in_ok-items.items.items))
-    c.items_of.ensures.stamps c.plan_items.ensures.fault)
-    (λ no. no) (λ f no. no) (λ no. no)
+    if_err c.plan_items.result _ _
+    (λ f meets files times text now.
+    plan_fault (IsTextFault files times refuses named) (AreItems files times named)
+    (IsPlanFault c.args.given.definitions.now c.args.given.environment.now c.args.targets times refuses g.D.Disk.honest (g.D.Disk.seen c.args.disk.now))
+    c.in_ok-items.items.items (c.in_ok-items.ensures.items files times text (c.plan_items.ensures.times times now)) f (meets times now)
+    (λ no. no) (λ f no. no) (λ no. no))
+    c.plan_items.ensures.fault
+
+pub returns-in_err-items-clause-device : goal.returns-in_err-items-clause-device
+returns-in_err-items-clause-device g c = λ is.
+    let (files, text) = g.met.I.Includes.possible c.items_of.new.includes in
+    let (times, now) = g.met.T.Tree.possible c.items_of.new.tree in
+    absurd (no_state (IsTextFault files times (g.T.Tree.refuses c.items_of.new.tree) (option_copied c.args.given.makefile)) c.from_residual.result c.in_err-items.field-0.0
+    open_faults.Device (c.from_residual.ensures).1 (c.in_err-items.ensures.fault files times text now) (λ none. none) is)

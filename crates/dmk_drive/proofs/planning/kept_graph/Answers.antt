@@ -1,14 +1,15 @@
-use Rattle.dmk_drive.proofs.PlanLemmas.{rules_result, graph_result}
+use Rattle.mk_rule_lines.proofs.ResultLemmas.{if_ok, if_err}
+use Rattle.dmk_drive.proofs.PlanLemmas.{rules_fault}
 use Rattle.dmk_drive.proofs.planning.kept_graph.Goals as goal
 
 pub returns-clause-graph : goal.returns-clause-graph
 returns-clause-graph g c =
-    graph_result c.args.given.definitions.now c.args.given.environment.now c.args.targets g.T.Tree.honest (g.T.Tree.stamps c.args.tree.now)
-    g.D.Disk.honest (g.D.Disk.seen c.args.disk.now) c.args.items.items c.args.keeping c.requires _ c.in_ok-state.ensures.found c.graph_of.result
-    c.graph_of.ensures.graph
+    if_ok c.graph_of.result _ _ (λ graph is. (c.in_ok-state.state, c.in_ok-state.ensures.found, is)) c.graph_of.ensures.graph
 
 pub returns-clause-fault : goal.returns-clause-fault
 returns-clause-fault g c =
-    rules_result c.args.given.definitions.now c.args.given.environment.now c.args.targets g.T.Tree.honest (g.T.Tree.stamps c.args.tree.now)
-    g.D.Disk.honest (g.D.Disk.seen c.args.disk.now) c.args.items.items c.args.keeping c.requires _ c.in_ok-state.ensures.found
-    (g.T.Tree.refuses c.graph_of.new.tree) c.graph_of.result c.graph_of.ensures.fault
+    if_err c.graph_of.result _ _
+    (λ f meets times now.
+    rules_fault c.args.given.definitions.now c.args.given.environment.now c.args.targets times g.D.Disk.honest (g.D.Disk.seen c.args.disk.now) c.args.items.items
+    c.args.keeping c.requires _ c.in_ok-state.ensures.found (g.T.Tree.refuses c.graph_of.new.tree) (g.T.Tree.allows c.graph_of.new.tree) now f meets)
+    c.graph_of.ensures.fault

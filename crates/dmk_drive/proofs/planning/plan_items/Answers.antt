@@ -1,5 +1,8 @@
 use Rattle.std.proofs.Common.{◌≡◌, ◌∙◌, ap}
+use Rattle.dmk_drive.specs.Faults.{IsPlanFault}
 use Rattle.dmk_drive.specs.Keeping.{keeps}
+use Rattle.dmk_drive.specs.Planned.{Tells}
+use Rattle.dmk_drive.proofs.AllowedLemmas.{each_ok, each_err}
 use Rattle.dmk_drive.proofs.PassingLemmas.{order_below}
 use Rattle.dmk_drive.proofs.PlanLemmas.{recipes_result, told_result}
 use Rattle.dmk_drive.proofs.planning.plan_items.Goals as goal
@@ -10,21 +13,33 @@ kept_graph-requires g c = c.keeps_state-keeping.ensures ∙ ap (keeps c.args.giv
 pub listed-requires : goal.listed-requires
 listed-requires g c =
     let (state, found, is) = c.in_ok-graph.ensures.graph in
-    order_below is.inputs c.args.targets c.in_ok-graph.graph is.is_graph
+    let (times, now) = g.met.T.Tree.possible c.kept_graph.new.tree in
+    let by = is times now in
+    order_below by.inputs c.args.targets c.in_ok-graph.graph by.is_graph
 
 pub returns-clause-tells : goal.returns-clause-tells
 returns-clause-tells g c =
     let (state, found, is) = c.in_ok-graph.ensures.graph in
     let is_keeping : c.keeps_state-keeping.result ≡ keeps c.args.given.environment.now c.args.items.items =
     c.keeps_state-keeping.ensures ∙ ap (keeps c.args.given.environment.now) c.deref.ensures.value in
-    told_result c.args.given.definitions.now c.args.given.environment.now c.args.targets g.T.Tree.honest (g.T.Tree.stamps c.args.tree.now)
-    g.D.Disk.honest (g.D.Disk.seen c.args.disk.now) c.args.items.items c.keeps_state-keeping.result is_keeping state found c.in_ok-graph.graph is c.listed.result c.listed.ensures.listing c.listed.ensures.dropped
+    let definitions = c.args.given.definitions.now in
+    let environment = c.args.given.environment.now in
+    let seen = g.D.Disk.seen c.args.disk.now in
+    each_ok c.listed.result (g.T.Tree.allows c.kept_graph.new.tree) (λ times. Tells definitions environment c.args.targets times g.D.Disk.honest seen c.args.items.items)
+    (λ times now.
+    told_result definitions environment c.args.targets times g.D.Disk.honest seen c.args.items.items c.keeps_state-keeping.result is_keeping state found
+    c.in_ok-graph.graph (is times now) c.listed.result c.listed.ensures.listing c.listed.ensures.dropped)
 
 pub returns-clause-fault : goal.returns-clause-fault
 returns-clause-fault g c =
     let (state, found, is) = c.in_ok-graph.ensures.graph in
     let is_keeping : c.keeps_state-keeping.result ≡ keeps c.args.given.environment.now c.args.items.items =
     c.keeps_state-keeping.ensures ∙ ap (keeps c.args.given.environment.now) c.deref.ensures.value in
-    recipes_result c.args.given.definitions.now c.args.given.environment.now c.args.targets g.T.Tree.honest (g.T.Tree.stamps c.args.tree.now)
-    g.D.Disk.honest (g.D.Disk.seen c.args.disk.now) c.args.items.items c.keeps_state-keeping.result is_keeping state found c.in_ok-graph.graph is (g.T.Tree.refuses c.kept_graph.new.tree) c.listed.result
-    c.listed.ensures.fault
+    let definitions = c.args.given.definitions.now in
+    let environment = c.args.given.environment.now in
+    let seen = g.D.Disk.seen c.args.disk.now in
+    let refuses = g.T.Tree.refuses c.kept_graph.new.tree in
+    each_err c.listed.result (g.T.Tree.allows c.kept_graph.new.tree) (λ times. IsPlanFault definitions environment c.args.targets times refuses g.D.Disk.honest seen c.args.items.items)
+    (λ times now.
+    recipes_result definitions environment c.args.targets times g.D.Disk.honest seen c.args.items.items c.keeps_state-keeping.result is_keeping state found
+    c.in_ok-graph.graph (is times now) refuses c.listed.result c.listed.ensures.fault)

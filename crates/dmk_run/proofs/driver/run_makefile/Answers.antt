@@ -1,12 +1,20 @@
 use Rattle.std.proofs.Common.{option_copied}
-use Rattle.mk_reader.specs.Makefile.{AnswersAs}
-use Rattle.dmk_drive.specs.Makefile.{IsAbsent}
+use Rattle.mk_rule_lines.proofs.ResultLemmas.{if_ok}
 use Rattle.dmk_drive.specs.Planned.{AreItems}
 use Rattle.dmk_run.proofs.DriverLemmas.{untouched_unless_kept}
 use Rattle.dmk_run.proofs.driver.run_makefile.Goals as goal
 
+pub returns-in-Ok-clause-makes : goal.returns-in-Ok-clause-makes
+returns-in-Ok-clause-makes g c =
+    if_ok c.run_items.result.0 _ _
+    (λ s made files times text may. record {
+      items = c.in-Ok.items.items;
+      are_items = c.in-Ok.ensures.items files times text (c.run_items.ensures.times times may);
+      made = made times may;
+    })
+    c.run_items.ensures.makes
+
 pub returns-in-Ok-clause-untouched : goal.returns-in-Ok-clause-untouched
-returns-in-Ok-clause-untouched g c =
-    let answers = AnswersAs g.I.Includes.honest (g.I.Includes.files c.args.includes.now) in
-    let absent = IsAbsent g.T.Tree.honest (g.T.Tree.stamps c.args.tree.now) in
-    untouched_unless_kept (AreItems answers absent (option_copied c.args.named)) c.args.means.now.environment.now c.in-Ok.items.items c.in-Ok.ensures.items c.args.disk c.run_items.result.1 c.run_items.ensures.untouched
+returns-in-Ok-clause-untouched g c = λ files times text may.
+    untouched_unless_kept (AreItems files times (option_copied c.args.named)) c.args.means.now.environment.now c.in-Ok.items.items
+    (c.in-Ok.ensures.items files times text (c.run_items.ensures.times times may)) c.args.disk c.run_items.result.1 c.run_items.ensures.untouched

@@ -3,6 +3,6 @@ use Rattle.dmk_drive.specs.Planned.{IsGraphOf}
 use Rattle.dmk_run.proofs.planning.planned.Goals as goal
 
 pub returns-clause-graph : goal.returns-clause-graph
-returns-clause-graph g c =
-    subst (λ d. IsGraphOf d c.args.environment.now c.args.goals.targets g.T.Tree.honest (g.T.Tree.stamps c.args.tree.now) c.args.items.items c.args.state.now c.in_ok-graph.graph)
-    c.deref.ensures.value c.in_ok-graph.ensures.graph
+returns-clause-graph g c = λ times may.
+    subst (λ d. IsGraphOf d c.args.environment.now c.args.goals.targets times c.args.items.items c.args.state.now c.in_ok-graph.graph)
+    c.deref.ensures.value (c.in_ok-graph.ensures.graph times may)

@@ -1,6 +1,6 @@
-use Rattle.std.proofs.Common.{◌≡◌}
+use Rattle.mk_reader.specs.Makefile.{AnswersOf}
 use Rattle.mk_reader.proofs.PrintedItemsLemmas.{printed_read}
 use Rattle.mk_reader.proofs.laws.printed_items_are_read_back.Goals as goal
 
 pub returns : goal.returns
-returns c = λ files. printed_read (λ name answer. answer ≡ files name)
+returns c = λ files. printed_read (AnswersOf files)

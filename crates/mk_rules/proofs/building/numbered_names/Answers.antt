@@ -1,49 +1,47 @@
 use Rattle.std.proofs.Common.{true, sym, subst}
 use Rattle.std.specs.FinMap as map
-use Rattle.mk_rules.specs.Found.{IsFindingFault, times_with}
+use Rattle.mk_rules.specs.Found.{IsFindingFault}
+use Rattle.mk_rules.specs.LooksLaws.{known_times, known_agrees}
 use Rattle.mk_rules.specs.Prerequisites.{inputs_of, prerequisites_of}
 use Rattle.mk_rules.specs.declared.graph.TheConstants.{MAX_NODES}
 use Rattle.mk_rules.specs.Tree.{AskedOnce}
 use Rattle.mk_rules.proofs.AskedLemmas.{asked_each_once}
-use Rattle.mk_rules.proofs.FoundLemmas.{with_agrees, with_told}
+use Rattle.mk_rules.proofs.FoundLemmas.{all_answered}
 use Rattle.mk_rules.proofs.RowLaws.{distinct_names}
 use Rattle.mk_rule_lines.proofs.ResultLemmas.{if_ok, if_err}
 use Rattle.mk_rules.proofs.building.numbered_names.Goals as goal
 
 pub returns-clause-found : goal.returns-clause-found
 returns-clause-found g c =
-    let told = g.T.Tree.stamps c.args.tree.now in
-    let stamps = c.found_names.new.finder.stamps.now in
-    let times = times_with stamps told in
+    let ended = c.tree-1.given.1 (sym c.found_names.ensures.same) in
     if_ok c.found_names.result _ _
-    (λ n are. (times, with_told g.T.Tree.honest c.new-stamps.result stamps told _ _ _ c.found_names.ensures.looks c.new-stamps.ensures, are times (with_agrees stamps told)))
+    (λ n are times now. are times
+    (all_answered _ _ _ _ _ _ c.found_names.ensures.looks c.new-stamps.ensures times (subst (λ t. g.T.Tree.allows t times) ended now)))
     c.found_names.ensures.found
 
 pub returns-clause-fault : goal.returns-clause-fault
 returns-clause-fault g c =
-    let told = g.T.Tree.stamps c.args.tree.now in
-    let stamps = c.found_names.new.finder.stamps.now in
-    let times = times_with stamps told in
     let rules = c.args.rules in
     let ended = c.tree-1.given.1 (sym c.found_names.ensures.same) in
     if_err c.found_names.result _ _
-    (λ f meets. (
-      times,
-      with_told g.T.Tree.honest c.new-stamps.result stamps told _ _ _ c.found_names.ensures.looks c.new-stamps.ensures,
-      subst (λ t. IsFindingFault (inputs_of rules.lines.now (map.get rules.state.now) times) (g.T.Tree.refuses t) c.args.goals.now MAX_NODES f) (sym ended)
-          (meets times (with_agrees stamps told)),
-    ))
+    (λ f meets times now.
+    subst (λ t. IsFindingFault (inputs_of rules.lines.now (map.get rules.state.now) times) (g.T.Tree.refuses t) c.args.goals.now MAX_NODES f) (sym ended)
+    (meets times (all_answered _ _ _ _ _ _ c.found_names.ensures.looks c.new-stamps.ensures times (subst (λ t. g.T.Tree.allows t times) ended now))))
     c.found_names.ensures.fault
 
 pub returns-clause-names : goal.returns-clause-names
 returns-clause-names g c =
-    let told = g.T.Tree.stamps c.args.tree.now in
     let stamps = c.found_names.new.finder.stamps.now in
     let rules = c.args.rules in
     if_ok c.found_names.result _ _
-    (λ n are. distinct_names (prerequisites_of (inputs_of rules.lines.now (map.get rules.state.now) (times_with stamps told))) c.args.goals.now n.names
-    (are (times_with stamps told) (with_agrees stamps told)).names_are)
+    (λ n are. distinct_names (prerequisites_of (inputs_of rules.lines.now (map.get rules.state.now) (known_times stamps))) c.args.goals.now n.names
+    (are (known_times stamps) (known_agrees stamps)).names_are)
     c.found_names.ensures.found
+
+pub returns-clause-narrows : goal.returns-clause-narrows
+returns-clause-narrows g c = λ times now.
+    let ended = c.tree-1.given.1 (sym c.found_names.ensures.same) in
+    c.found_names.ensures.looks.narrows times (subst (λ t. g.T.Tree.allows t times) ended now)
 
 pub returns-clause-asked : goal.returns-clause-asked
 returns-clause-asked g c =

@@ -1,7 +1,7 @@
-use Rattle.std.proofs.Common.{◌≡◌, ℕ, ℤ, List, Option, true, false, refl, sym, ap, subst, ◌∙◌}
+use Rattle.std.proofs.Common.{◌≡◌, ℕ, ℤ, List, Option, true, false, sym, ap, subst, ◌∙◌}
 use Rattle.std.specs.FinMap as map
 use Rattle.std.specs.Prelude.{option_to_list}
-use Rattle.mk_rules.specs.Faults.{AreTold, IsGraphFault}
+use Rattle.mk_rules.specs.Faults.{IsGraphFault}
 use Rattle.mk_rule_lines.specs.Forms.{forms_of}
 use Rattle.mk_rules.specs.Found.{AreFound, IsFindingFault}
 use Rattle.mk_rule_lines.specs.Goals.{goals_of, IsGoalFault}
@@ -24,12 +24,9 @@ returns-clause-found g c =
     let goals = c.in_ok-goals.goals in
     let goals_are : goals ≡ goals_of lines c.args.goals = c.in_ok-goals.ensures.goals ∙ ap (λ (ls : List RuleLine). goals_of ls c.args.goals) c.deref.ensures.value in
     if_ok c.numbered_names.result _ _
-    (λ n at. (
-      at.0,
-      at.1,
-      subst (λ (gs : List (List ℕ)). AreFound (inputs_of lines entries at.0) gs n) goals_are
-          (subst (λ (ls : List RuleLine). AreFound (inputs_of ls entries at.0) goals n) c.deref-2.ensures.value at.2),
-    ))
+    (λ n found times now.
+    subst (λ (gs : List (List ℕ)). AreFound (inputs_of lines entries times) gs n) goals_are
+    (subst (λ (ls : List RuleLine). AreFound (inputs_of ls entries times) goals n) c.deref-2.ensures.value (found times now)))
     c.numbered_names.ensures.found
 
 pub returns-clause-fault : goal.returns-clause-fault
@@ -40,30 +37,23 @@ returns-clause-fault g c =
     let goals = c.in_ok-goals.goals in
     let goals_are : goals ≡ goals_of lines c.args.goals = c.in_ok-goals.ensures.goals ∙ ap (λ (ls : List RuleLine). goals_of ls c.args.goals) c.deref.ensures.value in
     if_err c.numbered_names.result _ _
-    (λ f at. (
-      at.0,
-      at.1,
-      not_found (inputs_of lines entries at.0) refuses c.args.goals MAX_NODES goals goals_are f
-          (subst (λ (ls : List RuleLine). IsFindingFault (inputs_of ls entries at.0) refuses goals MAX_NODES f) c.deref-2.ensures.value at.2),
-    ))
+    (λ f meets times now.
+    not_found (inputs_of lines entries times) refuses c.args.goals MAX_NODES goals goals_are f
+    (subst (λ (ls : List RuleLine). IsFindingFault (inputs_of ls entries times) refuses goals MAX_NODES f) c.deref-2.ensures.value (meets times now)))
     c.numbered_names.ensures.fault
 
 pub returns-in_err-goals-clause-fault : goal.returns-in_err-goals-clause-fault
 returns-in_err-goals-clause-fault g c =
     let lines = c.args.makefile.now.lines.items in
-    let told = g.T.Tree.stamps c.args.tree.now in
     let entries = map.get c.args.state.now in
     let refuses = g.T.Tree.refuses c.args.tree.now in
     let f = c.in_err-goals.field-0.0 in
     handed_on _
-    (λ (e : RuleFault). (times : List ℕ → Option ℤ) × AreTold g.T.Tree.honest told times
-    × IsGraphFault (inputs_of lines entries times) refuses c.args.goals MAX_NODES e)
-    f (c.from_residual.ensures).1 (
-      told,
-      λ _ name. refl,
-      no_goal (inputs_of lines entries told) refuses c.args.goals MAX_NODES f
-          (subst (λ (ls : List RuleLine). IsGoalFault ls c.args.goals f) c.deref.ensures.value c.in_err-goals.ensures.fault),
-    )
+    (λ (e : RuleFault). (times : List ℕ → Option ℤ) → g.T.Tree.allows c.args.tree.now times
+    → IsGraphFault (inputs_of lines entries times) refuses c.args.goals MAX_NODES e)
+    f (c.from_residual.ensures).1
+    (λ times now. no_goal (inputs_of lines entries times) refuses c.args.goals MAX_NODES f
+    (subst (λ (ls : List RuleLine). IsGoalFault ls c.args.goals f) c.deref.ensures.value c.in_err-goals.ensures.fault))
 
 pub invariant_of-rules : goal.invariant_of-rules
 invariant_of-rules g c =

@@ -40,15 +40,15 @@ returns-clause-node g c = λ times agrees.
 pub returns-clause-looks : goal.returns-clause-looks
 returns-clause-looks g c =
     let tells = c.in_ok-stamp.ensures in
-    looks_on _ _ _ _ _ _ _ _ _ _
-    (looks_on _ _ _ _ _ _ _ _ _ _ (record { grows = tells.grows; answers = tells.honest; same = tells.same; kept = tells.kept }) c.in_ok-source.ensures.looks)
+    looks_on _ _ _ _ _ _ _ _ _
+    (looks_on _ _ _ _ _ _ _ _ _ (record { grows = tells.grows; answers = tells.answers; narrows = tells.narrows; kept = tells.kept }) c.in_ok-source.ensures.looks)
     c.in_ok-mentioned.ensures.looks
 
 pub returns-in_err-mentioned-clause-looks : goal.returns-in_err-mentioned-clause-looks
 returns-in_err-mentioned-clause-looks g c =
     let tells = c.in_ok-stamp.ensures in
-    looks_on _ _ _ _ _ _ _ _ _ _
-    (looks_on _ _ _ _ _ _ _ _ _ _ (record { grows = tells.grows; answers = tells.honest; same = tells.same; kept = tells.kept }) c.in_ok-source.ensures.looks)
+    looks_on _ _ _ _ _ _ _ _ _
+    (looks_on _ _ _ _ _ _ _ _ _ (record { grows = tells.grows; answers = tells.answers; narrows = tells.narrows; kept = tells.kept }) c.in_ok-source.ensures.looks)
     c.in_err-mentioned.ensures.looks
 
 pub returns-clause-asks : goal.returns-clause-asks

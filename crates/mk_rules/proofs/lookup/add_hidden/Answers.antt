@@ -30,7 +30,7 @@ loop-name-preserved g c =
           hidden_step p hard hidden name left before.judged before.nodes before.hidden.items here after.judged after.nodes after.hidden.items c.in_ok-node.node
           (tells.node times agrees) puts.judged puts.nodes puts.hidden;
       within = λ n is. inv.within n (subst (λ (ls : List (List ℕ)). has n ls ≡ true) (sym c.in-Some.ensures.steps) (has_later n name left is));
-      looks = looks_on _ _ _ _ _ _ _ _ _ _ inv.looks tells.looks;
+      looks = looks_on _ _ _ _ _ _ _ _ _ inv.looks tells.looks;
       asks = λ earlier once. tells.asks earlier (inv.asks earlier once);
     }
 
@@ -45,10 +45,10 @@ returns-in_err-node-clause-fault g c =
     (names_fault refuses c.args.hidden.now name (within, text) c.in_err-node.field-0.0 c.in_err-node.ensures.fault)
 
 pub returns-in_err-node-clause-looks : goal.returns-in_err-node-clause-looks
-returns-in_err-node-clause-looks g c = looks_on _ _ _ _ _ _ _ _ _ _ c.loop-name.invariant.looks c.in_err-node.ensures.looks
+returns-in_err-node-clause-looks g c = looks_on _ _ _ _ _ _ _ _ _ c.loop-name.invariant.looks c.in_err-node.ensures.looks
 
 pub returns-in_err-add_hidden-clause-looks : goal.returns-in_err-add_hidden-clause-looks
-returns-in_err-add_hidden-clause-looks g c = looks_on _ _ _ _ _ _ _ _ _ _ c.loop-name.invariant.looks c.in_ok-node.ensures.looks
+returns-in_err-add_hidden-clause-looks g c = looks_on _ _ _ _ _ _ _ _ _ c.loop-name.invariant.looks c.in_ok-node.ensures.looks
 
 pub loop-name-init : goal.loop-name-init
 loop-name-init g c =
@@ -61,7 +61,7 @@ loop-name-init g c =
           subst (λ (ls : List (List ℕ)). HiddenSoFar p m.judged c.args.hidden.now ls m.judged m.nodes m.hidden.items) start
           (hidden_start p m.judged m.nodes c.args.hidden.now m.hidden.items c.requires.nodes c.requires.none);
       within = λ n is. subst (λ (ls : List (List ℕ)). has n ls ≡ true) (sym start) is;
-      looks = looks_none _ _ _ _;
+      looks = looks_none _ _ _;
       asks = λ earlier once. once;
     }
 

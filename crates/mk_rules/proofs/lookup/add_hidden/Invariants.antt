@@ -12,6 +12,6 @@ invariant-loop-name g l = record {
       HiddenSoFar (is_node (inputs_of l.rules.lines.now (map.get l.rules.state.now) times)) l.fn.mentioned.judged l.hidden l.name-iterator
       l.mentioned.judged l.mentioned.nodes l.mentioned.hidden.items;
   within : (n : List ℕ) → has n l.name-iterator ≡ true → has n l.hidden ≡ true;
-  looks : Looks g.T.Tree.honest l.fn.stamps l.stamps (g.T.Tree.stamps l.fn.tree) (g.T.Tree.stamps l.tree) (g.T.Tree.refuses l.fn.tree) (g.T.Tree.refuses l.tree);
+  looks : Looks l.fn.stamps l.stamps (g.T.Tree.allows l.fn.tree) (g.T.Tree.allows l.tree) (g.T.Tree.refuses l.fn.tree) (g.T.Tree.refuses l.tree);
   asks : Asks true l.fn.stamps l.stamps (g.T.Tree.asked l.fn.tree) (g.T.Tree.asked l.tree);
 }

@@ -18,7 +18,7 @@ returns-clause-source g c =
 pub returns-clause-looks : goal.returns-clause-looks
 returns-clause-looks g c =
     let tells = c.source.ensures in
-    record { grows = tells.grows; answers = tells.honest; same = tells.same; kept = tells.kept }
+    record { grows = tells.grows; answers = tells.answers; narrows = tells.narrows; kept = tells.kept }
 
 pub returns-clause-unasked : goal.returns-clause-unasked
 returns-clause-unasked g c =

@@ -16,7 +16,7 @@ returns-clause-node g c =
 pub returns-clause-looks : goal.returns-clause-looks
 returns-clause-looks g c =
     let tells = c.is_there.ensures in
-    record { grows = tells.grows; answers = tells.honest; same = tells.same; kept = tells.kept }
+    record { grows = tells.grows; answers = tells.answers; narrows = tells.narrows; kept = tells.kept }
 
 pub returns-clause-unasked : goal.returns-clause-unasked
 returns-clause-unasked g c = λ no_text.

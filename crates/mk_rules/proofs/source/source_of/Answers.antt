@@ -45,8 +45,8 @@ loop-form-preserved g c =
           let no : there (source_at form stem).name ≡ false = ap there (sym named) ∙ sym (tells.there times agrees) ∙ c.if-branch.false in
           none_more there forms k form name c.loop-form-test.true c.form-item.is (inv.none times (tells.grows times agrees)) (passed there form [] name stem fits no);
       grows = λ times agrees. inv.grows times (tells.grows times agrees);
-      honest = λ honest agrees. tells.honest honest (inv.honest honest agrees);
-      same = tells.same ∙ inv.same;
+      answers = λ times now agrees. tells.answers times now (inv.answers times (tells.narrows times now) agrees);
+      narrows = λ times now. inv.narrows times (tells.narrows times now);
       kept = λ n refused. tells.kept n (inv.kept n refused);
       asks = λ earlier once. tells.asks earlier (inv.asks earlier once);
     }
@@ -63,8 +63,8 @@ loop-form-preserved-in_default g c =
           none_more there forms c.loop-form.form-index form name c.loop-form-test.true c.form-item.is (inv.none times agrees)
           (unfit there form [] name (sym c.in_default.ensures));
       grows = inv.grows;
-      honest = inv.honest;
-      same = inv.same;
+      answers = inv.answers;
+      narrows = inv.narrows;
       kept = inv.kept;
       asks = inv.asks;
     }

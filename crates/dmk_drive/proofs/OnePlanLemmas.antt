@@ -1,0 +1,89 @@
+-- By the same files, times and state there is one plan, with one listing.
+use Rattle.std.specs.Prelude.{slice_set, replicate}
+use Rattle.std.proofs.Common.{◌≡◌, ◌∙◌, ℕ, ℤ, Bool, true, false, List, [], length, Option, sym, ap, subst}
+use Rattle.std.specs.FinMap as map
+use Rattle.mk_macros.specs.Ranks.{ranks_at}
+use Rattle.mk_reader.specs.declared.item.Item.{Item}
+use Rattle.mk_recipe.specs.declared.line.Line.{Line}
+use Rattle.mk_rules.specs.Graph.{IsGraph}
+use Rattle.mk_rules.specs.declared.graph.Graph.{Graph}
+use Rattle.mk_rules.proofs.InputLemmas.{inputs_once}
+use Rattle.mk_rules.proofs.OneGraphLemmas.{one_count, one_dropped, one_order}
+use Rattle.mk_plan.proofs.AlikeLemmas.{AreAlike, passes_in}
+use Rattle.mk_plan.proofs.OneNodeLemmas.{one_graph}
+use Rattle.st_disk.specs.declared.which.Which.{Which}
+use Rattle.st_disk.specs.declared.which.Which.TheVariants as sides
+use Rattle.st_state.specs.State.{StateMap}
+use Rattle.st_recovery.specs.Recovers.{recovered}
+use Rattle.st_recovery.proofs.RecoversLemmas.{one_recovery}
+use Rattle.bd_lists.specs.declared.recipe.Variable.{Variable}
+use Rattle.dmk_drive.specs.Definitions.{first_defined}
+use Rattle.dmk_drive.specs.Keeping.{keeps}
+use Rattle.dmk_drive.specs.Passing.{Lists, at_end, behind, no_marks, IsListing}
+use Rattle.dmk_drive.specs.Planned.{IsStateOn, IsGraphOf, IsPlanned, Plans}
+use Rattle.dmk_drive.proofs.ListingLemmas.{lists_once}
+use Rattle.dmk_drive.proofs.MakefileLemmas.{items_once}
+
+-- ---- graphs that are alike have one listing
+
+module _ (a b : Graph) (alike : AreAlike a b) (keeping : Bool) where
+  lists_in : (marks : List Bool) (order : List ℕ) (listed : List (List Line)) → Lists keeping a marks order listed → Lists keeping b marks order listed
+  lists_in marks _ _ at_end = at_end
+  lists_in marks _ _ (behind {n = n} {order = order} {remade = remade} {front = front} {listed = listed} first rest) =
+      behind (passes_in a b alike keeping marks n remade front first) (lists_in (slice_set marks n remade) order listed rest)
+
+  listing_in : length a.nodes.items ≡ length b.nodes.items → a.order.items ≡ b.order.items → (listed : List (List Line)) →
+      IsListing keeping a listed → IsListing keeping b listed
+  listing_in count order listed lists =
+      subst (λ c. Lists keeping b (replicate c false) b.order.items listed) count
+      (subst (λ o. Lists keeping b (no_marks a) o listed) order (lists_in (no_marks a) a.order.items listed lists))
+
+-- ---- one state
+
+state_once : (keeping : Bool) (honest : Type 0) (seen : Which → List ℕ) (m n : StateMap) → honest →
+    IsStateOn keeping honest seen m → IsStateOn keeping honest seen n → m ≡ n
+state_once true honest seen m n works of_m of_n =
+    let same : recovered m ≡ recovered n = one_recovery (seen sides.A) (seen sides.B) (recovered m) (recovered n) (of_m works) (of_n works) in cc
+state_once false honest seen m n works of_m of_n = of_m ∙ sym of_n
+
+-- ---- one plan
+
+module _ (definitions environment : List Variable) (targets : List (List ℕ)) (times : List ℕ → Option ℤ) (items : List Item) (state : StateMap)
+    (a b : Graph) (of_a : IsGraphOf definitions environment targets times items state a) (of_b : IsGraphOf definitions environment targets times items state b) where
+  is_b : IsGraph of_a.inputs targets b
+  is_b =
+      subst (λ i. IsGraph i targets b)
+      (sym (inputs_once (first_defined definitions environment) items times (map.get state) of_a.inputs of_b.inputs of_a.are_inputs of_b.are_inputs)) of_b.is_graph
+
+  dropped_once : a.soft_dropped ≡ b.soft_dropped
+  dropped_once = one_dropped of_a.inputs targets a b of_a.is_graph is_b
+
+  listing_once : (keeping : Bool) (x y : List (List Line)) → IsListing keeping a x → IsListing keeping b y → x ≡ y
+  listing_once keeping x y of_x of_y =
+      lists_once keeping b b.order.items (no_marks b) x y
+      (listing_in a b (one_graph of_a.inputs targets a b of_a.is_graph is_b (of_a.macros ∙ sym of_b.macros)) keeping
+      (one_count of_a.inputs targets a b of_a.is_graph is_b) (one_order of_a.inputs targets a b of_a.is_graph is_b) x of_x)
+      of_y
+
+module _ (definitions environment : List Variable) (targets : List (List ℕ)) (times : List ℕ → Option ℤ) (honest : Type 0) (works : honest)
+    (seen : Which → List ℕ) (items : List Item) (x y : List (List Line)) (d e : Bool) where
+  planned_once : IsPlanned definitions environment targets times honest seen items x d → IsPlanned definitions environment targets times honest seen items y e →
+      (x ≡ y) × (d ≡ e)
+  planned_once of_x of_y =
+      let keeping : Bool = keeps environment items in
+      let state = state_once keeping honest seen of_x.state of_y.state works of_x.is_state of_y.is_state in
+      let of_b : IsGraphOf definitions environment targets times items of_x.state of_y.graph
+      = subst (λ m. IsGraphOf definitions environment targets times items m of_y.graph) (sym state) of_y.is_graph in (
+        listing_once definitions environment targets times items of_x.state of_x.graph of_y.graph of_x.is_graph of_b keeping x y of_x.lists of_y.lists,
+        of_x.soft ∙ dropped_once definitions environment targets times items of_x.state of_x.graph of_y.graph of_x.is_graph of_b ∙ sym of_y.soft,
+      )
+
+pub plan_once : (files : List ℕ → Option (List ℕ)) (times : List ℕ → Option ℤ) (named : Option (List ℕ)) (definitions environment : List Variable)
+    (targets : List (List ℕ)) (honest : Type 0) (seen : Which → List ℕ) (x y : List (List Line)) (d e : Bool) → honest →
+    Plans files times named definitions environment targets honest seen x d → Plans files times named definitions environment targets honest seen y e →
+    (x ≡ y) × (d ≡ e)
+plan_once files times named definitions environment targets honest seen x y d e works of_x of_y =
+    planned_once definitions environment targets times honest works seen of_y.items x y d e
+    (subst (λ items. IsPlanned definitions environment targets times honest seen items x d)
+    (items_once files times named of_x.items of_y.items of_x.are_items of_y.are_items) of_x.planned)
+    of_y.planned

@@ -1,0 +1,23 @@
+use Rattle.std.proofs.Common.{◌≡◌, Some, None, sym, ap, ◌∙◌, option_map}
+use Rattle.mk_rule_lines.proofs.ResultLemmas.{if_ok}
+use Rattle.mk_rules.proofs.StampLemmas.{found_is, stamp_is, before}
+use Rattle.dmk_drive.specs.Files.{known_text}
+use Rattle.dmk_drive.proofs.file_texts.FileTexts.text.Goals as goal
+
+pub returns-in-Some-clause-text : goal.returns-in-Some-clause-text
+returns-in-Some-clause-text g c =
+    let known = known_text c.args.self.now.texts in
+    let found = option_map (λ text. text.items) c.in-Some.known.now in
+    if_ok c.copy_of.result _ _
+    (λ copy same files fits. same ∙ found_is known c.args.name.now found (sym c.get.ensures ∙ ap (option_map (λ f. option_map (λ text. text.items) f.now)) c.in-Some.is) files fits)
+    c.copy_of.ensures
+
+pub returns-clause-text : goal.returns-clause-text
+returns-clause-text g c = λ files fits.
+    c.in_ok-copy.ensures
+    ∙ stamp_is (known_text c.args.self.now.texts) _ c.args.name.now (option_map (λ text. text.items) c.in_ok-text.text) c.in_ok-add.ensures.ok files fits
+
+pub returns-clause-grows : goal.returns-clause-grows
+returns-clause-grows g c = λ files fits.
+    before (known_text c.args.self.now.texts) _ c.args.name.now (option_map (λ text. text.items) c.in_ok-text.text) c.in_ok-add.ensures.ok files
+    (sym c.get.ensures ∙ ap (option_map (λ f. option_map (λ text. text.items) f.now)) c.in_default.is) fits

@@ -1,0 +1,129 @@
+-- Graphs that say the same of each number pass their nodes in the same way.
+use mathlib.Core.Path.{fun_ext}
+use Rattle.std.specs.Prelude.{IsTrue}
+use Rattle.std.specs.List.{Any}
+use Rattle.std.proofs.Common.{◌≡◌, ◌∙◌, ◌⊎◌, ℕ, ℤ, Bool, true, false, not, List, [], ◌∷◌, ◌++◌, map, Option, Some, None, refl, sym, ap, subst}
+use Rattle.mk_graph.specs.Edges.{row}
+use Rattle.mk_graph.specs.Numbering.{name_at}
+use Rattle.mk_macros.specs.Ranks.{ranks_at, meaning_of}
+use Rattle.mk_macros.specs.declared.dynamic.Dynamic.TheVariants as dynamic
+use Rattle.mk_macros.specs.declared.dynamic.RecipeNames.{RecipeNames}
+use Rattle.mk_reader.specs.declared.item.RecipeLine.{RecipeLine}
+use Rattle.mk_recipe.specs.declared.line.Line.{Line}
+use Rattle.mk_verdict.specs.Verdict.{IsLater, IsOutOfDate}
+use Rattle.mk_verdict.specs.declared.verdict.Target.{Target}
+use Rattle.mk_rules.specs.declared.graph.Graph.{Graph}
+use Rattle.mk_plan.specs.Nodes.{stamp_of, entry_of, hidden_of, stem_of, source_of, explicit_of, recipe_of, is_marked, IsNewer, AreNewer, nothing, named, left_out, EndsRemade}
+use Rattle.mk_plan.specs.Recipe.{AreExpanded, AreNames, AreLinesOf}
+use Rattle.mk_plan.specs.Target.{Seen, seen_at, seen_hard, seen_of, IsTargetOf}
+use Rattle.mk_plan.specs.Passing.{Passes, is_listed, is_up_to_date, has_no_recipe, is_left}
+
+-- what a passing reads of a graph is the same of both
+pub record AreAlike (a b : Graph) : Type 0 where
+  pub names : a.names ≡ b.names
+  pub hard : a.hard ≡ b.hard
+  pub stamp : (n : ℕ) → stamp_of a n ≡ stamp_of b n
+  pub entry : (n : ℕ) → entry_of a n ≡ entry_of b n
+  pub hidden : (n : ℕ) → hidden_of a n ≡ hidden_of b n
+  pub stem : (n : ℕ) → stem_of a n ≡ stem_of b n
+  pub source : (n : ℕ) → source_of a n ≡ source_of b n
+  pub explicit : (n : ℕ) → explicit_of a n ≡ explicit_of b n
+  pub recipe : (n : ℕ) → recipe_of a n ≡ recipe_of b n
+  pub dropped : a.soft_dropped ≡ b.soft_dropped
+  pub ranks : ranks_at a.macros ≡ ranks_at b.macros
+
+turned : (a b : Graph) → AreAlike a b → AreAlike b a
+turned a b same = record {
+  names = sym same.names;
+  hard = sym same.hard;
+  stamp = λ n. sym (same.stamp n);
+  entry = λ n. sym (same.entry n);
+  hidden = λ n. sym (same.hidden n);
+  stem = λ n. sym (same.stem n);
+  source = λ n. sym (same.source n);
+  explicit = λ n. sym (same.explicit n);
+  recipe = λ n. sym (same.recipe n);
+  dropped = sym same.dropped;
+  ranks = sym same.ranks;
+}
+
+-- ---- what is newer, and what ends as remade
+
+abbrev IsNewerBy : (marks : List Bool) (m : ℕ) (stamp target : Option ℤ) → Type 0
+IsNewerBy marks m stamp target = (target ≡ None) ⊎ (IsLater stamp target ⊎ IsTrue (is_marked marks m))
+
+newer_in : (a b : Graph) → AreAlike a b → (marks : List Bool) (n m : ℕ) → IsNewer a marks n m → IsNewer b marks n m
+newer_in a b same marks n m is =
+    subst (λ t. IsNewerBy marks m (stamp_of b m) t) (same.stamp n) (subst (λ s. IsNewerBy marks m s (stamp_of a n)) (same.stamp m) is)
+
+words_in : (a b : Graph) → AreAlike a b → (marks : List Bool) (n : ℕ) (ms : List ℕ) (words : List (List ℕ)) →
+    AreNewer a marks n ms words → AreNewer b marks n ms words
+words_in a b same marks n _ _ nothing = nothing
+words_in a b same marks n _ _ (named {prerequisites = ms} {words = words} m is more) =
+    subst (λ w. AreNewer b marks n (m ∷ ms) (w ∷ words)) (sym (ap (λ ns. name_at ns m) same.names))
+    (named m (newer_in a b same marks n m is) (words_in a b same marks n ms words more))
+words_in a b same marks n _ _ (left_out {prerequisites = ms} {words = words} m other more) =
+    left_out m (λ is. other (newer_in b a (turned a b same) marks n m is)) (words_in a b same marks n ms words more)
+
+abbrev EndsRemadeBy : (marks : List Bool) (stamp : Option ℤ) (hard : List ℕ) → Type 0
+EndsRemadeBy marks stamp hard = (stamp ≡ None) ⊎ Any (λ m. IsTrue (is_marked marks m)) hard
+
+ends_in : (a b : Graph) → AreAlike a b → (marks : List Bool) (n : ℕ) → EndsRemade a marks n → EndsRemade b marks n
+ends_in a b same marks n ends =
+    subst (λ s. EndsRemadeBy marks s (row b.hard n)) (same.stamp n) (subst (λ h. EndsRemadeBy marks (stamp_of a n) (row h n)) same.hard ends)
+
+-- ---- lines and targets
+
+module _ (a b : Graph) (same : AreAlike a b) (marks : List Bool) (n : ℕ) where
+  names_in : (names : RecipeNames) → AreNames a marks n names → AreNames b marks n names
+  names_in names are = record {
+    target = are.target ∙ ap (λ ns. name_at ns n) same.names;
+    source = are.source ∙ same.source n;
+    stem = are.stem ∙ same.stem n;
+    newer = subst (λ h. AreNewer b marks n (row h n) (map (λ word. word.now) names.newer.now)) same.hard (words_in a b same marks n _ _ are.newer);
+  }
+
+  lines_in : (recipe : List RecipeLine) (lines : List Line) → AreLinesOf a marks n recipe lines → AreLinesOf b marks n recipe lines
+  lines_in recipe lines are = record {
+    names = are.names;
+    are_names = names_in are.names are.are_names;
+    expanded = subst (λ r. AreExpanded (meaning_of r (dynamic.RecipeLine are.names)) recipe lines) same.ranks are.expanded;
+  }
+
+  abbrev seen_by : (is_hidden : Bool) (m : ℕ) (name : List ℕ) (stamp : Option ℤ) → Seen
+  seen_by is_hidden m name stamp =
+      record { name = name; stamp = stamp; is_hidden = is_hidden; has_rule = true; is_remade = is_marked marks m }
+
+  same_seen : (is_hidden : Bool) (h : Option ℕ) → seen_at a marks is_hidden h ≡ seen_at b marks is_hidden h
+  same_seen is_hidden None = refl
+  same_seen is_hidden (Some m) =
+      ap (λ ns. seen_by is_hidden m (name_at ns m) (stamp_of a m)) same.names ∙ ap (λ s. seen_by is_hidden m (name_at b.names m) s) (same.stamp m)
+
+  seen_in : seen_of a marks n ≡ seen_of b marks n
+  seen_in =
+      ap (λ h. map (seen_hard a marks) (row h n) ++ map (seen_at a marks true) (hidden_of a n)) same.hard
+      ∙ ap (λ hs. map (seen_hard a marks) (row b.hard n) ++ map (seen_at a marks true) hs) (same.hidden n)
+      ∙ ap (λ (f : ℕ → Seen). map f (row b.hard n) ++ map (seen_at a marks true) (hidden_of b n)) (fun_ext (λ m. same_seen false (Some m)))
+      ∙ ap (λ (f : Option ℕ → Seen). map (seen_hard b marks) (row b.hard n) ++ map f (hidden_of b n)) (fun_ext (λ h. same_seen true h))
+
+  target_in : (lines : List Line) (target : Target) → IsTargetOf a marks n lines target → IsTargetOf b marks n lines target
+  target_in lines target is = record {
+    commands = is.commands;
+    explicit = is.explicit ∙ same.explicit n;
+    stamp = is.stamp ∙ same.stamp n;
+    prerequisites = is.prerequisites ∙ seen_in;
+    ordered = is.ordered ∙ ap not same.dropped;
+  }
+
+-- a node is passed in the one as in the other
+pub passes_in : (a b : Graph) → AreAlike a b → (keeping : Bool) (marks : List Bool) (n : ℕ) (remade : Bool) (listed : List (List Line)) →
+    Passes keeping a marks n remade listed → Passes keeping b marks n remade listed
+passes_in a b same keeping marks n _ _ (is_listed recipe lines target is_r are is_t out) =
+    is_listed recipe lines target (sym (same.recipe n) ∙ is_r) (lines_in a b same marks n recipe lines are) (target_in a b same marks n lines target is_t)
+    (subst (λ e. IsOutOfDate keeping e target) (same.entry n) out)
+passes_in a b same keeping marks n _ _ (is_up_to_date recipe lines target is_r are is_t up) =
+    is_up_to_date recipe lines target (sym (same.recipe n) ∙ is_r) (lines_in a b same marks n recipe lines are) (target_in a b same marks n lines target is_t)
+    (λ out. up (subst (λ e. IsOutOfDate keeping e target) (sym (same.entry n)) out))
+passes_in a b same keeping marks n _ _ (has_no_recipe none ends) = has_no_recipe (sym (same.recipe n) ∙ none) (ends_in a b same marks n ends)
+passes_in a b same keeping marks n _ _ (is_left none stays) =
+    is_left (sym (same.recipe n) ∙ none) (λ ends. stays (ends_in b a (turned a b same) marks n ends))
