@@ -90,7 +90,9 @@ impl Graph {
     ) -> Result<Board<T>, RowFault> {
         let targets = self.targets(alloc, nodes)?;
         let Graph { hard, soft } = self;
-        board(alloc, Edges::new(hard), Edges::new(soft), targets)
+        let hard = Edges::of_rows(alloc, &hard)?;
+        let soft = Edges::of_rows(alloc, &soft)?;
+        board(alloc, hard, soft, targets)
     }
 }
 

@@ -6,3 +6,4 @@ pub mod CycleLemmas
 pub mod RowLemmas
 pub mod PlanLemmas
 pub mod WholeLemmas
+pub mod EdgeLemmas

@@ -38,11 +38,11 @@ fn set_of(alloc: Global, first: &[usize], second: &[usize]) -> Result<Vec<usize>
 fn sets(alloc: Global, edges: &Edges) -> Result<Edges, AllocError>
     ensures { IfOk result (AreSets edges.now) }
 {
-    let mut rows = Vec::with_capacity(alloc, edges.len())?;
+    let mut rows = Edges::with_capacity(alloc, edges.len())?;
     for node in 0..edges.len() {
-        rows.push(set_of(alloc, edges.row(node), &[])?)?;
+        rows.push_row(&set_of(alloc, edges.row(node), &[])?)?;
     }
-    Ok(Edges::new(rows))
+    Ok(rows)
 }
 
 /// Hard and soft edges together, without repeats.
@@ -50,11 +50,11 @@ fn sets_of_both(alloc: Global, hard: &Edges, soft: &Edges) -> Result<Edges, Allo
     requires { length soft.now ≡ length hard.now }
     ensures { IfOk result (AreSets (joined hard.now soft.now)) }
 {
-    let mut rows = Vec::with_capacity(alloc, hard.len())?;
+    let mut rows = Edges::with_capacity(alloc, hard.len())?;
     for node in 0..hard.len() {
-        rows.push(set_of(alloc, hard.row(node), soft.row(node))?)?;
+        rows.push_row(&set_of(alloc, hard.row(node), soft.row(node))?)?;
     }
-    Ok(Edges::new(rows))
+    Ok(rows)
 }
 
 /// What orders the nodes where hard and soft edges together make a cycle.

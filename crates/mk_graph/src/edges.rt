@@ -1,24 +1,37 @@
 //! A graph: the prerequisites of each node.
 
-ghost use Rattle.std.specs.Prelude.{◌≡◌, ℕ, ◌<◌, [], ◌∷◌, ◌++◌, length, map, replicate, IfOk, OnOk, nat_lt};
+ghost use Rattle.std.specs.Prelude.{◌≡◌, ℕ, ◌<◌, ◌≤◌, [], ◌∷◌, ◌++◌, length, map, replicate, slice_index, IfOk, OnOk, OnErr, nat_lt};
 ghost use Rattle.mk_graph.specs.Edges.{row, times, is_closed, AreUsers};
 ghost use Rattle.std.specs.List.{list_all};
 
 use std::alloc::{AllocError, Global};
 use std::marker::Model;
 
-/// The prerequisites of each node, by number. A number may stand in a row more than once.
+/// The prerequisites of each node, by number. A number may stand in a row more than once. The numbers of all rows are one
+/// allocation, and the rows' ends another.
 #[derive(Debug, Drop)]
 pub struct Edges {
-    rows: Vec<Vec<usize>>,
+    numbers: Vec<usize>,
+    ends: Vec<usize>,
 }
 
 impl Model for Edges {
-    ghost use Rattle.std.specs.Prelude.{ℕ, List, map};
+    ghost use Rattle.std.specs.Prelude.{ℕ, List, length};
+    ghost use Rattle.byte_strings.specs.Pieces.{pieces, AreEnds};
 
     ghost Value = { List (List ℕ) };
 
-    ghost view = { λ e. map (λ r. r.items) e.rows.items };
+    ghost view = { λ e. pieces e.numbers.items 0 e.ends.items };
+
+    ghost invariant = { λ e. AreEnds (length e.numbers.items) 0 e.ends.items };
+}
+
+/// Where the row of a node begins: at the end of the one before it.
+fn start_of(ends: &[usize], node: usize) -> usize
+    requires { node ≤ length ends.now }
+    ensures { result ≡ slice_index (0 ∷ ends.now) node }
+{
+    if node == 0 { 0 } else { ends[node - 1] }
 }
 
 fn empty_rows(alloc: Global, nodes: usize) -> Result<Vec<Vec<usize>>, AllocError>
@@ -56,36 +69,46 @@ fn all_below(numbers: &[usize], limit: usize) -> bool
     numbers.iter().all(|n| *n < limit)
 }
 
-fn rows_below(rows: &[Vec<usize>], limit: usize) -> bool
-    ensures { result ≡ list_all (λ r. list_all (λ n. nat_lt n limit) r.items) rows.now }
-{
-    for row in rows {
-        if !all_below(row, limit) {
-            return false;
-        }
-    }
-    true
-}
-
 impl Edges {
-    pub fn new(rows: Vec<Vec<usize>>) -> Edges
-        ensures { result ≡ map (λ r. r.items) rows.items }
-    {
-        Edges { rows }
-    }
-
     /// No nodes, which takes no memory.
-    pub(crate) fn empty(alloc: Global) -> Edges
+    pub fn empty(alloc: Global) -> Edges
         ensures { result ≡ [] }
     {
-        Edges::new(Vec::new(alloc))
+        Edges {
+            numbers: Vec::new(alloc),
+            ends: Vec::new(alloc),
+        }
+    }
+
+    /// No nodes, with room for so many; no clause says that pushes then succeed.
+    pub fn with_capacity(alloc: Global, nodes: usize) -> Result<Edges, AllocError>
+        ensures { IfOk result (λ e. e ≡ []) }
+    {
+        Ok(Edges {
+            numbers: Vec::new(alloc),
+            ends: Vec::with_capacity(alloc, nodes)?,
+        })
+    }
+
+    /// A node for each of these rows.
+    pub fn of_rows(alloc: Global, rows: &[Vec<usize>]) -> Result<Edges, AllocError>
+        ensures { IfOk result (λ e. e ≡ map (λ r. r.items) rows.now) }
+    {
+        let mut edges = Edges::with_capacity(alloc, rows.len())?;
+        for row in rows {
+            edges.push_row(row)?;
+        }
+        Ok(edges)
     }
 
     /// Adds the prerequisites of one more node.
-    pub(crate) fn push(&mut self, row: Vec<usize>) -> Result<(), AllocError>
-        ensures { OnOk result (self.new ≡ self.old ++ row.items ∷ []) }
+    pub fn push_row(&mut self, prerequisites: &[usize]) -> Result<(), AllocError>
+        ensures ok { OnOk result (self.new ≡ self.old ++ prerequisites.now ∷ []) }
+        ensures err { OnErr result (self.new ≡ self.old) }
     {
-        self.rows.push(row)?;
+        self.ends.reserve(1)?;
+        self.numbers.extend_from_slice(prerequisites)?;
+        self.ends.push(self.numbers.len()).unwrap();
         Ok(())
     }
 
@@ -93,7 +116,7 @@ impl Edges {
     pub fn len(&self) -> usize
         ensures { result ≡ length self.now }
     {
-        self.rows.len()
+        self.ends.len()
     }
 
     /// The prerequisites of a node.
@@ -101,14 +124,16 @@ impl Edges {
         requires { node < length self.now }
         ensures { result.now ≡ row self.now node }
     {
-        self.rows[node].as_slice()
+        let start = start_of(&self.ends, node);
+        let end = self.ends[node];
+        &self.numbers[start..end]
     }
 
     /// Whether each number in a row is that of a node.
     pub fn is_closed(&self) -> bool
         ensures { result ≡ is_closed self.now }
     {
-        rows_below(&self.rows, self.rows.len())
+        all_below(&self.numbers, self.ends.len())
     }
 
     /// The users of each node in their order: a node has one for each time that a row names it. Numbers past the end
@@ -116,10 +141,20 @@ impl Edges {
     pub fn reversed(&self, alloc: Global) -> Result<Edges, AllocError>
         ensures { IfOk result (AreUsers self.now) }
     {
-        let mut users = empty_rows(alloc, self.rows.len())?;
-        for (node, row) in self.rows.iter().enumerate() {
-            note_user(&mut users, node, row)?;
+        let mut users = empty_rows(alloc, self.len())?;
+        for node in 0..self.len() {
+            note_user(&mut users, node, self.row(node))?;
         }
-        Ok(Edges { rows: users })
+        Edges::of_rows(alloc, &users)
+    }
+
+    /// The same rows.
+    pub fn copy(&self, alloc: Global) -> Result<Edges, AllocError>
+        ensures { IfOk result (λ e. e ≡ self.now) }
+    {
+        Ok(Edges {
+            numbers: Vec::from_slice(alloc, self.numbers.as_slice())?,
+            ends: Vec::from_slice(alloc, self.ends.as_slice())?,
+        })
     }
 }

@@ -159,7 +159,7 @@ impl<N: Drop> Numbered<N> {
         let Some(row) = self.names.add_all(alloc, &found.prerequisites, limit)? else {
             return Err(NumberingFault::TooMany);
         };
-        self.rows.push(row)?;
+        self.rows.push_row(&row)?;
         self.nodes.push(found.node)?;
         Ok(())
     }

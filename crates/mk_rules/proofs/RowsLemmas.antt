@@ -13,7 +13,7 @@ at_end : (n : ℕ) (rows : List (List ℕ)) (r : List ℕ) → n < length (rows 
 at_end n rows r within past = let l = length-append rows (r ∷ []) in omega arith
 
 -- one row more that has the property
-each_more : (is : (n : ℕ) → List ℕ → Type 0) (rows : List (List ℕ)) (r : List ℕ) → EachRow is rows → is (length rows) r → EachRow is (rows ++ r ∷ [])
+pub each_more : (is : (n : ℕ) → List ℕ → Type 0) (rows : List (List ℕ)) (r : List ℕ) → EachRow is rows → is (length rows) r → EachRow is (rows ++ r ∷ [])
 each_more is rows r each here n within =
     ⊎_elim
     (λ (below : n < length rows). subst (is n) (sym (get_or-append rows (r ∷ []) [] n below)) (each n below))

@@ -36,7 +36,7 @@ pub(crate) fn hard_edges(alloc: Global, numbered: &Numbered<Known>) -> Result<Ed
     ensures closed { IfOk result (λ hard. IsTrue (is_closed hard)) }
     ensures rows { IfOk result (λ hard. EachRow (IsHardRow numbered.now.rows numbered.now.nodes.items) hard) }
 {
-    Ok(Edges::new(hard_rows(alloc, &numbered.rows, &numbered.nodes)?))
+    hard_rows(alloc, &numbered.rows, &numbered.nodes)
 }
 
 /// The names of a cycle's nodes.

@@ -28,19 +28,15 @@ pub(crate) fn behind(row: &[usize], count: usize) -> &[usize]
 }
 
 /// The hard prerequisites of each node.
-pub(crate) fn hard_rows(
-    alloc: Global,
-    rows: &Edges,
-    known: &[Known],
-) -> Result<Vec<Vec<usize>>, AllocError>
+pub(crate) fn hard_rows(alloc: Global, rows: &Edges, known: &[Known]) -> Result<Edges, AllocError>
     requires { length rows.now ≡ length known.now }
-    ensures count { IfOk result (λ hard. length hard.items ≡ length known.now) }
-    ensures rows { IfOk result (λ hard. EachRow (IsHardRow rows.now known.now) (map (λ r. r.items) hard.items)) }
-    ensures closed { IfOk result (λ hard. is_closed rows.now ≡ true → is_closed (map (λ r. r.items) hard.items) ≡ true) }
+    ensures count { IfOk result (λ hard. length hard ≡ length known.now) }
+    ensures rows { IfOk result (EachRow (IsHardRow rows.now known.now)) }
+    ensures closed { IfOk result (λ hard. is_closed rows.now ≡ true → is_closed hard ≡ true) }
 {
-    let mut hard = Vec::with_capacity(alloc, known.len())?;
+    let mut hard = Edges::with_capacity(alloc, known.len())?;
     for (node, found) in known.iter().enumerate() {
-        hard.push(Vec::from_slice(alloc, front(rows.row(node), found.hard))?)?;
+        hard.push_row(front(rows.row(node), found.hard))?;
     }
     Ok(hard)
 }

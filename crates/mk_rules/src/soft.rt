@@ -37,5 +37,5 @@ pub(crate) fn soft_edges(
 {
     let mut soft = hidden_rows(alloc, &numbered.rows, &numbered.nodes)?;
     add_all_waits(alloc, &mut soft, &numbered.names, suffixes, lines)?;
-    Ok(Edges::new(soft))
+    Edges::of_rows(alloc, &soft)
 }

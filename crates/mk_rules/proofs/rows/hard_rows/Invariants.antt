@@ -1,9 +1,9 @@
-use Rattle.std.proofs.Common.{◌≡◌, length, map}
+use Rattle.std.proofs.Common.{◌≡◌, length}
 use Rattle.mk_rules.specs.Rows.{EachRow, IsHardRow}
 use Rattle.mk_rules.proofs.rows.hard_rows.Given as goal
 
 abbrev pub invariant-loop-node : goal.invariant-loop-node
 invariant-loop-node l = record {
-  count : length l.hard.items ≡ l.node;
-  each : EachRow (IsHardRow l.rows l.known) (map (λ r. r.items) l.hard.items);
+  count : length l.hard ≡ l.node;
+  each : EachRow (IsHardRow l.rows l.known) l.hard;
 }
