@@ -15,6 +15,8 @@ ghost use Rattle.dmk_drive.specs.Planned.{AreItems, Plans};
 ghost use Rattle.st_disk.specs.declared.which.Which.{Which};
 ghost use Rattle.bd_lists.specs.declared.recipe.Variable.{Variable};
 
+use st_disk::Disk;
+
 /// State is kept by the items of a makefile just where it is by their rule lines.
 pub fn one_reading_of_the_settings()
     ensures { (ranks : Defined) (items : List Item) (lines : List RuleLine) → AreRuleLines ranks items lines
@@ -40,10 +42,10 @@ pub fn one_listing()
 
 /// By the same files, times and state there is one plan: two plans list the same, and soft edges make a cycle in both or in none.
 /// Where state is kept, that is where the disk keeps its model.
-pub fn one_plan()
+pub fn one_plan<D: Disk>()
     ensures { (files : List ℕ → Option (List ℕ)) (times : List ℕ → Option ℤ) (named : Option (List ℕ)) (definitions environment : List Variable)
-        (targets : List (List ℕ)) (honest : Type 0) (seen : Which → List ℕ) (a b : List (List Line)) (d e : Bool) → honest
-        → Plans files times named definitions environment targets honest seen a d
-        → Plans files times named definitions environment targets honest seen b e
+        (targets : List (List ℕ)) (seen : Which → List ℕ) (a b : List (List Line)) (d e : Bool) → D.honest
+        → Plans files times named definitions environment targets D.honest seen a d
+        → Plans files times named definitions environment targets D.honest seen b e
         → (a ≡ b) × (d ≡ e) }
 {}
