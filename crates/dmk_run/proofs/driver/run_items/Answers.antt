@@ -1,4 +1,4 @@
-use Rattle.std.proofs.Common.{sym, ◌∙◌}
+use Rattle.std.proofs.Common.{sym, subst, ◌∙◌, ℕ, ℤ, List, Option, IfOk}
 use Rattle.st_memory.specs.MemDisk.{memory_bytes, memory_moments}
 use Rattle.st_disk.specs.Moments.{now}
 use Rattle.mk_rule_lines.proofs.ResultLemmas.{if_ok}
@@ -7,6 +7,16 @@ use Rattle.dmk_drive.proofs.AllowedLemmas.{each_ok}
 use Rattle.dmk_run.specs.Made.{MakesItems}
 use Rattle.dmk_run.proofs.DriverLemmas.{found_without_state}
 use Rattle.dmk_run.proofs.driver.run_items.Goals as goal
+
+pub returns-then-keeps_state-clause-makes : goal.returns-then-keeps_state-clause-makes
+returns-then-keeps_state-clause-makes g c =
+    let environment = c.args.means.now.environment.now in
+    let items = c.args.items.items in
+    let is = rw c.deref.ensures.value at c.keeps_state.ensures in
+    subst (λ k. IfOk c.run_over.result.0 (λ s. (times : List ℕ → Option ℤ) → g.T.Tree.allows c.run_over.new.tree times →
+    MakesItems c.args.goals.definitions.items environment c.args.goals.targets times items k k g.D.Disk.honest (g.D.Disk.seen c.args.disk) s
+    (now (g.D.Disk.moments c.run_over.result.1))))
+    (sym c.if-keeps_state.true ∙ is) c.run_over.ensures.makes
 
 pub returns-clause-makes : goal.returns-clause-makes
 returns-clause-makes g c =
