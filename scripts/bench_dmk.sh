@@ -1,28 +1,36 @@
 #!/bin/bash
 # bench_dmk.sh [FOLDER [KIND TARGETS]]: times bin/dmk (scripts/build.sh makes it) on trees that are up to date, beside GNU make
-# and, where it is installed, ninja, in one run: seconds of processor time, the least of three, and the most memory that was in
+# and, where it is installed, ninja, in turns: seconds of processor time, the least of $ROUNDS (5), and the most memory that was in
 # use. The trees stand in a folder of their own in FOLDER (the system's temporary one); KIND (flat, layers, hidden, chain) and
-# TARGETS name one of them. Nothing is tested.
+# TARGETS name one of them. The program is $DMK, or bin/dmk. Nothing is tested.
 set -eu
 folder=$(cd "${1:-${TMPDIR:-/tmp}}" && pwd)
 cd "$(dirname "$0")/.."
-dmk=$PWD/bin/dmk
+dmk=$(realpath "${DMK:-bin/dmk}")
 scripts=$PWD/scripts
 work=$(mktemp -d -p "$folder")
 trap 'rm -rf "$work"' EXIT
 
-# least COMMAND..: the least processor time of three runs, the memory of the largest, and the last one's status.
-least() {
-    python3 -c 'import os, resource, subprocess, sys
-least = None
-for _ in range(3):
-    before = resource.getrusage(resource.RUSAGE_CHILDREN)
-    status = subprocess.run(sys.argv[1:], stdout=subprocess.DEVNULL, stderr=subprocess.DEVNULL).returncode
-    after = resource.getrusage(resource.RUSAGE_CHILDREN)
-    took = after.ru_utime + after.ru_stime - before.ru_utime - before.ru_stime
-    least = took if least is None else min(least, took)
-memory = resource.getrusage(resource.RUSAGE_CHILDREN).ru_maxrss
-print(f"{least:.3f} s, {memory / 1024:.0f} MB (status {status})")' "$@"
+# rounds COMMANDS..: each a line of words. In each round each is run once, so that what else the machine does falls on all of them.
+rounds() {
+    python3 -c 'import os, sys
+words = [line.split() for line in sys.argv[2:]]
+least, most, status = [None] * len(words), [0] * len(words), [0] * len(words)
+for _ in range(int(sys.argv[1])):
+    for number, command in enumerate(words):
+        process = os.fork()
+        if process == 0:
+            out = os.open("/dev/null", os.O_WRONLY)
+            os.dup2(out, 1)
+            os.dup2(out, 2)
+            os.execvp(command[0], command)
+        _, ended, used = os.wait4(process, 0)
+        took = used.ru_utime + used.ru_stime
+        least[number] = took if least[number] is None else min(least[number], took)
+        most[number], status[number] = max(most[number], used.ru_maxrss), os.waitstatus_to_exitcode(ended)
+for number, command in enumerate(words):
+    name = " ".join([os.path.basename(command[0]), *command[1:]])
+    print(f"  {name:<13} {least[number]:.3f} s, {most[number] / 1024:.0f} MB (status {status[number]})")' "${ROUNDS:-5}" "$@"
 }
 
 measure() {
@@ -30,17 +38,10 @@ measure() {
     rm -rf "$tree"
     python3 "$scripts/dmk_tree.py" "$kind" "$targets" "$tree"
     cd "$tree"
-    echo "$kind, $targets targets"
-    echo "  dmk -q        $(least "$dmk" -q)"
-    echo "  make -rR -q   $(least make -rR -q)"
-    echo "  dmk -n        $(least "$dmk" -n)"
-    echo "  make -rR -n   $(least make -rR -n)"
-    echo "  dmk           $(least "$dmk")"
-    echo "  make -rR      $(least make -rR)"
-    if command -v ninja >/dev/null; then
-        echo "  ninja -n      $(least ninja -n)"
-        echo "  ninja         $(least ninja)"
-    fi
+    echo "$kind, $targets targets, state of $(stat -c %s .make.state) bytes, load $(cut -d' ' -f1 /proc/loadavg)"
+    set -- "$dmk -q" "make -rR -q" "$dmk -n" "make -rR -n" "$dmk" "make -rR"
+    ! command -v ninja >/dev/null || set -- "$@" "ninja -n" "ninja"
+    rounds "$@"
     cd "$scripts/.."
 }
 

@@ -11,6 +11,7 @@ trap 'rm -rf "$work"' EXIT
 count() {
     if [ "$2" = yes ]; then
         passed=$((passed + 1))
+        echo "$1"
     else
         failed=$((failed + 1))
         echo "FAILED $1"
@@ -24,11 +25,11 @@ engine() {
     chmod 755 "$work/$1"
 }
 
-# has_to_fail TITLE PATTERN WORDS..: run.sh, with these words, fails at a step that the pattern finds.
+# has_to_fail TITLE PATTERN WORDS..: run.sh, with these words, fails, and first at a step that the pattern finds.
 has_to_fail() {
     local title=$1 pattern=$2 ok=no
     shift 2
-    env "$@" >"$work/out" 2>&1
+    env FARM_FIRST=yes "$@" >"$work/out" 2>&1
     [ $? -eq 1 ] && grep -q "^FAILED $pattern" "$work/out" && ok=yes
     count "$title" $ok
 }
@@ -53,7 +54,7 @@ engine leaves_half <<'END'
 DISTCC_FALLBACK=0 distcc "$@" && exit
 while [ $# -gt 0 ]; do [ "$1" != -o ] || printf half >"$2"; shift; done
 END
-has_to_fail "objects that are half made" "no host is there: .*objects" "FARM_DISTCC=$work/leaves_half" bash run.sh away
+has_to_fail "objects that are half made" "[a-z ]*: .*objects" "FARM_DISTCC=$work/leaves_half" bash run.sh away
 
 # ccache sees the variable by which gcc is asked for a report, and compiles nothing.
 engine sees_the_variable <<'END'

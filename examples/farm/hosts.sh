@@ -14,6 +14,8 @@ start_host() {
     [ -z "${host_pid[$1]:-}" ] || return 0
     [ -d "$place" ] || mkdir -m 1777 "$place" || return
     starts=$((starts + 1)) log=$place/log$starts
+    # Here and not by the server's own shell, which may come to it later than the first look.
+    : >"$log"
     # A session of its own, so that a signal reaches all its processes and nobody else's.
     TMPDIR=$place setsid distccd --daemon --no-detach --listen "127.0.0.$(($1 + 1))" --port "$((port + $1))" \
         --allow 127.0.0.0/8 --jobs 12 --log-level info --log-stderr >"$log" 2>&1 </dev/null &

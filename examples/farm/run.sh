@@ -5,7 +5,7 @@
 #   run.sh [PART..]    PART: hosts, cache, away, cut; all of them where none is named
 #
 # The program is $DMK, or that of scripts/build.sh, which is called where there is none. It works in a folder of its own in the
-# system's temporary one. The last line is 'N passed, M failed'. Status: 0 where M is 0; 77 where a program that it needs isn't
+# system's temporary one. The last line is 'N passed, M failed'; with FARM_FIRST set it ends at the first step that fails. Status: 0 where M is 0; 77 where a program that it needs isn't
 # there, so that nothing was tried; else 1.
 set -u
 cd "$(dirname "$0")" || exit 1
@@ -41,6 +41,7 @@ told() {
         failed=$((failed + 1))
         printf 'FAILED %s:%s; %s\n' "$1" "$2" "$3"
         tail -n 5 "$work/errors"
+        [ -z "${FARM_FIRST:-}" ] || exit 1
     fi
 }
 
@@ -70,7 +71,7 @@ build() {
     wait "$run" || why="$why status"
     made=$(wc -l <"$work/lines")
     # A host tells of a compilation once its answer is sent.
-    for _ in $(seq 30); do
+    for _ in $(seq 100); do
         got=$(($(compiled_by_hosts) - before))
         [ "$wanted" != - ] && [ "$got" -lt "$wanted" ] || break
         sleep 0.1
