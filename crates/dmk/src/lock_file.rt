@@ -2,7 +2,7 @@
 //! last of them, by whatever death.
 
 use std::alloc::AllocError;
-use std::fs::{self, File, OpenOptions};
+use std::fs::{self, File, OpenOptions, TryLockError};
 use std::io::{self, ErrorKind};
 use std::os::unix::fs::MetadataExt;
 
@@ -14,8 +14,15 @@ pub struct LockFile {
     number: u64,
 }
 
-// For reading alone, so that the file of another user serves, and no recipe can write into it.
-fn open_empty(rt: HostRuntime, path: &str) -> io::Result<File> {
+/// What came of an attempt to lock the file of a path.
+#[derive(Drop)]
+pub enum Tried {
+    Locked(LockFile),
+    /// Another opening of the file is locked.
+    Taken(LockFile),
+}
+
+fn open_empty(rt: HostRuntime, path: &str, writable: bool) -> io::Result<File> {
     match fs::metadata(&rt, path) {
         Ok(found) if found.is_file() && found.len() == 0 => {}
         Ok(_) => return Err(ErrorKind::InvalidInput.into()),
@@ -24,19 +31,39 @@ fn open_empty(rt: HostRuntime, path: &str) -> io::Result<File> {
         }
         Err(error) => return Err(error),
     }
-    File::open(&rt, path)
+    OpenOptions::new()
+        .read(true)
+        .write(writable)
+        .open(&rt, path)
 }
 
 impl LockFile {
-    /// Makes the file where there is none. What isn't an empty file is refused.
-    pub fn open(rt: HostRuntime, path: &str) -> io::Result<LockFile> {
-        let file = open_empty(rt, path)?;
+    fn open(rt: HostRuntime, path: &str, writable: bool) -> io::Result<LockFile> {
+        let file = open_empty(rt, path, writable)?;
         let found = file.metadata()?;
         Ok(LockFile {
             file,
             device: found.dev(),
             number: found.ino(),
         })
+    }
+
+    fn attempt(self) -> io::Result<Tried> {
+        match self.file.try_lock() {
+            Ok(()) => Ok(Tried::Locked(self)),
+            Err(TryLockError::WouldBlock) => Ok(Tried::Taken(self)),
+            Err(TryLockError::Error(error)) => Err(error),
+        }
+    }
+
+    /// Opens the file, which it makes where there is none, and tries to lock it. What isn't an empty file is refused.
+    pub fn try_lock(rt: HostRuntime, path: &str) -> io::Result<Tried> {
+        // For reading alone, so that the file of another user serves, and no recipe can write into it.
+        match LockFile::open(rt, path, false)?.attempt() {
+            Ok(tried) => Ok(tried),
+            // NFS 4 locks only what is open for writing.
+            Err(_) => LockFile::open(rt, path, true)?.attempt(),
+        }
     }
 
     /// The device and the number of the file, by which it is known under all its names.

@@ -1,10 +1,9 @@
 //! The name of the FIFO that dmk serves, which no other run serves meanwhile.
 
-use crate::lock_file::LockFile;
+use crate::lock_file::{LockFile, Tried};
 use jb_runner::{Source, source_of};
 use std::alloc::AllocError;
-use std::fs::{self, TryLockError};
-use std::{env, io};
+use std::{env, fs, io};
 
 /// How many runs may serve a FIFO of one state's name at once.
 const MAX_NAMES: usize = 99;
@@ -39,12 +38,13 @@ fn lock_path(rt: HostRuntime, path: &str) -> Result<String, AllocError> {
 // The lock file of a name, locked; None where another run serves the name.
 fn try_lock(rt: HostRuntime, path: &str) -> io::Result<Option<LockFile>> {
     for _ in 0..u64::MAX {
-        let lock = LockFile::open(rt, path)?;
-        match lock.file.try_lock() {
-            Ok(()) if lock.is_at(rt, path) => return Ok(Some(lock)),
-            Ok(()) => {}
-            Err(TryLockError::WouldBlock) => return Ok(None),
-            Err(TryLockError::Error(error)) => return Err(error),
+        match LockFile::try_lock(rt, path)? {
+            Tried::Locked(lock) => {
+                if lock.is_at(rt, path) {
+                    return Ok(Some(lock));
+                }
+            }
+            Tried::Taken(_) => return Ok(None),
         }
     }
     Ok(None)

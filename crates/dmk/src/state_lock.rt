@@ -1,10 +1,10 @@
 //! The lock on a state: on an empty file beside it, which stays. Recipes inherit a handle to it, and so hold the lock too.
 
-use crate::lock_file::LockFile;
+use crate::lock_file::{LockFile, Tried};
 use dmk_run::{Guard, Hold};
 use jb_host::HeldLock;
 use std::alloc::AllocError;
-use std::fs::{self, TryLockError};
+use std::fs;
 use std::io::{self, ErrorKind};
 use std::sync::OnceLock;
 
@@ -107,17 +107,18 @@ impl<'a> StateLock<'a> {
     // One attempt; the opened file where another run has the lock.
     fn try_once(&self) -> Result<Result<Hold, LockFile>, LockFault> {
         for _ in 0..u64::MAX {
-            let opened = LockFile::open(self.rt, self.path.as_str())?;
-            match opened.file.try_lock() {
-                Ok(()) if opened.is_at(self.rt, self.path.as_str()) => return Ok(Ok(self.keep(
-                    opened,
-                )?)),
-                Ok(()) => {}
-                Err(TryLockError::WouldBlock) if self.is_held_above(&opened)? => {
-                    return Ok(Ok(Hold::HeldAbove));
+            match LockFile::try_lock(self.rt, self.path.as_str())? {
+                Tried::Locked(opened) => {
+                    if opened.is_at(self.rt, self.path.as_str()) {
+                        return Ok(Ok(self.keep(opened)?));
+                    }
                 }
-                Err(TryLockError::WouldBlock) => return Ok(Err(opened)),
-                Err(TryLockError::Error(error)) => return Err(LockFault::from(error)),
+                Tried::Taken(opened) => {
+                    if self.is_held_above(&opened)? {
+                        return Ok(Ok(Hold::HeldAbove));
+                    }
+                    return Ok(Err(opened));
+                }
             }
         }
         Err(LockFault::NotToBeHad)
