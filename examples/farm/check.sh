@@ -47,7 +47,7 @@ engine forgets <<'END'
 distcc "$@" || exit
 while [ $# -gt 0 ]; do [ "$1" != -MF ] || : >"$2"; shift; done
 END
-has_to_fail "reports that are lost" "changed: the header of a family" "FARM_DISTCC=$work/forgets" bash run.sh hosts
+has_to_fail "reports that are lost" "modules whose report names the family's header" "FARM_DISTCC=$work/forgets" bash run.sh hosts
 
 # Where a host goes away, half an object is left, and the status is 0.
 engine leaves_half <<'END'
@@ -71,7 +71,7 @@ while [ $# -gt 0 ]; do
 done
 exec ccache "${words[@]}"
 END
-has_to_fail "a cache that restores no report" "ccache: changed: the header of a family" "FARM_CCACHE=$work/restores_no_report" bash run.sh cache
+has_to_fail "a cache that restores no report" "ccache: touched: the header of a group" "FARM_CCACHE=$work/restores_no_report" bash run.sh cache
 
 echo "$passed passed, $failed failed"
 [ "$failed" -eq 0 ]
