@@ -1,8 +1,8 @@
 -- A definition changes what one name has, and a map's entries say what each name has.
-use Rattle.std.proofs.Common.{◌≡◌, ◌≢◌, ℕ, Bool, true, false, cond, List, [], ◌∷◌, map, refl, sym, ap, ◌∙◌, nat_eq, bytes_eq}
+use Rattle.std.proofs.Common.{◌≡◌, ◌≢◌, ℕ, Bool, true, false, cond, List, [], ◌∷◌, map, Some, refl, sym, ap, ◌∙◌, nat_eq, bytes_eq}
 use Rattle.std.proofs.lemmas.Bool.{false≢true}
 use Rattle.std.specs.Option.{option_map_or}
-use Rattle.std.specs.Map.{lookup, set_value}
+use Rattle.std.specs.Map.{lookup, lookup_key, set_value}
 use Rattle.std.specs.Cmp.Lexicographic.{pointwise}
 use Rattle.std.proofs.lemmas.Slice.Eq.{bytes_eq-Decides}
 use Rattle.indexmap.specs.IndexMap.{insert_entry}
@@ -12,6 +12,19 @@ use Rattle.mk_macros.specs.declared.definitions.Rank.{Rank}
 -- the key has these bytes
 abbrev pub is_named : {K : Type 0} → (K → List ℕ) → List ℕ → K → Bool
 is_named bytes_of wanted k = pointwise nat_eq wanted (bytes_of k)
+
+key_at : {K V : Type 0} (bytes_of : K → List ℕ) (name : List ℕ) (e : K × V) (es : List (K × V)) (k : K) (t : Bool) → is_named bytes_of name e.0 ≡ t →
+    (lookup_key (is_named bytes_of name) es ≡ Some k → bytes_of k ≡ name) → lookup_key (is_named bytes_of name) (e ∷ es) ≡ Some k → bytes_of k ≡ name
+key_at bytes_of name e es k true here ih found =
+    let first : Some e.0 ≡ Some k = simp here at found in
+    let is : e.0 ≡ k = cc in
+    ap bytes_of (sym is) ∙ sym ((bytes_eq-Decides name (bytes_of e.0)).0 here)
+key_at bytes_of name e es k false here ih found = ih (simp here at found)
+
+-- the key that is found for a name has its bytes
+pub key_named : {K V : Type 0} (bytes_of : K → List ℕ) (name : List ℕ) (es : List (K × V)) (k : K) → lookup_key (is_named bytes_of name) es ≡ Some k → bytes_of k ≡ name
+key_named bytes_of name [] k found = absurd (cc found)
+key_named bytes_of name (e ∷ es) k found = key_at bytes_of name e es k (is_named bytes_of name e.0) refl (key_named bytes_of name es k) found
 
 other_key_at : {K : Type 0} (bytes_of : K → List ℕ) (n name : List ℕ) → n ≢ name → (k : K) → is_named bytes_of name k ≡ true →
     (t : Bool) → is_named bytes_of n k ≡ t → is_named bytes_of n k ≡ false

@@ -1,6 +1,8 @@
 pub mod ArmLemmas
+pub mod BracketLemmas
 pub mod DefinitionLemmas
 pub mod ExpansionLemmas
+pub mod LookupLemmas
 pub mod MentionLemmas
 pub mod OutcomeLemmas
 pub mod PartLemmas

@@ -1,25 +1,9 @@
--- A text refers to newer prerequisites where its first piece does, or what stands behind it.
-use Rattle.std.proofs.Common.{◌≡◌, ◌∙◌, ℕ, Bool, true, false, List, Bor, refl, sym, subst}
-use Rattle.mk_macros.specs.declared.reference.Use as of_use
-use Rattle.mk_macros.specs.declared.reference.Piece as of
-use Rattle.mk_macros.specs.declared.reference.Piece.TheVariants as code
-use Rattle.mk_macros.specs.Shown.{shown_piece}
+-- A text refers to newer prerequisites where its first piece does, or what is read next.
+use Rattle.std.proofs.Common.{◌≡◌, ◌≤◌, ◌∙◌, ◌⊎◌, inl, inr, ℕ, Bool, true, false, List, ◌∷◌, drop, length, refl, sym, ap, subst, arith}
 use Rattle.mk_macros.specs.Reference.{Piece, plain, reference, unclosed, nested, nothing, first, front}
-use Rattle.mk_macros.specs.Mention.{is_newer_name, RefersToNewer, in_front, behind}
-
--- the piece is such a reference
-abbrev pub is_mention : Piece → Bool
-is_mention (plain bytes) = false
-is_mention (reference name use_of) = is_newer_name name
-is_mention unclosed = false
-is_mention nested = false
-
--- what the code doesn't take for a reference is none
-pub other_piece : (piece : of.Piece) → ((name : Bor (List ℕ)) (use_of : of_use.Use) → piece ≡ code.Reference name use_of → ⊥) → is_mention (shown_piece piece) ≡ false
-other_piece (code.Plain bytes) h = refl
-other_piece (code.Reference name use_of) h = absurd (h name use_of refl)
-other_piece code.Unclosed h = refl
-other_piece code.Nested h = refl
+use Rattle.mk_macros.specs.Spelled.{SpellsFront, SpellsPiece}
+use Rattle.mk_macros.specs.Mention.{names_newer, holds_references, RefersToNewerIn, in_front, behind, in_brackets}
+use Rattle.mk_macros.proofs.SpelledLemmas.{front_said}
 
 piece_is : (p q : Piece) (x y : List ℕ) → first p x ≡ first q y → p ≡ q
 piece_is p q x y e = cc
@@ -30,18 +14,51 @@ rest_is p q x y e = cc
 some_piece : (p : Piece) (x : List ℕ) → nothing ≡ first p x → ⊥
 some_piece p x e = cc
 
-clash : (b : Bool) → b ≡ true → b ≡ false → ⊥
+pub clash : (b : Bool) → b ≡ true → b ≡ false → ⊥
 clash b e f = cc
 
--- no text is left
-pub none_left : (text : List ℕ) → front text ≡ nothing → RefersToNewer text → ⊥
-none_left text e (in_front name use_of rest is newer) = some_piece (reference name use_of) rest (sym e ∙ is)
-none_left text e (behind piece rest is refers) = some_piece piece rest (sym e ∙ is)
+-- brackets begin with a `$` and the opening one
+abbrev pub IsBracketed : List ℕ → Type 0
+IsBracketed text = (opening : ℕ) × (inner : List ℕ) × (text ≡ 36 ∷ opening ∷ inner)
 
--- the first piece is no such reference
-pub goes_on : (text rest : List ℕ) (piece : Piece) → front text ≡ first piece rest → is_mention piece ≡ false → RefersToNewer text → RefersToNewer rest
-goes_on text rest piece e other (in_front name use_of after is newer) =
-    let same : reference name use_of ≡ piece = piece_is (reference name use_of) piece after rest (sym is ∙ e) in
-    absurd (clash (is_mention piece) (subst (λ (p : Piece). is_mention p ≡ true) same newer) other)
-goes_on text rest piece e none (behind next after is refers) =
-    subst RefersToNewer (rest_is next piece after rest (sym is ∙ e)) refers
+bracketed_piece : (wide : Bool) (text : List ℕ) (piece : Piece) (rest : List ℕ) → holds_references piece ≡ true → SpellsPiece wide text piece rest → IsBracketed text
+bracketed_piece wide text (plain bytes) rest h spelled = absurd (cc h)
+bracketed_piece wide text (reference name use_of) rest h spelled = absurd (cc h)
+bracketed_piece wide text unclosed rest h (inl (inner, e, never), end) = (40, inner, e)
+bracketed_piece wide text unclosed rest h (inr (inner, e, never), end) = (123, inner, e)
+bracketed_piece wide text (nested inner) rest h (inl (e, fits), dollar) = (40, _, e)
+bracketed_piece wide text (nested inner) rest h (inr (e, fits), dollar) = (123, _, e)
+
+module _ (wide : Bool) (text rest : List ℕ) (piece : Piece) (at : front wide text ≡ first piece rest) where
+  pub bracketed : holds_references piece ≡ true → IsBracketed text
+  bracketed h = bracketed_piece wide text piece rest h (subst (SpellsFront wide text) at (front_said wide text))
+
+  pub long_enough : holds_references piece ≡ true → 2 ≤ length text
+  long_enough h = let b = bracketed h in let long = ap length b.2 in omega (arith, long)
+
+  -- what stands behind the opening bracket refers to them
+  pub enters : wide ≡ true → holds_references piece ≡ true → RefersToNewerIn wide (drop 2 text) → RefersToNewerIn wide text
+  enters w h refers =
+      let b = bracketed h in
+      in_brackets piece rest b.0 b.1 w at h b.2 (subst (RefersToNewerIn wide) (ap (drop 2) b.2) refers)
+
+  same_piece : (p : Piece) (x : List ℕ) → front wide text ≡ first p x → p ≡ piece
+  same_piece p x e = piece_is p piece x rest (sym e ∙ at)
+
+  pub entered : names_newer piece ≡ false → wide ≡ true → holds_references piece ≡ true → RefersToNewerIn wide text → RefersToNewerIn wide (drop 2 text)
+  entered none w h (in_front p x e newer) = absurd (clash (names_newer piece) (subst (λ (q : Piece). names_newer q ≡ true) (same_piece p x e) newer) none)
+  entered none w h (behind p x e holds refers) = absurd (clash (holds_references piece) h (subst (λ (q : Piece). holds_references q ≡ false) (same_piece p x e) (holds w)))
+  entered none w h (in_brackets p x opening inner v e holds spelled refers) = subst (RefersToNewerIn wide) (sym (ap (drop 2) spelled)) refers
+
+  -- the first piece is no such reference, and isn't entered
+  pub goes_on : names_newer piece ≡ false → (wide ≡ true → holds_references piece ≡ false) → RefersToNewerIn wide text → RefersToNewerIn wide rest
+  goes_on none whole (in_front p x e newer) = absurd (clash (names_newer piece) (subst (λ (q : Piece). names_newer q ≡ true) (same_piece p x e) newer) none)
+  goes_on none whole (behind p x e holds refers) = subst (RefersToNewerIn wide) (rest_is p piece x rest (sym e ∙ at)) refers
+  goes_on none whole (in_brackets p x opening inner w e holds spelled refers) =
+      absurd (clash (holds_references piece) (subst (λ (q : Piece). holds_references q ≡ true) (same_piece p x e) holds) (whole w))
+
+-- no text is left
+pub none_left : (wide : Bool) (text : List ℕ) → front wide text ≡ nothing → RefersToNewerIn wide text → ⊥
+none_left wide text e (in_front piece rest is newer) = some_piece piece rest (sym e ∙ is)
+none_left wide text e (behind piece rest is holds refers) = some_piece piece rest (sym e ∙ is)
+none_left wide text e (in_brackets piece rest opening inner w is holds spelled refers) = some_piece piece rest (sym e ∙ is)

@@ -1,16 +1,19 @@
 -- A text has an outcome, for what definitions and a line give: each macro that is opened has one text less to open.
-use Rattle.std.proofs.Common.{◌≡◌, ℕ, zero, suc, ◌+◌, ◌<◌, ◌≤◌, nat_lt, Bool, true, false, cond, ◌||◌, List, [], ◌∷◌, ◌++◌, length, Option, Some, None, refl, sym, ap, subst, ◌∙◌, ◌⊎◌, inl, inr, arith, bytes_eq}
+use Rattle.std.proofs.Common.{◌≡◌, ℕ, zero, suc, ◌+◌, ◌<◌, ◌≤◌, nat_lt, Bool, true, false, cond, ◌||◌, List, [], ◌∷◌, ◌++◌, take, drop, length, Option, Some, None, refl, sym, ap, subst, ◌∙◌, ◌⊎◌, inl, inr, arith, bytes_eq}
 use Rattle.std.proofs.lemmas.Bool.Decides.{nat_tests}
 use Rattle.std.proofs.lemmas.Slice.Eq.{bytes_eq-Decides}
 use Rattle.mk_macros.specs.declared.dynamic.Dynamic.{Dynamic}
 use Rattle.mk_macros.specs.Dynamic.{dynamic_value}
-use Rattle.mk_macros.specs.Reference.{Use, used, Piece, plain, reference, unclosed, nested, Front, nothing, first, front}
+use Rattle.mk_macros.specs.Reference.{Use, whole, words_changed, used, Piece, plain, reference, unclosed, nested, after_colon, at_colon, named, Front, nothing, first, front}
+use Rattle.mk_macros.specs.Words.{place_of, by_pattern, pattern_of}
 use Rattle.mk_macros.specs.Ranks.{Ranks, in_force, ranks_at, meaning_from, meaning_of}
-use Rattle.mk_macros.specs.Expansion.{Meaning, undefined, dynamic, defined, refers_to_itself, not_closed, dollar_in_brackets, too_long, Outcome, gives, fails, limit, IsOneOf, Expands, ends, goes_on, is_too_long, meets_fault, Adds, adds_bytes, is_unclosed, is_nested, is_undefined, is_dynamic, is_long_dynamic, is_loop, has_value, has_fault}
+use Rattle.mk_macros.specs.Expansion.{Meaning, undefined, dynamic, defined, refers_to_itself, not_closed, dollar_in_brackets, too_long, Outcome, gives, fails, limit, IsOneOf, Expands, ends, goes_on, is_too_long, meets_fault, Adds, adds_bytes, is_unclosed, is_nested, is_undefined, is_dynamic, is_long_dynamic, is_loop, has_value, has_fault, has_name, has_no_name}
 use Rattle.mk_macros.specs.Spelled.{SpellsFront}
-use Rattle.mk_macros.proofs.ExpansionLemmas.{Progress, unseen, opened, SetsProgress}
+use Rattle.mk_macros.specs.Lookup.{Progress, unseen, opened}
+use Rattle.mk_macros.proofs.ExpansionLemmas.{SetsProgress}
 use Rattle.mk_macros.proofs.StateLemmas.{unseen_cost, unseen_cost-enter}
-use Rattle.mk_macros.proofs.SpelledLemmas.{either, front_said, piece_shorter}
+use Rattle.mk_macros.proofs.BracketLemmas.{either}
+use Rattle.mk_macros.proofs.SpelledLemmas.{front_said, piece_shorter, inner_shorter}
 
 or_true : (a b : Bool) → b ≡ true → (a || b) ≡ true
 or_true true b h = refl
@@ -54,7 +57,7 @@ defined_from (Some value) text bytes e = cc
 defined_from None (Some text) bytes e = let same : text ≡ bytes = cc in ap Some same
 defined_from None None bytes e = cc
 
-module _ (definitions : List (List ℕ × Ranks)) (line : Dynamic) where
+module _ (wide : Bool) (definitions : List (List ℕ × Ranks)) (line : Dynamic) where
   abbrev meaning : List ℕ → Meaning
   meaning name = meaning_of (ranks_at definitions) line name
 
@@ -63,7 +66,7 @@ module _ (definitions : List (List ℕ × Ranks)) (line : Dynamic) where
   cost names = unseen_cost (progress_of names) definitions
 
   abbrev Has : (names : List (List ℕ)) (made text : List ℕ) → Type 0
-  Has names made text = (o : Outcome) × Expands meaning names made text o
+  Has names made text = (o : Outcome) × Expands wide meaning names made text o
 
   -- texts have outcomes where less is left to open
   abbrev Deeper : ℕ → Type 0
@@ -77,15 +80,15 @@ module _ (definitions : List (List ℕ × Ranks)) (line : Dynamic) where
       omega (arith, pays)
 
   module _ (fuel : ℕ) (deeper : Deeper fuel) (names : List (List ℕ)) (h : cost names ≤ fuel) where
-    valued : (name : List ℕ) (use_of : Use) (text : List ℕ) → meaning name ≡ defined text → (IsOneOf name names → ⊥) → Has (name ∷ names) [] text → (o : Outcome) × Adds meaning names (reference name use_of) o
+    valued : (name : List ℕ) (use_of : Use) (text : List ℕ) → meaning name ≡ defined text → (IsOneOf name names → ⊥) → Has (name ∷ names) [] text → (o : Outcome) × Adds wide meaning names (reference name use_of) o
     valued name use_of text e apart (gives value, x) = (gives (used use_of value), has_value text value e apart x)
     valued name use_of text e apart (fails fault, x) = (fails fault, has_fault text fault e apart x)
 
-    dynamic_some : (name : List ℕ) (use_of : Use) (value : List ℕ) → meaning name ≡ dynamic value → (limit < length value) ⊎ (length value ≤ limit) → (o : Outcome) × Adds meaning names (reference name use_of) o
+    dynamic_some : (name : List ℕ) (use_of : Use) (value : List ℕ) → meaning name ≡ dynamic value → (limit < length value) ⊎ (length value ≤ limit) → (o : Outcome) × Adds wide meaning names (reference name use_of) o
     dynamic_some name use_of value e (inl long) = (fails too_long, is_long_dynamic value e long)
     dynamic_some name use_of value e (inr fits) = (gives (used use_of value), is_dynamic value e fits)
 
-    reference_some : (name : List ℕ) (use_of : Use) (m : Meaning) → meaning name ≡ m → (o : Outcome) × Adds meaning names (reference name use_of) o
+    reference_some : (name : List ℕ) (use_of : Use) (m : Meaning) → meaning name ≡ m → (o : Outcome) × Adds wide meaning names (reference name use_of) o
     reference_some name use_of undefined e = (gives [], is_undefined e)
     reference_some name use_of (dynamic value) e = dynamic_some name use_of value e (lt_or_le limit (length value))
     reference_some name use_of (defined text) e =
@@ -94,38 +97,56 @@ module _ (definitions : List (List ℕ × Ranks)) (line : Dynamic) where
         (λ f. valued name use_of text e (λ one. absurd (cc (one_back name names one, f)))
         (deeper (name ∷ names) text (let less = entered names name text e f in omega (arith, less, h))))
 
-    piece_some : (piece : Piece) → (o : Outcome) × Adds meaning names piece o
-    piece_some (plain bytes) = (gives bytes, adds_bytes)
-    piece_some (reference name use_of) = reference_some name use_of (meaning name) refl
-    piece_some unclosed = (fails not_closed, is_unclosed)
-    piece_some nested = (fails dollar_in_brackets, is_nested)
-
     -- what stands behind a piece has an outcome
     abbrev Later : List ℕ → Type 0
     Later text = (made rest : List ℕ) → length rest < length text → Has names made rest
 
-    sized : (made text : List ℕ) → Later text → (piece : Piece) (rest : List ℕ) → front text ≡ first piece rest → (bytes : List ℕ) → Adds meaning names piece (gives bytes) →
+    -- the reference that comes of the brackets' expansion
+    colon_some : (inner : List ℕ) (colon : ℕ) (change : List ℕ) (equals : Option ℕ) → (o : Outcome) × Adds wide meaning names (after_colon inner colon change equals) o
+    colon_some inner colon change None = reference_some inner whole (meaning inner) refl
+    colon_some inner colon change (Some equals) =
+        let name = take colon inner in
+        reference_some name (words_changed (by_pattern (pattern_of (take equals change) (drop (equals + 1) change)))) (meaning name) refl
+
+    at_colon_some : (inner : List ℕ) (colon : Option ℕ) → (o : Outcome) × Adds wide meaning names (at_colon inner colon) o
+    at_colon_some inner None = reference_some inner whole (meaning inner) refl
+    at_colon_some inner (Some colon) = let change = drop (colon + 1) inner in colon_some inner colon change (place_of 61 change)
+
+    inner_some : (inner : List ℕ) → wide ≡ true → Has names [] inner → (o : Outcome) × Adds wide meaning names (nested inner) o
+    inner_some inner w (gives bytes, e) = let more = at_colon_some bytes (place_of 58 bytes) in (more.0, has_name bytes w e more.1)
+    inner_some inner w (fails fault, e) = (fails fault, has_no_name fault w e)
+
+    piece_some : (text : List ℕ) → Later text → (piece : Piece) (rest : List ℕ) → front wide text ≡ first piece rest → (o : Outcome) × Adds wide meaning names piece o
+    piece_some text later (plain bytes) rest e = (gives bytes, adds_bytes)
+    piece_some text later (reference name use_of) rest e = reference_some name use_of (meaning name) refl
+    piece_some text later unclosed rest e = (fails not_closed, is_unclosed)
+    piece_some text later (nested inner) rest e =
+        either _ wide
+        (λ w. inner_some inner w (later [] inner (inner_shorter wide text inner rest (subst (SpellsFront wide text) e (front_said wide text)))))
+        (λ w. (fails dollar_in_brackets, is_nested w))
+
+    sized : (made text : List ℕ) → Later text → (piece : Piece) (rest : List ℕ) → front wide text ≡ first piece rest → (bytes : List ℕ) → Adds wide meaning names piece (gives bytes) →
         (limit < length (made ++ bytes)) ⊎ (length (made ++ bytes) ≤ limit) → Has names made text
     sized made text later piece rest e bytes a (inl long) = (fails too_long, is_too_long piece rest bytes e a long)
     sized made text later piece rest e bytes a (inr fits) =
-        let more = later (made ++ bytes) rest (piece_shorter text piece rest (subst (SpellsFront text) e (front_said text))) in
+        let more = later (made ++ bytes) rest (piece_shorter wide text piece rest (subst (SpellsFront wide text) e (front_said wide text))) in
         (more.0, goes_on piece rest bytes e a fits more.1)
 
-    added : (made text : List ℕ) → Later text → (piece : Piece) (rest : List ℕ) → front text ≡ first piece rest → ((o : Outcome) × Adds meaning names piece o) → Has names made text
+    added : (made text : List ℕ) → Later text → (piece : Piece) (rest : List ℕ) → front wide text ≡ first piece rest → ((o : Outcome) × Adds wide meaning names piece o) → Has names made text
     added made text later piece rest e (gives bytes, a) = sized made text later piece rest e bytes a (lt_or_le limit (length (made ++ bytes)))
     added made text later piece rest e (fails fault, a) = (fails fault, meets_fault piece rest fault e a)
 
-    front_some : (made text : List ℕ) → Later text → (f : Front) → front text ≡ f → Has names made text
+    front_some : (made text : List ℕ) → Later text → (f : Front) → front wide text ≡ f → Has names made text
     front_some made text later nothing e = (gives made, ends e)
-    front_some made text later (first piece rest) e = added made text later piece rest e (piece_some piece)
+    front_some made text later (first piece rest) e = added made text later piece rest e (piece_some text later piece rest e)
 
     text_some : (n : ℕ) (made text : List ℕ) → length text ≤ n → Has names made text
-    text_some zero made text short = front_some made text (λ m rest l. absurd (omega (arith, l, short))) (front text) refl
-    text_some (suc n) made text short = front_some made text (λ m rest l. text_some n m rest (omega (arith, l, short))) (front text) refl
+    text_some zero made text short = front_some made text (λ m rest l. absurd (omega (arith, l, short))) (front wide text) refl
+    text_some (suc n) made text short = front_some made text (λ m rest l. text_some n m rest (omega (arith, l, short))) (front wide text) refl
 
   all_some : (fuel : ℕ) → Deeper fuel
   all_some zero names text h = absurd (omega (arith, h))
   all_some (suc fuel) names text h = text_some fuel (all_some fuel) names (omega (arith, h)) (length text) [] text (omega arith)
 
-  pub outcome_some : (text : List ℕ) → (o : Outcome) × Expands meaning [] [] text o
+  pub outcome_some : (text : List ℕ) → (o : Outcome) × Expands wide meaning [] [] text o
   outcome_some text = all_some (suc (cost [])) [] text (omega arith)

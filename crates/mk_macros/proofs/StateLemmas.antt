@@ -7,21 +7,26 @@ use Rattle.std.proofs.lemmas.Bool.{false≢true}
 use Rattle.std.proofs.lemmas.Slice.Eq.{bytes_eq-Decides}
 use Rattle.std.proofs.lemmas.List.{map_push, reverse-append}
 use Rattle.mk_macros.specs.Ranks.{Ranks, no_ranks, in_force, ranks_at}
-use Rattle.mk_macros.specs.declared.expansion.Progress as own
-use Rattle.mk_macros.specs.declared.expansion.Progress.TheVariants.{Opened, Known}
+use Rattle.mk_macros.specs.Reference.{named}
+use Rattle.mk_macros.specs.Lookup.{Progress, unseen, opened, known, shown_progress, progress_at}
+use Rattle.mk_macros.specs.declared.lookup.Progress as own
+use Rattle.mk_macros.specs.declared.expansion.Left.{Left as CodeLeft}
+use Rattle.mk_macros.specs.declared.expansion.Left.TheVariants as left
+use Rattle.mk_macros.specs.declared.expansion.Awaited.{Awaited as CodeAwaited}
+use Rattle.mk_macros.specs.declared.expansion.Awaited.TheVariants as awaited
 use Rattle.mk_macros.specs.declared.expansion.Caller.{Caller}
-use Rattle.mk_macros.proofs.ExpansionLemmas.{Progress, unseen, opened, known, Waiting, SetsProgress}
+use Rattle.mk_macros.proofs.ExpansionLemmas.{Left, at_text, at_piece, Awaited, value_of, name_before, Waiting, SetsProgress}
 
-abbrev pub shown_progress : Option own.Progress → Progress
-shown_progress None = unseen
-shown_progress (Some Opened) = opened
-shown_progress (Some (Known value)) = known value.items
+abbrev pub left_shown : CodeLeft → Left
+left_shown (left.Text rest) = at_text rest.now
+left_shown (left.Name bytes after) = at_piece (named bytes.items) after.now
 
-abbrev pub progress_at : {S : Type 0} → HashMap (Bor (List ℕ)) own.Progress S → List ℕ → Progress
-progress_at m name = shown_progress (get_by (λ k. pointwise nat_eq name k.now) m)
+abbrev pub awaited_shown : CodeAwaited → Awaited
+awaited_shown (awaited.Value name behind) = value_of name.now (left_shown behind)
+awaited_shown (awaited.Name after) = name_before after.now
 
 abbrev pub waiting_of : Caller → Waiting
-waiting_of c = record { name = c.name.now; made = c.made.items; rest = c.rest.now }
+waiting_of c = record { awaited = awaited_shown c.awaited; made = c.made.items }
 
 -- the callers, innermost first
 abbrev pub stack_of : List Caller → List Waiting
@@ -114,11 +119,20 @@ unseen_cost-leave state state' name value sets es = unseen_cost-falls state stat
     leaves n k true e = let same = (bytes_eq-Decides n name).0 e in rw same (rw sets.at (omega arith))
     leaves n k false e = rw (sets.others n (λ same. absurd (false≢true (sym e ∙ (bytes_eq-Decides n name).1 same)))) (omega arith)
 
+-- what is left to read
+abbrev pub left_cost : CodeLeft → ℕ
+left_cost (left.Text rest) = length rest.now
+left_cost (left.Name bytes after) = length after.now + 1
+
+abbrev pub awaited_cost : CodeAwaited → ℕ
+awaited_cost (awaited.Value name behind) = left_cost behind + 1
+awaited_cost (awaited.Name after) = length after.now + 2
+
 -- what the callers still have to read
 abbrev pub callers_cost : List Caller → ℕ
 callers_cost [] = 0
-callers_cost (c ∷ cs) = length c.rest.now + 1 + callers_cost cs
+callers_cost (c ∷ cs) = awaited_cost c.awaited + callers_cost cs
 
-pub callers_cost-push : (cs : List Caller) (c : Caller) → callers_cost (cs ++ c ∷ []) ≡ callers_cost cs + (length c.rest.now + 1)
+pub callers_cost-push : (cs : List Caller) (c : Caller) → callers_cost (cs ++ c ∷ []) ≡ callers_cost cs + awaited_cost c.awaited
 callers_cost-push [] c = omega arith
 callers_cost-push (d ∷ cs) c = omega (arith, callers_cost-push cs c)

@@ -1,6 +1,8 @@
 -- What the expansion of a text is, form by form.
-use Rattle.std.specs.Prelude.{◌≡◌, ℕ, ◌≤◌, ◌<◌, ◌⊎◌, List, [], ◌∷◌, ◌++◌, length, Option, Some, None}
-use Rattle.mk_macros.specs.Reference.{Use, used, Piece, plain, reference, unclosed, nested, nothing, first, front}
+use Rattle.std.specs.Prelude.{◌≡◌, ℕ, ◌≤◌, ◌<◌, ◌⊎◌, Bool, true, false, List, [], ◌∷◌, ◌++◌, length, Option, Some, None}
+use Rattle.mk_profile.specs.Profile.{is_wide}
+use Rattle.mk_profile.specs.declared.profile.Profile.{Profile}
+use Rattle.mk_macros.specs.Reference.{Use, used, Piece, plain, reference, unclosed, nested, named, nothing, first, front}
 use Rattle.mk_macros.specs.declared.fault.TheConstants.{MAX_EXPANSION_BYTES}
 use Rattle.mk_macros.specs.declared.fault.MacroFault.{MacroFault}
 use Rattle.mk_macros.specs.declared.fault.MacroFault.TheVariants.{OutOfMemory, Loop, Unclosed, NestedReference, TooLong}
@@ -35,48 +37,64 @@ IsOneOf name (n ∷ names) = (name ≡ n) ⊎ IsOneOf name names
 mutual
   -- the outcome of a text, read from the left, while the macros of these names are being expanded and behind the
   -- bytes that were made of what stood before it
-  pub data Expands (meaning : List ℕ → Meaning) : (opened : List (List ℕ)) (made text : List ℕ) → Outcome → Type 0 where
-    ends : {opened : List (List ℕ)} {made text : List ℕ} → front text ≡ nothing → Expands meaning opened made text (gives made)
+  pub data Expands (wide : Bool) (meaning : List ℕ → Meaning) : (opened : List (List ℕ)) (made text : List ℕ) → Outcome → Type 0 where
+    ends : {opened : List (List ℕ)} {made text : List ℕ} → front wide text ≡ nothing → Expands wide meaning opened made text (gives made)
     goes_on : {opened : List (List ℕ)} {made text : List ℕ} {outcome : Outcome} (piece : Piece) (rest added : List ℕ) →
-        front text ≡ first piece rest → Adds meaning opened piece (gives added) → length (made ++ added) ≤ limit →
-        Expands meaning opened (made ++ added) rest outcome → Expands meaning opened made text outcome
+        front wide text ≡ first piece rest → Adds wide meaning opened piece (gives added) → length (made ++ added) ≤ limit →
+        Expands wide meaning opened (made ++ added) rest outcome → Expands wide meaning opened made text outcome
     is_too_long : {opened : List (List ℕ)} {made text : List ℕ} (piece : Piece) (rest added : List ℕ) →
-        front text ≡ first piece rest → Adds meaning opened piece (gives added) → limit < length (made ++ added) →
-        Expands meaning opened made text (fails too_long)
+        front wide text ≡ first piece rest → Adds wide meaning opened piece (gives added) → limit < length (made ++ added) →
+        Expands wide meaning opened made text (fails too_long)
     meets_fault : {opened : List (List ℕ)} {made text : List ℕ} (piece : Piece) (rest : List ℕ) (fault : Fault) →
-        front text ≡ first piece rest → Adds meaning opened piece (fails fault) → Expands meaning opened made text (fails fault)
+        front wide text ≡ first piece rest → Adds wide meaning opened piece (fails fault) → Expands wide meaning opened made text (fails fault)
 
   -- what a piece adds to the bytes before it, or the fault that is met in it
-  pub data Adds (meaning : List ℕ → Meaning) : (opened : List (List ℕ)) → Piece → Outcome → Type 0 where
-    adds_bytes : {opened : List (List ℕ)} {bytes : List ℕ} → Adds meaning opened (plain bytes) (gives bytes)
-    is_unclosed : {opened : List (List ℕ)} → Adds meaning opened unclosed (fails not_closed)
-    is_nested : {opened : List (List ℕ)} → Adds meaning opened nested (fails dollar_in_brackets)
+  pub data Adds (wide : Bool) (meaning : List ℕ → Meaning) : (opened : List (List ℕ)) → Piece → Outcome → Type 0 where
+    adds_bytes : {opened : List (List ℕ)} {bytes : List ℕ} → Adds wide meaning opened (plain bytes) (gives bytes)
+    is_unclosed : {opened : List (List ℕ)} → Adds wide meaning opened unclosed (fails not_closed)
+    is_nested : {opened : List (List ℕ)} {inner : List ℕ} → wide ≡ false → Adds wide meaning opened (nested inner) (fails dollar_in_brackets)
     is_undefined : {opened : List (List ℕ)} {name : List ℕ} {use_of : Use} →
-        meaning name ≡ undefined → Adds meaning opened (reference name use_of) (gives [])
+        meaning name ≡ undefined → Adds wide meaning opened (reference name use_of) (gives [])
     is_dynamic : {opened : List (List ℕ)} {name : List ℕ} {use_of : Use} (value : List ℕ) →
-        meaning name ≡ dynamic value → length value ≤ limit → Adds meaning opened (reference name use_of) (gives (used use_of value))
+        meaning name ≡ dynamic value → length value ≤ limit → Adds wide meaning opened (reference name use_of) (gives (used use_of value))
     is_long_dynamic : {opened : List (List ℕ)} {name : List ℕ} {use_of : Use} (value : List ℕ) →
-        meaning name ≡ dynamic value → limit < length value → Adds meaning opened (reference name use_of) (fails too_long)
+        meaning name ≡ dynamic value → limit < length value → Adds wide meaning opened (reference name use_of) (fails too_long)
     is_loop : {opened : List (List ℕ)} {name : List ℕ} {use_of : Use} (text : List ℕ) →
-        meaning name ≡ defined text → IsOneOf name opened → Adds meaning opened (reference name use_of) (fails (refers_to_itself name))
+        meaning name ≡ defined text → IsOneOf name opened → Adds wide meaning opened (reference name use_of) (fails (refers_to_itself name))
     has_value : {opened : List (List ℕ)} {name : List ℕ} {use_of : Use} (text value : List ℕ) →
-        meaning name ≡ defined text → (IsOneOf name opened → ⊥) → Expands meaning (name ∷ opened) [] text (gives value) →
-        Adds meaning opened (reference name use_of) (gives (used use_of value))
+        meaning name ≡ defined text → (IsOneOf name opened → ⊥) → Expands wide meaning (name ∷ opened) [] text (gives value) →
+        Adds wide meaning opened (reference name use_of) (gives (used use_of value))
     has_fault : {opened : List (List ℕ)} {name : List ℕ} {use_of : Use} (text : List ℕ) (fault : Fault) →
-        meaning name ≡ defined text → (IsOneOf name opened → ⊥) → Expands meaning (name ∷ opened) [] text (fails fault) →
-        Adds meaning opened (reference name use_of) (fails fault)
+        meaning name ≡ defined text → (IsOneOf name opened → ⊥) → Expands wide meaning (name ∷ opened) [] text (fails fault) →
+        Adds wide meaning opened (reference name use_of) (fails fault)
+    -- in the wide profile the brackets are expanded, and what comes of them is read once, whatever it holds
+    has_name : {opened : List (List ℕ)} {inner : List ℕ} {outcome : Outcome} (bytes : List ℕ) →
+        wide ≡ true → Expands wide meaning opened [] inner (gives bytes) → Adds wide meaning opened (named bytes) outcome →
+        Adds wide meaning opened (nested inner) outcome
+    has_no_name : {opened : List (List ℕ)} {inner : List ℕ} (fault : Fault) →
+        wide ≡ true → Expands wide meaning opened [] inner (fails fault) → Adds wide meaning opened (nested inner) (fails fault)
 
 -- the outcome of a text in which nothing has been read yet
+abbrev pub ExpandsIn : Profile → (List ℕ → Meaning) → (text : List ℕ) → Outcome → Type 0
+ExpandsIn profile meaning text outcome = Expands (is_wide profile) meaning [] [] text outcome
+
+-- its outcome in the strict profile
 abbrev pub ExpandsTo : (List ℕ → Meaning) → (text : List ℕ) → Outcome → Type 0
-ExpandsTo meaning text outcome = Expands meaning [] [] text outcome
+ExpandsTo meaning text outcome = Expands false meaning [] [] text outcome
 
 -- the fault is the text's outcome; want of memory says nothing of the text
+abbrev pub MeetsFault : (wide : Bool) (meaning : List ℕ → Meaning) (text : List ℕ) → MacroFault → Type 0
+MeetsFault wide meaning text OutOfMemory = Unit {0}
+MeetsFault wide meaning text (Loop name) = Expands wide meaning [] [] text (fails (refers_to_itself name))
+MeetsFault wide meaning text Unclosed = Expands wide meaning [] [] text (fails not_closed)
+MeetsFault wide meaning text NestedReference = Expands wide meaning [] [] text (fails dollar_in_brackets)
+MeetsFault wide meaning text TooLong = Expands wide meaning [] [] text (fails too_long)
+
+abbrev pub ExpandsToFaultIn : Profile → (List ℕ → Meaning) → (text : List ℕ) → MacroFault → Type 0
+ExpandsToFaultIn profile meaning text fault = MeetsFault (is_wide profile) meaning text fault
+
 abbrev pub ExpandsToFault : (List ℕ → Meaning) → (text : List ℕ) → MacroFault → Type 0
-ExpandsToFault meaning text OutOfMemory = Unit {0}
-ExpandsToFault meaning text (Loop name) = ExpandsTo meaning text (fails (refers_to_itself name))
-ExpandsToFault meaning text Unclosed = ExpandsTo meaning text (fails not_closed)
-ExpandsToFault meaning text NestedReference = ExpandsTo meaning text (fails dollar_in_brackets)
-ExpandsToFault meaning text TooLong = ExpandsTo meaning text (fails too_long)
+ExpandsToFault meaning text fault = MeetsFault false meaning text fault
 
 -- the fault of an appending call that would leave this many bytes
 abbrev pub IsTooLongAt : ℕ → MacroFault → Type 0

@@ -1,8 +1,10 @@
--- The model is Ranks, Dynamic, Spelled, Words and Expansion; Reference is what the code does.
+-- The model is Ranks, Dynamic, Spelled, Words and Expansion; Reference and Lookup are what the code does.
 -- Dynamic: what the macros of a recipe line stand for.
 pub mod Dynamic
 -- Expansion: what the outcome of a text is.
 pub mod Expansion
+-- Lookup: what a reference comes to, by what is known of its macro.
+pub mod Lookup
 -- Mention: whether a text refers to the list of newer prerequisites.
 pub mod Mention
 -- Ranks: what is defined for a name, what is in force, and what a name stands for in a line.

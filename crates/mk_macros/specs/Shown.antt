@@ -1,5 +1,5 @@
 -- The crate's own values as the definitions see them.
-use Rattle.std.specs.Prelude.{ℕ, List, Option, Some, None, option_map, nat_eq, Vec}
+use Rattle.std.specs.Prelude.{ℕ, ◌+◌, List, length, Option, Some, None, option_map, nat_eq, Vec}
 use Rattle.std.specs.Borrow.{Bor}
 use Rattle.std.specs.Option.{option_map_or}
 use Rattle.std.specs.Cmp.Lexicographic.{pointwise}
@@ -37,7 +37,14 @@ abbrev pub shown_piece : Piece → text.Piece
 shown_piece (Plain bytes) = text.plain bytes.now
 shown_piece (Reference name use_of) = text.reference name.now (shown_use use_of)
 shown_piece Unclosed = text.unclosed
-shown_piece Nested = text.nested
+shown_piece (Nested inner) = text.nested inner.now
+
+-- how many bytes brackets take that hold a `$`, and what they hold
+abbrev pub inner_len : text.Piece → ℕ
+inner_len (text.nested inner) = length inner + 2
+inner_len (text.plain bytes) = 0
+inner_len (text.reference name use_of) = 0
+inner_len text.unclosed = 0
 
 -- what `next_piece` answers
 abbrev pub shown_front : Option (Piece × Bor (List ℕ)) → text.Front

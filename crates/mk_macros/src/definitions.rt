@@ -1,5 +1,5 @@
 // What is defined for each name, by rank.
-ghost use Rattle.std.specs.Prelude.{◌≡◌, ◌≢◌, ℕ, List, [], None, Some, OnOk, OnErr, IfOk, option_map, option_copied};
+ghost use Rattle.std.specs.Prelude.{◌≡◌, ◌≢◌, ℕ, List, [], None, Some, OnOk, OnErr, IfOk, IfSome, option_map, option_copied};
 ghost use Rattle.mk_macros.specs.Ranks.{ranks_at, no_ranks, in_force, with_rank, base_of, appended, redefined, with_definition, or_else};
 ghost use Rattle.mk_macros.specs.Shown.{ranks_of, texts_at};
 
@@ -169,10 +169,15 @@ fn define_in(
     Ok(())
 }
 
-fn text_in<'a>(definitions: &'a IndexMap<Vec<u8>, Definition>, name: &[u8]) -> Option<&'a [u8]>
-    ensures { option_copied result ≡ in_force (texts_at definitions.now name.now) }
+fn definition_in<'a>(
+    definitions: &'a IndexMap<Vec<u8>, Definition>,
+    name: &[u8],
+) -> Option<(&'a [u8], &'a [u8])>
+    ensures text { option_map (λ found. found.1.now) result ≡ in_force (texts_at definitions.now name.now) }
+    ensures name { IfSome result (λ found. found.0.now ≡ name.now) }
 {
-    definitions.get(name)?.text()
+    let (key, definition) = definitions.get_key_value(name)?;
+    Some((key.as_slice(), definition.text()?))
 }
 
 /// The definitions that texts are expanded with. Contracts see each name with its text at each rank.
@@ -222,10 +227,11 @@ impl Macros {
         define_in(&mut self.definitions, alloc, rank, name, value, append)
     }
 
-    /// The text in force for a name.
-    pub(crate) fn text(&self, name: &[u8]) -> Option<&[u8]>
-        ensures { option_copied result ≡ in_force (ranks_at self.now name.now) }
+    /// The text in force for a name, behind the name as it is kept here.
+    pub(crate) fn definition<'a>(&'a self, name: &[u8]) -> Option<(&'a [u8], &'a [u8])>
+        ensures text { option_map (λ found. found.1.now) result ≡ in_force (ranks_at self.now name.now) }
+        ensures name { IfSome result (λ found. found.0.now ≡ name.now) }
     {
-        text_in(&self.definitions, name)
+        definition_in(&self.definitions, name)
     }
 }

@@ -1,46 +1,41 @@
 // The expansion of a text. A text whose macro isn't known yet waits in a list until it is, so that no chain of
-// definitions is too deep, and each macro's value is made once.
-ghost use Rattle.std.specs.Prelude.{◌≡◌, ◌≤◌, ◌++◌, length, IfOk, IfErr, OnOk};
-ghost use Rattle.mk_macros.specs.Reference.{used};
-ghost use Rattle.mk_macros.specs.Shown.{shown_use};
+// definitions and no nesting of brackets is too deep, and each macro's value is made once.
+ghost use Rattle.std.specs.Prelude.{◌≡◌, IfOk, IfErr};
 ghost use Rattle.mk_macros.specs.Ranks.{ranks_at, meaning_of};
-ghost use Rattle.mk_macros.specs.Expansion.{gives, limit, ExpandsTo, ExpandsToFault, IsTooLongAt};
+ghost use Rattle.mk_macros.specs.Expansion.{gives, ExpandsIn, ExpandsToFaultIn, ExpandsTo, ExpandsToFault};
 
 use crate::definitions::Macros;
 use crate::dynamic::Dynamic;
 use crate::fault::MacroFault;
-use crate::reference::{Piece, Use, next_piece};
-use crate::substitution::{append, append_changed_words};
-use byte_strings::ByteString;
+use crate::lookup::Progress;
+use crate::reference::{Piece, named, next_piece};
+use crate::substitution::append;
+use mk_profile::Profile;
 use std::alloc::Global;
 use std::collections::HashMap;
 
-/// How far the value of a macro is. One that wasn't met yet has none.
+/// What is left to read of a text.
 #[derive(Drop)]
-enum Progress {
-    Opened,
-    Known(Vec<u8>),
+enum Left<'a> {
+    Text(&'a [u8]),
+    /// The name that brackets came to, which isn't expanded again, and the text behind them.
+    Name(Vec<u8>, &'a [u8]),
 }
 
-/// A text that waits for the value of a macro. Its rest begins with the reference.
+/// What a text waits for.
+#[derive(Drop)]
+enum Awaited<'a> {
+    /// The value of this macro, whose reference is read again.
+    Value(&'a [u8], Left<'a>),
+    /// The name in brackets. This text stands behind them.
+    Name(&'a [u8]),
+}
+
+/// A text that waits.
 #[derive(Drop)]
 struct Caller<'a> {
-    name: &'a [u8],
+    awaited: Awaited<'a>,
     made: Vec<u8>,
-    rest: &'a [u8],
-}
-
-/// Appends what a reference takes of a value.
-fn append_used(out: &mut Vec<u8>, value: &[u8], use_of: &Use<'_>) -> Result<(), MacroFault>
-    requires { length out.old.items ≤ limit }
-    ensures ok { OnOk result ((out.new.items ≡ out.old.items ++ used (shown_use use_of.now) value.now)
-        × (length out.new.items ≤ limit)) }
-    ensures err { IfErr result (IsTooLongAt (length (out.old.items ++ used (shown_use use_of.now) value.now))) }
-{
-    match use_of {
-        Use::Whole => append(out, value),
-        Use::Words(change) => append_changed_words(out, value, change),
-    }
 }
 
 impl Macros {
@@ -56,53 +51,93 @@ impl Macros {
         ensures found { IfOk result (λ v. ExpandsTo (meaning_of (ranks_at self.now) line.now) text.now (gives v.items)) }
         ensures fault { IfErr result (ExpandsToFault (meaning_of (ranks_at self.now) line.now) text.now) }
     {
+        self.expand_in(alloc, Profile::Strict, text, line)
+    }
+
+    /// As `expand`, in either profile.
+    pub fn expand_in<'a>(
+        &'a self,
+        alloc: Global,
+        profile: Profile,
+        text: &'a [u8],
+        line: &Dynamic<'_>,
+    ) -> Result<Vec<u8>, MacroFault>
+        ensures found { IfOk result
+            (λ v. ExpandsIn profile (meaning_of (ranks_at self.now) line.now) text.now (gives v.items)) }
+        ensures fault { IfErr result (ExpandsToFaultIn profile (meaning_of (ranks_at self.now) line.now) text.now) }
+    {
         let mut progress: HashMap<&'a [u8], Progress> = HashMap::new(alloc);
         let mut callers: Vec<Caller<'a>> = Vec::new(alloc);
         let mut made = Vec::new(alloc);
-        let mut rest = text;
+        let mut left = Left::Text(text);
         'pieces: loop {
-            let Some((piece, after)) = next_piece(rest) else {
-                let Some(caller) = callers.pop() else {
-                    return Ok(made);
-                };
-                progress.insert(caller.name, Progress::Known(made))?;
-                made = caller.made;
-                rest = caller.rest;
-                continue 'pieces;
-            };
-            let (name, use_of) = match piece {
-                Piece::Plain(bytes) => {
-                    append(&mut made, bytes)?;
-                    rest = after;
-                    continue 'pieces;
+            match left {
+                Left::Name(bytes, after) => {
+                    let (name, use_of) = named(&bytes);
+                    match self.append_reference(alloc, line, &progress, &mut made, name, &use_of)? {
+                        None => left = Left::Text(after),
+                        Some((name, text)) => {
+                            progress.insert(name, Progress::Opened)?;
+                            let awaited = Awaited::Value(name, Left::Name(bytes, after));
+                            callers.push(Caller { awaited, made })?;
+                            made = Vec::new(alloc);
+                            left = Left::Text(text);
+                        }
+                    }
                 }
-                Piece::Unclosed => return Err(MacroFault::Unclosed),
-                Piece::Nested => return Err(MacroFault::NestedReference),
-                Piece::Reference(name, use_of) => (name, use_of),
-            };
-            if let Some(value) = line.value(alloc, name)? {
-                append_used(&mut made, &value, &use_of)?;
-                rest = after;
-                continue 'pieces;
-            }
-            let Some(text) = self.text(name) else {
-                rest = after;
-                continue 'pieces;
-            };
-            match progress.get(name) {
-                Some(Progress::Known(value)) => {
-                    append_used(&mut made, value, &use_of)?;
-                    rest = after;
-                }
-                Some(Progress::Opened) => {
-                    return Err(MacroFault::Loop(ByteString::from_slice(alloc, name)?));
-                }
-                None => {
-                    progress.insert(name, Progress::Opened)?;
-                    callers.push(Caller { name, made, rest })?;
-                    made = Vec::new(alloc);
-                    rest = text;
-                }
+                Left::Text(rest) => match next_piece(profile, rest) {
+                    None => {
+                        let Some(
+                            Caller {
+                                awaited,
+                                made: before,
+                            },
+                        ) = callers.pop()
+                        else {
+                            return Ok(made);
+                        };
+                        match awaited {
+                            Awaited::Value(name, behind) => {
+                                progress.insert(name, Progress::Known(made))?;
+                                left = behind;
+                            }
+                            Awaited::Name(after) => left = Left::Name(made, after),
+                        }
+                        made = before;
+                    }
+                    Some((Piece::Plain(bytes), after)) => {
+                        append(&mut made, bytes)?;
+                        left = Left::Text(after);
+                    }
+                    Some((Piece::Unclosed, _)) => return Err(MacroFault::Unclosed),
+                    Some((Piece::Nested(inner), after)) => {
+                        if !profile.is_wide() {
+                            return Err(MacroFault::NestedReference);
+                        }
+                        callers.push(Caller {
+                            awaited: Awaited::Name(after),
+                            made,
+                        })?;
+                        made = Vec::new(alloc);
+                        left = Left::Text(inner);
+                    }
+                    Some((Piece::Reference(name, use_of), after)) => {
+                        match self.append_reference(
+                            alloc, line, &progress, &mut made, name, &use_of,
+                        )? {
+                            None => left = Left::Text(after),
+                            Some((name, text)) => {
+                                progress.insert(name, Progress::Opened)?;
+                                callers.push(Caller {
+                                    awaited: Awaited::Value(name, Left::Text(rest)),
+                                    made,
+                                })?;
+                                made = Vec::new(alloc);
+                                left = Left::Text(text);
+                            }
+                        }
+                    }
+                },
             }
         }
     }

@@ -1,27 +1,32 @@
 // What holds of the definitions alone.
 ghost use Rattle.std.specs.Prelude.{◌≡◌, ◌≢◌, ◌↔◌, ℕ, List, [], ◌∷◌, ◌++◌, None};
 ghost use Rattle.mk_macros.specs.Words.{place_of, pattern_of, by_pattern, changed_word, directory_of, file_of};
-ghost use Rattle.mk_macros.specs.Reference.{Front, front};
-ghost use Rattle.mk_macros.specs.Spelled.{SpellsFront};
-ghost use Rattle.mk_macros.specs.Expansion.{Meaning, Outcome, Expands, ExpandsTo};
+ghost use Rattle.mk_profile.specs.Profile.{is_wide};
+ghost use Rattle.mk_profile.specs.declared.profile.Profile.{Profile};
+ghost use Rattle.mk_macros.specs.Reference.{Use, reference, named, Front, front};
+ghost use Rattle.mk_macros.specs.Spelled.{SpellsUse, SpellsFront};
+ghost use Rattle.mk_macros.specs.Expansion.{Meaning, Outcome, Expands, ExpandsIn};
 ghost use Rattle.mk_macros.specs.Ranks.{Ranks, ranks_at, meaning_of};
 ghost use Rattle.mk_macros.specs.declared.dynamic.Dynamic.{Dynamic};
 
-/// The front that the code computes of a text is the one that the text spells. So each text has one.
+/// The front that the code computes of a text is the one that the text spells. So each text has one, in each profile.
+/// What brackets come to is read as the reference that it spells.
 pub fn each_front_is_as_it_is_spelled()
-    ensures { (text : List ℕ) (f : Front) → (front text ≡ f) ↔ SpellsFront text f }
+    ensures fronts { (profile : Profile) (text : List ℕ) (f : Front)
+        → (front (is_wide profile) text ≡ f) ↔ SpellsFront (is_wide profile) text f }
+    ensures names { (inner name : List ℕ) (use_of : Use) → (named inner ≡ reference name use_of) ↔ SpellsUse inner name use_of }
 {}
 
-/// A text has one outcome, whatever its names stand for.
+/// A text has one outcome in each profile, whatever its names stand for.
 pub fn one_outcome()
-    ensures { (meaning : List ℕ → Meaning) (opened : List (List ℕ)) (made text : List ℕ) (a b : Outcome)
-        → Expands meaning opened made text a → Expands meaning opened made text b → a ≡ b }
+    ensures { (profile : Profile) (meaning : List ℕ → Meaning) (opened : List (List ℕ)) (made text : List ℕ) (a b : Outcome)
+        → Expands (is_wide profile) meaning opened made text a → Expands (is_wide profile) meaning opened made text b → a ≡ b }
 {}
 
-/// A text has an outcome, for what definitions and a line give.
+/// A text has an outcome in each profile, for what definitions and a line give.
 pub fn an_outcome()
-    ensures { (definitions : List (List ℕ × Ranks)) (line : Dynamic) (text : List ℕ)
-        → (outcome : Outcome) × ExpandsTo (meaning_of (ranks_at definitions) line) text outcome }
+    ensures { (profile : Profile) (definitions : List (List ℕ × Ranks)) (line : Dynamic) (text : List ℕ)
+        → (outcome : Outcome) × ExpandsIn profile (meaning_of (ranks_at definitions) line) text outcome }
 {}
 
 /// A substitution replaces the ending of a word, or what stands before and after its stem, and leaves other words. A new

@@ -1,5 +1,6 @@
+use Rattle.mk_profile.specs.Profile.{is_wide}
 use Rattle.mk_macros.proofs.SomeOutcomeLemmas.{outcome_some}
 use Rattle.mk_macros.proofs.laws.an_outcome.Goals as goal
 
 pub returns : goal.returns
-returns c = outcome_some
+returns c = λ profile definitions line text. outcome_some (is_wide profile) definitions line text

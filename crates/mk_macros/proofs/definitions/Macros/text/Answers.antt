@@ -1,9 +1,0 @@
-use Rattle.std.proofs.Common.{◌∙◌, sym, ap}
-use Rattle.mk_macros.specs.Ranks.{in_force}
-use Rattle.mk_macros.specs.Shown.{ranks_of}
-use Rattle.mk_macros.proofs.DefinitionLemmas.{shown_at}
-use Rattle.mk_macros.proofs.definitions.Macros.text.Goals as goal
-
-pub returns : goal.returns
-returns c =
-    rw (← c.self.view_is) (c.text_in.ensures ∙ ap in_force (sym (shown_at (λ k. k.items) ranks_of c.self.inside.definitions.entries c.args.name.now)))

@@ -1,9 +1,0 @@
-use Rattle.std.proofs.Common.{length}
-use Rattle.mk_macros.specs.Mention.{RefersToNewer}
-use Rattle.mk_macros.proofs.mention.refers_to_newer.Given as goal
-
-abbrev pub invariant-loop-piece : goal.invariant-loop-piece
-invariant-loop-piece l = (RefersToNewer l.rest → RefersToNewer l.fn.text) × (RefersToNewer l.fn.text → RefersToNewer l.rest)
-
-abbrev pub decreases-loop-piece : goal.decreases-loop-piece
-decreases-loop-piece l = length l.rest

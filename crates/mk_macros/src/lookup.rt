@@ -1,0 +1,73 @@
+// What a reference comes to, by what is known of its macro so far.
+ghost use Rattle.std.specs.Prelude.{◌≡◌, ◌≤◌, ◌++◌, length, IfOk, IfErr, OnOk};
+ghost use Rattle.mk_macros.specs.Reference.{used};
+ghost use Rattle.mk_macros.specs.Shown.{shown_use};
+ghost use Rattle.mk_macros.specs.Ranks.{ranks_at, meaning_of};
+ghost use Rattle.mk_macros.specs.Expansion.{limit, IsTooLongAt};
+ghost use Rattle.mk_macros.specs.Lookup.{progress_at, Finds, FailsNow};
+
+use crate::definitions::Macros;
+use crate::dynamic::Dynamic;
+use crate::fault::MacroFault;
+use crate::reference::Use;
+use crate::substitution::{append, append_changed_words};
+use byte_strings::ByteString;
+use std::alloc::Global;
+use std::collections::HashMap;
+
+/// How far the value of a macro is. One that wasn't met yet has none.
+#[derive(Drop)]
+pub(crate) enum Progress {
+    Opened,
+    Known(Vec<u8>),
+}
+
+/// Appends what a reference takes of a value.
+fn append_used(out: &mut Vec<u8>, value: &[u8], use_of: &Use<'_>) -> Result<(), MacroFault>
+    requires { length out.old.items ≤ limit }
+    ensures ok { OnOk result ((out.new.items ≡ out.old.items ++ used (shown_use use_of.now) value.now)
+        × (length out.new.items ≤ limit)) }
+    ensures err { IfErr result (IsTooLongAt (length (out.old.items ++ used (shown_use use_of.now) value.now))) }
+{
+    match use_of {
+        Use::Whole => append(out, value),
+        Use::Words(change) => append_changed_words(out, value, change),
+    }
+}
+
+impl Macros {
+    /// Appends what a reference adds. Where its macro wasn't met yet, the macro's name and text are answered instead.
+    pub(crate) fn append_reference<'a>(
+        &'a self,
+        alloc: Global,
+        line: &Dynamic<'_>,
+        progress: &HashMap<&'a [u8], Progress>,
+        made: &mut Vec<u8>,
+        name: &[u8],
+        use_of: &Use<'_>,
+    ) -> Result<Option<(&'a [u8], &'a [u8])>, MacroFault>
+        requires { length made.old.items ≤ limit }
+        ensures ok { IfOk result (Finds (meaning_of (ranks_at self.now) line.now name.now) (progress_at progress.now name.now)
+            (shown_use use_of.now) name.now made.old.items made.new.items) }
+        ensures err { IfErr result (FailsNow (meaning_of (ranks_at self.now) line.now name.now) (progress_at progress.now name.now)
+            (shown_use use_of.now) name.now made.old.items) }
+    {
+        if let Some(value) = line.value(alloc, name)? {
+            append_used(made, &value, use_of)?;
+            return Ok(None);
+        }
+        let Some((name, text)) = self.definition(name) else {
+            return Ok(None);
+        };
+        match progress.get(name) {
+            None => Ok(Some((name, text))),
+            Some(Progress::Known(value)) => {
+                append_used(made, value, use_of)?;
+                Ok(None)
+            }
+            Some(Progress::Opened) => {
+                Err(MacroFault::Loop(ByteString::from_slice(alloc, name)?))
+            }
+        }
+    }
+}

@@ -1,0 +1,2 @@
+-- Profile: what definitions ask of a profile.
+pub mod Profile
