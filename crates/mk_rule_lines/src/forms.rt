@@ -83,10 +83,10 @@ fn add_form_of_line(
 ) -> Result<(), AllocError>
     ensures { OnOk result (forms.new.items ≡ forms.old.items ++ form_of_line rule line.now) }
 {
-    if !line.is_pattern_rule() || line.targets.len() != 1 || line.prerequisites.len() != 1 {
+    if !line.is_pattern_rule() || !line.targets.is_one() || !line.prerequisites.is_one() {
         return Ok(());
     }
-    if let (Some(target), Some(source)) = (line.targets.get(0), line.prerequisites.get(0)) {
+    if let (Some(target), Some(source)) = (line.targets.first(), line.prerequisites.first()) {
         forms.push(pattern_form(alloc, rule, target, source)?)?;
     }
     Ok(())

@@ -38,7 +38,7 @@ fn may_be_goal(suffixes: &ByteStrings, line: &RuleLine, target: &[u8]) -> bool
 fn first_goal<'l>(suffixes: &ByteStrings, line: &'l RuleLine) -> Option<&'l [u8]>
     ensures { option_to_list (option_copied result) ≡ first_goal suffixes.now line.now }
 {
-    let target = line.targets.get(0)?;
+    let target = line.targets.first()?;
     if may_be_goal(suffixes, line, target) {
         return Some(target);
     }

@@ -7,6 +7,7 @@ mod form;
 mod forms;
 mod goals;
 mod laws;
+mod line_words;
 mod lines;
 mod makefile;
 mod rule_line;
@@ -23,6 +24,7 @@ pub use goals::goals_of;
 pub use laws::{
     goals_are_named_or_first, implicit_rules_in_order, rules_by_name, suffixes_are_the_last_list,
 };
+pub use line_words::LineWords;
 pub use lines::rule_lines;
 pub use makefile::Makefile;
 pub use rule_line::RuleLine;

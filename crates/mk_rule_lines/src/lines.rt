@@ -3,11 +3,10 @@ ghost use Rattle.std.specs.Prelude.{◌≡◌, ℕ, List, None, Some, IfOk, IfEr
 ghost use Rattle.mk_macros.specs.Ranks.{ranks_at, rule_meaning};
 ghost use Rattle.mk_rule_lines.specs.Lines.{behind, behind_items, AreWordsOf, IsRuleLine, AreRuleLines, IsTextFault, IsRuleTextFault, IsLinesFault, IsToldAs};
 ghost use Rattle.mk_macros.specs.Expansion.{gives, ExpandsTo};
-ghost use Rattle.byte_strings.specs.Blanks.{words};
 
 use crate::fault::RuleFault;
+use crate::line_words::LineWords;
 use crate::rule_line::RuleLine;
-use byte_strings::{ByteStrings, Words};
 use mk_macros::{Dynamic, MacroFault, Macros, Rank};
 use mk_reader::{Definition, Item, Rule, Special, SpecialName};
 use std::alloc::{AllocError, Global};
@@ -32,23 +31,12 @@ fn expanded(alloc: Global, macros: &Macros, text: &[u8]) -> Result<Vec<u8>, Rule
     }
 }
 
-fn cut(alloc: Global, text: &[u8]) -> Result<ByteStrings, AllocError>
-    ensures { IfOk result (λ cut. cut ≡ words text.now) }
-{
-    let mut cut = ByteStrings::empty(alloc);
-    for word in Words::new(text) {
-        cut.push(word)?;
-    }
-    Ok(cut)
-}
-
 /// The words of what the text of a rule line expands to.
-fn words_of(alloc: Global, macros: &Macros, text: &[u8]) -> Result<ByteStrings, RuleFault>
+fn words_of(alloc: Global, macros: &Macros, text: &[u8]) -> Result<LineWords, RuleFault>
     ensures words { IfOk result (λ words. AreWordsOf (ranks_at macros.now) text.now words) }
     ensures fault { IfErr result (IsTextFault (ranks_at macros.now) text.now) }
 {
-    let expansion = expanded(alloc, macros, text)?;
-    Ok(cut(alloc, &expansion)?)
+    Ok(LineWords::new(expanded(alloc, macros, text)?))
 }
 
 /// The line of a rule, expanded.

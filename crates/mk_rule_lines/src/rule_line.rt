@@ -4,6 +4,7 @@ ghost use Rattle.std.specs.List.{list_any};
 ghost use Rattle.mk_reader.specs.Text.{is_empty};
 ghost use Rattle.mk_rule_lines.specs.Rules.{has, has_percent, is_rule, is_pattern_rule, is_suffix_list, joins, is_suffix_name, may_be_suffix_rule, is_suffix_target, comes_out, targets_by};
 
+use crate::line_words::LineWords;
 use byte_strings::ByteStrings;
 use mk_reader::{Recipe, SpecialName};
 use std::alloc::{AllocError, Global};
@@ -15,8 +16,8 @@ pub struct RuleLine {
     pub line: usize,
     /// The special name that stands first, if one does.
     pub special: Option<SpecialName>,
-    pub targets: ByteStrings,
-    pub prerequisites: ByteStrings,
+    pub targets: LineWords,
+    pub prerequisites: LineWords,
     pub recipe: Recipe,
 }
 
@@ -33,7 +34,7 @@ fn has_percent(name: &[u8]) -> bool
     name.iter().any(|b| *b == b'%')
 }
 
-fn any_percent(names: &ByteStrings) -> bool
+fn any_percent(names: &LineWords) -> bool
     ensures { result ≡ list_any has_percent names.now }
 {
     names.iter().any(|name| has_percent(name))

@@ -2,6 +2,7 @@
 ghost use Rattle.std.specs.Prelude.{◌≡◌, IfOk, OnOk, if◌then◌else◌};
 ghost use Rattle.mk_rule_lines.specs.Rules.{added, with_names, is_suffix_list, suffixes_of};
 
+use crate::line_words::LineWords;
 use crate::rule_line::{RuleLine, has};
 use byte_strings::ByteStrings;
 use mk_reader::SpecialName;
@@ -17,7 +18,7 @@ fn is_suffix_list(special: Option<SpecialName>) -> bool
 }
 
 /// Adds the names that are new, in order.
-fn add_names(suffixes: &mut ByteStrings, names: &ByteStrings) -> Result<(), AllocError>
+fn add_names(suffixes: &mut ByteStrings, names: &LineWords) -> Result<(), AllocError>
     ensures { OnOk result (suffixes.new ≡ added suffixes.old names.now) }
 {
     for name in names.iter() {
@@ -32,7 +33,7 @@ fn add_names(suffixes: &mut ByteStrings, names: &ByteStrings) -> Result<(), Allo
 fn with_names(
     alloc: Global,
     suffixes: ByteStrings,
-    names: &ByteStrings,
+    names: &LineWords,
 ) -> Result<ByteStrings, AllocError>
     ensures { IfOk result (λ suffixes_after. suffixes_after ≡ with_names suffixes names.now) }
 {

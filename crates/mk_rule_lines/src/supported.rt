@@ -5,8 +5,8 @@ ghost use Rattle.mk_rule_lines.specs.Tests.{is_pattern, is_one_pattern, is_whole
 ghost use Rattle.std.specs.List.{list_any};
 
 use crate::fault::{RuleFault, Unsupported};
-use crate::rule_line::{RuleLine, has};
-use byte_strings::ByteStrings;
+use crate::line_words::LineWords;
+use crate::rule_line::RuleLine;
 
 fn is_pattern(name: &[u8]) -> bool
     ensures { result ≡ is_pattern name.now }
@@ -14,16 +14,16 @@ fn is_pattern(name: &[u8]) -> bool
     name.iter().filter(|b| **b == b'%').count() == 1
 }
 
-fn any_is_pattern(names: &ByteStrings) -> bool
+fn any_is_pattern(names: &LineWords) -> bool
     ensures { result ≡ list_any is_pattern names.now }
 {
     names.iter().any(|name| is_pattern(name))
 }
 
-fn is_one_pattern(names: &ByteStrings) -> bool
+fn is_one_pattern(names: &LineWords) -> bool
     ensures { result ≡ is_one_pattern names.now }
 {
-    names.len() == 1 && any_is_pattern(names)
+    names.is_one() && any_is_pattern(names)
 }
 
 fn has_bracket(name: &[u8]) -> bool
@@ -32,7 +32,7 @@ fn has_bracket(name: &[u8]) -> bool
     name.iter().any(|b| *b == b'(')
 }
 
-fn any_has_bracket(names: &ByteStrings) -> bool
+fn any_has_bracket(names: &LineWords) -> bool
     ensures { result ≡ list_any has_bracket names.now }
 {
     names.iter().any(|name| has_bracket(name))
@@ -48,7 +48,7 @@ fn is_refused(what: Unsupported, line: &RuleLine) -> bool
     ensures { result ≡ is_refused what line.now }
 {
     match what {
-        Unsupported::TargetGroup => line.is_rule() && has(&line.targets, b"+"),
+        Unsupported::TargetGroup => line.is_rule() && line.targets.has(b"+"),
         Unsupported::LibraryMember => {
             line.is_rule()
                 && (any_has_bracket(&line.targets) || any_has_bracket(&line.prerequisites))

@@ -9,10 +9,10 @@ ghost use Rattle.mk_rules.specs.Waits.{groups_of, orders, line_orders};
 
 use byte_strings::ByteStrings;
 use mk_graph::{Names, add_waits};
-use mk_rule_lines::{RuleLine, is_wait};
+use mk_rule_lines::{LineWords, RuleLine, is_wait};
 use std::alloc::{AllocError, Global};
 
-fn any_wait(words: &ByteStrings) -> bool
+fn any_wait(words: &LineWords) -> bool
     ensures { result ≡ list_any is_wait words.now }
 {
     words.iter().any(|word| is_wait(word))
@@ -28,7 +28,7 @@ fn any_number(names: &Names, words: &ByteStrings) -> bool
 fn number_groups(
     alloc: Global,
     names: &Names,
-    words: &ByteStrings,
+    words: &LineWords,
 ) -> Result<Vec<Vec<usize>>, AllocError>
     ensures groups { IfOk result (λ groups. map (map (name_at names.now)) (map (λ g. g.items) groups.items)
         ≡ map (filter (has_name names.now)) (groups_of words.now)) }

@@ -1,0 +1,71 @@
+//! The words of what a text of a rule line expands to.
+ghost use Rattle.std.specs.Prelude.{◌≡◌, ◌↔◌, ◌==◌, [], length, slice_get, option_copied, IsTrue};
+ghost use Rattle.byte_strings.specs.Blanks.{words};
+ghost use Rattle.mk_rule_lines.specs.Rules.{has};
+
+use byte_strings::Words;
+use std::marker::Model;
+
+/// The words of a text, which is all that is kept of them: a list of words takes twice the room. Contracts see the list.
+#[derive(Drop)]
+pub struct LineWords {
+    text: Vec<u8>,
+}
+
+impl Model for LineWords {
+    ghost use Rattle.std.specs.Prelude.{ℕ, List};
+    ghost use Rattle.byte_strings.specs.Blanks.{words};
+
+    ghost Value = { List (List ℕ) };
+
+    ghost view = { λ w. words w.text.items };
+}
+
+impl LineWords {
+    /// The words of this text, which takes no memory.
+    pub fn new(text: Vec<u8>) -> LineWords
+        ensures { result ≡ words text.items }
+    {
+        LineWords { text }
+    }
+
+    /// The words in their order.
+    pub fn iter(&self) -> Words<'_>
+        ensures { result ≡ self.now }
+    {
+        Words::new(&self.text)
+    }
+
+    pub fn first(&self) -> Option<&[u8]>
+        ensures { option_copied result ≡ slice_get self.now 0 }
+    {
+        self.iter().next()
+    }
+
+    pub fn is_empty(&self) -> bool
+        ensures { IsTrue result ↔ (self.now ≡ []) }
+    {
+        match self.iter().next() {
+            Some(_) => false,
+            None => true,
+        }
+    }
+
+    /// Whether there is just one word.
+    pub fn is_one(&self) -> bool
+        ensures { result ≡ (length self.now == 1) }
+    {
+        let mut left = self.iter();
+        match left.next() {
+            Some(_) => left.next().is_none(),
+            None => false,
+        }
+    }
+
+    /// Whether the name is one of the words.
+    pub fn has(&self, name: &[u8]) -> bool
+        ensures { result ≡ has name.now self.now }
+    {
+        self.iter().any(|word| name == word)
+    }
+}
