@@ -62,14 +62,14 @@ fn graph_of<T: Tree>(
     targets: ByteStrings,
     tree: &mut T,
     items: Vec<Item>,
-    state: &State,
+    state: State,
 ) -> Result<Graph, Fault>
     ensures graph { IfOk result (λ graph. (times : List ℕ → Option ℤ) → T.allows tree.new times
-        → IsGraphOf given.entry.definitions.now given.entry.environment.now targets times items.items state.now graph) }
+        → IsGraphOf given.entry.definitions.now given.entry.environment.now targets times items.items state graph) }
     ensures fault { IfErr result (λ fault. (fault ≡ faults.OutOfMemory) ⊎ ((f : RulesFault) × (fault ≡ faults.Rules f)
         × ((times : List ℕ → Option ℤ) → T.allows tree.new times
         → IsRuleFault (first_defined given.entry.definitions.now given.entry.environment.now) items.items times
-        (finmap.get state.now) (T.refuses tree.new) targets MAX_NODES f))) }
+        (finmap.get state) (T.refuses tree.new) targets MAX_NODES f))) }
     ensures times { (times : List ℕ → Option ℤ) → T.allows tree.new times → T.allows tree.old times }
 {
     let macros = first_macros(alloc, given.definitions, given.environment)?;
@@ -141,7 +141,7 @@ fn kept_graph<T: Tree, D: Disk>(
     ensures device { IsErrOf result (faults.State open_faults.Device) → Rises (D.faults disk.old) (D.faults disk.new) }
 {
     let state = kept_state(alloc, key, keeping, disk)?;
-    graph_of(alloc, given, targets, tree, items, &state)
+    graph_of(alloc, given, targets, tree, items, state)
 }
 
 /// What items that were read list.

@@ -56,6 +56,7 @@ fn graph_of<T: Tree>(
     ensures times { (times : List ℕ → Option ℤ) → T.allows tree.new times → T.allows tree.old times }
 {
     let macros = first_macros(alloc, definitions, environment)?;
+    let state = state.copy(alloc)?;
     match mk_rules::build(alloc, items, macros, targets, tree, state) {
         Ok(graph) => Ok(graph),
         Err(fault) => Err(Stop::Before(Fault::Rules(fault))),

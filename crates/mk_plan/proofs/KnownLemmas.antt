@@ -11,6 +11,7 @@ use Rattle.mk_rules.specs.Prerequisites.{Inputs, implicit_source, recipe_of as r
 use Rattle.mk_rules.specs.declared.graph.Node.{Node}
 use Rattle.mk_rules.specs.declared.graph.Graph.{Graph}
 use Rattle.mk_plan.specs.Known.{IsNodeOf}
+use Rattle.st_records.specs.declared.record.Entry.{Entry}
 
 or_map : {A B : Type 0} (f : A → B) (o : Option A) (d : B) → unwrap_or (option_map f o) d ≡ option_map_or f o d
 or_map f None d = refl
@@ -24,7 +25,7 @@ module _ (inputs : Inputs) (named : List (List ℕ)) (graph : Graph) (is : IsGra
       let known : IsNode inputs graph.names hard name node = is.node n node at in
       record {
         stamp = ap (option_and_then (λ (m : Node). m.stamp)) at ∙ known.stamp;
-        entry = ap (option_and_then (λ (m : Node). m.entry)) at ∙ known.entry;
+        entry = ap (λ (f : List ℕ → Option Entry). f name) is.entries;
         stem =
             ap (λ o. unwrap_or (option_and_then (λ (m : Node). m.stem) o) []) at ∙ ap (λ o. unwrap_or o []) known.stem
             ∙ or_map (λ s. s.stem) (implicit_source inputs name) [];

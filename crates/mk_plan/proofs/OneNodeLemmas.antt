@@ -2,6 +2,7 @@
 use Rattle.std.specs.Prelude.{slice_get, option_map, option_and_then, unwrap_or}
 use Rattle.std.specs.List.{list_all}
 use Rattle.std.specs.Option.{option_map_or}
+use Rattle.std.specs.FinMap as finmap
 use Rattle.std.proofs.Common.{◌≡◌, ◌∙◌, ◌<◌, ◌≤◌, ℕ, true, ◌&&◌, nat_lt, List, [], ◌∷◌, ◌++◌, length, map, drop, Option, Some, None, inl, inr, refl, sym, ap, subst, ⊎_elim, arith}
 use Rattle.std.proofs.lemmas.Bool.{and_from, cases_lt}
 use Rattle.std.proofs.lemmas.List.{get_or_past}
@@ -17,10 +18,11 @@ use Rattle.mk_rules.specs.Prerequisites.{Inputs, hard_of, judged_of, implicit_so
 use Rattle.mk_rules.specs.declared.graph.Node.{Node}
 use Rattle.mk_rules.specs.declared.graph.Graph.{Graph}
 use Rattle.mk_rules.proofs.OneGraphLemmas.{one_names, one_count, one_hard, one_dropped, same_hidden}
-use Rattle.mk_plan.specs.Nodes.{node_at, stamp_of, entry_of, hidden_of, stem_of, source_of, explicit_of, recipe_of}
+use Rattle.mk_plan.specs.Nodes.{node_at, stamp_of, hidden_of, stem_of, source_of, explicit_of, recipe_of}
 use Rattle.mk_plan.specs.Known.{IsNodeOf}
 use Rattle.mk_plan.proofs.KnownLemmas.{node_of_name}
 use Rattle.mk_plan.proofs.AlikeLemmas.{AreAlike}
+use Rattle.st_records.specs.declared.record.Entry.{Entry}
 
 past_none : {A : Type 0} (xs : List A) (n : ℕ) → length xs ≤ n → slice_get xs n ≡ None
 past_none xs n past =
@@ -37,9 +39,6 @@ module _ (graph : Graph) (n : ℕ) (past : length graph.nodes.items ≤ n) where
 
   no_stamp : stamp_of graph n ≡ None
   no_stamp = ap (option_and_then (λ (node : Node). node.stamp)) none
-
-  no_entry : entry_of graph n ≡ None
-  no_entry = ap (option_and_then (λ (node : Node). node.entry)) none
 
   no_hidden : hidden_of graph n ≡ []
   no_hidden = ap (λ o. option_map_or (λ (node : Node). node.hidden.items) o []) none
@@ -147,9 +146,9 @@ module _ (inputs : Inputs) (named : List (List ℕ)) (a b : Graph) (is_a : IsGra
     stamp =
         view_once (length a.nodes.items) (stamp_of a) (stamp_of b) (λ n. inputs.times (name_at a.names n)) None (λ n inside. (known_a n inside).stamp)
         (λ n inside. (known_b n inside).stamp) (no_stamp a) (λ n past. no_stamp b n (past_b n past));
-    entry =
-        view_once (length a.nodes.items) (entry_of a) (entry_of b) (λ n. inputs.entries (name_at a.names n)) None (λ n inside. (known_a n inside).entry)
-        (λ n inside. (known_b n inside).entry) (no_entry a) (λ n past. no_entry b n (past_b n past));
+    entry = λ n.
+        ap (λ (of : List ℕ → Option Entry). of (name_at a.names n)) (is_a.entries ∙ sym is_b.entries)
+        ∙ ap (λ (ns : List (List ℕ)). finmap.get b.state (name_at ns n)) names;
     hidden = same_hidden_of;
     stem =
         view_once (length a.nodes.items) (stem_of a) (stem_of b) (λ n. option_map_or (λ s. s.stem) (implicit_source inputs (name_at a.names n)) []) []

@@ -1,5 +1,6 @@
 -- What a graph has under a number. Past the end there is nothing.
 use Rattle.std.specs.Prelude.{◌≡◌, ◌⊎◌, ℕ, ℤ, Bool, false, IsTrue, List, [], ◌∷◌, map, slice_get, slice_index_or, Option, None, option_map, option_and_then, unwrap_or}
+use Rattle.std.specs.FinMap as finmap
 use Rattle.std.specs.List.{Any}
 use Rattle.std.specs.Option.{option_map_or}
 use Rattle.mk_graph.specs.Edges.{row}
@@ -18,9 +19,9 @@ node_at graph n = slice_get graph.nodes.items n
 abbrev pub stamp_of : Graph → (n : ℕ) → Option ℤ
 stamp_of graph n = option_and_then (λ node. node.stamp) (node_at graph n)
 
--- what the state has of it
+-- what the state has of its name
 abbrev pub entry_of : Graph → (n : ℕ) → Option Entry
-entry_of graph n = option_and_then (λ node. node.entry) (node_at graph n)
+entry_of graph n = finmap.get graph.state (name_at graph.names n)
 
 -- its hidden prerequisites that are no hard ones; None where one is gone
 abbrev pub hidden_of : Graph → (n : ℕ) → List (Option ℕ)

@@ -35,14 +35,11 @@ pub fn stamp_of(graph: &Graph, node: usize) -> Option<i128>
     }
 }
 
-/// What the state has of a node.
+/// What the state has of a node's name.
 pub fn entry_of(graph: &Graph, node: usize) -> Option<&Entry>
     ensures { option_copied result ≡ entry_of graph.now node }
 {
-    match graph.nodes.get(node) {
-        Some(node) => node.entry.as_ref(),
-        None => None,
-    }
+    graph.state.get(name_of(graph, node))
 }
 
 /// The stem of a node that an implicit rule makes, and else nothing.

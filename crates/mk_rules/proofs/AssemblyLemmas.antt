@@ -1,5 +1,7 @@
 -- A graph of its parts.
 use Rattle.std.proofs.Common.{◌≡◌, ℕ, true, List, length, map, sym, ap, subst, ◌∙◌}
+use Rattle.std.specs.FinMap as finmap
+use Rattle.st_state.specs.State.{StateMap}
 use Rattle.mk_graph.specs.Counted.{AreCounted}
 use Rattle.mk_graph.specs.Cycle.{HasCycle}
 use Rattle.mk_graph.specs.Edges.{row, is_closed}
@@ -26,7 +28,8 @@ module _ (inputs : Inputs) (named : List (List ℕ)) (lines : List RuleLine) (li
     (found : AreFound inputs (goals_of inputs.lines named) n) (node_count : length n.nodes.items ≡ length n.names) where
   module _ (o : Ordered) (hard_count : length o.hard ≡ length n.names) (rows : EachRow (IsHardRow n.rows n.nodes.items) o.hard) (taken : AreTaken lines)
       (made : AreMade inputs n.names) (soft : AreSoft inputs n.names o.soft) (counted : AreCounted o.hard o.soft o.counted o.soft_dropped)
-      (acyclic : HasCycle o.hard → ⊥) (order : IsPlan o.counted o.order.items) (closed : is_closed n.rows ≡ true) (graph : Graph) (p : IsPutTogether lines n o graph) where
+      (acyclic : HasCycle o.hard → ⊥) (order : IsPlan o.counted o.order.items) (closed : is_closed n.rows ≡ true) (state : StateMap)
+      (entries : finmap.get state ≡ inputs.entries) (graph : Graph) (p : IsPutTogether lines n o state graph) where
     hard_is : AreHard inputs n.names o.hard
     hard_is = are_hard inputs n.names n.rows n.nodes.items found.rows_are found.known node_count o.hard (hard_count ∙ sym node_count) rows
 
@@ -55,6 +58,7 @@ module _ (inputs : Inputs) (named : List (List ℕ)) (lines : List RuleLine) (li
       acyclic = subst (λ h. HasCycle h → ⊥) (sym p.hard) acyclic;
       order = subst (λ c. IsPlan c graph.order.items) (sym p.counted) (subst (IsPlan o.counted) (sym p.order) order);
       settings = p.settings ∙ ap settings_of (sym lines_are);
+      entries = ap finmap.get p.recorded ∙ entries;
     }
 
   -- the faults that are met on the way

@@ -40,9 +40,9 @@ module _ (ranks : Defined) (items : List Item) (times : (name : List ℕ) → Op
 
   module _ (n : Numbered Known) (found : AreFound (inputs_of lines entries times) (goals_of lines named) n) where
     pub built : (graph : Graph) →
-        ((inputs : Inputs) (names : List (List ℕ)) → inputs.lines ≡ lines → AreFound inputs (goals_of inputs.lines names) n → IsGraph inputs names graph) →
+        ((inputs : Inputs) (names : List (List ℕ)) → inputs.lines ≡ lines → entries ≡ inputs.entries → AreFound inputs (goals_of inputs.lines names) n → IsGraph inputs names graph) →
         (inputs : Inputs) × AreInputs ranks items times entries inputs × IsGraph inputs named graph
-    built graph is = (inputs_of lines entries times, are_inputs, is (inputs_of lines entries times) named refl found)
+    built graph is = (inputs_of lines entries times, are_inputs, is (inputs_of lines entries times) named refl refl found)
 
     pub graph_refused : (refuses : List ℕ → Type 0) (limit : ℕ) (f : RuleFault) →
         ((inputs : Inputs) (names : List (List ℕ)) → inputs.lines ≡ lines → AreFound inputs (goals_of inputs.lines names) n → IsGraphlessFault inputs names f) →

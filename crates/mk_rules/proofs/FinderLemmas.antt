@@ -39,8 +39,8 @@ module _ (inputs : Inputs) (name : List ℕ) (source : Option Source) (explicit 
   -- what was found of the name is what the inputs say of it
   pub known_is : (k : Known) (own : Option ℕ) → k.stamp ≡ inputs.times name → k.stem ≡ option_map (λ s. s.stem) source →
       k.recipe ≡ first_or (option_to_list own) (option_map (λ s. s.rule) source) → option_to_list own ≡ own_recipes inputs.lines name →
-      k.hard ≡ length hard → k.hidden.items ≡ m.hidden.items → k.entry ≡ entry → IsKnown inputs name k
-  known_is k own stamp stem recipe own_is count among entry_of = record {
+      k.hard ≡ length hard → k.hidden.items ≡ m.hidden.items → IsKnown inputs name k
+  known_is k own stamp stem recipe own_is count among = record {
     stamp = stamp;
     stem = stem ∙ ap (option_map (λ (s : Source). s.stem)) source_is;
     recipe =
@@ -50,7 +50,6 @@ module _ (inputs : Inputs) (name : List ℕ) (source : Option Source) (explicit 
     hidden =
         among ∙ hidden.among ∙ ap (λ (n : ℕ). map (is_node inputs) (drop n m.judged)) (sym count)
         ∙ ap (λ (ns : List (List ℕ)). map (is_node inputs) (drop k.hard ns)) judged_are;
-    entry = entry_of ∙ entry_is;
   }
 
 no_value : false ≡ true → ⊥

@@ -292,7 +292,6 @@ module _ (inputs : Inputs) (names : List (List ℕ)) (g : List (List ℕ)) (know
             ap (λ r. map (option_map (name_at names)) (judged r node.hidden.items)) hard_is
             ∙ ap (λ h. map (option_map (name_at names)) (judged (take k.hard (row g n)) h)) is.hidden
             ∙ node_judged inputs names g known rows_are described count n k (subst (λ l. n < l) count within) from.1;
-        entry = is.entry ∙ known_is.entry;
         numbered =
             ap (list_all (is_numbered (length names))) is.hidden
             ∙ spread_numbered (length names) k.hidden.items (drop k.hard (row g n))

@@ -11,6 +11,7 @@ use Rattle.mk_rules.specs.Node.{source_by, explicit_by}
 use Rattle.mk_rules.specs.Prerequisites.{Inputs, implicit_source, explicit_names, recipe_of, hard_of, is_node, prerequisites_of, judged_of, hidden_nodes, is_made}
 use Rattle.mk_rules.specs.Waits.{line_orders}
 use Rattle.mk_graph.specs.Plan.{IsPlan}
+use Rattle.std.specs.FinMap as finmap
 use Rattle.std.specs.List.{list_all, list_any}
 use Rattle.std.specs.Option.{option_map_or}
 use Rattle.mk_rules.specs.declared.graph.Node.{Node}
@@ -39,7 +40,6 @@ pub record IsNode (inputs : Inputs) (names : List (List ℕ)) (hard : List ℕ) 
   pub prerequisites :
       map (option_map (name_at names)) (judged hard node.hidden.items)
       ≡ map (judged_name inputs (hard_of inputs name)) (judged_of inputs name)
-  pub entry : node.entry ≡ inputs.entries name
   pub numbered : list_all (is_numbered (length names)) node.hidden.items ≡ true
 
 -- p comes before q where it may: it is a hidden prerequisite of q and no hard one, or some line's `.WAIT` says so
@@ -76,3 +76,4 @@ pub record IsGraph (inputs : Inputs) (named : List (List ℕ)) (graph : Graph) :
   pub acyclic : HasCycle graph.hard → ⊥
   pub order : IsPlan graph.counted graph.order.items
   pub settings : graph.settings ≡ settings_of inputs.lines
+  pub entries : finmap.get graph.state ≡ inputs.entries

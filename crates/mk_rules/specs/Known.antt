@@ -23,7 +23,6 @@ pub record IsKnown (inputs : Inputs) (name : List ℕ) (known : Known) : Type 0 
   pub recipe : known.recipe ≡ recipe_of inputs name
   pub hard : known.hard ≡ length (hard_of inputs name)
   pub hidden : known.hidden.items ≡ nodes_among inputs known.hard (judged_of inputs name)
-  pub entry : known.entry ≡ inputs.entries name
 
 -- a name that can't be looked at while another is looked up: that name itself, a hidden prerequisite that is text, or, where
 -- no line has a recipe for it, the candidate for its source that the search has reached

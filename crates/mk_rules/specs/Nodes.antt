@@ -12,7 +12,6 @@ pub record IsMadeOf (known : Known) (r : List ℕ) (node : Node) : Type 0 where
   pub stem : node.stem ≡ known.stem
   pub recipe : node.recipe ≡ known.recipe
   pub hidden : node.hidden.items ≡ spread known.hidden.items (drop known.hard r)
-  pub entry : node.entry ≡ known.entry
 
 -- the node of each number is made of what is known of it
 abbrev pub AreMadeOf : (known : List Known) (rows : List (List ℕ)) (nodes : List Node) → Type 0

@@ -19,6 +19,7 @@ ghost use Rattle.mk_rule_lines.specs.Lines.{behind_items};
 ghost use Rattle.mk_rules.specs.Prerequisites.{Inputs, inputs_of, is_target, prerequisites_of};
 ghost use Rattle.mk_rule_lines.specs.Goals.{goals_of};
 ghost use Rattle.mk_rules.specs.Graph.{IsGraph, AreMade};
+ghost use Rattle.st_state.specs.State.{StateMap};
 ghost use Rattle.mk_rules.specs.Faults.{AreInputs, IsGraphFault, IsRuleFault};
 
 use crate::finder::Finder;
@@ -154,6 +155,7 @@ fn put_together(
     macros: Macros,
     numbered: Numbered<Known>,
     ordered: Ordered,
+    state: State,
 ) -> Result<Graph, AllocError>
     requires names { EachHasOneNumber numbered.names }
     requires row_count { length numbered.rows ≡ length numbered.names }
@@ -166,7 +168,7 @@ fn put_together(
     requires counted_closed { IsTrue (is_closed ordered.counted) }
     requires counted_ascending { (n : ℕ) → IsStrictlyIncreasing (row ordered.counted n) }
     requires few { length numbered.names ≤ MAX_NODES }
-    ensures graph { IfOk result (IsPutTogether lines.items numbered ordered) }
+    ensures graph { IfOk result (IsPutTogether lines.items numbered ordered state) }
     ensures macros { IfOk result (λ graph. graph.macros ≡ macros) }
 {
     let (names, goals, nodes) = named_nodes(alloc, numbered)?;
@@ -189,6 +191,7 @@ fn put_together(
         settings: Settings::of_lines(&lines),
         lines,
         macros,
+        state,
     })
 }
 
@@ -212,8 +215,8 @@ fn order_found(
 
     // What is put together of them is the graph.
     ensures graph { IfOk result (λ ordered. (inputs : Inputs) (named : List (List ℕ)) → inputs.lines ≡ makefile.now.lines.items
-        → AreFound inputs (goals_of inputs.lines named) numbered.now
-        → (graph : Graph) → IsPutTogether makefile.now.lines.items numbered.now ordered graph → IsGraph inputs named graph) }
+        → AreFound inputs (goals_of inputs.lines named) numbered.now → (state : StateMap) → finmap.get state ≡ inputs.entries
+        → (graph : Graph) → IsPutTogether makefile.now.lines.items numbered.now ordered state graph → IsGraph inputs named graph) }
     ensures fault { IfErr result (λ fault. (inputs : Inputs) (named : List (List ℕ)) → inputs.lines ≡ makefile.now.lines.items
         → AreFound inputs (goals_of inputs.lines named) numbered.now → IsGraphlessFault inputs named fault) }
 {
@@ -236,6 +239,7 @@ fn graph_of(
     makefile: Makefile,
     macros: Macros,
     numbered: Numbered<Known>,
+    state: State,
 ) -> Result<Graph, RuleFault>
     requires names { IsDistinct bytes_eq numbered.names }
     requires row_count { length numbered.rows ≡ length numbered.names }
@@ -243,14 +247,14 @@ fn graph_of(
     requires closed { IsTrue (is_closed numbered.rows) }
     requires few { length numbered.names ≤ MAX_NODES }
     ensures graph { IfOk result (λ graph. (inputs : Inputs) (named : List (List ℕ)) → inputs.lines ≡ makefile.lines.items
-        → AreFound inputs (goals_of inputs.lines named) numbered → IsGraph inputs named graph) }
+        → finmap.get state ≡ inputs.entries → AreFound inputs (goals_of inputs.lines named) numbered → IsGraph inputs named graph) }
     ensures macros { IfOk result (λ graph. graph.macros ≡ macros) }
     ensures fault { IfErr result (λ fault. (inputs : Inputs) (named : List (List ℕ)) → inputs.lines ≡ makefile.lines.items
         → AreFound inputs (goals_of inputs.lines named) numbered → IsGraphlessFault inputs named fault) }
 {
     let ordered = order_found(alloc, &makefile, &numbered)?;
     let lines = lines_of(makefile);
-    Ok(put_together(alloc, lines, macros, numbered, ordered)?)
+    Ok(put_together(alloc, lines, macros, numbered, ordered, state)?)
 }
 
 /// The names that the goals of a makefile lead to, with what was found of each.
@@ -286,26 +290,26 @@ fn reached<T: Tree>(
 /// The graph of a makefile's items for these goals, or for the makefile's first target where none is named.
 ///
 /// It is the graph for any times that agree with what the tree answered. The tree is asked for a name once at most. The
-/// macros take in the definitions of the makefile.
+/// macros take in the definitions of the makefile, and the graph keeps the state.
 pub fn build<T: Tree>(
     alloc: Global,
     items: Vec<Item>,
     macros: Macros,
     goals: ByteStrings,
     tree: &mut T,
-    state: &State,
+    state: State,
 ) -> Result<Graph, RuleFault>
     ensures graph { IfOk result (λ graph. (times : List ℕ → Option ℤ) → T.allows tree.new times → (inputs : Inputs)
-        × AreInputs (ranks_at macros) items.items times (finmap.get state.now) inputs
+        × AreInputs (ranks_at macros) items.items times (finmap.get state) inputs
         × IsGraph inputs goals graph) }
     ensures macros { IfOk result (λ graph. ranks_at graph.macros ≡ behind_items (ranks_at macros) items.items) }
     ensures fault { IfErr result (λ fault. (times : List ℕ → Option ℤ) → T.allows tree.new times
-        → IsRuleFault (ranks_at macros) items.items times (finmap.get state.now) (T.refuses tree.new) goals MAX_NODES fault) }
+        → IsRuleFault (ranks_at macros) items.items times (finmap.get state) (T.refuses tree.new) goals MAX_NODES fault) }
     ensures narrows { (times : List ℕ → Option ℤ) → T.allows tree.new times → T.allows tree.old times }
     ensures asked { AskedOnce (T.asked tree.old) (λ _. true) (T.asked tree.new) }
 {
     let mut macros = macros;
     let makefile = Makefile::of_items(alloc, items, &mut macros)?;
-    let numbered = reached(alloc, &makefile, goals, tree, state)?;
-    graph_of(alloc, makefile, macros, numbered)
+    let numbered = reached(alloc, &makefile, goals, tree, &state)?;
+    graph_of(alloc, makefile, macros, numbered, state)
 }

@@ -16,7 +16,6 @@ use crate::tree::Tree;
 use byte_strings::ByteString;
 use mk_graph::{Dependencies, Found};
 use mk_rule_lines::{RuleFault, Source};
-use st_records::Entry;
 use std::alloc::Global;
 
 fn stem_and_rule(source: Option<Source>) -> (Option<ByteString>, Option<usize>)
@@ -39,30 +38,30 @@ fn own_or(own: Option<usize>, implicit: Option<usize>) -> Option<usize>
     }
 }
 
-/// Takes in the hidden prerequisites of an entry behind the hard ones.
+/// Takes in the hidden prerequisites that are recorded of a name behind the hard ones.
 fn add_hidden_of<T: Tree>(
     alloc: Global,
     rules: &Rules,
     tree: &mut T,
     stamps: &mut Stamps,
     mentioned: &mut Mentioned,
-    entry: &Option<Entry>,
+    name: &[u8],
 ) -> Result<(), RuleFault>
     requires nodes { mentioned.old.nodes ≡ mentioned.old.judged }
     requires none { mentioned.old.hidden.items ≡ [] }
     ensures hidden { OnOk result ((times : List ℕ → Option ℤ) → AgreesWith stamps.new times
-        → HasHidden (is_node (inputs_of rules.now.lines.now (map.get rules.now.state.now) times)) mentioned.old.judged (hidden_in entry.now) mentioned.new) }
+        → HasHidden (is_node (inputs_of rules.now.lines.now (map.get rules.now.state.now) times)) mentioned.old.judged (hidden_in (map.get rules.now.state.now name.now)) mentioned.new) }
     ensures looks { Looks stamps.old stamps.new (T.allows tree.old) (T.allows tree.new) (T.refuses tree.old) (T.refuses tree.new) }
     ensures asks { Asks (is_ok result) stamps.old stamps.new (T.asked tree.old) (T.asked tree.new) }
-    ensures fault { IfErr result (IsNamesFault (T.refuses tree.new) (hidden_in entry.now)) }
+    ensures fault { IfErr result (IsNamesFault (T.refuses tree.new) (hidden_in (map.get rules.now.state.now name.now))) }
 {
-    match entry {
+    match rules.entry(name) {
         Some(entry) => add_hidden(alloc, rules, tree, stamps, mentioned, &entry.hidden),
         None => Ok(()),
     }
 }
 
-/// The prerequisites of a name with this source and this entry, and how many of them are hard.
+/// The prerequisites of a name with this source, and how many of them are hard.
 fn mentioned_of<T: Tree>(
     alloc: Global,
     rules: &Rules,
@@ -70,20 +69,20 @@ fn mentioned_of<T: Tree>(
     stamps: &mut Stamps,
     name: &[u8],
     source: &Option<Source>,
-    entry: &Option<Entry>,
 ) -> Result<(Mentioned, usize), RuleFault>
     ensures mentioned { IfOk result (λ of. (times : List ℕ → Option ℤ) → AgreesWith stamps.new times
         → HasHidden (is_node (inputs_of rules.now.lines.now (map.get rules.now.state.now) times))
-        (distinct (source_names source.now ++ explicit_of rules.now.lines.now name.now)) (hidden_in entry.now) of.0) }
+        (distinct (source_names source.now ++ explicit_of rules.now.lines.now name.now))
+        (hidden_in (map.get rules.now.state.now name.now)) of.0) }
     ensures hard { IfOk result (λ of. of.1 ≡ length (distinct (source_names source.now ++ explicit_of rules.now.lines.now name.now))) }
     ensures looks { Looks stamps.old stamps.new (T.allows tree.old) (T.allows tree.new) (T.refuses tree.old) (T.refuses tree.new) }
     ensures asks { Asks (is_ok result) stamps.old stamps.new (T.asked tree.old) (T.asked tree.new) }
-    ensures fault { IfErr result (IsNamesFault (T.refuses tree.new) (hidden_in entry.now)) }
+    ensures fault { IfErr result (IsNamesFault (T.refuses tree.new) (hidden_in (map.get rules.now.state.now name.now))) }
 {
     let explicit = rules.explicit(alloc, name)?;
     let mut mentioned = Mentioned::hard(alloc, source, &explicit)?;
     let hard = mentioned.judged.len();
-    add_hidden_of(alloc, rules, tree, stamps, &mut mentioned, entry)?;
+    add_hidden_of(alloc, rules, tree, stamps, &mut mentioned, name)?;
     Ok((mentioned, hard))
 }
 
@@ -92,7 +91,6 @@ fn gathered(
     stamp: Option<i128>,
     source: Option<Source>,
     own: Option<usize>,
-    entry: Option<Entry>,
     mentioned: Mentioned,
     hard: usize,
 ) -> Found<Known>
@@ -102,7 +100,6 @@ fn gathered(
     ensures recipe { result.node.recipe ≡ first_or (option_to_list own) (option_map (λ s. s.rule) source) }
     ensures hard { result.node.hard ≡ hard }
     ensures hidden { result.node.hidden.items ≡ mentioned.hidden.items }
-    ensures entry { result.node.entry ≡ entry }
 {
     let Mentioned { nodes, hidden, .. } = mentioned;
     let (stem, rule) = stem_and_rule(source);
@@ -114,7 +111,6 @@ fn gathered(
             recipe: own_or(own, rule),
             hard,
             hidden,
-            entry,
         },
     }
 }
@@ -138,10 +134,9 @@ fn look_up<T: Tree>(
 {
     let stamp = stamps.stamp(alloc, tree, name)?;
     let source = implicit_source(alloc, rules, tree, stamps, name)?;
-    let entry = rules.entry(alloc, name)?;
-    let (mentioned, hard) = mentioned_of(alloc, rules, tree, stamps, name, &source, &entry)?;
+    let (mentioned, hard) = mentioned_of(alloc, rules, tree, stamps, name, &source)?;
     let own = rules.recipe(name);
-    Ok(gathered(stamp, source, own, entry, mentioned, hard))
+    Ok(gathered(stamp, source, own, mentioned, hard))
 }
 
 /// Looks names up in the rules, the state and a tree.

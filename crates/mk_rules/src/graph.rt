@@ -9,7 +9,7 @@ use byte_strings::ByteString;
 use mk_graph::{Edges, Names};
 use mk_macros::Macros;
 use mk_rule_lines::{RuleLine, Settings};
-use st_records::Entry;
+use st_state::State;
 
 /// How many names a graph may hold.
 pub const MAX_NODES: usize = 100_000;
@@ -26,8 +26,6 @@ pub struct Node {
     /// The hidden prerequisites that aren't hard ones, in the order in which they were recorded: the number of a node, or
     /// None where there is neither a file nor a rule.
     pub hidden: Vec<Option<usize>>,
-    /// What the state has of it.
-    pub entry: Option<Entry>,
 }
 
 /// The names that the goals lead to, numbered by first mention, with what orders them.
@@ -52,6 +50,8 @@ pub struct Graph {
     pub settings: Settings,
     /// With all definitions of the makefile.
     pub macros: Macros,
+    /// What is recorded of each name.
+    pub state: State,
     // Each name has a node, no name has two, and each node has a row of each kind. Each number in a row is that of a node; a
     // counted row has it once.
     pub ghost named: { length names ≡ length nodes.items },

@@ -1,8 +1,7 @@
 //! What is found of a name while names are numbered.
 use byte_strings::ByteString;
-use st_records::Entry;
 
-/// What the rules, the files and the state say of a name.
+/// What the rules and the files say of a name.
 #[derive(Drop)]
 pub(crate) struct Known {
     pub stamp: Option<i128>,
@@ -12,5 +11,4 @@ pub(crate) struct Known {
     pub hard: usize,
     /// Of each hidden prerequisite that isn't a hard one, in their order, whether it is a node.
     pub hidden: Vec<bool>,
-    pub entry: Option<Entry>,
 }

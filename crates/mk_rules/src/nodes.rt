@@ -18,14 +18,12 @@ fn node_of(alloc: Global, known: Known, row: &[usize]) -> Result<Node, AllocErro
         recipe,
         hard,
         hidden,
-        entry,
     } = known;
     Ok(Node {
         stamp,
         stem,
         recipe,
         hidden: hidden_numbers(alloc, &hidden, behind(row, hard))?,
-        entry,
     })
 }
 

@@ -1,6 +1,7 @@
 //! What a makefile's rules and the state say of a name.
 ghost use Rattle.std.specs.Prelude.{◌≡◌, ℕ, ℤ, List, Option, false, option_to_list, is_ok, IfOk, IfErr};
 ghost use Rattle.std.specs.FinMap as map;
+ghost use Rattle.std.specs.Option.{option_copied};
 ghost use Rattle.mk_rule_lines.specs.Rules.{has, suffixes_of, targets_by, places, recipe_places};
 ghost use Rattle.mk_rules.specs.Source.{IsSourceFault};
 ghost use Rattle.mk_rules.specs.Stamps.{AgreesWith, Asks};
@@ -77,12 +78,9 @@ impl<'m> Rules<'m> {
     }
 
     /// What the state has of the name.
-    pub fn entry(&self, alloc: Global, name: &[u8]) -> Result<Option<Entry>, AllocError>
-        ensures { IfOk result (λ entry. entry ≡ map.get self.now.state.now name.now) }
+    pub fn entry(&self, name: &[u8]) -> Option<&Entry>
+        ensures { option_copied result ≡ map.get self.now.state.now name.now }
     {
-        match self.state.get(name) {
-            Some(entry) => Ok(Some(entry.copy(alloc)?)),
-            None => Ok(None),
-        }
+        self.state.get(name)
     }
 }

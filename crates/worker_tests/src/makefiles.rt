@@ -21,7 +21,14 @@ pub fn graph(alloc: Global, asked: &Asked, state: &State) -> Result<Graph, Fail>
     let mut folder = Folder::new(asked.files);
     let items = read_makefile(alloc, b"makefile", asked.makefile.as_bytes(), &mut folder)?;
     let goals = ByteStrings::empty(alloc);
-    Ok(build(alloc, items, Macros::new(alloc), goals, &mut folder, state)?)
+    Ok(build(
+        alloc,
+        items,
+        Macros::new(alloc),
+        goals,
+        &mut folder,
+        state.copy(alloc)?,
+    )?)
 }
 
 fn is_any_listed(alloc: Global, graph: &Graph, marks: &[bool]) -> Result<bool, Fail> {

@@ -14,7 +14,7 @@ pub returns-clause-graph : goal.returns-clause-graph
 returns-clause-graph g c =
     if_ok c.graph_of.result _ _
     (λ graph is times now.
-    built (ranks_at c.args.macros) c.args.items.items times (map.get c.args.state.now) c.args.goals
+    built (ranks_at c.args.macros) c.args.items.items times (map.get c.args.state) c.args.goals
     c.in_ok-makefile.makefile.lines.items c.in_ok-makefile.ensures.lines c.in_ok-numbered.numbered (c.in_ok-numbered.ensures.found times now) graph is)
     c.graph_of.ensures.graph
 
@@ -22,7 +22,7 @@ pub returns-clause-fault : goal.returns-clause-fault
 returns-clause-fault g c =
     if_err c.graph_of.result _ _
     (λ f meets times now.
-    graph_refused (ranks_at c.args.macros) c.args.items.items times (map.get c.args.state.now) c.args.goals
+    graph_refused (ranks_at c.args.macros) c.args.items.items times (map.get c.args.state) c.args.goals
     c.in_ok-makefile.makefile.lines.items c.in_ok-makefile.ensures.lines c.in_ok-numbered.numbered (c.in_ok-numbered.ensures.found times now)
     (g.T.Tree.refuses c.reached.new.tree) MAX_NODES f meets)
     c.graph_of.ensures.fault
@@ -31,7 +31,7 @@ pub returns-in_err-makefile-clause-fault : goal.returns-in_err-makefile-clause-f
 returns-in_err-makefile-clause-fault g c =
     let ranks = ranks_at c.args.macros in
     let items = c.args.items.items in
-    let entries = map.get c.args.state.now in
+    let entries = map.get c.args.state in
     let refuses = g.T.Tree.refuses c.args.tree.now in
     let f = c.in_err-makefile.field-0.0 in
     handed_on _
@@ -43,7 +43,7 @@ pub returns-in_err-numbered-clause-fault : goal.returns-in_err-numbered-clause-f
 returns-in_err-numbered-clause-fault g c =
     let ranks = ranks_at c.args.macros in
     let items = c.args.items.items in
-    let entries = map.get c.args.state.now in
+    let entries = map.get c.args.state in
     let refuses = g.T.Tree.refuses c.reached.new.tree in
     let f = c.in_err-numbered.field-0.0 in
     handed_on _

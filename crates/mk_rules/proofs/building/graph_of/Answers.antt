@@ -24,8 +24,8 @@ returns-in_err-put_together-clause-fault c =
     OutOfMemory (c.from_residual-in_err-put_together.ensures).1 (λ inputs named are found. tt)
 
 pub returns-clause-graph : goal.returns-clause-graph
-returns-clause-graph c = λ inputs named are found.
-    c.in_ok-ordered.ensures.graph inputs named are found c.in_ok-put_together.field-0 (rw c.lines_of-lines.ensures at c.in_ok-put_together.ensures.graph)
+returns-clause-graph c = λ inputs named are entries found.
+    c.in_ok-ordered.ensures.graph inputs named are found c.args.state entries c.in_ok-put_together.field-0 (rw c.lines_of-lines.ensures at c.in_ok-put_together.ensures.graph)
 
 pub put_together-requires-clause-names : goal.put_together-requires-clause-names
 put_together-requires-clause-names c = distinct_numbers c.args.numbered.names c.requires.names

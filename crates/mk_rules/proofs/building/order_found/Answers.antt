@@ -46,7 +46,7 @@ returns-clause-graph c =
     let r = c.ordered_by.result in
     let by = c.ordered_by.ensures in
     if_ok r _ _
-    (λ o is inputs named are found graph whole.
+    (λ o is inputs named are found state entries graph whole.
     assembled inputs named lines are n found c.requires.node_count o
     (ap length is.0 ∙ c.in_ok-hard.ensures.count)
     (subst (EachRow (IsHardRow n.rows n.nodes.items)) (sym is.0) c.in_ok-hard.ensures.rows)
@@ -55,5 +55,5 @@ returns-clause-graph c =
     (subst (AreSoft inputs n.names) (sym is.1.0) (c.in_ok-soft.ensures.soft inputs (are ∙ sym c.deref-2.ensures.value) found.rows_are found.known))
     (subst (λ e. AreCounted e o.soft o.counted o.soft_dropped) (sym is.0) (subst (λ s. AreCounted h s o.counted o.soft_dropped) (sym is.1.0) is.1.1.0))
     (subst (λ e. HasCycle e → ⊥) (sym is.0) is.1.1.1.0)
-    is.1.1.1.1 c.requires.closed graph whole)
+    is.1.1.1.1 c.requires.closed state entries graph whole)
     (ok_both r _ _ by.hard (ok_both r _ _ by.soft (ok_both r _ _ by.counted (ok_both r _ _ by.acyclic by.order))))

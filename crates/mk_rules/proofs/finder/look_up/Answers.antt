@@ -6,7 +6,6 @@ use Rattle.mk_rules.specs.LooksLaws.{looks_on}
 use Rattle.mk_rule_lines.proofs.LineLemmas.{handed_on}
 use Rattle.mk_rules.specs.Known.{IsLookUpFault}
 use Rattle.mk_rules.specs.Prerequisites.{inputs_of, source_names, distinct, hidden_in, own_recipes}
-use Rattle.mk_rules.specs.Stamps.{is_known}
 use Rattle.mk_rules.proofs.AskedLemmas.{in_vain}
 use Rattle.mk_rules.proofs.finder.look_up.Goals as goal
 
@@ -19,8 +18,8 @@ returns-clause-prerequisites g c = λ times agrees.
     let explicit = explicit_of rules.lines.now name in
     let of = c.in_ok-mentioned.ensures in
     c.gathered.ensures.prerequisites
-    ∙ nodes_are inputs name source explicit c.in_ok-entry.entry (distinct (source_names source ++ explicit)) _
-    (c.in_ok-source.ensures.source times (of.looks.grows times agrees)) refl c.in_ok-entry.ensures refl (of.mentioned times agrees)
+    ∙ nodes_are inputs name source explicit (map.get rules.state.now name) (distinct (source_names source ++ explicit)) _
+    (c.in_ok-source.ensures.source times (of.looks.grows times agrees)) refl refl refl (of.mentioned times agrees)
 
 pub returns-clause-node : goal.returns-clause-node
 returns-clause-node g c = λ times agrees.
@@ -32,10 +31,10 @@ returns-clause-node g c = λ times agrees.
     let of = c.in_ok-mentioned.ensures in
     let is = c.gathered.ensures in
     let looked = of.looks.grows times agrees in
-    known_is inputs name source explicit c.in_ok-entry.entry (distinct (source_names source ++ explicit)) _
-    (c.in_ok-source.ensures.source times looked) refl c.in_ok-entry.ensures refl (of.mentioned times agrees)
+    known_is inputs name source explicit (map.get rules.state.now name) (distinct (source_names source ++ explicit)) _
+    (c.in_ok-source.ensures.source times looked) refl refl refl (of.mentioned times agrees)
     _ c.recipe-own.result (is.stamp ∙ c.in_ok-stamp.ensures.stamp times (c.in_ok-source.ensures.looks.grows times looked)) is.stem is.recipe c.recipe-own.ensures
-    (is.hard ∙ of.hard) is.hidden is.entry
+    (is.hard ∙ of.hard) is.hidden
 
 pub returns-clause-looks : goal.returns-clause-looks
 returns-clause-looks g c =
@@ -62,10 +61,6 @@ returns-in_err-mentioned-clause-asks g c = in_vain _ _ _ _ _ _ (c.from_residual-
 pub returns-in_err-source-clause-asks : goal.returns-in_err-source-clause-asks
 returns-in_err-source-clause-asks g c = in_vain _ _ _ _ _ _ (c.from_residual-in_err-source.ensures).1
     (λ earlier once. c.in_err-source.ensures.asks earlier (c.in_ok-stamp.ensures.asks earlier once))
-
-pub returns-in_err-entry-clause-asks : goal.returns-in_err-entry-clause-asks
-returns-in_err-entry-clause-asks g c = in_vain _ _ _ _ _ _ (c.from_residual-in_err-entry.ensures).1
-    (λ earlier once. (is_known c.implicit_source.new.stamps, c.in_ok-source.ensures.asks earlier (c.in_ok-stamp.ensures.asks earlier once)))
 
 pub returns-in_err-source-clause-fault : goal.returns-in_err-source-clause-fault
 returns-in_err-source-clause-fault g c =

@@ -10,7 +10,7 @@ pub returns-clause-mentioned : goal.returns-clause-mentioned
 returns-clause-mentioned g c = λ times agrees.
     let rules = c.args.rules.now in
     let made = c.in_ok-mentioned.ensures.judged ∙ ap (λ (e : List (List ℕ)). distinct (source_names c.args.source.now ++ e)) c.in_ok-explicit.ensures in
-    subst (λ (h : List (List ℕ)). HasHidden (is_node (inputs_of rules.lines.now (map.get rules.state.now) times)) h (hidden_in c.args.entry.now) c.add_hidden_of.new.mentioned)
+    subst (λ (h : List (List ℕ)). HasHidden (is_node (inputs_of rules.lines.now (map.get rules.state.now) times)) h (hidden_in (map.get rules.state.now c.args.name.now)) c.add_hidden_of.new.mentioned)
     made (c.in_ok-add_hidden_of.ensures.hidden times agrees)
 
 pub returns-clause-hard : goal.returns-clause-hard
