@@ -1,6 +1,6 @@
 -- What rule lines say of a name by name: the lines that make it, their recipes and their prerequisites.
 use Rattle.std.specs.Prelude.{ℕ, Bool, false, not, List, filter, flat_map, bytes_eq, codes}
-use Rattle.mk_rule_lines.specs.Rules.{has, suffixes_of, targets_by}
+use Rattle.mk_rule_lines.specs.Rules.{has, places, suffixes_of, targets_by}
 use Rattle.mk_rule_lines.specs.declared.rule_line.RuleLine.{RuleLine}
 
 -- the targets that a line makes by name
@@ -10,6 +10,10 @@ explicit_targets lines l = targets_by false (suffixes_of lines) l
 -- the lines that make a name, in order
 abbrev pub lines_of : List RuleLine → (name : List ℕ) → List RuleLine
 lines_of lines name = filter (λ l. has name (explicit_targets lines l)) lines
+
+-- the numbers of these lines
+abbrev pub numbers_of : List RuleLine → (name : List ℕ) → List ℕ
+numbers_of lines name = places (λ l. has name (explicit_targets lines l)) 0 lines
 
 -- the word `.WAIT`, which is no prerequisite (dmake manual)
 abbrev pub is_wait : (word : List ℕ) → Bool

@@ -1,11 +1,8 @@
 //! What a name is made from by name.
-ghost use Rattle.std.specs.Prelude.{◌≡◌, ◌++◌, false, IfOk, OnOk};
-ghost use Rattle.mk_rule_lines.specs.Rules.{suffixes_of, targets_by};
-ghost use Rattle.mk_rule_lines.specs.Table.{IsTable};
-ghost use Rattle.mk_rule_lines.specs.Explicit.{is_wait, names_in, explicit_of};
+ghost use Rattle.std.specs.Prelude.{◌≡◌, ◌++◌, ℕ, List, IfOk, OnOk};
+ghost use Rattle.mk_rule_lines.specs.Explicit.{is_wait, names_in, numbers_of, explicit_of};
 
 use crate::rule_line::RuleLine;
-use crate::table::TargetTable;
 use byte_strings::ByteStrings;
 use std::alloc::{AllocError, Global};
 
@@ -28,18 +25,15 @@ fn add_names_in(names: &mut ByteStrings, line: &RuleLine) -> Result<(), AllocErr
     Ok(())
 }
 
-/// The prerequisites of a name's lines, joined in order. `targets` is the table of the lines' targets by name.
+/// The prerequisites of a name's lines, joined in order: `numbers` are those of the lines that have the name among their targets.
 pub fn explicit_of(
     alloc: Global,
     lines: &[RuleLine],
-    targets: &TargetTable,
-    name: &[u8],
+    numbers: &[usize],
 ) -> Result<ByteStrings, AllocError>
-    requires { IsTable (targets_by false (suffixes_of lines.now)) lines.now targets.now }
-    ensures { IfOk result (λ found. found ≡ explicit_of lines.now name.now) }
+    ensures { IfOk result (λ found. (name : List ℕ) → numbers.now ≡ numbers_of lines.now name → found ≡ explicit_of lines.now name) }
 {
     let mut found = ByteStrings::empty(alloc);
-    let numbers = targets.lines(name);
     for number in numbers {
         let Some(line) = lines.get(*number) else {
             continue;

@@ -67,31 +67,29 @@ impl TargetTable {
         }
     }
 
+    /// The numbers of the lines that name the target, in order, and of the one that has its recipe.
+    pub fn named(&self, name: &[u8]) -> (&[usize], Option<usize>)
+        ensures lines { result.0.now ≡ (named_at self.now name.now).lines }
+        ensures recipe { result.1 ≡ (named_at self.now name.now).recipe }
+    {
+        match self.targets.get(name) {
+            Some(target) => (target.lines.as_slice(), target.recipe),
+            None => (&[], None),
+        }
+    }
+
     /// The number of the line that has the name's recipe.
     pub fn recipe(&self, name: &[u8]) -> Option<usize>
         ensures { result ≡ (named_at self.now name.now).recipe }
     {
-        match self.targets.get(name) {
-            Some(target) => target.recipe,
-            None => None,
-        }
+        self.named(name).1
     }
 
     /// Whether some line has the name among its targets.
     pub fn is_target(&self, name: &[u8]) -> bool
         ensures { result ≡ is_named (named_at self.now name.now) }
     {
-        !self.lines(name).is_empty()
-    }
-
-    /// The numbers of the lines that name the target, in order.
-    pub fn lines(&self, name: &[u8]) -> &[usize]
-        ensures { result.now ≡ (named_at self.now name.now).lines }
-    {
-        match self.targets.get(name) {
-            Some(target) => target.lines.as_slice(),
-            None => &[],
-        }
+        !self.named(name).0.is_empty()
     }
 
     /// Takes in that a line names the target.

@@ -1,7 +1,7 @@
 //! Names looked up one by one while they are numbered.
 ghost use Rattle.std.specs.Prelude.{◌≡◌, ◌++◌, ℕ, ℤ, List, Option, [], length, option_map, option_to_list, IfOk, IfErr, OnOk, is_ok};
 ghost use Rattle.std.specs.FinMap as map;
-ghost use Rattle.mk_rule_lines.specs.Explicit.{explicit_of};
+ghost use Rattle.mk_rule_lines.specs.Explicit.{numbers_of, explicit_of};
 ghost use Rattle.mk_rules.specs.Prerequisites.{inputs_of, is_node, first_or, hidden_in, own_recipes, prerequisites_of, source_names, distinct};
 ghost use Rattle.mk_rules.specs.Stamps.{AgreesWith, Asks, Looks};
 ghost use Rattle.mk_rules.specs.Hidden.{HasHidden, IsNamesFault};
@@ -61,15 +61,17 @@ fn add_hidden_of<T: Tree>(
     }
 }
 
-/// The prerequisites of a name with this source, and how many of them are hard.
+/// The prerequisites of a name with this source, which the lines of these numbers make, and how many of them are hard.
 fn mentioned_of<T: Tree>(
     alloc: Global,
     rules: &Rules,
     tree: &mut T,
     stamps: &mut Stamps,
     name: &[u8],
+    numbers: &[usize],
     source: &Option<Source>,
 ) -> Result<(Mentioned, usize), RuleFault>
+    requires lines { numbers.now ≡ numbers_of rules.now.lines.now name.now }
     ensures mentioned { IfOk result (λ of. (times : List ℕ → Option ℤ) → AgreesWith stamps.new times
         → HasHidden (is_node (inputs_of rules.now.lines.now (map.get rules.now.state.now) times))
         (distinct (source_names source.now ++ explicit_of rules.now.lines.now name.now))
@@ -79,7 +81,7 @@ fn mentioned_of<T: Tree>(
     ensures asks { Asks (is_ok result) stamps.old stamps.new (T.asked tree.old) (T.asked tree.new) }
     ensures fault { IfErr result (IsNamesFault (T.refuses tree.new) (hidden_in (map.get rules.now.state.now name.now))) }
 {
-    let explicit = rules.explicit(alloc, name)?;
+    let explicit = rules.explicit(alloc, numbers)?;
     let mut mentioned = Mentioned::hard(alloc, source, &explicit)?;
     let hard = mentioned.judged.len();
     add_hidden_of(alloc, rules, tree, stamps, &mut mentioned, name)?;
@@ -133,9 +135,9 @@ fn look_up<T: Tree>(
         (own_recipes rules.now.lines.now name.now) (hidden_in (map.get rules.now.state.now name.now)) name.now) }
 {
     let stamp = stamps.stamp(alloc, tree, name)?;
-    let source = implicit_source(alloc, rules, tree, stamps, name)?;
-    let (mentioned, hard) = mentioned_of(alloc, rules, tree, stamps, name, &source)?;
-    let own = rules.recipe(name);
+    let (numbers, own) = rules.named(name);
+    let source = implicit_source(alloc, rules, tree, stamps, name, own)?;
+    let (mentioned, hard) = mentioned_of(alloc, rules, tree, stamps, name, numbers, &source)?;
     Ok(gathered(stamp, source, own, mentioned, hard))
 }
 

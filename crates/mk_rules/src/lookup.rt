@@ -1,5 +1,5 @@
 //! What is found of a name: what makes it, and what it is made from.
-ghost use Rattle.std.specs.Prelude.{◌≡◌, ◌⊎◌, ℕ, ℤ, List, Option, [], false, IfOk, IfErr, OnOk, IsOk, is_ok};
+ghost use Rattle.std.specs.Prelude.{◌≡◌, ◌⊎◌, ℕ, ℤ, List, Option, [], false, option_to_list, IfOk, IfErr, OnOk, IsOk, is_ok};
 ghost use Rattle.std.specs.FinMap as map;
 ghost use Rattle.std.specs.Str.{is_utf8};
 ghost use Rattle.mk_rules.specs.Prerequisites.{inputs_of, is_node, implicit_source, own_recipes, prerequisites_of};
@@ -48,14 +48,16 @@ fn is_node<T: Tree>(
     is_there(alloc, rules.targets, tree, stamps, name)
 }
 
-/// What an implicit rule makes the name from, where no line has a recipe for it.
+/// What an implicit rule makes the name from, where no line has a recipe for it: `own` is the number of the line that has.
 pub(crate) fn implicit_source<T: Tree>(
     alloc: Global,
     rules: &Rules,
     tree: &mut T,
     stamps: &mut Stamps,
     name: &[u8],
+    own: Option<usize>,
 ) -> Result<Option<Source>, RuleFault>
+    requires own { option_to_list own ≡ own_recipes rules.now.lines.now name.now }
     ensures source { IfOk result (λ found. (times : List ℕ → Option ℤ) → AgreesWith stamps.new times
         → found ≡ implicit_source (inputs_of rules.now.lines.now (map.get rules.now.state.now) times) name.now) }
     ensures looks { Looks stamps.old stamps.new (T.allows tree.old) (T.allows tree.new) (T.refuses tree.old) (T.refuses tree.new) }
@@ -64,7 +66,7 @@ pub(crate) fn implicit_source<T: Tree>(
     // Beside a recipe of its own no source is looked for.
     ensures unasked { (own_recipes rules.now.lines.now name.now ≡ []) ⊎ ((tree.new ≡ tree.old) × ((stamps.new ≡ stamps.old) × IsOk result)) }
 {
-    if rules.recipe(name).is_some() {
+    if own.is_some() {
         return Ok(None);
     }
     rules.source(alloc, tree, stamps, name)

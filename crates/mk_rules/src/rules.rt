@@ -32,15 +32,16 @@ pub(crate) struct Rules<'m> {
 }
 
 impl<'m> Rules<'m> {
-    ghost use Rattle.mk_rule_lines.specs.Explicit.{explicit_of};
+    ghost use Rattle.mk_rule_lines.specs.Explicit.{numbers_of, explicit_of};
     ghost use Rattle.mk_rules.specs.Prerequisites.{own_recipes, is_target};
     ghost use Rattle.mk_rule_lines.specs.Source.{source_of};
 
-    /// The number of the line that has the name's recipe.
-    pub fn recipe(&self, name: &[u8]) -> Option<usize>
-        ensures { option_to_list result ≡ own_recipes self.now.lines.now name.now }
+    /// The numbers of the lines that make the name, in order, and of the one that has its recipe.
+    pub fn named(&self, name: &[u8]) -> (&[usize], Option<usize>)
+        ensures lines { result.0.now ≡ numbers_of self.now.lines.now name.now }
+        ensures recipe { option_to_list result.1 ≡ own_recipes self.now.lines.now name.now }
     {
-        self.targets.recipe(name)
+        self.targets.named(name)
     }
 
     /// Whether some line makes the name.
@@ -50,11 +51,12 @@ impl<'m> Rules<'m> {
         self.targets.is_target(name)
     }
 
-    /// The name's prerequisites by name.
-    pub fn explicit(&self, alloc: Global, name: &[u8]) -> Result<ByteStrings, AllocError>
-        ensures { IfOk result (λ found. found ≡ explicit_of self.now.lines.now name.now) }
+    /// The prerequisites by name of the name that the lines of these numbers make.
+    pub fn explicit(&self, alloc: Global, numbers: &[usize]) -> Result<ByteStrings, AllocError>
+        ensures { IfOk result (λ found. (name : List ℕ) → numbers.now ≡ numbers_of self.now.lines.now name
+            → found ≡ explicit_of self.now.lines.now name) }
     {
-        explicit_of(alloc, self.lines, self.targets, name)
+        explicit_of(alloc, self.lines, numbers)
     }
 
     /// What an implicit rule makes the name from.

@@ -16,7 +16,7 @@ past lines n test = grind (arith, nat_tests)
 pub loop-number-preserved-in_default : goal.loop-number-preserved-in_default
 loop-number-preserved-in_default c =
     let lines = c.args.lines.now in
-    let numbers = c.lines-numbers.result.now in
+    let numbers = c.args.numbers.now in
     let i = c.loop-number.number-index in
     let n = get_or numbers i 0 in
     let found = c.loop-number.found in
@@ -27,7 +27,7 @@ loop-number-preserved-in_default c =
 pub loop-number-preserved : goal.loop-number-preserved
 loop-number-preserved c =
     let lines = c.args.lines.now in
-    let numbers = c.lines-numbers.result.now in
+    let numbers = c.args.numbers.now in
     let i = c.loop-number.number-index in
     let n = get_or numbers i 0 in
     let found = c.loop-number.found in
@@ -38,12 +38,11 @@ loop-number-preserved c =
     (ap (λ (ns : List ℕ). found ++ flat_map (names_at lines) ns) (sym at) ∙ c.loop-number.invariant)
 
 pub returns : goal.returns
-returns c =
+returns c = λ name named.
     let lines = c.args.lines.now in
-    let name = c.args.name.now in
-    let numbers = c.lines-numbers.result.now in
+    let numbers = c.args.numbers.now in
     let found = c.loop-number.found in
     let whole : found ++ [] ≡ flat_map (names_at lines) numbers =
     ap (λ (ns : List ℕ). found ++ flat_map (names_at lines) ns) (sym (drop_all c.loop-number.number-index numbers c.loop-number-test.false)) ∙ c.loop-number.invariant in
-    sym (append-nil found) ∙ whole ∙ ap (flat_map (names_at lines)) (c.lines-numbers.ensures ∙ c.requires.named name)
+    sym (append-nil found) ∙ whole ∙ ap (flat_map (names_at lines)) named
     ∙ names-places (λ (l : RuleLine). has name (explicit_targets lines l)) [] lines

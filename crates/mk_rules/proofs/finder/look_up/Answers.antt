@@ -33,7 +33,7 @@ returns-clause-node g c = λ times agrees.
     let looked = of.looks.grows times agrees in
     known_is inputs name source explicit (map.get rules.state.now name) (distinct (source_names source ++ explicit)) _
     (c.in_ok-source.ensures.source times looked) refl refl refl (of.mentioned times agrees)
-    _ c.recipe-own.result (is.stamp ∙ c.in_ok-stamp.ensures.stamp times (c.in_ok-source.ensures.looks.grows times looked)) is.stem is.recipe c.recipe-own.ensures
+    _ c.named-own.result.1 (is.stamp ∙ c.in_ok-stamp.ensures.stamp times (c.in_ok-source.ensures.looks.grows times looked)) is.stem is.recipe c.named-own.ensures.recipe
     (is.hard ∙ of.hard) is.hidden
 
 pub returns-clause-looks : goal.returns-clause-looks

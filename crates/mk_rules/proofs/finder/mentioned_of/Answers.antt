@@ -9,14 +9,14 @@ use Rattle.mk_rules.proofs.finder.mentioned_of.Goals as goal
 pub returns-clause-mentioned : goal.returns-clause-mentioned
 returns-clause-mentioned g c = λ times agrees.
     let rules = c.args.rules.now in
-    let made = c.in_ok-mentioned.ensures.judged ∙ ap (λ (e : List (List ℕ)). distinct (source_names c.args.source.now ++ e)) c.in_ok-explicit.ensures in
+    let made = c.in_ok-mentioned.ensures.judged ∙ ap (λ (e : List (List ℕ)). distinct (source_names c.args.source.now ++ e)) (c.in_ok-explicit.ensures c.args.name.now c.requires.lines) in
     subst (λ (h : List (List ℕ)). HasHidden (is_node (inputs_of rules.lines.now (map.get rules.state.now) times)) h (hidden_in (map.get rules.state.now c.args.name.now)) c.add_hidden_of.new.mentioned)
     made (c.in_ok-add_hidden_of.ensures.hidden times agrees)
 
 pub returns-clause-hard : goal.returns-clause-hard
 returns-clause-hard g c =
     c.len-hard.ensures
-    ∙ ap length (c.in_ok-mentioned.ensures.judged ∙ ap (λ (e : List (List ℕ)). distinct (source_names c.args.source.now ++ e)) c.in_ok-explicit.ensures)
+    ∙ ap length (c.in_ok-mentioned.ensures.judged ∙ ap (λ (e : List (List ℕ)). distinct (source_names c.args.source.now ++ e)) (c.in_ok-explicit.ensures c.args.name.now c.requires.lines))
 
 pub returns-in_err-add_hidden_of-clause-asks : goal.returns-in_err-add_hidden_of-clause-asks
 returns-in_err-add_hidden_of-clause-asks g c = in_vain _ _ _ _ _ _ (c.from_residual-in_err-add_hidden_of.ensures).1 c.in_err-add_hidden_of.ensures.asks

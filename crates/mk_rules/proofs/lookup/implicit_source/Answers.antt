@@ -9,10 +9,10 @@ pub returns-clause-source : goal.returns-clause-source
 returns-clause-source g c =
     let rules = c.args.rules.now in
     let name = c.args.name.now in
-    let none : is_some c.recipe.result ≡ false = cc in
+    let none : is_some c.args.own ≡ false = cc in
     if_ok c.source.result _ _
     (λ found is. λ times agrees.
-    implicit_is rules.lines.now rules.targets.now rules.named (map.get rules.state.now) times rules.forms.now name c.recipe.result found rules.all_forms c.recipe.ensures none (is times agrees))
+    implicit_is rules.lines.now rules.targets.now rules.named (map.get rules.state.now) times rules.forms.now name c.args.own found rules.all_forms c.requires.own none (is times agrees))
     c.source.ensures.source
 
 pub returns-clause-looks : goal.returns-clause-looks
@@ -22,5 +22,5 @@ returns-clause-looks g c =
 
 pub returns-clause-unasked : goal.returns-clause-unasked
 returns-clause-unasked g c =
-    let none : is_some c.recipe.result ≡ false = cc in
-    inl (sym c.recipe.ensures ∙ no_own c.recipe.result none)
+    let none : is_some c.args.own ≡ false = cc in
+    inl (sym c.requires.own ∙ no_own c.args.own none)
