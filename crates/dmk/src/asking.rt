@@ -4,6 +4,7 @@ ghost use Rattle.dmk_drive.specs.Keeping.{value_in};
 ghost use Rattle.dmk_drive.specs.Output.{AsksToLook};
 
 use crate::command_line::{Request, read_words};
+use crate::environment::over_makefile;
 use crate::host_files::HostFiles;
 use crate::reasons::print_reasons;
 use crate::standard_streams::with_patience;
@@ -80,8 +81,12 @@ impl Look {
 
     /// Looks once more, for what the words ask.
     fn again(host: HostRuntime, environment: &[Variable]) -> Result<Option<Look>, AllocError> {
-        match read_words(host) {
-            Ok(Request::Make(asked)) => Look::if_asked(host, asked.options, environment),
+        match read_words(host, 1) {
+            Ok(Request::Make(asked)) => {
+                let counts = asked.environment_counts;
+                let options = over_makefile(host.alloc(), counts, asked.options, environment)?;
+                Look::if_asked(host, options, environment)
+            }
             _ => Ok(None),
         }
     }

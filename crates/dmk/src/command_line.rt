@@ -1,25 +1,16 @@
 //! The words of the command line, read by `clap`.
 ghost use Rattle.std.specs.Prelude.{◌≡◌};
 
+use crate::arguments::{DEFAULT_STATE, find};
+use crate::job_words::with_numbers;
 use bd_lists::Variable;
 use byte_strings::{ByteString, ByteStrings};
+use clap::ArgMatches;
 use clap::error::ErrorKind;
-use clap::{Arg, ArgAction, ArgMatches, Command};
-use dmk_drive::{MAX_WORKERS, Options};
+use dmk_drive::Options;
 use std::alloc::{AllocError, Global};
 use std::{env, io};
 use thiserror::Error;
-
-const DEFAULT_STATE: &str = ".make.state";
-
-const ABOUT: &str =
-    "Makes targets by the rules of a makefile, and remembers in a state file what each recipe was";
-
-const AFTER: &str = "\
-Files: the makefile is FILE of -f, else makefile, else Makefile. Where it has .KEEP_STATE:, or the environment the
-variable KEEP_STATE, state is kept in .make.state and .make.state.2 (-K names others); dmk_state lists them.
-
-Status: 0 all is well; 1 a target failed, or -q found one out of date; 2 a fault, told on standard error.";
 
 /// What the words ask of a run, and in which folder.
 #[derive(Drop)]
@@ -28,6 +19,8 @@ pub struct Asked {
     pub folders: Vec<String>,
     /// The folder is told where the run begins and where it ends.
     pub tells_folder: bool,
+    /// The environment's variables count as definitions of the command line, before its own.
+    pub environment_counts: bool,
     pub options: Options,
 }
 
@@ -73,11 +66,14 @@ impl From<AllocError> for WordsFault {
     }
 }
 
-/// Reads the words, and prints the help, the version or what is wrong with them.
-pub fn read_words(rt: HostRuntime) -> Result<Request, WordsFault> {
-    let words = env::args(&rt)?.collect::<Vec<String>>(rt.alloc())?;
-    match find(rt.alloc(), words.as_slice()) {
-        Ok(found) => request_of(rt.alloc(), &found),
+/// Reads the words, and prints the help, the version or what is wrong with them. A -j without a number has that of the processors.
+pub fn read_words(rt: HostRuntime, processors: u16) -> Result<Request, WordsFault> {
+    let alloc = rt.alloc();
+    let processors = format!(in alloc; "{processors}")?;
+    let words = env::args(&rt)?.collect::<Vec<String>>(alloc)?;
+    let words = with_numbers(alloc, words, processors.as_str())?;
+    match find(alloc, processors.as_str(), words.as_slice()) {
+        Ok(found) => request_of(alloc, &found),
         Err(answer) => say(rt, answer),
     }
 }
@@ -120,113 +116,6 @@ fn say(rt: HostRuntime, answer: clap::Error) -> Result<Request, WordsFault> {
         Ok(()) => Ok(Request::Leave(0)),
         Err(_) => Err(WordsFault::Write),
     }
-}
-
-fn value<'a>(alloc: Global, letter: char, id: &'a str, name: &'a str, help: &'a str) -> Arg<'a> {
-    Arg::new(alloc, id)
-        .short(letter)
-        .value_name(name)
-        .action(ArgAction::Set)
-        .help(help)
-}
-
-fn flag<'a>(alloc: Global, letter: char, id: &'a str, help: &'a str) -> Arg<'a> {
-    Arg::new(alloc, id)
-        .short(letter)
-        .action(ArgAction::Count)
-        .help(help)
-}
-
-fn with_values(alloc: Global, command: Command<'_>) -> Result<Command<'_>, AllocError> {
-    let makefile = value(alloc, 'f', "makefile", "FILE", "Read FILE as the makefile");
-    let state = value(
-        alloc,
-        'K',
-        "state",
-        "FILE",
-        "Keep the state in FILE and FILE.2",
-    )
-    .default_value(DEFAULT_STATE);
-    let workers = value(
-        alloc,
-        'j',
-        "workers",
-        "N",
-        "Run up to N recipes at once, 1 to 256",
-    )
-    .value_parser(clap::value_parser!(u16).range(1..=i64::from(MAX_WORKERS)))
-    .default_value("2");
-    command.arg(makefile)?.arg(state)?.arg(workers)
-}
-
-fn with_flags(alloc: Global, command: Command<'_>) -> Result<Command<'_>, AllocError> {
-    command
-        .arg(flag(
-            alloc,
-            'k',
-            "goes_on",
-            "Go on with what doesn't depend on a failed target",
-        ))?
-        .arg(flag(
-            alloc,
-            'n',
-            "dry",
-            "Print the recipes of the targets that are out of date; run nothing",
-        ))?
-        .arg(flag(
-            alloc,
-            'q',
-            "asks",
-            "Print nothing; status 1 where a target is out of date, else 0",
-        ))?
-        .arg(flag(
-            alloc,
-            's',
-            "silent",
-            "Don't print lines before they are run",
-        ))?
-        .arg(flag(alloc, 'i', "ignore", "Ignore the statuses of all lines"))
-}
-
-fn with_folders(alloc: Global, command: Command<'_>) -> Result<Command<'_>, AllocError> {
-    let folders = Arg::new(alloc, "folders")
-        .short('C')
-        .value_name("DIR")
-        .action(ArgAction::Append)
-        .help("Go to DIR before all else; a further one counts from there");
-    let untold = Arg::new(alloc, "untold")
-        .long("no-print-directory")
-        .action(ArgAction::Count)
-        .help("Don't tell the folder, though there is -C");
-    command
-        .arg(folders)?
-        .arg(flag(
-            alloc,
-            'w',
-            "told",
-            "Tell the folder at the beginning and at the end, as -C does",
-        ))?
-        .arg(untold)
-}
-
-// Options of other makes that are refused by name, with the reason.
-fn with_refused(alloc: Global, command: Command<'_>) -> Result<Command<'_>, AllocError> {
-    let load = Arg::new(alloc, "load")
-        .short('l')
-        .num_args(0..=1)
-        .hide(true);
-    command
-        .arg(flag(alloc, 't', "touches", "").hide(true))?
-        .arg(load)
-}
-
-fn with_words(alloc: Global, command: Command<'_>) -> Result<Command<'_>, AllocError> {
-    let words = Arg::new(alloc, "words")
-        .value_name("NAME=VALUE | TARGET")
-        .action(ArgAction::Append)
-        .num_args(0..)
-        .help("A definition, or a target to be made; else the first target of the makefile");
-    command.arg(words)
 }
 
 /// Adds a word: a definition where it holds a `=`, and else a target.
@@ -284,20 +173,6 @@ fn tells_folder(found: &ArgMatches<'_>) -> bool {
         || found.get_strs("folders").is_some() && found.get_count("silent") == 0
 }
 
-/// The words by what they are, or clap's answer where there is help, the version or a mistake to be told of.
-fn find<'w>(alloc: Global, words: &'w [String]) -> Result<ArgMatches<'w>, clap::Error> {
-    let command = Command::new(alloc, "dmk")
-        .bin_name("dmk")?
-        .version("0.1.0")
-        .about(ABOUT)
-        .after_help(AFTER);
-    let command = with_values(alloc, command)?;
-    let command = with_flags(alloc, command)?;
-    let command = with_folders(alloc, command)?;
-    let command = with_refused(alloc, command)?;
-    with_words(alloc, command)?.try_get_matches_from(words)
-}
-
 fn asked_of(alloc: Global, found: &ArgMatches<'_>) -> Result<Asked, AllocError> {
     let mut options = options_of(alloc, found)?;
     for word in found.get_strs("words").unwrap_or(&[]) {
@@ -306,6 +181,7 @@ fn asked_of(alloc: Global, found: &ArgMatches<'_>) -> Result<Asked, AllocError> 
     Ok(Asked {
         folders: folders_of(alloc, found)?,
         tells_folder: tells_folder(found),
+        environment_counts: found.get_count("environment") > 0,
         options,
     })
 }

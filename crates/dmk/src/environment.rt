@@ -1,6 +1,7 @@
 //! The variables of the environment, as bytes.
 use bd_lists::Variable;
 use byte_strings::ByteString;
+use dmk_drive::Options;
 use std::alloc::{AllocError, Global};
 use std::env::FillError;
 use std::rt::Env;
@@ -53,4 +54,27 @@ pub fn read_environment(rt: HostRuntime) -> Result<Vec<Variable>, AllocError> {
         }
     }
     Ok(variables)
+}
+
+/// The options, where the environment counts with its variables as definitions of the command line, before those that stand there.
+pub fn over_makefile(
+    alloc: Global,
+    counts: bool,
+    options: Options,
+    environment: &[Variable],
+) -> Result<Options, AllocError> {
+    if !counts {
+        return Ok(options);
+    }
+    let mut options = options;
+    let mut definitions = Vec::with_capacity(alloc, environment.len())?;
+    for variable in environment {
+        definitions.push(Variable {
+            name: variable.name.copy(alloc)?,
+            value: variable.value.copy(alloc)?,
+        })?;
+    }
+    definitions.append(&mut options.definitions)?;
+    options.definitions = definitions;
+    Ok(options)
 }

@@ -5,12 +5,14 @@ ghost use Rattle.std.specs.Prelude.{codes};
 ghost use Rattle.dmk_drive.specs.Keeping.{value_in};
 ghost use Rattle.dmk_drive.specs.Output.{AsksToRun};
 
+mod arguments;
 mod asking;
 mod child_signal;
 mod command_line;
 mod environment;
 mod folder;
 mod host_files;
+mod job_words;
 mod lock_file;
 mod pool_path;
 mod reasons;
@@ -23,11 +25,12 @@ use child_signal::run_anew;
 use command_line::{Asked, Request, read_words};
 use dmk_drive::{Fault, Message, Mode, Options, value_of};
 use dmk_run::{Means, Printer, build_targets};
-use environment::read_environment;
+use environment::{over_makefile, read_environment};
 use folder::{FolderFault, enter, tell};
 use host_files::HostFiles;
 use jb_host::{HOLDS, HostPlace, Shell};
 use jb_slots::FifoBanks;
+use job_words::processors;
 use pool_path::PoolPath;
 use reasons::print_reasons;
 use st_disk::{FileDisk, SystemFolder};
@@ -40,7 +43,7 @@ use std::sync::{OnceLock, Wait};
 use std::thread::Threads;
 
 fn main(rt: HostRuntime) -> ExitCode {
-    match read_words(rt) {
+    match read_words(rt, processors(&rt)) {
         Ok(Request::Make(asked)) => match run_anew(rt) {
             Some(status) => ExitCode::from(status),
             None => ExitCode::from(run_there(&rt, rt, asked)),
@@ -58,12 +61,13 @@ fn run_there<R: Threads + Wait + Sync>(rt: &R, host: HostRuntime, asked: Asked) 
     let Asked {
         folders,
         tells_folder,
+        environment_counts,
         options,
     } = asked;
     if let Err(fault) = begin(host, &folders, tells_folder) {
         return refused(host, fault);
     }
-    let status = run(rt, host, options);
+    let status = run(rt, host, options, environment_counts);
     if !tells_folder {
         return status;
     }
@@ -87,8 +91,13 @@ fn refused(host: HostRuntime, fault: FolderFault) -> u8 {
 }
 
 /// Runs what the words ask for, and answers the status.
-fn run<R: Threads + Wait + Sync>(rt: &R, host: HostRuntime, options: Options) -> u8 {
-    match run_in(rt, host, options) {
+fn run<R: Threads + Wait + Sync>(
+    rt: &R,
+    host: HostRuntime,
+    options: Options,
+    environment_counts: bool,
+) -> u8 {
+    match run_in(rt, host, options, environment_counts) {
         Ok(status) => status,
         Err(_) => {
             let fault = Fault::OutOfMemory;
@@ -106,9 +115,11 @@ fn run_in<R: Threads + Wait + Sync>(
     rt: &R,
     host: HostRuntime,
     options: Options,
+    environment_counts: bool,
 ) -> Result<u8, AllocError> {
     let _held = held_streams(host);
     let environment = read_environment(host)?;
+    let options = over_makefile(host.alloc(), environment_counts, options, &environment)?;
     match options.mode(value_of(&environment, b"MAKEFLAGS")) {
         Mode::Run => make(rt, host, options, &environment),
         Mode::DryRun | Mode::Question => ask(host, options, &environment),

@@ -11,12 +11,12 @@ same_flags flags read all given is is_read is_given = is ∙ ap (λ e. value_in 
 
 pub make-requires-after_bounds : goal.make-requires-after_bounds
 make-requires-after_bounds g c =
-    let same = same_flags c.value_of.result.now c.deref.result.now c.in_ok-environment.environment.items c.deref-in-Run.result.now
-    c.value_of.ensures c.deref.ensures.value c.deref-in-Run.ensures.value in
+    let same = same_flags c.value_of.result.now c.deref-2.result.now c.in_ok-environment.environment.items c.deref-in-Run.result.now
+    c.value_of.ensures c.deref-2.ensures.value c.deref-in-Run.ensures.value in
     λ lifetimes outlive. runs c.in_ok-options.options c.value_of.result.now (value_in c.deref-in-Run.result.now (codes "MAKEFLAGS")) same c.in-Run.ensures
 
 pub ask-requires : goal.ask-requires
 ask-requires g c =
-    let same = same_flags c.value_of.result.now c.deref.result.now c.in_ok-environment.environment.items c.deref-in-DryRun.result.now
-    c.value_of.ensures c.deref.ensures.value c.deref-in-DryRun.ensures.value in
+    let same = same_flags c.value_of.result.now c.deref-2.result.now c.in_ok-environment.environment.items c.deref-in-DryRun.result.now
+    c.value_of.ensures c.deref-2.ensures.value c.deref-in-DryRun.ensures.value in
     looks c.in_ok-options.options c.value_of.result.now (value_in c.deref-in-DryRun.result.now (codes "MAKEFLAGS")) c.mode.result same c.in-DryRun.is c.mode.ensures

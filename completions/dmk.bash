@@ -1,0 +1,24 @@
+# Completion of dmk's words for bash: source it, or put it where bash-completion looks for dmk.
+_dmk() {
+    local word=${COMP_WORDS[COMP_CWORD]} before=${COMP_WORDS[COMP_CWORD - 1]}
+    COMPREPLY=()
+    case $before in
+        -C) mapfile -t COMPREPLY < <(compgen -d -- "$word"); return ;;
+        -f | -K) mapfile -t COMPREPLY < <(compgen -f -- "$word"); return ;;
+    esac
+    case $word in
+        -*) mapfile -t COMPREPLY < <(compgen -W '-C -e -f -K -r -i -j -k -S -n -q -s -w --no-print-directory -h --help -V --version' -- "$word") ;;
+        *) mapfile -t COMPREPLY < <(compgen -W "$(_dmk_targets)" -- "$word"; compgen -f -- "$word") ;;
+    esac
+}
+
+# The targets that stand in the makefile as they are written.
+_dmk_targets() {
+    local file
+    for file in makefile Makefile; do
+        [ -f "$file" ] || continue
+        sed -n 's/^\([A-Za-z0-9_][^:=$%]*\):\([^=].*\)\{0,1\}$/\1/p' "$file"
+        return
+    done
+}
+complete -F _dmk dmk

@@ -1,0 +1,219 @@
+//! The options of the command line, as `clap` reads them and as the help tells them.
+use clap::{Arg, ArgAction, ArgMatches, Command};
+use dmk_drive::MAX_WORKERS;
+use std::alloc::{AllocError, Global};
+
+/// The state file where none is named.
+pub const DEFAULT_STATE: &str = ".make.state";
+
+const ABOUT: &str =
+    "Makes targets by the rules of a makefile, and remembers in a state file what each recipe was";
+
+const AFTER: &str = "\
+Files: the makefile is FILE of -f, else makefile, else Makefile. Where it has .KEEP_STATE:, or the environment the
+variable KEEP_STATE, state is kept in .make.state and .make.state.2 (-K names others); dmk_state lists them.
+
+Status: 0 all is well; 1 a target failed, or -q found one out of date; 2 a fault, told on standard error.";
+
+// The groups of options, as the man page has them.
+const FILES: &str = "Makefile and state";
+
+const RUNNING: &str = "Running recipes";
+
+const ASKING: &str = "Asking";
+
+const TELLING: &str = "What is told";
+
+fn value<'a>(
+    alloc: Global,
+    group: &'a str,
+    letter: char,
+    id: &'a str,
+    name: &'a str,
+    help: &'a str,
+) -> Arg<'a> {
+    Arg::new(alloc, id)
+        .short(letter)
+        .value_name(name)
+        .action(ArgAction::Set)
+        .help_heading(group)
+        .help(help)
+}
+
+fn flag<'a>(alloc: Global, group: &'a str, letter: char, id: &'a str, help: &'a str) -> Arg<'a> {
+    Arg::new(alloc, id)
+        .short(letter)
+        .action(ArgAction::Count)
+        .help_heading(group)
+        .help(help)
+}
+
+fn with_files(alloc: Global, command: Command<'_>) -> Result<Command<'_>, AllocError> {
+    let folders = Arg::new(alloc, "folders")
+        .short('C')
+        .value_name("DIR")
+        .action(ArgAction::Append)
+        .help_heading(FILES)
+        .help("Go to DIR before all else; a further one counts from there");
+    let makefile = value(
+        alloc,
+        FILES,
+        'f',
+        "makefile",
+        "FILE",
+        "Read FILE as the makefile",
+    );
+    let state = value(
+        alloc,
+        FILES,
+        'K',
+        "state",
+        "FILE",
+        "Keep the state in FILE and FILE.2",
+    )
+    .default_value(DEFAULT_STATE);
+    let environment = flag(
+        alloc,
+        FILES,
+        'e',
+        "environment",
+        "Have the environment's variables count before the makefile's definitions",
+    );
+    let no_rules = flag(
+        alloc,
+        FILES,
+        'r',
+        "no_rules",
+        "Accepted: no rules are built in",
+    );
+    command
+        .arg(folders)?
+        .arg(makefile)?
+        .arg(state)?
+        .arg(environment)?
+        .arg(no_rules)
+}
+
+fn with_running<'a>(
+    alloc: Global,
+    command: Command<'a>,
+    processors: &'a str,
+) -> Result<Command<'a>, AllocError> {
+    let workers = value(
+        alloc,
+        RUNNING,
+        'j',
+        "workers",
+        "N",
+        "Run up to N recipes at once, 1 to 256; without N as many as there are processors",
+    )
+    .value_parser(clap::value_parser!(u16).range(1..=i64::from(MAX_WORKERS)))
+    .num_args(0..=1)
+    .default_missing_value(processors)
+    .default_value("2");
+    let goes_on = flag(
+        alloc,
+        RUNNING,
+        'k',
+        "goes_on",
+        "Go on with what doesn't depend on a failed target",
+    )
+    .overrides_with("stops")?;
+    let stops = flag(
+        alloc,
+        RUNNING,
+        'S',
+        "stops",
+        "Begin nothing more behind a failed target, as without -k; the last one counts",
+    )
+    .overrides_with("goes_on")?;
+    let ignores = flag(
+        alloc,
+        RUNNING,
+        'i',
+        "ignore",
+        "Ignore the statuses of all lines",
+    );
+    command.arg(workers)?.arg(goes_on)?.arg(stops)?.arg(ignores)
+}
+
+fn with_asking(alloc: Global, command: Command<'_>) -> Result<Command<'_>, AllocError> {
+    let lists = flag(
+        alloc,
+        ASKING,
+        'n',
+        "dry",
+        "Print the recipes of the targets that are out of date; run nothing",
+    );
+    let asks = flag(
+        alloc,
+        ASKING,
+        'q',
+        "asks",
+        "Print and run nothing; status 1 where a target is out of date, else 0",
+    );
+    command.arg(lists)?.arg(asks)
+}
+
+fn with_telling(alloc: Global, command: Command<'_>) -> Result<Command<'_>, AllocError> {
+    let silent = flag(
+        alloc,
+        TELLING,
+        's',
+        "silent",
+        "Don't print lines before they are run",
+    );
+    let told = flag(
+        alloc,
+        TELLING,
+        'w',
+        "told",
+        "Tell the folder at the beginning and at the end, as -C does",
+    );
+    let untold = Arg::new(alloc, "untold")
+        .long("no-print-directory")
+        .action(ArgAction::Count)
+        .help_heading(TELLING)
+        .help("Don't tell the folder, though there is -C");
+    command.arg(silent)?.arg(told)?.arg(untold)
+}
+
+// Options of other makes that are refused by name, with the reason.
+fn with_refused(alloc: Global, command: Command<'_>) -> Result<Command<'_>, AllocError> {
+    let load = Arg::new(alloc, "load")
+        .short('l')
+        .num_args(0..=1)
+        .hide(true);
+    command
+        .arg(flag(alloc, RUNNING, 't', "touches", "").hide(true))?
+        .arg(load)
+}
+
+fn with_words(alloc: Global, command: Command<'_>) -> Result<Command<'_>, AllocError> {
+    let words = Arg::new(alloc, "words")
+        .value_name("NAME=VALUE | TARGET")
+        .action(ArgAction::Append)
+        .num_args(0..)
+        .help("A definition, or a target to be made; else the first target of the makefile");
+    command.arg(words)
+}
+
+/// The words by what they are, or clap's answer where there is help, the version or a mistake to be told of. A -j without a number has
+/// that of the processors.
+pub fn find<'w>(
+    alloc: Global,
+    processors: &'w str,
+    words: &'w [String],
+) -> Result<ArgMatches<'w>, clap::Error> {
+    let command = Command::new(alloc, "dmk")
+        .bin_name("dmk")?
+        .version("0.1.0")
+        .about(ABOUT)
+        .after_help(AFTER);
+    let command = with_files(alloc, command)?;
+    let command = with_running(alloc, command, processors)?;
+    let command = with_asking(alloc, command)?;
+    let command = with_telling(alloc, command)?;
+    let command = with_refused(alloc, command)?;
+    with_words(alloc, command)?.try_get_matches_from(words)
+}
