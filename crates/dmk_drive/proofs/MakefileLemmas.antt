@@ -1,10 +1,10 @@
 -- Which file is the makefile, and what reading its text says, in the words of its file.
 use Rattle.std.proofs.Common.{◌≡◌, ◌⊎◌, ◌∙◌, inl, inr, ℕ, ℤ, Bool, true, false, not, List, Option, Some, None, is_some, option_map, Result, Ok, Err, IfOk, IfErr, IfSome, IsTrue, refl, sym, ap, subst}
-use Rattle.mk_reader.specs.Makefile.{AnswersOf, TextItems, GivesItems, Outcome, depth}
+use Rattle.mk_eval.specs.Makefile.{AnswersOf, TextItems, GivesItems, Outcome, depth}
 use Rattle.mk_reader.specs.declared.item.Item.{Item}
 use Rattle.mk_reader.specs.declared.fault.ReadFault.{ReadFault}
 use Rattle.mk_reader.specs.declared.fault.ReadFault.TheVariants.{OutOfMemory, Refused}
-use Rattle.mk_reader.proofs.OutcomeLemmas.{text_one}
+use Rattle.mk_eval.proofs.OutcomeLemmas.{text_one}
 use Rattle.std.proofs.lemmas.Option.{same_Some}
 use Rattle.dmk_drive.specs.Makefile.{IsMakefile, HasNoMakefile, first_name, second_name}
 use Rattle.dmk_drive.specs.Planned.{AreItems}

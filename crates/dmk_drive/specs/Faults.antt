@@ -2,7 +2,7 @@
 -- that of the cases here.
 use Rattle.std.specs.Prelude.{◌≡◌, ℕ, ℤ, true, List, Option, Err}
 use Rattle.std.specs.FinMap as map
-use Rattle.mk_reader.specs.Makefile.{AnswersOf, TextItems, depth}
+use Rattle.mk_eval.specs.Makefile.{AnswersOf, TextItems, depth}
 use Rattle.mk_reader.specs.declared.item.Item.{Item}
 use Rattle.mk_reader.specs.declared.fault.ReadFault.{ReadFault}
 use Rattle.mk_reader.specs.declared.fault.ReadFault.TheVariants as read_fault

@@ -2,7 +2,7 @@
 use Rattle.std.specs.Prelude.{◌≡◌, ℕ, ℤ, Bool, true, false, not, List, Option, Ok}
 use Rattle.std.specs.FinMap as map
 use Rattle.mk_macros.specs.Ranks.{ranks_at}
-use Rattle.mk_reader.specs.Makefile.{AnswersOf, TextItems, depth}
+use Rattle.mk_eval.specs.Makefile.{AnswersOf, TextItems, depth}
 use Rattle.mk_reader.specs.Text.{is_empty}
 use Rattle.mk_reader.specs.declared.item.Item.{Item}
 use Rattle.mk_recipe.specs.declared.line.Line.{Line}

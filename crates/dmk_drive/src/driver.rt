@@ -22,7 +22,7 @@ use crate::output::{print_fault, print_note, write_text};
 use crate::planning::{DryRun, Given, dry_run};
 use bd_lists::Variable;
 use byte_strings::ByteString;
-use mk_reader::Includes;
+use mk_eval::Includes;
 use mk_rules::Tree;
 use st_disk::Disk;
 use st_records::HashKey;

@@ -4,7 +4,7 @@ ghost use Rattle.dmk_drive.specs.Files.{known_text, AgreeWith};
 
 use crate::file_calls::FileCalls;
 use crate::texts::Texts;
-use mk_reader::Includes;
+use mk_eval::Includes;
 use std::alloc::{AllocError, Global};
 use std::fmt;
 use std::io::{self, ErrorKind};

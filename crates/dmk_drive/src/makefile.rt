@@ -7,7 +7,8 @@ ghost use Rattle.dmk_drive.specs.declared.fault.Fault.TheVariants.{OutOfMemory, 
 
 use crate::fault::Fault;
 use byte_strings::ByteString;
-use mk_reader::{Includes, Item, read_makefile};
+use mk_eval::{Includes, read_makefile};
+use mk_reader::Item;
 use mk_rules::{Tree, TreeFault};
 use std::alloc::Global;
 

@@ -3,11 +3,9 @@ pub mod FormLemmas
 pub mod GrammarLemmas
 pub mod JoinedLemmas
 pub mod LinesLemmas
-pub mod MakefileLemmas
-pub mod OutcomeLemmas
 pub mod PrintedItemsLemmas
 pub mod PrintedLemmas
 pub mod ReferenceLemmas
 pub mod SpellingLemmas
 pub mod SplitLemmas
-pub mod StepLemmas
+pub mod StatementLemmas

@@ -7,7 +7,9 @@ use Rattle.mk_reader.specs.Lines.{Physical, spelling, goes_on, body, opening, gr
 use Rattle.mk_reader.specs.Grammar.{begins_blank, IsForm}
 use Rattle.mk_reader.specs.Spelling.{ArePhysical}
 use Rattle.mk_reader.specs.Printed.{line_of_text, definition_text, rule_text, definition_on, rule_on, sign, spaced, PlainItem, definition, rule, lines_of, printed, IsOwnLine, IsPlainRecipe, ArePlain, next, recipe_on, after_recipe, items_on}
-use Rattle.mk_reader.specs.Makefile.{Outcome, RecipeBelow, LineItems, IncludedItems, TextItems}
+use Rattle.mk_reader.specs.Statements.{RecipeBelow, LineStatements, AreStatements}
+use Rattle.mk_reader.specs.declared.item.Statement.{Statement}
+use Rattle.mk_reader.specs.declared.item.Statement.TheVariants as statement
 use Rattle.mk_reader.specs.declared.line.Ending.TheVariants.{EndOfText, Newline}
 use Rattle.mk_reader.specs.declared.line.LogicalLine.{LogicalLine}
 use Rattle.mk_reader.specs.declared.form.Form.TheVariants as form
@@ -15,7 +17,7 @@ use Rattle.mk_reader.proofs.ReferenceLemmas.{or_false}
 use Rattle.mk_reader.proofs.LinesLemmas.{logical_line-is}
 use Rattle.mk_reader.proofs.SplitLemmas.{ended_before, last_ends, lines_are_back}
 use Rattle.mk_reader.proofs.PrintedLemmas.{begins_more, no_blank_first, definition_read, rule_read}
-use Rattle.mk_reader.proofs.OutcomeLemmas.{recipe_some}
+use Rattle.mk_reader.proofs.StatementLemmas.{recipe_some}
 
 -- The physical lines of a printed text
 
@@ -138,7 +140,7 @@ empty_text = ap (λ t. t && true) (is_utf8-from_IsUtf8 [] IsUtf8-nil)
 blank_read : (file : List ℕ) (number : ℕ) → IsForm file (line_of_text number []) (Ok form.Blank)
 blank_read file number = ([], ([], refl, refl, refl), inr (empty_text, ([], ([], [], refl, refl, refl, refl, refl), inl (refl, refl))))
 
-module _ (Included : ℕ → List ℕ → Outcome → Type 0) (file : List ℕ) where
+module _ (file : List ℕ) where
   none_below : (number : ℕ) (items : List PlainItem) → ArePlain items → RecipeBelow file (plain_lines number items) []
   none_below number [] h = (Ok form.Blank, blank_read file number, [], refl, refl)
   none_below number (definition name append value ∷ more) h =
@@ -153,14 +155,14 @@ module _ (Included : ℕ → List ℕ → Outcome → Type 0) (file : List ℕ) 
   recipe_below number (text ∷ more) rest h none =
       (Ok (form.Recipe (record { text = text; line = number })), inr (inr (h.1, h.2, refl)), recipe_on (next number) more, recipe_below (next number) more rest h.3 none, refl)
 
-  recipe_read : (number : ℕ) (recipe : List (List ℕ)) (rest : ℕ → List LogicalLine) (outcome : Outcome) → IsPlainRecipe recipe → LineItems Included file true (rest (after_recipe number recipe)) outcome →
-      LineItems Included file true (with_recipe number recipe rest) outcome
-  recipe_read number [] rest outcome h read = read
-  recipe_read number (text ∷ more) rest outcome h read =
+  recipe_read : (number : ℕ) (recipe : List (List ℕ)) (rest : ℕ → List LogicalLine) (said : List Statement) → IsPlainRecipe recipe → LineStatements file true (rest (after_recipe number recipe)) said →
+      LineStatements file true (with_recipe number recipe rest) said
+  recipe_read number [] rest said h read = read
+  recipe_read number (text ∷ more) rest said h read =
       let below = recipe_some file (with_recipe (next number) more rest) in
-      (Ok (form.Recipe (record { text = text; line = number })), inr (inr (h.1, h.2, refl)), below.0, below.1, recipe_read (next number) more rest outcome h.3 read)
+      (Ok (form.Recipe (record { text = text; line = number })), inr (inr (h.1, h.2, refl)), below.0, below.1, recipe_read (next number) more rest said h.3 read)
 
-  items_read : (number : ℕ) (items : List PlainItem) (above : Bool) → ArePlain items → LineItems Included file above (plain_lines number items) (Ok (items_on file number items))
+  items_read : (number : ℕ) (items : List PlainItem) (above : Bool) → ArePlain items → LineStatements file above (plain_lines number items) (map statement.Item (items_on file number items))
   items_read number [] above h = (Ok form.Blank, blank_read file number, [], refl, refl)
   items_read number (definition name append value ∷ more) above h =
       let below = recipe_some file (plain_lines (next number) more) in (
@@ -168,7 +170,7 @@ module _ (Included : ℕ → List ℕ → Outcome → Type 0) (file : List ℕ) 
         definition_read file name value number append h.0.0 h.0.1 h.0.2,
         below.0,
         below.1,
-        (Ok (items_on file (next number) more), items_read (next number) more false h.1, refl),
+        (map statement.Item (items_on file (next number) more), items_read (next number) more false h.1, refl),
       )
   items_read number (rule special targets prerequisites recipe ∷ more) above h =
       let after = after_recipe (next number) recipe in (
@@ -177,13 +179,12 @@ module _ (Included : ℕ → List ℕ → Outcome → Type 0) (file : List ℕ) 
         recipe_on (next number) recipe,
         recipe_below (next number) recipe (λ n. plain_lines n more) h.0.6 (none_below after more h.1),
         (
-          Ok (items_on file after more),
-          recipe_read (next number) recipe (λ n. plain_lines n more) (Ok (items_on file after more)) h.0.6 (items_read after more true h.1),
+          map statement.Item (items_on file after more),
+          recipe_read (next number) recipe (λ n. plain_lines n more) (map statement.Item (items_on file after more)) h.0.6 (items_read after more true h.1),
           refl,
         ),
       )
 
-pub printed_read : (Answers : List ℕ → Option (List ℕ) → Type 0) (levels : ℕ) (file : List ℕ) (items : List PlainItem) → ArePlain items → TextItems Answers levels file (printed items) (Ok (items_on file 1 items))
-printed_read Answers levels file items h =
-    let Included = IncludedItems Answers levels file in
-    subst (λ lines. LineItems Included file false lines (Ok (items_on file 1 items))) (sym (printed_lines items h)) (items_read Included file 1 items false h)
+pub printed_read : (file : List ℕ) (items : List PlainItem) → ArePlain items → AreStatements file (printed items) (map statement.Item (items_on file 1 items))
+printed_read file items h =
+    subst (λ lines. LineStatements file false lines (map statement.Item (items_on file 1 items))) (sym (printed_lines items h)) (items_read file 1 items false h)

@@ -1,4 +1,4 @@
--- The model is Lines, Spelling, Grammar, Special and Makefile; Form and Steps are what the code does.
+-- The model is Lines, Spelling, Grammar, Special and Statements; Form is what the code does.
 -- Fault: how faults name what isn't supported.
 pub mod Fault
 -- Form: the form of a line, branch by branch.
@@ -7,15 +7,13 @@ pub mod Form
 pub mod Grammar
 -- Lines: the physical and the logical lines of a text.
 pub mod Lines
--- Makefile: what a text gives with the files that it includes.
-pub mod Makefile
 -- Printed: how plain items are printed.
 pub mod Printed
 -- Special: the special names.
 pub mod Special
 -- Spelling: which lines and groups of lines are a text's.
 pub mod Spelling
--- Steps: a text read line by line.
-pub mod Steps
+-- Statements: what the lines of a file say.
+pub mod Statements
 -- Text: the bytes that mean something, and what counts as text.
 pub mod Text

@@ -5,7 +5,7 @@ use Rattle.byte_strings.specs.Blanks.{is_blank}
 use Rattle.mk_reader.specs.Text.{is_empty, begins_with, is_text}
 use Rattle.mk_reader.specs.Lines.{number_after}
 use Rattle.mk_reader.specs.Grammar.{Lacks, Whole, Without, begins_blank, BeginsWithWord, HasSpecial, is_refused_with}
-use Rattle.mk_reader.specs.Makefile.{item_of}
+use Rattle.mk_reader.specs.Statements.{item_of}
 use Rattle.mk_reader.specs.declared.special.SpecialName.{SpecialName}
 use Rattle.mk_reader.specs.declared.item.Definition.{Definition}
 use Rattle.mk_reader.specs.declared.item.RecipeLine.{RecipeLine}

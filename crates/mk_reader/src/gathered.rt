@@ -1,21 +1,20 @@
 //! What was gathered of a text so far, while it is read line by line.
-ghost use Rattle.std.specs.Prelude.{◌≡◌, [], ◌++◌, IfOk, OnOk};
-ghost use Rattle.mk_reader.specs.Form.{form_of};
-ghost use Rattle.mk_reader.specs.Makefile.{with_lines};
-ghost use Rattle.mk_reader.specs.Steps.{finished, with_line, line_taken, recipe_line_taken, Takes, TakesRecipeLine};
+ghost use Rattle.std.specs.Prelude.{◌≡◌, true, false, List, [], ◌∷◌, ◌++◌, IfOk, OnOk};
+ghost use Rattle.mk_reader.specs.Statements.{with_lines, finished, RecipeLineTaken, ComesTo};
+ghost use Rattle.mk_reader.specs.declared.item.Statement.{Statement as Said};
+ghost use Rattle.mk_reader.specs.declared.line.LogicalLine.{LogicalLine as Line};
 
 use crate::fault::{Cause, ReadFault};
 use crate::form::{Form, UnfinishedRule};
-use crate::item::{Item, RecipeLine, Special};
+use crate::item::{IncludeLine, Item, RecipeLine, Special, Statement};
 use crate::line::{LinePlace, LogicalLine};
 use crate::statement::{form_of, refuse};
-use byte_strings::ByteString;
 use std::alloc::{AllocError, Global};
 
-/// The items of the lines that were taken in.
+/// The statements of the lines that were taken in.
 #[derive(Drop)]
 pub struct Gathered {
-    pub items: Vec<Item>,
+    pub statements: Vec<Statement>,
     /// The last rule, while recipe lines may still be added to it.
     pub unfinished: Option<UnfinishedRule>,
 }
@@ -30,95 +29,122 @@ fn into_item(unfinished: UnfinishedRule) -> Item
     }
 }
 
-fn with_line(unfinished: UnfinishedRule, line: RecipeLine) -> Result<UnfinishedRule, AllocError>
-    ensures { IfOk result (λ more. more ≡ with_line unfinished line) }
-{
-    let UnfinishedRule { special, mut rule } = unfinished;
-    rule.recipe.push(line)?;
-    Ok(UnfinishedRule { special, rule })
-}
-
 impl Gathered {
     pub fn new(alloc: Global) -> Gathered
-        ensures items { result.items.items ≡ [] }
+        ensures statements { result.statements.items ≡ [] }
         ensures unfinished { result.unfinished ≡ None }
     {
         Gathered {
-            items: Vec::new(alloc),
+            statements: Vec::new(alloc),
             unfinished: None,
         }
     }
 
     /// Adds the item of the last rule, if it is unfinished: its recipe is whole.
     fn finish_rule(&mut self) -> Result<(), AllocError>
-        ensures items { OnOk result (self.new.items.items ≡ self.old.items.items ++ finished self.old.unfinished []) }
+        ensures statements { OnOk result (self.new.statements.items
+            ≡ self.old.statements.items ++ finished self.old.unfinished []) }
         ensures unfinished { OnOk result (self.new.unfinished ≡ None) }
     {
         if let Some(unfinished) = self.unfinished.take() {
-            self.items.push(into_item(unfinished))?;
+            self.statements
+                .push(Statement::Item(into_item(unfinished)))?;
         }
         Ok(())
     }
 
-    fn take_recipe_line(&mut self, place: LinePlace<'_>, line: RecipeLine) -> Result<(), ReadFault>
-        ensures { TakesRecipeLine result self.new.items.items self.new.unfinished
-            (recipe_line_taken place.entry.file.now place.entry.number self.old.items.items self.old.unfinished line) }
+    /// Adds a statement that no recipe line can belong to.
+    fn add(&mut self, one: Statement) -> Result<(), AllocError>
+        ensures statements { OnOk result (self.new.statements.items
+            ≡ self.old.statements.items ++ finished self.old.unfinished [] ++ one ∷ []) }
+        ensures unfinished { OnOk result (self.new.unfinished ≡ None) }
     {
-        let Some(rule) = self.unfinished.take() else {
-            return Err(refuse(place, Cause::TabFirst));
-        };
-        self.unfinished = Some(with_line(rule, line)?);
+        self.finish_rule()?;
+        self.statements.push(one)?;
         Ok(())
     }
 
-    /// Takes in the next line of the file. Gives the names of an include line: the items of those files come next.
+    /// Adds a line to the recipe of the last rule. Answers whether it is refused, since there is none.
+    fn take_recipe_line(
+        &mut self,
+        place: LinePlace<'_>,
+        line: RecipeLine,
+    ) -> Result<bool, AllocError>
+        ensures { IfOk result (λ ended. RecipeLineTaken place.entry.file.now place.entry.number line
+            self.old.statements.items self.old.unfinished self.new.statements.items self.new.unfinished ended) }
+    {
+        let Some(UnfinishedRule { special, mut rule }) = self.unfinished.take() else {
+            return match refuse(place, Cause::TabFirst) {
+                ReadFault::OutOfMemory => Err(AllocError),
+                ReadFault::Refused(refusal) => {
+                    self.statements.push(Statement::Refused(refusal))?;
+                    Ok(true)
+                }
+            };
+        };
+        rule.recipe.push(line)?;
+        self.unfinished = Some(UnfinishedRule { special, rule });
+        Ok(false)
+    }
+
+    /// Takes in the next line of the file. Answers whether it is refused, which ends the file's statements.
     pub fn take_line(
         &mut self,
         alloc: Global,
         file: &[u8],
         line: LogicalLine,
-    ) -> Result<Option<ByteString>, ReadFault>
-        ensures { Takes result self.new.items.items self.new.unfinished
-            (line_taken file.now line.number self.old.items.items self.old.unfinished (form_of file.now line)) }
+    ) -> Result<bool, AllocError>
+        ensures goes_on { IfOk result (λ ended. ended ≡ false → (more : List Line) (whole : List Said)
+            → ComesTo file.now self.new.statements.items self.new.unfinished more whole
+            → ComesTo file.now self.old.statements.items self.old.unfinished (line ∷ more) whole) }
+        ensures ended { IfOk result (λ ended. ended ≡ true → (more : List Line)
+            → ComesTo file.now self.old.statements.items self.old.unfinished (line ∷ more) self.new.statements.items) }
     {
-        let place = LinePlace {
-            alloc,
-            file,
-            number: line.number,
+        let number = line.number;
+        let form = match form_of(alloc, file, line) {
+            Ok(form) => form,
+            Err(fault) => {
+                return match fault {
+                    ReadFault::OutOfMemory => Err(AllocError),
+                    ReadFault::Refused(refusal) => {
+                        self.add(Statement::Refused(refusal))?;
+                        Ok(true)
+                    }
+                };
+            }
         };
-        match form_of(alloc, file, line)? {
+        match form {
             Form::Blank => {}
-            Form::Recipe(line) => self.take_recipe_line(place, line)?,
+            Form::Recipe(line) => {
+                let place = LinePlace {
+                    alloc,
+                    file,
+                    number,
+                };
+                return self.take_recipe_line(place, line);
+            }
             Form::Include(names) => {
-                self.finish_rule()?;
-                return Ok(Some(names));
+                self.add(Statement::Include(IncludeLine {
+                    line: number,
+                    names,
+                }))?;
             }
             Form::Definition(definition) => {
-                self.finish_rule()?;
-                self.items.push(Item::Definition(definition))?;
+                self.add(Statement::Item(Item::Definition(definition)))?;
             }
             Form::Rule(rule) => {
                 self.finish_rule()?;
                 self.unfinished = Some(rule);
             }
         }
-        Ok(None)
+        Ok(false)
     }
 
-    /// Takes in the items of the files of an include line.
-    pub fn take_included(&mut self, mut included: Vec<Item>) -> Result<(), AllocError>
-        ensures items { OnOk result (self.new.items.items ≡ self.old.items.items ++ included.items) }
-        ensures unfinished { OnOk result (self.new.unfinished ≡ self.old.unfinished) }
-    {
-        self.items.append(&mut included)?;
-        Ok(())
-    }
-
-    /// All items, at the end of the text.
-    pub fn into_items(mut self) -> Result<Vec<Item>, AllocError>
-        ensures { IfOk result (λ v. v.items ≡ self.items.items ++ finished self.unfinished []) }
+    /// All statements, at the end of the text.
+    pub fn into_statements(mut self) -> Result<Vec<Statement>, AllocError>
+        ensures { IfOk result (λ v. v.items ≡ self.statements.items ++ finished self.unfinished []) }
     {
         self.finish_rule()?;
-        Ok(self.items)
+        Ok(self.statements)
     }
 }

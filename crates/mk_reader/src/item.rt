@@ -1,4 +1,5 @@
 //! What a makefile holds: definitions, rules and special rules, each with its file and line.
+use crate::fault::Refusal;
 use crate::special::SpecialName;
 use byte_strings::ByteString;
 use std::alloc::{AllocError, Global};
@@ -90,4 +91,22 @@ pub enum Item {
     Definition(Definition),
     Rule(Rule),
     Special(Special),
+}
+
+/// `include NAMES`.
+#[derive(Drop)]
+pub struct IncludeLine {
+    /// The number of the first physical line, from 1, in the file of the statements.
+    pub line: usize,
+    /// What follows the word `include`: names between blanks, one at least.
+    pub names: ByteString,
+}
+
+/// What a line of a file says, with the recipe lines below it.
+#[derive(Drop)]
+pub enum Statement {
+    Item(Item),
+    Include(IncludeLine),
+    /// A line that is refused. It is the last statement of its file.
+    Refused(Refusal),
 }

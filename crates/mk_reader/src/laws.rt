@@ -1,19 +1,18 @@
-//! Laws of the definitions that `read_makefile` meets. The functions do nothing: what they ensure is the law.
-ghost use Rattle.std.specs.Prelude.{◌≡◌, ◌↔◌, ℕ, Bool, true, false, List, ◌∷◌, ◌++◌, Option, Some, Result, Ok, Vec, flat_map};
-ghost use Rattle.std.specs.declared.alloc.Global.{Global};
+//! Laws of the definitions that `statements_of` meets. The functions do nothing: what they ensure is the law.
+ghost use Rattle.std.specs.Prelude.{◌≡◌, ◌↔◌, ℕ, Bool, true, false, List, ◌∷◌, ◌++◌, Option, Some, Result, Ok, map, flat_map};
 ghost use Rattle.mk_reader.specs.Lines.{Physical, spelling, groups, lines_left};
 ghost use Rattle.mk_reader.specs.Spelling.{AreLines, AreGroups};
 ghost use Rattle.mk_reader.specs.Form.{form_of};
 ghost use Rattle.mk_reader.specs.Text.{is_text};
 ghost use Rattle.mk_reader.specs.Grammar.{Lacks, HasSpecial, is_refused_with, IsForm};
 ghost use Rattle.mk_reader.specs.Printed.{line_of_text, IsPlainName, IsPlainValue, ArePlainTargets, ArePlainPrerequisites, definition_text, definition_on, rule_text, rule_on, PlainItem, ArePlain, printed, items_on};
-ghost use Rattle.mk_reader.specs.Makefile.{Outcome, GivesItems, AnswersOf, TextItems};
-ghost use Rattle.mk_reader.specs.declared.fault.ReadFault.{ReadFault};
+ghost use Rattle.mk_reader.specs.Statements.{AreStatements};
 ghost use Rattle.mk_reader.specs.declared.fault.Refusal.{Refusal};
 ghost use Rattle.mk_reader.specs.declared.form.Form.{Form};
 ghost use Rattle.mk_reader.specs.declared.form.Form.TheVariants as form;
 ghost use Rattle.mk_reader.specs.declared.special.SpecialName.{SpecialName};
-ghost use Rattle.mk_reader.specs.declared.item.Item.{Item};
+ghost use Rattle.mk_reader.specs.declared.item.Statement.{Statement};
+ghost use Rattle.mk_reader.specs.declared.item.Statement.TheVariants as statement;
 ghost use Rattle.mk_reader.specs.declared.line.LogicalLine.{LogicalLine};
 
 /// Each byte of a text belongs to one physical line, and each physical line to one logical line. No other lines, and no
@@ -26,27 +25,11 @@ pub fn text_is_its_lines()
         → (groups (lines_left (Some text)) ≡ parts) ↔ AreGroups text parts }
 {}
 
-/// With the files' contents a text has at most one outcome.
-pub fn one_outcome()
-    ensures { (files : List ℕ → Option (List ℕ)) (levels : ℕ) (file text : List ℕ) (one other : Outcome)
-        → TextItems (AnswersOf files) levels file text one
-        → TextItems (AnswersOf files) levels file text other
-        → one ≡ other }
-{}
-
-/// With the files' contents a text has an outcome.
-pub fn an_outcome()
-    ensures { (files : List ℕ → Option (List ℕ)) (levels : ℕ) (file text : List ℕ)
-        → (outcome : Outcome) × TextItems (AnswersOf files) levels file text outcome }
-{}
-
-/// What `read_makefile` says that it answers is that one outcome, unless memory ran out.
-pub fn the_outcome_is_given()
-    ensures { (files : List ℕ → Option (List ℕ)) (levels : ℕ) (file text : List ℕ)
-        (result : Result (Vec Item Global) ReadFault) (outcome : Outcome)
-        → GivesItems result (TextItems (AnswersOf files) levels file text)
-        → TextItems (AnswersOf files) levels file text outcome
-        → GivesItems result (λ given. given ≡ outcome) }
+/// A text has just one list of statements.
+pub fn one_reading()
+    ensures some { (file text : List ℕ) → (statements : List Statement) × AreStatements file text statements }
+    ensures one { (file text : List ℕ) (one other : List Statement)
+        → AreStatements file text one → AreStatements file text other → one ≡ other }
 {}
 
 /// The definition of a line's form that the code follows, and the grammar, say the same of each line. So each line has
@@ -70,8 +53,8 @@ pub fn printed_lines_are_read_back()
 
 /// A makefile that is printed from plain items is read back as these.
 pub fn printed_items_are_read_back()
-    ensures { (files : List ℕ → Option (List ℕ)) (levels : ℕ) (file : List ℕ) (items : List PlainItem) → ArePlain items
-        → TextItems (AnswersOf files) levels file (printed items) (Ok (items_on file 1 items)) }
+    ensures { (file : List ℕ) (items : List PlainItem) → ArePlain items
+        → AreStatements file (printed items) (map statement.Item (items_on file 1 items)) }
 {}
 
 /// A `#` and what follows it in its line change nothing. The byte 35 is `#`.

@@ -2,7 +2,7 @@
 
 use crate::expected::expect;
 use crate::folder::{File, Folder};
-use mk_reader::read_makefile;
+use mk_eval::read_makefile;
 use std::alloc::{AllocError, Global};
 use std::test::Fail;
 

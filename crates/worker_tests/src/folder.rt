@@ -1,7 +1,7 @@
 //! A folder in memory, whose times and texts are told as they stand.
 ghost use Rattle.std.specs.Prelude.{◌≡◌, ℕ, List, find, bytes_eq, option_map, option_copied, refl};
 
-use mk_reader::Includes;
+use mk_eval::Includes;
 use mk_rules::{Tree, TreeFault};
 use std::alloc::{AllocError, Global};
 

@@ -2,9 +2,9 @@
 
 use crate::folder::{File, Folder};
 use byte_strings::ByteStrings;
+use mk_eval::read_makefile;
 use mk_macros::Macros;
 use mk_plan::{Passed, pass};
-use mk_reader::read_makefile;
 use mk_rules::{Graph, build};
 use st_state::State;
 use std::alloc::Global;

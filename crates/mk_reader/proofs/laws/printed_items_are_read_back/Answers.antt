@@ -1,6 +1,5 @@
-use Rattle.mk_reader.specs.Makefile.{AnswersOf}
 use Rattle.mk_reader.proofs.PrintedItemsLemmas.{printed_read}
 use Rattle.mk_reader.proofs.laws.printed_items_are_read_back.Goals as goal
 
 pub returns : goal.returns
-returns c = λ files. printed_read (AnswersOf files)
+returns c = printed_read

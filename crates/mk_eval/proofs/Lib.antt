@@ -1,0 +1,2 @@
+pub mod MakefileLemmas
+pub mod OutcomeLemmas

@@ -1,0 +1,36 @@
+use Rattle.std.proofs.Common.{◌≡◌, ◌+◌, ◌*◌, ℕ, List, Option, length}
+use Rattle.std.specs.Vec.Iter.{into_iter_items, into_iter_len}
+use Rattle.byte_strings.specs.Blanks.{words}
+use Rattle.mk_eval.specs.Makefile.{AnswersOf, StatementItems, IncludedItems}
+use Rattle.mk_eval.proofs.MakefileLemmas.{Reaches}
+use Rattle.mk_eval.proofs.makefile.+evaluating.Given as goal
+
+abbrev pub decreases-evaluate_text : goal.decreases-evaluate_text
+decreases-evaluate_text g l = 4 * l.levels + 3
+
+abbrev pub decreases-evaluate_all : goal.decreases-evaluate_all
+decreases-evaluate_all g l = 4 * l.levels + 2
+
+abbrev pub decreases-evaluate_each : goal.decreases-evaluate_each
+decreases-evaluate_each g l = 4 * l.levels + 1
+
+abbrev pub decreases-evaluate_included : goal.decreases-evaluate_included
+decreases-evaluate_included g l = 4 * l.levels
+
+abbrev pub invariant-evaluate_each-loop-name : goal.invariant-evaluate_each-loop-name
+invariant-evaluate_each-loop-name g l = record {
+  gathered : (files : List ℕ → Option (List ℕ)) → g.I.Includes.allows l.includes files
+      → Reaches (IncludedItems (AnswersOf files) l.levels l.file l.number) (words l.names) l.items.items (words l.rest);
+  grows : (files : List ℕ → Option (List ℕ)) → g.I.Includes.allows l.includes files → g.I.Includes.allows l.initial.includes files;
+}
+
+abbrev pub decreases-evaluate_each-loop-name : goal.decreases-evaluate_each-loop-name
+decreases-evaluate_each-loop-name g l = length (words l.rest)
+
+abbrev pub invariant-evaluate_all-loop-statement : goal.invariant-evaluate_all-loop-statement
+invariant-evaluate_all-loop-statement g l = record {
+  left : into_iter_len l.statement-iterator ≡ length (into_iter_items l.statement-iterator);
+  gathered : (files : List ℕ → Option (List ℕ)) → g.I.Includes.allows l.includes files
+      → Reaches (StatementItems (IncludedItems (AnswersOf files) l.levels l.file)) l.fn.statements.items l.items.items (into_iter_items l.statement-iterator);
+  grows : (files : List ℕ → Option (List ℕ)) → g.I.Includes.allows l.includes files → g.I.Includes.allows l.initial.includes files;
+}

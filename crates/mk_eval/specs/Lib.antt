@@ -1,0 +1,2 @@
+-- Makefile: what a text gives with the files that it includes.
+pub mod Makefile

@@ -1,0 +1,10 @@
+//! Makefiles evaluated: from the statements of a text, and of the files that it includes, to items, or the first fault.
+//! `read_makefile` is the one call; `laws` says in which sense its definition is right.
+#![tactic(auto)]
+
+mod includes;
+pub mod laws;
+mod makefile;
+
+pub use includes::Includes;
+pub use makefile::{MAX_INCLUDE_DEPTH, read_makefile};

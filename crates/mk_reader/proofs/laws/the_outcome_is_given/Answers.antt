@@ -1,5 +1,0 @@
-use Rattle.mk_reader.proofs.OutcomeLemmas.{one_given}
-use Rattle.mk_reader.proofs.laws.the_outcome_is_given.Goals as goal
-
-pub returns : goal.returns
-returns c = one_given
