@@ -37,3 +37,5 @@ run ../dmk
 sleep 0.1
 run touch parse.h
 run ../dmk
+run sed -i s/-O2/-O1/ makefile
+run ../dmk -n -d

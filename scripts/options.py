@@ -35,9 +35,9 @@ def groups_of_page():
     groups = {}
     for part in re.split(r"^\.SS ", section, flags=re.M)[1:]:
         heading, rest = part.split("\n", 1)
-        # The tag of a .TP is its next line.
+        # The tag of a .TP is its next line; -dd is -d twice.
         tags = " ".join(re.findall(r"^\.TP\n(.*)$", rest, re.M)).replace("\\-", "-")
-        groups[heading] = set(re.findall(OPTION, tags))
+        groups[heading] = set(re.findall(OPTION, tags)) - {"-dd"}
     return groups
 
 

@@ -156,6 +156,13 @@ fn with_asking(alloc: Global, command: Command<'_>) -> Result<Command<'_>, Alloc
 }
 
 fn with_telling(alloc: Global, command: Command<'_>) -> Result<Command<'_>, AllocError> {
+    let tells = flag(
+        alloc,
+        TELLING,
+        'd',
+        "tells",
+        "Tell why each target is made; -dd also which aren't, and what changed of commands",
+    );
     let silent = flag(
         alloc,
         TELLING,
@@ -175,7 +182,7 @@ fn with_telling(alloc: Global, command: Command<'_>) -> Result<Command<'_>, Allo
         .action(ArgAction::Count)
         .help_heading(TELLING)
         .help("Don't tell the folder, though there is -C");
-    command.arg(silent)?.arg(told)?.arg(untold)
+    command.arg(tells)?.arg(silent)?.arg(told)?.arg(untold)
 }
 
 // Options of other makes that are refused by name, with the reason.

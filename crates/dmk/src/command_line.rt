@@ -7,7 +7,7 @@ use bd_lists::Variable;
 use byte_strings::{ByteString, ByteStrings};
 use clap::ArgMatches;
 use clap::error::ErrorKind;
-use dmk_drive::Options;
+use dmk_drive::{Options, Telling};
 use std::alloc::{AllocError, Global};
 use std::{env, io};
 use thiserror::Error;
@@ -139,6 +139,15 @@ fn makefile_of(alloc: Global, found: &ArgMatches<'_>) -> Result<Option<ByteStrin
     }
 }
 
+/// How much -d tells, by how often it stands.
+fn telling_of(found: &ArgMatches<'_>) -> Telling {
+    match found.get_count("tells") {
+        0 => Telling::Nothing,
+        1 => Telling::Reasons,
+        _ => Telling::All,
+    }
+}
+
 /// The options that were found, without the words.
 fn options_of(alloc: Global, found: &ArgMatches<'_>) -> Result<Options, AllocError> {
     Ok(Options {
@@ -150,6 +159,7 @@ fn options_of(alloc: Global, found: &ArgMatches<'_>) -> Result<Options, AllocErr
         is_silent: found.get_count("silent") > 0,
         ignores_statuses: found.get_count("ignore") > 0,
         asks: found.get_count("asks") > 0,
+        telling: telling_of(found),
         definitions: Vec::new(alloc),
         targets: ByteStrings::empty(alloc),
     })

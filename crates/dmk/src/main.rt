@@ -142,6 +142,7 @@ fn make<R: Threads + Wait + Sync>(
     let pool = PoolPath::new(host, options.state.as_str(), flags, workers)?;
     let printer = Printer::new(
         rt,
+        alloc,
         buffered(alloc, with_patience(host, host.stdout()))?,
         buffered(alloc, with_patience(host, host.stderr()))?,
     );

@@ -1,21 +1,21 @@
 -- One list: each node is passed in one way, and so with the marks that it leaves.
 use Rattle.std.proofs.Common.{◌≡◌, ◌∙◌, ℕ, Bool, List, [], ◌∷◌, ◌++◌, refl, sym, ap, subst}
 use Rattle.std.specs.Prelude.{slice_set}
-use Rattle.mk_recipe.specs.declared.line.Line.{Line}
+use Rattle.mk_plan.specs.Passage.{Passage}
 use Rattle.mk_rules.specs.declared.graph.Graph.{Graph}
 use Rattle.mk_plan.proofs.SameLemmas.{passes_once}
 use Rattle.dmk_drive.specs.Passing.{Lists, at_end, behind}
 
 module _ (keeping : Bool) (graph : Graph) where
   behind_alike : (n : ℕ) (order : List ℕ) (marks : List Bool) →
-      ((left : List Bool) (a b : List (List Line)) → Lists keeping graph left order a → Lists keeping graph left order b → a ≡ b) →
-      (a b : List (List Line)) → Lists keeping graph marks (n ∷ order) a → Lists keeping graph marks (n ∷ order) b → a ≡ b
+      ((left : List Bool) (a b : List Passage) → Lists keeping graph left order a → Lists keeping graph left order b → a ≡ b) →
+      (a b : List Passage) → Lists keeping graph marks (n ∷ order) a → Lists keeping graph marks (n ∷ order) b → a ≡ b
   behind_alike n order marks same a b (behind {remade = p} {front = f} {listed = l} of_f of_l) (behind {remade = q} {front = g} {listed = m} of_g of_m) =
       let one = passes_once keeping graph marks n p q f g of_f of_g in
       let rest : l ≡ m = same (slice_set marks n p) l m of_l (subst (λ r. Lists keeping graph (slice_set marks n r) order m) (sym one.0) of_m) in
       ap (λ x. x ++ l) one.1 ∙ ap (λ x. g ++ x) rest
 
-  pub lists_once : (order : List ℕ) (marks : List Bool) (a b : List (List Line)) →
+  pub lists_once : (order : List ℕ) (marks : List Bool) (a b : List Passage) →
       Lists keeping graph marks order a → Lists keeping graph marks order b → a ≡ b
   lists_once [] marks a b at_end at_end = refl
   lists_once (n ∷ order) marks a b h k = behind_alike n order marks (lists_once order) a b h k

@@ -1,10 +1,9 @@
 -- By the same files, times and state there is one plan, with one listing.
 use Rattle.std.specs.Prelude.{slice_set, replicate}
-use Rattle.std.proofs.Common.{◌≡◌, ◌∙◌, ℕ, ℤ, Bool, true, false, List, [], length, Option, sym, ap, subst}
+use Rattle.std.proofs.Common.{◌≡◌, ◌∙◌, ℕ, ℤ, Bool, true, false, List, length, Option, sym, subst}
 use Rattle.std.specs.FinMap as map
-use Rattle.mk_macros.specs.Ranks.{ranks_at}
 use Rattle.mk_reader.specs.declared.item.Item.{Item}
-use Rattle.mk_recipe.specs.declared.line.Line.{Line}
+use Rattle.mk_plan.specs.Passage.{Passage}
 use Rattle.mk_rules.specs.Graph.{IsGraph}
 use Rattle.mk_rules.specs.declared.graph.Graph.{Graph}
 use Rattle.mk_rules.proofs.InputLemmas.{inputs_once}
@@ -27,12 +26,12 @@ use Rattle.dmk_drive.proofs.MakefileLemmas.{items_once}
 -- ---- graphs that are alike have one listing
 
 module _ (a b : Graph) (alike : AreAlike a b) (keeping : Bool) where
-  lists_in : (marks : List Bool) (order : List ℕ) (listed : List (List Line)) → Lists keeping a marks order listed → Lists keeping b marks order listed
+  lists_in : (marks : List Bool) (order : List ℕ) (listed : List Passage) → Lists keeping a marks order listed → Lists keeping b marks order listed
   lists_in marks _ _ at_end = at_end
   lists_in marks _ _ (behind {n = n} {order = order} {remade = remade} {front = front} {listed = listed} first rest) =
       behind (passes_in a b alike keeping marks n remade front first) (lists_in (slice_set marks n remade) order listed rest)
 
-  listing_in : length a.nodes.items ≡ length b.nodes.items → a.order.items ≡ b.order.items → (listed : List (List Line)) →
+  listing_in : length a.nodes.items ≡ length b.nodes.items → a.order.items ≡ b.order.items → (listed : List Passage) →
       IsListing keeping a listed → IsListing keeping b listed
   listing_in count order listed lists =
       subst (λ c. Lists keeping b (replicate c false) b.order.items listed) count
@@ -58,7 +57,7 @@ module _ (definitions environment : List Variable) (targets : List (List ℕ)) (
   dropped_once : a.soft_dropped ≡ b.soft_dropped
   dropped_once = one_dropped of_a.inputs targets a b of_a.is_graph is_b
 
-  listing_once : (keeping : Bool) (x y : List (List Line)) → IsListing keeping a x → IsListing keeping b y → x ≡ y
+  listing_once : (keeping : Bool) (x y : List Passage) → IsListing keeping a x → IsListing keeping b y → x ≡ y
   listing_once keeping x y of_x of_y =
       lists_once keeping b b.order.items (no_marks b) x y
       (listing_in a b (one_graph of_a.inputs targets a b of_a.is_graph is_b (of_a.macros ∙ sym of_b.macros)) keeping
@@ -66,7 +65,7 @@ module _ (definitions environment : List Variable) (targets : List (List ℕ)) (
       of_y
 
 module _ (definitions environment : List Variable) (targets : List (List ℕ)) (times : List ℕ → Option ℤ) (honest : Type 0) (works : honest)
-    (seen : Which → List ℕ) (items : List Item) (x y : List (List Line)) (d e : Bool) where
+    (seen : Which → List ℕ) (items : List Item) (x y : List Passage) (d e : Bool) where
   planned_once : IsPlanned definitions environment targets times honest seen items x d → IsPlanned definitions environment targets times honest seen items y e →
       (x ≡ y) × (d ≡ e)
   planned_once of_x of_y =
@@ -79,7 +78,7 @@ module _ (definitions environment : List Variable) (targets : List (List ℕ)) (
       )
 
 pub plan_once : (files : List ℕ → Option (List ℕ)) (times : List ℕ → Option ℤ) (named : Option (List ℕ)) (definitions environment : List Variable)
-    (targets : List (List ℕ)) (honest : Type 0) (seen : Which → List ℕ) (x y : List (List Line)) (d e : Bool) → honest →
+    (targets : List (List ℕ)) (honest : Type 0) (seen : Which → List ℕ) (x y : List Passage) (d e : Bool) → honest →
     Plans files times named definitions environment targets honest seen x d → Plans files times named definitions environment targets honest seen y e →
     (x ≡ y) × (d ≡ e)
 plan_once files times named definitions environment targets honest seen x y d e works of_x of_y =

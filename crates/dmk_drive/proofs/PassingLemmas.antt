@@ -1,8 +1,8 @@
 -- What stays true while the nodes of a graph are passed, and what its order says.
-use Rattle.std.proofs.Common.{◌≡◌, ◌+◌, ◌⊎◌, inl, inr, ℕ, Bool, true, false, not, ◌&&◌, ◌||◌, nat_lt, List, [], ◌∷◌, ◌++◌, length, drop, set, refl, sym, subst, append_assoc, true≢false}
+use Rattle.std.proofs.Common.{◌≡◌, ◌+◌, ◌⊎◌, inl, inr, ℕ, Bool, true, false, not, ◌&&◌, ◌||◌, nat_lt, List, [], ◌∷◌, ◌++◌, length, drop, set, refl, sym, ap, ◌∙◌, subst, append_assoc, append-nil}
 use Rattle.std.proofs.lemmas.Bool.{and_parts, and_from}
 use Rattle.std.proofs.lemmas.Grind.{flat_map-append}
-use Rattle.std.specs.List.{list_all}
+use Rattle.std.specs.List.{list_all, flat_map}
 use Rattle.std.specs.Bool.{if◌then◌else◌}
 use Rattle.mk_graph.specs.Counted.{joined, AreCounted}
 use Rattle.mk_graph.specs.Cycle.{HasCycle}
@@ -12,23 +12,28 @@ use Rattle.mk_graph.proofs.CountedLemmas.{cycle_in}
 use Rattle.mk_graph.proofs.WholeLemmas.{whole_plan}
 use Rattle.mk_macros.specs.declared.fault.MacroFault.{MacroFault}
 use Rattle.mk_macros.specs.declared.fault.MacroFault.TheVariants as fault
-use Rattle.mk_reader.specs.Text.{is_empty}
-use Rattle.mk_recipe.specs.declared.line.Line.{Line}
 use Rattle.mk_rules.specs.Graph.{IsGraph}
 use Rattle.mk_rules.specs.Prerequisites.{Inputs}
 use Rattle.mk_rules.specs.declared.graph.Graph.{Graph}
-use Rattle.mk_plan.specs.Passing.{Passes, IsFaultAt}
-use Rattle.dmk_drive.specs.Passing.{Lists, at_end, behind, ListsFault, here, later, IsListing, IsListingFault, no_marks, printed, listing_text, PassesEach}
+use Rattle.mk_graph.specs.Numbering.{name_at}
+use Rattle.mk_plan.specs.Passage.{Passage, to_make, finished, is_listed, commands_of}
+use Rattle.mk_plan.specs.Passing.{Passes, IsFaultAt, told_in}
+use Rattle.mk_plan.specs.Telling.{lines_about}
+use Rattle.mk_plan.specs.declared.passing.Passed.{Passed}
+use Rattle.mk_plan.specs.declared.passing.Passed.TheVariants as passed
+use Rattle.mk_plan.specs.declared.telling.Telling.{Telling}
+use Rattle.mk_plan.specs.declared.telling.Telling.TheVariants as tellings
+use Rattle.dmk_drive.specs.Passing.{Lists, at_end, behind, ListsFault, here, later, IsListing, IsListingFault, no_marks, printed, text_of, recipe_in, passage_text, listing_text, lists_any, PassesEach}
 
 -- what was listed so far: with what is listed of the nodes that are left it is what all list
-abbrev pub ListedSoFar : (keeping : Bool) (graph : Graph) (marks : List Bool) (i : ℕ) (listed : List (List Line)) → Type 0
+abbrev pub ListedSoFar : (keeping : Bool) (graph : Graph) (marks : List Bool) (i : ℕ) (listed : List Passage) → Type 0
 ListedSoFar keeping graph marks i listed =
-    (rest : List (List Line)) → Lists keeping graph marks (drop i graph.order.items) rest → IsListing keeping graph (listed ++ rest)
+    (rest : List Passage) → Lists keeping graph marks (drop i graph.order.items) rest → IsListing keeping graph (listed ++ rest)
 
 pub listed_start : (keeping : Bool) (graph : Graph) → ListedSoFar keeping graph (no_marks graph) 0 []
 listed_start keeping graph = λ rest lists. lists
 
-pub listed_more : (keeping : Bool) (graph : Graph) (marks : List Bool) (i n : ℕ) (remade : Bool) (front listed : List (List Line)) →
+pub listed_more : (keeping : Bool) (graph : Graph) (marks : List Bool) (i n : ℕ) (remade : Bool) (front listed : List Passage) →
     drop i graph.order.items ≡ n ∷ drop (i + 1) graph.order.items → Passes keeping graph marks n remade front →
     ListedSoFar keeping graph marks i listed → ListedSoFar keeping graph (set marks n remade) (i + 1) (listed ++ front)
 listed_more keeping graph marks i n remade front listed next passes before = λ rest after.
@@ -44,7 +49,7 @@ NoFaultSoFar keeping graph marks i =
 pub no_fault_start : (keeping : Bool) (graph : Graph) → NoFaultSoFar keeping graph (no_marks graph) 0
 no_fault_start keeping graph = λ f meets. meets
 
-pub no_fault_more : (keeping : Bool) (graph : Graph) (marks : List Bool) (i n : ℕ) (remade : Bool) (front : List (List Line)) →
+pub no_fault_more : (keeping : Bool) (graph : Graph) (marks : List Bool) (i n : ℕ) (remade : Bool) (front : List Passage) →
     drop i graph.order.items ≡ n ∷ drop (i + 1) graph.order.items → Passes keeping graph marks n remade front →
     NoFaultSoFar keeping graph marks i → NoFaultSoFar keeping graph (set marks n remade) (i + 1)
 no_fault_more keeping graph marks i n remade front next passes before = λ f meets.
@@ -59,24 +64,54 @@ fault_next keeping graph marks i n f next is before =
     before f (subst (λ left. ListsFault keeping graph marks left f) (sym next) (here is))
 
 -- all nodes are passed
-pub listed_all : (keeping : Bool) (graph : Graph) (marks : List Bool) (i : ℕ) (listed : List (List Line)) →
+pub listed_all : (keeping : Bool) (graph : Graph) (marks : List Bool) (i : ℕ) (listed : List Passage) →
     drop i graph.order.items ≡ [] → listed ++ [] ≡ listed → ListedSoFar keeping graph marks i listed → IsListing keeping graph listed
 listed_all keeping graph marks i listed none same before =
     subst (IsListing keeping graph) same (before [] (subst (λ left. Lists keeping graph marks left []) (sym none) at_end))
 
--- of a node that isn't listed there are no lines
-pub not_listed : (front : List (List Line)) → not (is_empty front) ≡ false → front ≡ []
-not_listed [] none = refl
-not_listed (lines ∷ front) none = absurd (true≢false none)
-
 -- the text of more
-pub text_more : (listed front : List (List Line)) → listing_text (listed ++ front) ≡ listing_text listed ++ listing_text front
-text_more listed front = flat_map-append printed listed front
+pub text_more : (telling : Telling) (recipes : Bool) (listed front : List Passage) →
+    listing_text telling recipes (listed ++ front) ≡ listing_text telling recipes listed ++ listing_text telling recipes front
+text_more telling recipes listed front = flat_map-append (passage_text telling recipes) listed front
 
--- something is among two lists together where it is in one
-pub any_more : (listed front : List (List Line)) → not (is_empty (listed ++ front)) ≡ (not (is_empty listed) || not (is_empty front))
+or_assoc : (a b c : Bool) → (a || (b || c)) ≡ ((a || b) || c)
+or_assoc true b c = refl
+or_assoc false b c = refl
+
+-- a recipe is among two lists together where it is in one
+pub any_more : (listed front : List Passage) → lists_any (listed ++ front) ≡ (lists_any listed || lists_any front)
 any_more [] front = refl
-any_more (lines ∷ listed) front = refl
+any_more (p ∷ listed) front =
+    ap (λ b. is_listed p || b) (any_more listed front) ∙ or_assoc (is_listed p) (lists_any listed) (lists_any front)
+
+-- where none is in either, none is in both
+pub none_more : (listed front : List Passage) → lists_any listed ≡ false → lists_any front ≡ false → lists_any (listed ++ front) ≡ false
+none_more listed front before none = any_more listed front ∙ ap (λ b. b || lists_any front) before ∙ none
+
+-- what is printed of a node that was passed
+pub passed_text : (telling : Telling) (recipes : Bool) (graph : Graph) (n : ℕ) (p : Passed) →
+    text_of (flat_map (lines_about telling) (told_in graph n p)) ++ recipe_in recipes p ≡ listing_text telling recipes (told_in graph n p)
+passed_text telling true graph n (passed.Listed why lines) =
+    let told : List (List ℕ) = lines_about telling (to_make (name_at graph.names n) why (commands_of graph n) lines.items) in
+    ap (λ ls. text_of ls ++ printed lines.items) (append-nil told) ∙ sym (append-nil (text_of told ++ printed lines.items))
+passed_text telling true graph n passed.Remade = refl
+passed_text telling true graph n passed.UpToDate =
+    let told : List (List ℕ) = lines_about telling (finished (name_at graph.names n)) in
+    ap (λ ls. text_of ls ++ []) (append-nil told) ∙ sym (append-nil (text_of told ++ []))
+passed_text telling true graph n passed.Left = refl
+passed_text telling false graph n (passed.Listed why lines) =
+    let told : List (List ℕ) = lines_about telling (to_make (name_at graph.names n) why (commands_of graph n) lines.items) in
+    ap (λ ls. text_of ls ++ []) (append-nil told) ∙ sym (append-nil (text_of told ++ []))
+passed_text telling false graph n passed.Remade = refl
+passed_text telling false graph n passed.UpToDate =
+    let told : List (List ℕ) = lines_about telling (finished (name_at graph.names n)) in
+    ap (λ ls. text_of ls ++ []) (append-nil told) ∙ sym (append-nil (text_of told ++ []))
+passed_text telling false graph n passed.Left = refl
+
+-- where nothing is told and no recipe printed, nothing is
+pub no_text : (listed : List Passage) → listing_text tellings.Nothing false listed ≡ []
+no_text [] = refl
+no_text (p ∷ listed) = no_text listed
 
 -- each node of a plan is one of the graph
 pub plan_below : (g : List (List ℕ)) (passed order : List ℕ) → IsPlanAfter g passed order → list_all (λ n. nat_lt n (length g)) order ≡ true

@@ -1,10 +1,10 @@
 -- The stages of a plan put together.
-use Rattle.std.proofs.Common.{◌≡◌, ◌⊎◌, inl, inr, ℕ, ℤ, Bool, not, List, Option, Result, Ok, Err, IfOk, IfErr, sym, subst}
+use Rattle.std.proofs.Common.{◌≡◌, ◌⊎◌, inl, inr, ℕ, ℤ, Bool, List, Option, Result, Ok, Err, IfOk, IfErr, sym, subst}
 use Rattle.std.specs.FinMap as map
 use Rattle.mk_macros.specs.declared.fault.MacroFault.{MacroFault}
-use Rattle.mk_reader.specs.Text.{is_empty}
 use Rattle.mk_reader.specs.declared.item.Item.{Item}
-use Rattle.mk_recipe.specs.declared.line.Line.{Line}
+use Rattle.mk_plan.specs.Passage.{Passage}
+use Rattle.mk_plan.specs.declared.telling.Telling.{Telling}
 use Rattle.mk_rules.specs.Faults.{IsRuleFault}
 use Rattle.mk_rule_lines.specs.declared.fault.RuleFault.{RuleFault}
 use Rattle.mk_rules.specs.declared.graph.Graph.{Graph}
@@ -13,7 +13,7 @@ use Rattle.st_disk.specs.declared.which.Which.{Which}
 use Rattle.st_state.specs.State.{StateMap}
 use Rattle.dmk_drive.specs.Definitions.{first_defined}
 use Rattle.dmk_drive.specs.Keeping.{keeps}
-use Rattle.dmk_drive.specs.Passing.{IsListing, IsListingFault, listing_text}
+use Rattle.dmk_drive.specs.Passing.{IsListing, IsListingFault, listing_text, lists_any}
 use Rattle.dmk_drive.specs.Planned.{IsStateOn, IsGraphOf, Tells}
 use Rattle.dmk_drive.specs.Faults.{IsPlanFault}
 use Rattle.dmk_drive.specs.declared.fault.Fault.{Fault}
@@ -42,17 +42,17 @@ module _ (definitions environment : List Variable) (targets : List (List ℕ)) (
         subst (IsPlanFault definitions environment targets times refuses disk_honest seen items) (sym is)
         (state, kept, (graph, is_graph, subst (λ k. IsListingFault k graph f) is_keeping meets))
 
-    pub told : (run : DryRun) → ((listed : List (List Line)) × IsListing keeping graph listed × (run.text.items ≡ listing_text listed)
-        × (run.lists_any ≡ not (is_empty listed))) → run.soft_dropped ≡ graph.soft_dropped →
-        Tells definitions environment targets times disk_honest seen items run
-    told run (listed, lists, text, any) dropped = record {
-      listed = listed;
+    pub told : (telling : Telling) (recipes : Bool) (run : DryRun) → ((plan : List Passage) × IsListing keeping graph plan
+        × (run.text.items ≡ listing_text telling recipes plan) × (run.lists_any ≡ lists_any plan)) →
+        run.soft_dropped ≡ graph.soft_dropped → Tells definitions environment targets times disk_honest seen items telling recipes run
+    told telling recipes run (plan, lists, text, any) dropped = record {
+      plan = plan;
       planned = record {
         state = state;
         is_state = kept;
         graph = graph;
         is_graph = is_graph;
-        lists = subst (λ k. IsListing k graph listed) is_keeping lists;
+        lists = subst (λ k. IsListing k graph plan) is_keeping lists;
         soft = dropped;
       };
       text = text;
@@ -65,9 +65,9 @@ module _ (definitions environment : List Variable) (targets : List (List ℕ)) (
     recipes_result refuses (Ok run) is = tt
     recipes_result refuses (Err f) is = recipes_fault refuses f is
 
-    pub told_result : (got : Result DryRun Fault) →
-        IfOk got (λ run. (listed : List (List Line)) × IsListing keeping graph listed × (run.text.items ≡ listing_text listed)
-        × (run.lists_any ≡ not (is_empty listed))) → IfOk got (λ run. run.soft_dropped ≡ graph.soft_dropped) →
-        IfOk got (Tells definitions environment targets times disk_honest seen items)
-    told_result (Ok run) listing dropped = told run listing dropped
-    told_result (Err f) listing dropped = tt
+    pub told_result : (telling : Telling) (recipes : Bool) (got : Result DryRun Fault) →
+        IfOk got (λ run. (plan : List Passage) × IsListing keeping graph plan × (run.text.items ≡ listing_text telling recipes plan)
+        × (run.lists_any ≡ lists_any plan)) → IfOk got (λ run. run.soft_dropped ≡ graph.soft_dropped) →
+        IfOk got (Tells definitions environment targets times disk_honest seen items telling recipes)
+    told_result telling recipes (Ok run) listing dropped = told telling recipes run listing dropped
+    told_result telling recipes (Err f) listing dropped = tt

@@ -1,12 +1,12 @@
 -- What went out, and why a listing or an answer is refused.
-use Rattle.std.specs.Prelude.{◌≡◌, ◌≢◌, ◌⊎◌, ◌↔◌, ◌||◌, ℕ, ◌<◌, Bool, true, false, List, ◌++◌, length, Option, codes, IsTrue, if◌then◌else◌}
+use Rattle.std.specs.Prelude.{◌≡◌, ◌≢◌, ◌⊎◌, ◌↔◌, ◌||◌, ◌&&◌, ℕ, ◌<◌, Bool, true, false, not, List, ◌++◌, length, Option, codes, IsTrue, if◌then◌else◌}
 use Rattle.std.specs.Io.KnownBytes.{Appends, Keeps}
-use Rattle.mk_reader.specs.Text.{is_empty}
-use Rattle.mk_recipe.specs.declared.line.Line.{Line}
+use Rattle.mk_plan.specs.Passage.{Passage}
+use Rattle.mk_plan.specs.declared.telling.Telling.{Telling}
 use Rattle.jb_auth.specs.Auth.{AsksForDryRun}
 use Rattle.dmk_drive.specs.Keeping.{value_in}
 use Rattle.dmk_drive.specs.Messages.{SaysFault, SaysCut}
-use Rattle.dmk_drive.specs.Passing.{listing_text}
+use Rattle.dmk_drive.specs.Passing.{listing_text, lists_any}
 use Rattle.dmk_drive.specs.declared.fault.Fault.{Fault}
 use Rattle.dmk_drive.specs.declared.options.Mode.{Mode}
 use Rattle.dmk_drive.specs.declared.options.Mode.TheVariants as mode
@@ -28,17 +28,19 @@ pub record TellsFault (Meets : Fault → Type 0) (told : Bool) (out out_after er
   pub silent : Keeps out out_after
   pub line : told ≡ true → SaysFault err err_after fault
 
--- the listing of a plan is cut short: a part of it went out, and where each line was taken standard error says so
-pub record CutsListing (Plans : List (List Line) → Bool → Type 0) (told : Bool) (out out_after err err_after : Option (List ℕ)) : Type 0 where
-  pub plan : List (List Line)
+-- the listing of a plan, of which a question has no recipes, is cut short: a part of it went out, and where each line was taken
+-- standard error says so
+pub record CutsListing (Plans : List Passage → Bool → Type 0) (telling : Telling) (asks : Bool) (told : Bool)
+    (out out_after err err_after : Option (List ℕ)) : Type 0 where
+  pub plan : List Passage
   pub dropped : Bool
   pub planned : Plans plan dropped
-  pub part : AppendsPart out out_after (listing_text plan)
-  pub line : SaysCut err err_after told dropped
+  pub part : AppendsPart out out_after (listing_text telling (not asks) plan)
+  pub line : SaysCut err err_after told (dropped && not asks)
 
--- how `-q` answers of what is listed: 1 where something is
-abbrev pub question_status : List (List Line) → ℕ
-question_status listed = if is_empty listed then 0 else 1
+-- how `-q` answers of what is listed: 1 where a recipe is
+abbrev pub question_status : List Passage → ℕ
+question_status plan = if lists_any plan then 1 else 0
 
 -- what the words and MAKEFLAGS ask for: `-q` counts before `-n`
 abbrev pub mode_of : (asks dry : Bool) → Mode

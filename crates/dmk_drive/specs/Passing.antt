@@ -1,20 +1,25 @@
--- The nodes of a graph passed in its order, and which recipes are listed.
-use Rattle.std.specs.Prelude.{◌≡◌, ℕ, Bool, false, nat_lt, List, [], ◌∷◌, ◌++◌, length, replicate, slice_set, if◌then◌else◌}
-use Rattle.std.specs.List.{flat_map}
+-- The nodes of a graph passed in its order, and what is listed of them.
+use Rattle.std.specs.Prelude.{◌≡◌, ℕ, Bool, true, false, nat_lt, List, [], ◌∷◌, ◌++◌, length, replicate, slice_set, if◌then◌else◌}
+use Rattle.std.specs.List.{flat_map, list_any}
 use Rattle.mk_graph.specs.Edges.{times}
 use Rattle.mk_graph.specs.Plan.{IsPlan}
 use Rattle.mk_macros.specs.declared.fault.MacroFault.{MacroFault}
 use Rattle.mk_macros.specs.declared.fault.MacroFault.TheVariants.{OutOfMemory}
+use Rattle.mk_plan.specs.Passage.{Passage, to_make, finished, is_listed}
 use Rattle.mk_plan.specs.Passing.{Passes, IsFaultAt}
+use Rattle.mk_plan.specs.Telling.{lines_about}
+use Rattle.mk_plan.specs.declared.passing.Passed.{Passed}
+use Rattle.mk_plan.specs.declared.passing.Passed.TheVariants as passed
+use Rattle.mk_plan.specs.declared.telling.Telling.{Telling}
 use Rattle.mk_recipe.specs.Line.{is_blank_text}
 use Rattle.mk_recipe.specs.declared.line.Line.{Line}
 use Rattle.mk_rules.specs.declared.graph.Graph.{Graph}
 
--- the nodes are passed in this order, behind others whose marks these are, and these are the lines that are listed: for
--- each listed target those of its recipe
-pub data Lists (keeping : Bool) (graph : Graph) : (marks : List Bool) → (order : List ℕ) → (listed : List (List Line)) → Type 0 where
+-- the nodes are passed in this order, behind others whose marks these are, and this is what there is to tell of them: for each
+-- listed target the reason and its recipe, and the targets with a recipe that are up to date
+pub data Lists (keeping : Bool) (graph : Graph) : (marks : List Bool) → (order : List ℕ) → (listed : List Passage) → Type 0 where
   at_end : {marks : List Bool} → Lists keeping graph marks [] []
-  behind : {marks : List Bool} {n : ℕ} {order : List ℕ} {remade : Bool} {front listed : List (List Line)} →
+  behind : {marks : List Bool} {n : ℕ} {order : List ℕ} {remade : Bool} {front listed : List Passage} →
       Passes keeping graph marks n remade front → Lists keeping graph (slice_set marks n remade) order listed →
       Lists keeping graph marks (n ∷ order) (front ++ listed)
 
@@ -22,7 +27,7 @@ pub data Lists (keeping : Bool) (graph : Graph) : (marks : List Bool) → (order
 pub data ListsFault (keeping : Bool) (graph : Graph) : (marks : List Bool) → (order : List ℕ) → (fault : MacroFault) → Type 0 where
   here : {marks : List Bool} {n : ℕ} {order : List ℕ} {fault : MacroFault} →
       IsFaultAt graph marks n fault → ListsFault keeping graph marks (n ∷ order) fault
-  later : {marks : List Bool} {n : ℕ} {order : List ℕ} {fault : MacroFault} {remade : Bool} {front : List (List Line)} →
+  later : {marks : List Bool} {n : ℕ} {order : List ℕ} {fault : MacroFault} {remade : Bool} {front : List Passage} →
       Passes keeping graph marks n remade front → ListsFault keeping graph (slice_set marks n remade) order fault →
       ListsFault keeping graph marks (n ∷ order) fault
 
@@ -30,10 +35,18 @@ pub data ListsFault (keeping : Bool) (graph : Graph) : (marks : List Bool) → (
 abbrev pub no_marks : Graph → List Bool
 no_marks graph = replicate (length graph.nodes.items) false
 
--- what a dry run lists: the nodes in the graph's own order, in which again and again the least one is passed whose
+-- what a dry run has to tell: the nodes in the graph's own order, in which again and again the least one is passed whose
 -- counted prerequisites were passed
-abbrev pub IsListing : (keeping : Bool) (graph : Graph) (listed : List (List Line)) → Type 0
+abbrev pub IsListing : (keeping : Bool) (graph : Graph) (listed : List Passage) → Type 0
 IsListing keeping graph listed = Lists keeping graph (no_marks graph) graph.order.items listed
+
+-- some recipe is listed
+abbrev pub lists_any : List Passage → Bool
+lists_any listed = list_any is_listed listed
+
+-- a dry run lists no recipe
+abbrev pub ListsNone : (keeping : Bool) (graph : Graph) → Type 0
+ListsNone keeping graph = (listed : List Passage) × IsListing keeping graph listed × (lists_any listed ≡ false)
 
 -- the fault that ends the listing: that of the first node with one in this order; want of memory says nothing of the nodes
 abbrev pub IsListingFault : (keeping : Bool) (graph : Graph) → MacroFault → Type 0
@@ -47,9 +60,31 @@ printed_line line = if is_blank_text line.text then [] else line.text ++ 10 ∷ 
 abbrev pub printed : List Line → List ℕ
 printed lines = flat_map printed_line lines
 
--- the text of a listing
-abbrev pub listing_text : List (List Line) → List ℕ
-listing_text listed = flat_map printed listed
+-- lines, each with a newline
+abbrev pub text_of : List (List ℕ) → List ℕ
+text_of lines = flat_map (λ line. line ++ 10 ∷ []) lines
+
+-- the recipe of a listed target, where recipes are printed
+abbrev pub recipe_text : (recipes : Bool) → Passage → List ℕ
+recipe_text true (to_make target why commands lines) = printed lines
+recipe_text true (finished target) = []
+recipe_text false passage = []
+
+-- the recipe that passing a node listed, where recipes are printed
+abbrev pub recipe_in : (recipes : Bool) → Passed → List ℕ
+recipe_in true (passed.Listed why lines) = printed lines.items
+recipe_in true passed.Remade = []
+recipe_in true passed.UpToDate = []
+recipe_in true passed.Left = []
+recipe_in false p = []
+
+-- what is printed of a target: so much of why it is made, and then its recipe
+abbrev pub passage_text : Telling → (recipes : Bool) → Passage → List ℕ
+passage_text telling recipes passage = text_of (lines_about telling passage) ++ recipe_text recipes passage
+
+-- the text of a listing, where so much is told of why targets are made, and recipes are printed or not
+abbrev pub listing_text : Telling → (recipes : Bool) → List Passage → List ℕ
+listing_text telling recipes listed = flat_map (passage_text telling recipes) listed
 
 -- the graph's order has each node once and no other number, and behind all nodes that its counted row names
 pub record PassesEach (graph : Graph) : Type 0 where

@@ -1,11 +1,11 @@
 -- A dry run from the makefile's text to the listing: each stage is that of its crate.
-use Rattle.std.specs.Prelude.{◌≡◌, ℕ, ℤ, Bool, true, false, not, List, Option, Ok}
+use Rattle.std.specs.Prelude.{◌≡◌, ℕ, ℤ, Bool, true, false, List, Option, Ok}
 use Rattle.std.specs.FinMap as map
 use Rattle.mk_macros.specs.Ranks.{ranks_at}
 use Rattle.mk_eval.specs.Makefile.{AnswersOf, TextItems, depth}
-use Rattle.mk_reader.specs.Text.{is_empty}
 use Rattle.mk_reader.specs.declared.item.Item.{Item}
-use Rattle.mk_recipe.specs.declared.line.Line.{Line}
+use Rattle.mk_plan.specs.Passage.{Passage}
+use Rattle.mk_plan.specs.declared.telling.Telling.{Telling}
 use Rattle.mk_rules.specs.Faults.{AreInputs}
 use Rattle.mk_rules.specs.Graph.{IsGraph}
 use Rattle.mk_rule_lines.specs.Lines.{behind_items}
@@ -18,7 +18,7 @@ use Rattle.st_recovery.specs.Recovers.{Recovers}
 use Rattle.dmk_drive.specs.Definitions.{first_defined}
 use Rattle.dmk_drive.specs.Keeping.{keeps}
 use Rattle.dmk_drive.specs.Makefile.{IsMakefile}
-use Rattle.dmk_drive.specs.Passing.{IsListing, listing_text}
+use Rattle.dmk_drive.specs.Passing.{IsListing, listing_text, lists_any}
 use Rattle.dmk_drive.specs.declared.planning.DryRun.{DryRun}
 use Rattle.bd_lists.specs.declared.recipe.Variable.{Variable}
 
@@ -48,30 +48,30 @@ pub record IsGraphOf (definitions environment : List Variable) (targets : List (
   pub is_graph : IsGraph inputs targets graph
   pub macros : ranks_at graph.macros ≡ behind_items (first_defined definitions environment) items
 
--- a dry run of these items lists these recipes, where the disk is honest by a state that its sides recover; `dropped`
+-- a dry run of these items has this to tell, where the disk is honest by a state that its sides recover; `dropped`
 -- says that soft edges make a cycle and don't count
 pub record IsPlanned (definitions environment : List Variable) (targets : List (List ℕ)) (times : List ℕ → Option ℤ)
     (disk_honest : Type 0) (seen : Which → List ℕ) (items : List Item)
-    (listed : List (List Line)) (dropped : Bool) : Type 0 where
+    (plan : List Passage) (dropped : Bool) : Type 0 where
   pub state : StateMap
   pub is_state : IsStateOn (keeps environment items) disk_honest seen state
   pub graph : Graph
   pub is_graph : IsGraphOf definitions environment targets times items state graph
-  pub lists : IsListing (keeps environment items) graph listed
+  pub lists : IsListing (keeps environment items) graph plan
   pub soft : dropped ≡ graph.soft_dropped
 
--- what is told of a dry run: the text of the recipes that it lists, and whether it lists any
+-- what is told of a dry run: the text of what it lists, as much as is wanted, and whether it lists a recipe
 pub record Tells (definitions environment : List Variable) (targets : List (List ℕ)) (times : List ℕ → Option ℤ)
-    (disk_honest : Type 0) (seen : Which → List ℕ) (items : List Item) (run : DryRun) : Type 0 where
-  pub listed : List (List Line)
-  pub planned : IsPlanned definitions environment targets times disk_honest seen items listed run.soft_dropped
-  pub text : run.text.items ≡ listing_text listed
-  pub any : run.lists_any ≡ not (is_empty listed)
+    (disk_honest : Type 0) (seen : Which → List ℕ) (items : List Item) (telling : Telling) (recipes : Bool) (run : DryRun) : Type 0 where
+  pub plan : List Passage
+  pub planned : IsPlanned definitions environment targets times disk_honest seen items plan run.soft_dropped
+  pub text : run.text.items ≡ listing_text telling recipes plan
+  pub any : run.lists_any ≡ lists_any plan
 
--- the recipes that a dry run lists, for the makefile that is found by these files and times, and whether soft edges make a
+-- what a dry run has to tell, for the makefile that is found by these files and times, and whether soft edges make a
 -- cycle
 pub record Plans (files : List ℕ → Option (List ℕ)) (times : List ℕ → Option ℤ) (named : Option (List ℕ))
-    (definitions environment : List Variable) (targets : List (List ℕ)) (disk_honest : Type 0) (seen : Which → List ℕ) (listed : List (List Line)) (dropped : Bool) : Type 0 where
+    (definitions environment : List Variable) (targets : List (List ℕ)) (disk_honest : Type 0) (seen : Which → List ℕ) (plan : List Passage) (dropped : Bool) : Type 0 where
   pub items : List Item
   pub are_items : AreItems files times named items
-  pub planned : IsPlanned definitions environment targets times disk_honest seen items listed dropped
+  pub planned : IsPlanned definitions environment targets times disk_honest seen items plan dropped

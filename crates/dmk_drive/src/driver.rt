@@ -1,24 +1,23 @@
 //! The program over handed-in parts.
-ghost use Rattle.std.specs.Prelude.{◌≡◌, ◌≢◌, ◌⊎◌, ℕ, ℤ, Bool, true, false, not, List, Option, codes, option_copied, IfOk, IfErr, IsOk, IsErr};
+ghost use Rattle.std.specs.Prelude.{◌≡◌, ◌≢◌, ◌⊎◌, ◌&&◌, ℕ, ℤ, Bool, true, false, not, List, Option, codes, option_copied, IfOk, IfErr, IsOk, IsErr};
 ghost use Rattle.std.specs.Io.KnownBytes.{Appends, Keeps};
-ghost use Rattle.mk_reader.specs.Text.{is_empty};
-ghost use Rattle.mk_recipe.specs.declared.line.Line.{Line as RecipeText};
+ghost use Rattle.mk_plan.specs.Passage.{Passage};
+ghost use Rattle.mk_plan.specs.declared.telling.Telling.TheVariants as tellings;
 ghost use Rattle.st_disk.specs.Faults.{Rises};
 ghost use Rattle.st_file.specs.declared.fault.OpenFault.TheVariants as open_faults;
 ghost use Rattle.dmk_drive.specs.Faults.{IsFaultOf};
 ghost use Rattle.dmk_drive.specs.Keeping.{value_in};
 ghost use Rattle.dmk_drive.specs.Messages.{SaysFault, SaysNote, SaysCut};
 ghost use Rattle.dmk_drive.specs.Output.{AppendsPart, AsksForListing, AsksToLook, CutsListing, TellsFault, question_status};
-ghost use Rattle.dmk_drive.specs.Passing.{listing_text};
+ghost use Rattle.dmk_drive.specs.Passing.{listing_text, lists_any};
 ghost use Rattle.dmk_drive.specs.Planned.{Plans};
 ghost use Rattle.dmk_drive.specs.declared.fault.Fault.TheVariants as faults;
-ghost use Rattle.dmk_drive.specs.declared.options.Mode.TheVariants as modes;
 
 use crate::fault::Fault;
-use crate::keeping::value_of;
 use crate::messages::Message;
-use crate::options::{Mode, Options};
+use crate::options::Options;
 use crate::output::{print_fault, print_note, write_text};
+use crate::passing::Shows;
 use crate::planning::{DryRun, Given, dry_run};
 use bd_lists::Variable;
 use byte_strings::ByteString;
@@ -59,7 +58,7 @@ fn say_dropped<E: Write>(dropped: bool, err: &mut E) -> bool
 
 /// What a question is answered with: 1 where some recipe is listed, and else 0.
 fn question_status(run: &DryRun) -> u8
-    ensures status { (listed : List (List RecipeText)) → run.now.lists_any ≡ not (is_empty listed) → result ≡ question_status listed }
+    ensures status { (plan : List Passage) → run.now.lists_any ≡ lists_any plan → result ≡ question_status plan }
     ensures one { (result ≡ 0) ⊎ (result ≡ 1) }
 {
     if run.lists_any { 1 } else { 0 }
@@ -105,70 +104,84 @@ fn print_listing<O: Write, E: Write>(state: &str, run: &DryRun, out: &mut O, err
     }
 }
 
+/// Prints why the listed targets are made, where that is asked for, and answers the question.
+fn answer<O: Write, E: Write>(state: &str, run: &DryRun, out: &mut O, err: &mut E) -> Reply
+    ensures whole { result.status ≢ 2 → Appends (O.contents out.old) (O.contents out.new) run.now.text.items }
+    ensures asked { result.status ≢ 2 → (plan : List Passage) → run.now.lists_any ≡ lists_any plan → result.status ≡ question_status plan }
+    ensures quiet { result.status ≢ 2 → err.new ≡ err.old }
+    ensures part { result.status ≡ 2 → AppendsPart (O.contents out.old) (O.contents out.new) run.now.text.items }
+    ensures cut { result.status ≡ 2 → SaysCut (E.contents err.old) (E.contents err.new) result.is_told false }
+    ensures status { (result.status ≡ 0) ⊎ ((result.status ≡ 1) ⊎ (result.status ≡ 2)) }
+{
+    match write_text(run.text.as_slice(), out) {
+        Ok(()) => Reply {
+            status: question_status(run),
+            is_told: true,
+        },
+        Err(fault) => refuse(state, fault, err),
+    }
+}
+
 /// Prints what a dry run lists, or answers the question.
-fn answer<O: Write, E: Write>(
-    mode: Mode,
+fn answer_or_list<O: Write, E: Write>(
+    asks: bool,
     state: &str,
     run: &DryRun,
     out: &mut O,
     err: &mut E,
 ) -> Reply
-    ensures listed { mode ≢ modes.Question → result.status ≡ 0 → Appends (O.contents out.old) (O.contents out.new) run.now.text.items }
-    ensures noted { mode ≢ modes.Question → result.status ≡ 0
+    ensures whole { result.status ≢ 2 → Appends (O.contents out.old) (O.contents out.new) run.now.text.items }
+    ensures noted { asks ≡ false → result.status ≡ 0
         → SaysNote (E.contents err.old) (E.contents err.new) result.is_told run.now.soft_dropped }
-    ensures asked { mode ≡ modes.Question → result.status ≢ 2 → (listed : List (List RecipeText))
-        → run.now.lists_any ≡ not (is_empty listed) → result.status ≡ question_status listed }
-    ensures silent { mode ≡ modes.Question → Keeps (O.contents out.old) (O.contents out.new) }
-    ensures quiet { mode ≡ modes.Question → result.status ≢ 2 → err.new ≡ err.old }
+    ensures asked { asks ≡ true → result.status ≢ 2 → (plan : List Passage)
+        → run.now.lists_any ≡ lists_any plan → result.status ≡ question_status plan }
+    ensures quiet { asks ≡ true → result.status ≢ 2 → err.new ≡ err.old }
     ensures note { result.status ≡ 0 → run.now.soft_dropped ≡ false → err.new ≡ err.old }
     ensures part { result.status ≡ 2 → AppendsPart (O.contents out.old) (O.contents out.new) run.now.text.items }
-    ensures cut { result.status ≡ 2 → SaysCut (E.contents err.old) (E.contents err.new) result.is_told run.now.soft_dropped }
-    ensures status { (result.status ≡ 0) ⊎ (((result.status ≡ 1) × (mode ≡ modes.Question)) ⊎ (result.status ≡ 2)) }
+    ensures cut { result.status ≡ 2
+        → SaysCut (E.contents err.old) (E.contents err.new) result.is_told (run.now.soft_dropped && not asks) }
+    ensures status { (result.status ≡ 0) ⊎ (((result.status ≡ 1) × (asks ≡ true)) ⊎ (result.status ≡ 2)) }
 {
-    if matches!(mode, Mode::Question) {
-        return Reply {
-            status: question_status(run),
-            is_told: true,
-        };
+    if asks {
+        answer(state, run, out, err)
+    } else {
+        print_listing(state, run, out, err)
     }
-    print_listing(state, run, out, err)
 }
 
 /// Says what was found of a dry run.
 fn say<O: Write, E: Write>(
-    mode: Mode,
+    asks: bool,
     state: &str,
     found: Result<DryRun, Fault>,
     out: &mut O,
     err: &mut E,
 ) -> Reply
-    ensures listed { mode ≢ modes.Question → result.status ≡ 0
-        → IfOk found (λ run. Appends (O.contents out.old) (O.contents out.new) run.text.items) }
-    ensures noted { mode ≢ modes.Question → result.status ≡ 0
+    ensures whole { result.status ≢ 2 → IfOk found (λ run. Appends (O.contents out.old) (O.contents out.new) run.text.items) }
+    ensures noted { asks ≡ false → result.status ≡ 0
         → IfOk found (λ run. SaysNote (E.contents err.old) (E.contents err.new) result.is_told run.soft_dropped) }
     ensures found { result.status ≢ 2 → IsOk found }
-    ensures asked { mode ≡ modes.Question → result.status ≢ 2 → IfOk found (λ run. (listed : List (List RecipeText))
-        → run.lists_any ≡ not (is_empty listed) → result.status ≡ question_status listed) }
-    ensures silent { mode ≡ modes.Question → Keeps (O.contents out.old) (O.contents out.new) }
-    ensures quiet { mode ≡ modes.Question → result.status ≢ 2 → err.new ≡ err.old }
+    ensures asked { asks ≡ true → result.status ≢ 2 → IfOk found (λ run. (plan : List Passage)
+        → run.lists_any ≡ lists_any plan → result.status ≡ question_status plan) }
+    ensures quiet { asks ≡ true → result.status ≢ 2 → err.new ≡ err.old }
     ensures note { result.status ≡ 0 → IfOk found (λ run. run.soft_dropped ≡ false → err.new ≡ err.old) }
     ensures refused { IsErr found → (result.status ≡ 2) × Keeps (O.contents out.old) (O.contents out.new) }
     ensures told { IfErr found (λ fault. result.is_told ≡ true → SaysFault (E.contents err.old) (E.contents err.new) fault) }
     ensures part { result.status ≡ 2 → IfOk found (λ run. AppendsPart (O.contents out.old) (O.contents out.new) run.text.items) }
     ensures cut { result.status ≡ 2
-        → IfOk found (λ run. SaysCut (E.contents err.old) (E.contents err.new) result.is_told run.soft_dropped) }
-    ensures status { (result.status ≡ 0) ⊎ (((result.status ≡ 1) × (mode ≡ modes.Question)) ⊎ (result.status ≡ 2)) }
+        → IfOk found (λ run. SaysCut (E.contents err.old) (E.contents err.new) result.is_told (run.soft_dropped && not asks)) }
+    ensures status { (result.status ≡ 0) ⊎ (((result.status ≡ 1) × (asks ≡ true)) ⊎ (result.status ≡ 2)) }
 {
     match found {
-        Ok(run) => answer(mode, state, &run, out, err),
+        Ok(run) => answer_or_list(asks, state, &run, out, err),
         Err(fault) => refuse(state, fault, err),
     }
 }
 
 /// Runs the program: answers, and hands the disk back, which was only read.
 ///
-/// `-n` prints the lines of all recipes that a run would come to, in an order in which it might. `-q` prints nothing and
-/// answers 1 where there are any.
+/// `-n` prints the lines of all recipes that a run would come to, in an order in which it might. `-q` prints none and
+/// answers 1 where there are any. Both tell of each target why it is made, as much as is wanted.
 pub fn drive<T: Tree, I: Includes, D: Disk, O: Write, E: Write>(
     alloc: Global,
     key: HashKey,
@@ -187,17 +200,18 @@ pub fn drive<T: Tree, I: Includes, D: Disk, O: Write, E: Write>(
     // said, and that where soft edges are dropped.
     ensures listed { AsksForListing options environment.now → result.0.status ≡ 0
         → (files : List ℕ → Option (List ℕ)) (times : List ℕ → Option ℤ) → I.allows includes.new files → T.allows tree.new times
-        → (plan : List (List RecipeText)) × (dropped : Bool)
+        → (plan : List Passage) × (dropped : Bool)
         × Plans files times options.makefile options.definitions.items environment.now options.targets D.honest (D.seen disk) plan dropped
-        × Appends (O.contents out.old) (O.contents out.new) (listing_text plan) × (dropped ≡ false → err.new ≡ err.old)
+        × Appends (O.contents out.old) (O.contents out.new) (listing_text options.telling true plan) × (dropped ≡ false → err.new ≡ err.old)
         × SaysNote (E.contents err.old) (E.contents err.new) result.0.is_told dropped }
-    // The question is answered by the plan, and nothing is printed.
+    // The question is answered by the plan, and no recipe is printed: nothing is, unless it is asked why targets are made.
     ensures asked { options.asks ≡ true → result.0.status ≢ 2
         → (files : List ℕ → Option (List ℕ)) (times : List ℕ → Option ℤ) → I.allows includes.new files → T.allows tree.new times
-        → (plan : List (List RecipeText)) × (dropped : Bool)
+        → (plan : List Passage) × (dropped : Bool)
         × Plans files times options.makefile options.definitions.items environment.now options.targets D.honest (D.seen disk) plan dropped
-        × (result.0.status ≡ question_status plan) }
-    ensures silent { options.asks ≡ true → Keeps (O.contents out.old) (O.contents out.new) }
+        × (result.0.status ≡ question_status plan)
+        × Appends (O.contents out.old) (O.contents out.new) (listing_text options.telling false plan) }
+    ensures silent { options.asks ≡ true → options.telling ≡ tellings.Nothing → Keeps (O.contents out.old) (O.contents out.new) }
     ensures quiet { options.asks ≡ true → result.0.status ≢ 2 → err.new ≡ err.old }
 
     // At status 2 a fault of the run is told, of which a device's is a call of the disk that failed; or a listing is cut short.
@@ -208,7 +222,7 @@ pub fn drive<T: Tree, I: Includes, D: Disk, O: Write, E: Write>(
         × (fault ≡ faults.State open_faults.Device → Rises (D.faults disk) (D.faults result.1)))
         result.0.is_told (O.contents out.old) (O.contents out.new) (E.contents err.old) (E.contents err.new)
         ⊎ CutsListing (Plans files times options.makefile options.definitions.items environment.now options.targets D.honest (D.seen disk))
-        result.0.is_told (O.contents out.old) (O.contents out.new) (E.contents err.old) (E.contents err.new) }
+        options.telling options.asks result.0.is_told (O.contents out.old) (O.contents out.new) (E.contents err.old) (E.contents err.new) }
     ensures status { (result.0.status ≡ 0) ⊎ (((result.0.status ≡ 1) × (options.asks ≡ true)) ⊎ (result.0.status ≡ 2)) }
 
     // What reads give and what a crash may leave is what it was.
@@ -216,10 +230,11 @@ pub fn drive<T: Tree, I: Includes, D: Disk, O: Write, E: Write>(
     ensures moments { D.honest → D.moments result.1 ≡ D.moments disk }
 {
     let mut disk = disk;
-    let mode = options.mode(value_of(environment, b"MAKEFLAGS"));
     let Options {
         makefile,
         state,
+        asks,
+        telling,
         definitions,
         targets,
         ..
@@ -229,8 +244,12 @@ pub fn drive<T: Tree, I: Includes, D: Disk, O: Write, E: Write>(
         makefile: named,
         definitions: &definitions,
         environment,
+        shows: Shows {
+            telling,
+            recipes: !asks,
+        },
     };
     let found = dry_run(alloc, key, given, targets, tree, includes, &mut disk);
-    let reply = say(mode, state.as_str(), found, out, err);
+    let reply = say(asks, state.as_str(), found, out, err);
     (reply, disk)
 }

@@ -9,7 +9,7 @@ ghost use Rattle.mk_rules.specs.Prerequisites.{Inputs};
 ghost use Rattle.mk_rules.specs.declared.graph.Graph.{Graph};
 ghost use Rattle.mk_rule_lines.specs.declared.rule_line.RuleLine.{RuleLine};
 ghost use Rattle.dmk_drive.specs.Keeping.{is_keep_item};
-ghost use Rattle.mk_recipe.specs.declared.line.Line.{Line};
+ghost use Rattle.mk_plan.specs.Passage.{Passage};
 ghost use Rattle.dmk_drive.specs.Passing.{Lists, PassesEach};
 ghost use Rattle.dmk_drive.specs.Planned.{AreItems, Plans};
 ghost use Rattle.st_disk.specs.declared.which.Which.{Which};
@@ -36,7 +36,7 @@ pub fn plan_of_the_graph()
 
 /// A plan has one listing, whichever nodes were remade before it.
 pub fn one_listing()
-    ensures { (keeping : Bool) (graph : Graph) (marks : List Bool) (order : List ℕ) (a b : List (List Line))
+    ensures { (keeping : Bool) (graph : Graph) (marks : List Bool) (order : List ℕ) (a b : List Passage)
         → Lists keeping graph marks order a → Lists keeping graph marks order b → a ≡ b }
 {}
 
@@ -44,7 +44,7 @@ pub fn one_listing()
 /// Where state is kept, that is where the disk keeps its model.
 pub fn one_plan<D: Disk>()
     ensures { (files : List ℕ → Option (List ℕ)) (times : List ℕ → Option ℤ) (named : Option (List ℕ)) (definitions environment : List Variable)
-        (targets : List (List ℕ)) (seen : Which → List ℕ) (a b : List (List Line)) (d e : Bool) → D.honest
+        (targets : List (List ℕ)) (seen : Which → List ℕ) (a b : List Passage) (d e : Bool) → D.honest
         → Plans files times named definitions environment targets D.honest seen a d
         → Plans files times named definitions environment targets D.honest seen b e
         → (a ≡ b) × (d ≡ e) }

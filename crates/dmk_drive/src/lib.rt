@@ -32,7 +32,8 @@ pub use laws::{
 };
 pub use makefile::items_of;
 pub use messages::{Message, SOFT_EDGES_NOTE};
+pub use mk_plan::Telling;
 pub use options::{MAX_WORKERS, Mode, Options};
 pub use output::{print_fault, print_note};
-pub use passing::unlisted;
+pub use passing::{Shows, unlisted};
 pub use planning::{DryRun, Given, dry_run};

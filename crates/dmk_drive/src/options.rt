@@ -5,6 +5,7 @@ ghost use Rattle.dmk_drive.specs.Output.{AsksFor, mode_of};
 use bd_lists::Variable;
 use byte_strings::{ByteString, ByteStrings};
 use jb_auth::dry;
+use mk_plan::Telling;
 
 /// The most workers that `-j` may ask for.
 pub const MAX_WORKERS: u16 = 256;
@@ -26,8 +27,10 @@ pub struct Options {
     pub is_silent: bool,
     /// The statuses of all lines are ignored.
     pub ignores_statuses: bool,
-    /// Nothing is printed; the status says whether a target is out of date.
+    /// No recipe is printed; the status says whether a target is out of date.
     pub asks: bool,
+    /// How much is told of why targets are made.
+    pub telling: Telling,
     pub definitions: Vec<Variable>,
     pub targets: ByteStrings,
 }

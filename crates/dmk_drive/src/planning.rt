@@ -1,11 +1,10 @@
 //! From a makefile to what is listed, stage by stage. The first stage that has a fault ends it.
-ghost use Rattle.std.specs.Prelude.{◌≡◌, ◌⊎◌, ℕ, ℤ, true, not, List, Option, length, nat_lt, IfOk, IfErr, IsErrOf, option_copied};
+ghost use Rattle.std.specs.Prelude.{◌≡◌, ◌⊎◌, ℕ, ℤ, true, List, Option, length, nat_lt, IfOk, IfErr, IsErrOf, option_copied};
 ghost use Rattle.std.specs.FinMap as finmap;
 ghost use Rattle.std.specs.List.{list_all};
 ghost use Rattle.mk_macros.specs.declared.fault.MacroFault.{MacroFault as ExpansionFault};
-ghost use Rattle.mk_reader.specs.Text.{is_empty};
 ghost use Rattle.mk_reader.specs.declared.item.Item.{Item as MakefileItem};
-ghost use Rattle.mk_recipe.specs.declared.line.Line.{Line as RecipeText};
+ghost use Rattle.mk_plan.specs.Passage.{Passage};
 ghost use Rattle.mk_rules.specs.Faults.{IsRuleFault};
 ghost use Rattle.mk_rules.specs.declared.graph.TheConstants.{MAX_NODES};
 ghost use Rattle.mk_rule_lines.specs.declared.fault.RuleFault.{RuleFault as RulesFault};
@@ -15,7 +14,7 @@ ghost use Rattle.st_disk.specs.Faults.{Rises};
 ghost use Rattle.st_state.specs.State.{StateMap};
 ghost use Rattle.st_file.specs.declared.fault.OpenFault.{OpenFault as StateFault};
 ghost use Rattle.st_file.specs.declared.fault.OpenFault.TheVariants as open_faults;
-ghost use Rattle.dmk_drive.specs.Passing.{IsListing, IsListingFault, listing_text};
+ghost use Rattle.dmk_drive.specs.Passing.{IsListing, IsListingFault, listing_text, lists_any};
 ghost use Rattle.dmk_drive.specs.Planned.{AreItems, IsStateOn, IsGraphOf, Tells};
 ghost use Rattle.dmk_drive.specs.Faults.{IsOpenFault, IsTextFault, IsPlanFault, IsRunFault};
 ghost use Rattle.dmk_drive.specs.declared.fault.Fault.TheVariants as faults;
@@ -24,7 +23,7 @@ use crate::definitions::first_macros;
 use crate::fault::Fault;
 use crate::keeping::keeps_state;
 use crate::makefile::items_of;
-use crate::passing::{Listing, listing_of};
+use crate::passing::{Listing, Shows, listing_of};
 use crate::recovered::state_of;
 use bd_lists::Variable;
 use byte_strings::ByteStrings;
@@ -43,12 +42,14 @@ pub struct Given<'m, 'a> {
     pub makefile: Option<&'m [u8]>,
     pub definitions: &'a [Variable],
     pub environment: &'a [Variable],
+    /// What of the listing is printed.
+    pub shows: Shows,
 }
 
 /// What a dry run comes to.
 #[derive(Drop)]
 pub struct DryRun {
-    /// The lines of the recipes that are listed.
+    /// What of the listing is printed.
     pub text: Vec<u8>,
     /// Some recipe is listed, if only one of blank lines.
     pub lists_any: bool,
@@ -81,14 +82,14 @@ fn graph_of<T: Tree>(
 }
 
 /// What the graph lists.
-fn listed(alloc: Global, keeping: bool, graph: Graph) -> Result<DryRun, Fault>
+fn listed(alloc: Global, keeping: bool, shows: Shows, graph: Graph) -> Result<DryRun, Fault>
     requires { list_all (λ n. nat_lt n (length graph.nodes.items)) graph.order.items ≡ true }
-    ensures listing { IfOk result (λ run. (listed : List (List RecipeText)) × IsListing keeping graph listed
-        × (run.text.items ≡ listing_text listed) × (run.lists_any ≡ not (is_empty listed))) }
+    ensures listing { IfOk result (λ run. (plan : List Passage) × IsListing keeping graph plan
+        × (run.text.items ≡ listing_text shows.telling shows.recipes plan) × (run.lists_any ≡ lists_any plan)) }
     ensures dropped { IfOk result (λ run. run.soft_dropped ≡ graph.soft_dropped) }
     ensures fault { IfErr result (λ fault. (f : ExpansionFault) × (fault ≡ faults.Recipe f) × IsListingFault keeping graph f) }
 {
-    match listing_of(alloc, keeping, &graph) {
+    match listing_of(alloc, keeping, shows, &graph) {
         Ok(Listing { text, lists_any }) => Ok(DryRun {
             text,
             lists_any,
@@ -156,7 +157,8 @@ fn plan_items<T: Tree, D: Disk>(
     items: Vec<Item>,
 ) -> Result<DryRun, Fault>
     ensures tells { IfOk result (λ run. (times : List ℕ → Option ℤ) → T.allows tree.new times
-        → Tells given.entry.definitions.now given.entry.environment.now targets times D.honest (D.seen disk.old) items.items run) }
+        → Tells given.entry.definitions.now given.entry.environment.now targets times D.honest (D.seen disk.old) items.items
+        given.entry.shows.telling given.entry.shows.recipes run) }
     ensures fault { IfErr result (λ fault. (times : List ℕ → Option ℤ) → T.allows tree.new times
         → IsPlanFault given.entry.definitions.now given.entry.environment.now targets times (T.refuses tree.new) D.honest (D.seen disk.old)
         items.items fault) }
@@ -167,7 +169,7 @@ fn plan_items<T: Tree, D: Disk>(
 {
     let keeping = keeps_state(given.environment, &items);
     let graph = kept_graph(alloc, key, keeping, given, targets, tree, disk, items)?;
-    listed(alloc, keeping, graph)
+    listed(alloc, keeping, given.shows, graph)
 }
 
 /// What a run would build. It only reads.
@@ -184,7 +186,8 @@ pub fn dry_run<T: Tree, I: Includes, D: Disk>(
 ) -> Result<DryRun, Fault>
     ensures tells { IfOk result (λ run. (files : List ℕ → Option (List ℕ)) (times : List ℕ → Option ℤ) → I.allows includes.new files → T.allows tree.new times
         → (items : List MakefileItem) × AreItems files times (option_copied given.entry.makefile) items
-        × Tells given.entry.definitions.now given.entry.environment.now targets times D.honest (D.seen disk.old) items run) }
+        × Tells given.entry.definitions.now given.entry.environment.now targets times D.honest (D.seen disk.old) items
+        given.entry.shows.telling given.entry.shows.recipes run) }
     ensures fault { IfErr result (λ fault. (files : List ℕ → Option (List ℕ)) (times : List ℕ → Option ℤ) → I.allows includes.new files → T.allows tree.new times
         → IsRunFault (IsTextFault files times (T.refuses tree.new) (option_copied given.entry.makefile))
         (AreItems files times (option_copied given.entry.makefile))

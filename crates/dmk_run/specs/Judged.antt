@@ -1,10 +1,10 @@
 -- What bears out that a run answers 0. Own.
-use Rattle.std.specs.Prelude.{◌≡◌, ◌⊎◌, ℕ, Bool, true, false, List, [], map, Some, slice_get}
+use Rattle.std.specs.Prelude.{◌≡◌, ◌⊎◌, ℕ, Bool, true, false, List, map, Some, slice_get}
 use Rattle.mk_rules.specs.declared.graph.Graph.{Graph}
-use Rattle.mk_plan.specs.Passing.{Passes}
+use Rattle.mk_plan.specs.Passing.{PassesUnlisted}
 use Rattle.bd_places.specs.declared.end.End.{End}
 use Rattle.bd_places.specs.declared.end.End.TheVariants as end
-use Rattle.dmk_drive.specs.Passing.{IsListing}
+use Rattle.dmk_drive.specs.Passing.{ListsNone}
 
 -- whether a node that ended so counts as remade
 abbrev pub counts_as_remade : End → Bool
@@ -16,8 +16,8 @@ counts_as_remade end.Abandoned = false
 
 -- a node that wasn't built is passed with nothing to be run, and counts as it ended; of another one nothing is said
 abbrev pub IsJudged : (keeping : Bool) → Graph → (remade : List Bool) → (node : ℕ) → End → Type 0
-IsJudged keeping graph remade node end.UpToDate = Passes keeping graph remade node false []
-IsJudged keeping graph remade node end.Remade = Passes keeping graph remade node true []
+IsJudged keeping graph remade node end.UpToDate = PassesUnlisted keeping graph remade node false
+IsJudged keeping graph remade node end.Remade = PassesUnlisted keeping graph remade node true
 IsJudged keeping graph remade node _ = Unit {0}
 
 -- so is each node, where those are remade that ended so
@@ -27,4 +27,4 @@ AreJudged keeping graph ends =
 
 -- a dry run lists no recipe, or each node that wasn't built is judged
 abbrev pub IsBorneOut : (keeping : Bool) → Graph → (ends : List End) → Type 0
-IsBorneOut keeping graph ends = IsListing keeping graph [] ⊎ AreJudged keeping graph ends
+IsBorneOut keeping graph ends = ListsNone keeping graph ⊎ AreJudged keeping graph ends

@@ -170,7 +170,7 @@ where
     if store.is_dead() {
         return dead(store);
     }
-    if let Some(report) = report_of_none(alloc, conduct.keeps_state, graph, store.state()) {
+    if let Some(report) = report_of_none(alloc, &conduct, graph, store.state(), means.say) {
         return Built {
             found: Ok(report),
             store,

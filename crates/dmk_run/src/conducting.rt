@@ -6,6 +6,7 @@ ghost use Rattle.jb_recipe.specs.declared.variables.Makeflags.TheVariants as fla
 use bd_lists::Variable;
 use byte_strings::ByteString;
 use jb_recipe::{Conduct, Makeflags};
+use mk_plan::Telling;
 use mk_rule_lines::Settings;
 use std::alloc::{AllocError, Global};
 
@@ -18,6 +19,8 @@ pub struct Wishes {
     pub goes_on: bool,
     pub is_silent: bool,
     pub ignores_statuses: bool,
+    /// How much is told of why targets are made.
+    pub telling: Telling,
 }
 
 impl Wishes {
@@ -44,6 +47,7 @@ impl Wishes {
         ensures goes_on { IfOk result (λ c. c.goes_on ≡ self.now.goes_on) }
         ensures ignores { IfOk result (λ c. c.ignores_statuses ≡ self.now.ignores_statuses || settings.now.ignores_statuses) }
         ensures silent { IfOk result (λ c. c.prints_no_lines ≡ self.now.is_silent || settings.now.prints_no_lines) }
+        ensures telling { IfOk result (λ c. c.telling ≡ self.now.telling) }
         ensures definitions { IfOk result (λ c. c.definitions ≡ definitions) }
         ensures flags { IfOk result (λ c. c.makeflags ≡ flags.Removed) }
     {
@@ -52,6 +56,7 @@ impl Wishes {
             goes_on: self.goes_on,
             ignores_statuses: self.ignores_statuses || settings.ignores_statuses,
             prints_no_lines: self.is_silent || settings.prints_no_lines,
+            telling: self.telling,
             definitions,
             makeflags: Makeflags::Removed,
             state_name: ByteString::from_slice(alloc, self.state.as_bytes())?,

@@ -255,7 +255,8 @@ fn found_status<R: Wait, O: Write + Drop, W: Write + Drop>(
     }
 }
 
-/// The status of what was found, and 2 where not all that was to be printed went out, which is told last.
+/// The status of what was found, and 2 where not all that was to be printed went out, which is told last. Before it stands which
+/// targets failed.
 fn status_of<R: Wait, O: Write + Drop, W: Write + Drop>(
     printer: &Printer<'_, R, O, W>,
     state: &str,
@@ -265,6 +266,7 @@ fn status_of<R: Wait, O: Write + Drop, W: Write + Drop>(
     ensures status { result ≤ 2 }
     ensures report { result ≢ 2 → found ≡ Ok result }
 {
+    printer.repeat_failures();
     let status = found_status(printer, state, found);
     if printer.is_whole() {
         return status;
@@ -327,6 +329,7 @@ where
         goes_on,
         is_silent,
         ignores_statuses,
+        telling,
         definitions,
         targets,
         ..
@@ -337,6 +340,7 @@ where
         goes_on,
         is_silent,
         ignores_statuses,
+        telling,
     };
     let goals = Goals {
         definitions,

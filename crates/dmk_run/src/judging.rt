@@ -1,11 +1,11 @@
 //! Whether the ends of a run are borne out: each node that wasn't built is judged again, by how the others ended.
-ghost use Rattle.std.specs.Prelude.{◌≡◌, ◌<◌, true, [], length, map, IfOk};
-ghost use Rattle.mk_plan.specs.Passing.{Passes};
+ghost use Rattle.std.specs.Prelude.{◌≡◌, ◌<◌, true, length, map, IfOk};
+ghost use Rattle.mk_plan.specs.Passing.{PassesUnlisted};
 ghost use Rattle.dmk_run.specs.Judged.{counts_as_remade, IsJudged, AreJudged};
 
 use bd_places::End;
 use mk_macros::MacroFault;
-use mk_plan::{Passed, pass};
+use mk_plan::pass;
 use mk_rules::Graph;
 use std::alloc::{AllocError, Global};
 
@@ -35,12 +35,10 @@ fn passes_so(
     remade: bool,
 ) -> Result<bool, AllocError>
     requires { node < length graph.now.nodes.items }
-    ensures { IfOk result (λ yes. yes ≡ true → Passes keeping graph.now marks.now node remade []) }
+    ensures { IfOk result (λ yes. yes ≡ true → PassesUnlisted keeping graph.now marks.now node remade) }
 {
     match pass(alloc, keeping, graph, marks, node) {
-        Ok(Passed::Listed(_)) => Ok(false),
-        Ok(Passed::Remade) => Ok(remade),
-        Ok(Passed::UpToDate) => Ok(!remade),
+        Ok(passed) => Ok(!passed.is_listed() && passed.is_remade() == remade),
         Err(MacroFault::OutOfMemory) => Err(AllocError),
         Err(_) => Ok(false),
     }

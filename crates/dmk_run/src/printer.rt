@@ -5,6 +5,7 @@ use bd_lists::Ended;
 use dmk_drive::{Message, print_fault, print_note};
 use jb_closing::RunFault;
 use jb_recipe::{News, NotDone, Say};
+use std::alloc::Global;
 use std::io::{self, Write};
 use std::sync::{Mutex, Wait};
 
@@ -21,6 +22,10 @@ struct Streams<O: Write + Drop, E: Write + Drop> {
     err: E,
     /// All that was to go out on `out` did.
     is_whole: bool,
+    /// The lines that say which targets failed, as they were told.
+    failures: Vec<u8>,
+    /// Something was printed behind the first of them.
+    has_more: bool,
 }
 
 fn write_line<O: Write>(out: &mut O, text: &[u8]) -> io::Result<()> {
@@ -64,18 +69,10 @@ fn write_not_done<E: Write>(err: &mut E, target: &[u8], not_done: &NotDone) {
     let _ = writeln!(err, ": {not_done}");
 }
 
-fn write_news<E: Write>(err: &mut E, news: News<'_>) {
+// The line that says that a target isn't made, if this is such news.
+fn write_failure<E: Write>(err: &mut E, news: News<'_>) {
     match news {
-        News::Failed {
-            target,
-            status,
-            not_done,
-        } => {
-            write_failed(err, target, status);
-            if let Some(not_done) = not_done {
-                write_not_done(err, target, not_done);
-            }
-        }
+        News::Failed { target, status, .. } => write_failed(err, target, status),
         News::NotRecorded { target } => {
             write_of_target(err, target);
             let _ = writeln!(err, " cannot be recorded");
@@ -83,6 +80,30 @@ fn write_news<E: Write>(err: &mut E, news: News<'_>) {
         News::NotExpanded { fault } => {
             let _ = writeln!(err, "dmk: {fault}");
         }
+        _ => {}
+    }
+}
+
+fn is_failure(news: News<'_>) -> bool {
+    matches!(
+        news,
+        News::Failed { .. } | News::NotRecorded { .. } | News::NotExpanded { .. }
+    )
+}
+
+fn write_news<E: Write>(err: &mut E, news: News<'_>) {
+    match news {
+        News::Failed {
+            target,
+            not_done,
+            ..
+        } => {
+            write_failure(err, news);
+            if let Some(not_done) = not_done {
+                write_not_done(err, target, not_done);
+            }
+        }
+        News::NotRecorded { .. } | News::NotExpanded { .. } => write_failure(err, news),
         News::SlotsUnused => {
             let _ = writeln!(err, "dmk: note: jobserver not used: one slot");
         }
@@ -98,14 +119,47 @@ fn write_news<E: Write>(err: &mut E, news: News<'_>) {
     }
 }
 
+// Whether what the lines of a recipe wrote is more than nothing.
+fn has_output(ended: &[Ended]) -> bool {
+    ended.iter().any(|one| !one.out.as_slice().is_empty() || !one.err.as_slice().is_empty())
+}
+
+impl<O: Write + Drop, E: Write + Drop> Streams<O, E> {
+    /// Something else than a failure is printed.
+    fn go_on(&mut self) {
+        self.has_more = self.has_more || !self.failures.is_empty();
+    }
+
+    /// Tells news. That a target failed is kept for the end of the run, as far as there is memory.
+    fn tell(&mut self, news: News<'_>) {
+        write_news(&mut self.err, news);
+        if is_failure(news) {
+            write_failure(&mut self.failures, news);
+        } else {
+            self.go_on();
+        }
+        let _ = self.err.flush();
+    }
+
+    /// Says once more which targets failed, unless that stands last.
+    fn repeat_failures(&mut self) {
+        if self.has_more {
+            let _ = self.err.write_all(&self.failures);
+            let _ = self.err.flush();
+        }
+    }
+}
+
 impl<'a, R: Wait, O: Write + Drop, E: Write + Drop> Printer<'a, R, O, E> {
-    pub fn new(rt: &'a R, out: O, err: E) -> Printer<'a, R, O, E> {
+    pub fn new(rt: &'a R, alloc: Global, out: O, err: E) -> Printer<'a, R, O, E> {
         Printer {
             rt,
             streams: Mutex::new(Streams {
                 out,
                 err,
                 is_whole: true,
+                failures: Vec::new(alloc),
+                has_more: false,
             }),
         }
     }
@@ -117,8 +171,15 @@ impl<'a, R: Wait, O: Write + Drop, E: Write + Drop> Printer<'a, R, O, E> {
             out,
             err,
             is_whole: _,
+            failures: _,
+            has_more: _,
         } = streams.into_inner();
         (out, err)
+    }
+
+    /// Says once more which targets failed, where other lines stand behind that.
+    pub fn repeat_failures(&self) {
+        self.streams.lock(self.rt).repeat_failures();
     }
 
     /// Whether all lines and blocks went out.
@@ -173,6 +234,7 @@ impl<'a, R: Wait, O: Write + Drop, E: Write + Drop> Printer<'a, R, O, E> {
 impl<R: Wait, O: Write + Drop, E: Write + Drop> Say for Printer<'_, R, O, E> {
     fn line(&self, text: &[u8]) {
         let mut streams = self.streams.lock(self.rt);
+        streams.go_on();
         if write_line(&mut streams.out, text).is_err() {
             streams.is_whole = false;
         }
@@ -180,6 +242,9 @@ impl<R: Wait, O: Write + Drop, E: Write + Drop> Say for Printer<'_, R, O, E> {
 
     fn block(&self, ended: &[Ended]) {
         let mut streams = self.streams.lock(self.rt);
+        if has_output(ended) {
+            streams.go_on();
+        }
         if write_out(&mut streams.out, ended).is_err() {
             streams.is_whole = false;
         }
@@ -187,8 +252,6 @@ impl<R: Wait, O: Write + Drop, E: Write + Drop> Say for Printer<'_, R, O, E> {
     }
 
     fn tell(&self, news: News<'_>) {
-        let mut streams = self.streams.lock(self.rt);
-        write_news(&mut streams.err, news);
-        let _ = streams.err.flush();
+        self.streams.lock(self.rt).tell(news);
     }
 }

@@ -5,6 +5,7 @@ ghost use Rattle.jb_recipe.specs.Environment.{report_path};
 use crate::Makeflags;
 use bd_lists::Variable;
 use byte_strings::ByteString;
+use mk_plan::Telling;
 use std::alloc::{AllocError, Global};
 
 /// What the words of the command line, the makefile and the environment say of a whole run.
@@ -18,6 +19,8 @@ pub struct Conduct {
     pub ignores_statuses: bool,
     /// No lines are printed.
     pub prints_no_lines: bool,
+    /// How much is told of why targets are made.
+    pub telling: Telling,
     /// The definitions of the command line, as they were written.
     pub definitions: Vec<Variable>,
     pub makeflags: Makeflags,

@@ -3,6 +3,8 @@ ghost use Rattle.std.specs.Prelude.{◌≡◌, ◌≤◌, ◌<◌, ◌↔◌, le
 ghost use Rattle.mk_graph.specs.Numbering.{name_at};
 ghost use Rattle.mk_recipe.specs.Line.{Records};
 ghost use Rattle.mk_plan.specs.Nodes.{explicit_of};
+ghost use Rattle.mk_plan.specs.Passage.{to_make, commands_of};
+ghost use Rattle.mk_plan.specs.Telling.{lines_about};
 ghost use Rattle.st_records.specs.Limits.{IsGood, IsWithin, SaysExplicit};
 ghost use Rattle.st_records.specs.Parts.{status_of};
 ghost use Rattle.st_records.specs.declared.version.Version.TheVariants.{Two};
@@ -15,7 +17,7 @@ use crate::silence::as_run;
 use crate::{Conduct, environment};
 use bd_lists::{Recipe, Variable};
 use byte_strings::{ByteString, ByteStrings};
-use mk_plan::explicit_of;
+use mk_plan::{Why, explicit_of, why_lines};
 use mk_recipe::{Line, recorded};
 use mk_rules::Graph;
 use st_records::{Explicit, Record};
@@ -40,10 +42,12 @@ pub(crate) fn writable(note: Record) -> Option<Record>
     if is_writable(&note) { Some(note) } else { None }
 }
 
-/// What is needed to make a target: its recipe, the record that goes first, what a 'done' will say beside the hidden names, and
-/// where its report goes.
+/// What is needed to make a target: why it is made, its recipe, the record that goes first, what a 'done' will say beside the hidden
+/// names, and where its report goes.
 #[derive(Drop)]
 pub struct Plan {
+    /// The lines that say why it is made, as many as are wanted.
+    pub told: ByteStrings,
     pub begun: Record,
     pub recipe: Recipe,
     pub commands: ByteStrings,
@@ -155,15 +159,18 @@ fn surroundings(
 }
 
 impl Plan {
-    /// The plan of a node; None where its 'begun', or a 'done' without hidden names, may not stand in the state.
+    /// The plan of a node that is made for this reason; None where its 'begun', or a 'done' without hidden names, may not stand in the state.
     pub fn of(
         alloc: Global,
         graph: &Graph,
         conduct: &Conduct,
         number: usize,
+        why: &Why,
         lines: Vec<Line>,
     ) -> Result<Option<Plan>, AllocError>
         requires { number < length graph.now.nodes.items }
+        ensures told { IfOk result (λ plan. IfSome plan (λ p. p.told ≡ lines_about conduct.now.telling
+            (to_make (name_at graph.now.names number) why.now (commands_of graph.now number) lines.items))) }
         ensures target { IfOk result (λ plan. IfSome plan (λ p. p.recipe.target ≡ name_at graph.now.names number)) }
         ensures lines { IfOk result (λ plan. IfSome plan (λ p. p.recipe.lines.items
             ≡ as_run conduct.now.prints_no_lines lines.items)) }
@@ -176,6 +183,7 @@ impl Plan {
             conduct.now.makeflags p.report (name_at graph.now.names number))) }
         ensures ignore { IfOk result (λ plan. IfSome plan (λ p. p.recipe.ignore ≡ conduct.now.ignores_statuses)) }
     {
+        let told = why_lines(alloc, conduct.telling, graph, number, why, &lines)?;
         let noted = Noted::of(alloc, graph, number, &lines)?;
         let Some(begun) = noted.begun(alloc)? else {
             return Ok(None);
@@ -188,6 +196,7 @@ impl Plan {
             ignore: conduct.ignores_statuses,
         };
         Ok(Some(Plan {
+            told,
             begun,
             recipe,
             commands: noted.commands,

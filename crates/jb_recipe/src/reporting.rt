@@ -38,8 +38,8 @@ pub struct Last {
 }
 
 impl Plan {
-    /// The 'begun', the recipe that it clears, and what the record of its end will say.
-    pub fn apart(self, alloc: Global) -> Result<(Record, Recipe, EndNote), AllocError>
+    /// The 'begun', the recipe that it clears, what the record of its end will say, and the lines that say why it is run.
+    pub fn apart(self, alloc: Global) -> Result<(Record, Recipe, EndNote, ByteStrings), AllocError>
         ensures good { IfOk result (λ p. IsGood Two p.0) }
         ensures own { IfOk result (λ p. p.0 ≡ records.Begun p.1.target) }
         ensures recipe { IfOk result (λ p. p.1 ≡ self.recipe) }
@@ -50,6 +50,7 @@ impl Plan {
           known = self.known;
           report = self.report;
         }) }
+        ensures told { IfOk result (λ p. p.3 ≡ self.told) }
     {
         let target = self.recipe.target.copy(alloc)?;
         let note = EndNote {
@@ -59,7 +60,7 @@ impl Plan {
             known: self.known,
             report: self.report,
         };
-        Ok((self.begun, self.recipe, note))
+        Ok((self.begun, self.recipe, note, self.told))
     }
 }
 

@@ -36,7 +36,7 @@ pub enum News<'a> {
 
 /// What prints. It is called while no lock of the run is held, by several threads, so it takes a lock of its own.
 pub trait Say {
-    /// A line of a recipe, without its prefixes, that is about to be run.
+    /// A line of a recipe, without its prefixes, that is about to be run; or one that says why the recipe is.
     fn line(&self, text: &[u8]);
 
     /// All that the lines of a recipe wrote, as one block: on standard output what they wrote there, in their order, and on

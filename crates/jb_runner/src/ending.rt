@@ -142,10 +142,11 @@ impl<D: Disk + Drop, E: Exec<Receipt>, S: Say, P: Place> Shop<'_, D, E, S, P> {
         bank: &mut B,
         shift: &mut Shift,
     ) -> Result<(), RunFault> {
-        let (begun, recipe, note) = plan.apart(alloc)?;
+        let (begun, recipe, note, told) = plan.apart(alloc)?;
         match self.begin(rt, alloc, node, begun, shift) {
             Ok(Begun::Cleared(clearance)) => {
                 note.remove_report(self.place);
+                self.say_lines(&told);
                 let ran = self.run_with_slot(rt, alloc, clearance, recipe, bank);
                 if self.complain(rt, bank) {
                     shift.worsen(2);

@@ -7,11 +7,12 @@ use bd_flusher::Receipt;
 use bd_links::Node;
 use bd_lists::{Board, Exec};
 use bd_places::End;
+use byte_strings::ByteStrings;
 use jb_closing::RunFault;
 use jb_recipe::{News, Place, Plan, Say};
 use jb_slots::Bank;
 use mk_macros::MacroFault;
-use mk_plan::{Passed, pass};
+use mk_plan::{Passed, Why, pass, told_lines};
 use mk_recipe::Line;
 use st_disk::Disk;
 use std::alloc::Global;
@@ -106,10 +107,29 @@ impl<D: Disk + Drop, E: Exec<Receipt>, S: Say, P: Place> Shop<'_, D, E, S, P> {
         requires { node < length self.now.graph.now.nodes.items }
     {
         match passed {
-            Passed::UpToDate => self.settle(rt, node, End::UpToDate),
+            Passed::UpToDate => return self.finish(rt, alloc, node),
+            Passed::Left => self.settle(rt, node, End::UpToDate),
             Passed::Remade => self.settle(rt, node, End::Remade),
-            Passed::Listed(lines) => return self.build(rt, alloc, node, lines, bank, shift),
+            Passed::Listed(why, lines) => {
+                return self.build(rt, alloc, node, &why, lines, bank, shift);
+            }
         }
+        Ok(())
+    }
+
+    /// Says lines that tell of a target.
+    pub(crate) fn say_lines(&self, told: &ByteStrings) {
+        for line in told.iter() {
+            self.say.line(line);
+        }
+    }
+
+    // A target that has a recipe and is up to date.
+    fn finish<R: Wait>(&self, rt: &R, alloc: Global, node: Node) -> Result<(), RunFault> {
+        let telling = self.conduct.telling;
+        let told = told_lines(alloc, telling, self.graph, node.number(), &Passed::UpToDate)?;
+        self.say_lines(&told);
+        self.settle(rt, node, End::UpToDate);
         Ok(())
     }
 
@@ -136,6 +156,7 @@ impl<D: Disk + Drop, E: Exec<Receipt>, S: Say, P: Place> Shop<'_, D, E, S, P> {
         rt: &R,
         alloc: Global,
         node: Node,
+        why: &Why,
         lines: Vec<Line>,
         bank: &mut B,
         shift: &mut Shift,
@@ -143,7 +164,8 @@ impl<D: Disk + Drop, E: Exec<Receipt>, S: Say, P: Place> Shop<'_, D, E, S, P> {
         requires { node < length self.now.graph.now.nodes.items }
     {
         shift.make_room()?;
-        let Some(plan) = Plan::of(alloc, self.graph, self.conduct, node.number(), lines)? else {
+        let Some(plan) = Plan::of(alloc, self.graph, self.conduct, node.number(), why, lines)?
+        else {
             self.not_recorded(rt, node, shift);
             return Ok(());
         };

@@ -1,22 +1,30 @@
 -- Graphs that say the same of each number pass their nodes in the same way.
 use mathlib.Core.Path.{fun_ext}
-use Rattle.std.specs.Prelude.{IsTrue}
+use Rattle.std.specs.Prelude.{IsTrue, codes, encode_utf8_all}
 use Rattle.std.specs.List.{Any}
+use Rattle.std.specs.Option.{option_map_or}
 use Rattle.std.proofs.Common.{◌≡◌, ◌∙◌, ◌⊎◌, ℕ, ℤ, Bool, true, false, not, List, [], ◌∷◌, ◌++◌, map, Option, Some, None, refl, sym, ap, subst}
+use Rattle.bstr.specs.Utf8.{lossy_chars}
 use Rattle.mk_graph.specs.Edges.{row}
-use Rattle.mk_graph.specs.Numbering.{name_at}
+use Rattle.mk_graph.specs.Numbering.{all_added, name_at}
 use Rattle.mk_macros.specs.Ranks.{ranks_at, meaning_of}
 use Rattle.mk_macros.specs.declared.dynamic.Dynamic.TheVariants as dynamic
 use Rattle.mk_macros.specs.declared.dynamic.RecipeNames.{RecipeNames}
 use Rattle.mk_reader.specs.declared.item.RecipeLine.{RecipeLine}
 use Rattle.mk_recipe.specs.declared.line.Line.{Line}
-use Rattle.mk_verdict.specs.Verdict.{IsLater, IsOutOfDate}
+use Rattle.mk_verdict.specs.Verdict.{IsLater, IsFirstReason, IsOutOfDate}
+use Rattle.mk_verdict.specs.declared.verdict.Reason.{Reason}
 use Rattle.mk_verdict.specs.declared.verdict.Target.{Target}
+use Rattle.mk_rules.specs.Prerequisites.{distinct, hidden_in}
 use Rattle.mk_rules.specs.declared.graph.Graph.{Graph}
+use Rattle.st_records.specs.declared.record.Entry.{Entry}
 use Rattle.mk_plan.specs.Nodes.{stamp_of, entry_of, hidden_of, stem_of, source_of, explicit_of, recipe_of, is_marked, IsNewer, AreNewer, nothing, named, left_out, EndsRemade}
 use Rattle.mk_plan.specs.Recipe.{AreExpanded, AreNames, AreLinesOf}
 use Rattle.mk_plan.specs.Target.{Seen, seen_at, seen_hard, seen_of, IsTargetOf}
-use Rattle.mk_plan.specs.Passing.{Passes, is_listed, is_up_to_date, has_no_recipe, is_left}
+use Rattle.mk_plan.specs.Passage.{Passage, to_make, finished, commands_of}
+use Rattle.mk_plan.specs.Passing.{Passes, is_to_be_run, is_up_to_date, has_no_recipe, is_left}
+use Rattle.mk_plan.specs.Why.{IsWhy, judged_names, words_by, gone_number}
+use Rattle.mk_plan.specs.declared.why.Why.{Why}
 
 -- what a passing reads of a graph is the same of both
 pub record AreAlike (a b : Graph) : Type 0 where
@@ -115,15 +123,43 @@ module _ (a b : Graph) (same : AreAlike a b) (marks : List Bool) (n : ℕ) where
     ordered = is.ordered ∙ ap not same.dropped;
   }
 
+  -- ---- reasons, and what is told
+
+  names_in_both : judged_names a n ≡ judged_names b n
+  names_in_both =
+      ap (λ ns. all_added (distinct (map (name_at ns) (row a.hard n))) (hidden_in (entry_of a n))) same.names
+      ∙ ap (λ h. all_added (distinct (map (name_at b.names) (row h n))) (hidden_in (entry_of a n))) same.hard
+      ∙ ap (λ e. all_added (distinct (map (name_at b.names) (row b.hard n))) (hidden_in e)) (same.entry n)
+
+  words_in_both : (target : Target) (reason : Reason) (gone : Option ℕ) → words_by a n target reason gone ≡ words_by b n target reason gone
+  words_in_both target reason None = refl
+  words_in_both target reason (Some number) = ap (λ ns. codes "gone: " ++ encode_utf8_all (lossy_chars (name_at ns number))) names_in_both
+
+  why_in : (keeping : Bool) (target : Target) (why : Why) → IsWhy keeping a n target why → IsWhy keeping b n target why
+  why_in keeping target why is = record {
+    first = subst (λ e. IsFirstReason keeping e target why.reason) (same.entry n) is.first;
+    words = is.words ∙ words_in_both target why.reason (gone_number why.reason);
+  }
+
+  commands_in_both : commands_of a n ≡ commands_of b n
+  commands_in_both = ap (λ e. option_map_or (λ (entry : Entry). entry.commands) e []) (same.entry n)
+
+  told_in_both : (why : Why) (lines : List Line) →
+      to_make (name_at a.names n) why (commands_of a n) lines ≡ to_make (name_at b.names n) why (commands_of b n) lines
+  told_in_both why lines =
+      ap (λ ns. to_make (name_at ns n) why (commands_of a n) lines) same.names ∙ ap (λ cs. to_make (name_at b.names n) why cs lines) commands_in_both
+
 -- a node is passed in the one as in the other
-pub passes_in : (a b : Graph) → AreAlike a b → (keeping : Bool) (marks : List Bool) (n : ℕ) (remade : Bool) (listed : List (List Line)) →
-    Passes keeping a marks n remade listed → Passes keeping b marks n remade listed
-passes_in a b same keeping marks n _ _ (is_listed recipe lines target is_r are is_t out) =
-    is_listed recipe lines target (sym (same.recipe n) ∙ is_r) (lines_in a b same marks n recipe lines are) (target_in a b same marks n lines target is_t)
-    (subst (λ e. IsOutOfDate keeping e target) (same.entry n) out)
+pub passes_in : (a b : Graph) → AreAlike a b → (keeping : Bool) (marks : List Bool) (n : ℕ) (remade : Bool) (told : List Passage) →
+    Passes keeping a marks n remade told → Passes keeping b marks n remade told
+passes_in a b same keeping marks n _ _ (is_to_be_run recipe lines target why is_r are is_t is_w) =
+    subst (λ passage. Passes keeping b marks n true (passage ∷ [])) (sym (told_in_both a b same marks n why lines))
+    (is_to_be_run recipe lines target why (sym (same.recipe n) ∙ is_r) (lines_in a b same marks n recipe lines are)
+    (target_in a b same marks n lines target is_t) (why_in a b same marks n keeping target why is_w))
 passes_in a b same keeping marks n _ _ (is_up_to_date recipe lines target is_r are is_t up) =
-    is_up_to_date recipe lines target (sym (same.recipe n) ∙ is_r) (lines_in a b same marks n recipe lines are) (target_in a b same marks n lines target is_t)
-    (λ out. up (subst (λ e. IsOutOfDate keeping e target) (sym (same.entry n)) out))
+    subst (λ ns. Passes keeping b marks n false (finished (name_at ns n) ∷ [])) (sym same.names)
+    (is_up_to_date recipe lines target (sym (same.recipe n) ∙ is_r) (lines_in a b same marks n recipe lines are) (target_in a b same marks n lines target is_t)
+    (λ out. up (subst (λ e. IsOutOfDate keeping e target) (sym (same.entry n)) out)))
 passes_in a b same keeping marks n _ _ (has_no_recipe none ends) = has_no_recipe (sym (same.recipe n) ∙ none) (ends_in a b same marks n ends)
 passes_in a b same keeping marks n _ _ (is_left none stays) =
     is_left (sym (same.recipe n) ∙ none) (λ ends. stays (ends_in b a (turned a b same) marks n ends))

@@ -4,14 +4,15 @@ use Rattle.std.specs.Option.{option_map_or}
 use Rattle.std.proofs.Common.{◌≡◌, ◌∙◌, ◌<◌, ℕ, List, [], length, map, Option, Some, None, inl, inr, refl, sym, ap, arith}
 use Rattle.std.proofs.lemmas.Option.{slice_get_cases}
 use Rattle.mk_graph.specs.Edges.{row}
-use Rattle.mk_graph.specs.Numbering.{name_at}
+use Rattle.mk_graph.specs.Numbering.{all_added, name_at}
 use Rattle.mk_rules.specs.Graph.{IsNode, IsGraph, judged}
 use Rattle.mk_rules.specs.Node.{source_by, source_in, explicit_in}
-use Rattle.mk_rules.specs.Prerequisites.{Inputs, implicit_source, recipe_of as rule_of}
+use Rattle.mk_rules.specs.Prerequisites.{Inputs, implicit_source, recipe_of as rule_of, hard_of, hidden_in, distinct}
 use Rattle.mk_rules.specs.declared.graph.Node.{Node}
 use Rattle.mk_rules.specs.declared.graph.Graph.{Graph}
 use Rattle.mk_plan.specs.Known.{IsNodeOf}
 use Rattle.st_records.specs.declared.record.Entry.{Entry}
+use Rattle.mk_plan.specs.Nodes.{entry_of}
 
 or_map : {A B : Type 0} (f : A → B) (o : Option A) (d : B) → unwrap_or (option_map f o) d ≡ option_map_or f o d
 or_map f None d = refl
@@ -23,9 +24,11 @@ module _ (inputs : Inputs) (named : List (List ℕ)) (graph : Graph) (is : IsGra
       let name : List ℕ = name_at graph.names n in
       let hard : List ℕ = row graph.hard n in
       let known : IsNode inputs graph.names hard name node = is.node n node at in
+      let hard_is : map (name_at graph.names) hard ≡ hard_of inputs name = is.hard.1 n (omega (arith, is.nodes)) in
+      let entry_is : entry_of graph n ≡ inputs.entries name = ap (λ (f : List ℕ → Option Entry). f name) is.entries in
       record {
         stamp = ap (option_and_then (λ (m : Node). m.stamp)) at ∙ known.stamp;
-        entry = ap (λ (f : List ℕ → Option Entry). f name) is.entries;
+        entry = entry_is;
         stem =
             ap (λ o. unwrap_or (option_and_then (λ (m : Node). m.stem) o) []) at ∙ ap (λ o. unwrap_or o []) known.stem
             ∙ or_map (λ s. s.stem) (implicit_source inputs name) [];
@@ -37,7 +40,10 @@ module _ (inputs : Inputs) (named : List (List ℕ)) (graph : Graph) (is : IsGra
             ap (λ o. option_map (λ l. l.recipe) (option_and_then (slice_get graph.lines.items) (option_and_then (λ (m : Node). m.recipe) o))) at
             ∙ ap (λ o. option_map (λ l. l.recipe) (option_and_then (slice_get graph.lines.items) o)) known.recipe
             ∙ ap (λ lines. option_map (λ l. l.recipe) (option_and_then (slice_get lines) (rule_of inputs name))) is.lines;
-        hard = is.hard.1 n (omega (arith, is.nodes));
+        hard = hard_is;
+        names =
+            ap (λ hs. all_added (distinct hs) (hidden_in (entry_of graph n))) hard_is
+            ∙ ap (λ e. all_added (distinct (hard_of inputs name)) (hidden_in e)) entry_is;
         explicit = ap (λ o. map (name_at graph.names) (explicit_in o hard)) at ∙ known.explicit;
         prerequisites =
             ap (λ o. map (option_map (name_at graph.names)) (judged hard (option_map_or (λ (m : Node). m.hidden.items) o []))) at

@@ -5,3 +5,4 @@ pub mod PassingLemmas
 pub mod SameLemmas
 pub mod AlikeLemmas
 pub mod OneNodeLemmas
+pub mod TellingLemmas

@@ -1,8 +1,9 @@
 -- What a verdict says of a node that is passed.
-use Rattle.std.proofs.Common.{◌≡◌, ◌∙◌, ℕ, Bool, true, false, List, [], ◌∷◌, Option, Some, None, sym, subst}
+use Rattle.std.proofs.Common.{◌≡◌, ◌∙◌, ℕ, Bool, true, false, List, [], ◌∷◌, Option, Some, None, Result, Ok, Err, IfOk, sym, subst}
+use Rattle.mk_graph.specs.Numbering.{name_at}
 use Rattle.mk_reader.specs.declared.item.RecipeLine.{RecipeLine}
 use Rattle.mk_recipe.specs.declared.line.Line.{Line}
-use Rattle.mk_verdict.specs.Verdict.{IsVerdict, IsFirstReason}
+use Rattle.mk_verdict.specs.Verdict.{IsVerdict, IsFirstReason, IsOutOfDate}
 use Rattle.mk_verdict.specs.declared.verdict.Target.{Target}
 use Rattle.mk_verdict.specs.declared.verdict.Reason.{Reason}
 use Rattle.mk_verdict.specs.declared.verdict.Verdict.{Verdict}
@@ -10,36 +11,51 @@ use Rattle.mk_verdict.specs.declared.verdict.Verdict.TheVariants.{UpToDate, OutO
 use Rattle.mk_rules.specs.declared.graph.Graph.{Graph}
 use Rattle.st_records.specs.declared.record.Entry.{Entry}
 use Rattle.mk_plan.specs.Nodes.{recipe_of, entry_of}
+use Rattle.mk_plan.specs.Passage.{to_make, finished, commands_of}
 use Rattle.mk_plan.specs.Tests.{ends_remade}
 use Rattle.mk_plan.specs.Recipe.{AreLinesOf}
 use Rattle.mk_plan.specs.Target.{IsTargetOf}
-use Rattle.mk_plan.specs.Passing.{Passes, is_listed, is_up_to_date, has_no_recipe, is_left}
+use Rattle.mk_plan.specs.Passing.{Passes, is_to_be_run, is_up_to_date, has_no_recipe, is_left}
+use Rattle.mk_plan.specs.Why.{IsJudgedSo}
+use Rattle.mk_plan.specs.declared.why.Why.{Why}
 use Rattle.mk_plan.proofs.NodeLemmas.{ends_remade-decides}
 
--- a verdict by the entry and the target of a node is the node's
-pub judged : (keeping : Bool) (graph : Graph) (marks : List Bool) (n : ℕ) (lines : List Line) (entry : Option Entry) (target : Target) (verdict : Verdict) →
-    IsVerdict keeping entry target verdict → entry ≡ entry_of graph n → IsTargetOf graph marks n lines target →
-    (target : Target) × (IsTargetOf graph marks n lines target × IsVerdict keeping (entry_of graph n) target verdict)
-judged keeping graph marks n lines entry target verdict holds same is =
-    (target, (is, subst (λ e. IsVerdict keeping e target verdict) same holds))
+-- what a verdict says by the entry of a node
+module _ (keeping : Bool) (graph : Graph) (n : ℕ) (target : Target) (entry : Option Entry) (same : entry ≡ entry_of graph n)
+    (verdict : Verdict) (holds : IsVerdict keeping entry target verdict) where
+  of_node : IsVerdict keeping (entry_of graph n) target verdict
+  of_node = subst (λ e. IsVerdict keeping e target verdict) same holds
+
+  pub judged_up_to_date : verdict ≡ UpToDate → IsOutOfDate keeping (entry_of graph n) target → ⊥
+  judged_up_to_date is = subst (IsVerdict keeping (entry_of graph n) target) is of_node
+
+  pub judged_out_of_date : (reason : Reason) → verdict ≡ OutOfDate reason → IsFirstReason keeping (entry_of graph n) target reason
+  judged_out_of_date reason is = subst (IsVerdict keeping (entry_of graph n) target) is of_node
+
+-- a node is judged as its target
+pub judged_as : {E : Type 0} (keeping : Bool) (graph : Graph) (marks : List Bool) (n : ℕ) (lines : List Line) (target : Target) (got : Result (Option Why) E) →
+    IfOk got (IsJudgedSo keeping graph n target) → IsTargetOf graph marks n lines target →
+    IfOk got (λ why. (t : Target) × (IsTargetOf graph marks n lines t × IsJudgedSo keeping graph n t why))
+judged_as keeping graph marks n lines target (Ok why) judged is = (target, (is, judged))
+judged_as keeping graph marks n lines target (Err e) judged is = tt
 
 -- a node that is judged up to date is passed without being listed. It is judged by a reading of its lines
-pub passed_over : (keeping : Bool) (graph : Graph) (marks : List Bool) (n : ℕ) (recipe : List RecipeLine) (lines read : List Line) (verdict : Verdict) →
-    verdict ≡ UpToDate → recipe_of graph n ≡ Some recipe → AreLinesOf graph marks n recipe lines → read ≡ lines →
-    ((target : Target) × (IsTargetOf graph marks n read target × IsVerdict keeping (entry_of graph n) target verdict)) →
-    Passes keeping graph marks n false []
-passed_over keeping graph marks n recipe lines read verdict judged_so has are same (target, (is, holds)) =
+pub passed_over : (keeping : Bool) (graph : Graph) (marks : List Bool) (n : ℕ) (recipe : List RecipeLine) (lines read : List Line) (judged : Option Why) →
+    judged ≡ None → recipe_of graph n ≡ Some recipe → AreLinesOf graph marks n recipe lines → read ≡ lines →
+    ((target : Target) × (IsTargetOf graph marks n read target × IsJudgedSo keeping graph n target judged)) →
+    Passes keeping graph marks n false (finished (name_at graph.names n) ∷ [])
+passed_over keeping graph marks n recipe lines read judged none has are same (target, (is, holds)) =
     is_up_to_date recipe lines target has are (subst (λ ls. IsTargetOf graph marks n ls target) same is)
-    (subst (IsVerdict keeping (entry_of graph n) target) judged_so holds)
+    (subst (IsJudgedSo keeping graph n target) none holds)
 
--- one that is judged out of date is listed
-pub passed_listed : (keeping : Bool) (graph : Graph) (marks : List Bool) (n : ℕ) (recipe : List RecipeLine) (lines read : List Line) (verdict : Verdict) (reason : Reason) →
-    verdict ≡ OutOfDate reason → recipe_of graph n ≡ Some recipe → AreLinesOf graph marks n recipe lines → read ≡ lines →
-    ((target : Target) × (IsTargetOf graph marks n read target × IsVerdict keeping (entry_of graph n) target verdict)) →
-    Passes keeping graph marks n true (lines ∷ [])
-passed_listed keeping graph marks n recipe lines read verdict reason judged_so has are same (target, (is, holds)) =
-    let first : IsFirstReason keeping (entry_of graph n) target reason = subst (IsVerdict keeping (entry_of graph n) target) judged_so holds in
-    is_listed recipe lines target has are (subst (λ ls. IsTargetOf graph marks n ls target) same is) (reason, first.holds)
+-- one that is judged out of date is listed, with the reason
+pub passed_listed : (keeping : Bool) (graph : Graph) (marks : List Bool) (n : ℕ) (recipe : List RecipeLine) (lines read : List Line) (judged : Option Why) (why : Why) →
+    judged ≡ Some why → recipe_of graph n ≡ Some recipe → AreLinesOf graph marks n recipe lines → read ≡ lines →
+    ((target : Target) × (IsTargetOf graph marks n read target × IsJudgedSo keeping graph n target judged)) →
+    Passes keeping graph marks n true (to_make (name_at graph.names n) why (commands_of graph n) lines ∷ [])
+passed_listed keeping graph marks n recipe lines read judged why some has are same (target, (is, holds)) =
+    is_to_be_run recipe lines target why has are (subst (λ ls. IsTargetOf graph marks n ls target) same is)
+    (subst (IsJudgedSo keeping graph n target) some holds)
 
 -- one without a recipe counts as remade just where it was remade
 pub passed_bare : (keeping : Bool) (graph : Graph) (marks : List Bool) (n : ℕ) (remade : Bool) →

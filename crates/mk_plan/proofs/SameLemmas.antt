@@ -1,11 +1,13 @@
 -- What the state, the marks and the graph say of a node is one thing: its names, its lines, its target and how it is passed.
 use mathlib.Core.Path.{fun_ext}
-use Rattle.std.specs.Prelude.{◌↔◌, ◌==◌, IsTrue, IsSomeAnd, slice_get, option_map, if◌then◌else◌}
+use Rattle.std.specs.Prelude.{◌↔◌, ◌==◌, IsTrue, IsSomeAnd, slice_get, option_map, codes, encode_utf8_all, if◌then◌else◌}
 use Rattle.std.specs.List.{join_with_byte}
 use Rattle.std.specs.Str.{is_utf8}
-use Rattle.std.proofs.Common.{◌≡◌, ◌≢◌, ◌⊎◌, ◌∙◌, ℕ, Bool, true, false, List, [], ◌∷◌, map, Option, Some, None, refl, sym, ap, subst}
+use Rattle.std.proofs.Common.{◌≡◌, ◌≢◌, ◌⊎◌, ◌∙◌, ℕ, Bool, true, false, List, [], ◌∷◌, ◌++◌, map, Option, Some, None, refl, sym, ap, subst}
 use Rattle.std.proofs.lemmas.Option.{same_Some, slice_get-map}
+use Rattle.bstr.specs.Utf8.{lossy_chars}
 use Rattle.mk_graph.specs.Edges.{row}
+use Rattle.mk_graph.specs.Numbering.{name_at}
 use Rattle.mk_macros.specs.Words.{to_directory, to_file, changed_words}
 use Rattle.mk_macros.specs.Dynamic.{whole_value, recipe_value}
 use Rattle.mk_macros.specs.Expansion.{Meaning, gives}
@@ -16,17 +18,23 @@ use Rattle.mk_reader.specs.declared.item.RecipeLine.{RecipeLine}
 use Rattle.mk_recipe.specs.Line.{IsLine, IsExempt}
 use Rattle.mk_recipe.specs.declared.line.Line.{Line}
 use Rattle.mk_recipe.proofs.RecordedLemmas.{same_records}
-use Rattle.mk_verdict.specs.Verdict.{IsLater, NamesOthers, Holds, IsOutOfDate}
+use Rattle.mk_verdict.specs.Told.{name_in}
+use Rattle.mk_verdict.specs.Verdict.{IsLater, NamesOthers, Holds, IsFirstReason, IsOutOfDate}
 use Rattle.mk_verdict.specs.declared.verdict.Prerequisite.{Prerequisite}
 use Rattle.mk_verdict.specs.declared.verdict.Target.{Target}
 use Rattle.mk_verdict.specs.declared.verdict.Reason.{Reason}
 use Rattle.mk_verdict.specs.declared.verdict.Reason.TheVariants as reason
+use Rattle.mk_verdict.specs.declared.verdict.Verdict.TheVariants.{OutOfDate}
+use Rattle.mk_verdict.proofs.VerdictLemmas.{same_verdict}
 use Rattle.mk_rules.specs.declared.graph.Graph.{Graph}
 use Rattle.st_records.specs.declared.record.Entry.{Entry}
 use Rattle.mk_plan.specs.Nodes.{recipe_of, entry_of}
 use Rattle.mk_plan.specs.Recipe.{IsExpandedLine, AreExpanded, AreNames, recipe_meaning, AreLinesOf}
 use Rattle.mk_plan.specs.Target.{Seen, shown, IsTargetOf}
-use Rattle.mk_plan.specs.Passing.{Passes, is_listed, is_up_to_date, has_no_recipe, is_left}
+use Rattle.mk_plan.specs.Passage.{Passage, to_make, commands_of}
+use Rattle.mk_plan.specs.Passing.{Passes, is_to_be_run, is_up_to_date, has_no_recipe, is_left}
+use Rattle.mk_plan.specs.Why.{IsWhy, words_of}
+use Rattle.mk_plan.specs.declared.why.Why.{Why}
 use Rattle.mk_plan.proofs.NodeLemmas.{same_newer}
 
 -- ---- one meaning
@@ -147,14 +155,75 @@ module _ (keeping : Bool) (entry : Option Entry) (a b : Target) (commands : a.co
       subst (λ o. IsSomeAnd (slice_get b.prerequisites.now i) (λ p. IsTrue p.is_remade × (IsTrue p.is_hidden → IsTrue o))) ordered
       (prerequisite_alike (λ s. IsTrue s.is_remade × (IsTrue s.is_hidden → IsTrue a.orders_hidden)) a.prerequisites.now b.prerequisites.now i prerequisites h)
 
-out_of_date_alike : (keeping : Bool) (graph : Graph) (marks : List Bool) (n : ℕ) (lines : List Line) (a b : Target) →
-    IsTargetOf graph marks n lines a → IsTargetOf graph marks n lines b → IsOutOfDate keeping (entry_of graph n) a → IsOutOfDate keeping (entry_of graph n) b
-out_of_date_alike keeping graph marks n lines a b of_a of_b (r, holds) = (
-  r,
-  holds_alike keeping (entry_of graph n) a b (same_records lines a.commands.now b.commands.now of_a.commands of_b.commands)
-      (of_a.explicit ∙ sym of_b.explicit) (of_a.stamp ∙ sym of_b.stamp) (of_a.prerequisites ∙ sym of_b.prerequisites)
-      (of_a.ordered ∙ sym of_b.ordered) r holds,
-)
+shown_name : Option Seen → List ℕ
+shown_name None = []
+shown_name (Some s) = s.name
+
+by_shown : (o : Option Prerequisite) → name_in o ≡ shown_name (option_map shown o)
+unfolding shown_name
+by_shown None = refl
+by_shown (Some p) = refl
+
+name_alike : (ps qs : List Prerequisite) (i : ℕ) → map shown ps ≡ map shown qs → name_in (slice_get ps i) ≡ name_in (slice_get qs i)
+name_alike ps qs i same =
+    by_shown (slice_get ps i)
+    ∙ ap shown_name (sym (slice_get-map shown ps i) ∙ ap (λ xs. slice_get xs i) same ∙ slice_get-map shown qs i)
+    ∙ sym (by_shown (slice_get qs i))
+
+same_out_of_date : (r s : Reason) → OutOfDate r ≡ OutOfDate s → r ≡ s
+same_out_of_date r s same = cc
+
+same_why : (v w : Why) → v.reason ≡ w.reason → v.words ≡ w.words → v ≡ w
+same_why v w reasons words =
+    let first : v ≡ record v { reason = w.reason } = ap (λ r. record v { reason = r }) reasons in
+    let second : record v { reason = w.reason } ≡ w = ap (λ ws. record v { reason = w.reason; words = ws }) words in
+    first ∙ second
+
+-- ---- one reason
+
+module _ (keeping : Bool) (graph : Graph) (marks : List Bool) (n : ℕ) (lines : List Line) (a b : Target)
+    (of_a : IsTargetOf graph marks n lines a) (of_b : IsTargetOf graph marks n lines b) where
+  commands : a.commands.now ≡ b.commands.now
+  commands = same_records lines a.commands.now b.commands.now of_a.commands of_b.commands
+
+  prerequisites : map shown a.prerequisites.now ≡ map shown b.prerequisites.now
+  prerequisites = of_a.prerequisites ∙ sym of_b.prerequisites
+
+  there : (r : Reason) → Holds keeping (entry_of graph n) a r → Holds keeping (entry_of graph n) b r
+  there =
+      holds_alike keeping (entry_of graph n) a b commands (of_a.explicit ∙ sym of_b.explicit) (of_a.stamp ∙ sym of_b.stamp)
+      prerequisites (of_a.ordered ∙ sym of_b.ordered)
+
+  back : (r : Reason) → Holds keeping (entry_of graph n) b r → Holds keeping (entry_of graph n) a r
+  back =
+      holds_alike keeping (entry_of graph n) b a (sym commands) (of_b.explicit ∙ sym of_a.explicit) (of_b.stamp ∙ sym of_a.stamp)
+      (sym prerequisites) (of_b.ordered ∙ sym of_a.ordered)
+
+  out_of_date_alike : IsOutOfDate keeping (entry_of graph n) a → IsOutOfDate keeping (entry_of graph n) b
+  out_of_date_alike (r, holds) = (r, there r holds)
+
+  first_alike : (r : Reason) → IsFirstReason keeping (entry_of graph n) a r → IsFirstReason keeping (entry_of graph n) b r
+  first_alike r is = record { holds = there r is.holds; first = λ other holds. is.first other (back other holds) }
+
+  words_alike : (r : Reason) → words_of graph n a r ≡ words_of graph n b r
+  words_alike reason.NoEntry = refl
+  words_alike reason.WasBegun = refl
+  words_alike reason.WasFailed = refl
+  words_alike reason.CommandsChanged = refl
+  words_alike reason.PrerequisitesChanged = refl
+  words_alike reason.Absent = refl
+  words_alike (reason.Newer i) =
+      ap (λ name. codes "newer: " ++ encode_utf8_all (lossy_chars name)) (name_alike a.prerequisites.now b.prerequisites.now i prerequisites)
+  words_alike (reason.HiddenGone i) = refl
+  words_alike (reason.Remade i) =
+      ap (λ name. codes "remade: " ++ encode_utf8_all (lossy_chars name)) (name_alike a.prerequisites.now b.prerequisites.now i prerequisites)
+
+  why_alike : (v w : Why) → IsWhy keeping graph n a v → IsWhy keeping graph n b w → v ≡ w
+  why_alike v w is_v is_w =
+      let reasons : v.reason ≡ w.reason =
+      same_out_of_date v.reason w.reason
+      (same_verdict keeping (entry_of graph n) b (OutOfDate v.reason) (OutOfDate w.reason) (first_alike v.reason is_v.first) is_w.first) in
+      same_why v w reasons (is_v.words ∙ words_alike v.reason ∙ ap (words_of graph n b) reasons ∙ sym is_w.words)
 
 -- ---- one way to pass it
 
@@ -167,33 +236,41 @@ module _ (keeping : Bool) (graph : Graph) (marks : List Bool) (n : ℕ) where
   lines_of_recipes r s a b is_r is_s of_a of_b =
       lines_alike graph marks n s a b (subst (λ recipe. AreLinesOf graph marks n recipe a) (same_recipe r s is_r is_s) of_a) of_b
 
-  not_both : (r s : List RecipeLine) (a b : List Line) (t u : Target) → recipe_of graph n ≡ Some r → recipe_of graph n ≡ Some s →
+  same_listed : (a b : List Line) (t u : Target) (v w : Why) → a ≡ b → IsTargetOf graph marks n a t → IsTargetOf graph marks n b u →
+      IsWhy keeping graph n t v → IsWhy keeping graph n u w →
+      to_make (name_at graph.names n) v (commands_of graph n) a ∷ [] ≡ to_make (name_at graph.names n) w (commands_of graph n) b ∷ []
+  same_listed a b t u v w same is_t is_u is_v is_w =
+      let whys : v ≡ w = why_alike keeping graph marks n b t u (subst (λ ls. IsTargetOf graph marks n ls t) same is_t) is_u v w is_v is_w in
+      ap (λ ls. to_make (name_at graph.names n) v (commands_of graph n) ls ∷ []) same
+      ∙ ap (λ why. to_make (name_at graph.names n) why (commands_of graph n) b ∷ []) whys
+
+  not_both : (r s : List RecipeLine) (a b : List Line) (t u : Target) (v : Why) → recipe_of graph n ≡ Some r → recipe_of graph n ≡ Some s →
       AreLinesOf graph marks n r a → AreLinesOf graph marks n s b → IsTargetOf graph marks n a t → IsTargetOf graph marks n b u →
-      IsOutOfDate keeping (entry_of graph n) t → (IsOutOfDate keeping (entry_of graph n) u → ⊥) → ⊥
-  not_both r s a b t u is_r is_s of_a of_b is_t is_u out up =
+      IsWhy keeping graph n t v → (IsOutOfDate keeping (entry_of graph n) u → ⊥) → ⊥
+  not_both r s a b t u v is_r is_s of_a of_b is_t is_u is_v up =
       up (out_of_date_alike keeping graph marks n b t u
-      (subst (λ ls. IsTargetOf graph marks n ls t) (lines_of_recipes r s a b is_r is_s of_a of_b) is_t) is_u out)
+      (subst (λ ls. IsTargetOf graph marks n ls t) (lines_of_recipes r s a b is_r is_s of_a of_b) is_t) is_u (v.reason, is_v.first.holds))
 
   no_recipe : (r : List RecipeLine) → recipe_of graph n ≡ Some r → recipe_of graph n ≡ None → ⊥
   no_recipe r is none = let both : Some r ≡ None = sym is ∙ none in absurd cc
 
-  pub passes_once : (p q : Bool) (a b : List (List Line)) → Passes keeping graph marks n p a → Passes keeping graph marks n q b → (p ≡ q) × (a ≡ b)
-  passes_once p q a b (is_listed r ls t is_r of_ls is_t out) (is_listed s ms u is_s of_ms is_u out') =
-      (refl, ap (λ lines. lines ∷ []) (lines_of_recipes r s ls ms is_r is_s of_ls of_ms))
-  passes_once p q a b (is_listed r ls t is_r of_ls is_t out) (is_up_to_date s ms u is_s of_ms is_u up) =
-      absurd (not_both r s ls ms t u is_r is_s of_ls of_ms is_t is_u out up)
-  passes_once p q a b (is_listed r ls t is_r of_ls is_t out) (has_no_recipe none ends) = absurd (no_recipe r is_r none)
-  passes_once p q a b (is_listed r ls t is_r of_ls is_t out) (is_left none stays) = absurd (no_recipe r is_r none)
-  passes_once p q a b (is_up_to_date r ls t is_r of_ls is_t up) (is_listed s ms u is_s of_ms is_u out) =
-      absurd (not_both s r ms ls u t is_s is_r of_ms of_ls is_u is_t out up)
+  pub passes_once : (p q : Bool) (a b : List Passage) → Passes keeping graph marks n p a → Passes keeping graph marks n q b → (p ≡ q) × (a ≡ b)
+  passes_once p q a b (is_to_be_run r ls t v is_r of_ls is_t is_v) (is_to_be_run s ms u w is_s of_ms is_u is_w) =
+      (refl, same_listed ls ms t u v w (lines_of_recipes r s ls ms is_r is_s of_ls of_ms) is_t is_u is_v is_w)
+  passes_once p q a b (is_to_be_run r ls t v is_r of_ls is_t is_v) (is_up_to_date s ms u is_s of_ms is_u up) =
+      absurd (not_both r s ls ms t u v is_r is_s of_ls of_ms is_t is_u is_v up)
+  passes_once p q a b (is_to_be_run r ls t v is_r of_ls is_t is_v) (has_no_recipe none ends) = absurd (no_recipe r is_r none)
+  passes_once p q a b (is_to_be_run r ls t v is_r of_ls is_t is_v) (is_left none stays) = absurd (no_recipe r is_r none)
+  passes_once p q a b (is_up_to_date r ls t is_r of_ls is_t up) (is_to_be_run s ms u w is_s of_ms is_u is_w) =
+      absurd (not_both s r ms ls u t w is_s is_r of_ms of_ls is_u is_t is_w up)
   passes_once p q a b (is_up_to_date r ls t is_r of_ls is_t up) (is_up_to_date s ms u is_s of_ms is_u up') = (refl, refl)
   passes_once p q a b (is_up_to_date r ls t is_r of_ls is_t up) (has_no_recipe none ends) = absurd (no_recipe r is_r none)
   passes_once p q a b (is_up_to_date r ls t is_r of_ls is_t up) (is_left none stays) = absurd (no_recipe r is_r none)
-  passes_once p q a b (has_no_recipe none ends) (is_listed s ms u is_s of_ms is_u out) = absurd (no_recipe s is_s none)
+  passes_once p q a b (has_no_recipe none ends) (is_to_be_run s ms u w is_s of_ms is_u is_w) = absurd (no_recipe s is_s none)
   passes_once p q a b (has_no_recipe none ends) (is_up_to_date s ms u is_s of_ms is_u up) = absurd (no_recipe s is_s none)
   passes_once p q a b (has_no_recipe none ends) (has_no_recipe none' ends') = (refl, refl)
   passes_once p q a b (has_no_recipe none ends) (is_left none' stays) = absurd (stays ends)
-  passes_once p q a b (is_left none stays) (is_listed s ms u is_s of_ms is_u out) = absurd (no_recipe s is_s none)
+  passes_once p q a b (is_left none stays) (is_to_be_run s ms u w is_s of_ms is_u is_w) = absurd (no_recipe s is_s none)
   passes_once p q a b (is_left none stays) (is_up_to_date s ms u is_s of_ms is_u up) = absurd (no_recipe s is_s none)
   passes_once p q a b (is_left none stays) (has_no_recipe none' ends) = absurd (stays ends)
   passes_once p q a b (is_left none stays) (is_left none' stays') = (refl, refl)

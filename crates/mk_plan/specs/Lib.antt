@@ -1,6 +1,9 @@
 pub mod Known
 pub mod Nodes
+pub mod Passage
 pub mod Passing
 pub mod Recipe
 pub mod Target
+pub mod Telling
 pub mod Tests
+pub mod Why

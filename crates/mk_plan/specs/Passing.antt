@@ -1,6 +1,8 @@
 -- One node of a graph passed: whether its recipe is listed, and whether it counts as remade. Own; that a listed target counts
 -- as built is what make(1S) says of -n.
 use Rattle.std.specs.Prelude.{◌≡◌, ℕ, Bool, true, false, List, [], ◌∷◌, Some, None}
+use Rattle.std.specs.List.{list_any}
+use Rattle.mk_graph.specs.Numbering.{name_at}
 use Rattle.mk_macros.specs.declared.fault.MacroFault.{MacroFault}
 use Rattle.mk_macros.specs.declared.fault.MacroFault.TheVariants.{OutOfMemory}
 use Rattle.mk_reader.specs.declared.item.RecipeLine.{RecipeLine}
@@ -9,34 +11,45 @@ use Rattle.mk_verdict.specs.Verdict.{IsOutOfDate}
 use Rattle.mk_verdict.specs.declared.verdict.Target.{Target}
 use Rattle.mk_rules.specs.declared.graph.Graph.{Graph}
 use Rattle.mk_plan.specs.Nodes.{recipe_of, entry_of, EndsRemade}
+use Rattle.mk_plan.specs.Passage.{Passage, to_make, finished, is_listed, commands_of}
 use Rattle.mk_plan.specs.Recipe.{AreLinesOf, IsFaultOf}
 use Rattle.mk_plan.specs.Target.{IsTargetOf}
+use Rattle.mk_plan.specs.Why.{IsWhy}
+use Rattle.mk_plan.specs.declared.why.Why.{Why}
 use Rattle.mk_plan.specs.declared.passing.Passed.{Passed}
 use Rattle.mk_plan.specs.declared.passing.Passed.TheVariants as passed
 
 -- node n is passed, where the marks are those of the nodes that were remade before it: whether it counts as remade, and
--- the lines that are listed of it. A node with a recipe is listed where it is out of date, and then counts as remade; of one
--- without, nothing is listed
-pub data Passes (keeping : Bool) (graph : Graph) (marks : List Bool) (n : ℕ) : (remade : Bool) → (listed : List (List Line)) → Type 0 where
-  is_listed : (recipe : List RecipeLine) (lines : List Line) (target : Target) →
+-- what there is to tell of it. A node with a recipe is listed where it is out of date, with the reason of that verdict, and then
+-- counts as remade; of one without, nothing is told
+pub data Passes (keeping : Bool) (graph : Graph) (marks : List Bool) (n : ℕ) : (remade : Bool) → (told : List Passage) → Type 0 where
+  is_to_be_run : (recipe : List RecipeLine) (lines : List Line) (target : Target) (why : Why) →
       recipe_of graph n ≡ Some recipe → AreLinesOf graph marks n recipe lines → IsTargetOf graph marks n lines target →
-      IsOutOfDate keeping (entry_of graph n) target → Passes keeping graph marks n true (lines ∷ [])
+      IsWhy keeping graph n target why →
+      Passes keeping graph marks n true (to_make (name_at graph.names n) why (commands_of graph n) lines ∷ [])
   is_up_to_date : (recipe : List RecipeLine) (lines : List Line) (target : Target) →
       recipe_of graph n ≡ Some recipe → AreLinesOf graph marks n recipe lines → IsTargetOf graph marks n lines target →
-      (IsOutOfDate keeping (entry_of graph n) target → ⊥) → Passes keeping graph marks n false []
+      (IsOutOfDate keeping (entry_of graph n) target → ⊥) → Passes keeping graph marks n false (finished (name_at graph.names n) ∷ [])
   has_no_recipe : recipe_of graph n ≡ None → EndsRemade graph marks n → Passes keeping graph marks n true []
   is_left : recipe_of graph n ≡ None → (EndsRemade graph marks n → ⊥) → Passes keeping graph marks n false []
 
+-- it is passed, and no recipe is listed
+abbrev pub PassesUnlisted : (keeping : Bool) → Graph → (marks : List Bool) → (n : ℕ) → (remade : Bool) → Type 0
+PassesUnlisted keeping graph marks n remade =
+    (told : List Passage) × Passes keeping graph marks n remade told × (list_any is_listed told ≡ false)
+
 -- what passing a node came to, as `Passes` has it
 abbrev pub is_remade : Passed → Bool
-is_remade (passed.Listed lines) = true
+is_remade (passed.Listed why lines) = true
 is_remade passed.Remade = true
 is_remade passed.UpToDate = false
+is_remade passed.Left = false
 
-abbrev pub listed_in : Passed → List (List Line)
-listed_in (passed.Listed lines) = lines.items ∷ []
-listed_in passed.Remade = []
-listed_in passed.UpToDate = []
+abbrev pub told_in : Graph → (n : ℕ) → Passed → List Passage
+told_in graph n (passed.Listed why lines) = to_make (name_at graph.names n) why (commands_of graph n) lines.items ∷ []
+told_in graph n passed.Remade = []
+told_in graph n passed.UpToDate = finished (name_at graph.names n) ∷ []
+told_in graph n passed.Left = []
 
 -- the fault is that of the recipe of node n, where the marks are those of the nodes that were remade before it; want of
 -- memory says nothing of them

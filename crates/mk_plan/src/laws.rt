@@ -2,15 +2,15 @@
 ghost use Rattle.std.specs.Prelude.{◌≡◌, ◌<◌, ℕ, Bool, List, length};
 ghost use Rattle.mk_graph.specs.Numbering.{name_at};
 ghost use Rattle.mk_plan.specs.Known.{IsNodeOf};
+ghost use Rattle.mk_plan.specs.Passage.{Passage};
 ghost use Rattle.mk_plan.specs.Passing.{Passes};
-ghost use Rattle.mk_recipe.specs.declared.line.Line.{Line};
 ghost use Rattle.mk_rules.specs.Graph.{IsGraph};
 ghost use Rattle.mk_rules.specs.Prerequisites.{Inputs};
 ghost use Rattle.mk_rules.specs.declared.graph.Graph.{Graph};
 
-/// A node is passed in one way: whether it counts as remade, and what is listed of it, follow from the graph and the marks.
+/// A node is passed in one way: whether it counts as remade, and what is told of it, follow from the graph and the marks.
 pub fn one_passing()
-    ensures { (keeping : Bool) (graph : Graph) (marks : List Bool) (n : ℕ) (p q : Bool) (a b : List (List Line))
+    ensures { (keeping : Bool) (graph : Graph) (marks : List Bool) (n : ℕ) (p q : Bool) (a b : List Passage)
         → Passes keeping graph marks n p a → Passes keeping graph marks n q b → (p ≡ q) × (a ≡ b) }
 {}
 

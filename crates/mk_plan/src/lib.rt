@@ -7,7 +7,11 @@ mod nodes;
 mod passing;
 mod recipe;
 mod target;
+mod telling;
+mod why;
 
 pub use laws::{nodes_by_name, one_passing};
 pub use nodes::explicit_of;
 pub use passing::{Passed, pass};
+pub use telling::{Telling, told_lines, why_lines};
+pub use why::Why;

@@ -1,36 +1,56 @@
 //! One node of a graph passed: whether its recipe is to be run, and with which lines.
-ghost use Rattle.std.specs.Prelude.{◌≡◌, ◌<◌, Some, length, IfOk, IfErr};
+ghost use Rattle.std.specs.Prelude.{◌≡◌, ◌<◌, ℕ, Some, length, IfOk, IfErr};
+ghost use Rattle.std.specs.List.{list_any};
+ghost use Rattle.mk_rules.specs.declared.graph.Graph.{Graph as Plan};
 ghost use Rattle.mk_plan.specs.Nodes.{recipe_of};
-ghost use Rattle.mk_plan.specs.Passing.{Passes, IsFaultAt, is_remade, listed_in};
+ghost use Rattle.mk_plan.specs.Passage.{is_listed};
+ghost use Rattle.mk_plan.specs.Passing.{Passes, IsFaultAt, is_remade, told_in};
 
 use crate::nodes::{ends_remade, recipe_of};
 use crate::recipe::lines_of;
 use crate::target::judge_node;
+use crate::why::Why;
 use mk_macros::MacroFault;
 use mk_reader::RecipeLine;
-use mk_recipe::{Line, Verdict};
+use mk_recipe::Line;
 use mk_rules::Graph;
 use std::alloc::Global;
 
 /// What passing a node comes to.
 #[derive(Drop)]
 pub enum Passed {
-    /// Its recipe is listed, and it counts as built.
-    Listed(Vec<Line>),
+    /// Its recipe is listed, for a reason, and it counts as built.
+    Listed(Why, Vec<Line>),
     /// It has no recipe, and counts as remade.
     Remade,
+    /// It has a recipe that isn't to be run.
     UpToDate,
+    /// It has no recipe, and doesn't count as remade.
+    Left,
 }
 
 impl Passed {
+    /// Whether its recipe is listed.
+    pub fn is_listed(&self) -> bool
+        ensures { (graph : Plan) (n : ℕ) → result ≡ list_any is_listed (told_in graph n self.now) }
+    {
+        match self {
+            Passed::Listed(_why, _lines) => true,
+            Passed::Remade => false,
+            Passed::UpToDate => false,
+            Passed::Left => false,
+        }
+    }
+
     /// Whether the node counts as remade.
     pub fn is_remade(&self) -> bool
         ensures { result ≡ is_remade self.now }
     {
         match self {
-            Passed::Listed(_) => true,
+            Passed::Listed(_, _) => true,
             Passed::Remade => true,
             Passed::UpToDate => false,
+            Passed::Left => false,
         }
     }
 }
@@ -46,13 +66,13 @@ fn pass_recipe(
 ) -> Result<Passed, MacroFault>
     requires node { node < length graph.now.nodes.items }
     requires recipe { recipe_of graph.now node ≡ Some recipe.now }
-    ensures passes { IfOk result (λ p. Passes keeping graph.now marks.now node (is_remade p) (listed_in p)) }
+    ensures passes { IfOk result (λ p. Passes keeping graph.now marks.now node (is_remade p) (told_in graph.now node p)) }
     ensures fault { IfErr result (IsFaultAt graph.now marks.now node) }
 {
     let lines = lines_of(alloc, graph, marks, node, recipe)?;
     match judge_node(alloc, keeping, graph, marks, node, &lines)? {
-        Verdict::UpToDate => Ok(Passed::UpToDate),
-        Verdict::OutOfDate(_) => Ok(Passed::Listed(lines)),
+        None => Ok(Passed::UpToDate),
+        Some(why) => Ok(Passed::Listed(why, lines)),
     }
 }
 
@@ -65,12 +85,12 @@ pub fn pass(
     node: usize,
 ) -> Result<Passed, MacroFault>
     requires { node < length graph.now.nodes.items }
-    ensures passes { IfOk result (λ p. Passes keeping graph.now marks.now node (is_remade p) (listed_in p)) }
+    ensures passes { IfOk result (λ p. Passes keeping graph.now marks.now node (is_remade p) (told_in graph.now node p)) }
     ensures fault { IfErr result (IsFaultAt graph.now marks.now node) }
 {
     match recipe_of(graph, node) {
         Some(recipe) => pass_recipe(alloc, keeping, graph, marks, node, recipe),
         None if ends_remade(graph, marks, node) => Ok(Passed::Remade),
-        None => Ok(Passed::UpToDate),
+        None => Ok(Passed::Left),
     }
 }

@@ -1,12 +1,13 @@
 //! A node of a graph as it is judged.
 ghost use Rattle.std.specs.Prelude.{◌≡◌, ◌<◌, Some, None, true, false, length, map, IfOk};
-ghost use Rattle.mk_verdict.specs.Verdict.{IsVerdict};
 ghost use Rattle.mk_verdict.specs.declared.verdict.Target.{Target as Judged};
-ghost use Rattle.mk_plan.specs.Nodes.{entry_of, hidden_of};
+ghost use Rattle.mk_plan.specs.Nodes.{hidden_of};
 ghost use Rattle.mk_plan.specs.Target.{shown, seen_at, seen_of, IsTargetOf};
+ghost use Rattle.mk_plan.specs.Why.{IsJudgedSo};
 
-use crate::nodes::{entry_of, explicit_of, is_marked, name_of, stamp_of};
-use mk_recipe::{Line, Prerequisite, Target, Verdict, judge, recorded};
+use crate::nodes::{explicit_of, is_marked, name_of, stamp_of};
+use crate::why::{Why, why_of};
+use mk_recipe::{Line, Prerequisite, Target, recorded};
 use mk_rules::Graph;
 use std::alloc::{AllocError, Global};
 
@@ -69,7 +70,7 @@ fn prerequisites_of<'g>(
     Ok(found)
 }
 
-/// The verdict on a node whose recipe these lines are.
+/// Why a node is to be made whose recipe these lines are; None where it is up to date.
 pub fn judge_node(
     alloc: Global,
     keeping: bool,
@@ -77,10 +78,10 @@ pub fn judge_node(
     marks: &[bool],
     node: usize,
     lines: &[Line],
-) -> Result<Verdict, AllocError>
+) -> Result<Option<Why>, AllocError>
     requires { node < length graph.now.nodes.items }
-    ensures { IfOk result (λ verdict. (target : Judged) × (IsTargetOf graph.now marks.now node lines.now target
-        × IsVerdict keeping (entry_of graph.now node) target verdict)) }
+    ensures { IfOk result (λ why. (target : Judged) × (IsTargetOf graph.now marks.now node lines.now target
+        × IsJudgedSo keeping graph.now node target why)) }
 {
     let commands = recorded(alloc, lines)?;
     let explicit = explicit_of(alloc, graph, node)?;
@@ -92,5 +93,5 @@ pub fn judge_node(
         prerequisites: &prerequisites,
         orders_hidden: !graph.soft_dropped,
     };
-    Ok(judge(keeping, entry_of(graph, node), &target))
+    why_of(alloc, keeping, graph, node, &target)
 }

@@ -4,7 +4,7 @@ use crate::folder::{File, Folder};
 use byte_strings::ByteStrings;
 use mk_eval::read_makefile;
 use mk_macros::Macros;
-use mk_plan::{Passed, pass};
+use mk_plan::pass;
 use mk_rules::{Graph, build};
 use st_state::State;
 use std::alloc::Global;
@@ -33,7 +33,7 @@ pub fn graph(alloc: Global, asked: &Asked, state: &State) -> Result<Graph, Fail>
 
 fn is_any_listed(alloc: Global, graph: &Graph, marks: &[bool]) -> Result<bool, Fail> {
     for node in 0..graph.len() {
-        if let Passed::Listed(_) = pass(alloc, true, graph, marks, node)? {
+        if pass(alloc, true, graph, marks, node)?.is_listed() {
             return Ok(true);
         }
     }

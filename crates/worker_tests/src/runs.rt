@@ -10,6 +10,7 @@ use byte_strings::ByteString;
 use jb_closing::{Closed, Report, RunFault};
 use jb_recipe::{Conduct, Makeflags};
 use jb_runner::run;
+use mk_plan::Telling;
 use mk_rules::Graph;
 use st_disk::Disk;
 use st_records::HashKey;
@@ -99,6 +100,7 @@ fn conduct(alloc: Global, way: &Way) -> Result<Conduct, AllocError> {
         goes_on: way.goes_on,
         ignores_statuses: false,
         prints_no_lines: false,
+        telling: Telling::Nothing,
         definitions: Vec::<Variable>::new(alloc),
         makeflags: Makeflags::Removed,
         state_name: ByteString::from_slice(alloc, b".make.state")?,

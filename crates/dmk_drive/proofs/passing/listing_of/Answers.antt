@@ -1,10 +1,9 @@
-use Rattle.std.proofs.Common.{◌≡◌, ◌+◌, ◌||◌, not, ℕ, Bool, List, [], ◌∷◌, ◌++◌, drop, get_or, add-one, refl, sym, ap, subst, ◌∙◌}
+use Rattle.std.proofs.Common.{◌≡◌, ◌+◌, ◌||◌, ℕ, Bool, List, [], ◌∷◌, ◌++◌, drop, get_or, add-one, refl, sym, ap, subst, ◌∙◌}
 use Rattle.std.proofs.Math.Seq.{drop-cons}
 use Rattle.std.proofs.lemmas.List.{append-nil, drop_all, length-set}
 use Rattle.std.proofs.lemmas.Result.{err_from_is_err_and}
-use Rattle.mk_reader.specs.Text.{is_empty}
-use Rattle.mk_plan.specs.Passing.{Passes, IsFaultAt, is_remade, listed_in}
-use Rattle.dmk_drive.specs.Passing.{listing_text}
+use Rattle.mk_plan.specs.Passing.{Passes, IsFaultAt, is_remade, told_in}
+use Rattle.dmk_drive.specs.Passing.{listing_text, lists_any}
 use Rattle.dmk_drive.proofs.PassingLemmas.{listed_more, no_fault_more, fault_next, listed_all, text_more, any_more}
 use Rattle.dmk_drive.proofs.passing.listing_of.Goals as goal
 
@@ -23,7 +22,9 @@ loop-node-preserved c =
     let read = c.as_slice-node-items.result.now in
     let n = get_or read i 0 in
     let passed = c.in_ok-passed.passed in
-    let front = listed_in passed in
+    let telling = c.args.shows.telling in
+    let recipes = c.args.shows.recipes in
+    let front = told_in graph n passed in
     let (listed, text, any, before) = c.loop-node.invariant.so_far in
     let at : drop i read ≡ n ∷ drop (i + 1) read = drop-cons read i 0 c.loop-node-test.true ∙ rw add-one refl in
     let here : drop i graph.order.items ≡ n ∷ drop (i + 1) graph.order.items =
@@ -36,8 +37,8 @@ loop-node-preserved c =
       count = length-set marks n c.is_remade.result ∙ c.loop-node.invariant.count;
       so_far = (
         listed ++ front,
-        c.in_ok-add.ensures.text ∙ ap (λ t. t ++ listing_text front) text ∙ sym (text_more listed front),
-        c.in_ok-add.ensures.any ∙ ap (λ b. b || not (is_empty front)) any ∙ sym (any_more listed front),
+        c.in_ok-add.ensures.text ∙ ap (λ t. t ++ listing_text telling recipes front) text ∙ sym (text_more telling recipes listed front),
+        c.in_ok-add.ensures.any ∙ ap (λ b. b || lists_any front) any ∙ sym (any_more listed front),
         listed_more keeping graph marks i n c.is_remade.result front listed here passes before,
       );
       no_fault = no_fault_more keeping graph marks i n c.is_remade.result front here passes c.loop-node.invariant.no_fault;

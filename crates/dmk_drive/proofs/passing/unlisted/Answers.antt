@@ -1,9 +1,9 @@
-use Rattle.std.proofs.Common.{◌≡◌, ◌+◌, ℕ, Bool, List, [], ◌∷◌, drop, set, get_or, add-one, refl, sym, subst, ◌∙◌}
+use Rattle.std.proofs.Common.{◌≡◌, ◌+◌, ℕ, Bool, List, false, [], ◌∷◌, ◌++◌, drop, get_or, add-one, refl, sym, subst, ◌∙◌}
 use Rattle.std.proofs.Math.Seq.{drop-cons}
-use Rattle.std.proofs.lemmas.List.{drop_all, length-set}
-use Rattle.mk_recipe.specs.declared.line.Line.{Line}
-use Rattle.mk_plan.specs.Passing.{Passes, is_remade, listed_in}
-use Rattle.dmk_drive.proofs.PassingLemmas.{ListedSoFar, listed_more, listed_all, not_listed}
+use Rattle.std.proofs.lemmas.List.{append-nil, drop_all, length-set}
+use Rattle.mk_plan.specs.Passing.{Passes, is_remade, told_in}
+use Rattle.dmk_drive.specs.Passing.{lists_any}
+use Rattle.dmk_drive.proofs.PassingLemmas.{listed_more, listed_all, none_more}
 use Rattle.dmk_drive.proofs.passing.unlisted.Goals as goal
 
 pub loop-number-preserved : goal.loop-number-preserved
@@ -15,7 +15,7 @@ loop-number-preserved c =
     let read = c.as_slice-number-items.result.now in
     let n = get_or read i 0 in
     let passed = c.in-Ok-pass.passed in
-    let front = listed_in passed in
+    let front = told_in graph n passed in
     let at : drop i read ≡ n ∷ drop (i + 1) read = drop-cons read i 0 c.loop-number-test.true ∙ rw add-one refl in
     let here : drop i graph.order.items ≡ n ∷ drop (i + 1) graph.order.items =
     subst (λ (nodes : List ℕ). drop i nodes ≡ n ∷ drop (i + 1) nodes) c.as_slice-number-items.ensures.value at in
@@ -23,17 +23,22 @@ loop-number-preserved c =
     subst (λ (ms : List Bool). Passes keeping graph ms n (is_remade passed) front) c.deref.ensures.value c.in-Ok-pass.ensures.passes in
     let passes : Passes keeping graph marks n c.is_remade.result front =
     subst (λ (remade : Bool). Passes keeping graph marks n remade front) (sym c.is_remade.ensures) by_marks in
-    let none : front ≡ [] = not_listed front (sym c.is_listed.ensures ∙ c.if-is_listed.false) in
+    let (listed, before, none) = c.loop-number.invariant.none_so_far in
+    let here_none : lists_any front ≡ false = sym (c.is_listed.ensures graph n) ∙ c.if-is_listed.false in
     record {
       count = length-set marks n c.is_remade.result ∙ c.loop-number.invariant.count;
-      none_so_far = subst (λ (listed : List (List Line)). ListedSoFar keeping graph (set marks n c.is_remade.result) (i + 1) listed) none
-          (listed_more keeping graph marks i n c.is_remade.result front [] here passes c.loop-number.invariant.none_so_far);
+      none_so_far = (
+        listed ++ front,
+        listed_more keeping graph marks i n c.is_remade.result front listed here passes before,
+        none_more listed front none here_none,
+      );
     }
 
 pub returns-clause-listing : goal.returns-clause-listing
 returns-clause-listing c =
     let graph = c.args.graph.now in
     let i = c.loop-number.number-index in
+    let (listed, before, none) = c.loop-number.invariant.none_so_far in
     let over : drop i graph.order.items ≡ [] =
     subst (λ (nodes : List ℕ). drop i nodes ≡ []) c.as_slice-number-items.ensures.value (drop_all i c.as_slice-number-items.result.now c.loop-number-test.false) in
-    listed_all c.args.keeping graph c.loop-number.marks.items i [] over refl c.loop-number.invariant.none_so_far
+    (listed, listed_all c.args.keeping graph c.loop-number.marks.items i listed over (append-nil listed) before, none)

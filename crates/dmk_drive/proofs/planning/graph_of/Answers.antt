@@ -1,4 +1,4 @@
-use Rattle.std.proofs.Common.{ℕ, List, inr, refl, subst}
+use Rattle.std.proofs.Common.{inr, refl, subst}
 use Rattle.std.specs.FinMap as finmap
 use Rattle.mk_rules.specs.Faults.{IsRuleFault}
 use Rattle.mk_rules.specs.declared.graph.TheConstants.{MAX_NODES}

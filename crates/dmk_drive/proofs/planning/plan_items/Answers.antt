@@ -25,10 +25,10 @@ returns-clause-tells g c =
     let definitions = c.args.given.definitions.now in
     let environment = c.args.given.environment.now in
     let seen = g.D.Disk.seen c.args.disk.now in
-    each_ok c.listed.result (g.T.Tree.allows c.kept_graph.new.tree) (λ times. Tells definitions environment c.args.targets times g.D.Disk.honest seen c.args.items.items)
+    each_ok c.listed.result (g.T.Tree.allows c.kept_graph.new.tree) (λ times. Tells definitions environment c.args.targets times g.D.Disk.honest seen c.args.items.items c.args.given.shows.telling c.args.given.shows.recipes)
     (λ times now.
     told_result definitions environment c.args.targets times g.D.Disk.honest seen c.args.items.items c.keeps_state-keeping.result is_keeping state found
-    c.in_ok-graph.graph (is times now) c.listed.result c.listed.ensures.listing c.listed.ensures.dropped)
+    c.in_ok-graph.graph (is times now) c.args.given.shows.telling c.args.given.shows.recipes c.listed.result c.listed.ensures.listing c.listed.ensures.dropped)
 
 pub returns-clause-fault : goal.returns-clause-fault
 returns-clause-fault g c =

@@ -1,11 +1,11 @@
 use Rattle.std.proofs.Common.{map, refl, ap, ◌∙◌}
 use Rattle.mk_plan.specs.Target.{shown}
-use Rattle.mk_plan.proofs.PassingLemmas.{judged}
+use Rattle.mk_plan.proofs.PassingLemmas.{judged_as}
 use Rattle.mk_plan.proofs.target.judge_node.Goals as goal
 
 pub returns : goal.returns
 returns c =
-    judged c.args.keeping c.args.graph.now c.args.marks.now c.args.node c.args.lines.now _ _ _ c.judge.ensures c.entry_of.ensures
+    judged_as c.args.keeping c.args.graph.now c.args.marks.now c.args.node c.args.lines.now _ c.why_of.result c.why_of.ensures
     (record {
       commands = c.in_ok-commands.ensures;
       explicit = c.in_ok-explicit.ensures;

@@ -1,4 +1,4 @@
-use Rattle.std.proofs.Common.{◌≡◌, Some, None, sym, ap, ◌∙◌, option_map}
+use Rattle.std.proofs.Common.{sym, ap, ◌∙◌, option_map}
 use Rattle.mk_rule_lines.proofs.ResultLemmas.{if_ok}
 use Rattle.mk_rules.proofs.StampLemmas.{found_is, stamp_is, before}
 use Rattle.dmk_drive.specs.Files.{known_text}

@@ -1,4 +1,4 @@
-use Rattle.std.proofs.Common.{◌≡◌, Some, None, sym, ◌∙◌}
+use Rattle.std.proofs.Common.{sym, ◌∙◌}
 use Rattle.mk_rules.specs.Stamps.{known_stamp}
 use Rattle.mk_rules.proofs.StampLemmas.{found_is, stamp_is, before}
 use Rattle.dmk_drive.proofs.file_tree.FileTree.look.Goals as goal

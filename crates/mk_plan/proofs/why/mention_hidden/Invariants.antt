@@ -1,0 +1,8 @@
+use Rattle.std.proofs.Common.{◌≡◌}
+use Rattle.mk_graph.specs.Numbering.{all_added}
+use Rattle.mk_rules.specs.Prerequisites.{hidden_in}
+use Rattle.mk_plan.specs.Nodes.{entry_of}
+use Rattle.mk_plan.proofs.why.mention_hidden.Given as goal
+
+abbrev pub invariant-loop-name : goal.invariant-loop-name
+invariant-loop-name l = all_added l.names l.name-iterator ≡ all_added l.fn.names (hidden_in (entry_of l.graph l.node))
