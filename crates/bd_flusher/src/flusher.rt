@@ -1,6 +1,7 @@
 //! The two locks, and how a worker comes to a receipt.
 
-ghost use Rattle.std.specs.Prelude.{◌≡◌, ℕ, IfOk, IfErr, IsErrOf};
+ghost use Rattle.std.specs.Prelude.{◌≡◌, ℕ, [], IfOk, IfErr, OnOk, IsErrOf};
+ghost use Rattle.bd_flusher.specs.Batches.{StandsAt};
 ghost use Rattle.bd_flusher.specs.declared.fault.FlushFault.TheVariants as faults;
 
 use crate::{FlushFault, Receipt, Site};
@@ -20,9 +21,10 @@ pub struct Flusher<D: Disk + Drop> {
 }
 
 impl<D: Disk + Drop> Flusher<D> {
-    /// Writes what is held, or else all that waits on the board.
+    /// Writes what is held, or else all that waits on the board. Then nothing is held.
     fn write<R: Wait>(&self, rt: &R, alloc: Global, site: &mut Site<D>) -> Result<(), FlushFault>
-        ensures { (ticket : ℕ) → IsErrOf result (faults.Unknown ticket) → ⊥ }
+        ensures ok { OnOk result (site.new.held ≡ []) }
+        ensures unknown { (ticket : ℕ) → IsErrOf result (faults.Unknown ticket) → ⊥ }
     {
         {
             let mut board = self.board.lock(rt);
@@ -40,8 +42,9 @@ impl<D: Disk + Drop> Flusher<D> {
         ticket: Ticket,
         note: Record,
     ) -> Result<Result<Receipt, Record>, FlushFault>
-        ensures ok { IfOk result (λ found. IfOk found (λ r. (r.ticket ≡ ticket) × (r.noted ≡ note))) }
-        ensures err { IfOk result (λ found. IfErr found (λ back. back ≡ note)) }
+        ensures ok { IfOk result (λ found. IfOk found (λ r. (r.ticket ≡ ticket) × (r.noted ≡ note) × (site.new ≡ site.old))) }
+        ensures err { IfOk result (λ found. IfErr found (λ back. (back ≡ note) × (site.new.held ≡ []))) }
+        ensures there { StandsAt site.old.told ticket note → site.new ≡ site.old }
         ensures unknown { (other : ℕ) → IsErrOf result (faults.Unknown other) → ⊥ }
     {
         let note = match site.look(ticket, note) {
