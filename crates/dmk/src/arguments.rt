@@ -10,7 +10,7 @@ const ABOUT: &str =
     "Makes targets by the rules of a makefile, and remembers in a state file what each recipe was";
 
 const AFTER: &str = "\
-Files: the makefile is FILE of -f, else makefile, else Makefile. Where it has .KEEP_STATE:, or the environment the
+Files: the makefile is each FILE of -f, else makefile, else Makefile. Where it has .KEEP_STATE:, or the environment the
 variable KEEP_STATE, state is kept in .make.state and .make.state.2 (-K names others); dmk_state lists them.
 
 Status: 0 all is well; 1 a target failed, or -q found one out of date; 2 a fault, told on standard error.";
@@ -55,14 +55,12 @@ fn with_files(alloc: Global, command: Command<'_>) -> Result<Command<'_>, AllocE
         .action(ArgAction::Append)
         .help_heading(FILES)
         .help("Go to DIR before all else; a further one counts from there");
-    let makefile = value(
-        alloc,
-        FILES,
-        'f',
-        "makefile",
-        "FILE",
-        "Read FILE as the makefile",
-    );
+    let makefiles = Arg::new(alloc, "makefiles")
+        .short('f')
+        .value_name("FILE")
+        .action(ArgAction::Append)
+        .help_heading(FILES)
+        .help("Read FILE as the makefile, several one behind the other; - is standard input");
     let state = value(
         alloc,
         FILES,
@@ -88,7 +86,7 @@ fn with_files(alloc: Global, command: Command<'_>) -> Result<Command<'_>, AllocE
     );
     command
         .arg(folders)?
-        .arg(makefile)?
+        .arg(makefiles)?
         .arg(state)?
         .arg(environment)?
         .arg(no_rules)
@@ -99,6 +97,13 @@ fn with_running<'a>(
     command: Command<'a>,
     processors: &'a str,
 ) -> Result<Command<'a>, AllocError> {
+    let makes_all = flag(
+        alloc,
+        RUNNING,
+        'B',
+        "makes_all",
+        "Make each target, whatever the files and the state say of it",
+    );
     let workers = value(
         alloc,
         RUNNING,
@@ -111,6 +116,10 @@ fn with_running<'a>(
     .num_args(0..=1)
     .default_missing_value(processors)
     .default_value("2");
+    with_failures(alloc, command.arg(makes_all)?.arg(workers)?)
+}
+
+fn with_failures(alloc: Global, command: Command<'_>) -> Result<Command<'_>, AllocError> {
     let goes_on = flag(
         alloc,
         RUNNING,
@@ -134,7 +143,7 @@ fn with_running<'a>(
         "ignore",
         "Ignore the statuses of all lines",
     );
-    command.arg(workers)?.arg(goes_on)?.arg(stops)?.arg(ignores)
+    command.arg(goes_on)?.arg(stops)?.arg(ignores)
 }
 
 fn with_asking(alloc: Global, command: Command<'_>) -> Result<Command<'_>, AllocError> {

@@ -36,14 +36,19 @@ struct Look {
 
 impl Look {
     /// Looks once.
-    fn of(host: HostRuntime, options: Options, environment: &[Variable]) -> Result<Look, AllocError>
+    fn of(
+        host: HostRuntime,
+        options: Options,
+        environment: &[Variable],
+        input: Option<&[u8]>,
+    ) -> Result<Look, AllocError>
         requires { AsksToLook options (value_in environment.now (codes "MAKEFLAGS")) }
     {
         let alloc = host.alloc();
         let folder = SystemFolder::new(host, alloc, options.state.as_str())?;
         let mut out = Vec::new(alloc);
         let mut err = Vec::with_capacity(alloc, FAULT_BYTES)?;
-        let mut makefiles = HostFiles::texts(host);
+        let mut makefiles = HostFiles::texts(host, input);
         let (reply, disk) = drive(
             alloc,
             HashKey::from_system(&host),
@@ -72,20 +77,27 @@ impl Look {
         host: HostRuntime,
         options: Options,
         environment: &[Variable],
+        input: Option<&[u8]>,
     ) -> Result<Option<Look>, AllocError> {
         match options.mode(value_of(environment, b"MAKEFLAGS")) {
             Mode::Run => Ok(None),
-            Mode::DryRun | Mode::Question => Ok(Some(Look::of(host, options, environment)?)),
+            Mode::DryRun | Mode::Question => {
+                Ok(Some(Look::of(host, options, environment, input)?))
+            }
         }
     }
 
     /// Looks once more, for what the words ask.
-    fn again(host: HostRuntime, environment: &[Variable]) -> Result<Option<Look>, AllocError> {
+    fn again(
+        host: HostRuntime,
+        environment: &[Variable],
+        input: Option<&[u8]>,
+    ) -> Result<Option<Look>, AllocError> {
         match read_words(host, 1) {
             Ok(Request::Make(asked)) => {
                 let counts = asked.environment_counts;
                 let options = over_makefile(host.alloc(), counts, asked.options, environment)?;
-                Look::if_asked(host, options, environment)
+                Look::if_asked(host, options, environment, input)
             }
             _ => Ok(None),
         }
@@ -126,16 +138,21 @@ impl Look {
 
 /// Lists what a run would make, or asks whether there is anything. A run that writes the state meanwhile may make a reading of it fail;
 /// so a fault is told once two looks, one behind the other, have come to the same.
-pub fn ask(host: HostRuntime, options: Options, environment: &[Variable]) -> Result<u8, AllocError>
+pub fn ask(
+    host: HostRuntime,
+    options: Options,
+    environment: &[Variable],
+    input: Option<&[u8]>,
+) -> Result<u8, AllocError>
     requires { AsksToLook options (value_in environment.now (codes "MAKEFLAGS")) }
 {
-    let mut look = Look::of(host, options, environment)?;
+    let mut look = Look::of(host, options, environment, input)?;
     for _ in 1..MAX_LOOKS {
         if !look.is_fault() {
             break;
         }
         thread::sleep(&host, Duration::from_millis(PAUSE_MILLISECONDS));
-        let Some(again) = Look::again(host, environment)? else {
+        let Some(again) = Look::again(host, environment, input)? else {
             break;
         };
         let is_same = look.is_same(&again);

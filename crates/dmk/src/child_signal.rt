@@ -3,11 +3,15 @@ use std::io::{self, PipeReader, PipeWriter, Read};
 use std::process::{Child, Command, Stdio};
 use std::{env, fs};
 
-/// Runs its words as a program that is told how its children end, and tells its own status on standard input. It tells
-/// something else where no `env` can see to that: then nothing was run.
+/// Runs the words behind its first one as a program that is told how its children end, and tells its own status on standard input.
+/// It tells something else where no `env` can see to that: then nothing was run. The first word is `-` where the program is to have
+/// the standard input of this one.
 const SCRIPT: &str = "\
+input=/dev/null
+[ \"$1\" = - ] && input=/proc/$PPID/fd/0
+shift
 if env --default-signal=CHLD true 2>/dev/null; then
-    env --default-signal=CHLD \"$0\" \"$@\" </dev/null
+    env --default-signal=CHLD \"$0\" \"$@\" <\"$input\"
     echo $? >&0
 else
     echo none >&0
@@ -18,11 +22,11 @@ const BELOW_SIGCHLD: u64 = 65_536;
 
 /// The status of dmk run anew with the same words, where this process isn't told how its children end: the kernel then
 /// forgets them. None where it is told, and where dmk can't be run anew.
-pub fn run_anew(rt: HostRuntime) -> Option<u8> {
+pub fn run_anew(rt: HostRuntime, reads_input: bool) -> Option<u8> {
     if !forgets_children(rt) {
         return None;
     }
-    match told_status(rt) {
+    match told_status(rt, reads_input) {
         Ok(text) => status_of(text.as_str()),
         Err(_) => None,
     }
@@ -49,9 +53,9 @@ fn holds_sigchld(mask: &str) -> bool {
 }
 
 // What the script tells.
-fn told_status(rt: HostRuntime) -> io::Result<String> {
+fn told_status(rt: HostRuntime, reads_input: bool) -> io::Result<String> {
     let (told, writer) = io::pipe(&rt)?;
-    let mut child = start_script(rt, writer)?;
+    let mut child = start_script(rt, writer, reads_input)?;
     let text = read_whole(rt, told);
     // How it ended isn't told: that is why the script tells it.
     let _ = child.wait();
@@ -65,18 +69,19 @@ fn read_whole(rt: HostRuntime, mut told: PipeReader) -> io::Result<String> {
 }
 
 // Starts the script, whose standard input it is that the status is told on.
-fn start_script(rt: HostRuntime, told: PipeWriter) -> io::Result<Child> {
+fn start_script(rt: HostRuntime, told: PipeWriter, reads_input: bool) -> io::Result<Child> {
     let mut command = Command::new(rt.alloc(), "/bin/sh")?;
     command.stdin(Stdio::from(told));
-    add_script(rt, &mut command)?;
+    add_script(rt, &mut command, reads_input)?;
     command.spawn(&rt)
 }
 
-// The script's own text, the path of dmk, and the words that this one was started with.
-fn add_script(rt: HostRuntime, command: &mut Command) -> io::Result<()> {
+// The script's own text, the path of dmk, what it has as standard input, and the words that this one was started with.
+fn add_script(rt: HostRuntime, command: &mut Command, reads_input: bool) -> io::Result<()> {
     command.arg("-c")?.arg(SCRIPT)?;
     let program = env::current_exe(&rt)?;
     command.arg(program.as_str())?;
+    command.arg(if reads_input { "-" } else { "" })?;
     add_words(rt, command)
 }
 

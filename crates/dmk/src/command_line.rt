@@ -2,6 +2,7 @@
 ghost use Rattle.std.specs.Prelude.{◌≡◌};
 
 use crate::arguments::{DEFAULT_STATE, find};
+use crate::host_files::INPUT;
 use crate::job_words::with_numbers;
 use bd_lists::Variable;
 use byte_strings::{ByteString, ByteStrings};
@@ -42,9 +43,11 @@ pub enum WordsFault {
     /// The help or the version was asked for and couldn't be printed.
     #[error("cannot write")]
     Write,
-    /// `-f -` or `-K -`.
-    #[error("standard input can't stand for a file")]
-    StandardInput,
+    /// `-K -`.
+    #[error("standard input can't hold the state")]
+    StateInput,
+    #[error("-f - stands twice: standard input can be read once")]
+    InputTwice,
     #[error("-t isn't supported: it would call targets made that aren't")]
     Touch,
     #[error("-l isn't supported: how busy the machine is isn't looked at")]
@@ -87,19 +90,30 @@ fn request_of(alloc: Global, found: &ArgMatches<'_>) -> Result<Request, WordsFau
         return Err(WordsFault::Load);
     }
     let asked = asked_of(alloc, found)?;
-    if names_standard_input(&asked.options) {
-        return Err(WordsFault::StandardInput);
+    if asked.options.state.as_str() == "-" {
+        return Err(WordsFault::StateInput);
+    }
+    if inputs_in(&asked.options) > 1 {
+        return Err(WordsFault::InputTwice);
     }
     Ok(Request::Make(asked))
 }
 
-fn names_standard_input(options: &Options) -> bool {
-    if options.state.as_str() == "-" {
-        return true;
+/// How often standard input is named as a makefile.
+fn inputs_in(options: &Options) -> usize {
+    let mut found: usize = 0;
+    for name in options.makefiles.iter() {
+        if name == INPUT {
+            found = found.saturating_add(1);
+        }
     }
-    match &options.makefile {
-        Some(name) => name.as_slice() == b"-".as_slice(),
-        None => false,
+    found
+}
+
+impl Asked {
+    /// A makefile is read from standard input.
+    pub fn reads_input(&self) -> bool {
+        inputs_in(&self.options) > 0
     }
 }
 
@@ -132,11 +146,13 @@ fn add_word(alloc: Global, options: &mut Options, word: &str) -> Result<(), Allo
     }
 }
 
-fn makefile_of(alloc: Global, found: &ArgMatches<'_>) -> Result<Option<ByteString>, AllocError> {
-    match found.get_str("makefile") {
-        Some(name) => Ok(Some(ByteString::from_slice(alloc, name.as_bytes())?)),
-        None => Ok(None),
+/// The makefiles that were found, in the order of the words.
+fn makefiles_of(alloc: Global, found: &ArgMatches<'_>) -> Result<ByteStrings, AllocError> {
+    let mut makefiles = ByteStrings::empty(alloc);
+    for name in found.get_strs("makefiles").unwrap_or(&[]) {
+        makefiles.push(name.as_bytes())?;
     }
+    Ok(makefiles)
 }
 
 /// How much -d tells, by how often it stands.
@@ -151,7 +167,7 @@ fn telling_of(found: &ArgMatches<'_>) -> Telling {
 /// The options that were found, without the words.
 fn options_of(alloc: Global, found: &ArgMatches<'_>) -> Result<Options, AllocError> {
     Ok(Options {
-        makefile: makefile_of(alloc, found)?,
+        makefiles: makefiles_of(alloc, found)?,
         state: String::from_str(alloc, found.get_str("state").unwrap_or(DEFAULT_STATE))?,
         workers: found.get_one::<u16>("workers").unwrap_or(2),
         goes_on: found.get_count("goes_on") > 0,
@@ -159,6 +175,7 @@ fn options_of(alloc: Global, found: &ArgMatches<'_>) -> Result<Options, AllocErr
         is_silent: found.get_count("silent") > 0,
         ignores_statuses: found.get_count("ignore") > 0,
         asks: found.get_count("asks") > 0,
+        makes_all: found.get_count("makes_all") > 0,
         telling: telling_of(found),
         definitions: Vec::new(alloc),
         targets: ByteStrings::empty(alloc),

@@ -1,27 +1,57 @@
 //! Files by the system's own calls.
 use dmk_drive::{FileCalls, FileStatus, FileTexts, FileTree};
 use std::alloc::Global;
+use std::fs;
+use std::io::{self, Read};
 use std::os::unix::fs::MetadataExt;
-use std::{fs, io};
+
+/// The name under which standard input is read as a makefile.
+pub const INPUT: &[u8] = b"-";
 
 /// The files of the current folder, and those that names lead to from there.
 #[derive(Clone, Copy)]
-pub struct HostFiles {
+pub struct HostFiles<'a> {
     rt: HostRuntime,
+    /// What standard input held, which then is the text of the name `-`.
+    input: Option<&'a [u8]>,
 }
 
-impl HostFiles {
-    pub fn tree(rt: HostRuntime) -> FileTree<HostFiles> {
-        FileTree::new(rt.alloc(), HostFiles { rt })
+/// Reads standard input to its end.
+pub fn read_input(rt: HostRuntime) -> io::Result<Vec<u8>> {
+    let mut input = Vec::new(rt.alloc());
+    rt.stdin().read_to_end(&mut input)?;
+    Ok(input)
+}
+
+impl<'a> HostFiles<'a> {
+    /// The files as they are judged.
+    pub fn tree(rt: HostRuntime) -> FileTree<HostFiles<'a>> {
+        FileTree::new(rt.alloc(), HostFiles { rt, input: None })
     }
 
-    pub fn texts(rt: HostRuntime) -> FileTexts<HostFiles> {
-        FileTexts::new(rt.alloc(), HostFiles { rt })
+    /// The files as makefiles are read from them, and from standard input where that was read.
+    pub fn texts(rt: HostRuntime, input: Option<&'a [u8]>) -> FileTexts<HostFiles<'a>> {
+        FileTexts::new(rt.alloc(), HostFiles { rt, input })
+    }
+
+    fn input_named(&self, name: &str) -> Option<&'a [u8]> {
+        if name.as_bytes() == INPUT {
+            self.input
+        } else {
+            None
+        }
     }
 }
 
-impl FileCalls for HostFiles {
+impl FileCalls for HostFiles<'_> {
     fn status(&mut self, name: &str) -> io::Result<FileStatus> {
+        if self.input_named(name).is_some() {
+            return Ok(FileStatus {
+                seconds: 0,
+                nanoseconds: 0,
+                is_ordinary: true,
+            });
+        }
         let metadata = fs::metadata(&self.rt, name)?;
         Ok(FileStatus {
             seconds: metadata.mtime(),
@@ -30,7 +60,10 @@ impl FileCalls for HostFiles {
         })
     }
 
-    fn contents(&mut self, _alloc: Global, name: &str) -> io::Result<Vec<u8>> {
+    fn contents(&mut self, alloc: Global, name: &str) -> io::Result<Vec<u8>> {
+        if let Some(input) = self.input_named(name) {
+            return Ok(Vec::from_slice(alloc, input)?);
+        }
         fs::read(&self.rt, name)
     }
 }

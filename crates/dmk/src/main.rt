@@ -27,7 +27,7 @@ use dmk_drive::{Fault, Message, Mode, Options, value_of};
 use dmk_run::{Means, Printer, build_targets};
 use environment::{over_makefile, read_environment};
 use folder::{FolderFault, enter, tell};
-use host_files::HostFiles;
+use host_files::{HostFiles, read_input};
 use jb_host::{HOLDS, HostPlace, Shell};
 use jb_slots::FifoBanks;
 use job_words::processors;
@@ -44,9 +44,9 @@ use std::thread::Threads;
 
 fn main(rt: HostRuntime) -> ExitCode {
     match read_words(rt, processors(&rt)) {
-        Ok(Request::Make(asked)) => match run_anew(rt) {
+        Ok(Request::Make(asked)) => match run_anew(rt, asked.reads_input()) {
             Some(status) => ExitCode::from(status),
-            None => ExitCode::from(run_there(&rt, rt, asked)),
+            None => ExitCode::from(run_asked(&rt, rt, asked)),
         },
         Ok(Request::Leave(status)) => ExitCode::from(status),
         Err(fault) => {
@@ -56,8 +56,27 @@ fn main(rt: HostRuntime) -> ExitCode {
     }
 }
 
+/// Runs what the words ask for, with what standard input holds where a makefile is read from it, and answers the status.
+fn run_asked<R: Threads + Wait + Sync>(rt: &R, host: HostRuntime, asked: Asked) -> u8 {
+    if !asked.reads_input() {
+        return run_there(rt, host, asked, None);
+    }
+    match read_input(host) {
+        Ok(input) => run_there(rt, host, asked, Some(&input)),
+        Err(error) => {
+            let _ = eprintln!(host; "dmk: cannot read standard input: {error}");
+            2
+        }
+    }
+}
+
 /// Runs in its folder what the words ask for, and answers the status.
-fn run_there<R: Threads + Wait + Sync>(rt: &R, host: HostRuntime, asked: Asked) -> u8 {
+fn run_there<R: Threads + Wait + Sync>(
+    rt: &R,
+    host: HostRuntime,
+    asked: Asked,
+    input: Option<&[u8]>,
+) -> u8 {
     let Asked {
         folders,
         tells_folder,
@@ -67,7 +86,7 @@ fn run_there<R: Threads + Wait + Sync>(rt: &R, host: HostRuntime, asked: Asked) 
     if let Err(fault) = begin(host, &folders, tells_folder) {
         return refused(host, fault);
     }
-    let status = run(rt, host, options, environment_counts);
+    let status = run(rt, host, options, environment_counts, input);
     if !tells_folder {
         return status;
     }
@@ -96,8 +115,9 @@ fn run<R: Threads + Wait + Sync>(
     host: HostRuntime,
     options: Options,
     environment_counts: bool,
+    input: Option<&[u8]>,
 ) -> u8 {
-    match run_in(rt, host, options, environment_counts) {
+    match run_in(rt, host, options, environment_counts, input) {
         Ok(status) => status,
         Err(_) => {
             let fault = Fault::OutOfMemory;
@@ -116,13 +136,14 @@ fn run_in<R: Threads + Wait + Sync>(
     host: HostRuntime,
     options: Options,
     environment_counts: bool,
+    input: Option<&[u8]>,
 ) -> Result<u8, AllocError> {
     let _held = held_streams(host);
     let environment = read_environment(host)?;
     let options = over_makefile(host.alloc(), environment_counts, options, &environment)?;
     match options.mode(value_of(&environment, b"MAKEFLAGS")) {
-        Mode::Run => make(rt, host, options, &environment),
-        Mode::DryRun | Mode::Question => ask(host, options, &environment),
+        Mode::Run => make(rt, host, options, &environment, input),
+        Mode::DryRun | Mode::Question => ask(host, options, &environment, input),
     }
 }
 
@@ -132,6 +153,7 @@ fn make<R: Threads + Wait + Sync>(
     host: HostRuntime,
     options: Options,
     environment: &[Variable],
+    input: Option<&[u8]>,
 ) -> Result<u8, AllocError>
     requires { AsksToRun options (value_in environment.now (codes "MAKEFLAGS")) }
 {
@@ -159,7 +181,7 @@ fn make<R: Threads + Wait + Sync>(
         say: &printer,
         place: &place,
     };
-    let mut makefiles = HostFiles::texts(host);
+    let mut makefiles = HostFiles::texts(host, input);
     let (status, disk) = build_targets(
         rt,
         alloc,

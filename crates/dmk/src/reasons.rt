@@ -9,7 +9,7 @@ use std::io::Write;
 /// changes nothing.
 pub fn print_reasons<W: Write>(
     err: &mut W,
-    makefiles: &FileTexts<HostFiles>,
+    makefiles: &FileTexts<HostFiles<'_>>,
     disk: &FileDisk<SystemFolder>,
 ) {
     if let Some(unread) = makefiles.unread() {

@@ -1,16 +1,18 @@
--- Which file is the makefile, and what reading its text says, in the words of its file.
-use Rattle.std.proofs.Common.{◌≡◌, ◌⊎◌, ◌∙◌, inl, inr, ℕ, ℤ, Bool, true, false, not, List, Option, Some, None, is_some, option_map, Result, Ok, Err, IfOk, IfErr, IfSome, IsTrue, refl, sym, ap, subst}
-use Rattle.mk_eval.specs.Makefile.{AnswersOf, TextItems, GivesItems, Outcome, depth}
+-- Which file is the makefile, and what reading its text says, in the words of its file; and so of several that are named.
+use Rattle.std.proofs.Common.{◌≡◌, ◌∙◌, inl, inr, ℕ, ℤ, Bool, true, false, not, List, [], ◌∷◌, ◌++◌, append_assoc, append-nil, Option, Some, None, is_some, option_map, Result, Ok, Err, IfErr, IsErrAnd, IfSome, IsTrue, refl, sym, ap, subst}
+use Rattle.mk_eval.specs.Makefile.{AnswersOf, InOrder, Then, TextItems, GivesItems, Outcome, depth, with_front}
 use Rattle.mk_reader.specs.declared.item.Item.{Item}
 use Rattle.mk_reader.specs.declared.fault.ReadFault.{ReadFault}
+use Rattle.mk_reader.specs.declared.fault.Refusal.{Refusal}
 use Rattle.mk_reader.specs.declared.fault.ReadFault.TheVariants.{OutOfMemory, Refused}
 use Rattle.mk_eval.proofs.OutcomeLemmas.{text_one}
 use Rattle.std.proofs.lemmas.Option.{same_Some}
-use Rattle.dmk_drive.specs.Makefile.{IsMakefile, HasNoMakefile, first_name, second_name}
+use Rattle.dmk_drive.specs.Makefile.{IsUsualMakefile, NamedItems, first_name, second_name}
 use Rattle.dmk_drive.specs.Planned.{AreItems}
-use Rattle.dmk_drive.specs.Faults.{IsReadFault, IsTextFault}
+use Rattle.dmk_drive.specs.Faults.{IsFaultAmong, IsFaultOfOne, IsReadFault, IsTextFault}
 use Rattle.dmk_drive.specs.declared.fault.Fault.{Fault}
 use Rattle.dmk_drive.specs.declared.fault.Fault.TheVariants as fault
+use Rattle.dmk_drive.specs.declared.fault.Fault.TheVariants.{Read}
 use Rattle.dmk_drive.specs.declared.makefile.Makefile.{Makefile}
 
 -- a time that isn't there, and one that is
@@ -23,48 +25,139 @@ some_is o other none same is told = sym (ap is_some same) ∙ is ∙ ap not told
 
 -- the file is `makefile`
 pub first_is : (files : List ℕ → Option (List ℕ)) (times : List ℕ → Option ℤ) (found : Option Makefile) (m : Makefile) → found ≡ Some m →
-    IfSome found (λ x. x.file ≡ first_name) → files first_name ≡ option_map (λ x. x.text.items) found → IsMakefile files times None m.file m.text.items
+    IfSome found (λ x. x.file ≡ first_name) → files first_name ≡ option_map (λ x. x.text.items) found → IsUsualMakefile files times m.file m.text.items
 first_is files times found m is file read =
     inl (subst (λ o. IfSome o (λ x. x.file ≡ first_name)) is file, read ∙ ap (option_map (λ (x : Makefile). x.text.items)) is)
 
 -- it is `Makefile`
 pub second_is : (files : List ℕ → Option (List ℕ)) (times : List ℕ → Option ℤ) (found : Option Makefile) (m : Makefile) → found ≡ Some m →
     files first_name ≡ None → times first_name ≡ None → IfSome found (λ x. x.file ≡ second_name) →
-    files second_name ≡ option_map (λ x. x.text.items) found → IsMakefile files times None m.file m.text.items
+    files second_name ≡ option_map (λ x. x.text.items) found → IsUsualMakefile files times m.file m.text.items
 second_is files times found m is none absent file read =
     inr (subst (λ o. IfSome o (λ x. x.file ≡ second_name)) is file, (none, (absent, read ∙ ap (option_map (λ (x : Makefile). x.text.items)) is)))
 
-module _ (MayHold : (List ℕ → Option (List ℕ)) → Type 0) (MayTell : (List ℕ → Option ℤ) → Type 0) (named : Option (List ℕ)) (name : List ℕ)
-    (called : named ≡ Some name) where
-  -- it is the one that is named
-  pub named_is : (got : Result Makefile Fault) → IfOk got (λ m. m.file ≡ name) →
-      IfOk got (λ m. (files : List ℕ → Option (List ℕ)) → MayHold files → files name ≡ Some m.text.items) →
-      IfOk got (λ m. (files : List ℕ → Option (List ℕ)) (times : List ℕ → Option ℤ) → MayHold files → MayTell times → IsMakefile files times named m.file m.text.items)
-  named_is (Ok m) file text = λ files times holds tells. subst (λ n. IsMakefile files times n m.file m.text.items) (sym called) (file, text files holds)
-  named_is (Err f) file text = tt
-
-  pub named_missing : (refuses : List ℕ → Type 0) (got : Result Makefile Fault) →
-      IfErr got (λ f. (f ≡ fault.OutOfMemory) ⊎ ((f ≡ fault.NoMakefile) × ((files : List ℕ → Option (List ℕ)) → MayHold files → files name ≡ None))) →
-      IfErr got (λ f. (files : List ℕ → Option (List ℕ)) (times : List ℕ → Option ℤ) → MayHold files → MayTell times → IsTextFault files times refuses named f)
-  named_missing refuses (Ok m) missing = tt
-  named_missing refuses (Err f) (inl memory) = λ files times holds tells. subst (IsTextFault files times refuses named) (sym memory) tt
-  named_missing refuses (Err f) (inr (is, none)) = λ files times holds tells.
-      subst (IsTextFault files times refuses named) (sym is) (subst (HasNoMakefile files times refuses) (sym called) (none files holds))
-
-module _ (files : List ℕ → Option (List ℕ)) (times : List ℕ → Option ℤ) (named : Option (List ℕ))
-    (file name text bytes : List ℕ) (is_file : name ≡ file) (is_text : bytes ≡ text) (is_makefile : IsMakefile files times named file text) where
+module _ (files : List ℕ → Option (List ℕ)) (times : List ℕ → Option ℤ)
+    (file name text bytes : List ℕ) (is_file : name ≡ file) (is_text : bytes ≡ text) (is_makefile : IsUsualMakefile files times file text) where
   -- what the bytes give under a name is what the makefile's text gives
   read_alike : (outcome : Outcome) → TextItems (AnswersOf files) depth name bytes outcome → TextItems (AnswersOf files) depth file text outcome
   read_alike outcome gives =
       subst (λ f. TextItems (AnswersOf files) depth f text outcome) is_file
       (subst (λ t. TextItems (AnswersOf files) depth name t outcome) is_text gives)
 
-  pub read_items : (items : List Item) → TextItems (AnswersOf files) depth name bytes (Ok items) → AreItems files times named items
+  pub read_items : (items : List Item) → TextItems (AnswersOf files) depth name bytes (Ok items) → AreItems files times [] items
   read_items items gives = record { file = file; text = text; is_makefile = is_makefile; read = read_alike (Ok items) gives }
 
-  pub read_refused : (fault : ReadFault) → GivesItems (Err fault) (TextItems (AnswersOf files) depth name bytes) → IsReadFault files times named fault
+  pub read_refused : (fault : ReadFault) → GivesItems (Err fault) (TextItems (AnswersOf files) depth name bytes) → IsReadFault files times [] fault
   read_refused OutOfMemory gives = tt
   read_refused (Refused refusal) gives = (file, text, is_makefile, read_alike (Err refusal) gives)
+
+-- ---- makefiles that are named
+
+-- what a text gives that the file of this name holds is what the makefile of the name gives
+module _ (files : List ℕ → Option (List ℕ)) (name text bytes : List ℕ) (holds : files name ≡ Some text) (is_text : bytes ≡ text) where
+  pub named_items : (outcome : Outcome) → TextItems (AnswersOf files) depth name bytes outcome → NamedItems files name outcome
+  named_items outcome gives = (text, holds, subst (λ t. TextItems (AnswersOf files) depth name t outcome) is_text gives)
+
+  pub named_refused : (fault : ReadFault) → GivesItems (Err fault) (TextItems (AnswersOf files) depth name bytes) → IsFaultOfOne files name (Read fault)
+  named_refused OutOfMemory gives = tt
+  named_refused (Refused refusal) gives = named_items (Err refusal) gives
+
+front_behind : (xs ys : List Item) (o : Outcome) → with_front (xs ++ ys) o ≡ with_front xs (with_front ys o)
+front_behind xs ys (Ok items) = ap Ok (append_assoc xs ys items)
+front_behind xs ys (Err refusal) = refl
+
+no_front : (o : Outcome) → with_front [] o ≡ o
+no_front (Ok items) = refl
+no_front (Err refusal) = refl
+
+-- an outcome of items is one list of them, and no fault
+same_items : (a b : List Item) (one other : Outcome) → one ≡ Ok a → other ≡ Ok b → one ≡ other → a ≡ b
+same_items a b one other is_a is_b same = let both : Ok a ≡ Ok b = sym is_a ∙ same ∙ is_b in cc
+
+no_items : (items : List Item) (refusal : Refusal) (one other : Outcome) → one ≡ Ok items → other ≡ Err refusal → one ≡ other → ⊥
+no_items items refusal one other is_items is_fault same = let both : Ok items ≡ Err refusal = sym is_items ∙ same ∙ is_fault in cc
+
+-- what things give that stand behind others
+module _ (One : List ℕ → Outcome → Type 0) (more : List (List ℕ)) (o : Outcome) (rest : InOrder One more o) where
+  pub order_behind : (before : List (List ℕ)) (items : List Item) → InOrder One before (Ok items) → InOrder One (before ++ more) (with_front items o)
+  order_behind [] items gives =
+      let none : items ≡ [] = same_items items [] (Ok items) (Ok []) refl refl gives in
+      subst (InOrder One more) (sym (ap (λ xs. with_front xs o) none ∙ no_front o)) rest
+  order_behind (name ∷ before) items (Err refusal, is, same) = absurd (no_items items refusal (Ok items) (Err refusal) refl refl same)
+  order_behind (name ∷ before) items (Ok xs, is, (Err refusal, gives, same)) = absurd (no_items items refusal (Ok items) (Err refusal) refl refl same)
+  order_behind (name ∷ before) items (Ok xs, is, (Ok ys, gives, same)) =
+      let parts : items ≡ xs ++ ys = same_items items (xs ++ ys) (Ok items) (Ok (xs ++ ys)) refl refl same in
+      (Ok xs, is, (with_front ys o, order_behind before ys gives, ap (λ zs. with_front zs o) parts ∙ front_behind xs ys o))
+
+-- the makefiles that aren't left were read, and gave these items
+pub record AreReadSoFar (files : List ℕ → Option (List ℕ)) (names left : List (List ℕ)) (items : List Item) : Type 0 where
+  pub before : List (List ℕ)
+  pub parts : names ≡ before ++ left
+  pub gives : InOrder (NamedItems files) before (Ok items)
+
+module _ (files : List ℕ → Option (List ℕ)) (names : List (List ℕ)) where
+  pub none_read : (left : List (List ℕ)) (items : List Item) → left ≡ names → items ≡ [] → AreReadSoFar files names left items
+  none_read left items all none = record { before = []; parts = sym all; gives = ap Ok none }
+
+  pub one_read : (left more : List (List ℕ)) (name : List ℕ) (items front new : List Item) → left ≡ name ∷ more → AreReadSoFar files names left items →
+      NamedItems files name (Ok front) → new ≡ items ++ front → AreReadSoFar files names more new
+  one_read left more name items front new at read given is = record {
+    before = read.before ++ name ∷ [];
+    parts = read.parts ∙ ap (λ ls. read.before ++ ls) at ∙ sym (append_assoc read.before (name ∷ []) more);
+    gives = subst (λ xs. InOrder (NamedItems files) (read.before ++ name ∷ []) (Ok xs)) (sym is)
+        (order_behind (NamedItems files) (name ∷ []) (Ok front) (Ok front, given, (Ok [], refl, ap Ok (sym (append-nil front)))) read.before items read.gives);
+  }
+
+  pub all_read : (left : List (List ℕ)) (items : List Item) → left ≡ [] → AreReadSoFar files names left items → InOrder (NamedItems files) names (Ok items)
+  all_read left items none read =
+      subst (λ ls. InOrder (NamedItems files) ls (Ok items)) (sym (read.parts ∙ ap (λ ls. read.before ++ ls) none ∙ append-nil read.before)) read.gives
+
+  pub fault_among : (left more : List (List ℕ)) (name : List ℕ) (items : List Item) → left ≡ name ∷ more → AreReadSoFar files names left items →
+      (f : Fault) → IsFaultOfOne files name f → IsFaultAmong files names f
+  fault_among left more name items at read fault.OutOfMemory is = tt
+  fault_among left more name items at read fault.NoMakefile is = record {
+    before = read.before;
+    lacking = name;
+    behind = more;
+    are_names = read.parts ∙ ap (λ ls. read.before ++ ls) at;
+    items = items;
+    are_items = read.gives;
+    is_lacking = is;
+  }
+  fault_among left more name items at read (fault.Read OutOfMemory) is = tt
+  fault_among left more name items at read (fault.Read (Refused refusal)) is =
+      subst (λ ls. InOrder (NamedItems files) ls (Err refusal)) (sym (read.parts ∙ ap (λ ls. read.before ++ ls) at))
+      (order_behind (NamedItems files) (name ∷ more) (Err refusal) (Err refusal, is, refl) read.before items read.gives)
+  fault_among left more name items at read (fault.State f) is = absurd is
+  fault_among left more name items at read (fault.Rules f) is = absurd is
+  fault_among left more name items at read (fault.Recipe f) is = absurd is
+  fault_among left more name items at read fault.Write is = absurd is
+
+-- what is so of a fault is so of a result that has it
+pub handed_on : {T : Type 0} (got : Result T Fault) (P : Fault → Type 0) (f : Fault) → IsErrAnd got (λ g. g ≡ f) → P f → IfErr got P
+handed_on (Ok x) P f is so = tt
+handed_on (Err g) P f is so = subst P (sym is) so
+
+-- so it is of the makefiles of a run, where some are named
+pub some_named : {A : Type 0} (names : List A) (none : Bool) → (names ≡ [] → IsTrue none) → none ≡ false → names ≡ [] → ⊥
+some_named names none is some empty = let both : true ≡ false = sym (is empty) ∙ some in cc
+
+module _ (files : List ℕ → Option (List ℕ)) (times : List ℕ → Option ℤ) where
+  pub items_among : (names : List (List ℕ)) (items : List Item) → (names ≡ [] → ⊥) → InOrder (NamedItems files) names (Ok items) → AreItems files times names items
+  items_among [] items some gives = absurd (some refl)
+  items_among (name ∷ names) items some gives = gives
+
+  pub text_fault_among : (refuses : List ℕ → Type 0) (names : List (List ℕ)) (f : Fault) → (names ≡ [] → ⊥) → IsFaultAmong files names f →
+      IsTextFault files times refuses names f
+  text_fault_among refuses [] f some is = absurd (some refl)
+  text_fault_among refuses (name ∷ names) fault.OutOfMemory some is = tt
+  text_fault_among refuses (name ∷ names) fault.NoMakefile some is = is
+  text_fault_among refuses (name ∷ names) (fault.Read OutOfMemory) some is = tt
+  text_fault_among refuses (name ∷ names) (fault.Read (Refused refusal)) some is = is
+  text_fault_among refuses (name ∷ names) (fault.State f) some is = absurd is
+  text_fault_among refuses (name ∷ names) (fault.Rules f) some is = absurd is
+  text_fault_among refuses (name ∷ names) (fault.Recipe f) some is = absurd is
+  text_fault_among refuses (name ∷ names) fault.Write some is = absurd is
 
 -- ---- one makefile
 
@@ -75,22 +168,38 @@ one_text content a b is_a is_b = same_Some a b (sym is_a ∙ is_b)
 no_text : (content : Option (List ℕ)) (a : List ℕ) → content ≡ Some a → content ≡ None → ⊥
 no_text content a is none = let both : Some a ≡ None = sym is ∙ none in cc
 
-makefile_once : (files : List ℕ → Option (List ℕ)) (times : List ℕ → Option ℤ) (named : Option (List ℕ)) (file other text bytes : List ℕ) →
-    IsMakefile files times named file text → IsMakefile files times named other bytes → (file ≡ other) × (text ≡ bytes)
-makefile_once files times (Some name) file other text bytes (is_a, of_a) (is_b, of_b) = (is_a ∙ sym is_b, one_text (files name) text bytes of_a of_b)
-makefile_once files times None file other text bytes (inl (is_a, of_a)) (inl (is_b, of_b)) =
+makefile_once : (files : List ℕ → Option (List ℕ)) (times : List ℕ → Option ℤ) (file other text bytes : List ℕ) →
+    IsUsualMakefile files times file text → IsUsualMakefile files times other bytes → (file ≡ other) × (text ≡ bytes)
+makefile_once files times file other text bytes (inl (is_a, of_a)) (inl (is_b, of_b)) =
     (is_a ∙ sym is_b, one_text (files first_name) text bytes of_a of_b)
-makefile_once files times None file other text bytes (inl (is_a, of_a)) (inr (is_b, of_b)) = absurd (no_text (files first_name) text of_a of_b.0)
-makefile_once files times None file other text bytes (inr (is_a, of_a)) (inl (is_b, of_b)) = absurd (no_text (files first_name) bytes of_b of_a.0)
-makefile_once files times None file other text bytes (inr (is_a, of_a)) (inr (is_b, of_b)) =
+makefile_once files times file other text bytes (inl (is_a, of_a)) (inr (is_b, of_b)) = absurd (no_text (files first_name) text of_a of_b.0)
+makefile_once files times file other text bytes (inr (is_a, of_a)) (inl (is_b, of_b)) = absurd (no_text (files first_name) bytes of_b of_a.0)
+makefile_once files times file other text bytes (inr (is_a, of_a)) (inr (is_b, of_b)) =
     (is_a ∙ sym is_b, one_text (files second_name) text bytes of_a.1.1 of_b.1.1)
 
-same_items : (a b : List Item) (one other : Outcome) → one ≡ Ok a → other ≡ Ok b → one ≡ other → a ≡ b
-same_items a b one other is_a is_b same = let both : Ok a ≡ Ok b = sym is_a ∙ same ∙ is_b in cc
+-- things that give one outcome each give one in order
+then_once : (front : Outcome) (Rest : Outcome → Type 0) → ((o p : Outcome) → Rest o → Rest p → o ≡ p) → (one other : Outcome) →
+    Then front Rest one → Then front Rest other → one ≡ other
+then_once (Err refusal) Rest h one other a b = a ∙ sym b
+then_once (Ok items) Rest h one other a b = a.2 ∙ ap (with_front items) (h a.0 b.0 a.1 b.1) ∙ sym b.2
 
-pub items_once : (files : List ℕ → Option (List ℕ)) (times : List ℕ → Option ℤ) (named : Option (List ℕ)) (a b : List Item) →
+order_once : (One : List ℕ → Outcome → Type 0) → ((name : List ℕ) (o p : Outcome) → One name o → One name p → o ≡ p) → (names : List (List ℕ)) (one other : Outcome) →
+    InOrder One names one → InOrder One names other → one ≡ other
+order_once One h [] one other a b = a ∙ sym b
+order_once One h (name ∷ names) one other a b =
+    then_once b.0 (InOrder One names) (order_once One h names) one other (subst (λ front. Then front (InOrder One names) one) (h name a.0 b.0 a.1 b.1) a.2) b.2
+
+named_once : (files : List ℕ → Option (List ℕ)) (name : List ℕ) (one other : Outcome) → NamedItems files name one → NamedItems files name other → one ≡ other
+named_once files name one other (text, holds, gives) (bytes, also, gave) =
+    text_one files depth name bytes one other
+    (subst (λ t. TextItems (AnswersOf files) depth name t one) (one_text (files name) text bytes holds also) gives) gave
+
+pub items_once : (files : List ℕ → Option (List ℕ)) (times : List ℕ → Option ℤ) (named : List (List ℕ)) (a b : List Item) →
     AreItems files times named a → AreItems files times named b → a ≡ b
-items_once files times named a b of_a of_b =
-    let same = makefile_once files times named of_a.file of_b.file of_a.text of_b.text of_a.is_makefile of_b.is_makefile in
-    let read = read_alike files times named of_b.file of_a.file of_b.text of_a.text same.0 same.1 of_b.is_makefile (Ok a) of_a.read in
+items_once files times [] a b of_a of_b =
+    let same = makefile_once files times of_a.file of_b.file of_a.text of_b.text of_a.is_makefile of_b.is_makefile in
+    let read = read_alike files times of_b.file of_a.file of_b.text of_a.text same.0 same.1 of_b.is_makefile (Ok a) of_a.read in
     same_items a b (Ok a) (Ok b) refl refl (text_one files depth of_b.file of_b.text (Ok a) (Ok b) read of_b.read)
+items_once files times (name ∷ names) a b of_a of_b =
+    same_items a b (Ok a) (Ok b) refl refl
+    (order_once (NamedItems files) (named_once files) (name ∷ names) (Ok a) (Ok b) of_a of_b)

@@ -1,9 +1,10 @@
 -- By the same files, times and state there is one plan, with one listing.
 use Rattle.std.specs.Prelude.{slice_set, replicate}
-use Rattle.std.proofs.Common.{◌≡◌, ◌∙◌, ℕ, ℤ, Bool, true, false, List, length, Option, sym, subst}
+use Rattle.std.proofs.Common.{◌≡◌, ◌∙◌, ◌||◌, ℕ, ℤ, Bool, true, false, List, length, Option, sym, ap, subst}
 use Rattle.std.specs.FinMap as map
 use Rattle.mk_reader.specs.declared.item.Item.{Item}
 use Rattle.mk_plan.specs.Passage.{Passage}
+use Rattle.mk_graph.specs.Numbering.{name_at}
 use Rattle.mk_rules.specs.Graph.{IsGraph}
 use Rattle.mk_rules.specs.declared.graph.Graph.{Graph}
 use Rattle.mk_rules.proofs.InputLemmas.{inputs_once}
@@ -19,7 +20,7 @@ use Rattle.bd_lists.specs.declared.recipe.Variable.{Variable}
 use Rattle.dmk_drive.specs.Definitions.{first_defined}
 use Rattle.dmk_drive.specs.Keeping.{keeps}
 use Rattle.dmk_drive.specs.Passing.{Lists, at_end, behind, no_marks, IsListing}
-use Rattle.dmk_drive.specs.Planned.{IsStateOn, IsGraphOf, IsPlanned, Plans}
+use Rattle.dmk_drive.specs.Planned.{IsStateOn, IsGraphOf, IsPlanned, Plans, judged_graph}
 use Rattle.dmk_drive.proofs.ListingLemmas.{lists_once}
 use Rattle.dmk_drive.proofs.MakefileLemmas.{items_once}
 
@@ -36,6 +37,29 @@ module _ (a b : Graph) (alike : AreAlike a b) (keeping : Bool) where
   listing_in count order listed lists =
       subst (λ c. Lists keeping b (replicate c false) b.order.items listed) count
       (subst (λ o. Lists keeping b (no_marks a) o listed) order (lists_in (no_marks a) a.order.items listed lists))
+
+-- so it is of the graphs by which targets are judged
+judged_alike : (all : Bool) (a b : Graph) → AreAlike a b → AreAlike (judged_graph all a) (judged_graph all b)
+judged_alike true a b alike = record {
+  names = alike.names;
+  hard = alike.hard;
+  stamp = alike.stamp;
+  entry = λ n. ap (λ ns. map.get (judged_graph true a).state (name_at ns n)) alike.names;
+  hidden = alike.hidden;
+  stem = alike.stem;
+  source = alike.source;
+  explicit = alike.explicit;
+  recipe = alike.recipe;
+  dropped = alike.dropped;
+  ranks = alike.ranks;
+}
+judged_alike false a b alike = alike
+
+judged_in : (all : Bool) (a b : Graph) → AreAlike a b → (keeping : Bool) → length a.nodes.items ≡ length b.nodes.items → a.order.items ≡ b.order.items →
+    (listed : List Passage) → IsListing keeping (judged_graph all a) listed → IsListing keeping (judged_graph all b) listed
+judged_in true a b alike keeping count order listed lists =
+    listing_in (judged_graph true a) (judged_graph true b) (judged_alike true a b alike) keeping count order listed lists
+judged_in false a b alike keeping count order listed lists = listing_in a b alike keeping count order listed lists
 
 -- ---- one state
 
@@ -57,32 +81,33 @@ module _ (definitions environment : List Variable) (targets : List (List ℕ)) (
   dropped_once : a.soft_dropped ≡ b.soft_dropped
   dropped_once = one_dropped of_a.inputs targets a b of_a.is_graph is_b
 
-  listing_once : (keeping : Bool) (x y : List Passage) → IsListing keeping a x → IsListing keeping b y → x ≡ y
-  listing_once keeping x y of_x of_y =
-      lists_once keeping b b.order.items (no_marks b) x y
-      (listing_in a b (one_graph of_a.inputs targets a b of_a.is_graph is_b (of_a.macros ∙ sym of_b.macros)) keeping
+  listing_once : (all keeping : Bool) (x y : List Passage) → IsListing keeping (judged_graph all a) x → IsListing keeping (judged_graph all b) y → x ≡ y
+  listing_once all keeping x y of_x of_y =
+      let judged : Graph = judged_graph all b in
+      lists_once keeping judged judged.order.items (no_marks judged) x y
+      (judged_in all a b (one_graph of_a.inputs targets a b of_a.is_graph is_b (of_a.macros ∙ sym of_b.macros)) keeping
       (one_count of_a.inputs targets a b of_a.is_graph is_b) (one_order of_a.inputs targets a b of_a.is_graph is_b) x of_x)
       of_y
 
-module _ (definitions environment : List Variable) (targets : List (List ℕ)) (times : List ℕ → Option ℤ) (honest : Type 0) (works : honest)
+module _ (definitions environment : List Variable) (targets : List (List ℕ)) (all : Bool) (times : List ℕ → Option ℤ) (honest : Type 0) (works : honest)
     (seen : Which → List ℕ) (items : List Item) (x y : List Passage) (d e : Bool) where
-  planned_once : IsPlanned definitions environment targets times honest seen items x d → IsPlanned definitions environment targets times honest seen items y e →
+  planned_once : IsPlanned definitions environment targets all times honest seen items x d → IsPlanned definitions environment targets all times honest seen items y e →
       (x ≡ y) × (d ≡ e)
   planned_once of_x of_y =
       let keeping : Bool = keeps environment items in
       let state = state_once keeping honest seen of_x.state of_y.state works of_x.is_state of_y.is_state in
       let of_b : IsGraphOf definitions environment targets times items of_x.state of_y.graph
       = subst (λ m. IsGraphOf definitions environment targets times items m of_y.graph) (sym state) of_y.is_graph in (
-        listing_once definitions environment targets times items of_x.state of_x.graph of_y.graph of_x.is_graph of_b keeping x y of_x.lists of_y.lists,
+        listing_once definitions environment targets times items of_x.state of_x.graph of_y.graph of_x.is_graph of_b all (all || keeping) x y of_x.lists of_y.lists,
         of_x.soft ∙ dropped_once definitions environment targets times items of_x.state of_x.graph of_y.graph of_x.is_graph of_b ∙ sym of_y.soft,
       )
 
-pub plan_once : (files : List ℕ → Option (List ℕ)) (times : List ℕ → Option ℤ) (named : Option (List ℕ)) (definitions environment : List Variable)
-    (targets : List (List ℕ)) (honest : Type 0) (seen : Which → List ℕ) (x y : List Passage) (d e : Bool) → honest →
-    Plans files times named definitions environment targets honest seen x d → Plans files times named definitions environment targets honest seen y e →
+pub plan_once : (files : List ℕ → Option (List ℕ)) (times : List ℕ → Option ℤ) (named : List (List ℕ)) (definitions environment : List Variable)
+    (targets : List (List ℕ)) (all : Bool) (honest : Type 0) (seen : Which → List ℕ) (x y : List Passage) (d e : Bool) → honest →
+    Plans files times named definitions environment targets all honest seen x d → Plans files times named definitions environment targets all honest seen y e →
     (x ≡ y) × (d ≡ e)
-plan_once files times named definitions environment targets honest seen x y d e works of_x of_y =
-    planned_once definitions environment targets times honest works seen of_y.items x y d e
-    (subst (λ items. IsPlanned definitions environment targets times honest seen items x d)
+plan_once files times named definitions environment targets all honest seen x y d e works of_x of_y =
+    planned_once definitions environment targets all times honest works seen of_y.items x y d e
+    (subst (λ items. IsPlanned definitions environment targets all times honest seen items x d)
     (items_once files times named of_x.items of_y.items of_x.are_items of_y.are_items) of_x.planned)
     of_y.planned

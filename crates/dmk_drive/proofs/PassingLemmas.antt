@@ -1,7 +1,8 @@
 -- What stays true while the nodes of a graph are passed, and what its order says.
-use Rattle.std.proofs.Common.{◌≡◌, ◌+◌, ◌⊎◌, inl, inr, ℕ, Bool, true, false, not, ◌&&◌, ◌||◌, nat_lt, List, [], ◌∷◌, ◌++◌, length, drop, set, refl, sym, ap, ◌∙◌, subst, append_assoc, append-nil}
+use Rattle.std.proofs.Common.{◌≡◌, ◌+◌, ◌⊎◌, inl, inr, ℕ, ℤ, Bool, Option, true, false, not, ◌&&◌, ◌||◌, nat_lt, List, [], ◌∷◌, ◌++◌, length, drop, set, refl, sym, ap, ◌∙◌, subst, append_assoc, append-nil}
 use Rattle.std.proofs.lemmas.Bool.{and_parts, and_from}
 use Rattle.std.proofs.lemmas.Grind.{flat_map-append}
+use Rattle.std.specs.FinMap.{get-empty}
 use Rattle.std.specs.List.{list_all, flat_map}
 use Rattle.std.specs.Bool.{if◌then◌else◌}
 use Rattle.mk_graph.specs.Counted.{joined, AreCounted}
@@ -17,12 +18,17 @@ use Rattle.mk_rules.specs.Prerequisites.{Inputs}
 use Rattle.mk_rules.specs.declared.graph.Graph.{Graph}
 use Rattle.mk_graph.specs.Numbering.{name_at}
 use Rattle.mk_plan.specs.Passage.{Passage, to_make, finished, is_listed, commands_of}
-use Rattle.mk_plan.specs.Passing.{Passes, IsFaultAt, told_in}
+use Rattle.mk_plan.specs.Passing.{Passes, is_to_be_run, is_up_to_date, has_no_recipe, is_left, IsFaultAt, told_in}
 use Rattle.mk_plan.specs.Telling.{lines_about}
+use Rattle.mk_verdict.specs.declared.verdict.Reason.TheVariants.{NoEntry}
+use Rattle.st_disk.specs.declared.which.Which.{Which}
+use Rattle.st_state.proofs.StateLemmas.{by_bytes}
+use Rattle.bd_lists.specs.declared.recipe.Variable.{Variable}
 use Rattle.mk_plan.specs.declared.passing.Passed.{Passed}
 use Rattle.mk_plan.specs.declared.passing.Passed.TheVariants as passed
 use Rattle.mk_plan.specs.declared.telling.Telling.{Telling}
 use Rattle.mk_plan.specs.declared.telling.Telling.TheVariants as tellings
+use Rattle.dmk_drive.specs.Planned.{Plans, judged_graph}
 use Rattle.dmk_drive.specs.Passing.{Lists, at_end, behind, ListsFault, here, later, IsListing, IsListingFault, no_marks, printed, text_of, recipe_in, passage_text, listing_text, lists_any, PassesEach}
 
 -- what was listed so far: with what is listed of the nodes that are left it is what all list
@@ -125,6 +131,13 @@ pub order_below : (inputs : Inputs) (named : List (List ℕ)) (graph : Graph) �
 order_below inputs named graph is =
     subst (λ count. list_all (λ n. nat_lt n count) graph.order.items ≡ true) graph.counted_rows (plan_below graph.counted [] graph.order.items is.order)
 
+-- so it is of the graph by which targets are judged
+pub order_judged : (all : Bool) (graph judged : Graph) → judged ≡ judged_graph all graph →
+    list_all (λ n. nat_lt n (length graph.nodes.items)) graph.order.items ≡ true →
+    list_all (λ n. nat_lt n (length judged.nodes.items)) judged.order.items ≡ true
+order_judged true graph judged is below = subst (λ g. list_all (λ n. nat_lt n (length g.nodes.items)) g.order.items ≡ true) (sym is) below
+order_judged false graph judged is below = subst (λ g. list_all (λ n. nat_lt n (length g.nodes.items)) g.order.items ≡ true) (sym is) below
+
 -- no counted edges make a cycle where the hard ones don't
 uncycled : (hard soft counted : List (List ℕ)) (dropped : Bool) → AreCounted hard soft counted dropped → (HasCycle hard → ⊥) → HasCycle counted → ⊥
 uncycled hard soft counted true are acyclic cycle = acyclic (cycle_in hard counted are.edges cycle)
@@ -140,3 +153,20 @@ passes_each inputs named graph is = record {
   once = λ n. subst (λ count. times n graph.order.items ≡ (if nat_lt n count then 1 else 0)) graph.counted_rows
       (whole_plan graph.counted graph.order.items graph.counted_closed (uncycled graph.hard graph.soft graph.counted graph.soft_dropped is.counted is.acyclic) is.order n);
 }
+
+-- ---- where all targets are to be made
+
+-- of each that has a recipe nothing is recorded
+all_listed : (graph : Graph) (marks : List Bool) (order : List ℕ) (listed : List Passage) → Lists true (judged_graph true graph) marks order listed →
+    list_all is_listed listed ≡ true
+all_listed graph marks _ _ at_end = refl
+all_listed graph marks _ _ (behind (is_to_be_run recipe lines target why is_recipe are of because) rest) = all_listed graph _ _ _ rest
+all_listed graph marks _ _ (behind (is_up_to_date recipe lines target is_recipe are of up) rest) = absurd (up (NoEntry, (refl, get-empty by_bytes _)))
+all_listed graph marks _ _ (behind (has_no_recipe none remade) rest) = all_listed graph _ _ _ rest
+all_listed graph marks _ _ (behind (is_left none left) rest) = all_listed graph _ _ _ rest
+
+pub each_made : (files : List ℕ → Option (List ℕ)) (times : List ℕ → Option ℤ) (named : List (List ℕ)) (definitions environment : List Variable)
+    (targets : List (List ℕ)) (honest : Type 0) (seen : Which → List ℕ) (plan : List Passage) (dropped : Bool) →
+    Plans files times named definitions environment targets true honest seen plan dropped → list_all is_listed plan ≡ true
+each_made files times named definitions environment targets honest seen plan dropped is =
+    all_listed is.planned.graph _ _ plan is.planned.lists

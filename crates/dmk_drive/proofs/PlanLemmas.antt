@@ -1,5 +1,9 @@
 -- The stages of a plan put together.
-use Rattle.std.proofs.Common.{◌≡◌, ◌⊎◌, inl, inr, ℕ, ℤ, Bool, List, Option, Result, Ok, Err, IfOk, IfErr, sym, subst}
+use Rattle.std.proofs.Common.{◌≡◌, ◌⊎◌, ◌||◌, inl, inr, ℕ, ℤ, ◌≤◌, Bool, List, length, Option, Result, Ok, Err, IfOk, IfErr, IsTrue, refl, sym, ap, subst, ◌∙◌, true, false}
+use Rattle.std.proofs.Props.{props}
+use Rattle.std.specs.List.Sorted.{IsStrictlyIncreasing}
+use Rattle.mk_graph.specs.Edges.{row, is_closed}
+use Rattle.mk_rules.specs.Node.{EachHasOneNumber}
 use Rattle.std.specs.FinMap as map
 use Rattle.mk_macros.specs.declared.fault.MacroFault.{MacroFault}
 use Rattle.mk_reader.specs.declared.item.Item.{Item}
@@ -14,14 +18,68 @@ use Rattle.st_state.specs.State.{StateMap}
 use Rattle.dmk_drive.specs.Definitions.{first_defined}
 use Rattle.dmk_drive.specs.Keeping.{keeps}
 use Rattle.dmk_drive.specs.Passing.{IsListing, IsListingFault, listing_text, lists_any}
-use Rattle.dmk_drive.specs.Planned.{IsStateOn, IsGraphOf, Tells}
+use Rattle.dmk_drive.specs.Planned.{IsStateOn, IsGraphOf, Tells, judged_graph}
 use Rattle.dmk_drive.specs.Faults.{IsPlanFault}
 use Rattle.dmk_drive.specs.declared.fault.Fault.{Fault}
 use Rattle.dmk_drive.specs.declared.fault.Fault.TheVariants as fault
 use Rattle.dmk_drive.specs.declared.planning.DryRun.{DryRun}
 use Rattle.bd_lists.specs.declared.recipe.Variable.{Variable}
 
-module _ (definitions environment : List Variable) (targets : List (List ℕ)) (times : List ℕ → Option ℤ)
+-- ---- the graph by which targets are judged
+
+same_count : (a b : ℕ) → IsProp (a ≡ b)
+same_count a b = hlevel props
+
+is_true : (b : Bool) → IsProp (IsTrue b)
+is_true b = hlevel props
+
+one_number : (names : List (List ℕ)) → IsProp (EachHasOneNumber names)
+one_number names = hlevel props
+
+ascending : (rows : List (List ℕ)) → IsProp ((n : ℕ) → IsStrictlyIncreasing (row rows n))
+ascending rows = hlevel props
+
+few_nodes : (count : ℕ) → IsProp (count ≤ MAX_NODES)
+few_nodes count = hlevel props
+
+-- whichever proofs go with its fields, a graph with this state in place of its own is one
+pub with_state : (g : Graph) (state : StateMap) (named : length g.names ≡ length g.nodes.items) (distinct : EachHasOneNumber g.names)
+    (hard_rows : length g.hard ≡ length g.nodes.items) (soft_rows : length g.soft ≡ length g.nodes.items) (counted_rows : length g.counted ≡ length g.nodes.items)
+    (hard_closed : IsTrue (is_closed g.hard)) (soft_closed : IsTrue (is_closed g.soft)) (counted_closed : IsTrue (is_closed g.counted))
+    (counted_ascending : (n : ℕ) → IsStrictlyIncreasing (row g.counted n)) (few : length g.nodes.items ≤ MAX_NODES) →
+    record g {
+      state = state;
+      named = named;
+      distinct = distinct;
+      hard_rows = hard_rows;
+      soft_rows = soft_rows;
+      counted_rows = counted_rows;
+      hard_closed = hard_closed;
+      soft_closed = soft_closed;
+      counted_closed = counted_closed;
+      counted_ascending = counted_ascending;
+      few = few;
+    }
+    ≡ record g { state = state }
+with_state g state named distinct hard_rows soft_rows counted_rows hard_closed soft_closed counted_closed counted_ascending few = λ i. record g {
+  state = state;
+  named = same_count (length g.names) (length g.nodes.items) named g.named i;
+  distinct = one_number g.names distinct g.distinct i;
+  hard_rows = same_count (length g.hard) (length g.nodes.items) hard_rows g.hard_rows i;
+  soft_rows = same_count (length g.soft) (length g.nodes.items) soft_rows g.soft_rows i;
+  counted_rows = same_count (length g.counted) (length g.nodes.items) counted_rows g.counted_rows i;
+  hard_closed = is_true (is_closed g.hard) hard_closed g.hard_closed i;
+  soft_closed = is_true (is_closed g.soft) soft_closed g.soft_closed i;
+  counted_closed = is_true (is_closed g.counted) counted_closed g.counted_closed i;
+  counted_ascending = ascending g.counted counted_ascending g.counted_ascending i;
+  few = few_nodes (length g.nodes.items) few g.few i;
+}
+
+judged_dropped : (all : Bool) (graph : Graph) → (judged_graph all graph).soft_dropped ≡ graph.soft_dropped
+judged_dropped true graph = refl
+judged_dropped false graph = refl
+
+module _ (definitions environment : List Variable) (targets : List (List ℕ)) (all : Bool) (times : List ℕ → Option ℤ)
     (disk_honest : Type 0) (seen : Which → List ℕ) (items : List Item) (keeping : Bool) (is_keeping : keeping ≡ keeps environment items)
     (state : StateMap) (found : IsStateOn keeping disk_honest seen state) where
   kept : IsStateOn (keeps environment items) disk_honest seen state
@@ -30,21 +88,33 @@ module _ (definitions environment : List Variable) (targets : List (List ℕ)) (
   pub rules_fault : (refuses : List ℕ → Type 0) (Allowed : (List ℕ → Option ℤ) → Type 0) → Allowed times → (got : Fault) →
       ((got ≡ fault.OutOfMemory) ⊎ ((f : RuleFault) × (got ≡ fault.Rules f)
       × ((ts : List ℕ → Option ℤ) → Allowed ts → IsRuleFault (first_defined definitions environment) items ts (map.get state) refuses targets MAX_NODES f))) →
-      IsPlanFault definitions environment targets times refuses disk_honest seen items got
-  rules_fault refuses Allowed may got (inl is) = subst (IsPlanFault definitions environment targets times refuses disk_honest seen items) (sym is) tt
+      IsPlanFault definitions environment targets all times refuses disk_honest seen items got
+  rules_fault refuses Allowed may got (inl is) = subst (IsPlanFault definitions environment targets all times refuses disk_honest seen items) (sym is) tt
   rules_fault refuses Allowed may got (inr (f, is, meets)) =
-      subst (IsPlanFault definitions environment targets times refuses disk_honest seen items) (sym is) (state, kept, meets times may)
+      subst (IsPlanFault definitions environment targets all times refuses disk_honest seen items) (sym is) (state, kept, meets times may)
 
-  module _ (graph : Graph) (is_graph : IsGraphOf definitions environment targets times items state graph) where
-    pub recipes_fault : (refuses : List ℕ → Type 0) (got : Fault) → ((f : MacroFault) × (got ≡ fault.Recipe f) × IsListingFault keeping graph f) →
-        IsPlanFault definitions environment targets times refuses disk_honest seen items got
+  -- listed is the graph by which targets are judged
+  module _ (graph : Graph) (is_graph : IsGraphOf definitions environment targets times items state graph)
+      (judged : Graph) (is_judged : judged ≡ judged_graph all graph) (counting : Bool) (counts : counting ≡ all || keeping) where
+    counted : counting ≡ all || keeps environment items
+    counted = counts ∙ ap (λ k. all || k) is_keeping
+
+    pub recipes_fault : (refuses : List ℕ → Type 0) (got : Fault) → ((f : MacroFault) × (got ≡ fault.Recipe f) × IsListingFault counting judged f) →
+        IsPlanFault definitions environment targets all times refuses disk_honest seen items got
     recipes_fault refuses got (f, is, meets) =
-        subst (IsPlanFault definitions environment targets times refuses disk_honest seen items) (sym is)
-        (state, kept, (graph, is_graph, subst (λ k. IsListingFault k graph f) is_keeping meets))
+        subst (IsPlanFault definitions environment targets all times refuses disk_honest seen items) (sym is) (
+          state,
+          kept,
+          (
+            graph,
+            is_graph,
+            subst (λ k. IsListingFault k (judged_graph all graph) f) counted (subst (λ g. IsListingFault counting g f) is_judged meets),
+          ),
+        )
 
-    pub told : (telling : Telling) (recipes : Bool) (run : DryRun) → ((plan : List Passage) × IsListing keeping graph plan
+    pub told : (telling : Telling) (recipes : Bool) (run : DryRun) → ((plan : List Passage) × IsListing counting judged plan
         × (run.text.items ≡ listing_text telling recipes plan) × (run.lists_any ≡ lists_any plan)) →
-        run.soft_dropped ≡ graph.soft_dropped → Tells definitions environment targets times disk_honest seen items telling recipes run
+        run.soft_dropped ≡ judged.soft_dropped → Tells definitions environment targets all times disk_honest seen items telling recipes run
     told telling recipes run (plan, lists, text, any) dropped = record {
       plan = plan;
       planned = record {
@@ -52,22 +122,22 @@ module _ (definitions environment : List Variable) (targets : List (List ℕ)) (
         is_state = kept;
         graph = graph;
         is_graph = is_graph;
-        lists = subst (λ k. IsListing k graph plan) is_keeping lists;
-        soft = dropped;
+        lists = subst (λ k. IsListing k (judged_graph all graph) plan) counted (subst (λ g. IsListing counting g plan) is_judged lists);
+        soft = dropped ∙ ap (λ g. g.soft_dropped) is_judged ∙ judged_dropped all graph;
       };
       text = text;
       any = any;
     }
 
     pub recipes_result : (refuses : List ℕ → Type 0) (got : Result DryRun Fault) →
-        IfErr got (λ g. (f : MacroFault) × (g ≡ fault.Recipe f) × IsListingFault keeping graph f) →
-        IfErr got (IsPlanFault definitions environment targets times refuses disk_honest seen items)
+        IfErr got (λ g. (f : MacroFault) × (g ≡ fault.Recipe f) × IsListingFault counting judged f) →
+        IfErr got (IsPlanFault definitions environment targets all times refuses disk_honest seen items)
     recipes_result refuses (Ok run) is = tt
     recipes_result refuses (Err f) is = recipes_fault refuses f is
 
     pub told_result : (telling : Telling) (recipes : Bool) (got : Result DryRun Fault) →
-        IfOk got (λ run. (plan : List Passage) × IsListing keeping graph plan × (run.text.items ≡ listing_text telling recipes plan)
-        × (run.lists_any ≡ lists_any plan)) → IfOk got (λ run. run.soft_dropped ≡ graph.soft_dropped) →
-        IfOk got (Tells definitions environment targets times disk_honest seen items telling recipes)
+        IfOk got (λ run. (plan : List Passage) × IsListing counting judged plan × (run.text.items ≡ listing_text telling recipes plan)
+        × (run.lists_any ≡ lists_any plan)) → IfOk got (λ run. run.soft_dropped ≡ judged.soft_dropped) →
+        IfOk got (Tells definitions environment targets all times disk_honest seen items telling recipes)
     told_result telling recipes (Ok run) listing dropped = told telling recipes run listing dropped
     told_result telling recipes (Err f) listing dropped = tt

@@ -1,8 +1,8 @@
 -- What each fault says. Of a fault that comes later all stages before it are told, so that the order of the faults is
 -- that of the cases here.
-use Rattle.std.specs.Prelude.{◌≡◌, ℕ, ℤ, true, List, Option, Err}
+use Rattle.std.specs.Prelude.{◌≡◌, ◌||◌, ℕ, ℤ, Bool, true, List, [], ◌∷◌, Option, None, Err}
 use Rattle.std.specs.FinMap as map
-use Rattle.mk_eval.specs.Makefile.{AnswersOf, TextItems, depth}
+use Rattle.mk_eval.specs.Makefile.{AnswersOf, InOrder, TextItems, depth}
 use Rattle.mk_reader.specs.declared.item.Item.{Item}
 use Rattle.mk_reader.specs.declared.fault.ReadFault.{ReadFault}
 use Rattle.mk_reader.specs.declared.fault.ReadFault.TheVariants as read_fault
@@ -17,19 +17,37 @@ use Rattle.st_state.specs.State.{StateMap}
 use Rattle.st_recovery.specs.Recovers.{RefusesWith}
 use Rattle.dmk_drive.specs.Definitions.{first_defined}
 use Rattle.dmk_drive.specs.Keeping.{keeps}
-use Rattle.dmk_drive.specs.Makefile.{IsMakefile, HasNoMakefile}
+use Rattle.dmk_drive.specs.Makefile.{IsUsualMakefile, HasNoMakefile, LacksOne, NamedItems}
 use Rattle.dmk_drive.specs.Passing.{IsListingFault}
-use Rattle.dmk_drive.specs.Planned.{AreItems, IsStateOn, IsGraphOf}
+use Rattle.dmk_drive.specs.Planned.{AreItems, IsStateOn, IsGraphOf, judged_graph}
 use Rattle.dmk_drive.specs.declared.fault.Fault.{Fault}
 use Rattle.dmk_drive.specs.declared.fault.Fault.TheVariants as fault
 use Rattle.bd_lists.specs.declared.recipe.Variable.{Variable}
 
--- the makefile's text has a first line that is refused; want of memory says nothing of it
-abbrev pub IsReadFault : (files : List ℕ → Option (List ℕ)) (times : List ℕ → Option ℤ) (named : Option (List ℕ)) →
+-- the makefiles have a first line that is refused: the usual one, where none is named, or one of those that are, with all before
+-- it read; want of memory says nothing of it
+abbrev pub IsReadFault : (files : List ℕ → Option (List ℕ)) (times : List ℕ → Option ℤ) (named : List (List ℕ)) →
     ReadFault → Type 0
 IsReadFault files times named read_fault.OutOfMemory = Unit {0}
-IsReadFault files times named (read_fault.Refused refusal) =
-    (file : List ℕ) × (text : List ℕ) × IsMakefile files times named file text × TextItems (AnswersOf files) depth file text (Err refusal)
+IsReadFault files times [] (read_fault.Refused refusal) =
+    (file : List ℕ) × (text : List ℕ) × IsUsualMakefile files times file text × TextItems (AnswersOf files) depth file text (Err refusal)
+IsReadFault files times (name ∷ names) (read_fault.Refused refusal) = InOrder (NamedItems files) (name ∷ names) (Err refusal)
+
+-- the fault of the makefile of this name
+abbrev pub IsFaultOfOne : (files : List ℕ → Option (List ℕ)) (name : List ℕ) → Fault → Type 0
+IsFaultOfOne files name fault.OutOfMemory = Unit {0}
+IsFaultOfOne files name fault.NoMakefile = files name ≡ None
+IsFaultOfOne files name (fault.Read read_fault.OutOfMemory) = Unit {0}
+IsFaultOfOne files name (fault.Read (read_fault.Refused refusal)) = NamedItems files name (Err refusal)
+IsFaultOfOne files name _ = ⊥
+
+-- the first fault of the makefiles of these names
+abbrev pub IsFaultAmong : (files : List ℕ → Option (List ℕ)) (names : List (List ℕ)) → Fault → Type 0
+IsFaultAmong files names fault.OutOfMemory = Unit {0}
+IsFaultAmong files names fault.NoMakefile = LacksOne files names
+IsFaultAmong files names (fault.Read read_fault.OutOfMemory) = Unit {0}
+IsFaultAmong files names (fault.Read (read_fault.Refused refusal)) = InOrder (NamedItems files) names (Err refusal)
+IsFaultAmong files names _ = ⊥
 
 -- the fault of the two sides; a device and want of memory say nothing of their bytes
 abbrev pub IsOpenFault : (seen : Which → List ℕ) → OpenFault → Type 0
@@ -39,26 +57,26 @@ IsOpenFault seen f = RefusesWith (seen sides.A) (seen sides.B) f
 
 -- the fault that looking for the makefile and reading it gives
 abbrev pub IsTextFault : (files : List ℕ → Option (List ℕ)) (times : List ℕ → Option ℤ)
-    (refuses : List ℕ → Type 0) (named : Option (List ℕ)) → Fault → Type 0
+    (refuses : List ℕ → Type 0) (named : List (List ℕ)) → Fault → Type 0
 IsTextFault files times refuses named fault.OutOfMemory = Unit {0}
 IsTextFault files times refuses named fault.NoMakefile = HasNoMakefile files times refuses named
 IsTextFault files times refuses named (fault.Read f) = IsReadFault files times named f
 IsTextFault files times refuses named _ = ⊥
 
 -- the fault of a plan for items that were read
-abbrev pub IsPlanFault : (definitions environment : List Variable) (targets : List (List ℕ)) (times : List ℕ → Option ℤ)
+abbrev pub IsPlanFault : (definitions environment : List Variable) (targets : List (List ℕ)) (all : Bool) (times : List ℕ → Option ℤ)
     (refuses : List ℕ → Type 0) (disk_honest : Type 0) (seen : Which → List ℕ) (items : List Item) →
     Fault → Type 0
-IsPlanFault definitions environment targets times refuses disk_honest seen items fault.OutOfMemory = Unit {0}
-IsPlanFault definitions environment targets times refuses disk_honest seen items (fault.State f) =
+IsPlanFault definitions environment targets all times refuses disk_honest seen items fault.OutOfMemory = Unit {0}
+IsPlanFault definitions environment targets all times refuses disk_honest seen items (fault.State f) =
     (keeps environment items ≡ true) × (disk_honest → IsOpenFault seen f)
-IsPlanFault definitions environment targets times refuses disk_honest seen items (fault.Rules f) =
+IsPlanFault definitions environment targets all times refuses disk_honest seen items (fault.Rules f) =
     (state : StateMap) × IsStateOn (keeps environment items) disk_honest seen state
     × IsRuleFault (first_defined definitions environment) items times (map.get state) refuses targets MAX_NODES f
-IsPlanFault definitions environment targets times refuses disk_honest seen items (fault.Recipe f) =
+IsPlanFault definitions environment targets all times refuses disk_honest seen items (fault.Recipe f) =
     (state : StateMap) × IsStateOn (keeps environment items) disk_honest seen state
-    × ((graph : Graph) × IsGraphOf definitions environment targets times items state graph × IsListingFault (keeps environment items) graph f)
-IsPlanFault definitions environment targets times refuses disk_honest seen items _ = ⊥
+    × ((graph : Graph) × IsGraphOf definitions environment targets times items state graph × IsListingFault (all || keeps environment items) (judged_graph all graph) f)
+IsPlanFault definitions environment targets all times refuses disk_honest seen items _ = ⊥
 
 -- a fault of the makefile comes before all else; the others are those of a plan for its items
 abbrev pub IsRunFault : (Text : Fault → Type 0) (Items : List Item → Type 0) (Plan : List Item → Fault → Type 0) → Fault → Type 0
@@ -71,9 +89,9 @@ IsRunFault Text Items Plan (fault.Recipe f) = (items : List Item) × Items items
 IsRunFault Text Items Plan fault.Write = ⊥
 
 -- so it is of the makefile that is named, or the usual one, for these targets
-abbrev pub IsFaultOf : (files : List ℕ → Option (List ℕ)) (times : List ℕ → Option ℤ) (named : Option (List ℕ))
-    (definitions environment : List Variable) (targets : List (List ℕ)) (refuses : List ℕ → Type 0) (disk_honest : Type 0)
+abbrev pub IsFaultOf : (files : List ℕ → Option (List ℕ)) (times : List ℕ → Option ℤ) (named : List (List ℕ))
+    (definitions environment : List Variable) (targets : List (List ℕ)) (all : Bool) (refuses : List ℕ → Type 0) (disk_honest : Type 0)
     (seen : Which → List ℕ) → Fault → Type 0
-IsFaultOf files times named definitions environment targets refuses disk_honest seen =
+IsFaultOf files times named definitions environment targets all refuses disk_honest seen =
     IsRunFault (IsTextFault files times refuses named) (AreItems files times named)
-    (IsPlanFault definitions environment targets times refuses disk_honest seen)
+    (IsPlanFault definitions environment targets all times refuses disk_honest seen)

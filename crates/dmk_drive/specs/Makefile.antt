@@ -1,5 +1,7 @@
--- Which file is the makefile (make(1S), -f and the names makefile and Makefile).
-use Rattle.std.specs.Prelude.{◌≡◌, ◌⊎◌, ℕ, ℤ, true, List, Option, Some, None, is_some, codes}
+-- Which files are the makefile (make(1S), -f and the names makefile and Makefile), and what those that are named give.
+use Rattle.std.specs.Prelude.{◌≡◌, ◌⊎◌, ℕ, ℤ, true, List, [], ◌∷◌, ◌++◌, Option, Some, None, Ok, is_some, codes}
+use Rattle.mk_eval.specs.Makefile.{AnswersOf, InOrder, Outcome, TextItems, depth}
+use Rattle.mk_reader.specs.declared.item.Item.{Item}
 
 -- the names that are tried where none is given
 abbrev pub first_name : List ℕ
@@ -12,19 +14,31 @@ second_name = codes "Makefile"
 abbrev pub MayBeThere : (times : List ℕ → Option ℤ) (refuses : List ℕ → Type 0) → (name : List ℕ) → Type 0
 MayBeThere times refuses name = (is_some (times name) ≡ true) ⊎ refuses name
 
--- the makefile is this file with this text: the one that is named, else `makefile`, else, where there is no such file,
--- `Makefile`
-abbrev pub IsMakefile : (files : List ℕ → Option (List ℕ)) (times : List ℕ → Option ℤ) (named : Option (List ℕ))
-    (file text : List ℕ) → Type 0
-IsMakefile files times (Some name) file text = (file ≡ name) × (files name ≡ Some text)
-IsMakefile files times None file text =
+-- where none is named, the makefile is this file with this text: `makefile`, or else, where there is no such file, `Makefile`
+abbrev pub IsUsualMakefile : (files : List ℕ → Option (List ℕ)) (times : List ℕ → Option ℤ) (file text : List ℕ) → Type 0
+IsUsualMakefile files times file text =
     ((file ≡ first_name) × (files first_name ≡ Some text))
     ⊎ ((file ≡ second_name) × ((files first_name ≡ None) × ((times first_name ≡ None) × (files second_name ≡ Some text))))
 
--- there is no makefile: the one that is named can't be read; else `makefile` can't, and it is there or `Makefile` can't
--- be read either (own: a makefile that is there and can't be read isn't passed over)
+-- what the makefile of this name gives: its items, or its first fault
+abbrev pub NamedItems : (files : List ℕ → Option (List ℕ)) → (name : List ℕ) → Outcome → Type 0
+NamedItems files name outcome =
+    (text : List ℕ) × (files name ≡ Some text) × TextItems (AnswersOf files) depth name text outcome
+
+-- one of these makefiles can't be read, and all before it give items
+pub record LacksOne (files : List ℕ → Option (List ℕ)) (names : List (List ℕ)) : Type 0 where
+  pub before : List (List ℕ)
+  pub lacking : List ℕ
+  pub behind : List (List ℕ)
+  pub are_names : names ≡ before ++ lacking ∷ behind
+  pub items : List Item
+  pub are_items : InOrder (NamedItems files) before (Ok items)
+  pub is_lacking : files lacking ≡ None
+
+-- there is no makefile: one of those that are named can't be read; or none is named, `makefile` can't be read, and it is there
+-- or `Makefile` can't be read either (own: a makefile that is there and can't be read isn't passed over)
 abbrev pub HasNoMakefile : (files : List ℕ → Option (List ℕ)) (times : List ℕ → Option ℤ) (refuses : List ℕ → Type 0)
-    (named : Option (List ℕ)) → Type 0
-HasNoMakefile files times refuses (Some name) = files name ≡ None
-HasNoMakefile files times refuses None =
+    (named : List (List ℕ)) → Type 0
+HasNoMakefile files times refuses [] =
     (files first_name ≡ None) × (MayBeThere times refuses first_name ⊎ ((times first_name ≡ None) × (files second_name ≡ None)))
+HasNoMakefile files times refuses (name ∷ names) = LacksOne files (name ∷ names)

@@ -1,8 +1,8 @@
 -- A dry run from the makefile's text to the listing: each stage is that of its crate.
-use Rattle.std.specs.Prelude.{◌≡◌, ℕ, ℤ, Bool, true, false, List, Option, Ok}
+use Rattle.std.specs.Prelude.{◌≡◌, ◌||◌, ℕ, ℤ, Bool, true, false, List, [], ◌∷◌, Option, Ok}
 use Rattle.std.specs.FinMap as map
 use Rattle.mk_macros.specs.Ranks.{ranks_at}
-use Rattle.mk_eval.specs.Makefile.{AnswersOf, TextItems, depth}
+use Rattle.mk_eval.specs.Makefile.{AnswersOf, InOrder, TextItems, depth}
 use Rattle.mk_reader.specs.declared.item.Item.{Item}
 use Rattle.mk_plan.specs.Passage.{Passage}
 use Rattle.mk_plan.specs.declared.telling.Telling.{Telling}
@@ -17,7 +17,7 @@ use Rattle.st_state.specs.State.{StateMap}
 use Rattle.st_recovery.specs.Recovers.{Recovers}
 use Rattle.dmk_drive.specs.Definitions.{first_defined}
 use Rattle.dmk_drive.specs.Keeping.{keeps}
-use Rattle.dmk_drive.specs.Makefile.{IsMakefile}
+use Rattle.dmk_drive.specs.Makefile.{IsUsualMakefile, NamedItems}
 use Rattle.dmk_drive.specs.Passing.{IsListing, listing_text, lists_any}
 use Rattle.dmk_drive.specs.declared.planning.DryRun.{DryRun}
 use Rattle.bd_lists.specs.declared.recipe.Variable.{Variable}
@@ -32,13 +32,17 @@ abbrev pub IsStateOn : (keeping : Bool) (disk_honest : Type 0) (seen : Which →
 IsStateOn true disk_honest seen m = disk_honest → IsStateOf true seen m
 IsStateOn false disk_honest seen m = IsStateOf false seen m
 
--- the items are those of the makefile, by what the files hold and whether there is a file of a name
-pub record AreItems (files : List ℕ → Option (List ℕ)) (times : List ℕ → Option ℤ) (named : Option (List ℕ))
-    (items : List Item) : Type 0 where
+-- the items are those of the makefile where none is named, by what the files hold and whether there is a file of a name
+pub record AreUsualItems (files : List ℕ → Option (List ℕ)) (times : List ℕ → Option ℤ) (items : List Item) : Type 0 where
   pub file : List ℕ
   pub text : List ℕ
-  pub is_makefile : IsMakefile files times named file text
+  pub is_makefile : IsUsualMakefile files times file text
   pub read : TextItems (AnswersOf files) depth file text (Ok items)
+
+-- the items are those of the makefiles that are named, one behind the other, or else of the usual one
+abbrev pub AreItems : (files : List ℕ → Option (List ℕ)) (times : List ℕ → Option ℤ) (named : List (List ℕ)) → (items : List Item) → Type 0
+AreItems files times [] items = AreUsualItems files times items
+AreItems files times (name ∷ names) items = InOrder (NamedItems files) (name ∷ names) (Ok items)
 
 -- the graph of these items for the targets that are named, with this state
 pub record IsGraphOf (definitions environment : List Variable) (targets : List (List ℕ)) (times : List ℕ → Option ℤ)
@@ -48,30 +52,36 @@ pub record IsGraphOf (definitions environment : List Variable) (targets : List (
   pub is_graph : IsGraph inputs targets graph
   pub macros : ranks_at graph.macros ≡ behind_items (first_defined definitions environment) items
 
+-- the graph by which targets are judged: where all are to be made, nothing is recorded of any of them
+abbrev pub judged_graph : (all : Bool) → Graph → Graph
+judged_graph true graph = record graph { state = map.empty }
+judged_graph false graph = graph
+
 -- a dry run of these items has this to tell, where the disk is honest by a state that its sides recover; `dropped`
--- says that soft edges make a cycle and don't count
-pub record IsPlanned (definitions environment : List Variable) (targets : List (List ℕ)) (times : List ℕ → Option ℤ)
+-- says that soft edges make a cycle and don't count. What is recorded of a target counts where state is kept, and where all are to
+-- be made that nothing is
+pub record IsPlanned (definitions environment : List Variable) (targets : List (List ℕ)) (all : Bool) (times : List ℕ → Option ℤ)
     (disk_honest : Type 0) (seen : Which → List ℕ) (items : List Item)
     (plan : List Passage) (dropped : Bool) : Type 0 where
   pub state : StateMap
   pub is_state : IsStateOn (keeps environment items) disk_honest seen state
   pub graph : Graph
   pub is_graph : IsGraphOf definitions environment targets times items state graph
-  pub lists : IsListing (keeps environment items) graph plan
+  pub lists : IsListing (all || keeps environment items) (judged_graph all graph) plan
   pub soft : dropped ≡ graph.soft_dropped
 
 -- what is told of a dry run: the text of what it lists, as much as is wanted, and whether it lists a recipe
-pub record Tells (definitions environment : List Variable) (targets : List (List ℕ)) (times : List ℕ → Option ℤ)
+pub record Tells (definitions environment : List Variable) (targets : List (List ℕ)) (all : Bool) (times : List ℕ → Option ℤ)
     (disk_honest : Type 0) (seen : Which → List ℕ) (items : List Item) (telling : Telling) (recipes : Bool) (run : DryRun) : Type 0 where
   pub plan : List Passage
-  pub planned : IsPlanned definitions environment targets times disk_honest seen items plan run.soft_dropped
+  pub planned : IsPlanned definitions environment targets all times disk_honest seen items plan run.soft_dropped
   pub text : run.text.items ≡ listing_text telling recipes plan
   pub any : run.lists_any ≡ lists_any plan
 
 -- what a dry run has to tell, for the makefile that is found by these files and times, and whether soft edges make a
 -- cycle
-pub record Plans (files : List ℕ → Option (List ℕ)) (times : List ℕ → Option ℤ) (named : Option (List ℕ))
-    (definitions environment : List Variable) (targets : List (List ℕ)) (disk_honest : Type 0) (seen : Which → List ℕ) (plan : List Passage) (dropped : Bool) : Type 0 where
+pub record Plans (files : List ℕ → Option (List ℕ)) (times : List ℕ → Option ℤ) (named : List (List ℕ))
+    (definitions environment : List Variable) (targets : List (List ℕ)) (all : Bool) (disk_honest : Type 0) (seen : Which → List ℕ) (plan : List Passage) (dropped : Bool) : Type 0 where
   pub items : List Item
   pub are_items : AreItems files times named items
-  pub planned : IsPlanned definitions environment targets times disk_honest seen items plan dropped
+  pub planned : IsPlanned definitions environment targets all times disk_honest seen items plan dropped

@@ -1,5 +1,5 @@
 //! The program over handed-in parts.
-ghost use Rattle.std.specs.Prelude.{◌≡◌, ◌≢◌, ◌⊎◌, ◌&&◌, ℕ, ℤ, Bool, true, false, not, List, Option, codes, option_copied, IfOk, IfErr, IsOk, IsErr};
+ghost use Rattle.std.specs.Prelude.{◌≡◌, ◌≢◌, ◌⊎◌, ◌&&◌, ℕ, ℤ, Bool, true, false, not, List, Option, codes, IfOk, IfErr, IsOk, IsErr};
 ghost use Rattle.std.specs.Io.KnownBytes.{Appends, Keeps};
 ghost use Rattle.mk_plan.specs.Passage.{Passage};
 ghost use Rattle.mk_plan.specs.declared.telling.Telling.TheVariants as tellings;
@@ -20,7 +20,6 @@ use crate::output::{print_fault, print_note, write_text};
 use crate::passing::Shows;
 use crate::planning::{DryRun, Given, dry_run};
 use bd_lists::Variable;
-use byte_strings::ByteString;
 use mk_eval::Includes;
 use mk_rules::Tree;
 use st_disk::Disk;
@@ -34,15 +33,6 @@ pub struct Reply {
     pub status: u8,
     /// Standard error took each line that there was to say.
     pub is_told: bool,
-}
-
-fn slice_of(name: &Option<ByteString>) -> Option<&[u8]>
-    ensures { option_copied result ≡ name.now }
-{
-    match name {
-        Some(name) => Some(name.as_slice()),
-        None => None,
-    }
 }
 
 /// Says that soft edges are dropped, where they are, and tells whether that was taken.
@@ -201,14 +191,14 @@ pub fn drive<T: Tree, I: Includes, D: Disk, O: Write, E: Write>(
     ensures listed { AsksForListing options environment.now → result.0.status ≡ 0
         → (files : List ℕ → Option (List ℕ)) (times : List ℕ → Option ℤ) → I.allows includes.new files → T.allows tree.new times
         → (plan : List Passage) × (dropped : Bool)
-        × Plans files times options.makefile options.definitions.items environment.now options.targets D.honest (D.seen disk) plan dropped
+        × Plans files times options.makefiles options.definitions.items environment.now options.targets options.makes_all D.honest (D.seen disk) plan dropped
         × Appends (O.contents out.old) (O.contents out.new) (listing_text options.telling true plan) × (dropped ≡ false → err.new ≡ err.old)
         × SaysNote (E.contents err.old) (E.contents err.new) result.0.is_told dropped }
     // The question is answered by the plan, and no recipe is printed: nothing is, unless it is asked why targets are made.
     ensures asked { options.asks ≡ true → result.0.status ≢ 2
         → (files : List ℕ → Option (List ℕ)) (times : List ℕ → Option ℤ) → I.allows includes.new files → T.allows tree.new times
         → (plan : List Passage) × (dropped : Bool)
-        × Plans files times options.makefile options.definitions.items environment.now options.targets D.honest (D.seen disk) plan dropped
+        × Plans files times options.makefiles options.definitions.items environment.now options.targets options.makes_all D.honest (D.seen disk) plan dropped
         × (result.0.status ≡ question_status plan)
         × Appends (O.contents out.old) (O.contents out.new) (listing_text options.telling false plan) }
     ensures silent { options.asks ≡ true → options.telling ≡ tellings.Nothing → Keeps (O.contents out.old) (O.contents out.new) }
@@ -217,11 +207,11 @@ pub fn drive<T: Tree, I: Includes, D: Disk, O: Write, E: Write>(
     // At status 2 a fault of the run is told, of which a device's is a call of the disk that failed; or a listing is cut short.
     ensures refused { result.0.status ≡ 2
         → (files : List ℕ → Option (List ℕ)) (times : List ℕ → Option ℤ) → I.allows includes.new files → T.allows tree.new times
-        → TellsFault (λ fault. IsFaultOf files times options.makefile options.definitions.items environment.now
-        options.targets (T.refuses tree.new) D.honest (D.seen disk) fault
+        → TellsFault (λ fault. IsFaultOf files times options.makefiles options.definitions.items environment.now
+        options.targets options.makes_all (T.refuses tree.new) D.honest (D.seen disk) fault
         × (fault ≡ faults.State open_faults.Device → Rises (D.faults disk) (D.faults result.1)))
         result.0.is_told (O.contents out.old) (O.contents out.new) (E.contents err.old) (E.contents err.new)
-        ⊎ CutsListing (Plans files times options.makefile options.definitions.items environment.now options.targets D.honest (D.seen disk))
+        ⊎ CutsListing (Plans files times options.makefiles options.definitions.items environment.now options.targets options.makes_all D.honest (D.seen disk))
         options.telling options.asks result.0.is_told (O.contents out.old) (O.contents out.new) (E.contents err.old) (E.contents err.new) }
     ensures status { (result.0.status ≡ 0) ⊎ (((result.0.status ≡ 1) × (options.asks ≡ true)) ⊎ (result.0.status ≡ 2)) }
 
@@ -231,17 +221,18 @@ pub fn drive<T: Tree, I: Includes, D: Disk, O: Write, E: Write>(
 {
     let mut disk = disk;
     let Options {
-        makefile,
+        makefiles,
         state,
         asks,
+        makes_all,
         telling,
         definitions,
         targets,
         ..
     } = options;
-    let named = slice_of(&makefile);
     let given = Given {
-        makefile: named,
+        makefiles: &makefiles,
+        makes_all,
         definitions: &definitions,
         environment,
         shows: Shows {

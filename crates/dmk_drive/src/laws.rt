@@ -1,6 +1,6 @@
 //! What holds of the definitions alone. The functions do nothing: what they ensure is the law.
-ghost use Rattle.std.specs.Prelude.{◌≡◌, ℕ, ℤ, Bool, List, Option};
-ghost use Rattle.std.specs.List.{list_any};
+ghost use Rattle.std.specs.Prelude.{◌≡◌, ℕ, ℤ, Bool, true, List, Option};
+ghost use Rattle.std.specs.List.{list_all, list_any};
 ghost use Rattle.mk_reader.specs.declared.item.Item.{Item};
 ghost use Rattle.mk_rule_lines.specs.Goals.{is_keep_state, has_special};
 ghost use Rattle.mk_rules.specs.Graph.{IsGraph};
@@ -9,7 +9,7 @@ ghost use Rattle.mk_rules.specs.Prerequisites.{Inputs};
 ghost use Rattle.mk_rules.specs.declared.graph.Graph.{Graph};
 ghost use Rattle.mk_rule_lines.specs.declared.rule_line.RuleLine.{RuleLine};
 ghost use Rattle.dmk_drive.specs.Keeping.{is_keep_item};
-ghost use Rattle.mk_plan.specs.Passage.{Passage};
+ghost use Rattle.mk_plan.specs.Passage.{Passage, is_listed};
 ghost use Rattle.dmk_drive.specs.Passing.{Lists, PassesEach};
 ghost use Rattle.dmk_drive.specs.Planned.{AreItems, Plans};
 ghost use Rattle.st_disk.specs.declared.which.Which.{Which};
@@ -23,9 +23,9 @@ pub fn one_reading_of_the_settings()
         → has_special is_keep_state lines ≡ list_any is_keep_item items }
 {}
 
-/// By the same files and times there is one makefile, with one list of items.
+/// By the same files and times there are the same makefiles, with one list of items.
 pub fn one_makefile()
-    ensures { (files : List ℕ → Option (List ℕ)) (times : List ℕ → Option ℤ) (named : Option (List ℕ)) (a b : List Item)
+    ensures { (files : List ℕ → Option (List ℕ)) (times : List ℕ → Option ℤ) (named : List (List ℕ)) (a b : List Item)
         → AreItems files times named a → AreItems files times named b → a ≡ b }
 {}
 
@@ -40,12 +40,19 @@ pub fn one_listing()
         → Lists keeping graph marks order a → Lists keeping graph marks order b → a ≡ b }
 {}
 
+/// Where all targets are to be made, a plan has none that is up to date: it lists the recipe of each that has one.
+pub fn each_made<D: Disk>()
+    ensures { (files : List ℕ → Option (List ℕ)) (times : List ℕ → Option ℤ) (named : List (List ℕ)) (definitions environment : List Variable)
+        (targets : List (List ℕ)) (seen : Which → List ℕ) (plan : List Passage) (dropped : Bool)
+        → Plans files times named definitions environment targets true D.honest seen plan dropped → list_all is_listed plan ≡ true }
+{}
+
 /// By the same files, times and state there is one plan: two plans list the same, and soft edges make a cycle in both or in none.
 /// Where state is kept, that is where the disk keeps its model.
 pub fn one_plan<D: Disk>()
-    ensures { (files : List ℕ → Option (List ℕ)) (times : List ℕ → Option ℤ) (named : Option (List ℕ)) (definitions environment : List Variable)
-        (targets : List (List ℕ)) (seen : Which → List ℕ) (a b : List Passage) (d e : Bool) → D.honest
-        → Plans files times named definitions environment targets D.honest seen a d
-        → Plans files times named definitions environment targets D.honest seen b e
+    ensures { (files : List ℕ → Option (List ℕ)) (times : List ℕ → Option ℤ) (named : List (List ℕ)) (definitions environment : List Variable)
+        (targets : List (List ℕ)) (all : Bool) (seen : Which → List ℕ) (a b : List Passage) (d e : Bool) → D.honest
+        → Plans files times named definitions environment targets all D.honest seen a d
+        → Plans files times named definitions environment targets all D.honest seen b e
         → (a ≡ b) × (d ≡ e) }
 {}

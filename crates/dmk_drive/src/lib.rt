@@ -28,7 +28,7 @@ pub use file_texts::{FileTexts, Unread};
 pub use file_tree::FileTree;
 pub use keeping::{keeps_state, value_of};
 pub use laws::{
-    one_listing, one_makefile, one_plan, one_reading_of_the_settings, plan_of_the_graph,
+    each_made, one_listing, one_makefile, one_plan, one_reading_of_the_settings, plan_of_the_graph,
 };
 pub use makefile::items_of;
 pub use messages::{Message, SOFT_EDGES_NOTE};
@@ -36,4 +36,4 @@ pub use mk_plan::Telling;
 pub use options::{MAX_WORKERS, Mode, Options};
 pub use output::{print_fault, print_note};
 pub use passing::{Shows, unlisted};
-pub use planning::{DryRun, Given, dry_run};
+pub use planning::{DryRun, Given, dry_run, judged_graph};

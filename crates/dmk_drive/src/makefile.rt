@@ -1,12 +1,13 @@
-//! The makefile: which file it is, and its items.
-ghost use Rattle.std.specs.Prelude.{◌≡◌, ◌⊎◌, ℕ, ℤ, List, Option, Some, None, IfOk, IfErr, IfSome, IsTrue, option_map, option_copied, false};
-ghost use Rattle.dmk_drive.specs.Makefile.{MayBeThere, IsMakefile};
+//! The makefiles: which files they are, and their items.
+ghost use Rattle.std.specs.Prelude.{◌≡◌, ℕ, ℤ, List, Option, None, [], Ok, IfOk, IfErr, IfSome, IsTrue, option_map, false};
+ghost use Rattle.mk_eval.specs.Makefile.{InOrder};
+ghost use Rattle.dmk_drive.specs.Makefile.{MayBeThere, IsUsualMakefile, NamedItems};
 ghost use Rattle.dmk_drive.specs.Planned.{AreItems};
-ghost use Rattle.dmk_drive.specs.Faults.{IsTextFault};
+ghost use Rattle.dmk_drive.specs.Faults.{IsTextFault, IsFaultOfOne, IsFaultAmong};
 ghost use Rattle.dmk_drive.specs.declared.fault.Fault.TheVariants.{OutOfMemory, NoMakefile};
 
 use crate::fault::Fault;
-use byte_strings::ByteString;
+use byte_strings::{ByteString, ByteStrings};
 use mk_eval::{Includes, read_makefile};
 use mk_reader::Item;
 use mk_rules::{Tree, TreeFault};
@@ -67,9 +68,9 @@ fn usual_makefile<T: Tree, I: Includes>(
     includes: &mut I,
 ) -> Result<Makefile, Fault>
     ensures makefile { IfOk result (λ m. (files : List ℕ → Option (List ℕ)) (times : List ℕ → Option ℤ) → I.allows includes.new files → T.allows tree.new times
-        → IsMakefile files times None m.file m.text.items) }
+        → IsUsualMakefile files times m.file m.text.items) }
     ensures fault { IfErr result (λ fault. (files : List ℕ → Option (List ℕ)) (times : List ℕ → Option ℤ) → I.allows includes.new files → T.allows tree.new times
-        → IsTextFault files times (T.refuses tree.new) None fault) }
+        → IsTextFault files times (T.refuses tree.new) [] fault) }
     ensures files { (files : List ℕ → Option (List ℕ)) → I.allows includes.new files → I.allows includes.old files }
     ensures times { (times : List ℕ → Option ℤ) → T.allows tree.new times → T.allows tree.old times }
     ensures kept { (n : List ℕ) → T.refuses tree.old n → T.refuses tree.new n }
@@ -86,63 +87,84 @@ fn usual_makefile<T: Tree, I: Includes>(
     }
 }
 
-/// The makefile that is named.
-fn named_makefile<I: Includes>(
+/// The items of the makefile where none is named.
+fn usual_items<T: Tree, I: Includes>(
     alloc: Global,
-    name: &[u8],
-    includes: &mut I,
-) -> Result<Makefile, Fault>
-    ensures file { IfOk result (λ m. m.file ≡ name.now) }
-    ensures text { IfOk result (λ m. (files : List ℕ → Option (List ℕ)) → I.allows includes.new files → files name.now ≡ Some m.text.items) }
-    ensures missing { IfErr result (λ fault. (fault ≡ OutOfMemory)
-        ⊎ ((fault ≡ NoMakefile) × ((files : List ℕ → Option (List ℕ)) → I.allows includes.new files → files name.now ≡ None))) }
-    ensures files { (files : List ℕ → Option (List ℕ)) → I.allows includes.new files → I.allows includes.old files }
-{
-    match file_named(alloc, name, includes)? {
-        Some(makefile) => Ok(makefile),
-        None => Err(Fault::NoMakefile),
-    }
-}
-
-/// The makefile: the one that is named, else `makefile`, else `Makefile`.
-fn makefile_of<T: Tree, I: Includes>(
-    alloc: Global,
-    named: Option<&[u8]>,
-    tree: &mut T,
-    includes: &mut I,
-) -> Result<Makefile, Fault>
-    ensures makefile { IfOk result (λ m. (files : List ℕ → Option (List ℕ)) (times : List ℕ → Option ℤ) → I.allows includes.new files → T.allows tree.new times
-        → IsMakefile files times (option_copied named.entry) m.file m.text.items) }
-    ensures fault { IfErr result (λ fault. (files : List ℕ → Option (List ℕ)) (times : List ℕ → Option ℤ) → I.allows includes.new files → T.allows tree.new times
-        → IsTextFault files times (T.refuses tree.new) (option_copied named.entry) fault) }
-    ensures files { (files : List ℕ → Option (List ℕ)) → I.allows includes.new files → I.allows includes.old files }
-    ensures times { (times : List ℕ → Option ℤ) → T.allows tree.new times → T.allows tree.old times }
-    ensures kept { (n : List ℕ) → T.refuses tree.old n → T.refuses tree.new n }
-{
-    match named {
-        Some(name) => named_makefile(alloc, name, includes),
-        None => usual_makefile(alloc, tree, includes),
-    }
-}
-
-/// The items of the makefile and of all files that it includes.
-pub fn items_of<T: Tree, I: Includes>(
-    alloc: Global,
-    named: Option<&[u8]>,
     tree: &mut T,
     includes: &mut I,
 ) -> Result<Vec<Item>, Fault>
     ensures items { IfOk result (λ items. (files : List ℕ → Option (List ℕ)) (times : List ℕ → Option ℤ) → I.allows includes.new files → T.allows tree.new times
-        → AreItems files times (option_copied named.entry) items.items) }
+        → AreItems files times [] items.items) }
     ensures fault { IfErr result (λ fault. (files : List ℕ → Option (List ℕ)) (times : List ℕ → Option ℤ) → I.allows includes.new files → T.allows tree.new times
-        → IsTextFault files times (T.refuses tree.new) (option_copied named.entry) fault) }
+        → IsTextFault files times (T.refuses tree.new) [] fault) }
     ensures times { (times : List ℕ → Option ℤ) → T.allows tree.new times → T.allows tree.old times }
     ensures kept { (n : List ℕ) → T.refuses tree.old n → T.refuses tree.new n }
 {
-    let makefile = makefile_of(alloc, named, tree, includes)?;
+    let makefile = usual_makefile(alloc, tree, includes)?;
     let file = makefile.file.as_slice();
     match read_makefile(alloc, file, makefile.text.as_slice(), includes) {
         Ok(items) => Ok(items),
         Err(fault) => Err(Fault::Read(fault)),
+    }
+}
+
+/// The items of the makefile of this name.
+fn items_named<I: Includes>(
+    alloc: Global,
+    name: &[u8],
+    includes: &mut I,
+) -> Result<Vec<Item>, Fault>
+    ensures items { IfOk result (λ items. (files : List ℕ → Option (List ℕ)) → I.allows includes.new files
+        → NamedItems files name.now (Ok items.items)) }
+    ensures fault { IfErr result (λ fault. (files : List ℕ → Option (List ℕ)) → I.allows includes.new files
+        → IsFaultOfOne files name.now fault) }
+    ensures grows { (files : List ℕ → Option (List ℕ)) → I.allows includes.new files → I.allows includes.old files }
+{
+    let Some(text) = includes.read(alloc, name)? else {
+        return Err(Fault::NoMakefile);
+    };
+    match read_makefile(alloc, name, text.as_slice(), includes) {
+        Ok(items) => Ok(items),
+        Err(fault) => Err(Fault::Read(fault)),
+    }
+}
+
+/// The items of the makefiles of these names, one behind the other.
+fn all_items<I: Includes>(
+    alloc: Global,
+    names: &ByteStrings,
+    includes: &mut I,
+) -> Result<Vec<Item>, Fault>
+    ensures items { IfOk result (λ items. (files : List ℕ → Option (List ℕ)) → I.allows includes.new files
+        → InOrder (NamedItems files) names.now (Ok items.items)) }
+    ensures fault { IfErr result (λ fault. (files : List ℕ → Option (List ℕ)) → I.allows includes.new files
+        → IsFaultAmong files names.now fault) }
+{
+    let mut items = Vec::new(alloc);
+    for name in names.iter() {
+        let mut more = items_named(alloc, name, includes)?;
+        items.append(&mut more)?;
+    }
+    Ok(items)
+}
+
+/// The items of the makefiles that are named, one behind the other, or else of the usual one, and of all files that they include.
+pub fn items_of<T: Tree, I: Includes>(
+    alloc: Global,
+    named: &ByteStrings,
+    tree: &mut T,
+    includes: &mut I,
+) -> Result<Vec<Item>, Fault>
+    ensures items { IfOk result (λ items. (files : List ℕ → Option (List ℕ)) (times : List ℕ → Option ℤ) → I.allows includes.new files → T.allows tree.new times
+        → AreItems files times named.now items.items) }
+    ensures fault { IfErr result (λ fault. (files : List ℕ → Option (List ℕ)) (times : List ℕ → Option ℤ) → I.allows includes.new files → T.allows tree.new times
+        → IsTextFault files times (T.refuses tree.new) named.now fault) }
+    ensures times { (times : List ℕ → Option ℤ) → T.allows tree.new times → T.allows tree.old times }
+    ensures kept { (n : List ℕ) → T.refuses tree.old n → T.refuses tree.new n }
+{
+    if named.is_empty() {
+        usual_items(alloc, tree, includes)
+    } else {
+        all_items(alloc, named, includes)
     }
 }

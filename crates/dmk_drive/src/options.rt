@@ -3,7 +3,7 @@ ghost use Rattle.std.specs.Prelude.{◌≡◌};
 ghost use Rattle.dmk_drive.specs.Output.{AsksFor, mode_of};
 
 use bd_lists::Variable;
-use byte_strings::{ByteString, ByteStrings};
+use byte_strings::ByteStrings;
 use jb_auth::dry;
 use mk_plan::Telling;
 
@@ -13,8 +13,8 @@ pub const MAX_WORKERS: u16 = 256;
 /// What the words ask for. Definitions and targets stand in the order of the words.
 #[derive(Drop)]
 pub struct Options {
-    /// The makefile that is named.
-    pub makefile: Option<ByteString>,
+    /// The makefiles that are named, read one behind the other.
+    pub makefiles: ByteStrings,
     /// The name of the state's side A.
     pub state: String,
     /// How many recipes may run at once.
@@ -29,6 +29,8 @@ pub struct Options {
     pub ignores_statuses: bool,
     /// No recipe is printed; the status says whether a target is out of date.
     pub asks: bool,
+    /// Each target is made, whatever the files and the state say of it.
+    pub makes_all: bool,
     /// How much is told of why targets are made.
     pub telling: Telling,
     pub definitions: Vec<Variable>,

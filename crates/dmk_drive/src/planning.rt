@@ -1,5 +1,5 @@
 //! From a makefile to what is listed, stage by stage. The first stage that has a fault ends it.
-ghost use Rattle.std.specs.Prelude.{◌≡◌, ◌⊎◌, ℕ, ℤ, true, List, Option, length, nat_lt, IfOk, IfErr, IsErrOf, option_copied};
+ghost use Rattle.std.specs.Prelude.{◌≡◌, ◌⊎◌, ◌||◌, ℕ, ℤ, true, List, Option, length, nat_lt, IfOk, IfErr, IsErrOf};
 ghost use Rattle.std.specs.FinMap as finmap;
 ghost use Rattle.std.specs.List.{list_all};
 ghost use Rattle.mk_macros.specs.declared.fault.MacroFault.{MacroFault as ExpansionFault};
@@ -15,7 +15,7 @@ ghost use Rattle.st_state.specs.State.{StateMap};
 ghost use Rattle.st_file.specs.declared.fault.OpenFault.{OpenFault as StateFault};
 ghost use Rattle.st_file.specs.declared.fault.OpenFault.TheVariants as open_faults;
 ghost use Rattle.dmk_drive.specs.Passing.{IsListing, IsListingFault, listing_text, lists_any};
-ghost use Rattle.dmk_drive.specs.Planned.{AreItems, IsStateOn, IsGraphOf, Tells};
+ghost use Rattle.dmk_drive.specs.Planned.{AreItems, IsStateOn, IsGraphOf, Tells, judged_graph};
 ghost use Rattle.dmk_drive.specs.Faults.{IsOpenFault, IsTextFault, IsPlanFault, IsRunFault};
 ghost use Rattle.dmk_drive.specs.declared.fault.Fault.TheVariants as faults;
 
@@ -38,10 +38,12 @@ use std::alloc::Global;
 /// What a makefile is read and planned with.
 #[derive(Clone, Copy)]
 pub struct Given<'m, 'a> {
-    /// The makefile that is named.
-    pub makefile: Option<&'m [u8]>,
+    /// The makefiles that are named.
+    pub makefiles: &'m ByteStrings,
     pub definitions: &'a [Variable],
     pub environment: &'a [Variable],
+    /// All targets are to be made.
+    pub makes_all: bool,
     /// What of the listing is printed.
     pub shows: Shows,
 }
@@ -79,6 +81,25 @@ fn graph_of<T: Tree>(
         Ok(graph) => Ok(graph),
         Err(fault) => Err(Fault::Rules(fault)),
     }
+}
+
+/// The graph by which targets are judged: where all are to be made, what is recorded of them is forgotten. It orders them still.
+pub fn judged_graph(alloc: Global, key: HashKey, all: bool, graph: Graph) -> Graph
+    ensures { result ≡ judged_graph all graph }
+{
+    if !all {
+        return graph;
+    }
+    let mut judged = graph;
+    judged.state = State::with_key(alloc, key);
+    judged
+}
+
+/// Whether what is recorded of targets counts, also that nothing is.
+fn counts_records(all: bool, keeping: bool) -> bool
+    ensures { result ≡ all || keeping }
+{
+    all || keeping
 }
 
 /// What the graph lists.
@@ -135,7 +156,7 @@ fn kept_graph<T: Tree, D: Disk>(
         × ((times : List ℕ → Option ℤ) → T.allows tree.new times
         → IsGraphOf given.entry.definitions.now given.entry.environment.now targets times items.items m graph)) }
     ensures fault { IfErr result (λ fault. (times : List ℕ → Option ℤ) → T.allows tree.new times
-        → IsPlanFault given.entry.definitions.now given.entry.environment.now targets times (T.refuses tree.new) D.honest (D.seen disk.old)
+        → IsPlanFault given.entry.definitions.now given.entry.environment.now targets given.entry.makes_all times (T.refuses tree.new) D.honest (D.seen disk.old)
         items.items fault) }
     ensures times { (times : List ℕ → Option ℤ) → T.allows tree.new times → T.allows tree.old times }
     ensures seen { D.honest → D.seen disk.new ≡ D.seen disk.old }
@@ -157,10 +178,10 @@ fn plan_items<T: Tree, D: Disk>(
     items: Vec<Item>,
 ) -> Result<DryRun, Fault>
     ensures tells { IfOk result (λ run. (times : List ℕ → Option ℤ) → T.allows tree.new times
-        → Tells given.entry.definitions.now given.entry.environment.now targets times D.honest (D.seen disk.old) items.items
+        → Tells given.entry.definitions.now given.entry.environment.now targets given.entry.makes_all times D.honest (D.seen disk.old) items.items
         given.entry.shows.telling given.entry.shows.recipes run) }
     ensures fault { IfErr result (λ fault. (times : List ℕ → Option ℤ) → T.allows tree.new times
-        → IsPlanFault given.entry.definitions.now given.entry.environment.now targets times (T.refuses tree.new) D.honest (D.seen disk.old)
+        → IsPlanFault given.entry.definitions.now given.entry.environment.now targets given.entry.makes_all times (T.refuses tree.new) D.honest (D.seen disk.old)
         items.items fault) }
     ensures times { (times : List ℕ → Option ℤ) → T.allows tree.new times → T.allows tree.old times }
     ensures seen { D.honest → D.seen disk.new ≡ D.seen disk.old }
@@ -169,7 +190,9 @@ fn plan_items<T: Tree, D: Disk>(
 {
     let keeping = keeps_state(given.environment, &items);
     let graph = kept_graph(alloc, key, keeping, given, targets, tree, disk, items)?;
-    listed(alloc, keeping, given.shows, graph)
+    let judged = judged_graph(alloc, key, given.makes_all, graph);
+    let counting = counts_records(given.makes_all, keeping);
+    listed(alloc, counting, given.shows, judged)
 }
 
 /// What a run would build. It only reads.
@@ -185,18 +208,18 @@ pub fn dry_run<T: Tree, I: Includes, D: Disk>(
     disk: &mut D,
 ) -> Result<DryRun, Fault>
     ensures tells { IfOk result (λ run. (files : List ℕ → Option (List ℕ)) (times : List ℕ → Option ℤ) → I.allows includes.new files → T.allows tree.new times
-        → (items : List MakefileItem) × AreItems files times (option_copied given.entry.makefile) items
-        × Tells given.entry.definitions.now given.entry.environment.now targets times D.honest (D.seen disk.old) items
+        → (items : List MakefileItem) × AreItems files times given.entry.makefiles.now items
+        × Tells given.entry.definitions.now given.entry.environment.now targets given.entry.makes_all times D.honest (D.seen disk.old) items
         given.entry.shows.telling given.entry.shows.recipes run) }
     ensures fault { IfErr result (λ fault. (files : List ℕ → Option (List ℕ)) (times : List ℕ → Option ℤ) → I.allows includes.new files → T.allows tree.new times
-        → IsRunFault (IsTextFault files times (T.refuses tree.new) (option_copied given.entry.makefile))
-        (AreItems files times (option_copied given.entry.makefile))
-        (IsPlanFault given.entry.definitions.now given.entry.environment.now targets times (T.refuses tree.new) D.honest (D.seen disk.old))
+        → IsRunFault (IsTextFault files times (T.refuses tree.new) given.entry.makefiles.now)
+        (AreItems files times given.entry.makefiles.now)
+        (IsPlanFault given.entry.definitions.now given.entry.environment.now targets given.entry.makes_all times (T.refuses tree.new) D.honest (D.seen disk.old))
         fault) }
     ensures seen { D.honest → D.seen disk.new ≡ D.seen disk.old }
     ensures moments { D.honest → D.moments disk.new ≡ D.moments disk.old }
     ensures device { IsErrOf result (faults.State open_faults.Device) → Rises (D.faults disk.old) (D.faults disk.new) }
 {
-    let items = items_of(alloc, given.makefile, tree, includes)?;
+    let items = items_of(alloc, given.makefiles, tree, includes)?;
     plan_items(alloc, key, given, targets, tree, disk, items)
 }

@@ -38,12 +38,12 @@ are_true_of names ends implies are = λ node built.
     let (name, named, is) = are node built in (name, named, true_of implies is)
 
 -- the report of a site that isn't dead, as it is told of the store that comes back
-pub is_made : {D : Type 0} (honest : Type 0) (moments : D → Moments) (graph : Graph) (keeping : Bool) (found : Result Report RunFault) (told : Result Report RunFault) (site : Facts D) (disk : D) (m : StateMap)
+pub is_made : {D : Type 0} (honest : Type 0) (moments : D → Moments) (graph : Graph) (counting keeping : Bool) (found : Result Report RunFault) (told : Result Report RunFault) (site : Facts D) (disk : D) (m : StateMap)
     → IfOk found (λ r. (receipts : List Receipt) × AreThoseOf site.told receipts × AreTrueOf site.told receipts (honest × (site.dead ≡ false)) (now (moments site.disk)) graph.names r.ends.items)
-    → IfOk told (λ r. (given : Report) × (found ≡ Ok given) × IsTold graph keeping m given r)
+    → IfOk told (λ r. (given : Report) × (found ≡ Ok given) × IsTold graph counting keeping m given r)
     → disk ≡ site.disk → (IsOk told → site.dead ≡ false) → (IsOk told → honest → AllRecover m (now (moments disk)))
     → IfOk told (λ r. keeping ≡ true → IsMade graph honest (now (moments disk)) r.status r.ends.items)
-is_made {D} honest moments graph keeping found (Ok r) site disk m built (given, is, tells) same alive recovers = λ kept.
+is_made {D} honest moments graph counting keeping found (Ok r) site disk m built (given, is, tells) same alive recovers = λ kept.
     let said : (receipts : List Receipt) × AreThoseOf site.told receipts × AreTrueOf site.told receipts (honest × (site.dead ≡ false)) (now (moments site.disk)) graph.names given.ends.items =
     IfOk-at_ok (λ (r : Report). (receipts : List Receipt) × AreThoseOf site.told receipts × AreTrueOf site.told receipts (honest × (site.dead ≡ false)) (now (moments site.disk)) graph.names r.ends.items) is built in
     let (receipts, those, true_of_given) = said in
@@ -57,7 +57,7 @@ is_made {D} honest moments graph keeping found (Ok r) site disk m built (given, 
       recovers = recovers refl;
       known = tells.known kept;
     }
-is_made honest moments graph keeping found (Err fault) site disk m built tells same alive recovers = tt
+is_made honest moments graph counting keeping found (Err fault) site disk m built tells same alive recovers = tt
 
 -- a status of 0 was 0
 zero_told : (old new : ℕ) → (new ≡ old) ⊎ ((old ≡ 0) × (new ≡ 1)) → new ≡ 0 → old ≡ 0
@@ -65,17 +65,17 @@ zero_told old new (inl same) none = omega (arith, same, none)
 zero_told old new (inr (was, one)) none = was
 
 -- the ends of a report that is told are those of the run's
-pub well_told : (graph : Graph) (keeping : Bool) (m : StateMap) (found told : Result Report RunFault) → IfOk found (λ r. r.status ≡ 0 → IsTrue (list_all ends_well r.ends.items)) → IfOk told (λ r. (given : Report) × (found ≡ Ok given) × IsTold graph keeping m given r)
+pub well_told : (graph : Graph) (counting keeping : Bool) (m : StateMap) (found told : Result Report RunFault) → IfOk found (λ r. r.status ≡ 0 → IsTrue (list_all ends_well r.ends.items)) → IfOk told (λ r. (given : Report) × (found ≡ Ok given) × IsTold graph counting keeping m given r)
     → IfOk told (λ r. r.status ≡ 0 → IsTrue (list_all ends_well r.ends.items))
-well_told graph keeping m found (Ok r) well (given, is, tells) = λ none.
+well_told graph counting keeping m found (Ok r) well (given, is, tells) = λ none.
     subst (λ (e : List End). IsTrue (list_all ends_well e)) (sym tells.ends) (IfOk-at_ok (λ (g : Report). g.status ≡ 0 → IsTrue (list_all ends_well g.ends.items)) is well (zero_told given.status r.status tells.status none))
-well_told graph keeping m found (Err fault) well tells = tt
+well_told graph counting keeping m found (Err fault) well tells = tt
 
 -- and what bears out a status of 0
-pub borne_told : (graph : Graph) (keeping : Bool) (m : StateMap) (found told : Result Report RunFault) → IfOk told (λ r. (given : Report) × (found ≡ Ok given) × IsTold graph keeping m given r)
-    → IfOk told (λ r. r.status ≡ 0 → IsBorneOut keeping graph r.ends.items)
-borne_told graph keeping m found (Ok r) (given, is, tells) = λ none. inr (tells.judged none)
-borne_told graph keeping m found (Err fault) tells = tt
+pub borne_told : (graph : Graph) (counting keeping : Bool) (m : StateMap) (found told : Result Report RunFault) → IfOk told (λ r. (given : Report) × (found ≡ Ok given) × IsTold graph counting keeping m given r)
+    → IfOk told (λ r. r.status ≡ 0 → IsBorneOut counting graph r.ends.items)
+borne_told graph counting keeping m found (Ok r) (given, is, tells) = λ none. inr (tells.judged none)
+borne_told graph counting keeping m found (Err fault) tells = tt
 
 -- ---- a run in which no recipe is to be run
 
@@ -97,16 +97,16 @@ none_built (m ∷ remade) (suc node) built = none_built remade node built
 none_ends_built : (ends : List End) (remade : List Bool) → ends ≡ map unbuilt_end remade → (node : ℕ) → IsBuilt ends node → ⊥
 none_ends_built ends remade same node built = none_built remade node (subst (λ (e : List End). IsBuilt e node) same built)
 
-pub none_well : {keeping : Bool} {graph : Graph} {m : StateMap} {r : Report} → IsReportOfNone keeping graph m r → IsTrue (list_all ends_well r.ends.items)
+pub none_well : {counting keeping : Bool} {graph : Graph} {m : StateMap} {r : Report} → IsReportOfNone counting keeping graph m r → IsTrue (list_all ends_well r.ends.items)
 none_well is = subst (λ (e : List End). IsTrue (list_all ends_well e)) (sym is.ends) (unbuilt_well is.remade)
 
-pub none_count : {keeping : Bool} {graph : Graph} {m : StateMap} {r : Report} → IsReportOfNone keeping graph m r → length r.ends.items ≡ length graph.nodes.items
+pub none_count : {counting keeping : Bool} {graph : Graph} {m : StateMap} {r : Report} → IsReportOfNone counting keeping graph m r → length r.ends.items ≡ length graph.nodes.items
 none_count is = ap length is.ends ∙ count_unbuilt is.remade ∙ is.count
 
 -- nothing was told, and no node ended as built
-pub none_made : (keeping : Bool) (graph : Graph) (m : StateMap) (r : Report) (honest : Type 0) (sides : Sides) → IsReportOfNone keeping graph m r → (honest → AllRecover m sides)
+pub none_made : (counting keeping : Bool) (graph : Graph) (m : StateMap) (r : Report) (honest : Type 0) (sides : Sides) → IsReportOfNone counting keeping graph m r → (honest → AllRecover m sides)
     → keeping ≡ true → IsMade graph honest sides r.status r.ends.items
-none_made keeping graph m r honest sides is recovers kept = record {
+none_made counting keeping graph m r honest sides is recovers kept = record {
   told = [];
   receipts = [];
   are_those = λ ticket. refl;

@@ -1,5 +1,5 @@
 -- What a run over a store says of a makefile.
-use Rattle.std.proofs.Common.{◌≡◌, ◌≢◌, ◌⊎◌, inl, inr, ℕ, ℤ, ◌≤◌, Bool, true, false, List, [], Option, Result, Ok, Err, IfOk, IsTrue, ◌∙◌, length, refl, sym, subst}
+use Rattle.std.proofs.Common.{◌≡◌, ◌≢◌, ◌⊎◌, ◌||◌, inl, inr, ℕ, ℤ, ◌≤◌, Bool, true, false, List, [], Option, Result, Ok, Err, IfOk, IsTrue, ◌∙◌, length, refl, sym, subst}
 use Rattle.std.specs.FinMap as map
 use Rattle.std.specs.List.{list_all}
 use Rattle.mk_reader.specs.declared.item.Item.{Item}
@@ -15,7 +15,7 @@ use Rattle.st_recovery.specs.Recovers.{Recovers, recovered}
 use Rattle.st_recovery.proofs.RecoversLemmas.{one_recovery}
 use Rattle.bd_lists.specs.declared.recipe.Variable.{Variable}
 use Rattle.dmk_drive.specs.Keeping.{keeps}
-use Rattle.dmk_drive.specs.Planned.{AreItems, IsGraphOf, IsStateOn}
+use Rattle.dmk_drive.specs.Planned.{AreItems, IsGraphOf, IsStateOn, judged_graph}
 use Rattle.dmk_run.specs.Judged.{IsBorneOut}
 use Rattle.dmk_run.specs.Made.{HasEnded, IsMade, Makes, MakesItems}
 use Rattle.dmk_run.specs.declared.stop.Stop.{Stop}
@@ -43,42 +43,44 @@ status_of_report found (Ok s) (r, is, same) small = subst (λ n. n ≤ 2) (sym s
 status_of_report found (Err stop) is small = tt
 
 -- the status of a report is that of a graph that has ended
-pub has_ended : (graph : Graph) (keeping : Bool) (sound : Type 0) (sides : Sides) (found : Result Report RunFault) (got : Result ℕ Stop)
+pub has_ended : (graph : Graph) (counting keeping : Bool) (sound : Type 0) (sides : Sides) (found : Result Report RunFault) (got : Result ℕ Stop)
     → IfOk got (λ s. (r : Report) × (found ≡ Ok r) × (s ≡ r.status)) → IfOk found (λ r. length r.ends.items ≡ length graph.nodes.items)
-    → IfOk found (λ r. r.status ≡ 0 → IsTrue (list_all ends_well r.ends.items)) → IfOk found (λ r. r.status ≡ 0 → IsBorneOut keeping graph r.ends.items)
-    → IfOk found (λ r. keeping ≡ true → IsMade graph sound sides r.status r.ends.items) → IfOk got (HasEnded graph keeping sound sides)
-has_ended graph keeping sound sides found (Ok s) (r, is, same) all well borne made = record {
+    → IfOk found (λ r. r.status ≡ 0 → IsTrue (list_all ends_well r.ends.items)) → IfOk found (λ r. r.status ≡ 0 → IsBorneOut counting graph r.ends.items)
+    → IfOk found (λ r. keeping ≡ true → IsMade graph sound sides r.status r.ends.items) → IfOk got (HasEnded graph counting keeping sound sides)
+has_ended graph counting keeping sound sides found (Ok s) (r, is, same) all well borne made = record {
   ends = r.ends.items;
   all = at_ok (λ r. length r.ends.items ≡ length graph.nodes.items) found r is all;
   well = λ none. at_ok (λ r. r.status ≡ 0 → IsTrue (list_all ends_well r.ends.items)) found r is well (sym same ∙ none);
-  borne_out = λ none. at_ok (λ r. r.status ≡ 0 → IsBorneOut keeping graph r.ends.items) found r is borne (sym same ∙ none);
+  borne_out = λ none. at_ok (λ r. r.status ≡ 0 → IsBorneOut counting graph r.ends.items) found r is borne (sym same ∙ none);
   made = λ kept.
       subst (λ s. IsMade graph sound sides s r.ends.items) (sym same)
       (at_ok (λ r. keeping ≡ true → IsMade graph sound sides r.status r.ends.items) found r is made kept);
 }
-has_ended graph keeping sound sides found (Err stop) is all well borne made = tt
+has_ended graph counting keeping sound sides found (Err stop) is all well borne made = tt
 
-module _ (definitions environment : List Variable) (targets : List (List ℕ)) (times : List ℕ → Option ℤ) where
+module _ (definitions environment : List Variable) (targets : List (List ℕ)) (all : Bool) (times : List ℕ → Option ℤ) where
   -- so a graph of these items has
   pub made_items : (items : List Item) (stored keeping : Bool) (disk_honest : Type 0) (seen : Which → List ℕ) (sides : Sides) (state : StateMap)
-      (graph : Graph) (kept : Bool) → IsStateOn stored disk_honest seen state → IsGraphOf definitions environment targets times items state graph →
-      kept ≡ keeping → (got : Result ℕ Stop) → IfOk got (HasEnded graph kept disk_honest sides) →
-      IfOk got (λ s. MakesItems definitions environment targets times items stored keeping disk_honest seen s sides)
-  made_items items stored keeping disk_honest seen sides state graph kept is_state is_graph same (Ok s) ended = record {
+      (graph judged : Graph) (counted kept : Bool) → IsStateOn stored disk_honest seen state →
+      IsGraphOf definitions environment targets times items state graph → judged ≡ judged_graph all graph → counted ≡ all || keeping →
+      kept ≡ keeping → (got : Result ℕ Stop) → IfOk got (HasEnded judged counted kept disk_honest sides) →
+      IfOk got (λ s. MakesItems definitions environment targets all times items stored keeping disk_honest seen s sides)
+  made_items items stored keeping disk_honest seen sides state graph judged counted kept is_state is_graph is_judged counts same (Ok s) ended = record {
     state = state;
     is_state = is_state;
     graph = graph;
     is_graph = is_graph;
-    ended = subst (λ k. HasEnded graph k disk_honest sides s) same ended;
+    ended = subst (λ g. HasEnded g (all || keeping) keeping disk_honest sides s) is_judged
+        (subst (λ n. HasEnded judged n keeping disk_honest sides s) counts (subst (λ k. HasEnded judged counted k disk_honest sides s) same ended));
   }
-  made_items items stored keeping disk_honest seen sides state graph kept is_state is_graph same (Err stop) ended = tt
+  made_items items stored keeping disk_honest seen sides state graph judged counted kept is_state is_graph is_judged counts same (Err stop) ended = tt
 
   -- over a disk in memory that was empty nothing of a state is known
   module _ (items : List Item) (memory_honest : Type 0) (memory : Which → List ℕ) (works : memory_honest)
       (a : memory which.A ≡ []) (b : memory which.B ≡ []) (memory_sides : Sides) (disk_honest : Type 0) (seen : Which → List ℕ) (sides : Sides) where
     pub without_state : (status : ℕ) →
-        MakesItems definitions environment targets times items true false memory_honest memory status memory_sides →
-        MakesItems definitions environment targets times items false false disk_honest seen status sides
+        MakesItems definitions environment targets all times items true false memory_honest memory status memory_sides →
+        MakesItems definitions environment targets all times items false false disk_honest seen status sides
     without_state status run = record {
       state = run.state;
       is_state = empty_state (memory which.A) (memory which.B) run.state a b (run.is_state works);
@@ -94,10 +96,10 @@ module _ (definitions environment : List Variable) (targets : List (List ℕ)) (
     }
 
     pub found_without_state : (keeping : Bool) → false ≡ keeping → (got : Result ℕ Stop) →
-        IfOk got (λ s. MakesItems definitions environment targets times items true false memory_honest memory s memory_sides) →
-        IfOk got (λ s. MakesItems definitions environment targets times items keeping keeping disk_honest seen s sides)
+        IfOk got (λ s. MakesItems definitions environment targets all times items true false memory_honest memory s memory_sides) →
+        IfOk got (λ s. MakesItems definitions environment targets all times items keeping keeping disk_honest seen s sides)
     found_without_state keeping is (Ok status) run =
-        subst (λ k. MakesItems definitions environment targets times items k k disk_honest seen status sides) is
+        subst (λ k. MakesItems definitions environment targets all times items k k disk_honest seen status sides) is
         (without_state status run)
     found_without_state keeping is (Err stop) run = tt
 

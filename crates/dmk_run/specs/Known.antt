@@ -25,8 +25,8 @@ AreKnownDone graph m = (node : ℕ) → IsNodeKnownDone graph m node
 
 -- a report as it is told of a closed store: that of the run, but that a status of 0 becomes 1 where a node that wasn't built isn't
 -- judged so, or where state is kept and the store's doesn't bear it out
-pub record IsTold (graph : Graph) (keeping : Bool) (m : StateMap) (given told : Report) : Type 0 where
+pub record IsTold (graph : Graph) (counting keeping : Bool) (m : StateMap) (given told : Report) : Type 0 where
   pub ends : told.ends.items ≡ given.ends.items
   pub status : (told.status ≡ given.status) ⊎ ((given.status ≡ 0) × (told.status ≡ 1))
   pub known : keeping ≡ true → told.status ≡ 0 → AreKnownDone graph m
-  pub judged : told.status ≡ 0 → AreJudged keeping graph told.ends.items
+  pub judged : told.status ≡ 0 → AreJudged counting graph told.ends.items

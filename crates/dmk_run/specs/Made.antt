@@ -1,5 +1,5 @@
 -- What a run leaves on its disk, where it ends with a report.
-use Rattle.std.specs.Prelude.{◌≡◌, ℕ, ℤ, Bool, true, List, Option, length, IsTrue}
+use Rattle.std.specs.Prelude.{◌≡◌, ◌||◌, ℕ, ℤ, Bool, true, List, Option, length, IsTrue}
 use Rattle.std.specs.List.{list_all}
 use Rattle.mk_reader.specs.declared.item.Item.{Item}
 use Rattle.mk_rules.specs.declared.graph.Graph.{Graph}
@@ -14,7 +14,7 @@ use Rattle.bd_flusher.specs.declared.site.receipt.Receipt.{Receipt}
 use Rattle.jb_closing.specs.Agreement.{AreThoseOf}
 use Rattle.jb_closing.specs.Closing.{AreTrueOf}
 use Rattle.jb_closing.specs.Report.{ends_well}
-use Rattle.dmk_drive.specs.Planned.{AreItems, IsGraphOf, IsStateOn}
+use Rattle.dmk_drive.specs.Planned.{AreItems, IsGraphOf, IsStateOn, judged_graph}
 use Rattle.dmk_drive.specs.Keeping.{keeps}
 use Rattle.dmk_run.specs.Judged.{IsBorneOut}
 use Rattle.dmk_run.specs.Known.{AreKnownDone}
@@ -33,28 +33,28 @@ pub record IsMade (graph : Graph) (sound : Type 0) (sides : Sides) (status : ℕ
   pub known : status ≡ 0 → AreKnownDone graph left
 
 -- so it is of some ends of a graph: each of its nodes has one, and at status 0 each is up to date or was made, and whatever wasn't
--- built needn't be. Where no state is kept nothing is said of what the disk holds then
-pub record HasEnded (graph : Graph) (keeping : Bool) (sound : Type 0) (sides : Sides) (status : ℕ) : Type 0 where
+-- built needn't be, where what is recorded of targets counts or doesn't. Where no state is kept nothing is said of what the disk holds then
+pub record HasEnded (graph : Graph) (counting keeping : Bool) (sound : Type 0) (sides : Sides) (status : ℕ) : Type 0 where
   pub ends : List End
   pub all : length ends ≡ length graph.nodes.items
   pub well : status ≡ 0 → IsTrue (list_all ends_well ends)
-  pub borne_out : status ≡ 0 → IsBorneOut keeping graph ends
+  pub borne_out : status ≡ 0 → IsBorneOut counting graph ends
   pub made : keeping ≡ true → IsMade graph sound sides status ends
 
 -- so the graph of these items has, for the targets that are named, by the state that the disk recovers, if it is stored there
-pub record MakesItems (definitions environment : List Variable) (targets : List (List ℕ)) (times : List ℕ → Option ℤ)
+pub record MakesItems (definitions environment : List Variable) (targets : List (List ℕ)) (all : Bool) (times : List ℕ → Option ℤ)
     (items : List Item) (stored keeping : Bool) (disk_honest : Type 0) (seen : Which → List ℕ)
     (status : ℕ) (sides : Sides) : Type 0 where
   pub state : StateMap
   pub is_state : IsStateOn stored disk_honest seen state
   pub graph : Graph
   pub is_graph : IsGraphOf definitions environment targets times items state graph
-  pub ended : HasEnded graph keeping disk_honest sides status
+  pub ended : HasEnded (judged_graph all graph) (all || keeping) keeping disk_honest sides status
 
 -- so it is for the items of the makefile that is found by these files and times
-pub record Makes (files : List ℕ → Option (List ℕ)) (times : List ℕ → Option ℤ) (named : Option (List ℕ))
-    (definitions environment : List Variable) (targets : List (List ℕ)) (disk_honest : Type 0) (seen : Which → List ℕ) (status : ℕ) (sides : Sides) : Type 0 where
+pub record Makes (files : List ℕ → Option (List ℕ)) (times : List ℕ → Option ℤ) (named : List (List ℕ))
+    (definitions environment : List Variable) (targets : List (List ℕ)) (all : Bool) (disk_honest : Type 0) (seen : Which → List ℕ) (status : ℕ) (sides : Sides) : Type 0 where
   pub items : List Item
   pub are_items : AreItems files times named items
-  pub made : MakesItems definitions environment targets times items (keeps environment items) (keeps environment items)
+  pub made : MakesItems definitions environment targets all times items (keeps environment items) (keeps environment items)
       disk_honest seen status sides

@@ -15,8 +15,8 @@ unbuilt_end false = end.UpToDate
 
 -- a dry run lists no recipe of the graph, and the report says so: each node is up to date or counts as remade, and its status is
 -- 0. Where state is kept, it knows each node that has a recipe as done
-pub record IsReportOfNone (keeping : Bool) (graph : Graph) (m : StateMap) (report : Report) : Type 0 where
-  pub listing : ListsNone keeping graph
+pub record IsReportOfNone (counting keeping : Bool) (graph : Graph) (m : StateMap) (report : Report) : Type 0 where
+  pub listing : ListsNone counting graph
   pub remade : List Bool
   pub count : length remade ≡ length graph.nodes.items
   pub ends : report.ends.items ≡ map unbuilt_end remade

@@ -53,31 +53,33 @@ fn dead<D: Disk + Drop>(store: Store<D>) -> Built<D>
 fn is_borne_out(
     alloc: Global,
     graph: &Graph,
+    counting: bool,
     keeps_state: bool,
     state: &State,
     ends: &[End],
 ) -> Result<bool, AllocError>
     ensures known { IfOk result (λ yes. yes ≡ true → keeps_state ≡ true → AreKnownDone graph.now state.now) }
-    ensures judged { IfOk result (λ yes. yes ≡ true → AreJudged keeps_state graph.now ends.now) }
+    ensures judged { IfOk result (λ yes. yes ≡ true → AreJudged counting graph.now ends.now) }
 {
     if keeps_state && !are_known_done(graph, state) {
         return Ok(false);
     }
-    are_judged(alloc, keeps_state, graph, ends)
+    are_judged(alloc, counting, graph, ends)
 }
 
 /// A report whose status is 0 only where that is borne out.
 fn checked(
     alloc: Global,
     graph: &Graph,
+    counting: bool,
     keeps_state: bool,
     state: &State,
     report: Report,
 ) -> Result<Report, AllocError>
-    ensures { IfOk result (IsTold graph.now keeps_state state.now report) }
+    ensures { IfOk result (IsTold graph.now counting keeps_state state.now report) }
 {
     let Report { ends, status } = report;
-    if status == 0 && !is_borne_out(alloc, graph, keeps_state, state, &ends)? {
+    if status == 0 && !is_borne_out(alloc, graph, counting, keeps_state, state, &ends)? {
         return Ok(Report { ends, status: 1 });
     }
     Ok(Report { ends, status })
@@ -87,13 +89,14 @@ fn checked(
 fn told<D: Disk + Drop>(
     alloc: Global,
     graph: &Graph,
+    counting: bool,
     keeps_state: bool,
     found: Result<Report, RunFault>,
     closed: Store<D>,
 ) -> Built<D>
     ensures store { result.store ≡ closed }
     ensures alive { IsOk result.found → closed.log.dead ≡ false }
-    ensures report { IfOk result.found (λ r. (given : RunReport) × (found ≡ Ok given) × IsTold graph.now keeps_state closed.state given r) }
+    ensures report { IfOk result.found (λ r. (given : RunReport) × (found ≡ Ok given) × IsTold graph.now counting keeps_state closed.state given r) }
     ensures fault { IfErr result.found (λ fault. (found ≡ Err fault) ⊎ ((fault ≡ run_faults.OutOfMemory)
         ⊎ ((fault ≡ run_faults.Flush refusals.Dead) × (closed.log.dead ≡ true)))) }
 {
@@ -109,7 +112,7 @@ fn told<D: Disk + Drop>(
     if closed.is_dead() {
         return dead(closed);
     }
-    match checked(alloc, graph, keeps_state, closed.state(), report) {
+    match checked(alloc, graph, counting, keeps_state, closed.state(), report) {
         Ok(report) => Built {
             found: Ok(report),
             store: closed,
@@ -158,7 +161,7 @@ where
     ensures status { IfOk result.found (λ r. r.status ≤ 2) }
     ensures well { IfOk result.found (λ r. r.status ≡ 0 → IsTrue (list_all ends_well r.ends.items)) }
     // No status of 0 is made up: a node that wasn't built needn't be.
-    ensures borne_out { IfOk result.found (λ r. r.status ≡ 0 → IsBorneOut conduct.keeps_state graph.now r.ends.items) }
+    ensures borne_out { IfOk result.found (λ r. r.status ≡ 0 → IsBorneOut conduct.counts_records graph.now r.ends.items) }
     ensures made { IfOk result.found (λ r. conduct.keeps_state ≡ true
         → IsMade graph.now D.honest (now (D.moments result.store.log.disk)) r.status r.ends.items) }
     // A store that is handed in dead is told as one, and comes back as it was.
@@ -197,7 +200,15 @@ where
         workers,
         pool: means.pool,
     };
+    let counting = conduct.counts_records;
     let keeps_state = conduct.keeps_state;
     let (found, closed) = run_slotted(rt, alloc, &parts, conduct, site, slotting, banks);
-    told(alloc, graph, keeps_state, found, closed.site.into_store())
+    told(
+        alloc,
+        graph,
+        counting,
+        keeps_state,
+        found,
+        closed.site.into_store(),
+    )
 }

@@ -19,6 +19,8 @@ pub struct Wishes {
     pub goes_on: bool,
     pub is_silent: bool,
     pub ignores_statuses: bool,
+    /// Each target is made, whatever the files and the state say of it.
+    pub makes_all: bool,
     /// How much is told of why targets are made.
     pub telling: Telling,
 }
@@ -44,6 +46,7 @@ impl Wishes {
         definitions: Vec<Variable>,
     ) -> Result<Conduct, AllocError>
         ensures state { IfOk result (λ c. (c.keeps_state ≡ keeps_state) × (c.state_name ≡ string_bytes self.now.state)) }
+        ensures records { IfOk result (λ c. c.counts_records ≡ self.now.makes_all || keeps_state) }
         ensures goes_on { IfOk result (λ c. c.goes_on ≡ self.now.goes_on) }
         ensures ignores { IfOk result (λ c. c.ignores_statuses ≡ self.now.ignores_statuses || settings.now.ignores_statuses) }
         ensures silent { IfOk result (λ c. c.prints_no_lines ≡ self.now.is_silent || settings.now.prints_no_lines) }
@@ -53,6 +56,7 @@ impl Wishes {
     {
         Ok(Conduct {
             keeps_state,
+            counts_records: self.makes_all || keeps_state,
             goes_on: self.goes_on,
             ignores_statuses: self.ignores_statuses || settings.ignores_statuses,
             prints_no_lines: self.is_silent || settings.prints_no_lines,

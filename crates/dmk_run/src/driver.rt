@@ -1,5 +1,5 @@
 //! The program over handed-in parts, where recipes are run.
-ghost use Rattle.std.specs.Prelude.{◌≡◌, ◌≢◌, ◌⊎◌, ◌≤◌, ℕ, ℤ, true, false, List, Option, Ok, codes, option_copied, IfOk, IfErr};
+ghost use Rattle.std.specs.Prelude.{◌≡◌, ◌≢◌, ◌⊎◌, ◌≤◌, ℕ, ℤ, true, false, List, Option, Ok, codes, IfOk, IfErr};
 ghost use Rattle.mk_reader.specs.declared.item.Item.{Item as MakefileItem};
 ghost use Rattle.st_disk.specs.Moments.{now};
 ghost use Rattle.dmk_drive.specs.Keeping.{keeps, value_in};
@@ -16,7 +16,7 @@ use crate::printer::Printer;
 use crate::stop::Stop;
 use bd_flusher::Receipt;
 use bd_lists::{Exec, Variable};
-use byte_strings::ByteString;
+use byte_strings::ByteStrings;
 use dmk_drive::{Fault, Message, Options, items_of, keeps_state};
 use jb_recipe::Place;
 use jb_slots::Banks;
@@ -44,15 +44,6 @@ pub struct Means<'a, E, S, P> {
     pub place: &'a P,
 }
 
-fn slice_of(name: &Option<ByteString>) -> Option<&[u8]>
-    ensures { option_copied result ≡ name.now }
-{
-    match name {
-        Some(name) => Some(name.as_slice()),
-        None => None,
-    }
-}
-
 /// Makes what was planned over an opened store. The disk comes back.
 fn make<R, E, O, W, P, K, D>(
     rt: &R,
@@ -73,7 +64,7 @@ where
     K::End: Drop + Send,
     D: Disk + Drop + Send,
     ensures status { IfOk result.0 (λ s. s ≤ 2) }
-    ensures ended { IfOk result.0 (HasEnded plan.graph plan.conduct.keeps_state D.honest (now (D.moments result.1))) }
+    ensures ended { IfOk result.0 (HasEnded plan.graph plan.conduct.counts_records plan.conduct.keeps_state D.honest (now (D.moments result.1))) }
     ensures let_go { K.serves banks.old ≡ false → K.serves banks.new ≡ false }
 {
     let Plan { graph, conduct } = plan;
@@ -107,7 +98,7 @@ where
     D: Disk + Drop + Send,
     ensures status { IfOk result.0 (λ s. s ≤ 2) }
     ensures makes { IfOk result.0 (λ s. (times : List ℕ → Option ℤ) → T.allows tree.new times
-        → MakesItems goals.definitions.items means.now.environment.now goals.targets times items.items true keeping
+        → MakesItems goals.definitions.items means.now.environment.now goals.targets wishes.now.makes_all times items.items true keeping
         D.honest (D.seen disk) s (now (D.moments result.1))) }
     ensures times { (times : List ℕ → Option ℤ) → T.allows tree.new times → T.allows tree.old times }
     ensures let_go { K.serves banks.old ≡ false → K.serves banks.new ≡ false }
@@ -120,6 +111,7 @@ where
     let environment = means.environment;
     match planned(
         alloc,
+        means.key,
         environment,
         means.say,
         wishes,
@@ -160,7 +152,7 @@ where
     D: Disk + Drop + Send,
     ensures status { IfOk result.0 (λ s. s ≤ 2) }
     ensures makes { IfOk result.0 (λ s. (times : List ℕ → Option ℤ) → T.allows tree.new times
-        → MakesItems goals.definitions.items means.now.environment.now goals.targets times items.items
+        → MakesItems goals.definitions.items means.now.environment.now goals.targets wishes.now.makes_all times items.items
         (keeps means.now.environment.now items.items) (keeps means.now.environment.now items.items)
         D.honest (D.seen disk) s (now (D.moments result.1))) }
     ensures times { (times : List ℕ → Option ℤ) → T.allows tree.new times → T.allows tree.old times }
@@ -182,14 +174,14 @@ where
     (found, disk)
 }
 
-/// Makes the goals of the makefile that is named, or of the usual one.
+/// Makes the goals of the makefiles that are named, or of the usual one.
 fn run_makefile<R, T, I, E, O, W, P, G, K, D>(
     rt: &R,
     alloc: Global,
     means: &Means<'_, E, Printer<'_, R, O, W>, P>,
     guard: &mut G,
     wishes: &Wishes,
-    named: Option<&[u8]>,
+    named: &ByteStrings,
     goals: Goals,
     tree: &mut T,
     includes: &mut I,
@@ -210,10 +202,10 @@ where
     D: Disk + Drop + Send,
     ensures status { IfOk result.0 (λ s. s ≤ 2) }
     ensures makes { IfOk result.0 (λ s. (files : List ℕ → Option (List ℕ)) (times : List ℕ → Option ℤ) → I.allows includes.new files → T.allows tree.new times
-        → Makes files times (option_copied named.entry) goals.definitions.items means.now.environment.now goals.targets
+        → Makes files times named.now goals.definitions.items means.now.environment.now goals.targets wishes.now.makes_all
         D.honest (D.seen disk) s (now (D.moments result.1))) }
     ensures untouched { (files : List ℕ → Option (List ℕ)) (times : List ℕ → Option ℤ) → I.allows includes.new files → T.allows tree.new times
-        → (result.1 ≡ disk) ⊎ ((items : List MakefileItem) × AreItems files times (option_copied named.entry) items
+        → (result.1 ≡ disk) ⊎ ((items : List MakefileItem) × AreItems files times named.now items
         × (keeps means.now.environment.now items ≡ true)) }
     ensures let_go { K.serves banks.old ≡ false → K.serves banks.new ≡ false }
 {
@@ -313,22 +305,23 @@ where
     // 'done' whose receipt its worker gathered: so for all texts and times that agree with what was answered.
     ensures makes { result.0 ≢ 2
         → (files : List ℕ → Option (List ℕ)) (times : List ℕ → Option ℤ) → I.allows includes.new files → T.allows tree.new times
-        → Makes files times options.makefile options.definitions.items means.now.environment.now options.targets
+        → Makes files times options.makefiles options.definitions.items means.now.environment.now options.targets options.makes_all
         D.honest (D.seen disk) result.0 (now (D.moments result.1)) }
     // Unless a makefile that was read keeps state, the disk is handed back as it came.
     ensures untouched { (files : List ℕ → Option (List ℕ)) (times : List ℕ → Option ℤ) → I.allows includes.new files → T.allows tree.new times
-        → (result.1 ≡ disk) ⊎ ((items : List MakefileItem) × AreItems files times options.makefile items
+        → (result.1 ≡ disk) ⊎ ((items : List MakefileItem) × AreItems files times options.makefiles items
         × (keeps means.now.environment.now items ≡ true)) }
     // A pool that is served for the run is let go at its end.
     ensures let_go { K.serves banks.old ≡ false → K.serves banks.new ≡ false }
 {
     let Options {
-        makefile,
+        makefiles,
         state,
         workers,
         goes_on,
         is_silent,
         ignores_statuses,
+        makes_all,
         telling,
         definitions,
         targets,
@@ -340,15 +333,15 @@ where
         goes_on,
         is_silent,
         ignores_statuses,
+        makes_all,
         telling,
     };
     let goals = Goals {
         definitions,
         targets,
     };
-    let named = slice_of(&makefile);
     let (found, disk) = run_makefile(
-        rt, alloc, means, guard, &wishes, named, goals, tree, includes, banks, disk,
+        rt, alloc, means, guard, &wishes, &makefiles, goals, tree, includes, banks, disk,
     );
     let status = status_of(means.say, wishes.state.as_str(), found);
     (status, disk)

@@ -1,11 +1,12 @@
 //! What a run makes and how it goes, before anything is made.
-ghost use Rattle.std.specs.Prelude.{◌≡◌, ◌⊎◌, ℕ, ℤ, List, Option, IfOk, IfErr};
+ghost use Rattle.std.specs.Prelude.{◌≡◌, ◌⊎◌, ◌||◌, ℕ, ℤ, List, Option, IfOk, IfErr};
 ghost use Rattle.std.specs.FinMap as finmap;
 ghost use Rattle.mk_rules.specs.Faults.{IsRuleFault};
 ghost use Rattle.mk_rules.specs.declared.graph.TheConstants.{MAX_NODES};
 ghost use Rattle.mk_rule_lines.specs.declared.fault.RuleFault.{RuleFault as RulesFault};
+ghost use Rattle.mk_rules.specs.declared.graph.Graph.{Graph as MadeGraph};
 ghost use Rattle.dmk_drive.specs.Definitions.{first_defined};
-ghost use Rattle.dmk_drive.specs.Planned.{IsGraphOf};
+ghost use Rattle.dmk_drive.specs.Planned.{IsGraphOf, judged_graph};
 ghost use Rattle.dmk_drive.specs.declared.fault.Fault.TheVariants as faults;
 ghost use Rattle.dmk_run.specs.declared.stop.Stop.TheVariants as stops;
 
@@ -14,10 +15,11 @@ use crate::printer::Printer;
 use crate::stop::Stop;
 use bd_lists::Variable;
 use byte_strings::ByteStrings;
-use dmk_drive::{Fault, first_macros};
+use dmk_drive::{Fault, first_macros, judged_graph};
 use jb_recipe::Conduct;
 use mk_reader::Item;
 use mk_rules::{Graph, Tree};
+use st_records::HashKey;
 use st_state::State;
 use std::alloc::Global;
 use std::io::Write;
@@ -30,7 +32,7 @@ pub struct Goals {
     pub targets: ByteStrings,
 }
 
-/// The graph of what is to be made, and how the run over it goes.
+/// The graph of what is to be made, by which it is judged, and how the run over it goes.
 #[derive(Drop)]
 pub struct Plan {
     pub graph: Graph,
@@ -66,6 +68,7 @@ fn graph_of<T: Tree>(
 /// Plans the goals by a state, and says where soft edges are dropped.
 pub(crate) fn planned<R: Wait, T: Tree, O: Write + Drop, W: Write + Drop>(
     alloc: Global,
+    key: HashKey,
     environment: &[Variable],
     printer: &Printer<'_, R, O, W>,
     wishes: &Wishes,
@@ -76,9 +79,11 @@ pub(crate) fn planned<R: Wait, T: Tree, O: Write + Drop, W: Write + Drop>(
     state: &State,
 ) -> Result<Plan, Stop>
     ensures graph { IfOk result (λ plan. (times : List ℕ → Option ℤ) → T.allows tree.new times
-        → IsGraphOf goals.definitions.items environment.now goals.targets times items.items state.now plan.graph) }
+        → (graph : MadeGraph) × IsGraphOf goals.definitions.items environment.now goals.targets times items.items state.now graph
+        × (plan.graph ≡ judged_graph wishes.now.makes_all graph)) }
     ensures times { (times : List ℕ → Option ℤ) → T.allows tree.new times → T.allows tree.old times }
     ensures keeping { IfOk result (λ plan. plan.conduct.keeps_state ≡ keeping) }
+    ensures records { IfOk result (λ plan. plan.conduct.counts_records ≡ wishes.now.makes_all || keeping) }
 {
     let Goals {
         definitions,
@@ -97,5 +102,6 @@ pub(crate) fn planned<R: Wait, T: Tree, O: Write + Drop, W: Write + Drop>(
         printer.soft_edges_dropped();
     }
     let conduct = wishes.conduct(alloc, &graph.settings, keeping, definitions)?;
+    let graph = judged_graph(alloc, key, wishes.makes_all, graph);
     Ok(Plan { graph, conduct })
 }

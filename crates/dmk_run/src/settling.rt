@@ -75,10 +75,10 @@ pub(crate) fn report_of_none<S: Say>(
     state: &State,
     say: &S,
 ) -> Option<Report>
-    ensures { IfSome result (IsReportOfNone conduct.now.keeps_state graph.now state.now) }
+    ensures { IfSome result (IsReportOfNone conduct.now.counts_records conduct.now.keeps_state graph.now state.now) }
 {
     let keeps_state = conduct.keeps_state;
-    let marks = unlisted(alloc, keeps_state, graph)?;
+    let marks = unlisted(alloc, conduct.counts_records, graph)?;
     if keeps_state && !are_known_done(graph, state) {
         return None;
     }

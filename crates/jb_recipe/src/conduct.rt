@@ -11,8 +11,10 @@ use std::alloc::{AllocError, Global};
 /// What the words of the command line, the makefile and the environment say of a whole run.
 #[derive(Drop)]
 pub struct Conduct {
-    /// State is kept from run to run: what it says counts, and recipes write reports.
+    /// State is kept from run to run, and recipes write reports.
     pub keeps_state: bool,
+    /// What is recorded of targets counts, also that nothing is.
+    pub counts_records: bool,
     /// What doesn't depend on a failed target is still made.
     pub goes_on: bool,
     /// Statuses of recipe lines don't matter.

@@ -85,7 +85,7 @@ impl<D: Disk + Drop, E: Exec<Receipt>, S: Say, P: Place> Shop<'_, D, E, S, P> {
         self.mark(rt, marks, number);
         match pass(
             alloc,
-            self.conduct.keeps_state,
+            self.conduct.counts_records,
             self.graph,
             marks.as_slice(),
             number,

@@ -97,6 +97,7 @@ fn run_over<R: Threads + Wait + Clock + Sync + Copy, D: Disk + Drop + Send>(
 fn conduct(alloc: Global, way: &Way) -> Result<Conduct, AllocError> {
     Ok(Conduct {
         keeps_state: way.keeps_state,
+        counts_records: way.keeps_state,
         goes_on: way.goes_on,
         ignores_statuses: false,
         prints_no_lines: false,

@@ -1,12 +1,9 @@
-use Rattle.dmk_drive.proofs.MakefileLemmas.{read_items, read_refused}
+use Rattle.mk_rule_lines.proofs.ResultLemmas.{if_ok}
+use Rattle.dmk_drive.proofs.MakefileLemmas.{items_among, some_named}
 use Rattle.dmk_drive.proofs.makefile.items_of.Goals as goal
 
-pub returns-in-Ok-clause-items : goal.returns-in-Ok-clause-items
-returns-in-Ok-clause-items g c = λ files times text now.
-    read_items files times _ _ _ _ _ c.as_slice-file.ensures c.as_slice.ensures.value
-    (c.in_ok-makefile.ensures.makefile files times (c.read_makefile.ensures.grows files text) now) _ (c.in-Ok.ensures.items files text)
-
-pub returns-clause-fault : goal.returns-clause-fault
-returns-clause-fault g c = λ files times text now.
-    read_refused files times _ _ _ _ _ c.as_slice-file.ensures c.as_slice.ensures.value
-    (c.in_ok-makefile.ensures.makefile files times (c.read_makefile.ensures.grows files text) now) c.in-Err.fault (c.in-Err.ensures.items files text)
+pub returns-else-is_empty-clause-items : goal.returns-else-is_empty-clause-items
+returns-else-is_empty-clause-items g c =
+    if_ok c.all_items.result _ _
+    (λ items gives files times text now. items_among files times c.args.named.now items.items (some_named c.args.named.now c.is_empty.result (c.is_empty.ensures).1 c.if-is_empty.false) (gives files text))
+    c.all_items.ensures.items

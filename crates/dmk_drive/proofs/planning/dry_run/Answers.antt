@@ -1,4 +1,3 @@
-use Rattle.std.proofs.Common.{option_copied}
 use Rattle.st_file.specs.declared.fault.OpenFault.TheVariants as open_faults
 use Rattle.mk_rule_lines.proofs.ResultLemmas.{if_ok, if_err}
 use Rattle.dmk_drive.specs.Faults.{IsTextFault, IsPlanFault}
@@ -15,11 +14,11 @@ returns-clause-tells g c =
 pub returns-clause-fault : goal.returns-clause-fault
 returns-clause-fault g c =
     let refuses = g.T.Tree.refuses c.plan_items.new.tree in
-    let named = option_copied c.args.given.makefile in
+    let named = c.args.given.makefiles.now in
     if_err c.plan_items.result _ _
     (λ f meets files times text now.
     plan_fault (IsTextFault files times refuses named) (AreItems files times named)
-    (IsPlanFault c.args.given.definitions.now c.args.given.environment.now c.args.targets times refuses g.D.Disk.honest (g.D.Disk.seen c.args.disk.now))
+    (IsPlanFault c.args.given.definitions.now c.args.given.environment.now c.args.targets c.args.given.makes_all times refuses g.D.Disk.honest (g.D.Disk.seen c.args.disk.now))
     c.in_ok-items.items.items (c.in_ok-items.ensures.items files times text (c.plan_items.ensures.times times now)) f (meets times now)
     (λ no. no) (λ f no. no) (λ no. no))
     c.plan_items.ensures.fault
@@ -28,5 +27,5 @@ pub returns-in_err-items-clause-device : goal.returns-in_err-items-clause-device
 returns-in_err-items-clause-device g c = λ is.
     let (files, text) = g.met.I.Includes.possible c.items_of.new.includes in
     let (times, now) = g.met.T.Tree.possible c.items_of.new.tree in
-    absurd (no_state (IsTextFault files times (g.T.Tree.refuses c.items_of.new.tree) (option_copied c.args.given.makefile)) c.from_residual.result c.in_err-items.field-0.0
+    absurd (no_state (IsTextFault files times (g.T.Tree.refuses c.items_of.new.tree) (c.args.given.makefiles.now)) c.from_residual.result c.in_err-items.field-0.0
     open_faults.Device (c.from_residual.ensures).1 (c.in_err-items.ensures.fault files times text now) (λ none. none) is)

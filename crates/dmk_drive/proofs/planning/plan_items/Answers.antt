@@ -3,7 +3,7 @@ use Rattle.dmk_drive.specs.Faults.{IsPlanFault}
 use Rattle.dmk_drive.specs.Keeping.{keeps}
 use Rattle.dmk_drive.specs.Planned.{Tells}
 use Rattle.dmk_drive.proofs.AllowedLemmas.{each_ok, each_err}
-use Rattle.dmk_drive.proofs.PassingLemmas.{order_below}
+use Rattle.dmk_drive.proofs.PassingLemmas.{order_below, order_judged}
 use Rattle.dmk_drive.proofs.PlanLemmas.{recipes_result, told_result}
 use Rattle.dmk_drive.proofs.planning.plan_items.Goals as goal
 
@@ -15,7 +15,8 @@ listed-requires g c =
     let (state, found, is) = c.in_ok-graph.ensures.graph in
     let (times, now) = g.met.T.Tree.possible c.kept_graph.new.tree in
     let by = is times now in
-    order_below by.inputs c.args.targets c.in_ok-graph.graph by.is_graph
+    order_judged c.args.given.makes_all c.in_ok-graph.graph c.judged_graph-judged.result c.judged_graph-judged.ensures
+    (order_below by.inputs c.args.targets c.in_ok-graph.graph by.is_graph)
 
 pub returns-clause-tells : goal.returns-clause-tells
 returns-clause-tells g c =
@@ -25,10 +26,10 @@ returns-clause-tells g c =
     let definitions = c.args.given.definitions.now in
     let environment = c.args.given.environment.now in
     let seen = g.D.Disk.seen c.args.disk.now in
-    each_ok c.listed.result (g.T.Tree.allows c.kept_graph.new.tree) (λ times. Tells definitions environment c.args.targets times g.D.Disk.honest seen c.args.items.items c.args.given.shows.telling c.args.given.shows.recipes)
+    each_ok c.listed.result (g.T.Tree.allows c.kept_graph.new.tree) (λ times. Tells definitions environment c.args.targets c.args.given.makes_all times g.D.Disk.honest seen c.args.items.items c.args.given.shows.telling c.args.given.shows.recipes)
     (λ times now.
-    told_result definitions environment c.args.targets times g.D.Disk.honest seen c.args.items.items c.keeps_state-keeping.result is_keeping state found
-    c.in_ok-graph.graph (is times now) c.args.given.shows.telling c.args.given.shows.recipes c.listed.result c.listed.ensures.listing c.listed.ensures.dropped)
+    told_result definitions environment c.args.targets c.args.given.makes_all times g.D.Disk.honest seen c.args.items.items c.keeps_state-keeping.result is_keeping state found
+    c.in_ok-graph.graph (is times now) c.judged_graph-judged.result c.judged_graph-judged.ensures c.counts_records-counting.result c.counts_records-counting.ensures c.args.given.shows.telling c.args.given.shows.recipes c.listed.result c.listed.ensures.listing c.listed.ensures.dropped)
 
 pub returns-clause-fault : goal.returns-clause-fault
 returns-clause-fault g c =
@@ -39,7 +40,7 @@ returns-clause-fault g c =
     let environment = c.args.given.environment.now in
     let seen = g.D.Disk.seen c.args.disk.now in
     let refuses = g.T.Tree.refuses c.kept_graph.new.tree in
-    each_err c.listed.result (g.T.Tree.allows c.kept_graph.new.tree) (λ times. IsPlanFault definitions environment c.args.targets times refuses g.D.Disk.honest seen c.args.items.items)
+    each_err c.listed.result (g.T.Tree.allows c.kept_graph.new.tree) (λ times. IsPlanFault definitions environment c.args.targets c.args.given.makes_all times refuses g.D.Disk.honest seen c.args.items.items)
     (λ times now.
-    recipes_result definitions environment c.args.targets times g.D.Disk.honest seen c.args.items.items c.keeps_state-keeping.result is_keeping state found
-    c.in_ok-graph.graph (is times now) refuses c.listed.result c.listed.ensures.fault)
+    recipes_result definitions environment c.args.targets c.args.given.makes_all times g.D.Disk.honest seen c.args.items.items c.keeps_state-keeping.result is_keeping state found
+    c.in_ok-graph.graph (is times now) c.judged_graph-judged.result c.judged_graph-judged.ensures c.counts_records-counting.result c.counts_records-counting.ensures refuses c.listed.result c.listed.ensures.fault)

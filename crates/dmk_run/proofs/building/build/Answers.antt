@@ -13,16 +13,16 @@ returns-clause-recovers g c = λ ok honest.
 
 pub returns-clause-well : goal.returns-clause-well
 returns-clause-well g c =
-    well_told c.args.graph.now c.args.conduct.keeps_state c.into_store.result.state c.run_slotted-found.result.0 c.told.result.found c.run_slotted-found.ensures.well c.told.ensures.report
+    well_told c.args.graph.now c.args.conduct.counts_records c.args.conduct.keeps_state c.into_store.result.state c.run_slotted-found.result.0 c.told.result.found c.run_slotted-found.ensures.well c.told.ensures.report
 
 pub returns-clause-borne_out : goal.returns-clause-borne_out
-returns-clause-borne_out g c = borne_told c.args.graph.now c.args.conduct.keeps_state c.into_store.result.state c.run_slotted-found.result.0 c.told.result.found c.told.ensures.report
+returns-clause-borne_out g c = borne_told c.args.graph.now c.args.conduct.counts_records c.args.conduct.keeps_state c.into_store.result.state c.run_slotted-found.result.0 c.told.result.found c.told.ensures.report
 
 pub returns-clause-made : goal.returns-clause-made
 returns-clause-made g c =
     let store = c.into_store.result in
     rw c.told.ensures.store
-    (is_made g.D.Disk.honest g.D.Disk.moments c.args.graph.now c.args.conduct.keeps_state c.run_slotted-found.result.0 c.told.result.found c.run_slotted-found.result.1.site store.log.disk store.state
+    (is_made g.D.Disk.honest g.D.Disk.moments c.args.graph.now c.args.conduct.counts_records c.args.conduct.keeps_state c.run_slotted-found.result.0 c.told.result.found c.run_slotted-found.result.1.site store.log.disk store.state
     c.run_slotted-found.ensures.built c.told.ensures.report c.into_store.ensures.disk (λ ok. sym c.into_store.ensures.dead ∙ c.told.ensures.alive ok)
     (λ ok honest. all_recover store.log.side (now (g.D.Disk.moments store.log.disk)) (store.stored honest (c.told.ensures.alive ok))))
 
@@ -42,8 +42,8 @@ pub returns-in-Some-clause-made : goal.returns-in-Some-clause-made
 returns-in-Some-clause-made g c = λ kept.
     let store = c.args.store in
     let moments = g.D.Disk.moments store.log.disk in
-    none_made c.args.conduct.keeps_state c.args.graph.now store.state c.in-Some.report g.D.Disk.honest (now moments)
-    (subst (λ (m : StateMap). IsReportOfNone c.args.conduct.keeps_state c.args.graph.now m c.in-Some.report) c.state.ensures c.in-Some.ensures) (λ honest. all_recover store.log.side (now moments) (store.stored honest (sym c.is_dead.ensures.dead ∙ c.if-is_dead.false))) kept
+    none_made c.args.conduct.counts_records c.args.conduct.keeps_state c.args.graph.now store.state c.in-Some.report g.D.Disk.honest (now moments)
+    (subst (λ (m : StateMap). IsReportOfNone c.args.conduct.counts_records c.args.conduct.keeps_state c.args.graph.now m c.in-Some.report) c.state.ensures c.in-Some.ensures) (λ honest. all_recover store.log.side (now moments) (store.stored honest (sym c.is_dead.ensures.dead ∙ c.if-is_dead.false))) kept
 
 pub returns-in-Some-clause-borne_out : goal.returns-in-Some-clause-borne_out
 returns-in-Some-clause-borne_out g c = λ none. inl c.in-Some.ensures.listing

@@ -1,4 +1,3 @@
-use Rattle.std.proofs.Common.{option_copied}
 use Rattle.mk_rule_lines.proofs.ResultLemmas.{if_ok}
 use Rattle.dmk_drive.specs.Planned.{AreItems}
 use Rattle.dmk_run.proofs.DriverLemmas.{untouched_unless_kept}
@@ -16,5 +15,5 @@ returns-in-Ok-clause-makes g c =
 
 pub returns-in-Ok-clause-untouched : goal.returns-in-Ok-clause-untouched
 returns-in-Ok-clause-untouched g c = λ files times text may.
-    untouched_unless_kept (AreItems files times (option_copied c.args.named)) c.args.means.now.environment.now c.in-Ok.items.items
+    untouched_unless_kept (AreItems files times c.args.named.now) c.args.means.now.environment.now c.in-Ok.items.items
     (c.in-Ok.ensures.items files times text (c.run_items.ensures.times times may)) c.args.disk c.run_items.result.1 c.run_items.ensures.untouched

@@ -1,0 +1,9 @@
+use Rattle.std.proofs.Common.{ℕ, List, Option}
+use Rattle.dmk_drive.proofs.MakefileLemmas.{AreReadSoFar}
+use Rattle.dmk_drive.proofs.makefile.all_items.Given as goal
+
+abbrev pub invariant-loop-name : goal.invariant-loop-name
+invariant-loop-name g l = record {
+  read : (files : List ℕ → Option (List ℕ)) → g.I.Includes.allows l.includes files → AreReadSoFar files l.names l.name-iterator l.items.items;
+  grows : (files : List ℕ → Option (List ℕ)) → g.I.Includes.allows l.includes files → g.I.Includes.allows l.initial.includes files;
+}
