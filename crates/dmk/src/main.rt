@@ -18,6 +18,7 @@ mod pool_path;
 mod reasons;
 mod standard_streams;
 mod state_lock;
+mod terminal;
 
 use asking::ask;
 use bd_lists::Variable;
@@ -41,6 +42,7 @@ use std::alloc::AllocError;
 use std::process::ExitCode;
 use std::sync::{OnceLock, Wait};
 use std::thread::Threads;
+use terminal::status_columns;
 
 fn main(rt: HostRuntime) -> ExitCode {
     match read_words(rt, processors(&rt)) {
@@ -167,6 +169,7 @@ fn make<R: Threads + Wait + Sync>(
         alloc,
         buffered(alloc, with_patience(host, host.stdout()))?,
         buffered(alloc, with_patience(host, host.stderr()))?,
+        status_columns(host, environment, options.is_silent),
     );
     let held = OnceLock::new();
     let above = str::from_utf8(value_of(environment, HOLDS.as_bytes())).unwrap_or("");

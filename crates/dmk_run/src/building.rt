@@ -11,6 +11,7 @@ ghost use Rattle.dmk_run.specs.Judged.{AreJudged, IsBorneOut};
 ghost use Rattle.dmk_run.specs.Known.{AreKnownDone, IsTold};
 ghost use Rattle.dmk_run.specs.Made.{IsMade};
 
+use crate::counting::tell_planned;
 use crate::driver::Means;
 use crate::judging::are_judged;
 use crate::known::are_known_done;
@@ -179,6 +180,7 @@ where
             store,
         };
     }
+    tell_planned(alloc, conduct.counts_records, graph, means.say);
     let site = match Site::new(alloc, store) {
         Ok(site) => site,
         Err((_, store)) => {

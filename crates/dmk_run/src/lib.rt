@@ -3,6 +3,7 @@
 
 mod building;
 mod conducting;
+mod counting;
 mod driver;
 mod guard;
 mod judging;
@@ -11,7 +12,9 @@ mod opening;
 mod planning;
 mod printer;
 mod settling;
+mod status_line;
 mod stop;
+mod streams;
 
 pub use building::{Built, build};
 pub use conducting::Wishes;

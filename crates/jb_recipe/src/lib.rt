@@ -17,5 +17,5 @@ pub use noting::{Plan, is_writable};
 pub use place::{Place, PlaceFault};
 pub use recipe_run::{Ran, run_recipe};
 pub use reporting::{EndNote, Last};
-pub use say::{News, Say};
+pub use say::{News, Say, Step};
 pub use variables::{Makeflags, environment};

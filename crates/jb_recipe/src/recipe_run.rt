@@ -4,7 +4,7 @@ ghost use Rattle.st_records.specs.declared.record.Record.TheVariants as records;
 ghost use Rattle.bd_lists.specs.Running.{FailsInRange};
 ghost use Rattle.jb_recipe.specs.Running.{RanUnder};
 
-use crate::Say;
+use crate::{Say, Step};
 use bd_flusher::Receipt;
 use bd_lists::{Clearance, Ended, Exec, ExecFault, Recipe, Spent, Variable};
 use jb_slots::Slot;
@@ -17,7 +17,7 @@ pub struct Ran {
     pub spent: Spent<Receipt>,
 }
 
-/// Says each line that is printed, and then runs it.
+/// Says each line that is printed, and then runs it. Each is a step of the run.
 #[derive(Drop)]
 struct Spoken<'a, E, S> {
     exec: &'a E,
@@ -33,6 +33,7 @@ impl<T, E: Exec<T>, S: Say> Exec<T> for Spoken<'_, E, S> {
         line: &Line,
         env: &[Variable],
     ) -> Result<Ended, ExecFault> {
+        self.say.step(Step::Runs(line.text.as_slice()));
         if line.is_printed {
             self.say.line(line.text.as_slice());
         }
@@ -59,6 +60,8 @@ pub fn run_recipe<E: Exec<Receipt>, S: Say>(
     let Ok(mut ended) = Vec::with_capacity(alloc, recipe.lines.len()) else {
         return Err(clearance);
     };
+    say.step(Step::Begins);
     let spent = clearance.run(alloc, recipe, &Spoken { exec, say }, &mut ended);
+    say.step(Step::Ends);
     Ok(Ran { ended, spent })
 }

@@ -34,8 +34,27 @@ pub enum News<'a> {
     },
 }
 
+/// How far a run is, for whoever follows it.
+#[derive(Clone, Copy)]
+pub enum Step<'a> {
+    /// So many recipes are to be run, as far as is known before the first one is.
+    Planned(usize),
+    /// A recipe begins.
+    Begins,
+    /// A line of a recipe is about to be run, whether it is printed or not.
+    Runs(&'a [u8]),
+    /// A recipe has ended, as it may.
+    Ends,
+}
+
 /// What prints. It is called while no lock of the run is held, by several threads, so it takes a lock of its own.
 pub trait Say {
+    /// Whether somebody follows how far a run is. To count its recipes before it takes time.
+    fn is_followed(&self) -> bool;
+
+    /// The run is a step further. It prints nothing that stays.
+    fn step(&self, step: Step<'_>);
+
     /// A line of a recipe, without its prefixes, that is about to be run; or one that says why the recipe is.
     fn line(&self, text: &[u8]);
 

@@ -2,7 +2,7 @@
 
 use crate::fake::Fake;
 use bd_lists::Ended;
-use jb_recipe::{News, Say};
+use jb_recipe::{News, Say, Step};
 use std::alloc::AllocError;
 use std::sync::Wait;
 use std::time::Clock;
@@ -42,4 +42,10 @@ impl<R: Wait + Clock + Copy> Say for Fake<R> {
             _ => self.say(b"!", b"news"),
         }
     }
+
+    fn is_followed(&self) -> bool {
+        false
+    }
+
+    fn step(&self, _step: Step<'_>) {}
 }

@@ -1,0 +1,33 @@
+//! How many recipes a run is to run, for whoever follows it.
+
+use jb_recipe::{Say, Step};
+use mk_plan::pass;
+use mk_rules::Graph;
+use std::alloc::{AllocError, Global};
+
+/// How many recipes a listing would have. A target whose recipe can't be expanded isn't counted.
+fn recipes_to_run(alloc: Global, counting: bool, graph: &Graph) -> Result<usize, AllocError> {
+    let mut marks = vec![in alloc; false; graph.len()]?;
+    let mut found: usize = 0;
+    for node in graph.order.as_slice() {
+        if *node < graph.len() && *node < marks.len() {
+            if let Ok(passed) = pass(alloc, counting, graph, &marks, *node) {
+                if passed.is_listed() {
+                    found = found.saturating_add(1);
+                }
+                marks[*node] = passed.is_remade();
+            }
+        }
+    }
+    Ok(found)
+}
+
+/// Tells how many recipes are to be run, if anybody wants to know.
+pub(crate) fn tell_planned<S: Say>(alloc: Global, counting: bool, graph: &Graph, say: &S) {
+    if !say.is_followed() {
+        return;
+    }
+    if let Ok(planned) = recipes_to_run(alloc, counting, graph) {
+        say.step(Step::Planned(planned));
+    }
+}
