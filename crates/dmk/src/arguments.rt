@@ -70,6 +70,10 @@ fn with_files(alloc: Global, command: Command<'_>) -> Result<Command<'_>, AllocE
         "Keep the state in FILE and FILE.2",
     )
     .default_value(DEFAULT_STATE);
+    command.arg(folders)?.arg(makefiles)?.arg(state)
+}
+
+fn with_language(alloc: Global, command: Command<'_>) -> Result<Command<'_>, AllocError> {
     let environment = flag(
         alloc,
         FILES,
@@ -84,12 +88,12 @@ fn with_files(alloc: Global, command: Command<'_>) -> Result<Command<'_>, AllocE
         "no_rules",
         "Accepted: no rules are built in",
     );
-    command
-        .arg(folders)?
-        .arg(makefiles)?
-        .arg(state)?
-        .arg(environment)?
-        .arg(no_rules)
+    let posix = Arg::new(alloc, "posix")
+        .long("posix")
+        .action(ArgAction::Count)
+        .help_heading(FILES)
+        .help("Read the makefile in the wide profile: references in references, 1,000,000 names");
+    command.arg(environment)?.arg(no_rules)?.arg(posix)
 }
 
 fn with_running<'a>(
@@ -116,7 +120,7 @@ fn with_running<'a>(
     .num_args(0..=1)
     .default_missing_value(processors)
     .default_value("2");
-    with_failures(alloc, command.arg(makes_all)?.arg(workers)?)
+    command.arg(makes_all)?.arg(workers)
 }
 
 fn with_failures(alloc: Global, command: Command<'_>) -> Result<Command<'_>, AllocError> {
@@ -227,7 +231,9 @@ pub fn find<'w>(
         .about(ABOUT)
         .after_help(AFTER);
     let command = with_files(alloc, command)?;
+    let command = with_language(alloc, command)?;
     let command = with_running(alloc, command, processors)?;
+    let command = with_failures(alloc, command)?;
     let command = with_asking(alloc, command)?;
     let command = with_telling(alloc, command)?;
     let command = with_refused(alloc, command)?;

@@ -4,7 +4,7 @@ ghost use Rattle.dmk_drive.specs.Keeping.{value_in};
 ghost use Rattle.dmk_drive.specs.Output.{AsksToLook};
 
 use crate::command_line::{Request, read_words};
-use crate::environment::over_makefile;
+use crate::environment::with_environment;
 use crate::host_files::HostFiles;
 use crate::reasons::print_reasons;
 use crate::standard_streams::with_patience;
@@ -96,7 +96,7 @@ impl Look {
         match read_words(host, 1) {
             Ok(Request::Make(asked)) => {
                 let counts = asked.environment_counts;
-                let options = over_makefile(host.alloc(), counts, asked.options, environment)?;
+                let options = with_environment(host.alloc(), counts, asked.options, environment)?;
                 Look::if_asked(host, options, environment, input)
             }
             _ => Ok(None),

@@ -9,6 +9,7 @@ use byte_strings::{ByteString, ByteStrings};
 use clap::ArgMatches;
 use clap::error::ErrorKind;
 use dmk_drive::{Options, Telling};
+use mk_profile::Profile;
 use std::alloc::{AllocError, Global};
 use std::{env, io};
 use thiserror::Error;
@@ -155,6 +156,15 @@ fn makefiles_of(alloc: Global, found: &ArgMatches<'_>) -> Result<ByteStrings, Al
     Ok(makefiles)
 }
 
+/// The language of the makefile.
+fn profile_of(found: &ArgMatches<'_>) -> Profile {
+    if found.get_count("posix") > 0 {
+        Profile::Posix
+    } else {
+        Profile::Strict
+    }
+}
+
 /// How much -d tells, by how often it stands.
 fn telling_of(found: &ArgMatches<'_>) -> Telling {
     match found.get_count("tells") {
@@ -168,6 +178,7 @@ fn telling_of(found: &ArgMatches<'_>) -> Telling {
 fn options_of(alloc: Global, found: &ArgMatches<'_>) -> Result<Options, AllocError> {
     Ok(Options {
         makefiles: makefiles_of(alloc, found)?,
+        profile: profile_of(found),
         state: String::from_str(alloc, found.get_str("state").unwrap_or(DEFAULT_STATE))?,
         workers: found.get_one::<u16>("workers").unwrap_or(2),
         goes_on: found.get_count("goes_on") > 0,

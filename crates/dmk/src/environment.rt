@@ -1,7 +1,7 @@
 //! The variables of the environment, as bytes.
 use bd_lists::Variable;
 use byte_strings::ByteString;
-use dmk_drive::Options;
+use dmk_drive::{Options, value_of};
 use std::alloc::{AllocError, Global};
 use std::env::FillError;
 use std::rt::Env;
@@ -56,17 +56,19 @@ pub fn read_environment(rt: HostRuntime) -> Result<Vec<Variable>, AllocError> {
     Ok(variables)
 }
 
-/// The options, where the environment counts with its variables as definitions of the command line, before those that stand there.
-pub fn over_makefile(
+/// The options by this environment: MAKEFLAGS may ask for the wide language, and where the environment counts, its variables are
+/// definitions of the command line, before those that stand there.
+pub fn with_environment(
     alloc: Global,
     counts: bool,
     options: Options,
     environment: &[Variable],
 ) -> Result<Options, AllocError> {
+    let mut options = options;
+    options.profile = options.language(value_of(environment, b"MAKEFLAGS"));
     if !counts {
         return Ok(options);
     }
-    let mut options = options;
     let mut definitions = Vec::with_capacity(alloc, environment.len())?;
     for variable in environment {
         definitions.push(Variable {

@@ -26,7 +26,7 @@ use child_signal::run_anew;
 use command_line::{Asked, Request, read_words};
 use dmk_drive::{Fault, Message, Mode, Options, value_of};
 use dmk_run::{Means, Printer, build_targets};
-use environment::{over_makefile, read_environment};
+use environment::{read_environment, with_environment};
 use folder::{FolderFault, enter, tell};
 use host_files::{HostFiles, read_input};
 use jb_host::{HOLDS, HostPlace, Shell};
@@ -142,7 +142,7 @@ fn run_in<R: Threads + Wait + Sync>(
 ) -> Result<u8, AllocError> {
     let _held = held_streams(host);
     let environment = read_environment(host)?;
-    let options = over_makefile(host.alloc(), environment_counts, options, &environment)?;
+    let options = with_environment(host.alloc(), environment_counts, options, &environment)?;
     match options.mode(value_of(&environment, b"MAKEFLAGS")) {
         Mode::Run => make(rt, host, options, &environment, input),
         Mode::DryRun | Mode::Question => ask(host, options, &environment, input),

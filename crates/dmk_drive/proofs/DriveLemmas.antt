@@ -2,6 +2,7 @@
 use Rattle.std.proofs.Common.{arith, ◌≡◌, ◌≢◌, ◌⊎◌, ◌∙◌, ◌&&◌, ◌<◌, inl, inr, ℕ, ℤ, Bool, true, false, not, List, [], ◌∷◌, ◌++◌, append-nil, length, Option, None, Some, Result, Ok, Err, IfOk, IfErr, IsOk, IsErr, IsErrOf, refl, sym, ap, subst}
 use Rattle.std.specs.Io.KnownBytes.{Appends, Keeps}
 use Rattle.mk_reader.specs.declared.item.Item.{Item}
+use Rattle.mk_profile.specs.declared.profile.Profile.{Profile}
 use Rattle.mk_plan.specs.Passage.{Passage}
 use Rattle.mk_plan.specs.declared.telling.Telling.{Telling}
 use Rattle.mk_plan.specs.declared.telling.Telling.TheVariants as tellings
@@ -38,18 +39,18 @@ no_part : (old new : Option (List ℕ)) (text : List ℕ) → text ≡ [] → Ap
 no_part old new text none part = no_rest part.front part.rest (sym none ∙ part.parts) part.missing
 
 module _ (files : List ℕ → Option (List ℕ)) (times : List ℕ → Option ℤ) (named : List (List ℕ))
-    (definitions environment : List Variable) (targets : List (List ℕ)) (all : Bool) (disk_honest : Type 0) (seen : Which → List ℕ)
+    (profile : Profile) (definitions environment : List Variable) (targets : List (List ℕ)) (all : Bool) (disk_honest : Type 0) (seen : Which → List ℕ)
     (telling : Telling) (recipes : Bool) where
   -- what is told of a run for the makefile that is found
   abbrev pub Told : DryRun → Type 0
   Told run = (items : List Item) × AreItems files times named items
-      × Tells definitions environment targets all times disk_honest seen items telling recipes run
+      × Tells profile definitions environment targets all times disk_honest seen items telling recipes run
 
   pub listed_plan : (old new : Option (List ℕ)) (got : Result DryRun Fault) → IfOk got Told → IsOk got → recipes ≡ true →
       IfOk got (λ run. Appends old new run.text.items) → (Quiet : Type 0) → IfOk got (λ run. run.soft_dropped ≡ false → Quiet) →
       (Says : Bool → Type 0) → IfOk got (λ run. Says run.soft_dropped) →
       (plan : List Passage) × (dropped : Bool)
-      × Plans files times named definitions environment targets all disk_honest seen plan dropped
+      × Plans files times named profile definitions environment targets all disk_honest seen plan dropped
       × Appends old new (listing_text telling true plan) × (dropped ≡ false → Quiet) × Says dropped
   listed_plan old new (Ok run) (items, are, tells) found lists appended Quiet quiet Says says = (
     tells.plan,
@@ -65,7 +66,7 @@ module _ (files : List ℕ → Option (List ℕ)) (times : List ℕ → Option �
       IfOk got (λ run. Appends old new run.text.items) →
       IfOk got (λ run. (plan : List Passage) → run.lists_any ≡ lists_any plan → status ≡ question_status plan) →
       (plan : List Passage) × (dropped : Bool)
-      × Plans files times named definitions environment targets all disk_honest seen plan dropped × (status ≡ question_status plan)
+      × Plans files times named profile definitions environment targets all disk_honest seen plan dropped × (status ≡ question_status plan)
       × Appends old new (listing_text telling false plan)
   asked_plan old new status (Ok run) (items, are, tells) found lists appended answered = (
     tells.plan,
@@ -82,7 +83,7 @@ module _ (files : List ℕ → Option (List ℕ)) (times : List ℕ → Option �
       IfErr got (λ f. told ≡ true → SaysFault err err_after f) →
       IfOk got (λ run. AppendsPart old new run.text.items) → IfOk got (λ run. SaysCut err err_after told (run.soft_dropped && not asks)) →
       TellsFault (λ f. Meets f × (f ≡ State open_fault.Device → Failed)) told old new err err_after
-      ⊎ CutsListing (Plans files times named definitions environment targets all disk_honest seen) telling asks told old new err err_after
+      ⊎ CutsListing (Plans files times named profile definitions environment targets all disk_honest seen) telling asks told old new err err_after
   refused_plan asks Meets Failed told old new err err_after (Ok run) lists (items, are, tells) meets failed kept line part cut =
       inr (record {
         plan = tells.plan;
@@ -114,17 +115,17 @@ module _ (files : List ℕ → Option (List ℕ)) (times : List ℕ → Option �
   silent_plan old new status One (Err f) told nothing none of whole part refused = refused refl
 
 pub told_of : (files : List ℕ → Option (List ℕ)) (times : List ℕ → Option ℤ) (named : List (List ℕ))
-    (definitions defined environment : List Variable) (targets : List (List ℕ)) (all : Bool) (disk_honest : Type 0) (seen : Which → List ℕ)
+    (profile : Profile) (definitions defined environment : List Variable) (targets : List (List ℕ)) (all : Bool) (disk_honest : Type 0) (seen : Which → List ℕ)
     (telling : Telling) (recipes : Bool) (got : Result DryRun Fault) → defined ≡ definitions →
-    IfOk got (Told files times named defined environment targets all disk_honest seen telling recipes) →
-    IfOk got (Told files times named definitions environment targets all disk_honest seen telling recipes)
-told_of files times named definitions defined environment targets all disk_honest seen telling recipes got is_defined told =
-    subst (λ d. IfOk got (Told files times named d environment targets all disk_honest seen telling recipes)) is_defined told
+    IfOk got (Told files times named profile defined environment targets all disk_honest seen telling recipes) →
+    IfOk got (Told files times named profile definitions environment targets all disk_honest seen telling recipes)
+told_of files times named profile definitions defined environment targets all disk_honest seen telling recipes got is_defined told =
+    subst (λ d. IfOk got (Told files times named profile d environment targets all disk_honest seen telling recipes)) is_defined told
 
 pub fault_of : (files : List ℕ → Option (List ℕ)) (times : List ℕ → Option ℤ) (named : List (List ℕ))
-    (definitions defined environment : List Variable) (targets : List (List ℕ)) (all : Bool) (refuses : List ℕ → Type 0) (disk_honest : Type 0)
+    (profile : Profile) (definitions defined environment : List Variable) (targets : List (List ℕ)) (all : Bool) (refuses : List ℕ → Type 0) (disk_honest : Type 0)
     (seen : Which → List ℕ) (got : Result DryRun Fault) → defined ≡ definitions →
-    IfErr got (IsFaultOf files times named defined environment targets all refuses disk_honest seen) →
-    IfErr got (IsFaultOf files times named definitions environment targets all refuses disk_honest seen)
-fault_of files times named definitions defined environment targets all refuses disk_honest seen got is_defined meets =
-    subst (λ d. IfErr got (IsFaultOf files times named d environment targets all refuses disk_honest seen)) is_defined meets
+    IfErr got (IsFaultOf files times named profile defined environment targets all refuses disk_honest seen) →
+    IfErr got (IsFaultOf files times named profile definitions environment targets all refuses disk_honest seen)
+fault_of files times named profile definitions defined environment targets all refuses disk_honest seen got is_defined meets =
+    subst (λ d. IfErr got (IsFaultOf files times named profile d environment targets all refuses disk_honest seen)) is_defined meets

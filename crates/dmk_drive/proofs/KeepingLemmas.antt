@@ -3,7 +3,8 @@ use Rattle.std.proofs.Common.{◌≡◌, ◌||◌, List, Some, refl, ap, ◌∙�
 use Rattle.std.specs.List.{list_any}
 use Rattle.mk_reader.specs.declared.item.Item.{Item}
 use Rattle.mk_rule_lines.specs.Goals.{is_keep_state, has_special}
-use Rattle.mk_rule_lines.specs.Lines.{Defined, AreRuleLines, no_items, behind_definition, a_rule, a_special}
+use Rattle.mk_macros.specs.Ranks.{Defined}
+use Rattle.mk_rule_lines.specs.Lines.{AreRuleLines, no_items, behind_definition, a_rule, a_special}
 use Rattle.mk_rule_lines.specs.declared.rule_line.RuleLine.{RuleLine}
 use Rattle.dmk_drive.specs.Keeping.{is_keep_item}
 

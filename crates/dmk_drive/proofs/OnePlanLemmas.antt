@@ -17,6 +17,7 @@ use Rattle.st_state.specs.State.{StateMap}
 use Rattle.st_recovery.specs.Recovers.{recovered}
 use Rattle.st_recovery.proofs.RecoversLemmas.{one_recovery}
 use Rattle.bd_lists.specs.declared.recipe.Variable.{Variable}
+use Rattle.mk_profile.specs.declared.profile.Profile.{Profile}
 use Rattle.dmk_drive.specs.Definitions.{first_defined}
 use Rattle.dmk_drive.specs.Keeping.{keeps}
 use Rattle.dmk_drive.specs.Passing.{Lists, at_end, behind, no_marks, IsListing}
@@ -51,7 +52,7 @@ judged_alike true a b alike = record {
   explicit = alike.explicit;
   recipe = alike.recipe;
   dropped = alike.dropped;
-  ranks = alike.ranks;
+  defined = alike.defined;
 }
 judged_alike false a b alike = alike
 
@@ -71,12 +72,12 @@ state_once false honest seen m n works of_m of_n = of_m ∙ sym of_n
 
 -- ---- one plan
 
-module _ (definitions environment : List Variable) (targets : List (List ℕ)) (times : List ℕ → Option ℤ) (items : List Item) (state : StateMap)
-    (a b : Graph) (of_a : IsGraphOf definitions environment targets times items state a) (of_b : IsGraphOf definitions environment targets times items state b) where
+module _ (profile : Profile) (definitions environment : List Variable) (targets : List (List ℕ)) (times : List ℕ → Option ℤ) (items : List Item) (state : StateMap)
+    (a b : Graph) (of_a : IsGraphOf profile definitions environment targets times items state a) (of_b : IsGraphOf profile definitions environment targets times items state b) where
   is_b : IsGraph of_a.inputs targets b
   is_b =
       subst (λ i. IsGraph i targets b)
-      (sym (inputs_once (first_defined definitions environment) items times (map.get state) of_a.inputs of_b.inputs of_a.are_inputs of_b.are_inputs)) of_b.is_graph
+      (sym (inputs_once (first_defined profile definitions environment) items times (map.get state) of_a.inputs of_b.inputs of_a.are_inputs of_b.are_inputs)) of_b.is_graph
 
   dropped_once : a.soft_dropped ≡ b.soft_dropped
   dropped_once = one_dropped of_a.inputs targets a b of_a.is_graph is_b
@@ -89,25 +90,25 @@ module _ (definitions environment : List Variable) (targets : List (List ℕ)) (
       (one_count of_a.inputs targets a b of_a.is_graph is_b) (one_order of_a.inputs targets a b of_a.is_graph is_b) x of_x)
       of_y
 
-module _ (definitions environment : List Variable) (targets : List (List ℕ)) (all : Bool) (times : List ℕ → Option ℤ) (honest : Type 0) (works : honest)
+module _ (profile : Profile) (definitions environment : List Variable) (targets : List (List ℕ)) (all : Bool) (times : List ℕ → Option ℤ) (honest : Type 0) (works : honest)
     (seen : Which → List ℕ) (items : List Item) (x y : List Passage) (d e : Bool) where
-  planned_once : IsPlanned definitions environment targets all times honest seen items x d → IsPlanned definitions environment targets all times honest seen items y e →
+  planned_once : IsPlanned profile definitions environment targets all times honest seen items x d → IsPlanned profile definitions environment targets all times honest seen items y e →
       (x ≡ y) × (d ≡ e)
   planned_once of_x of_y =
       let keeping : Bool = keeps environment items in
       let state = state_once keeping honest seen of_x.state of_y.state works of_x.is_state of_y.is_state in
-      let of_b : IsGraphOf definitions environment targets times items of_x.state of_y.graph
-      = subst (λ m. IsGraphOf definitions environment targets times items m of_y.graph) (sym state) of_y.is_graph in (
-        listing_once definitions environment targets times items of_x.state of_x.graph of_y.graph of_x.is_graph of_b all (all || keeping) x y of_x.lists of_y.lists,
-        of_x.soft ∙ dropped_once definitions environment targets times items of_x.state of_x.graph of_y.graph of_x.is_graph of_b ∙ sym of_y.soft,
+      let of_b : IsGraphOf profile definitions environment targets times items of_x.state of_y.graph
+      = subst (λ m. IsGraphOf profile definitions environment targets times items m of_y.graph) (sym state) of_y.is_graph in (
+        listing_once profile definitions environment targets times items of_x.state of_x.graph of_y.graph of_x.is_graph of_b all (all || keeping) x y of_x.lists of_y.lists,
+        of_x.soft ∙ dropped_once profile definitions environment targets times items of_x.state of_x.graph of_y.graph of_x.is_graph of_b ∙ sym of_y.soft,
       )
 
-pub plan_once : (files : List ℕ → Option (List ℕ)) (times : List ℕ → Option ℤ) (named : List (List ℕ)) (definitions environment : List Variable)
+pub plan_once : (files : List ℕ → Option (List ℕ)) (times : List ℕ → Option ℤ) (named : List (List ℕ)) (profile : Profile) (definitions environment : List Variable)
     (targets : List (List ℕ)) (all : Bool) (honest : Type 0) (seen : Which → List ℕ) (x y : List Passage) (d e : Bool) → honest →
-    Plans files times named definitions environment targets all honest seen x d → Plans files times named definitions environment targets all honest seen y e →
+    Plans files times named profile definitions environment targets all honest seen x d → Plans files times named profile definitions environment targets all honest seen y e →
     (x ≡ y) × (d ≡ e)
-plan_once files times named definitions environment targets all honest seen x y d e works of_x of_y =
-    planned_once definitions environment targets all times honest works seen of_y.items x y d e
-    (subst (λ items. IsPlanned definitions environment targets all times honest seen items x d)
+plan_once files times named profile definitions environment targets all honest seen x y d e works of_x of_y =
+    planned_once profile definitions environment targets all times honest works seen of_y.items x y d e
+    (subst (λ items. IsPlanned profile definitions environment targets all times honest seen items x d)
     (items_once files times named of_x.items of_y.items of_x.are_items of_y.are_items) of_x.planned)
     of_y.planned

@@ -1,5 +1,5 @@
 -- The stages of a plan put together.
-use Rattle.std.proofs.Common.{◌≡◌, ◌⊎◌, ◌||◌, inl, inr, ℕ, ℤ, ◌≤◌, Bool, List, length, Option, Result, Ok, Err, IfOk, IfErr, IsTrue, refl, sym, ap, subst, ◌∙◌, true, false}
+use Rattle.std.proofs.Common.{◌≡◌, ◌⊎◌, ◌||◌, inl, inr, ℕ, ℤ, Bool, List, length, Option, Result, Ok, Err, IfOk, IfErr, IsTrue, refl, sym, ap, subst, ◌∙◌, true, false}
 use Rattle.std.proofs.Props.{props}
 use Rattle.std.specs.List.Sorted.{IsStrictlyIncreasing}
 use Rattle.mk_graph.specs.Edges.{row, is_closed}
@@ -7,12 +7,13 @@ use Rattle.mk_rules.specs.Node.{EachHasOneNumber}
 use Rattle.std.specs.FinMap as map
 use Rattle.mk_macros.specs.declared.fault.MacroFault.{MacroFault}
 use Rattle.mk_reader.specs.declared.item.Item.{Item}
+use Rattle.mk_profile.specs.declared.profile.Profile.{Profile}
 use Rattle.mk_plan.specs.Passage.{Passage}
 use Rattle.mk_plan.specs.declared.telling.Telling.{Telling}
 use Rattle.mk_rules.specs.Faults.{IsRuleFault}
 use Rattle.mk_rule_lines.specs.declared.fault.RuleFault.{RuleFault}
 use Rattle.mk_rules.specs.declared.graph.Graph.{Graph}
-use Rattle.mk_rules.specs.declared.graph.TheConstants.{MAX_NODES}
+use Rattle.mk_rules.specs.Limit.{node_limit}
 use Rattle.st_disk.specs.declared.which.Which.{Which}
 use Rattle.st_state.specs.State.{StateMap}
 use Rattle.dmk_drive.specs.Definitions.{first_defined}
@@ -39,14 +40,11 @@ one_number names = hlevel props
 ascending : (rows : List (List ℕ)) → IsProp ((n : ℕ) → IsStrictlyIncreasing (row rows n))
 ascending rows = hlevel props
 
-few_nodes : (count : ℕ) → IsProp (count ≤ MAX_NODES)
-few_nodes count = hlevel props
-
 -- whichever proofs go with its fields, a graph with this state in place of its own is one
 pub with_state : (g : Graph) (state : StateMap) (named : length g.names ≡ length g.nodes.items) (distinct : EachHasOneNumber g.names)
     (hard_rows : length g.hard ≡ length g.nodes.items) (soft_rows : length g.soft ≡ length g.nodes.items) (counted_rows : length g.counted ≡ length g.nodes.items)
     (hard_closed : IsTrue (is_closed g.hard)) (soft_closed : IsTrue (is_closed g.soft)) (counted_closed : IsTrue (is_closed g.counted))
-    (counted_ascending : (n : ℕ) → IsStrictlyIncreasing (row g.counted n)) (few : length g.nodes.items ≤ MAX_NODES) →
+    (counted_ascending : (n : ℕ) → IsStrictlyIncreasing (row g.counted n)) →
     record g {
       state = state;
       named = named;
@@ -58,10 +56,9 @@ pub with_state : (g : Graph) (state : StateMap) (named : length g.names ≡ leng
       soft_closed = soft_closed;
       counted_closed = counted_closed;
       counted_ascending = counted_ascending;
-      few = few;
     }
     ≡ record g { state = state }
-with_state g state named distinct hard_rows soft_rows counted_rows hard_closed soft_closed counted_closed counted_ascending few = λ i. record g {
+with_state g state named distinct hard_rows soft_rows counted_rows hard_closed soft_closed counted_closed counted_ascending = λ i. record g {
   state = state;
   named = same_count (length g.names) (length g.nodes.items) named g.named i;
   distinct = one_number g.names distinct g.distinct i;
@@ -72,14 +69,13 @@ with_state g state named distinct hard_rows soft_rows counted_rows hard_closed s
   soft_closed = is_true (is_closed g.soft) soft_closed g.soft_closed i;
   counted_closed = is_true (is_closed g.counted) counted_closed g.counted_closed i;
   counted_ascending = ascending g.counted counted_ascending g.counted_ascending i;
-  few = few_nodes (length g.nodes.items) few g.few i;
 }
 
 judged_dropped : (all : Bool) (graph : Graph) → (judged_graph all graph).soft_dropped ≡ graph.soft_dropped
 judged_dropped true graph = refl
 judged_dropped false graph = refl
 
-module _ (definitions environment : List Variable) (targets : List (List ℕ)) (all : Bool) (times : List ℕ → Option ℤ)
+module _ (profile : Profile) (definitions environment : List Variable) (targets : List (List ℕ)) (all : Bool) (times : List ℕ → Option ℤ)
     (disk_honest : Type 0) (seen : Which → List ℕ) (items : List Item) (keeping : Bool) (is_keeping : keeping ≡ keeps environment items)
     (state : StateMap) (found : IsStateOn keeping disk_honest seen state) where
   kept : IsStateOn (keeps environment items) disk_honest seen state
@@ -87,22 +83,22 @@ module _ (definitions environment : List Variable) (targets : List (List ℕ)) (
 
   pub rules_fault : (refuses : List ℕ → Type 0) (Allowed : (List ℕ → Option ℤ) → Type 0) → Allowed times → (got : Fault) →
       ((got ≡ fault.OutOfMemory) ⊎ ((f : RuleFault) × (got ≡ fault.Rules f)
-      × ((ts : List ℕ → Option ℤ) → Allowed ts → IsRuleFault (first_defined definitions environment) items ts (map.get state) refuses targets MAX_NODES f))) →
-      IsPlanFault definitions environment targets all times refuses disk_honest seen items got
-  rules_fault refuses Allowed may got (inl is) = subst (IsPlanFault definitions environment targets all times refuses disk_honest seen items) (sym is) tt
+      × ((ts : List ℕ → Option ℤ) → Allowed ts → IsRuleFault (first_defined profile definitions environment) items ts (map.get state) refuses targets (node_limit profile) f))) →
+      IsPlanFault profile definitions environment targets all times refuses disk_honest seen items got
+  rules_fault refuses Allowed may got (inl is) = subst (IsPlanFault profile definitions environment targets all times refuses disk_honest seen items) (sym is) tt
   rules_fault refuses Allowed may got (inr (f, is, meets)) =
-      subst (IsPlanFault definitions environment targets all times refuses disk_honest seen items) (sym is) (state, kept, meets times may)
+      subst (IsPlanFault profile definitions environment targets all times refuses disk_honest seen items) (sym is) (state, kept, meets times may)
 
   -- listed is the graph by which targets are judged
-  module _ (graph : Graph) (is_graph : IsGraphOf definitions environment targets times items state graph)
+  module _ (graph : Graph) (is_graph : IsGraphOf profile definitions environment targets times items state graph)
       (judged : Graph) (is_judged : judged ≡ judged_graph all graph) (counting : Bool) (counts : counting ≡ all || keeping) where
     counted : counting ≡ all || keeps environment items
     counted = counts ∙ ap (λ k. all || k) is_keeping
 
     pub recipes_fault : (refuses : List ℕ → Type 0) (got : Fault) → ((f : MacroFault) × (got ≡ fault.Recipe f) × IsListingFault counting judged f) →
-        IsPlanFault definitions environment targets all times refuses disk_honest seen items got
+        IsPlanFault profile definitions environment targets all times refuses disk_honest seen items got
     recipes_fault refuses got (f, is, meets) =
-        subst (IsPlanFault definitions environment targets all times refuses disk_honest seen items) (sym is) (
+        subst (IsPlanFault profile definitions environment targets all times refuses disk_honest seen items) (sym is) (
           state,
           kept,
           (
@@ -114,7 +110,7 @@ module _ (definitions environment : List Variable) (targets : List (List ℕ)) (
 
     pub told : (telling : Telling) (recipes : Bool) (run : DryRun) → ((plan : List Passage) × IsListing counting judged plan
         × (run.text.items ≡ listing_text telling recipes plan) × (run.lists_any ≡ lists_any plan)) →
-        run.soft_dropped ≡ judged.soft_dropped → Tells definitions environment targets all times disk_honest seen items telling recipes run
+        run.soft_dropped ≡ judged.soft_dropped → Tells profile definitions environment targets all times disk_honest seen items telling recipes run
     told telling recipes run (plan, lists, text, any) dropped = record {
       plan = plan;
       planned = record {
@@ -131,13 +127,13 @@ module _ (definitions environment : List Variable) (targets : List (List ℕ)) (
 
     pub recipes_result : (refuses : List ℕ → Type 0) (got : Result DryRun Fault) →
         IfErr got (λ g. (f : MacroFault) × (g ≡ fault.Recipe f) × IsListingFault counting judged f) →
-        IfErr got (IsPlanFault definitions environment targets all times refuses disk_honest seen items)
+        IfErr got (IsPlanFault profile definitions environment targets all times refuses disk_honest seen items)
     recipes_result refuses (Ok run) is = tt
     recipes_result refuses (Err f) is = recipes_fault refuses f is
 
     pub told_result : (telling : Telling) (recipes : Bool) (got : Result DryRun Fault) →
         IfOk got (λ run. (plan : List Passage) × IsListing counting judged plan × (run.text.items ≡ listing_text telling recipes plan)
         × (run.lists_any ≡ lists_any plan)) → IfOk got (λ run. run.soft_dropped ≡ judged.soft_dropped) →
-        IfOk got (Tells definitions environment targets all times disk_honest seen items telling recipes)
+        IfOk got (Tells profile definitions environment targets all times disk_honest seen items telling recipes)
     told_result telling recipes (Ok run) listing dropped = told telling recipes run listing dropped
     told_result telling recipes (Err f) listing dropped = tt

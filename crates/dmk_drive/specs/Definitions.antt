@@ -1,8 +1,8 @@
 -- What is defined before the makefile is read.
 use Rattle.std.specs.Prelude.{ℕ, List, Option, Some, None, reverse, find, option_map, bytes_eq, codes, if◌then◌else◌}
-use Rattle.mk_macros.specs.Ranks.{Ranks, with_rank}
+use Rattle.mk_profile.specs.declared.profile.Profile.{Profile}
+use Rattle.mk_macros.specs.Ranks.{Ranks, Defined, with_rank}
 use Rattle.mk_macros.specs.declared.definitions.Rank.{Rank}
-use Rattle.mk_rule_lines.specs.Lines.{Defined}
 use Rattle.bd_lists.specs.declared.recipe.Variable.{Variable}
 use Rattle.dmk_drive.specs.Keeping.{is_named}
 
@@ -14,15 +14,19 @@ last_value variables name = option_map (λ v. v.value) (find (is_named name) (re
 abbrev pub tool_value : (name : List ℕ) → Option (List ℕ)
 tool_value name = if bytes_eq name (codes "MAKE") then Some (codes "dmk") else None
 
--- what is defined before the makefile: the tool's own, the environment, the definitions of the command line, each at its
+-- what each name has before the makefile: the tool's own, the environment, the definitions of the command line, each at its
 -- rank. Of a name that is defined twice at one rank the last one counts
-abbrev pub first_defined : (definitions environment : List Variable) → Defined
-first_defined definitions environment name = record {
+abbrev pub first_ranks : (definitions environment : List Variable) → (name : List ℕ) → Ranks
+first_ranks definitions environment name = record {
   command_line = last_value definitions name;
   makefile = None;
   environment = last_value environment name;
   tool = tool_value name;
 }
+
+-- so it is defined, in the language of the makefile
+abbrev pub first_defined : Profile → (definitions environment : List Variable) → Defined
+first_defined profile definitions environment = record { language = profile; ranks = first_ranks definitions environment }
 
 -- what a name has once its text at this rank is this one, where there is one
 abbrev pub with_last : Ranks → Rank → (text : Option (List ℕ)) → Ranks

@@ -7,7 +7,8 @@ use Rattle.mk_reader.specs.declared.item.Item.{Item}
 use Rattle.mk_reader.specs.declared.fault.ReadFault.{ReadFault}
 use Rattle.mk_reader.specs.declared.fault.ReadFault.TheVariants as read_fault
 use Rattle.mk_rules.specs.Faults.{IsRuleFault}
-use Rattle.mk_rules.specs.declared.graph.TheConstants.{MAX_NODES}
+use Rattle.mk_profile.specs.declared.profile.Profile.{Profile}
+use Rattle.mk_rules.specs.Limit.{node_limit}
 use Rattle.mk_rules.specs.declared.graph.Graph.{Graph}
 use Rattle.st_disk.specs.declared.which.Which.{Which}
 use Rattle.st_disk.specs.declared.which.Which.TheVariants as sides
@@ -64,19 +65,19 @@ IsTextFault files times refuses named (fault.Read f) = IsReadFault files times n
 IsTextFault files times refuses named _ = ⊥
 
 -- the fault of a plan for items that were read
-abbrev pub IsPlanFault : (definitions environment : List Variable) (targets : List (List ℕ)) (all : Bool) (times : List ℕ → Option ℤ)
+abbrev pub IsPlanFault : (profile : Profile) (definitions environment : List Variable) (targets : List (List ℕ)) (all : Bool) (times : List ℕ → Option ℤ)
     (refuses : List ℕ → Type 0) (disk_honest : Type 0) (seen : Which → List ℕ) (items : List Item) →
     Fault → Type 0
-IsPlanFault definitions environment targets all times refuses disk_honest seen items fault.OutOfMemory = Unit {0}
-IsPlanFault definitions environment targets all times refuses disk_honest seen items (fault.State f) =
+IsPlanFault profile definitions environment targets all times refuses disk_honest seen items fault.OutOfMemory = Unit {0}
+IsPlanFault profile definitions environment targets all times refuses disk_honest seen items (fault.State f) =
     (keeps environment items ≡ true) × (disk_honest → IsOpenFault seen f)
-IsPlanFault definitions environment targets all times refuses disk_honest seen items (fault.Rules f) =
+IsPlanFault profile definitions environment targets all times refuses disk_honest seen items (fault.Rules f) =
     (state : StateMap) × IsStateOn (keeps environment items) disk_honest seen state
-    × IsRuleFault (first_defined definitions environment) items times (map.get state) refuses targets MAX_NODES f
-IsPlanFault definitions environment targets all times refuses disk_honest seen items (fault.Recipe f) =
+    × IsRuleFault (first_defined profile definitions environment) items times (map.get state) refuses targets (node_limit profile) f
+IsPlanFault profile definitions environment targets all times refuses disk_honest seen items (fault.Recipe f) =
     (state : StateMap) × IsStateOn (keeps environment items) disk_honest seen state
-    × ((graph : Graph) × IsGraphOf definitions environment targets times items state graph × IsListingFault (all || keeps environment items) (judged_graph all graph) f)
-IsPlanFault definitions environment targets all times refuses disk_honest seen items _ = ⊥
+    × ((graph : Graph) × IsGraphOf profile definitions environment targets times items state graph × IsListingFault (all || keeps environment items) (judged_graph all graph) f)
+IsPlanFault profile definitions environment targets all times refuses disk_honest seen items _ = ⊥
 
 -- a fault of the makefile comes before all else; the others are those of a plan for its items
 abbrev pub IsRunFault : (Text : Fault → Type 0) (Items : List Item → Type 0) (Plan : List Item → Fault → Type 0) → Fault → Type 0
@@ -90,8 +91,8 @@ IsRunFault Text Items Plan fault.Write = ⊥
 
 -- so it is of the makefile that is named, or the usual one, for these targets
 abbrev pub IsFaultOf : (files : List ℕ → Option (List ℕ)) (times : List ℕ → Option ℤ) (named : List (List ℕ))
-    (definitions environment : List Variable) (targets : List (List ℕ)) (all : Bool) (refuses : List ℕ → Type 0) (disk_honest : Type 0)
+    (profile : Profile) (definitions environment : List Variable) (targets : List (List ℕ)) (all : Bool) (refuses : List ℕ → Type 0) (disk_honest : Type 0)
     (seen : Which → List ℕ) → Fault → Type 0
-IsFaultOf files times named definitions environment targets all refuses disk_honest seen =
+IsFaultOf files times named profile definitions environment targets all refuses disk_honest seen =
     IsRunFault (IsTextFault files times refuses named) (AreItems files times named)
-    (IsPlanFault definitions environment targets all times refuses disk_honest seen)
+    (IsPlanFault profile definitions environment targets all times refuses disk_honest seen)

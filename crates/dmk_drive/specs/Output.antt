@@ -3,7 +3,9 @@ use Rattle.std.specs.Prelude.{◌≡◌, ◌≢◌, ◌⊎◌, ◌↔◌, ◌||�
 use Rattle.std.specs.Io.KnownBytes.{Appends, Keeps}
 use Rattle.mk_plan.specs.Passage.{Passage}
 use Rattle.mk_plan.specs.declared.telling.Telling.{Telling}
-use Rattle.jb_auth.specs.Auth.{AsksForDryRun}
+use Rattle.mk_profile.specs.declared.profile.Profile.{Profile}
+use Rattle.mk_profile.specs.declared.profile.Profile.TheVariants.{Posix}
+use Rattle.jb_auth.specs.Auth.{AsksForDryRun, AsksForPosix}
 use Rattle.dmk_drive.specs.Keeping.{value_in}
 use Rattle.dmk_drive.specs.Messages.{SaysFault, SaysCut}
 use Rattle.dmk_drive.specs.Passing.{listing_text, lists_any}
@@ -51,6 +53,15 @@ mode_of false false = mode.Run
 -- the words and this MAKEFLAGS ask for this
 abbrev pub AsksFor : Options → (makeflags : List ℕ) → Mode → Type 0
 AsksFor options makeflags m = (asked : Bool) × (IsTrue asked ↔ AsksForDryRun makeflags) × (m ≡ mode_of options.asks (options.is_dry || asked))
+
+-- the language where the words name this one: the wide one where MAKEFLAGS asks for it
+abbrev pub language_of : (named : Profile) (asked : Bool) → Profile
+language_of named true = Posix
+language_of named false = named
+
+-- the words and this MAKEFLAGS ask for this language
+abbrev pub AsksForLanguage : Options → (makeflags : List ℕ) → Profile → Type 0
+AsksForLanguage options makeflags profile = (asked : Bool) × (IsTrue asked ↔ AsksForPosix makeflags) × (profile ≡ language_of options.profile asked)
 
 -- they ask for recipes to be run
 abbrev pub AsksToRun : Options → (makeflags : List ℕ) → Type 0

@@ -1,7 +1,8 @@
 -- A dry run from the makefile's text to the listing: each stage is that of its crate.
 use Rattle.std.specs.Prelude.{◌≡◌, ◌||◌, ℕ, ℤ, Bool, true, false, List, [], ◌∷◌, Option, Ok}
 use Rattle.std.specs.FinMap as map
-use Rattle.mk_macros.specs.Ranks.{ranks_at}
+use Rattle.mk_profile.specs.declared.profile.Profile.{Profile}
+use Rattle.mk_macros.specs.Ranks.{defined_by}
 use Rattle.mk_eval.specs.Makefile.{AnswersOf, InOrder, TextItems, depth}
 use Rattle.mk_reader.specs.declared.item.Item.{Item}
 use Rattle.mk_plan.specs.Passage.{Passage}
@@ -44,13 +45,13 @@ abbrev pub AreItems : (files : List ℕ → Option (List ℕ)) (times : List ℕ
 AreItems files times [] items = AreUsualItems files times items
 AreItems files times (name ∷ names) items = InOrder (NamedItems files) (name ∷ names) (Ok items)
 
--- the graph of these items for the targets that are named, with this state
-pub record IsGraphOf (definitions environment : List Variable) (targets : List (List ℕ)) (times : List ℕ → Option ℤ)
+-- the graph of these items for the targets that are named, with this state, in the language of the profile
+pub record IsGraphOf (profile : Profile) (definitions environment : List Variable) (targets : List (List ℕ)) (times : List ℕ → Option ℤ)
     (items : List Item) (state : StateMap) (graph : Graph) : Type 0 where
   pub inputs : Inputs
-  pub are_inputs : AreInputs (first_defined definitions environment) items times (map.get state) inputs
+  pub are_inputs : AreInputs (first_defined profile definitions environment) items times (map.get state) inputs
   pub is_graph : IsGraph inputs targets graph
-  pub macros : ranks_at graph.macros ≡ behind_items (first_defined definitions environment) items
+  pub macros : defined_by graph.macros ≡ behind_items (first_defined profile definitions environment) items
 
 -- the graph by which targets are judged: where all are to be made, nothing is recorded of any of them
 abbrev pub judged_graph : (all : Bool) → Graph → Graph
@@ -60,28 +61,28 @@ judged_graph false graph = graph
 -- a dry run of these items has this to tell, where the disk is honest by a state that its sides recover; `dropped`
 -- says that soft edges make a cycle and don't count. What is recorded of a target counts where state is kept, and where all are to
 -- be made that nothing is
-pub record IsPlanned (definitions environment : List Variable) (targets : List (List ℕ)) (all : Bool) (times : List ℕ → Option ℤ)
+pub record IsPlanned (profile : Profile) (definitions environment : List Variable) (targets : List (List ℕ)) (all : Bool) (times : List ℕ → Option ℤ)
     (disk_honest : Type 0) (seen : Which → List ℕ) (items : List Item)
     (plan : List Passage) (dropped : Bool) : Type 0 where
   pub state : StateMap
   pub is_state : IsStateOn (keeps environment items) disk_honest seen state
   pub graph : Graph
-  pub is_graph : IsGraphOf definitions environment targets times items state graph
+  pub is_graph : IsGraphOf profile definitions environment targets times items state graph
   pub lists : IsListing (all || keeps environment items) (judged_graph all graph) plan
   pub soft : dropped ≡ graph.soft_dropped
 
 -- what is told of a dry run: the text of what it lists, as much as is wanted, and whether it lists a recipe
-pub record Tells (definitions environment : List Variable) (targets : List (List ℕ)) (all : Bool) (times : List ℕ → Option ℤ)
+pub record Tells (profile : Profile) (definitions environment : List Variable) (targets : List (List ℕ)) (all : Bool) (times : List ℕ → Option ℤ)
     (disk_honest : Type 0) (seen : Which → List ℕ) (items : List Item) (telling : Telling) (recipes : Bool) (run : DryRun) : Type 0 where
   pub plan : List Passage
-  pub planned : IsPlanned definitions environment targets all times disk_honest seen items plan run.soft_dropped
+  pub planned : IsPlanned profile definitions environment targets all times disk_honest seen items plan run.soft_dropped
   pub text : run.text.items ≡ listing_text telling recipes plan
   pub any : run.lists_any ≡ lists_any plan
 
 -- what a dry run has to tell, for the makefile that is found by these files and times, and whether soft edges make a
 -- cycle
 pub record Plans (files : List ℕ → Option (List ℕ)) (times : List ℕ → Option ℤ) (named : List (List ℕ))
-    (definitions environment : List Variable) (targets : List (List ℕ)) (all : Bool) (disk_honest : Type 0) (seen : Which → List ℕ) (plan : List Passage) (dropped : Bool) : Type 0 where
+    (profile : Profile) (definitions environment : List Variable) (targets : List (List ℕ)) (all : Bool) (disk_honest : Type 0) (seen : Which → List ℕ) (plan : List Passage) (dropped : Bool) : Type 0 where
   pub items : List Item
   pub are_items : AreItems files times named items
-  pub planned : IsPlanned definitions environment targets all times disk_honest seen items plan dropped
+  pub planned : IsPlanned profile definitions environment targets all times disk_honest seen items plan dropped

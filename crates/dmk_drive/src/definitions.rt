@@ -1,10 +1,11 @@
 //! What is defined before the makefile is read: the tool's own, the environment, and the command line's definitions.
 ghost use Rattle.std.specs.Prelude.{◌≡◌, ℕ, List, [], IfOk, OnOk};
-ghost use Rattle.mk_macros.specs.Ranks.{ranks_at};
+ghost use Rattle.mk_macros.specs.Ranks.{defined_by};
 ghost use Rattle.dmk_drive.specs.Definitions.{last_value, with_last, first_defined};
 
 use bd_lists::Variable;
 use mk_macros::{Macros, Rank};
+use mk_profile::Profile;
 use std::alloc::{AllocError, Global};
 
 /// Defines all variables at one rank.
@@ -14,8 +15,9 @@ fn define_all(
     rank: Rank,
     variables: &[Variable],
 ) -> Result<(), AllocError>
-    ensures { OnOk result ((name : List ℕ)
-        → ranks_at macros.new name ≡ with_last (ranks_at macros.old name) rank (last_value variables.now name)) }
+    ensures ranks { OnOk result ((name : List ℕ) → (defined_by macros.new).ranks name
+        ≡ with_last ((defined_by macros.old).ranks name) rank (last_value variables.now name)) }
+    ensures language { OnOk result ((defined_by macros.new).language ≡ (defined_by macros.old).language) }
 {
     for variable in variables {
         let name = variable.name.as_slice();
@@ -25,23 +27,24 @@ fn define_all(
 }
 
 /// The tool's own definition.
-fn tool_macros(alloc: Global) -> Result<Macros, AllocError>
-    ensures { IfOk result (λ macros. ranks_at macros ≡ first_defined [] []) }
+fn tool_macros(alloc: Global, profile: Profile) -> Result<Macros, AllocError>
+    ensures { IfOk result (λ macros. defined_by macros ≡ first_defined profile [] []) }
 {
-    let mut macros = Macros::new(alloc);
+    let mut macros = Macros::new(alloc, profile);
     macros.define(alloc, Rank::Tool, b"MAKE", b"dmk", false)?;
     Ok(macros)
 }
 
-/// The macros before the makefile's own definitions.
+/// The macros before the definitions of a makefile in this language.
 pub fn first_macros(
     alloc: Global,
+    profile: Profile,
     definitions: &[Variable],
     environment: &[Variable],
 ) -> Result<Macros, AllocError>
-    ensures { IfOk result (λ macros. ranks_at macros ≡ first_defined definitions.now environment.now) }
+    ensures { IfOk result (λ macros. defined_by macros ≡ first_defined profile definitions.now environment.now) }
 {
-    let mut macros = tool_macros(alloc)?;
+    let mut macros = tool_macros(alloc, profile)?;
     define_all(alloc, &mut macros, Rank::Environment, environment)?;
     define_all(alloc, &mut macros, Rank::CommandLine, definitions)?;
     Ok(macros)

@@ -191,14 +191,14 @@ pub fn drive<T: Tree, I: Includes, D: Disk, O: Write, E: Write>(
     ensures listed { AsksForListing options environment.now → result.0.status ≡ 0
         → (files : List ℕ → Option (List ℕ)) (times : List ℕ → Option ℤ) → I.allows includes.new files → T.allows tree.new times
         → (plan : List Passage) × (dropped : Bool)
-        × Plans files times options.makefiles options.definitions.items environment.now options.targets options.makes_all D.honest (D.seen disk) plan dropped
+        × Plans files times options.makefiles options.profile options.definitions.items environment.now options.targets options.makes_all D.honest (D.seen disk) plan dropped
         × Appends (O.contents out.old) (O.contents out.new) (listing_text options.telling true plan) × (dropped ≡ false → err.new ≡ err.old)
         × SaysNote (E.contents err.old) (E.contents err.new) result.0.is_told dropped }
     // The question is answered by the plan, and no recipe is printed: nothing is, unless it is asked why targets are made.
     ensures asked { options.asks ≡ true → result.0.status ≢ 2
         → (files : List ℕ → Option (List ℕ)) (times : List ℕ → Option ℤ) → I.allows includes.new files → T.allows tree.new times
         → (plan : List Passage) × (dropped : Bool)
-        × Plans files times options.makefiles options.definitions.items environment.now options.targets options.makes_all D.honest (D.seen disk) plan dropped
+        × Plans files times options.makefiles options.profile options.definitions.items environment.now options.targets options.makes_all D.honest (D.seen disk) plan dropped
         × (result.0.status ≡ question_status plan)
         × Appends (O.contents out.old) (O.contents out.new) (listing_text options.telling false plan) }
     ensures silent { options.asks ≡ true → options.telling ≡ tellings.Nothing → Keeps (O.contents out.old) (O.contents out.new) }
@@ -207,11 +207,11 @@ pub fn drive<T: Tree, I: Includes, D: Disk, O: Write, E: Write>(
     // At status 2 a fault of the run is told, of which a device's is a call of the disk that failed; or a listing is cut short.
     ensures refused { result.0.status ≡ 2
         → (files : List ℕ → Option (List ℕ)) (times : List ℕ → Option ℤ) → I.allows includes.new files → T.allows tree.new times
-        → TellsFault (λ fault. IsFaultOf files times options.makefiles options.definitions.items environment.now
+        → TellsFault (λ fault. IsFaultOf files times options.makefiles options.profile options.definitions.items environment.now
         options.targets options.makes_all (T.refuses tree.new) D.honest (D.seen disk) fault
         × (fault ≡ faults.State open_faults.Device → Rises (D.faults disk) (D.faults result.1)))
         result.0.is_told (O.contents out.old) (O.contents out.new) (E.contents err.old) (E.contents err.new)
-        ⊎ CutsListing (Plans files times options.makefiles options.definitions.items environment.now options.targets options.makes_all D.honest (D.seen disk))
+        ⊎ CutsListing (Plans files times options.makefiles options.profile options.definitions.items environment.now options.targets options.makes_all D.honest (D.seen disk))
         options.telling options.asks result.0.is_told (O.contents out.old) (O.contents out.new) (E.contents err.old) (E.contents err.new) }
     ensures status { (result.0.status ≡ 0) ⊎ (((result.0.status ≡ 1) × (options.asks ≡ true)) ⊎ (result.0.status ≡ 2)) }
 
@@ -222,6 +222,7 @@ pub fn drive<T: Tree, I: Includes, D: Disk, O: Write, E: Write>(
     let mut disk = disk;
     let Options {
         makefiles,
+        profile,
         state,
         asks,
         makes_all,
@@ -233,6 +234,7 @@ pub fn drive<T: Tree, I: Includes, D: Disk, O: Write, E: Write>(
     let given = Given {
         makefiles: &makefiles,
         makes_all,
+        profile,
         definitions: &definitions,
         environment,
         shows: Shows {

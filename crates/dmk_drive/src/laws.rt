@@ -4,7 +4,9 @@ ghost use Rattle.std.specs.List.{list_all, list_any};
 ghost use Rattle.mk_reader.specs.declared.item.Item.{Item};
 ghost use Rattle.mk_rule_lines.specs.Goals.{is_keep_state, has_special};
 ghost use Rattle.mk_rules.specs.Graph.{IsGraph};
-ghost use Rattle.mk_rule_lines.specs.Lines.{Defined, AreRuleLines};
+ghost use Rattle.mk_profile.specs.declared.profile.Profile.{Profile};
+ghost use Rattle.mk_macros.specs.Ranks.{Defined};
+ghost use Rattle.mk_rule_lines.specs.Lines.{AreRuleLines};
 ghost use Rattle.mk_rules.specs.Prerequisites.{Inputs};
 ghost use Rattle.mk_rules.specs.declared.graph.Graph.{Graph};
 ghost use Rattle.mk_rule_lines.specs.declared.rule_line.RuleLine.{RuleLine};
@@ -42,17 +44,17 @@ pub fn one_listing()
 
 /// Where all targets are to be made, a plan has none that is up to date: it lists the recipe of each that has one.
 pub fn each_made<D: Disk>()
-    ensures { (files : List ℕ → Option (List ℕ)) (times : List ℕ → Option ℤ) (named : List (List ℕ)) (definitions environment : List Variable)
+    ensures { (files : List ℕ → Option (List ℕ)) (times : List ℕ → Option ℤ) (named : List (List ℕ)) (profile : Profile) (definitions environment : List Variable)
         (targets : List (List ℕ)) (seen : Which → List ℕ) (plan : List Passage) (dropped : Bool)
-        → Plans files times named definitions environment targets true D.honest seen plan dropped → list_all is_listed plan ≡ true }
+        → Plans files times named profile definitions environment targets true D.honest seen plan dropped → list_all is_listed plan ≡ true }
 {}
 
 /// By the same files, times and state there is one plan: two plans list the same, and soft edges make a cycle in both or in none.
 /// Where state is kept, that is where the disk keeps its model.
 pub fn one_plan<D: Disk>()
-    ensures { (files : List ℕ → Option (List ℕ)) (times : List ℕ → Option ℤ) (named : List (List ℕ)) (definitions environment : List Variable)
+    ensures { (files : List ℕ → Option (List ℕ)) (times : List ℕ → Option ℤ) (named : List (List ℕ)) (profile : Profile) (definitions environment : List Variable)
         (targets : List (List ℕ)) (all : Bool) (seen : Which → List ℕ) (a b : List Passage) (d e : Bool) → D.honest
-        → Plans files times named definitions environment targets all D.honest seen a d
-        → Plans files times named definitions environment targets all D.honest seen b e
+        → Plans files times named profile definitions environment targets all D.honest seen a d
+        → Plans files times named profile definitions environment targets all D.honest seen b e
         → (a ≡ b) × (d ≡ e) }
 {}

@@ -1,11 +1,12 @@
 //! What the words of the command line ask for.
 ghost use Rattle.std.specs.Prelude.{◌≡◌};
-ghost use Rattle.dmk_drive.specs.Output.{AsksFor, mode_of};
+ghost use Rattle.dmk_drive.specs.Output.{AsksFor, AsksForLanguage, language_of, mode_of};
 
 use bd_lists::Variable;
 use byte_strings::ByteStrings;
-use jb_auth::dry;
+use jb_auth::{dry, posix};
 use mk_plan::Telling;
+use mk_profile::Profile;
 
 /// The most workers that `-j` may ask for.
 pub const MAX_WORKERS: u16 = 256;
@@ -15,6 +16,8 @@ pub const MAX_WORKERS: u16 = 256;
 pub struct Options {
     /// The makefiles that are named, read one behind the other.
     pub makefiles: ByteStrings,
+    /// The language that they are written in.
+    pub profile: Profile,
     /// The name of the state's side A.
     pub state: String,
     /// How many recipes may run at once.
@@ -58,7 +61,22 @@ fn mode_of(asks: bool, dry: bool) -> Mode
     }
 }
 
+/// The language where the words name this one, and where the wide one is wanted.
+fn language_of(named: Profile, wide: bool) -> Profile
+    ensures { result ≡ language_of named wide }
+{
+    if wide { Profile::Posix } else { named }
+}
+
 impl Options {
+    /// The language of the makefile under this MAKEFLAGS, which may ask for the wide one too.
+    pub fn language(&self, makeflags: &[u8]) -> Profile
+        ensures { AsksForLanguage self.now makeflags.now result }
+    {
+        let asked = posix(makeflags);
+        language_of(self.profile, asked)
+    }
+
     /// What is done under this MAKEFLAGS, which may ask for a dry run too. Where both are asked for, the question counts.
     pub fn mode(&self, makeflags: &[u8]) -> Mode
         ensures { AsksFor self.now makeflags.now result }

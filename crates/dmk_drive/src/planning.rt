@@ -6,7 +6,7 @@ ghost use Rattle.mk_macros.specs.declared.fault.MacroFault.{MacroFault as Expans
 ghost use Rattle.mk_reader.specs.declared.item.Item.{Item as MakefileItem};
 ghost use Rattle.mk_plan.specs.Passage.{Passage};
 ghost use Rattle.mk_rules.specs.Faults.{IsRuleFault};
-ghost use Rattle.mk_rules.specs.declared.graph.TheConstants.{MAX_NODES};
+ghost use Rattle.mk_rules.specs.Limit.{node_limit};
 ghost use Rattle.mk_rule_lines.specs.declared.fault.RuleFault.{RuleFault as RulesFault};
 ghost use Rattle.dmk_drive.specs.Definitions.{first_defined};
 ghost use Rattle.dmk_drive.specs.Keeping.{keeps};
@@ -28,8 +28,9 @@ use crate::recovered::state_of;
 use bd_lists::Variable;
 use byte_strings::ByteStrings;
 use mk_eval::Includes;
+use mk_profile::Profile;
 use mk_reader::Item;
-use mk_rules::{Graph, Tree, build};
+use mk_rules::{Graph, Tree, build, node_limit};
 use st_disk::Disk;
 use st_records::HashKey;
 use st_state::State;
@@ -40,6 +41,8 @@ use std::alloc::Global;
 pub struct Given<'m, 'a> {
     /// The makefiles that are named.
     pub makefiles: &'m ByteStrings,
+    /// The language that they are written in.
+    pub profile: Profile,
     pub definitions: &'a [Variable],
     pub environment: &'a [Variable],
     /// All targets are to be made.
@@ -69,15 +72,16 @@ fn graph_of<T: Tree>(
     state: State,
 ) -> Result<Graph, Fault>
     ensures graph { IfOk result (λ graph. (times : List ℕ → Option ℤ) → T.allows tree.new times
-        → IsGraphOf given.entry.definitions.now given.entry.environment.now targets times items.items state graph) }
+        → IsGraphOf given.entry.profile given.entry.definitions.now given.entry.environment.now targets times items.items state graph) }
     ensures fault { IfErr result (λ fault. (fault ≡ faults.OutOfMemory) ⊎ ((f : RulesFault) × (fault ≡ faults.Rules f)
         × ((times : List ℕ → Option ℤ) → T.allows tree.new times
-        → IsRuleFault (first_defined given.entry.definitions.now given.entry.environment.now) items.items times
-        (finmap.get state) (T.refuses tree.new) targets MAX_NODES f))) }
+        → IsRuleFault (first_defined given.entry.profile given.entry.definitions.now given.entry.environment.now) items.items times
+        (finmap.get state) (T.refuses tree.new) targets (node_limit given.entry.profile) f))) }
     ensures times { (times : List ℕ → Option ℤ) → T.allows tree.new times → T.allows tree.old times }
 {
-    let macros = first_macros(alloc, given.definitions, given.environment)?;
-    match build(alloc, items, macros, targets, tree, state) {
+    let macros = first_macros(alloc, given.profile, given.definitions, given.environment)?;
+    let limit = node_limit(given.profile);
+    match build(alloc, items, macros, targets, tree, state, limit) {
         Ok(graph) => Ok(graph),
         Err(fault) => Err(Fault::Rules(fault)),
     }
@@ -154,9 +158,9 @@ fn kept_graph<T: Tree, D: Disk>(
     requires { keeping ≡ keeps given.environment.now items.items }
     ensures graph { IfOk result (λ graph. (m : StateMap) × IsStateOn keeping D.honest (D.seen disk.old) m
         × ((times : List ℕ → Option ℤ) → T.allows tree.new times
-        → IsGraphOf given.entry.definitions.now given.entry.environment.now targets times items.items m graph)) }
+        → IsGraphOf given.entry.profile given.entry.definitions.now given.entry.environment.now targets times items.items m graph)) }
     ensures fault { IfErr result (λ fault. (times : List ℕ → Option ℤ) → T.allows tree.new times
-        → IsPlanFault given.entry.definitions.now given.entry.environment.now targets given.entry.makes_all times (T.refuses tree.new) D.honest (D.seen disk.old)
+        → IsPlanFault given.entry.profile given.entry.definitions.now given.entry.environment.now targets given.entry.makes_all times (T.refuses tree.new) D.honest (D.seen disk.old)
         items.items fault) }
     ensures times { (times : List ℕ → Option ℤ) → T.allows tree.new times → T.allows tree.old times }
     ensures seen { D.honest → D.seen disk.new ≡ D.seen disk.old }
@@ -178,10 +182,10 @@ fn plan_items<T: Tree, D: Disk>(
     items: Vec<Item>,
 ) -> Result<DryRun, Fault>
     ensures tells { IfOk result (λ run. (times : List ℕ → Option ℤ) → T.allows tree.new times
-        → Tells given.entry.definitions.now given.entry.environment.now targets given.entry.makes_all times D.honest (D.seen disk.old) items.items
+        → Tells given.entry.profile given.entry.definitions.now given.entry.environment.now targets given.entry.makes_all times D.honest (D.seen disk.old) items.items
         given.entry.shows.telling given.entry.shows.recipes run) }
     ensures fault { IfErr result (λ fault. (times : List ℕ → Option ℤ) → T.allows tree.new times
-        → IsPlanFault given.entry.definitions.now given.entry.environment.now targets given.entry.makes_all times (T.refuses tree.new) D.honest (D.seen disk.old)
+        → IsPlanFault given.entry.profile given.entry.definitions.now given.entry.environment.now targets given.entry.makes_all times (T.refuses tree.new) D.honest (D.seen disk.old)
         items.items fault) }
     ensures times { (times : List ℕ → Option ℤ) → T.allows tree.new times → T.allows tree.old times }
     ensures seen { D.honest → D.seen disk.new ≡ D.seen disk.old }
@@ -209,12 +213,12 @@ pub fn dry_run<T: Tree, I: Includes, D: Disk>(
 ) -> Result<DryRun, Fault>
     ensures tells { IfOk result (λ run. (files : List ℕ → Option (List ℕ)) (times : List ℕ → Option ℤ) → I.allows includes.new files → T.allows tree.new times
         → (items : List MakefileItem) × AreItems files times given.entry.makefiles.now items
-        × Tells given.entry.definitions.now given.entry.environment.now targets given.entry.makes_all times D.honest (D.seen disk.old) items
+        × Tells given.entry.profile given.entry.definitions.now given.entry.environment.now targets given.entry.makes_all times D.honest (D.seen disk.old) items
         given.entry.shows.telling given.entry.shows.recipes run) }
     ensures fault { IfErr result (λ fault. (files : List ℕ → Option (List ℕ)) (times : List ℕ → Option ℤ) → I.allows includes.new files → T.allows tree.new times
         → IsRunFault (IsTextFault files times (T.refuses tree.new) given.entry.makefiles.now)
         (AreItems files times given.entry.makefiles.now)
-        (IsPlanFault given.entry.definitions.now given.entry.environment.now targets given.entry.makes_all times (T.refuses tree.new) D.honest (D.seen disk.old))
+        (IsPlanFault given.entry.profile given.entry.definitions.now given.entry.environment.now targets given.entry.makes_all times (T.refuses tree.new) D.honest (D.seen disk.old))
         fault) }
     ensures seen { D.honest → D.seen disk.new ≡ D.seen disk.old }
     ensures moments { D.honest → D.moments disk.new ≡ D.moments disk.old }

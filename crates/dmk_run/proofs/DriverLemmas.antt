@@ -2,6 +2,7 @@
 use Rattle.std.proofs.Common.{◌≡◌, ◌≢◌, ◌⊎◌, ◌||◌, inl, inr, ℕ, ℤ, ◌≤◌, Bool, true, false, List, [], Option, Result, Ok, Err, IfOk, IsTrue, ◌∙◌, length, refl, sym, subst}
 use Rattle.std.specs.FinMap as map
 use Rattle.std.specs.List.{list_all}
+use Rattle.mk_profile.specs.declared.profile.Profile.{Profile}
 use Rattle.mk_reader.specs.declared.item.Item.{Item}
 use Rattle.mk_rules.specs.declared.graph.Graph.{Graph}
 use Rattle.jb_closing.specs.Report.{ends_well}
@@ -58,13 +59,13 @@ has_ended graph counting keeping sound sides found (Ok s) (r, is, same) all well
 }
 has_ended graph counting keeping sound sides found (Err stop) is all well borne made = tt
 
-module _ (definitions environment : List Variable) (targets : List (List ℕ)) (all : Bool) (times : List ℕ → Option ℤ) where
+module _ (profile : Profile) (definitions environment : List Variable) (targets : List (List ℕ)) (all : Bool) (times : List ℕ → Option ℤ) where
   -- so a graph of these items has
   pub made_items : (items : List Item) (stored keeping : Bool) (disk_honest : Type 0) (seen : Which → List ℕ) (sides : Sides) (state : StateMap)
       (graph judged : Graph) (counted kept : Bool) → IsStateOn stored disk_honest seen state →
-      IsGraphOf definitions environment targets times items state graph → judged ≡ judged_graph all graph → counted ≡ all || keeping →
+      IsGraphOf profile definitions environment targets times items state graph → judged ≡ judged_graph all graph → counted ≡ all || keeping →
       kept ≡ keeping → (got : Result ℕ Stop) → IfOk got (HasEnded judged counted kept disk_honest sides) →
-      IfOk got (λ s. MakesItems definitions environment targets all times items stored keeping disk_honest seen s sides)
+      IfOk got (λ s. MakesItems profile definitions environment targets all times items stored keeping disk_honest seen s sides)
   made_items items stored keeping disk_honest seen sides state graph judged counted kept is_state is_graph is_judged counts same (Ok s) ended = record {
     state = state;
     is_state = is_state;
@@ -79,8 +80,8 @@ module _ (definitions environment : List Variable) (targets : List (List ℕ)) (
   module _ (items : List Item) (memory_honest : Type 0) (memory : Which → List ℕ) (works : memory_honest)
       (a : memory which.A ≡ []) (b : memory which.B ≡ []) (memory_sides : Sides) (disk_honest : Type 0) (seen : Which → List ℕ) (sides : Sides) where
     pub without_state : (status : ℕ) →
-        MakesItems definitions environment targets all times items true false memory_honest memory status memory_sides →
-        MakesItems definitions environment targets all times items false false disk_honest seen status sides
+        MakesItems profile definitions environment targets all times items true false memory_honest memory status memory_sides →
+        MakesItems profile definitions environment targets all times items false false disk_honest seen status sides
     without_state status run = record {
       state = run.state;
       is_state = empty_state (memory which.A) (memory which.B) run.state a b (run.is_state works);
@@ -96,10 +97,10 @@ module _ (definitions environment : List Variable) (targets : List (List ℕ)) (
     }
 
     pub found_without_state : (keeping : Bool) → false ≡ keeping → (got : Result ℕ Stop) →
-        IfOk got (λ s. MakesItems definitions environment targets all times items true false memory_honest memory s memory_sides) →
-        IfOk got (λ s. MakesItems definitions environment targets all times items keeping keeping disk_honest seen s sides)
+        IfOk got (λ s. MakesItems profile definitions environment targets all times items true false memory_honest memory s memory_sides) →
+        IfOk got (λ s. MakesItems profile definitions environment targets all times items keeping keeping disk_honest seen s sides)
     found_without_state keeping is (Ok status) run =
-        subst (λ k. MakesItems definitions environment targets all times items k k disk_honest seen status sides) is
+        subst (λ k. MakesItems profile definitions environment targets all times items k k disk_honest seen status sides) is
         (without_state status run)
     found_without_state keeping is (Err stop) run = tt
 

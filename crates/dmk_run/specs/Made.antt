@@ -1,6 +1,7 @@
 -- What a run leaves on its disk, where it ends with a report.
 use Rattle.std.specs.Prelude.{◌≡◌, ◌||◌, ℕ, ℤ, Bool, true, List, Option, length, IsTrue}
 use Rattle.std.specs.List.{list_all}
+use Rattle.mk_profile.specs.declared.profile.Profile.{Profile}
 use Rattle.mk_reader.specs.declared.item.Item.{Item}
 use Rattle.mk_rules.specs.declared.graph.Graph.{Graph}
 use Rattle.st_disk.specs.Crash.{Sides}
@@ -42,19 +43,19 @@ pub record HasEnded (graph : Graph) (counting keeping : Bool) (sound : Type 0) (
   pub made : keeping ≡ true → IsMade graph sound sides status ends
 
 -- so the graph of these items has, for the targets that are named, by the state that the disk recovers, if it is stored there
-pub record MakesItems (definitions environment : List Variable) (targets : List (List ℕ)) (all : Bool) (times : List ℕ → Option ℤ)
+pub record MakesItems (profile : Profile) (definitions environment : List Variable) (targets : List (List ℕ)) (all : Bool) (times : List ℕ → Option ℤ)
     (items : List Item) (stored keeping : Bool) (disk_honest : Type 0) (seen : Which → List ℕ)
     (status : ℕ) (sides : Sides) : Type 0 where
   pub state : StateMap
   pub is_state : IsStateOn stored disk_honest seen state
   pub graph : Graph
-  pub is_graph : IsGraphOf definitions environment targets times items state graph
+  pub is_graph : IsGraphOf profile definitions environment targets times items state graph
   pub ended : HasEnded (judged_graph all graph) (all || keeping) keeping disk_honest sides status
 
 -- so it is for the items of the makefile that is found by these files and times
 pub record Makes (files : List ℕ → Option (List ℕ)) (times : List ℕ → Option ℤ) (named : List (List ℕ))
-    (definitions environment : List Variable) (targets : List (List ℕ)) (all : Bool) (disk_honest : Type 0) (seen : Which → List ℕ) (status : ℕ) (sides : Sides) : Type 0 where
+    (profile : Profile) (definitions environment : List Variable) (targets : List (List ℕ)) (all : Bool) (disk_honest : Type 0) (seen : Which → List ℕ) (status : ℕ) (sides : Sides) : Type 0 where
   pub items : List Item
   pub are_items : AreItems files times named items
-  pub made : MakesItems definitions environment targets all times items (keeps environment items) (keeps environment items)
+  pub made : MakesItems profile definitions environment targets all times items (keeps environment items) (keeps environment items)
       disk_honest seen status sides

@@ -98,7 +98,7 @@ where
     D: Disk + Drop + Send,
     ensures status { IfOk result.0 (λ s. s ≤ 2) }
     ensures makes { IfOk result.0 (λ s. (times : List ℕ → Option ℤ) → T.allows tree.new times
-        → MakesItems goals.definitions.items means.now.environment.now goals.targets wishes.now.makes_all times items.items true keeping
+        → MakesItems goals.profile goals.definitions.items means.now.environment.now goals.targets wishes.now.makes_all times items.items true keeping
         D.honest (D.seen disk) s (now (D.moments result.1))) }
     ensures times { (times : List ℕ → Option ℤ) → T.allows tree.new times → T.allows tree.old times }
     ensures let_go { K.serves banks.old ≡ false → K.serves banks.new ≡ false }
@@ -152,7 +152,7 @@ where
     D: Disk + Drop + Send,
     ensures status { IfOk result.0 (λ s. s ≤ 2) }
     ensures makes { IfOk result.0 (λ s. (times : List ℕ → Option ℤ) → T.allows tree.new times
-        → MakesItems goals.definitions.items means.now.environment.now goals.targets wishes.now.makes_all times items.items
+        → MakesItems goals.profile goals.definitions.items means.now.environment.now goals.targets wishes.now.makes_all times items.items
         (keeps means.now.environment.now items.items) (keeps means.now.environment.now items.items)
         D.honest (D.seen disk) s (now (D.moments result.1))) }
     ensures times { (times : List ℕ → Option ℤ) → T.allows tree.new times → T.allows tree.old times }
@@ -202,7 +202,7 @@ where
     D: Disk + Drop + Send,
     ensures status { IfOk result.0 (λ s. s ≤ 2) }
     ensures makes { IfOk result.0 (λ s. (files : List ℕ → Option (List ℕ)) (times : List ℕ → Option ℤ) → I.allows includes.new files → T.allows tree.new times
-        → Makes files times named.now goals.definitions.items means.now.environment.now goals.targets wishes.now.makes_all
+        → Makes files times named.now goals.profile goals.definitions.items means.now.environment.now goals.targets wishes.now.makes_all
         D.honest (D.seen disk) s (now (D.moments result.1))) }
     ensures untouched { (files : List ℕ → Option (List ℕ)) (times : List ℕ → Option ℤ) → I.allows includes.new files → T.allows tree.new times
         → (result.1 ≡ disk) ⊎ ((items : List MakefileItem) × AreItems files times named.now items
@@ -305,7 +305,7 @@ where
     // 'done' whose receipt its worker gathered: so for all texts and times that agree with what was answered.
     ensures makes { result.0 ≢ 2
         → (files : List ℕ → Option (List ℕ)) (times : List ℕ → Option ℤ) → I.allows includes.new files → T.allows tree.new times
-        → Makes files times options.makefiles options.definitions.items means.now.environment.now options.targets options.makes_all
+        → Makes files times options.makefiles options.profile options.definitions.items means.now.environment.now options.targets options.makes_all
         D.honest (D.seen disk) result.0 (now (D.moments result.1)) }
     // Unless a makefile that was read keeps state, the disk is handed back as it came.
     ensures untouched { (files : List ℕ → Option (List ℕ)) (times : List ℕ → Option ℤ) → I.allows includes.new files → T.allows tree.new times
@@ -316,6 +316,7 @@ where
 {
     let Options {
         makefiles,
+        profile,
         state,
         workers,
         goes_on,
@@ -337,6 +338,7 @@ where
         telling,
     };
     let goals = Goals {
+        profile,
         definitions,
         targets,
     };

@@ -5,7 +5,7 @@ use Rattle.std.specs.Char.{IsAsciiDigit}
 use Rattle.std.proofs.lemmas.List.{append_cancel_left}
 use Rattle.std.proofs.lemmas.List.Elements.{All-nil, All-cons, All-head, All-tail, All-push, All-weaker}
 use denote.Ref.{Bor}
-use Rattle.jb_auth.specs.Auth.{AreWords, Begins, NamesNone, IsLastNamed, AreDigits, IsNumber, AreNumbers, Authority, absent, disabled, fifo, descriptors, unreadable, SaysValue, SayOf, Says, IsFirstWord, AreFlags, AsksForDryRun}
+use Rattle.jb_auth.specs.Auth.{AreWords, Begins, NamesNone, IsLastNamed, AreDigits, IsNumber, AreNumbers, Authority, absent, disabled, fifo, descriptors, unreadable, SaysValue, SayOf, Says, IsFirstWord, AreFlags, AsksForDryRun, AsksForPosix, by_first, by_rest}
 
 heads : (x y : ℕ) (xs ys : List ℕ) → x ∷ xs ≡ y ∷ ys → x ≡ y
 heads x y xs ys e = cc
@@ -283,3 +283,26 @@ pub asks_by_first : (text first : List ℕ) (rest : Option (Bor (List ℕ))) →
 asks_by_first text first rest free e (word, is, flags, flag) =
     let same = first_once text first word rest free e is in
     let P : List ℕ → Type 0 = λ w. AreFlags w × Contains w 110 in subst P same (flags, flag)
+
+-- what the first word and the rest say of the wide language
+abbrev Cut : (text first : List ℕ) (rest : Option (Bor (List ℕ))) → Type 0
+Cut text first rest = All (λ b. b ≢ 32) first × MatchOption rest (text ≡ first) (λ r. text ≡ first ++ 32 ∷ r.now)
+
+abbrev pub AsksBehind : Option (Bor (List ℕ)) → Type 0
+AsksBehind None = ⊥
+AsksBehind (Some r) = AsksForPosix r.now
+
+pub asks_here : (text first : List ℕ) (rest : Option (Bor (List ℕ))) → Cut text first rest → first ≡ codes "--posix" → AsksForPosix text
+asks_here text first rest cut is = by_first (subst (IsFirstWord text) is (is_first text first rest cut.0 cut.1))
+
+pub asks_later : (text first : List ℕ) (rest : Option (Bor (List ℕ))) → Cut text first rest → first ≢ codes "--" → AsksBehind rest → AsksForPosix text
+asks_later text first None cut other asks = absurd asks
+asks_later text first (Some r) cut other asks = by_rest first r.now cut.0 cut.1 other asks
+
+pub asks_behind : (text first : List ℕ) (rest : Option (Bor (List ℕ))) → Cut text first rest → first ≢ codes "--posix" → AsksForPosix text →
+    (first ≢ codes "--") × AsksBehind rest
+asks_behind text first rest cut other (by_first is) = absurd (other (sym (first_once text first (codes "--posix") rest cut.0 cut.1 is)))
+asks_behind text first None cut other (by_rest word behind free e none asks) = absurd (cut_none 32 word first behind cut.0 (sym e ∙ cut.1))
+asks_behind text first (Some r) cut other (by_rest word behind free e none asks) =
+    let same = cut_once 32 word first behind r.now free cut.0 (sym e ∙ cut.1) in
+    (subst (λ (w : List ℕ). w ≢ codes "--") same.0 none, subst AsksForPosix same.1 asks)

@@ -93,3 +93,10 @@ AreFlags word = ((rest : List ℕ) → Begins (codes "--") word rest → ⊥) ×
 -- "Communicating Options to a Sub-make"; the last two are our own)
 abbrev pub AsksForDryRun : (makeflags : List ℕ) → Type 0
 AsksForDryRun makeflags = (first : List ℕ) × IsFirstWord makeflags first × AreFlags first × Contains first 110
+
+-- the wide language is asked for: the first word is `--posix`; or it isn't `--`, behind which definitions stand, and what
+-- stands behind it asks so (GNU Make manual, "Communicating Options to a Sub-make")
+pub data AsksForPosix : (makeflags : List ℕ) → Type 0 where
+  by_first : {text : List ℕ} → IsFirstWord text (codes "--posix") → AsksForPosix text
+  by_rest : {text : List ℕ} (word rest : List ℕ) → All (λ b. b ≢ 32) word → text ≡ word ++ 32 ∷ rest → word ≢ codes "--" →
+      AsksForPosix rest → AsksForPosix text

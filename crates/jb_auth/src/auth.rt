@@ -1,10 +1,14 @@
 //! What MAKEFLAGS says of a jobserver.
 ghost use Rattle.std.specs.Prelude.{◌≡◌, ◌≢◌, ℕ, List, Bool, ◌↔◌, ◌++◌, ◌∷◌, All, Contains, IsTrue, MatchOption, codes};
-ghost use Rattle.jb_auth.specs.Auth.{Authority, Says, Begins, SaysValue, AreWords, NamesNone, IsLastNamed, IsNumber, AsksForDryRun, AreFlags, AreNumbers, AreDigits, seen};
+ghost use Rattle.jb_auth.specs.Auth.{Authority, Says, Begins, SaysValue, AreWords, NamesNone, IsLastNamed, IsNumber, AsksForDryRun, AsksForPosix, AreFlags, AreNumbers, AreDigits, seen};
 
 const AUTH: &[u8] = b"--jobserver-auth=";
 
 const FIFO: &[u8] = b"fifo:";
+
+const POSIX: &[u8] = b"--posix";
+
+const BEFORE_DEFINITIONS: &[u8] = b"--";
 
 /// What MAKEFLAGS says of a jobserver.
 #[derive(Clone, Copy, Debug, PartialEq, Eq)]
@@ -39,6 +43,24 @@ pub fn dry(makeflags: &[u8]) -> bool
 {
     let (first, _) = cut_at(makeflags, b' ');
     are_flags(first) && holds(first, b'n')
+}
+
+/// Whether a word of MAKEFLAGS asks for the wide language. Takes no memory.
+pub fn posix(makeflags: &[u8]) -> bool
+    ensures { IsTrue result ↔ AsksForPosix makeflags.now }
+{
+    let mut rest = Some(makeflags);
+    while let Some(text) = rest {
+        let (word, behind) = cut_at(text, b' ');
+        if word == POSIX {
+            return true;
+        }
+        if word == BEFORE_DEFINITIONS {
+            return false;
+        }
+        rest = behind;
+    }
+    false
 }
 
 // Whether a word is neither a long option nor a definition.

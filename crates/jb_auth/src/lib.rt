@@ -1,6 +1,6 @@
-//! What MAKEFLAGS says of a jobserver, and whether it asks for a dry run.
+//! What MAKEFLAGS says of a jobserver, and whether it asks for a dry run or for the wide profile.
 #![tactic(auto)]
 
 mod auth;
 
-pub use auth::{Auth, dry, read_auth};
+pub use auth::{Auth, dry, posix, read_auth};

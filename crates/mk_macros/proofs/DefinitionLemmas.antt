@@ -6,7 +6,8 @@ use Rattle.std.specs.Map.{lookup, lookup_key, set_value}
 use Rattle.std.specs.Cmp.Lexicographic.{pointwise}
 use Rattle.std.proofs.lemmas.Slice.Eq.{bytes_eq-Decides}
 use Rattle.indexmap.specs.IndexMap.{insert_entry}
-use Rattle.mk_macros.specs.Ranks.{Ranks, no_ranks, ranks_at, redefined, with_definition}
+use Rattle.mk_macros.specs.Ranks.{Ranks, no_ranks, ranks_at, redefined, with_text, Defined, with_definition}
+use Rattle.mk_profile.specs.declared.profile.Profile.{Profile}
 use Rattle.mk_macros.specs.declared.definitions.Rank.{Rank}
 
 -- the key has these bytes
@@ -59,6 +60,10 @@ module _ {K V : Type 0} (bytes_of : K → List ℕ) (n name : List ℕ) (apart :
   lookup-insert_entry [] k v is = let there = other_key bytes_of n name apart k ((bytes_eq-Decides name (bytes_of k)).1 (sym is)) in simp there refl
   lookup-insert_entry (e ∷ es) k v is = insert_at e es k v is (is_named bytes_of (bytes_of k) e.0) refl (lookup-insert_entry es k v is)
 
+-- what names have, in a language
+abbrev pub in_language : Profile → (List ℕ → Ranks) → Defined
+in_language profile ranks = record { language = profile; ranks = ranks }
+
 module _ {K D : Type 0} (bytes_of : K → List ℕ) (ranks : D → Ranks) where
   -- the entries of a map as contracts see them
   abbrev pub shown : List (K × D) → List (List ℕ × Ranks)
@@ -87,9 +92,11 @@ module _ {K D : Type 0} (bytes_of : K → List ℕ) (ranks : D → Ranks) where
         rw (shown_at new n, shown_at old n) (others n (λ same. absurd (false≢true (sym e ∙ (bytes_eq-Decides n name).1 same))))
 
     -- a definition, for all names at once
-    pub defines : (rank : Rank) (text : List ℕ) (append : Bool) → found_at new name ≡ redefined (found_at old name) rank text append →
-        ranks_at (shown new) ≡ with_definition (ranks_at (shown old)) rank name text append
-    defines rank text append at = λ i n. defined_at rank text append at n (bytes_eq n name) refl i
+    pub defines : (profile : Profile) (rank : Rank) (text : List ℕ) (append : Bool) → found_at new name ≡ redefined (found_at old name) rank text append →
+        in_language profile (ranks_at (shown new)) ≡ with_definition (in_language profile (ranks_at (shown old))) rank name text append
+    defines profile rank text append at =
+        let each : ranks_at (shown new) ≡ with_text (ranks_at (shown old)) rank name text append = λ i n. defined_at rank text append at n (bytes_eq n name) refl i in
+        ap (in_language profile) each
 
     kept_at : found_at new name ≡ found_at old name → (n : List ℕ) (t : Bool) → bytes_eq n name ≡ t → ranks_at (shown new) n ≡ ranks_at (shown old) n
     kept_at at n true e = let same : n ≡ name = (bytes_eq-Decides n name).0 e in rw (same, shown_at new name, shown_at old name) at
@@ -97,5 +104,7 @@ module _ {K D : Type 0} (bytes_of : K → List ℕ) (ranks : D → Ranks) where
         rw (shown_at new n, shown_at old n) (others n (λ same. absurd (false≢true (sym e ∙ (bytes_eq-Decides n name).1 same))))
 
     -- nothing changed, for all names at once
-    pub keeps : found_at new name ≡ found_at old name → ranks_at (shown new) ≡ ranks_at (shown old)
-    keeps at = λ i n. kept_at at n (bytes_eq n name) refl i
+    pub keeps : (profile : Profile) → found_at new name ≡ found_at old name → in_language profile (ranks_at (shown new)) ≡ in_language profile (ranks_at (shown old))
+    keeps profile at =
+        let each : ranks_at (shown new) ≡ ranks_at (shown old) = λ i n. kept_at at n (bytes_eq n name) refl i in
+        ap (in_language profile) each

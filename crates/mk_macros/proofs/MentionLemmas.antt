@@ -2,7 +2,7 @@
 use Rattle.std.proofs.Common.{◌≡◌, ◌≤◌, ◌∙◌, ◌⊎◌, inl, inr, ℕ, Bool, true, false, List, ◌∷◌, drop, length, refl, sym, ap, subst, arith}
 use Rattle.mk_macros.specs.Reference.{Piece, plain, reference, unclosed, nested, nothing, first, front}
 use Rattle.mk_macros.specs.Spelled.{SpellsFront, SpellsPiece}
-use Rattle.mk_macros.specs.Mention.{names_newer, holds_references, RefersToNewerIn, in_front, behind, in_brackets}
+use Rattle.mk_macros.specs.Mention.{names_newer, holds_references, RefersToNewer, in_front, behind, in_brackets}
 use Rattle.mk_macros.proofs.SpelledLemmas.{front_said}
 
 piece_is : (p q : Piece) (x y : List ℕ) → first p x ≡ first q y → p ≡ q
@@ -37,28 +37,28 @@ module _ (wide : Bool) (text rest : List ℕ) (piece : Piece) (at : front wide t
   long_enough h = let b = bracketed h in let long = ap length b.2 in omega (arith, long)
 
   -- what stands behind the opening bracket refers to them
-  pub enters : wide ≡ true → holds_references piece ≡ true → RefersToNewerIn wide (drop 2 text) → RefersToNewerIn wide text
+  pub enters : wide ≡ true → holds_references piece ≡ true → RefersToNewer wide (drop 2 text) → RefersToNewer wide text
   enters w h refers =
       let b = bracketed h in
-      in_brackets piece rest b.0 b.1 w at h b.2 (subst (RefersToNewerIn wide) (ap (drop 2) b.2) refers)
+      in_brackets piece rest b.0 b.1 w at h b.2 (subst (RefersToNewer wide) (ap (drop 2) b.2) refers)
 
   same_piece : (p : Piece) (x : List ℕ) → front wide text ≡ first p x → p ≡ piece
   same_piece p x e = piece_is p piece x rest (sym e ∙ at)
 
-  pub entered : names_newer piece ≡ false → wide ≡ true → holds_references piece ≡ true → RefersToNewerIn wide text → RefersToNewerIn wide (drop 2 text)
+  pub entered : names_newer piece ≡ false → wide ≡ true → holds_references piece ≡ true → RefersToNewer wide text → RefersToNewer wide (drop 2 text)
   entered none w h (in_front p x e newer) = absurd (clash (names_newer piece) (subst (λ (q : Piece). names_newer q ≡ true) (same_piece p x e) newer) none)
   entered none w h (behind p x e holds refers) = absurd (clash (holds_references piece) h (subst (λ (q : Piece). holds_references q ≡ false) (same_piece p x e) (holds w)))
-  entered none w h (in_brackets p x opening inner v e holds spelled refers) = subst (RefersToNewerIn wide) (sym (ap (drop 2) spelled)) refers
+  entered none w h (in_brackets p x opening inner v e holds spelled refers) = subst (RefersToNewer wide) (sym (ap (drop 2) spelled)) refers
 
   -- the first piece is no such reference, and isn't entered
-  pub goes_on : names_newer piece ≡ false → (wide ≡ true → holds_references piece ≡ false) → RefersToNewerIn wide text → RefersToNewerIn wide rest
+  pub goes_on : names_newer piece ≡ false → (wide ≡ true → holds_references piece ≡ false) → RefersToNewer wide text → RefersToNewer wide rest
   goes_on none whole (in_front p x e newer) = absurd (clash (names_newer piece) (subst (λ (q : Piece). names_newer q ≡ true) (same_piece p x e) newer) none)
-  goes_on none whole (behind p x e holds refers) = subst (RefersToNewerIn wide) (rest_is p piece x rest (sym e ∙ at)) refers
+  goes_on none whole (behind p x e holds refers) = subst (RefersToNewer wide) (rest_is p piece x rest (sym e ∙ at)) refers
   goes_on none whole (in_brackets p x opening inner w e holds spelled refers) =
       absurd (clash (holds_references piece) (subst (λ (q : Piece). holds_references q ≡ true) (same_piece p x e) holds) (whole w))
 
 -- no text is left
-pub none_left : (wide : Bool) (text : List ℕ) → front wide text ≡ nothing → RefersToNewerIn wide text → ⊥
+pub none_left : (wide : Bool) (text : List ℕ) → front wide text ≡ nothing → RefersToNewer wide text → ⊥
 none_left wide text e (in_front piece rest is newer) = some_piece piece rest (sym e ∙ is)
 none_left wide text e (behind piece rest is holds refers) = some_piece piece rest (sym e ∙ is)
 none_left wide text e (in_brackets piece rest opening inner w is holds spelled refers) = some_piece piece rest (sym e ∙ is)

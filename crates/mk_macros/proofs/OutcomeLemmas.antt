@@ -1,7 +1,8 @@
 -- A text has one outcome.
 use Rattle.std.proofs.Common.{◌≡◌, ℕ, Bool, true, false, List, [], ◌∷◌, ◌++◌, length, refl, sym, ap, ◌∙◌, subst, arith}
+use Rattle.mk_profile.specs.Profile.{is_wide}
 use Rattle.mk_macros.specs.Reference.{used, Piece, reference, nested, named, Front, first}
-use Rattle.mk_macros.specs.Expansion.{Meaning, dynamic, defined, Outcome, gives, fails, Expands, ends, goes_on, is_too_long, meets_fault, Adds, adds_bytes, is_unclosed, is_nested, is_undefined, is_dynamic, is_long_dynamic, is_loop, has_value, has_fault, has_name, has_no_name}
+use Rattle.mk_macros.specs.Expansion.{Meaning, Meanings, ExpandsTo, dynamic, defined, Outcome, gives, fails, Expands, ends, goes_on, is_too_long, meets_fault, Adds, adds_bytes, is_unclosed, is_nested, is_undefined, is_dynamic, is_long_dynamic, is_loop, has_value, has_fault, has_name, has_no_name}
 
 pub same_first : {p q : Piece} {r s : List ℕ} {f : Front} → f ≡ first p r → f ≡ first q s → (p ≡ q) × (r ≡ s)
 same_first a b = let e = sym a ∙ b in (cc, cc)
@@ -115,7 +116,6 @@ module _ (wide : Bool) (meaning : List ℕ → Meaning) where
         let st : t ≡ s = cc in
         same_outcome d (subst (λ w. Expands wide meaning (name ∷ opened) [] w (fails f)) st e)
 
--- in the strict profile
-pub expands_once : (meaning : List ℕ → Meaning) {opened : List (List ℕ)} {made text : List ℕ} {a b : Outcome} →
-    Expands false meaning opened made text a → Expands false meaning opened made text b → a ≡ b
-expands_once meaning x y = same_outcome false meaning x y
+-- so a text that nothing has been read of
+pub expands_once : (names : Meanings) {text : List ℕ} {a b : Outcome} → ExpandsTo names text a → ExpandsTo names text b → a ≡ b
+expands_once names x y = same_outcome (is_wide names.language) names.meaning x y

@@ -13,6 +13,11 @@ pub data Meaning : Type 0 where
   dynamic : (value : List ℕ) → Meaning
   defined : (text : List ℕ) → Meaning
 
+-- what names stand for, and the language of the texts that they stand in
+pub record Meanings : Type 0 where
+  pub language : Profile
+  pub meaning : (name : List ℕ) → Meaning
+
 -- why a text has no expansion
 pub data Fault : Type 0 where
   refers_to_itself : (name : List ℕ) → Fault
@@ -74,13 +79,9 @@ mutual
     has_no_name : {opened : List (List ℕ)} {inner : List ℕ} (fault : Fault) →
         wide ≡ true → Expands wide meaning opened [] inner (fails fault) → Adds wide meaning opened (nested inner) (fails fault)
 
--- the outcome of a text in which nothing has been read yet
-abbrev pub ExpandsIn : Profile → (List ℕ → Meaning) → (text : List ℕ) → Outcome → Type 0
-ExpandsIn profile meaning text outcome = Expands (is_wide profile) meaning [] [] text outcome
-
--- its outcome in the strict profile
-abbrev pub ExpandsTo : (List ℕ → Meaning) → (text : List ℕ) → Outcome → Type 0
-ExpandsTo meaning text outcome = Expands false meaning [] [] text outcome
+-- the outcome of a text in which nothing has been read yet, in the language that it is written in
+abbrev pub ExpandsTo : Meanings → (text : List ℕ) → Outcome → Type 0
+ExpandsTo names text outcome = Expands (is_wide names.language) names.meaning [] [] text outcome
 
 -- the fault is the text's outcome; want of memory says nothing of the text
 abbrev pub MeetsFault : (wide : Bool) (meaning : List ℕ → Meaning) (text : List ℕ) → MacroFault → Type 0
@@ -90,11 +91,8 @@ MeetsFault wide meaning text Unclosed = Expands wide meaning [] [] text (fails n
 MeetsFault wide meaning text NestedReference = Expands wide meaning [] [] text (fails dollar_in_brackets)
 MeetsFault wide meaning text TooLong = Expands wide meaning [] [] text (fails too_long)
 
-abbrev pub ExpandsToFaultIn : Profile → (List ℕ → Meaning) → (text : List ℕ) → MacroFault → Type 0
-ExpandsToFaultIn profile meaning text fault = MeetsFault (is_wide profile) meaning text fault
-
-abbrev pub ExpandsToFault : (List ℕ → Meaning) → (text : List ℕ) → MacroFault → Type 0
-ExpandsToFault meaning text fault = MeetsFault false meaning text fault
+abbrev pub ExpandsToFault : Meanings → (text : List ℕ) → MacroFault → Type 0
+ExpandsToFault names text fault = MeetsFault (is_wide names.language) names.meaning text fault
 
 -- the fault of an appending call that would leave this many bytes
 abbrev pub IsTooLongAt : ℕ → MacroFault → Type 0

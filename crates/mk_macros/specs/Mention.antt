@@ -21,16 +21,12 @@ holds_references (nested inner) = true
 
 -- the text begins with such a reference, or what stands behind its first piece refers to one. In the wide profile
 -- brackets that may hold references are entered; a name that is made by expansion isn't seen (our own)
-pub data RefersToNewerIn (wide : Bool) : (text : List ℕ) → Type 0 where
+pub data RefersToNewer (wide : Bool) : (text : List ℕ) → Type 0 where
   in_front : {text : List ℕ} (piece : Piece) (rest : List ℕ) →
-      front wide text ≡ first piece rest → names_newer piece ≡ true → RefersToNewerIn wide text
+      front wide text ≡ first piece rest → names_newer piece ≡ true → RefersToNewer wide text
   behind : {text : List ℕ} (piece : Piece) (rest : List ℕ) →
-      front wide text ≡ first piece rest → (wide ≡ true → holds_references piece ≡ false) → RefersToNewerIn wide rest →
-      RefersToNewerIn wide text
+      front wide text ≡ first piece rest → (wide ≡ true → holds_references piece ≡ false) → RefersToNewer wide rest →
+      RefersToNewer wide text
   in_brackets : {text : List ℕ} (piece : Piece) (rest : List ℕ) (opening : ℕ) (inner : List ℕ) →
       wide ≡ true → front wide text ≡ first piece rest → holds_references piece ≡ true → text ≡ 36 ∷ opening ∷ inner →
-      RefersToNewerIn wide inner → RefersToNewerIn wide text
-
--- in the strict profile
-abbrev pub RefersToNewer : (text : List ℕ) → Type 0
-RefersToNewer text = RefersToNewerIn false text
+      RefersToNewer wide inner → RefersToNewer wide text

@@ -2,7 +2,8 @@
 use Rattle.std.specs.Prelude.{ℕ, Bool, true, false, List, [], ◌∷◌, ◌++◌, Option, Some, None, unwrap_or, bytes_eq, if◌then◌else◌}
 use Rattle.std.specs.Map.{lookup}
 use Rattle.mk_macros.specs.Dynamic.{dynamic_value}
-use Rattle.mk_macros.specs.Expansion.{Meaning, undefined, dynamic, defined}
+use Rattle.mk_profile.specs.declared.profile.Profile.{Profile}
+use Rattle.mk_macros.specs.Expansion.{Meaning, Meanings, undefined, dynamic, defined}
 use Rattle.mk_macros.specs.declared.definitions.Rank.{Rank}
 use Rattle.mk_macros.specs.declared.definitions.Rank.TheVariants.{CommandLine, Makefile, Environment, Tool}
 use Rattle.mk_macros.specs.declared.dynamic.Dynamic.{Dynamic}
@@ -67,13 +68,39 @@ abbrev pub ranks_at : List (List ℕ × Ranks) → (name : List ℕ) → Ranks
 ranks_at definitions name = unwrap_or (lookup (bytes_eq name) definitions) no_ranks
 
 -- what each name has after one more definition
-abbrev pub with_definition : (List ℕ → Ranks) → Rank → (name text : List ℕ) → (append : Bool) → List ℕ → Ranks
-with_definition ranks rank name text append n = if bytes_eq n name then redefined (ranks name) rank text append else ranks n
+abbrev pub with_text : (List ℕ → Ranks) → Rank → (name text : List ℕ) → (append : Bool) → List ℕ → Ranks
+with_text ranks rank name text append n = if bytes_eq n name then redefined (ranks name) rank text append else ranks n
+
+-- what is defined: the language of the texts, and what each name has
+pub record Defined : Type 0 where
+  pub language : Profile
+  pub ranks : (name : List ℕ) → Ranks
+
+-- the same, where the names that have a text are listed, and so are finitely many
+pub record Listed : Type 0 where
+  pub language : Profile
+  pub texts : List (List ℕ × Ranks)
+
+-- nothing is listed
+abbrev pub none_listed : Profile → Listed
+none_listed profile = record { language = profile; texts = [] }
+
+-- what is defined by a list
+abbrev pub defined_by : Listed → Defined
+defined_by listed = record { language = listed.language; ranks = ranks_at listed.texts }
+
+-- what is defined after one more definition, in the same language
+abbrev pub with_definition : Defined → Rank → (name text : List ℕ) → (append : Bool) → Defined
+with_definition before rank name text append = record before { ranks = with_text before.ranks rank name text append }
 
 -- what a name stands for in a line: dynamic macros hide definitions
 abbrev pub meaning_of : (List ℕ → Ranks) → Dynamic → (name : List ℕ) → Meaning
 meaning_of ranks line name = meaning_from (dynamic_value line name) (in_force (ranks name))
 
--- what a name stands for in a rule line, which has no dynamic macros
-abbrev pub rule_meaning : (List ℕ → Ranks) → (name : List ℕ) → Meaning
-rule_meaning ranks = meaning_of ranks RuleLine
+-- what names stand for in a line
+abbrev pub meanings_of : Defined → Dynamic → Meanings
+meanings_of given line = record { language = given.language; meaning = meaning_of given.ranks line }
+
+-- what they stand for in a rule line, which has no dynamic macros
+abbrev pub rule_meanings : Defined → Meanings
+rule_meanings given = meanings_of given RuleLine

@@ -1,9 +1,10 @@
 // What is defined for each name, by rank.
 ghost use Rattle.std.specs.Prelude.{◌≡◌, ◌≢◌, ℕ, List, [], None, Some, OnOk, OnErr, IfOk, IfSome, option_map, option_copied};
-ghost use Rattle.mk_macros.specs.Ranks.{ranks_at, no_ranks, in_force, with_rank, base_of, appended, redefined, with_definition, or_else};
+ghost use Rattle.mk_macros.specs.Ranks.{defined_by, none_listed, no_ranks, in_force, with_rank, base_of, appended, redefined, with_definition, or_else};
 ghost use Rattle.mk_macros.specs.Shown.{ranks_of, texts_at};
 
 use indexmap::IndexMap;
+use mk_profile::Profile;
 use std::alloc::{AllocError, Global};
 use std::marker::Model;
 
@@ -180,31 +181,41 @@ fn definition_in<'a>(
     Some((key.as_slice(), definition.text()?))
 }
 
-/// The definitions that texts are expanded with. Contracts see each name with its text at each rank.
+/// The definitions that texts are expanded with, and the language of the texts. Contracts see each name with its text at each
+/// rank.
 #[derive(Drop)]
 pub struct Macros {
+    profile: Profile,
     definitions: IndexMap<Vec<u8>, Definition>,
 }
 
 impl Model for Macros {
-    ghost use Rattle.std.specs.Prelude.{ℕ, List, map};
-    ghost use Rattle.mk_macros.specs.Ranks.{Ranks};
+    ghost use Rattle.std.specs.Prelude.{map};
+    ghost use Rattle.mk_macros.specs.Ranks.{Listed};
 
-    ghost Value = { List (List ℕ × Ranks) };
+    ghost Value = { Listed };
 
     ghost use Rattle.mk_macros.specs.Shown.{shown_definition};
 
-    ghost view = { λ m. map shown_definition m.definitions.entries };
+    ghost view = { λ m. record { language = m.profile; texts = map shown_definition m.definitions.entries } };
 }
 
 impl Macros {
-    /// No definitions, which takes no memory.
-    pub fn new(alloc: Global) -> Macros
-        ensures { result ≡ [] }
+    /// No definitions, for texts in this language. It takes no memory.
+    pub fn new(alloc: Global, profile: Profile) -> Macros
+        ensures { result ≡ none_listed profile }
     {
         Macros {
+            profile,
             definitions: IndexMap::new(alloc),
         }
+    }
+
+    /// The language that texts are expanded in.
+    pub fn profile(&self) -> Profile
+        ensures { result ≡ (defined_by self.now).language }
+    {
+        self.profile
     }
 
     /// Defines a name at a rank, in place of what the rank had for it, or at its end where `append` is set. Only
@@ -221,15 +232,15 @@ impl Macros {
         append: bool,
     ) -> Result<(), AllocError>
         ensures ok { OnOk result
-            (ranks_at self.new ≡ with_definition (ranks_at self.old) rank name.now value.now append) }
-        ensures err { OnErr result (ranks_at self.new ≡ ranks_at self.old) }
+            (defined_by self.new ≡ with_definition (defined_by self.old) rank name.now value.now append) }
+        ensures err { OnErr result (defined_by self.new ≡ defined_by self.old) }
     {
         define_in(&mut self.definitions, alloc, rank, name, value, append)
     }
 
     /// The text in force for a name, behind the name as it is kept here.
     pub(crate) fn definition<'a>(&'a self, name: &[u8]) -> Option<(&'a [u8], &'a [u8])>
-        ensures text { option_map (λ found. found.1.now) result ≡ in_force (ranks_at self.now name.now) }
+        ensures text { option_map (λ found. found.1.now) result ≡ in_force ((defined_by self.now).ranks name.now) }
         ensures name { IfSome result (λ found. found.0.now ≡ name.now) }
     {
         definition_in(&self.definitions, name)

@@ -1,8 +1,9 @@
 // The expansion of a text. A text whose macro isn't known yet waits in a list until it is, so that no chain of
 // definitions and no nesting of brackets is too deep, and each macro's value is made once.
-ghost use Rattle.std.specs.Prelude.{◌≡◌, IfOk, IfErr};
-ghost use Rattle.mk_macros.specs.Ranks.{ranks_at, meaning_of};
-ghost use Rattle.mk_macros.specs.Expansion.{gives, ExpandsIn, ExpandsToFaultIn, ExpandsTo, ExpandsToFault};
+ghost use Rattle.std.specs.Prelude.{◌≡◌, [], IfOk, IfErr};
+ghost use Rattle.mk_macros.specs.Ranks.{defined_by, meaning_of, meanings_of};
+ghost use Rattle.mk_macros.specs.Expansion.{gives, Expands, MeetsFault, ExpandsTo, ExpandsToFault};
+ghost use Rattle.mk_profile.specs.Profile.{is_wide};
 
 use crate::definitions::Macros;
 use crate::dynamic::Dynamic;
@@ -39,7 +40,8 @@ struct Caller<'a> {
 }
 
 impl Macros {
-    /// The text with its references replaced by what they stand for, in a rule line or in a recipe line.
+    /// The text with its references replaced by what they stand for, in a rule line or in a recipe line. It is read in the
+    /// language that these definitions were made for.
     ///
     /// Of several faults the one that a reading from the left meets first is answered.
     pub fn expand<'a>(
@@ -48,14 +50,14 @@ impl Macros {
         text: &'a [u8],
         line: &Dynamic<'_>,
     ) -> Result<Vec<u8>, MacroFault>
-        ensures found { IfOk result (λ v. ExpandsTo (meaning_of (ranks_at self.now) line.now) text.now (gives v.items)) }
-        ensures fault { IfErr result (ExpandsToFault (meaning_of (ranks_at self.now) line.now) text.now) }
+        ensures found { IfOk result (λ v. ExpandsTo (meanings_of (defined_by self.now) line.now) text.now (gives v.items)) }
+        ensures fault { IfErr result (ExpandsToFault (meanings_of (defined_by self.now) line.now) text.now) }
     {
-        self.expand_in(alloc, Profile::Strict, text, line)
+        self.expand_in(alloc, self.profile(), text, line)
     }
 
-    /// As `expand`, in either profile.
-    pub fn expand_in<'a>(
+    /// As `expand`, in this language.
+    fn expand_in<'a>(
         &'a self,
         alloc: Global,
         profile: Profile,
@@ -63,8 +65,8 @@ impl Macros {
         line: &Dynamic<'_>,
     ) -> Result<Vec<u8>, MacroFault>
         ensures found { IfOk result
-            (λ v. ExpandsIn profile (meaning_of (ranks_at self.now) line.now) text.now (gives v.items)) }
-        ensures fault { IfErr result (ExpandsToFaultIn profile (meaning_of (ranks_at self.now) line.now) text.now) }
+            (λ v. Expands (is_wide profile) (meaning_of (defined_by self.now).ranks line.now) [] [] text.now (gives v.items)) }
+        ensures fault { IfErr result (MeetsFault (is_wide profile) (meaning_of (defined_by self.now).ranks line.now) text.now) }
     {
         let mut progress: HashMap<&'a [u8], Progress> = HashMap::new(alloc);
         let mut callers: Vec<Caller<'a>> = Vec::new(alloc);

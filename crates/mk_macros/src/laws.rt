@@ -5,8 +5,8 @@ ghost use Rattle.mk_profile.specs.Profile.{is_wide};
 ghost use Rattle.mk_profile.specs.declared.profile.Profile.{Profile};
 ghost use Rattle.mk_macros.specs.Reference.{Use, reference, named, Front, front};
 ghost use Rattle.mk_macros.specs.Spelled.{SpellsUse, SpellsFront};
-ghost use Rattle.mk_macros.specs.Expansion.{Meaning, Outcome, Expands, ExpandsIn};
-ghost use Rattle.mk_macros.specs.Ranks.{Ranks, ranks_at, meaning_of};
+ghost use Rattle.mk_macros.specs.Expansion.{Meaning, Outcome, Expands, ExpandsTo};
+ghost use Rattle.mk_macros.specs.Ranks.{Listed, defined_by, meanings_of};
 ghost use Rattle.mk_macros.specs.declared.dynamic.Dynamic.{Dynamic};
 
 /// The front that the code computes of a text is the one that the text spells. So each text has one, in each profile.
@@ -25,8 +25,8 @@ pub fn one_outcome()
 
 /// A text has an outcome in each profile, for what definitions and a line give.
 pub fn an_outcome()
-    ensures { (profile : Profile) (definitions : List (List ℕ × Ranks)) (line : Dynamic) (text : List ℕ)
-        → (outcome : Outcome) × ExpandsIn profile (meaning_of (ranks_at definitions) line) text outcome }
+    ensures { (listed : Listed) (line : Dynamic) (text : List ℕ)
+        → (outcome : Outcome) × ExpandsTo (meanings_of (defined_by listed) line) text outcome }
 {}
 
 /// A substitution replaces the ending of a word, or what stands before and after its stem, and leaves other words. A new

@@ -18,4 +18,4 @@ pub use laws::{
     an_outcome, each_front_is_as_it_is_spelled, one_outcome, parts_of_words,
     substitutions_change_words,
 };
-pub use mention::{refers_to_newer, refers_to_newer_in};
+pub use mention::refers_to_newer;

@@ -2,7 +2,7 @@
 ghost use Rattle.std.specs.Prelude.{◌≡◌, ◌≤◌, ◌++◌, length, IfOk, IfErr, OnOk};
 ghost use Rattle.mk_macros.specs.Reference.{used};
 ghost use Rattle.mk_macros.specs.Shown.{shown_use};
-ghost use Rattle.mk_macros.specs.Ranks.{ranks_at, meaning_of};
+ghost use Rattle.mk_macros.specs.Ranks.{defined_by, meaning_of};
 ghost use Rattle.mk_macros.specs.Expansion.{limit, IsTooLongAt};
 ghost use Rattle.mk_macros.specs.Lookup.{progress_at, Finds, FailsNow};
 
@@ -47,9 +47,9 @@ impl Macros {
         use_of: &Use<'_>,
     ) -> Result<Option<(&'a [u8], &'a [u8])>, MacroFault>
         requires { length made.old.items ≤ limit }
-        ensures ok { IfOk result (Finds (meaning_of (ranks_at self.now) line.now name.now) (progress_at progress.now name.now)
+        ensures ok { IfOk result (Finds (meaning_of (defined_by self.now).ranks line.now name.now) (progress_at progress.now name.now)
             (shown_use use_of.now) name.now made.old.items made.new.items) }
-        ensures err { IfErr result (FailsNow (meaning_of (ranks_at self.now) line.now name.now) (progress_at progress.now name.now)
+        ensures err { IfErr result (FailsNow (meaning_of (defined_by self.now).ranks line.now name.now) (progress_at progress.now name.now)
             (shown_use use_of.now) name.now made.old.items) }
     {
         if let Some(value) = line.value(alloc, name)? {

@@ -2,7 +2,7 @@
 ghost use Rattle.std.specs.Prelude.{◌≡◌, ◌↔◌, IsTrue};
 ghost use Rattle.mk_profile.specs.Profile.{is_wide};
 ghost use Rattle.mk_macros.specs.Shown.{shown_piece};
-ghost use Rattle.mk_macros.specs.Mention.{is_newer_name, names_newer, holds_references, RefersToNewer, RefersToNewerIn};
+ghost use Rattle.mk_macros.specs.Mention.{is_newer_name, names_newer, holds_references, RefersToNewer};
 
 use crate::reference::{Piece, next_piece};
 use mk_profile::Profile;
@@ -33,16 +33,10 @@ fn holds_references(piece: &Piece<'_>) -> bool
     }
 }
 
-/// Whether the text refers to `$?`, `$(?D)` or `$(?F)`, in any spelling and under any substitution. It takes no memory.
-pub fn refers_to_newer(text: &[u8]) -> bool
-    ensures { IsTrue result ↔ RefersToNewer text.now }
-{
-    refers_to_newer_in(Profile::Strict, text)
-}
-
-/// As `refers_to_newer`, in either profile. In the wide one it is looked for in the brackets of other references too.
-pub fn refers_to_newer_in(profile: Profile, text: &[u8]) -> bool
-    ensures { IsTrue result ↔ RefersToNewerIn (is_wide profile) text.now }
+/// Whether the text refers to `$?`, `$(?D)` or `$(?F)`, in any spelling and under any substitution. In the wide profile it is
+/// looked for in the brackets of other references too. It takes no memory.
+pub fn refers_to_newer(profile: Profile, text: &[u8]) -> bool
+    ensures { IsTrue result ↔ RefersToNewer (is_wide profile) text.now }
 {
     let is_wide = profile.is_wide();
     let mut rest = text;

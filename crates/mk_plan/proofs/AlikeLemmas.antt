@@ -7,7 +7,7 @@ use Rattle.std.proofs.Common.{◌≡◌, ◌∙◌, ◌⊎◌, ℕ, ℤ, Bool, t
 use Rattle.bstr.specs.Utf8.{lossy_chars}
 use Rattle.mk_graph.specs.Edges.{row}
 use Rattle.mk_graph.specs.Numbering.{all_added, name_at}
-use Rattle.mk_macros.specs.Ranks.{ranks_at, meaning_of}
+use Rattle.mk_macros.specs.Ranks.{defined_by, meanings_of}
 use Rattle.mk_macros.specs.declared.dynamic.Dynamic.TheVariants as dynamic
 use Rattle.mk_macros.specs.declared.dynamic.RecipeNames.{RecipeNames}
 use Rattle.mk_reader.specs.declared.item.RecipeLine.{RecipeLine}
@@ -38,7 +38,7 @@ pub record AreAlike (a b : Graph) : Type 0 where
   pub explicit : (n : ℕ) → explicit_of a n ≡ explicit_of b n
   pub recipe : (n : ℕ) → recipe_of a n ≡ recipe_of b n
   pub dropped : a.soft_dropped ≡ b.soft_dropped
-  pub ranks : ranks_at a.macros ≡ ranks_at b.macros
+  pub defined : defined_by a.macros ≡ defined_by b.macros
 
 turned : (a b : Graph) → AreAlike a b → AreAlike b a
 turned a b same = record {
@@ -52,7 +52,7 @@ turned a b same = record {
   explicit = λ n. sym (same.explicit n);
   recipe = λ n. sym (same.recipe n);
   dropped = sym same.dropped;
-  ranks = sym same.ranks;
+  defined = sym same.defined;
 }
 
 -- ---- what is newer, and what ends as remade
@@ -95,7 +95,7 @@ module _ (a b : Graph) (same : AreAlike a b) (marks : List Bool) (n : ℕ) where
   lines_in recipe lines are = record {
     names = are.names;
     are_names = names_in are.names are.are_names;
-    expanded = subst (λ r. AreExpanded (meaning_of r (dynamic.RecipeLine are.names)) recipe lines) same.ranks are.expanded;
+    expanded = subst (λ r. AreExpanded (meanings_of r (dynamic.RecipeLine are.names)) recipe lines) same.defined are.expanded;
   }
 
   abbrev seen_by : (is_hidden : Bool) (m : ℕ) (name : List ℕ) (stamp : Option ℤ) → Seen

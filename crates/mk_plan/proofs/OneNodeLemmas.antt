@@ -11,7 +11,7 @@ use Rattle.std.proofs.lemmas.Option.{slice_get_cases}
 use Rattle.mk_graph.specs.Edges.{row}
 use Rattle.mk_graph.specs.Numbering.{name_at}
 use Rattle.mk_graph.proofs.CycleLemmas.{closed_row}
-use Rattle.mk_macros.specs.Ranks.{ranks_at}
+use Rattle.mk_macros.specs.Ranks.{defined_by}
 use Rattle.mk_rules.specs.Graph.{IsGraph, is_numbered, judged, judged_name}
 use Rattle.mk_rules.specs.Node.{source_in, explicit_in}
 use Rattle.mk_rules.specs.Prerequisites.{Inputs, hard_of, judged_of, implicit_source, recipe_of as rule_of, explicit_names}
@@ -139,8 +139,8 @@ module _ (inputs : Inputs) (named : List (List ℕ)) (a b : Graph) (is_a : IsGra
       ⊎_elim (λ (inside : n < length a.nodes.items). hidden_inside n inside)
       (λ (past : length a.nodes.items ≤ n). no_hidden a n past ∙ sym (no_hidden b n (past_b n past))) (cases_lt n (length a.nodes.items))
 
-  pub one_graph : ranks_at a.macros ≡ ranks_at b.macros → AreAlike a b
-  one_graph ranks = record {
+  pub one_graph : defined_by a.macros ≡ defined_by b.macros → AreAlike a b
+  one_graph same = record {
     names = names;
     hard = hard;
     stamp =
@@ -164,5 +164,5 @@ module _ (inputs : Inputs) (named : List (List ℕ)) (a b : Graph) (is_a : IsGra
         (λ n. option_map (λ l. l.recipe) (option_and_then (slice_get inputs.lines) (rule_of inputs (name_at a.names n)))) None
         (λ n inside. (known_a n inside).recipe) (λ n inside. (known_b n inside).recipe) (no_recipe a) (λ n past. no_recipe b n (past_b n past));
     dropped = one_dropped inputs named a b is_a is_b;
-    ranks = ranks;
+    defined = same;
   }

@@ -10,8 +10,9 @@ use Rattle.mk_graph.specs.Edges.{row}
 use Rattle.mk_graph.specs.Numbering.{name_at}
 use Rattle.mk_macros.specs.Words.{to_directory, to_file, changed_words}
 use Rattle.mk_macros.specs.Dynamic.{whole_value, recipe_value}
-use Rattle.mk_macros.specs.Expansion.{Meaning, gives}
-use Rattle.mk_macros.specs.Ranks.{ranks_at, in_force, meaning_from}
+use Rattle.mk_profile.specs.declared.profile.Profile.{Profile}
+use Rattle.mk_macros.specs.Expansion.{Meaning, Meanings, gives}
+use Rattle.mk_macros.specs.Ranks.{Defined, defined_by, in_force, meaning_from}
 use Rattle.mk_macros.specs.declared.dynamic.RecipeNames.{RecipeNames}
 use Rattle.mk_macros.proofs.OutcomeLemmas.{expands_once}
 use Rattle.mk_reader.specs.declared.item.RecipeLine.{RecipeLine}
@@ -53,6 +54,9 @@ part_from whole part =
     else (if part == 70 then option_map (changed_words to_file) whole
     else None)
 
+abbrev in_language : Profile → (List ℕ → Meaning) → Meanings
+in_language profile meaning = record { language = profile; meaning = meaning }
+
 module _ (graph : Graph) (marks : List Bool) (n : ℕ) (a b : RecipeNames) (of_a : AreNames graph marks n a) (of_b : AreNames graph marks n b) where
   same_whole : (sign : ℕ) → whole_value a sign ≡ whole_value b sign
   same_whole sign =
@@ -68,7 +72,11 @@ module _ (graph : Graph) (marks : List Bool) (n : ℕ) (a b : RecipeNames) (of_a
   same_value (sign ∷ part ∷ c ∷ cs) = refl
 
   pub same_meaning : recipe_meaning graph a ≡ recipe_meaning graph b
-  same_meaning = fun_ext (λ name. ap (λ value. meaning_from value (in_force (ranks_at graph.macros name))) (same_value name))
+  same_meaning =
+      let given : Defined = defined_by graph.macros in
+      let each : (λ (name : List ℕ). meaning_from (recipe_value a name) (in_force (given.ranks name))) ≡ (λ (name : List ℕ). meaning_from (recipe_value b name) (in_force (given.ranks name))) =
+      fun_ext (λ name. ap (λ value. meaning_from value (in_force (given.ranks name))) (same_value name)) in
+      ap (in_language given.language) each
 
 -- ---- one list of lines
 
@@ -78,12 +86,12 @@ same_tests P false false of_a of_b = refl
 same_tests P true false of_a of_b = let yes : false ≡ true = of_b.1 (of_a.0 refl) in cc
 same_tests P false true of_a of_b = let yes : false ≡ true = of_a.1 (of_b.0 refl) in cc
 
-same_line : (raw : RecipeLine) (expansion : List ℕ) (a b : Line) → IsLine raw.text expansion a → IsLine raw.text expansion b → a ≡ b
-same_line raw expansion a b of_a of_b =
+same_line : (profile : Profile) (raw : RecipeLine) (expansion : List ℕ) (a b : Line) → IsLine profile raw.text expansion a → IsLine profile raw.text expansion b → a ≡ b
+same_line profile raw expansion a b of_a of_b =
     let text : a.text ≡ b.text = of_a.text ∙ sym of_b.text in
     let printed : a.is_printed ≡ b.is_printed = of_a.printed ∙ sym of_b.printed in
     let ignored : a.is_ignored ≡ b.is_ignored = of_a.ignored ∙ sym of_b.ignored in
-    let exempt : a.is_exempt ≡ b.is_exempt = same_tests (IsExempt raw.text expansion) a.is_exempt b.is_exempt of_a.exempt of_b.exempt in
+    let exempt : a.is_exempt ≡ b.is_exempt = same_tests (IsExempt profile raw.text expansion) a.is_exempt b.is_exempt of_a.exempt of_b.exempt in
     let first : a ≡ record a { text = b.text } = ap (λ t. record a { text = t }) text in
     let second : record a { text = b.text } ≡ record a { text = b.text; is_printed = b.is_printed } =
     ap (λ p. record a { text = b.text; is_printed = p }) printed in
@@ -94,20 +102,20 @@ same_line raw expansion a b of_a of_b =
     ap (λ x. record a { text = b.text; is_printed = b.is_printed; is_ignored = b.is_ignored; is_exempt = x }) exempt in
     first ∙ second ∙ third ∙ fourth
 
-same_expanded : (meaning : List ℕ → Meaning) (raw : RecipeLine) (a b : Line) → IsExpandedLine meaning raw a → IsExpandedLine meaning raw b → a ≡ b
-same_expanded meaning raw a b of_a of_b =
-    let given : gives of_a.expansion ≡ gives of_b.expansion = expands_once meaning of_a.expands of_b.expands in
+same_expanded : (meanings : Meanings) (raw : RecipeLine) (a b : Line) → IsExpandedLine meanings raw a → IsExpandedLine meanings raw b → a ≡ b
+same_expanded meanings raw a b of_a of_b =
+    let given : gives of_a.expansion ≡ gives of_b.expansion = expands_once meanings of_a.expands of_b.expands in
     let same : of_a.expansion ≡ of_b.expansion = cc in
-    same_line raw of_b.expansion a b (subst (λ e. IsLine raw.text e a) same of_a.is_line) of_b.is_line
+    same_line meanings.language raw of_b.expansion a b (subst (λ e. IsLine meanings.language raw.text e a) same of_a.is_line) of_b.is_line
 
-same_lines : (meaning : List ℕ → Meaning) (recipe : List RecipeLine) (a b : List Line) → AreExpanded meaning recipe a → AreExpanded meaning recipe b → a ≡ b
-same_lines meaning [] [] [] of_a of_b = refl
-same_lines meaning [] [] (y ∷ b) of_a of_b = absurd of_b
-same_lines meaning [] (x ∷ a) b of_a of_b = absurd of_a
-same_lines meaning (raw ∷ recipe) [] b of_a of_b = absurd of_a
-same_lines meaning (raw ∷ recipe) (x ∷ a) [] of_a of_b = absurd of_b
-same_lines meaning (raw ∷ recipe) (x ∷ a) (y ∷ b) of_a of_b =
-    ap (λ l. l ∷ a) (same_expanded meaning raw x y of_a.0 of_b.0) ∙ ap (λ ls. y ∷ ls) (same_lines meaning recipe a b of_a.1 of_b.1)
+same_lines : (meanings : Meanings) (recipe : List RecipeLine) (a b : List Line) → AreExpanded meanings recipe a → AreExpanded meanings recipe b → a ≡ b
+same_lines meanings [] [] [] of_a of_b = refl
+same_lines meanings [] [] (y ∷ b) of_a of_b = absurd of_b
+same_lines meanings [] (x ∷ a) b of_a of_b = absurd of_a
+same_lines meanings (raw ∷ recipe) [] b of_a of_b = absurd of_a
+same_lines meanings (raw ∷ recipe) (x ∷ a) [] of_a of_b = absurd of_b
+same_lines meanings (raw ∷ recipe) (x ∷ a) (y ∷ b) of_a of_b =
+    ap (λ l. l ∷ a) (same_expanded meanings raw x y of_a.0 of_b.0) ∙ ap (λ ls. y ∷ ls) (same_lines meanings recipe a b of_a.1 of_b.1)
 
 lines_alike : (graph : Graph) (marks : List Bool) (n : ℕ) (recipe : List RecipeLine) (a b : List Line) →
     AreLinesOf graph marks n recipe a → AreLinesOf graph marks n recipe b → a ≡ b

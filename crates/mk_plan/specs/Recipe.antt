@@ -1,7 +1,7 @@
 -- The lines of a recipe, expanded (make(1S), "Command Lines" and "Dynamic Macros").
 use Rattle.std.specs.Prelude.{◌≡◌, ◌⊎◌, ℕ, Bool, List, [], ◌∷◌, map}
-use Rattle.mk_macros.specs.Expansion.{Meaning, gives, ExpandsTo, ExpandsToFault}
-use Rattle.mk_macros.specs.Ranks.{ranks_at, meaning_of}
+use Rattle.mk_macros.specs.Expansion.{Meanings, gives, ExpandsTo, ExpandsToFault}
+use Rattle.mk_macros.specs.Ranks.{defined_by, meanings_of}
 use Rattle.mk_macros.specs.declared.dynamic.RecipeNames.{RecipeNames}
 use Rattle.mk_macros.specs.declared.dynamic.Dynamic.TheVariants as dynamic
 use Rattle.mk_macros.specs.declared.fault.MacroFault.{MacroFault}
@@ -15,28 +15,28 @@ use Rattle.mk_graph.specs.Numbering.{name_at}
 use Rattle.mk_plan.specs.Nodes.{source_of, stem_of, AreNewer}
 
 -- the line is what the unexpanded one gives, where names mean this
-pub record IsExpandedLine (meaning : List ℕ → Meaning) (raw : RecipeLine) (line : Line) : Type 0 where
+pub record IsExpandedLine (meanings : Meanings) (raw : RecipeLine) (line : Line) : Type 0 where
   pub expansion : List ℕ
-  pub expands : ExpandsTo meaning raw.text (gives expansion)
-  pub is_line : IsLine raw.text expansion line
+  pub expands : ExpandsTo meanings raw.text (gives expansion)
+  pub is_line : IsLine meanings.language raw.text expansion line
 
 -- each line is what the unexpanded one at its place gives
-abbrev pub AreExpanded : (meaning : List ℕ → Meaning) → List RecipeLine → List Line → Type 0
-AreExpanded meaning [] [] = Unit {0}
-AreExpanded meaning [] (line ∷ lines) = ⊥
-AreExpanded meaning (raw ∷ raws) [] = ⊥
-AreExpanded meaning (raw ∷ raws) (line ∷ lines) = IsExpandedLine meaning raw line × AreExpanded meaning raws lines
+abbrev pub AreExpanded : (meanings : Meanings) → List RecipeLine → List Line → Type 0
+AreExpanded meanings [] [] = Unit {0}
+AreExpanded meanings [] (line ∷ lines) = ⊥
+AreExpanded meanings (raw ∷ raws) [] = ⊥
+AreExpanded meanings (raw ∷ raws) (line ∷ lines) = IsExpandedLine meanings raw line × AreExpanded meanings raws lines
 
 -- the fault is that of the first line that has one: each line before it gives one
-abbrev pub HasFirstFault : (meaning : List ℕ → Meaning) → List RecipeLine → MacroFault → Type 0
-HasFirstFault meaning [] fault = ⊥
-HasFirstFault meaning (raw ∷ raws) fault =
-    ExpandsToFault meaning raw.text fault ⊎ ((line : Line) × IsExpandedLine meaning raw line × HasFirstFault meaning raws fault)
+abbrev pub HasFirstFault : (meanings : Meanings) → List RecipeLine → MacroFault → Type 0
+HasFirstFault meanings [] fault = ⊥
+HasFirstFault meanings (raw ∷ raws) fault =
+    ExpandsToFault meanings raw.text fault ⊎ ((line : Line) × IsExpandedLine meanings raw line × HasFirstFault meanings raws fault)
 
 -- so it is of the recipe; want of memory says nothing of its lines
-abbrev pub IsRecipeFault : (meaning : List ℕ → Meaning) → List RecipeLine → MacroFault → Type 0
-IsRecipeFault meaning recipe OutOfMemory = Unit {0}
-IsRecipeFault meaning recipe fault = HasFirstFault meaning recipe fault
+abbrev pub IsRecipeFault : (meanings : Meanings) → List RecipeLine → MacroFault → Type 0
+IsRecipeFault meanings recipe OutOfMemory = Unit {0}
+IsRecipeFault meanings recipe fault = HasFirstFault meanings recipe fault
 
 -- what the dynamic macros of node n stand for. The source and the stem are empty where no implicit rule makes it; the words of
 -- `$?` are of the source and the prerequisites by name
@@ -47,8 +47,8 @@ pub record AreNames (graph : Graph) (marks : List Bool) (n : ℕ) (names : Recip
   pub newer : AreNewer graph marks n (row graph.hard n) (map (λ word. word.now) names.newer.now)
 
 -- what a name means in a line of this recipe: recipe lines are expanded with all definitions of the makefile
-abbrev pub recipe_meaning : Graph → RecipeNames → (name : List ℕ) → Meaning
-recipe_meaning graph names = meaning_of (ranks_at graph.macros) (dynamic.RecipeLine names)
+abbrev pub recipe_meaning : Graph → RecipeNames → Meanings
+recipe_meaning graph names = meanings_of (defined_by graph.macros) (dynamic.RecipeLine names)
 
 -- the lines of the recipe of node n
 pub record AreLinesOf (graph : Graph) (marks : List Bool) (n : ℕ) (recipe : List RecipeLine) (lines : List Line) : Type 0 where

@@ -1,6 +1,6 @@
 //! The lines of a node's recipe, expanded.
 ghost use Rattle.std.specs.Prelude.{◌<◌, length, IfOk, IfErr};
-ghost use Rattle.mk_macros.specs.Ranks.{ranks_at, meaning_of};
+ghost use Rattle.mk_macros.specs.Ranks.{defined_by, meanings_of};
 ghost use Rattle.mk_macros.specs.Expansion.{ExpandsToFault};
 ghost use Rattle.mk_plan.specs.Recipe.{IsExpandedLine, AreExpanded, IsRecipeFault, AreLinesOf, IsFaultOf};
 
@@ -18,12 +18,12 @@ fn expanded_line(
     dynamic: &Dynamic<'_>,
     raw: &RecipeLine,
 ) -> Result<Line, MacroFault>
-    ensures line { IfOk result (IsExpandedLine (meaning_of (ranks_at macros.now) dynamic.now) raw.now) }
-    ensures fault { IfErr result (ExpandsToFault (meaning_of (ranks_at macros.now) dynamic.now) raw.now.text) }
+    ensures line { IfOk result (IsExpandedLine (meanings_of (defined_by macros.now) dynamic.now) raw.now) }
+    ensures fault { IfErr result (ExpandsToFault (meanings_of (defined_by macros.now) dynamic.now) raw.now.text) }
 {
     let text = raw.text.as_slice();
     let expansion = macros.expand(alloc, text, dynamic)?;
-    Ok(split_line(alloc, text, &expansion)?)
+    Ok(split_line(alloc, macros.profile(), text, &expansion)?)
 }
 
 fn expanded_lines(
@@ -32,8 +32,8 @@ fn expanded_lines(
     dynamic: &Dynamic<'_>,
     recipe: &[RecipeLine],
 ) -> Result<Vec<Line>, MacroFault>
-    ensures lines { IfOk result (λ lines. AreExpanded (meaning_of (ranks_at macros.now) dynamic.now) recipe.now lines.items) }
-    ensures fault { IfErr result (IsRecipeFault (meaning_of (ranks_at macros.now) dynamic.now) recipe.now) }
+    ensures lines { IfOk result (λ lines. AreExpanded (meanings_of (defined_by macros.now) dynamic.now) recipe.now lines.items) }
+    ensures fault { IfErr result (IsRecipeFault (meanings_of (defined_by macros.now) dynamic.now) recipe.now) }
 {
     let mut lines = Vec::with_capacity(alloc, recipe.len())?;
     for raw in recipe {

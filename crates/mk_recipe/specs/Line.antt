@@ -2,6 +2,8 @@
 use Rattle.std.specs.Prelude.{◌≡◌, ◌⊎◌, ◌↔◌, ℕ, Bool, false, not, ◌&&◌, ◌||◌, ◌==◌, IsTrue, List, [], ◌∷◌, take, drop}
 use Rattle.std.specs.List.{list_all, list_any, prefix_len}
 use Rattle.byte_strings.specs.Blanks.{is_blank}
+use Rattle.mk_profile.specs.Profile.{is_wide}
+use Rattle.mk_profile.specs.declared.profile.Profile.{Profile}
 use Rattle.mk_macros.specs.Mention.{RefersToNewer}
 use Rattle.mk_recipe.specs.declared.line.Line.{Line}
 
@@ -26,16 +28,16 @@ abbrev pub is_blank_text : List ℕ → Bool
 is_blank_text text = list_all is_blank text
 
 -- the line isn't compared with what the state has: `?` says so, or `$?` in the unexpanded line; `!` is over both
-abbrev pub IsExempt : (unexpanded expanded : List ℕ) → Type 0
-IsExempt unexpanded expanded =
-    (has 33 (front expanded) ≡ false) × (IsTrue (has 63 (front expanded)) ⊎ RefersToNewer unexpanded)
+abbrev pub IsExempt : Profile → (unexpanded expanded : List ℕ) → Type 0
+IsExempt profile unexpanded expanded =
+    (has 33 (front expanded) ≡ false) × (IsTrue (has 63 (front expanded)) ⊎ RefersToNewer (is_wide profile) unexpanded)
 
 -- the line that these texts give: `@` doesn't print it, nor is a blank line printed; `-` ignores its status
-pub record IsLine (unexpanded expanded : List ℕ) (line : Line) : Type 0 where
+pub record IsLine (profile : Profile) (unexpanded expanded : List ℕ) (line : Line) : Type 0 where
   pub text : line.text ≡ text_of expanded
   pub printed : line.is_printed ≡ (not (has 64 (front expanded)) && not (is_blank_text (text_of expanded)))
   pub ignored : line.is_ignored ≡ has 45 (front expanded)
-  pub exempt : IsTrue line.is_exempt ↔ IsExempt unexpanded expanded
+  pub exempt : IsTrue line.is_exempt ↔ IsExempt profile unexpanded expanded
 
 -- the state keeps the line's text: the line isn't exempt, and the text isn't blank
 abbrev pub IsRecorded : Line → Type 0

@@ -6,6 +6,7 @@ ghost use Rattle.mk_recipe.specs.Tests.{is_recorded};
 
 use byte_strings::{ByteString, ByteStrings, is_blank};
 use mk_macros::refers_to_newer;
+use mk_profile::Profile;
 use std::alloc::{AllocError, Global};
 
 /// A line of a recipe, expanded and without its prefixes.
@@ -51,14 +52,19 @@ fn is_blank_text(bytes: &[u8]) -> bool
     bytes.iter().all(|byte| is_blank(*byte))
 }
 
-/// The line that an unexpanded and an expanded text give: its prefixes are those of the expanded one, and a reference
-/// to `$?` in the unexpanded one exempts it too.
+/// The line that an unexpanded and an expanded text give, in this language: its prefixes are those of the expanded one, and a
+/// reference to `$?` in the unexpanded one exempts it too.
 #[tactic(auto, unfolding(crate::specs::Line::front, crate::specs::Line::text_of))]
-pub fn split_line(alloc: Global, unexpanded: &[u8], expanded: &[u8]) -> Result<Line, AllocError>
-    ensures { IfOk result (IsLine unexpanded.now expanded.now) }
+pub fn split_line(
+    alloc: Global,
+    profile: Profile,
+    unexpanded: &[u8],
+    expanded: &[u8],
+) -> Result<Line, AllocError>
+    ensures { IfOk result (IsLine profile unexpanded.now expanded.now) }
 {
     let (front, text) = expanded.split_at(front_len(expanded));
-    let is_exempt = !has(front, b'!') && (has(front, b'?') || refers_to_newer(unexpanded));
+    let is_exempt = !has(front, b'!') && (has(front, b'?') || refers_to_newer(profile, unexpanded));
     Ok(Line {
         text: ByteString::from_slice(alloc, text)?,
         is_printed: !has(front, b'@') && !is_blank_text(text),

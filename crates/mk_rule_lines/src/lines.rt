@@ -1,6 +1,6 @@
 //! The rule lines of a makefile's items.
 ghost use Rattle.std.specs.Prelude.{◌≡◌, ℕ, List, None, Some, IfOk, IfErr, OnOk};
-ghost use Rattle.mk_macros.specs.Ranks.{ranks_at, rule_meaning};
+ghost use Rattle.mk_macros.specs.Ranks.{defined_by, rule_meanings};
 ghost use Rattle.mk_rule_lines.specs.Lines.{behind, behind_items, AreWordsOf, IsRuleLine, AreRuleLines, IsTextFault, IsRuleTextFault, IsLinesFault, IsToldAs};
 ghost use Rattle.mk_macros.specs.Expansion.{gives, ExpandsTo};
 
@@ -22,8 +22,8 @@ fn macro_fault(fault: MacroFault) -> RuleFault
 
 /// What the text of a rule line expands to.
 fn expanded(alloc: Global, macros: &Macros, text: &[u8]) -> Result<Vec<u8>, RuleFault>
-    ensures expansion { IfOk result (λ v. ExpandsTo (rule_meaning (ranks_at macros.now)) text.now (gives v.items)) }
-    ensures fault { IfErr result (IsTextFault (ranks_at macros.now) text.now) }
+    ensures expansion { IfOk result (λ v. ExpandsTo (rule_meanings (defined_by macros.now)) text.now (gives v.items)) }
+    ensures fault { IfErr result (IsTextFault (defined_by macros.now) text.now) }
 {
     match macros.expand(alloc, text, &Dynamic::RuleLine) {
         Ok(expansion) => Ok(expansion),
@@ -33,8 +33,8 @@ fn expanded(alloc: Global, macros: &Macros, text: &[u8]) -> Result<Vec<u8>, Rule
 
 /// The words of what the text of a rule line expands to.
 fn words_of(alloc: Global, macros: &Macros, text: &[u8]) -> Result<LineWords, RuleFault>
-    ensures words { IfOk result (λ words. AreWordsOf (ranks_at macros.now) text.now words) }
-    ensures fault { IfErr result (IsTextFault (ranks_at macros.now) text.now) }
+    ensures words { IfOk result (λ words. AreWordsOf (defined_by macros.now) text.now words) }
+    ensures fault { IfErr result (IsTextFault (defined_by macros.now) text.now) }
 {
     Ok(LineWords::new(expanded(alloc, macros, text)?))
 }
@@ -46,8 +46,8 @@ fn rule_line(
     special: Option<SpecialName>,
     rule: Rule,
 ) -> Result<RuleLine, RuleFault>
-    ensures line { IfOk result (IsRuleLine (ranks_at macros.now) special rule) }
-    ensures fault { IfErr result (IsRuleTextFault (ranks_at macros.now) rule) }
+    ensures line { IfOk result (IsRuleLine (defined_by macros.now) special rule) }
+    ensures fault { IfErr result (IsRuleTextFault (defined_by macros.now) rule) }
 {
     let Rule {
         line,
@@ -67,7 +67,7 @@ fn rule_line(
 
 /// Takes a definition of the makefile into the macros. Without memory each name has what it had.
 fn define(alloc: Global, macros: &mut Macros, definition: &Definition) -> Result<(), AllocError>
-    ensures { OnOk result (ranks_at macros.new ≡ behind (ranks_at macros.old) definition.now) }
+    ensures { OnOk result (defined_by macros.new ≡ behind (defined_by macros.old) definition.now) }
 {
     macros.define(
         alloc,
@@ -85,9 +85,9 @@ pub fn rule_lines(
     items: Vec<Item>,
     macros: &mut Macros,
 ) -> Result<Vec<RuleLine>, RuleFault>
-    ensures lines { IfOk result (λ lines. AreRuleLines (ranks_at macros.old) items.items lines.items) }
-    ensures macros { OnOk result (ranks_at macros.new ≡ behind_items (ranks_at macros.old) items.items) }
-    ensures fault { IfErr result (IsLinesFault (ranks_at macros.old) items.items) }
+    ensures lines { IfOk result (λ lines. AreRuleLines (defined_by macros.old) items.items lines.items) }
+    ensures macros { OnOk result (defined_by macros.new ≡ behind_items (defined_by macros.old) items.items) }
+    ensures fault { IfErr result (IsLinesFault (defined_by macros.old) items.items) }
 {
     let mut lines = Vec::new(alloc);
     for item in items {

@@ -1,6 +1,6 @@
 //! A makefile's rule lines with what is made of them once.
 ghost use Rattle.std.specs.Prelude.{◌≡◌, ◌≤◌, ◌⊎◌, ℕ, List, length, true, false, IfOk, IfErr, OnOk};
-ghost use Rattle.mk_macros.specs.Ranks.{ranks_at};
+ghost use Rattle.mk_macros.specs.Ranks.{defined_by};
 ghost use Rattle.mk_rule_lines.specs.Forms.{forms_of};
 ghost use Rattle.mk_rule_lines.specs.Lines.{behind_items, AreRuleLines, IsLinesFault};
 ghost use Rattle.mk_rule_lines.specs.Rules.{suffixes_of, targets_by, recipe_places};
@@ -55,10 +55,10 @@ impl Makefile {
         items: Vec<Item>,
         macros: &mut Macros,
     ) -> Result<Makefile, RuleFault>
-        ensures lines { IfOk result (λ makefile. AreRuleLines (ranks_at macros.old) items.items makefile.lines.items) }
-        ensures macros { OnOk result (ranks_at macros.new ≡ behind_items (ranks_at macros.old) items.items) }
-        ensures fault { IfErr result (λ fault. IsLinesFault (ranks_at macros.old) items.items fault
-            ⊎ ((lines : List RuleLine) × AreRuleLines (ranks_at macros.old) items.items lines × IsTakingFault lines fault)) }
+        ensures lines { IfOk result (λ makefile. AreRuleLines (defined_by macros.old) items.items makefile.lines.items) }
+        ensures macros { OnOk result (defined_by macros.new ≡ behind_items (defined_by macros.old) items.items) }
+        ensures fault { IfErr result (λ fault. IsLinesFault (defined_by macros.old) items.items fault
+            ⊎ ((lines : List RuleLine) × AreRuleLines (defined_by macros.old) items.items lines × IsTakingFault lines fault)) }
     {
         let lines = rule_lines(alloc, items, macros)?;
         Makefile::of_lines(alloc, lines)

@@ -8,7 +8,8 @@ use Rattle.mk_rules.specs.Faults.{IsGraphFault, IsRuleFault, AreInputs}
 use Rattle.mk_rules.specs.Found.{AreFound, IsGraphlessFault}
 use Rattle.mk_rule_lines.specs.Goals.{goals_of}
 use Rattle.mk_rules.specs.Graph.{IsGraph}
-use Rattle.mk_rule_lines.specs.Lines.{Defined, AreRuleLines, IsLinesFault}
+use Rattle.mk_macros.specs.Ranks.{Defined}
+use Rattle.mk_rule_lines.specs.Lines.{AreRuleLines, IsLinesFault}
 use Rattle.mk_rules.specs.Prerequisites.{Inputs, inputs_of}
 use Rattle.mk_rule_lines.specs.Taken.{IsTakingFault}
 use Rattle.mk_rule_lines.specs.declared.fault.RuleFault.{RuleFault}
@@ -33,39 +34,39 @@ module _ (inputs : Inputs) (refuses : List ℕ → Type 0) (named : List (List �
   graphless (fault.Cycle cycle) meets = meets
   graphless _ meets = absurd meets
 
-module _ (ranks : Defined) (items : List Item) (times : (name : List ℕ) → Option ℤ) (entries : (name : List ℕ) → Option Entry)
-    (named : List (List ℕ)) (lines : List RuleLine) (are : AreRuleLines ranks items lines) where
-  are_inputs : AreInputs ranks items times entries (inputs_of lines entries times)
+module _ (given : Defined) (items : List Item) (times : (name : List ℕ) → Option ℤ) (entries : (name : List ℕ) → Option Entry)
+    (named : List (List ℕ)) (lines : List RuleLine) (are : AreRuleLines given items lines) where
+  are_inputs : AreInputs given items times entries (inputs_of lines entries times)
   are_inputs = record { lines = are; times_are = refl; entries_are = refl }
 
   module _ (n : Numbered Known) (found : AreFound (inputs_of lines entries times) (goals_of lines named) n) where
     pub built : (graph : Graph) →
         ((inputs : Inputs) (names : List (List ℕ)) → inputs.lines ≡ lines → entries ≡ inputs.entries → AreFound inputs (goals_of inputs.lines names) n → IsGraph inputs names graph) →
-        (inputs : Inputs) × AreInputs ranks items times entries inputs × IsGraph inputs named graph
+        (inputs : Inputs) × AreInputs given items times entries inputs × IsGraph inputs named graph
     built graph is = (inputs_of lines entries times, are_inputs, is (inputs_of lines entries times) named refl refl found)
 
     pub graph_refused : (refuses : List ℕ → Type 0) (limit : ℕ) (f : RuleFault) →
         ((inputs : Inputs) (names : List (List ℕ)) → inputs.lines ≡ lines → AreFound inputs (goals_of inputs.lines names) n → IsGraphlessFault inputs names f) →
-        IsRuleFault ranks items times entries refuses named limit f
+        IsRuleFault given items times entries refuses named limit f
     graph_refused refuses limit f meets =
         let inputs = inputs_of lines entries times in
-        graph_fault ranks items times entries refuses named limit inputs are_inputs f
+        graph_fault given items times entries refuses named limit inputs are_inputs f
         (graphless inputs refuses named limit f (meets inputs named refl found))
 
   module _ (refuses : List ℕ → Type 0) (limit : ℕ) (f : RuleFault) where
-    lines_refused : IsTakingFault lines f → IsRuleFault ranks items times entries refuses named limit f
+    lines_refused : IsTakingFault lines f → IsRuleFault given items times entries refuses named limit f
     lines_refused meets =
         let inputs = inputs_of lines entries times in
-        graph_fault ranks items times entries refuses named limit inputs are_inputs f (taking inputs refuses named limit f meets)
+        graph_fault given items times entries refuses named limit inputs are_inputs f (taking inputs refuses named limit f meets)
 
-    pub names_refused : IsGraphFault (inputs_of lines entries times) refuses named limit f → IsRuleFault ranks items times entries refuses named limit f
-    names_refused meets = graph_fault ranks items times entries refuses named limit (inputs_of lines entries times) are_inputs f meets
+    pub names_refused : IsGraphFault (inputs_of lines entries times) refuses named limit f → IsRuleFault given items times entries refuses named limit f
+    names_refused meets = graph_fault given items times entries refuses named limit (inputs_of lines entries times) are_inputs f meets
 
 -- a makefile is refused for a fault of its text, or of its rule lines
-pub makefile_refused : (ranks : Defined) (items : List Item) (times : (name : List ℕ) → Option ℤ)
+pub makefile_refused : (given : Defined) (items : List Item) (times : (name : List ℕ) → Option ℤ)
     (entries : (name : List ℕ) → Option Entry) (named : List (List ℕ)) (refuses : List ℕ → Type 0) (limit : ℕ) (f : RuleFault) →
-    IsLinesFault ranks items f ⊎ ((lines : List RuleLine) × AreRuleLines ranks items lines × IsTakingFault lines f) →
-    IsRuleFault ranks items times entries refuses named limit f
-makefile_refused ranks items times entries named refuses limit f (inl meets) = inl meets
-makefile_refused ranks items times entries named refuses limit f (inr meets) =
-    lines_refused ranks items times entries named meets.0 meets.1 refuses limit f meets.2
+    IsLinesFault given items f ⊎ ((lines : List RuleLine) × AreRuleLines given items lines × IsTakingFault lines f) →
+    IsRuleFault given items times entries refuses named limit f
+makefile_refused given items times entries named refuses limit f (inl meets) = inl meets
+makefile_refused given items times entries named refuses limit f (inr meets) =
+    lines_refused given items times entries named meets.0 meets.1 refuses limit f meets.2

@@ -6,7 +6,8 @@ use Rattle.st_records.specs.declared.record.Entry.{Entry}
 use Rattle.mk_rules.specs.Faults.{IsGraphFault, IsRuleFault, AreInputs, AreNames}
 use Rattle.mk_rules.specs.Found.{IsFindingFault, IsUnmadeFault}
 use Rattle.mk_rule_lines.specs.Goals.{goals_of, IsGoalFault}
-use Rattle.mk_rule_lines.specs.Lines.{Defined, IsLinesFault}
+use Rattle.mk_macros.specs.Ranks.{Defined}
+use Rattle.mk_rule_lines.specs.Lines.{IsLinesFault}
 use Rattle.mk_rules.specs.Prerequisites.{Inputs, prerequisites_of}
 use Rattle.mk_rule_lines.specs.Rules.{targets_by, suffixes_of}
 use Rattle.mk_rule_lines.specs.Supported.{IsRefusal}
@@ -64,11 +65,11 @@ module _ (inputs : Inputs) (refuses : List ℕ → Type 0) (named : List (List �
 
 -- ---- faults of the whole
 
-module _ (ranks : Defined) (items : List Item) (times : (name : List ℕ) → Option ℤ) (entries : (name : List ℕ) → Option Entry)
+module _ (given : Defined) (items : List Item) (times : (name : List ℕ) → Option ℤ) (entries : (name : List ℕ) → Option Entry)
     (refuses : List ℕ → Type 0) (named : List (List ℕ)) (limit : ℕ) where
-  pub line_fault : (f : RuleFault) → IsLinesFault ranks items f → IsRuleFault ranks items times entries refuses named limit f
+  pub line_fault : (f : RuleFault) → IsLinesFault given items f → IsRuleFault given items times entries refuses named limit f
   line_fault f meets = inl meets
 
-  pub graph_fault : (inputs : Inputs) → AreInputs ranks items times entries inputs → (f : RuleFault) → IsGraphFault inputs refuses named limit f →
-      IsRuleFault ranks items times entries refuses named limit f
+  pub graph_fault : (inputs : Inputs) → AreInputs given items times entries inputs → (f : RuleFault) → IsGraphFault inputs refuses named limit f →
+      IsRuleFault given items times entries refuses named limit f
   graph_fault inputs are f meets = inr (inputs, are, meets)

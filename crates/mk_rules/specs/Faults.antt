@@ -7,7 +7,8 @@ use Rattle.st_records.specs.declared.record.Entry.{Entry}
 use Rattle.mk_rule_lines.specs.Forms.{forms_of}
 use Rattle.mk_rule_lines.specs.Goals.{goals_of}
 use Rattle.mk_rules.specs.Graph.{AreHard}
-use Rattle.mk_rule_lines.specs.Lines.{Defined, AreRuleLines, IsLinesFault}
+use Rattle.mk_macros.specs.Ranks.{Defined}
+use Rattle.mk_rule_lines.specs.Lines.{AreRuleLines, IsLinesFault}
 use Rattle.mk_rules.specs.Prerequisites.{Inputs, IsTextAmong, own_recipes, is_target, is_there, hidden_of, prerequisites_of, is_made}
 use Rattle.mk_rule_lines.specs.Rules.{targets_by, suffixes_of}
 use Rattle.mk_rule_lines.specs.Source.{stem_of, source_at, source_of}
@@ -73,15 +74,15 @@ IsGraphFault inputs refuses named limit (fault.Unsupported what line) = HasRefus
 IsGraphFault inputs refuses named limit (fault.Tree name) = IsLookedAt inputs named name × refuses name
 
 -- the inputs that a makefile, the times of files and a state give
-pub record AreInputs (ranks : Defined) (items : List Item) (times : (name : List ℕ) → Option ℤ)
+pub record AreInputs (given : Defined) (items : List Item) (times : (name : List ℕ) → Option ℤ)
     (entries : (name : List ℕ) → Option Entry) (inputs : Inputs) : Type 0 where
-  pub lines : AreRuleLines ranks items inputs.lines
+  pub lines : AreRuleLines given items inputs.lines
   pub times_are : inputs.times ≡ times
   pub entries_are : inputs.entries ≡ entries
 
 -- the fault of a makefile, the times of files and a state: a macro's, met while the lines are expanded, or that of what they
 -- give
-abbrev pub IsRuleFault : (ranks : Defined) (items : List Item) (times : (name : List ℕ) → Option ℤ)
+abbrev pub IsRuleFault : (given : Defined) (items : List Item) (times : (name : List ℕ) → Option ℤ)
     (entries : (name : List ℕ) → Option Entry) (refuses : List ℕ → Type 0) (named : List (List ℕ)) (limit : ℕ) → RuleFault → Type 0
-IsRuleFault ranks items times entries refuses named limit f =
-    IsLinesFault ranks items f ⊎ ((inputs : Inputs) × AreInputs ranks items times entries inputs × IsGraphFault inputs refuses named limit f)
+IsRuleFault given items times entries refuses named limit f =
+    IsLinesFault given items f ⊎ ((inputs : Inputs) × AreInputs given items times entries inputs × IsGraphFault inputs refuses named limit f)

@@ -4,6 +4,7 @@ pub mod Found
 pub mod Graph
 pub mod Hidden
 pub mod Known
+pub mod Limit
 pub mod LooksLaws
 pub mod Node
 pub mod Nodes

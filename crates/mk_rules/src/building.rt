@@ -14,7 +14,7 @@ ghost use Rattle.mk_rules.specs.Assembly.{IsPutTogether};
 ghost use Rattle.mk_rules.specs.Stamps.{AgreesWith, Asks, Looks};
 ghost use Rattle.mk_rule_lines.specs.Table.{is_named, named_at};
 ghost use Rattle.mk_rules.specs.Tree.{AskedOnce};
-ghost use Rattle.mk_macros.specs.Ranks.{ranks_at};
+ghost use Rattle.mk_macros.specs.Ranks.{defined_by};
 ghost use Rattle.mk_rule_lines.specs.Lines.{behind_items};
 ghost use Rattle.mk_rules.specs.Prerequisites.{Inputs, inputs_of, is_target, prerequisites_of};
 ghost use Rattle.mk_rule_lines.specs.Goals.{goals_of};
@@ -23,7 +23,7 @@ ghost use Rattle.st_state.specs.State.{StateMap};
 ghost use Rattle.mk_rules.specs.Faults.{AreInputs, IsGraphFault, IsRuleFault};
 
 use crate::finder::Finder;
-use crate::graph::{Graph, MAX_NODES, Node};
+use crate::graph::{Graph, Node};
 use crate::known::Known;
 use crate::nodes::nodes_of;
 use crate::ordering::{Ordered, hard_edges, ordered_by};
@@ -44,23 +44,24 @@ fn found_names<T: Tree>(
     alloc: Global,
     finder: &mut Finder<T>,
     goals: &ByteStrings,
+    limit: usize,
 ) -> Result<Numbered<Known>, RuleFault>
     ensures found { IfOk result (λ n. (times : List ℕ → Option ℤ) → AgreesWith finder.new.stamps.now times
         → AreFound (inputs_of finder.old.rules.lines.now (finmap.get finder.old.rules.state.now) times) goals.now n) }
     ensures row_count { IfOk result (λ n. length n.rows ≡ length n.names) }
     ensures node_count { IfOk result (λ n. length n.nodes.items ≡ length n.names) }
     ensures closed { IfOk result (λ n. IsTrue (is_closed n.rows)) }
-    ensures few { IfOk result (λ n. length n.names ≤ MAX_NODES) }
+    ensures few { IfOk result (λ n. length n.names ≤ limit) }
     ensures goals { IfOk result (λ n. map (name_at n.names) n.goals.items ≡ goals.now) }
     ensures fault { IfErr result (λ fault. (times : List ℕ → Option ℤ) → AgreesWith finder.new.stamps.now times
         → IsFindingFault (inputs_of finder.old.rules.lines.now (finmap.get finder.old.rules.state.now) times) (T.refuses finder.new.tree.now)
-        goals.now MAX_NODES fault) }
+        goals.now limit fault) }
     ensures same { finder.new.tree.ghost_name ≡ finder.old.tree.ghost_name }
     ensures looks { Looks finder.old.stamps.now finder.new.stamps.now (T.allows finder.old.tree.now) (T.allows finder.new.tree.now)
         (T.refuses finder.old.tree.now) (T.refuses finder.new.tree.now) }
     ensures asks { Asks (is_ok result) finder.old.stamps.now finder.new.stamps.now (T.asked finder.old.tree.now) (T.asked finder.new.tree.now) }
 {
-    match number(alloc, finder, goals, MAX_NODES) {
+    match number(alloc, finder, goals, limit) {
         Ok(numbered) => Ok(numbered),
         Err(NumberingFault::OutOfMemory) => Err(RuleFault::OutOfMemory),
         Err(NumberingFault::TooMany) => Err(RuleFault::TooMany),
@@ -74,16 +75,17 @@ fn numbered_names<T: Tree>(
     rules: Rules,
     tree: &mut T,
     goals: &ByteStrings,
+    limit: usize,
 ) -> Result<Numbered<Known>, RuleFault>
     ensures found { IfOk result (λ n. (times : List ℕ → Option ℤ) → T.allows tree.new times
         → AreFound (inputs_of rules.entry.lines.now (finmap.get rules.entry.state.now) times) goals.now n) }
     ensures row_count { IfOk result (λ n. length n.rows ≡ length n.names) }
     ensures node_count { IfOk result (λ n. length n.nodes.items ≡ length n.names) }
     ensures closed { IfOk result (λ n. IsTrue (is_closed n.rows)) }
-    ensures few { IfOk result (λ n. length n.names ≤ MAX_NODES) }
+    ensures few { IfOk result (λ n. length n.names ≤ limit) }
     ensures goals { IfOk result (λ n. map (name_at n.names) n.goals.items ≡ goals.now) }
     ensures fault { IfErr result (λ fault. (times : List ℕ → Option ℤ) → T.allows tree.new times
-        → IsFindingFault (inputs_of rules.entry.lines.now (finmap.get rules.entry.state.now) times) (T.refuses tree.new) goals.now MAX_NODES fault) }
+        → IsFindingFault (inputs_of rules.entry.lines.now (finmap.get rules.entry.state.now) times) (T.refuses tree.new) goals.now limit fault) }
     ensures names { IfOk result (λ n. IsDistinct bytes_eq n.names) }
     ensures narrows { (times : List ℕ → Option ℤ) → T.allows tree.new times → T.allows tree.old times }
     ensures asked { AskedOnce (T.asked tree.old) (λ _. true) (T.asked tree.new) }
@@ -94,7 +96,7 @@ fn numbered_names<T: Tree>(
         tree,
         stamps: &mut stamps,
     };
-    found_names(alloc, &mut finder, goals)
+    found_names(alloc, &mut finder, goals, limit)
 }
 
 /// Whether something is known to make a name: a file, an implicit rule, or a line.
@@ -167,8 +169,8 @@ fn put_together(
     requires soft_closed { IsTrue (is_closed ordered.soft) }
     requires counted_closed { IsTrue (is_closed ordered.counted) }
     requires counted_ascending { (n : ℕ) → IsStrictlyIncreasing (row ordered.counted n) }
-    requires few { length numbered.names ≤ MAX_NODES }
     ensures graph { IfOk result (IsPutTogether lines.items numbered ordered state) }
+    ensures count { IfOk result (λ graph. length graph.nodes.items ≡ length numbered.names) }
     ensures macros { IfOk result (λ graph. graph.macros ≡ macros) }
 {
     let (names, goals, nodes) = named_nodes(alloc, numbered)?;
@@ -245,9 +247,9 @@ fn graph_of(
     requires row_count { length numbered.rows ≡ length numbered.names }
     requires node_count { length numbered.nodes.items ≡ length numbered.names }
     requires closed { IsTrue (is_closed numbered.rows) }
-    requires few { length numbered.names ≤ MAX_NODES }
     ensures graph { IfOk result (λ graph. (inputs : Inputs) (named : List (List ℕ)) → inputs.lines ≡ makefile.lines.items
         → finmap.get state ≡ inputs.entries → AreFound inputs (goals_of inputs.lines named) numbered → IsGraph inputs named graph) }
+    ensures count { IfOk result (λ graph. length graph.nodes.items ≡ length numbered.names) }
     ensures macros { IfOk result (λ graph. graph.macros ≡ macros) }
     ensures fault { IfErr result (λ fault. (inputs : Inputs) (named : List (List ℕ)) → inputs.lines ≡ makefile.lines.items
         → AreFound inputs (goals_of inputs.lines named) numbered → IsGraphlessFault inputs named fault) }
@@ -264,16 +266,17 @@ fn reached<T: Tree>(
     goals: ByteStrings,
     tree: &mut T,
     state: &State,
+    limit: usize,
 ) -> Result<Numbered<Known>, RuleFault>
     ensures found { IfOk result (λ n. (times : List ℕ → Option ℤ) → T.allows tree.new times
         → AreFound (inputs_of makefile.now.lines.items (finmap.get state.now) times) (goals_of makefile.now.lines.items goals) n) }
     ensures row_count { IfOk result (λ n. length n.rows ≡ length n.names) }
     ensures node_count { IfOk result (λ n. length n.nodes.items ≡ length n.names) }
     ensures closed { IfOk result (λ n. IsTrue (is_closed n.rows)) }
-    ensures few { IfOk result (λ n. length n.names ≤ MAX_NODES) }
+    ensures few { IfOk result (λ n. length n.names ≤ limit) }
     ensures names { IfOk result (λ n. IsDistinct bytes_eq n.names) }
     ensures fault { IfErr result (λ fault. (times : List ℕ → Option ℤ) → T.allows tree.new times
-        → IsGraphFault (inputs_of makefile.now.lines.items (finmap.get state.now) times) (T.refuses tree.new) goals MAX_NODES fault) }
+        → IsGraphFault (inputs_of makefile.now.lines.items (finmap.get state.now) times) (T.refuses tree.new) goals limit fault) }
     ensures narrows { (times : List ℕ → Option ℤ) → T.allows tree.new times → T.allows tree.old times }
     ensures asked { AskedOnce (T.asked tree.old) (λ _. true) (T.asked tree.new) }
 {
@@ -284,10 +287,11 @@ fn reached<T: Tree>(
         forms: &makefile.forms,
         state,
     };
-    numbered_names(alloc, rules, tree, &goals)
+    numbered_names(alloc, rules, tree, &goals, limit)
 }
 
-/// The graph of a makefile's items for these goals, or for the makefile's first target where none is named.
+/// The graph of a makefile's items for these goals, or for the makefile's first target where none is named. It holds no more
+/// names than the limit.
 ///
 /// It is the graph for any times that agree with what the tree answered. The tree is asked for a name once at most. The
 /// macros take in the definitions of the makefile, and the graph keeps the state.
@@ -298,18 +302,20 @@ pub fn build<T: Tree>(
     goals: ByteStrings,
     tree: &mut T,
     state: State,
+    limit: usize,
 ) -> Result<Graph, RuleFault>
     ensures graph { IfOk result (λ graph. (times : List ℕ → Option ℤ) → T.allows tree.new times → (inputs : Inputs)
-        × AreInputs (ranks_at macros) items.items times (finmap.get state) inputs
+        × AreInputs (defined_by macros) items.items times (finmap.get state) inputs
         × IsGraph inputs goals graph) }
-    ensures macros { IfOk result (λ graph. ranks_at graph.macros ≡ behind_items (ranks_at macros) items.items) }
+    ensures few { IfOk result (λ graph. length graph.nodes.items ≤ limit) }
+    ensures macros { IfOk result (λ graph. defined_by graph.macros ≡ behind_items (defined_by macros) items.items) }
     ensures fault { IfErr result (λ fault. (times : List ℕ → Option ℤ) → T.allows tree.new times
-        → IsRuleFault (ranks_at macros) items.items times (finmap.get state) (T.refuses tree.new) goals MAX_NODES fault) }
+        → IsRuleFault (defined_by macros) items.items times (finmap.get state) (T.refuses tree.new) goals limit fault) }
     ensures narrows { (times : List ℕ → Option ℤ) → T.allows tree.new times → T.allows tree.old times }
     ensures asked { AskedOnce (T.asked tree.old) (λ _. true) (T.asked tree.new) }
 {
     let mut macros = macros;
     let makefile = Makefile::of_items(alloc, items, &mut macros)?;
-    let numbered = reached(alloc, &makefile, goals, tree, &state)?;
+    let numbered = reached(alloc, &makefile, goals, tree, &state, limit)?;
     graph_of(alloc, makefile, macros, numbered, state)
 }

@@ -1,18 +1,14 @@
 //! The graph of a makefile's names: what each is made from, and what the state and the files say of it.
-ghost use Rattle.std.specs.Prelude.{◌≡◌, ℕ, ◌<◌, ◌≤◌, length, option_copied, slice_index, slice_get, IsTrue, IfSome};
+ghost use Rattle.std.specs.Prelude.{◌≡◌, ℕ, ◌<◌, length, option_copied, slice_index, slice_get, IsTrue, IfSome};
 ghost use Rattle.std.specs.List.Sorted.{IsStrictlyIncreasing};
 ghost use Rattle.mk_graph.specs.Edges.{row, is_closed};
 ghost use Rattle.mk_rules.specs.Node.{EachHasOneNumber, source_in, explicit_in};
-ghost use Rattle.mk_rules.specs.declared.graph.TheConstants.{MAX_NODES};
 
 use byte_strings::ByteString;
 use mk_graph::{Edges, Names};
 use mk_macros::Macros;
 use mk_rule_lines::{RuleLine, Settings};
 use st_state::State;
-
-/// How many names a graph may hold.
-pub const MAX_NODES: usize = 100_000;
 
 /// A name of the graph.
 #[derive(Drop)]
@@ -63,7 +59,6 @@ pub struct Graph {
     pub ghost soft_closed: { IsTrue (is_closed soft) },
     pub ghost counted_closed: { IsTrue (is_closed counted) },
     pub ghost counted_ascending: { (n : ℕ) → IsStrictlyIncreasing (row counted n) },
-    pub ghost few: { length nodes.items ≤ MAX_NODES },
 }
 
 impl Graph {

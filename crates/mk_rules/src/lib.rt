@@ -5,6 +5,7 @@ mod building;
 mod finder;
 mod graph;
 mod known;
+mod limit;
 mod lookup;
 mod mentioned;
 mod nodes;
@@ -18,7 +19,8 @@ mod tree;
 mod waits;
 
 pub use building::build;
-pub use graph::{Graph, MAX_NODES, Node};
+pub use graph::{Graph, Node};
+pub use limit::{MAX_NODES, MAX_WIDE_NODES, node_limit};
 pub use source::source_of;
 pub use stamps::Stamps;
 pub use tree::{Tree, TreeFault};

@@ -5,7 +5,8 @@ use byte_strings::ByteStrings;
 use mk_eval::read_makefile;
 use mk_macros::Macros;
 use mk_plan::pass;
-use mk_rules::{Graph, build};
+use mk_profile::Profile;
+use mk_rules::{Graph, MAX_NODES, build};
 use st_state::State;
 use std::alloc::Global;
 use std::test::Fail;
@@ -24,10 +25,11 @@ pub fn graph(alloc: Global, asked: &Asked, state: &State) -> Result<Graph, Fail>
     Ok(build(
         alloc,
         items,
-        Macros::new(alloc),
+        Macros::new(alloc, Profile::Strict),
         goals,
         &mut folder,
         state.copy(alloc)?,
+        MAX_NODES,
     )?)
 }
 

@@ -15,6 +15,7 @@ use bd_lists::{Advanced, Board, Clearance, Recipe};
 use byte_strings::ByteString;
 use jb_recipe::{Ran, run_recipe};
 use jb_slots::{Slot, Slots};
+use mk_profile::Profile;
 use mk_recipe::split_line;
 use st_memory::MemDisk;
 use std::alloc::Global;
@@ -83,7 +84,7 @@ fn recipe(alloc: Global, target: &[u8]) -> Result<Recipe, Fail>
     ensures { IfOk result (λ r. r.target ≡ target.now) }
 {
     let mut lines = Vec::new(alloc);
-    lines.push(split_line(alloc, b"echo x", b"echo x")?)?;
+    lines.push(split_line(alloc, Profile::Strict, b"echo x", b"echo x")?)?;
     Ok(Recipe {
         target: ByteString::from_slice(alloc, target)?,
         lines,

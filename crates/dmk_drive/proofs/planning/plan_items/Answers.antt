@@ -23,12 +23,13 @@ returns-clause-tells g c =
     let (state, found, is) = c.in_ok-graph.ensures.graph in
     let is_keeping : c.keeps_state-keeping.result ≡ keeps c.args.given.environment.now c.args.items.items =
     c.keeps_state-keeping.ensures ∙ ap (keeps c.args.given.environment.now) c.deref.ensures.value in
+    let profile = c.args.given.profile in
     let definitions = c.args.given.definitions.now in
     let environment = c.args.given.environment.now in
     let seen = g.D.Disk.seen c.args.disk.now in
-    each_ok c.listed.result (g.T.Tree.allows c.kept_graph.new.tree) (λ times. Tells definitions environment c.args.targets c.args.given.makes_all times g.D.Disk.honest seen c.args.items.items c.args.given.shows.telling c.args.given.shows.recipes)
+    each_ok c.listed.result (g.T.Tree.allows c.kept_graph.new.tree) (λ times. Tells profile definitions environment c.args.targets c.args.given.makes_all times g.D.Disk.honest seen c.args.items.items c.args.given.shows.telling c.args.given.shows.recipes)
     (λ times now.
-    told_result definitions environment c.args.targets c.args.given.makes_all times g.D.Disk.honest seen c.args.items.items c.keeps_state-keeping.result is_keeping state found
+    told_result profile definitions environment c.args.targets c.args.given.makes_all times g.D.Disk.honest seen c.args.items.items c.keeps_state-keeping.result is_keeping state found
     c.in_ok-graph.graph (is times now) c.judged_graph-judged.result c.judged_graph-judged.ensures c.counts_records-counting.result c.counts_records-counting.ensures c.args.given.shows.telling c.args.given.shows.recipes c.listed.result c.listed.ensures.listing c.listed.ensures.dropped)
 
 pub returns-clause-fault : goal.returns-clause-fault
@@ -36,11 +37,12 @@ returns-clause-fault g c =
     let (state, found, is) = c.in_ok-graph.ensures.graph in
     let is_keeping : c.keeps_state-keeping.result ≡ keeps c.args.given.environment.now c.args.items.items =
     c.keeps_state-keeping.ensures ∙ ap (keeps c.args.given.environment.now) c.deref.ensures.value in
+    let profile = c.args.given.profile in
     let definitions = c.args.given.definitions.now in
     let environment = c.args.given.environment.now in
     let seen = g.D.Disk.seen c.args.disk.now in
     let refuses = g.T.Tree.refuses c.kept_graph.new.tree in
-    each_err c.listed.result (g.T.Tree.allows c.kept_graph.new.tree) (λ times. IsPlanFault definitions environment c.args.targets c.args.given.makes_all times refuses g.D.Disk.honest seen c.args.items.items)
+    each_err c.listed.result (g.T.Tree.allows c.kept_graph.new.tree) (λ times. IsPlanFault profile definitions environment c.args.targets c.args.given.makes_all times refuses g.D.Disk.honest seen c.args.items.items)
     (λ times now.
-    recipes_result definitions environment c.args.targets c.args.given.makes_all times g.D.Disk.honest seen c.args.items.items c.keeps_state-keeping.result is_keeping state found
+    recipes_result profile definitions environment c.args.targets c.args.given.makes_all times g.D.Disk.honest seen c.args.items.items c.keeps_state-keeping.result is_keeping state found
     c.in_ok-graph.graph (is times now) c.judged_graph-judged.result c.judged_graph-judged.ensures c.counts_records-counting.result c.counts_records-counting.ensures refuses c.listed.result c.listed.ensures.fault)

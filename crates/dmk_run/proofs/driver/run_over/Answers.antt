@@ -9,6 +9,7 @@ use Rattle.dmk_run.proofs.driver.run_over.Goals as goal
 pub returns-in-Ok-planned-clause-makes : goal.returns-in-Ok-planned-clause-makes
 returns-in-Ok-planned-clause-makes g c =
     let plan = c.in-Ok-planned.plan in
+    let profile = c.args.goals.profile in
     let definitions = c.args.goals.definitions.items in
     let environment = c.args.means.now.environment.now in
     let targets = c.args.goals.targets in
@@ -16,10 +17,10 @@ returns-in-Ok-planned-clause-makes g c =
     let seen = g.D.Disk.seen c.args.disk in
     let sides = now (g.D.Disk.moments c.make.result.1) in
     each_ok c.make.result.0 (g.T.Tree.allows c.planned.new.tree)
-    (λ times s. MakesItems definitions environment targets c.args.wishes.now.makes_all times items true c.args.keeping g.D.Disk.honest seen s sides)
+    (λ times s. MakesItems profile definitions environment targets c.args.wishes.now.makes_all times items true c.args.keeping g.D.Disk.honest seen s sides)
     (λ times may.
     let (graph, is_graph, is_judged) = c.in-Ok-planned.ensures.graph times may in
-    made_items definitions environment targets c.args.wishes.now.makes_all times items true c.args.keeping g.D.Disk.honest seen sides c.in-Ok.store.state
+    made_items profile definitions environment targets c.args.wishes.now.makes_all times items true c.args.keeping g.D.Disk.honest seen sides c.in-Ok.store.state
     graph plan.graph plan.conduct.counts_records plan.conduct.keeps_state c.in-Ok.ensures.found
-    (subst (λ s. IsGraphOf definitions environment targets times items s graph) c.state-state.ensures is_graph)
+    (subst (λ s. IsGraphOf profile definitions environment targets times items s graph) c.state-state.ensures is_graph)
     is_judged c.in-Ok-planned.ensures.records c.in-Ok-planned.ensures.keeping c.make.result.0 c.make.ensures.ended)

@@ -3,4 +3,4 @@ use Rattle.mk_macros.proofs.SomeOutcomeLemmas.{outcome_some}
 use Rattle.mk_macros.proofs.laws.an_outcome.Goals as goal
 
 pub returns : goal.returns
-returns c = λ profile definitions line text. outcome_some (is_wide profile) definitions line text
+returns c = λ listed line text. outcome_some (is_wide listed.language) listed.texts line text

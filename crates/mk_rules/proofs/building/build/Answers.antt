@@ -1,9 +1,8 @@
 use Rattle.std.proofs.Common.{true, ℕ, ℤ, List, Option}
 use Rattle.std.specs.FinMap as map
-use Rattle.mk_macros.specs.Ranks.{ranks_at}
+use Rattle.mk_macros.specs.Ranks.{defined_by}
 use Rattle.mk_rule_lines.specs.declared.fault.RuleFault.{RuleFault}
 use Rattle.mk_rules.specs.Faults.{IsRuleFault}
-use Rattle.mk_rules.specs.declared.graph.TheConstants.{MAX_NODES}
 use Rattle.mk_rules.proofs.AskedLemmas.{asked_none}
 use Rattle.mk_rules.proofs.BuildLemmas.{built, graph_refused, makefile_refused, names_refused}
 use Rattle.mk_rule_lines.proofs.LineLemmas.{handed_on}
@@ -14,7 +13,7 @@ pub returns-clause-graph : goal.returns-clause-graph
 returns-clause-graph g c =
     if_ok c.graph_of.result _ _
     (λ graph is times now.
-    built (ranks_at c.args.macros) c.args.items.items times (map.get c.args.state) c.args.goals
+    built (defined_by c.args.macros) c.args.items.items times (map.get c.args.state) c.args.goals
     c.in_ok-makefile.makefile.lines.items c.in_ok-makefile.ensures.lines c.in_ok-numbered.numbered (c.in_ok-numbered.ensures.found times now) graph is)
     c.graph_of.ensures.graph
 
@@ -22,34 +21,34 @@ pub returns-clause-fault : goal.returns-clause-fault
 returns-clause-fault g c =
     if_err c.graph_of.result _ _
     (λ f meets times now.
-    graph_refused (ranks_at c.args.macros) c.args.items.items times (map.get c.args.state) c.args.goals
+    graph_refused (defined_by c.args.macros) c.args.items.items times (map.get c.args.state) c.args.goals
     c.in_ok-makefile.makefile.lines.items c.in_ok-makefile.ensures.lines c.in_ok-numbered.numbered (c.in_ok-numbered.ensures.found times now)
-    (g.T.Tree.refuses c.reached.new.tree) MAX_NODES f meets)
+    (g.T.Tree.refuses c.reached.new.tree) c.args.limit f meets)
     c.graph_of.ensures.fault
 
 pub returns-in_err-makefile-clause-fault : goal.returns-in_err-makefile-clause-fault
 returns-in_err-makefile-clause-fault g c =
-    let ranks = ranks_at c.args.macros in
+    let given = defined_by c.args.macros in
     let items = c.args.items.items in
     let entries = map.get c.args.state in
     let refuses = g.T.Tree.refuses c.args.tree.now in
     let f = c.in_err-makefile.field-0.0 in
     handed_on _
-    (λ (e : RuleFault). (times : List ℕ → Option ℤ) → g.T.Tree.allows c.args.tree.now times → IsRuleFault ranks items times entries refuses c.args.goals MAX_NODES e)
+    (λ (e : RuleFault). (times : List ℕ → Option ℤ) → g.T.Tree.allows c.args.tree.now times → IsRuleFault given items times entries refuses c.args.goals c.args.limit e)
     f (c.from_residual.ensures).1
-    (λ times now. makefile_refused ranks items times entries c.args.goals refuses MAX_NODES f c.in_err-makefile.ensures.fault)
+    (λ times now. makefile_refused given items times entries c.args.goals refuses c.args.limit f c.in_err-makefile.ensures.fault)
 
 pub returns-in_err-numbered-clause-fault : goal.returns-in_err-numbered-clause-fault
 returns-in_err-numbered-clause-fault g c =
-    let ranks = ranks_at c.args.macros in
+    let given = defined_by c.args.macros in
     let items = c.args.items.items in
     let entries = map.get c.args.state in
     let refuses = g.T.Tree.refuses c.reached.new.tree in
     let f = c.in_err-numbered.field-0.0 in
     handed_on _
-    (λ (e : RuleFault). (times : List ℕ → Option ℤ) → g.T.Tree.allows c.reached.new.tree times → IsRuleFault ranks items times entries refuses c.args.goals MAX_NODES e)
+    (λ (e : RuleFault). (times : List ℕ → Option ℤ) → g.T.Tree.allows c.reached.new.tree times → IsRuleFault given items times entries refuses c.args.goals c.args.limit e)
     f (c.from_residual-in_err-numbered.ensures).1
-    (λ times now. names_refused ranks items times entries c.args.goals c.in_ok-makefile.makefile.lines.items c.in_ok-makefile.ensures.lines refuses MAX_NODES f
+    (λ times now. names_refused given items times entries c.args.goals c.in_ok-makefile.makefile.lines.items c.in_ok-makefile.ensures.lines refuses c.args.limit f
     (c.in_err-numbered.ensures.fault times now))
 
 pub returns-in_err-makefile-clause-asked : goal.returns-in_err-makefile-clause-asked

@@ -2,7 +2,6 @@ use Rattle.std.proofs.Common.{◌<◌, ℕ, ℤ, List, Option, length, ap, subst
 use Rattle.std.specs.FinMap as map
 use Rattle.mk_graph.specs.Numbering.{IsNumbering}
 use Rattle.mk_rules.specs.Stamps.{AgreesWith}
-use Rattle.mk_rules.specs.declared.graph.TheConstants.{MAX_NODES}
 use Rattle.mk_rules.specs.declared.known.Known.{Known}
 use Rattle.mk_rules.specs.Found.{AreFound, IsFindingFault}
 use Rattle.mk_rules.specs.Known.{IsKnown, IsAllowed, IsLookUpFault}
@@ -31,7 +30,7 @@ returns-in-Err-TooMany-clause-fault g c = λ times agrees.
     let ends = c.number.new.source.rules in
     let inputs = inputs_of ends.lines.now (map.get ends.state.now) times in
     let e = c.in-Err-TooMany.ensures in
-    subst (λ (i : Inputs). (names : List (List ℕ)) → IsNumbering (prerequisites_of i) c.args.goals.now names → MAX_NODES < length names)
+    subst (λ (i : Inputs). (names : List (List ℕ)) → IsNumbering (prerequisites_of i) c.args.goals.now names → c.args.limit < length names)
     (ap (λ (r : Rules). inputs_of r.lines.now (map.get r.state.now) times) (e.follows).0)
     (too_many (IsAllowed c.number.new.source.stamps.now ends.lines.now (map.get ends.state.now)) _ _ _ _ c.in-Err-TooMany.field-0-is e.fault (prerequisites_of inputs) (record { times = times; agrees = agrees; is = refl }))
 
@@ -42,11 +41,11 @@ returns-in-Err-Source-clause-fault g c = λ times agrees.
     let e = c.in-Err-Source.ensures in
     let meets = of_source (IsAllowed c.number.new.source.stamps.now ends.lines.now (map.get ends.state.now))
     (λ name f. IsLookUpFault ends.targets.now c.number.new.source.stamps.now (g.T.Tree.refuses c.number.new.source.tree.now) ends.forms.now (own_recipes ends.lines.now name) (hidden_in (map.get ends.state.now name)) name f)
-    c.args.goals.now MAX_NODES _ c.in-Err-Source.cause c.in-Err-Source.field-0-is e.fault in
-    subst (λ (i : Inputs). IsFindingFault i (g.T.Tree.refuses c.number.new.source.tree.now) c.args.goals.now MAX_NODES c.in-Err-Source.cause)
+    c.args.goals.now c.args.limit _ c.in-Err-Source.cause c.in-Err-Source.field-0-is e.fault in
+    subst (λ (i : Inputs). IsFindingFault i (g.T.Tree.refuses c.number.new.source.tree.now) c.args.goals.now c.args.limit c.in-Err-Source.cause)
     (ap (λ (r : Rules). inputs_of r.lines.now (map.get r.state.now) times) (e.follows).0)
     (finding_fault ends.lines.now ends.targets.now ends.named ends.forms.now ends.all_forms (map.get ends.state.now) c.number.new.source.stamps.now times agrees
-    (g.T.Tree.refuses c.number.new.source.tree.now) c.args.goals.now MAX_NODES meets.0 c.in-Err-Source.cause meets.1
+    (g.T.Tree.refuses c.number.new.source.tree.now) c.args.goals.now c.args.limit meets.0 c.in-Err-Source.cause meets.1
     (λ names are. meets.2 (prerequisites_of inputs) (record { times = times; agrees = agrees; is = refl }) names are))
 
 pub returns-in-Ok-clause-asks : goal.returns-in-Ok-clause-asks

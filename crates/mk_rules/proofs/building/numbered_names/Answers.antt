@@ -3,7 +3,6 @@ use Rattle.std.specs.FinMap as map
 use Rattle.mk_rules.specs.Found.{IsFindingFault}
 use Rattle.mk_rules.specs.LooksLaws.{known_times, known_agrees}
 use Rattle.mk_rules.specs.Prerequisites.{inputs_of, prerequisites_of}
-use Rattle.mk_rules.specs.declared.graph.TheConstants.{MAX_NODES}
 use Rattle.mk_rules.specs.Tree.{AskedOnce}
 use Rattle.mk_rules.proofs.AskedLemmas.{asked_each_once}
 use Rattle.mk_rules.proofs.FoundLemmas.{all_answered}
@@ -25,7 +24,7 @@ returns-clause-fault g c =
     let ended = c.tree-1.given.1 (sym c.found_names.ensures.same) in
     if_err c.found_names.result _ _
     (λ f meets times now.
-    subst (λ t. IsFindingFault (inputs_of rules.lines.now (map.get rules.state.now) times) (g.T.Tree.refuses t) c.args.goals.now MAX_NODES f) (sym ended)
+    subst (λ t. IsFindingFault (inputs_of rules.lines.now (map.get rules.state.now) times) (g.T.Tree.refuses t) c.args.goals.now c.args.limit f) (sym ended)
     (meets times (all_answered _ _ _ _ _ _ c.found_names.ensures.looks c.new-stamps.ensures times (subst (λ t. g.T.Tree.allows t times) ended now))))
     c.found_names.ensures.fault
 

@@ -9,7 +9,6 @@ use Rattle.mk_rules.specs.Prerequisites.{inputs_of}
 use Rattle.mk_rule_lines.specs.Rules.{has, places, recipe_places, targets_by, suffixes_of}
 use Rattle.mk_rule_lines.specs.Table.{named_at}
 use Rattle.mk_rule_lines.specs.declared.fault.RuleFault.{RuleFault}
-use Rattle.mk_rules.specs.declared.graph.TheConstants.{MAX_NODES}
 use Rattle.mk_rule_lines.specs.declared.rule_line.RuleLine.{RuleLine}
 use Rattle.mk_rules.proofs.AskedLemmas.{asked_none}
 use Rattle.mk_rules.proofs.FaultLemmas.{no_goal, not_found}
@@ -38,8 +37,8 @@ returns-clause-fault g c =
     let goals_are : goals ≡ goals_of lines c.args.goals = c.in_ok-goals.ensures.goals ∙ ap (λ (ls : List RuleLine). goals_of ls c.args.goals) c.deref.ensures.value in
     if_err c.numbered_names.result _ _
     (λ f meets times now.
-    not_found (inputs_of lines entries times) refuses c.args.goals MAX_NODES goals goals_are f
-    (subst (λ (ls : List RuleLine). IsFindingFault (inputs_of ls entries times) refuses goals MAX_NODES f) c.deref-2.ensures.value (meets times now)))
+    not_found (inputs_of lines entries times) refuses c.args.goals c.args.limit goals goals_are f
+    (subst (λ (ls : List RuleLine). IsFindingFault (inputs_of ls entries times) refuses goals c.args.limit f) c.deref-2.ensures.value (meets times now)))
     c.numbered_names.ensures.fault
 
 pub returns-in_err-goals-clause-fault : goal.returns-in_err-goals-clause-fault
@@ -50,9 +49,9 @@ returns-in_err-goals-clause-fault g c =
     let f = c.in_err-goals.field-0.0 in
     handed_on _
     (λ (e : RuleFault). (times : List ℕ → Option ℤ) → g.T.Tree.allows c.args.tree.now times
-    → IsGraphFault (inputs_of lines entries times) refuses c.args.goals MAX_NODES e)
+    → IsGraphFault (inputs_of lines entries times) refuses c.args.goals c.args.limit e)
     f (c.from_residual.ensures).1
-    (λ times now. no_goal (inputs_of lines entries times) refuses c.args.goals MAX_NODES f
+    (λ times now. no_goal (inputs_of lines entries times) refuses c.args.goals c.args.limit f
     (subst (λ (ls : List RuleLine). IsGoalFault ls c.args.goals f) c.deref.ensures.value c.in_err-goals.ensures.fault))
 
 pub invariant_of-rules : goal.invariant_of-rules

@@ -14,6 +14,6 @@ returns-in_ok-from_slice-in-Some-Opened-clause-err c =
       ap (progress_at c.args.progress.now) (sym named) ∙ is_open,
       (
         c.in-Some-definition.text.now,
-        ap (λ o. meaning_from o (in_force (ranks_at c.args.self.now c.args.name.now))) none ∙ ap (meaning_from None) (sym c.in-Some-definition.ensures.text),
+        ap (λ o. meaning_from o (in_force (ranks_at c.args.self.now.texts c.args.name.now))) none ∙ ap (meaning_from None) (sym c.in-Some-definition.ensures.text),
       ),
     )

@@ -14,11 +14,11 @@ at_err (Err e) f p = f p
 pub returns-clause-ok : goal.returns-clause-ok
 returns-clause-ok c =
     rw (← c.self.view_is) (at_ok c.define_in.result
-    (defines (λ k. k.items) ranks_of c.self.inside.definitions.entries c.define_in.new.definitions.entries c.args.name.now c.define_in.ensures.others c.args.rank c.args.value.now c.args.append)
+    (defines (λ k. k.items) ranks_of c.self.inside.definitions.entries c.define_in.new.definitions.entries c.args.name.now c.define_in.ensures.others c.self.inside.profile c.args.rank c.args.value.now c.args.append)
     c.define_in.ensures.ok)
 
 pub returns-clause-err : goal.returns-clause-err
 returns-clause-err c =
     rw (← c.self.view_is) (at_err c.define_in.result
-    (keeps (λ k. k.items) ranks_of c.self.inside.definitions.entries c.define_in.new.definitions.entries c.args.name.now c.define_in.ensures.others)
+    (keeps (λ k. k.items) ranks_of c.self.inside.definitions.entries c.define_in.new.definitions.entries c.args.name.now c.define_in.ensures.others c.self.inside.profile)
     c.define_in.ensures.err)

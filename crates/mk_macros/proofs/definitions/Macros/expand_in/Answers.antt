@@ -19,7 +19,7 @@ use Rattle.mk_macros.proofs.definitions.Macros.expand_in.Goals as goal
 
 pub pieces-init : goal.pieces-init
 pieces-init c =
-    let meaning = meaning_of (ranks_at c.args.self.now) c.args.line.now in
+    let meaning = meaning_of (ranks_at c.args.self.now.texts) c.args.line.now in
     let empty = c.new-progress.ensures.empty in
     let first_state = start (is_wide c.args.profile) meaning c.args.text.now (progress_at c.new-progress.result) (λ n. ap (λ es. shown_progress (lookup (λ k. pointwise nat_eq n k.now) es)) empty) in
     rw (c.new-callers.ensures.items, c.new-made.ensures.items) first_state
@@ -32,13 +32,13 @@ returns-in_err-append_reference-in-Name-clause-fault c =
     let spelled : named c.in-Name.bytes.items ≡ reference name use_of = ap named (sym c.deref.ensures.value) ∙ sym c.named.ensures in
     let at : ahead wide (left_shown c.pieces.left) ≡ first (reference name use_of) c.in-Name.after.now = ap (λ l. ahead wide (left_shown l)) c.in-Name.is ∙ ap (λ p. first p c.in-Name.after.now) spelled in
     let p = err_from_is_err_and c.from_residual.result c.from_residual.ensures.1 in
-    rw (p.1, p.2) (reference_fault wide (meaning_of (ranks_at c.args.self.now) c.args.line.now) c.args.text.now (progress_at c.pieces.progress) (stack_of c.pieces.callers.items) c.pieces.made.items (left_shown c.pieces.left) c.pieces.invariant
+    rw (p.1, p.2) (reference_fault wide (meaning_of (ranks_at c.args.self.now.texts) c.args.line.now) c.args.text.now (progress_at c.pieces.progress) (stack_of c.pieces.callers.items) c.pieces.made.items (left_shown c.pieces.left) c.pieces.invariant
     name use_of c.in-Name.after.now at _ c.in_err-append_reference-in-Name.ensures.err)
 
 pub pieces-preserved-in-None-1 : goal.pieces-preserved-in-None-1
 pieces-preserved-in-None-1 c =
     let wide = is_wide c.args.profile in
-    let meaning = meaning_of (ranks_at c.args.self.now) c.args.line.now in
+    let meaning = meaning_of (ranks_at c.args.self.now.texts) c.args.line.now in
     let name = c.named.result.0.now in
     let use_of = shown_use c.named.result.1 in
     let spelled : named c.in-Name.bytes.items ≡ reference name use_of = ap named (sym c.deref.ensures.value) ∙ sym c.named.ensures in
@@ -50,16 +50,16 @@ pieces-preserved-in-None-1 c =
 
 pub pieces-smaller-in-Some : goal.pieces-smaller-in-Some
 pieces-smaller-in-Some c =
-    let meaning = meaning_of (ranks_at c.args.self.now) c.args.line.now in
+    let meaning = meaning_of (ranks_at c.args.self.now.texts) c.args.line.now in
     let name = c.named.result.0.now in
     let use_of = shown_use c.named.result.1 in
     let state = progress_at c.pieces.progress in
     let made = c.append_reference.new.made.items in
     let f : Finds (meaning name) (state name) use_of name c.pieces.made.items made (Some (c.in-Some.name, c.in-Some.text)) =
     subst (λ found. Finds (meaning name) (state name) use_of name c.pieces.made.items made found) c.in-Some.is c.in_ok-append_reference-in-Name.ensures.ok in
-    let has = ap (λ n. in_force (ranks_at c.args.self.now n)) f.0 ∙ defined_from (dynamic_value c.args.line.now name) (in_force (ranks_at c.args.self.now name)) c.in-Some.text.now f.1 in
+    let has = ap (λ n. in_force (ranks_at c.args.self.now.texts n)) f.0 ∙ defined_from (dynamic_value c.args.line.now name) (in_force (ranks_at c.args.self.now.texts name)) c.in-Some.text.now f.1 in
     let sets = progress-insert c.pieces.progress c.insert.new.self c.in-Some.name Opened c.in_ok-insert-in-Some.ensures.updates in
-    let unseen_falls = unseen_cost-enter state (progress_at c.insert.new.self) c.in-Some.name.now c.in-Some.text.now (ap state f.0 ∙ f.2) sets c.args.self.now has in
+    let unseen_falls = unseen_cost-enter state (progress_at c.insert.new.self) c.in-Some.name.now c.in-Some.text.now (ap state f.0 ∙ f.2) sets c.args.self.now.texts has in
     let after : callers_cost c.push.new.self.items ≡ callers_cost c.pieces.callers.items + (length c.in-Name.after.now + 1 + 1) = ap callers_cost c.in_ok-push-in-Some.ensures.items ∙ callers_cost-push c.pieces.callers.items _ in
     let before : left_cost c.pieces.left ≡ length c.in-Name.after.now + 1 = ap left_cost c.in-Name.is in
     omega (arith, unseen_falls, after, before)
@@ -67,7 +67,7 @@ pieces-smaller-in-Some c =
 pub pieces-preserved-in-Some : goal.pieces-preserved-in-Some
 pieces-preserved-in-Some c =
     let wide = is_wide c.args.profile in
-    let meaning = meaning_of (ranks_at c.args.self.now) c.args.line.now in
+    let meaning = meaning_of (ranks_at c.args.self.now.texts) c.args.line.now in
     let name = c.named.result.0.now in
     let use_of = shown_use c.named.result.1 in
     let state = progress_at c.pieces.progress in
@@ -88,7 +88,7 @@ pieces-preserved-in-Some c =
 pub returns-in_default-clause-found : goal.returns-in_default-clause-found
 returns-in_default-clause-found c =
     let wide = is_wide c.args.profile in
-    let meaning = meaning_of (ranks_at c.args.self.now) c.args.line.now in
+    let meaning = meaning_of (ranks_at c.args.self.now.texts) c.args.line.now in
     let none : c.pieces.callers.items ≡ [] = nil_from_length c.pieces.callers.items (omega (arith, c.pieces.callers.ok.0, c.in_default.ensures.cases.0)) in
     let at : ahead wide (left_shown c.pieces.left) ≡ nothing = ap (λ l. ahead wide (left_shown l)) c.in-Text.is ∙ sym c.in-None-next_piece.ensures.front in
     finish wide meaning c.args.text.now (progress_at c.pieces.progress) c.pieces.made.items (left_shown c.pieces.left)
@@ -98,7 +98,7 @@ returns-in_default-clause-found c =
 pub pieces-smaller-in_ok-insert-in-Value : goal.pieces-smaller-in_ok-insert-in-Value
 pieces-smaller-in_ok-insert-in-Value c =
     let sets = progress-insert c.pieces.progress c.insert-in-Value.new.self c.in-Value.name (Known c.pieces.made) c.in_ok-insert-in-Value.ensures.updates in
-    let unseen_falls = unseen_cost-leave (progress_at c.pieces.progress) (progress_at c.insert-in-Value.new.self) c.in-Value.name.now c.pieces.made.items sets c.args.self.now in
+    let unseen_falls = unseen_cost-leave (progress_at c.pieces.progress) (progress_at c.insert-in-Value.new.self) c.in-Value.name.now c.pieces.made.items sets c.args.self.now.texts in
     let before : callers_cost c.pieces.callers.items ≡ callers_cost c.pop.new.self.items + (left_cost c.in-Value.behind + 1) =
     ap callers_cost c.in-Some-pop.ensures.items ∙ callers_cost-push c.pop.new.self.items c.in-Some-pop.field-0 ∙ ap (λ a. callers_cost c.pop.new.self.items + awaited_cost a) c.in-Value.is in
     omega (arith, unseen_falls, before)
@@ -106,7 +106,7 @@ pieces-smaller-in_ok-insert-in-Value c =
 pub pieces-preserved-in_ok-insert-in-Value : goal.pieces-preserved-in_ok-insert-in-Value
 pieces-preserved-in_ok-insert-in-Value c =
     let wide = is_wide c.args.profile in
-    let meaning = meaning_of (ranks_at c.args.self.now) c.args.line.now in
+    let meaning = meaning_of (ranks_at c.args.self.now.texts) c.args.line.now in
     let state = progress_at c.pieces.progress in
     let before = c.in-Some-pop.field-0.made.items in
     let stack : stack_of c.pieces.callers.items ≡ record { awaited = awaited_shown (c.in-Some-pop.field-0.awaited); made = before } ∷ stack_of c.pop.new.self.items =
@@ -128,7 +128,7 @@ pieces-smaller-in-Name-awaited c =
 pub pieces-preserved-in-Name-awaited : goal.pieces-preserved-in-Name-awaited
 pieces-preserved-in-Name-awaited c =
     let wide = is_wide c.args.profile in
-    let meaning = meaning_of (ranks_at c.args.self.now) c.args.line.now in
+    let meaning = meaning_of (ranks_at c.args.self.now.texts) c.args.line.now in
     let state = progress_at c.pieces.progress in
     let before = c.in-Some-pop.field-0.made.items in
     let stack : stack_of c.pieces.callers.items ≡ record { awaited = awaited_shown (c.in-Some-pop.field-0.awaited); made = before } ∷ stack_of c.pop.new.self.items =
@@ -146,7 +146,7 @@ returns-in_err-append-in-Some-Plain-default-clause-fault c =
     let after = c.in-Some-Plain-default.after.now in
     let at : ahead wide (left_shown c.pieces.left) ≡ first (plain bytes) after = ap (λ l. ahead wide (left_shown l)) c.in-Text.is ∙ sym c.in-Some-Plain-default.ensures.front ∙ ap (λ p. first (shown_piece p) after) c.in-Some-Plain-default.field-0-0-is in
     let p = err_from_is_err_and c.from_residual-in_err-append-in-Some-Plain-default.result c.from_residual-in_err-append-in-Some-Plain-default.ensures.1 in
-    rw (p.1, p.2) (append_fault wide (meaning_of (ranks_at c.args.self.now) c.args.line.now) c.args.text.now (progress_at c.pieces.progress) (stack_of c.pieces.callers.items) c.pieces.made.items (left_shown c.pieces.left) c.pieces.invariant
+    rw (p.1, p.2) (append_fault wide (meaning_of (ranks_at c.args.self.now.texts) c.args.line.now) c.args.text.now (progress_at c.pieces.progress) (stack_of c.pieces.callers.items) c.pieces.made.items (left_shown c.pieces.left) c.pieces.invariant
     (plain bytes) after bytes at (λ all a. adds_bytes) _ c.in_err-append-in-Some-Plain-default.ensures.err)
 
 pub pieces-preserved-in-Some-Plain-default : goal.pieces-preserved-in-Some-Plain-default
@@ -156,7 +156,7 @@ pieces-preserved-in-Some-Plain-default c =
     let after = c.in-Some-Plain-default.after.now in
     let at : ahead wide (left_shown c.pieces.left) ≡ first (plain bytes) after = ap (λ l. ahead wide (left_shown l)) c.in-Text.is ∙ sym c.in-Some-Plain-default.ensures.front ∙ ap (λ p. first (shown_piece p) after) c.in-Some-Plain-default.field-0-0-is in
     let ok = c.in_ok-append-in-Some-Plain-default.ensures.ok in
-    rw ok.0 (step wide (meaning_of (ranks_at c.args.self.now) c.args.line.now) (progress_at c.pieces.progress) c.args.text.now (stack_of c.pieces.callers.items) c.pieces.made.items (left_shown c.pieces.left) c.pieces.invariant
+    rw ok.0 (step wide (meaning_of (ranks_at c.args.self.now.texts) c.args.line.now) (progress_at c.pieces.progress) c.args.text.now (stack_of c.pieces.callers.items) c.pieces.made.items (left_shown c.pieces.left) c.pieces.invariant
     (plain bytes) after bytes at (λ all a. adds_bytes) (rw ok.0 at ok.1))
 
 pub returns-in-Some-Unclosed-default-clause-fault : goal.returns-in-Some-Unclosed-default-clause-fault
@@ -164,7 +164,7 @@ returns-in-Some-Unclosed-default-clause-fault c =
     let wide = is_wide c.args.profile in
     let after = c.in-Some-Unclosed-default.field-0-1.now in
     let at : ahead wide (left_shown c.pieces.left) ≡ first unclosed after = ap (λ l. ahead wide (left_shown l)) c.in-Text.is ∙ sym c.in-Some-Unclosed-default.ensures.front ∙ ap (λ p. first (shown_piece p) after) c.in-Some-Unclosed-default.field-0-0-is in
-    piece_fault wide (meaning_of (ranks_at c.args.self.now) c.args.line.now) (progress_at c.pieces.progress) c.args.text.now (stack_of c.pieces.callers.items) c.pieces.made.items (left_shown c.pieces.left) c.pieces.invariant
+    piece_fault wide (meaning_of (ranks_at c.args.self.now.texts) c.args.line.now) (progress_at c.pieces.progress) c.args.text.now (stack_of c.pieces.callers.items) c.pieces.made.items (left_shown c.pieces.left) c.pieces.invariant
     unclosed after not_closed at is_unclosed
 
 pub returns-then-not-is_wide-clause-fault : goal.returns-then-not-is_wide-clause-fault
@@ -174,7 +174,7 @@ returns-then-not-is_wide-clause-fault c =
     let after = c.in-Some-Nested-default.after.now in
     let at : ahead wide (left_shown c.pieces.left) ≡ first (nested inner) after = ap (λ l. ahead wide (left_shown l)) c.in-Text.is ∙ sym c.in-Some-Nested-default.ensures.front ∙ ap (λ p. first (shown_piece p) after) c.in-Some-Nested-default.field-0-0-is in
     let strict : wide ≡ false = sym c.is_wide.ensures ∙ c.if-not-is_wide.true in
-    piece_fault wide (meaning_of (ranks_at c.args.self.now) c.args.line.now) (progress_at c.pieces.progress) c.args.text.now (stack_of c.pieces.callers.items) c.pieces.made.items (left_shown c.pieces.left) c.pieces.invariant
+    piece_fault wide (meaning_of (ranks_at c.args.self.now.texts) c.args.line.now) (progress_at c.pieces.progress) c.args.text.now (stack_of c.pieces.callers.items) c.pieces.made.items (left_shown c.pieces.left) c.pieces.invariant
     (nested inner) after dollar_in_brackets at (is_nested strict)
 
 pub pieces-smaller-in-Some-Nested-default : goal.pieces-smaller-in-Some-Nested-default
@@ -194,7 +194,7 @@ pieces-preserved-in-Some-Nested-default c =
     let w : wide ≡ true = sym c.is_wide.ensures ∙ c.if-not-is_wide.false in
     let stack = ap stack_of c.in_ok-push-in-Some-Nested-default.ensures.items ∙ stack_of-push c.pieces.callers.items _ in
     rw (stack, c.new-made-in-Some-Nested-default.ensures.items)
-    (enter_name wide (meaning_of (ranks_at c.args.self.now) c.args.line.now) (progress_at c.pieces.progress) c.args.text.now (stack_of c.pieces.callers.items) c.pieces.made.items (left_shown c.pieces.left) c.pieces.invariant
+    (enter_name wide (meaning_of (ranks_at c.args.self.now.texts) c.args.line.now) (progress_at c.pieces.progress) c.args.text.now (stack_of c.pieces.callers.items) c.pieces.made.items (left_shown c.pieces.left) c.pieces.invariant
     inner after w at)
 
 pub returns-in_err-append_reference-in-Some-Reference-default-clause-fault : goal.returns-in_err-append_reference-in-Some-Reference-default-clause-fault
@@ -205,13 +205,13 @@ returns-in_err-append_reference-in-Some-Reference-default-clause-fault c =
     let after = c.in-Some-Reference-default.after.now in
     let at : ahead wide (left_shown c.pieces.left) ≡ first (reference name use_of) after = ap (λ l. ahead wide (left_shown l)) c.in-Text.is ∙ sym c.in-Some-Reference-default.ensures.front ∙ ap (λ p. first (shown_piece p) after) c.in-Some-Reference-default.field-0-0-is in
     let p = err_from_is_err_and c.from_residual-in_err-append_reference-in-Some-Reference-default.result c.from_residual-in_err-append_reference-in-Some-Reference-default.ensures.1 in
-    rw (p.1, p.2) (reference_fault wide (meaning_of (ranks_at c.args.self.now) c.args.line.now) c.args.text.now (progress_at c.pieces.progress) (stack_of c.pieces.callers.items) c.pieces.made.items (left_shown c.pieces.left) c.pieces.invariant
+    rw (p.1, p.2) (reference_fault wide (meaning_of (ranks_at c.args.self.now.texts) c.args.line.now) c.args.text.now (progress_at c.pieces.progress) (stack_of c.pieces.callers.items) c.pieces.made.items (left_shown c.pieces.left) c.pieces.invariant
     name use_of after at _ c.in_err-append_reference-in-Some-Reference-default.ensures.err)
 
 pub pieces-preserved-in-None-2 : goal.pieces-preserved-in-None-2
 pieces-preserved-in-None-2 c =
     let wide = is_wide c.args.profile in
-    let meaning = meaning_of (ranks_at c.args.self.now) c.args.line.now in
+    let meaning = meaning_of (ranks_at c.args.self.now.texts) c.args.line.now in
     let name = c.in-Some-Reference-default.name.now in
     let use_of = shown_use c.in-Some-Reference-default.use_of in
     let after = c.in-Some-Reference-default.after.now in
@@ -224,16 +224,16 @@ pieces-preserved-in-None-2 c =
 
 pub pieces-smaller : goal.pieces-smaller
 pieces-smaller c =
-    let meaning = meaning_of (ranks_at c.args.self.now) c.args.line.now in
+    let meaning = meaning_of (ranks_at c.args.self.now.texts) c.args.line.now in
     let name = c.in-Some-Reference-default.name.now in
     let use_of = shown_use c.in-Some-Reference-default.use_of in
     let state = progress_at c.pieces.progress in
     let made = c.append_reference-in-Some-Reference-default.new.made.items in
     let f : Finds (meaning name) (state name) use_of name c.pieces.made.items made (Some (c.in-Some-2.name, c.in-Some-2.text)) =
     subst (λ found. Finds (meaning name) (state name) use_of name c.pieces.made.items made found) c.in-Some-2.is c.in_ok-append_reference-in-Some-Reference-default.ensures.ok in
-    let has = ap (λ n. in_force (ranks_at c.args.self.now n)) f.0 ∙ defined_from (dynamic_value c.args.line.now name) (in_force (ranks_at c.args.self.now name)) c.in-Some-2.text.now f.1 in
+    let has = ap (λ n. in_force (ranks_at c.args.self.now.texts n)) f.0 ∙ defined_from (dynamic_value c.args.line.now name) (in_force (ranks_at c.args.self.now.texts name)) c.in-Some-2.text.now f.1 in
     let sets = progress-insert c.pieces.progress c.insert-in-Some-2.new.self c.in-Some-2.name Opened c.in_ok-insert-in-Some-2.ensures.updates in
-    let unseen_falls = unseen_cost-enter state (progress_at c.insert-in-Some-2.new.self) c.in-Some-2.name.now c.in-Some-2.text.now (ap state f.0 ∙ f.2) sets c.args.self.now has in
+    let unseen_falls = unseen_cost-enter state (progress_at c.insert-in-Some-2.new.self) c.in-Some-2.name.now c.in-Some-2.text.now (ap state f.0 ∙ f.2) sets c.args.self.now.texts has in
     let after : callers_cost c.push-in-Some-2.new.self.items ≡ callers_cost c.pieces.callers.items + (length c.in-Text.rest.now + 1) = ap callers_cost c.in_ok-push-in-Some-2.ensures.items ∙ callers_cost-push c.pieces.callers.items _ in
     let before : left_cost c.pieces.left ≡ length c.in-Text.rest.now = ap left_cost c.in-Text.is in
     omega (arith, unseen_falls, after, before)
@@ -241,7 +241,7 @@ pieces-smaller c =
 pub pieces-preserved : goal.pieces-preserved
 pieces-preserved c =
     let wide = is_wide c.args.profile in
-    let meaning = meaning_of (ranks_at c.args.self.now) c.args.line.now in
+    let meaning = meaning_of (ranks_at c.args.self.now.texts) c.args.line.now in
     let name = c.in-Some-Reference-default.name.now in
     let use_of = shown_use c.in-Some-Reference-default.use_of in
     let after = c.in-Some-Reference-default.after.now in

@@ -8,8 +8,8 @@ use Rattle.mk_macros.proofs.definitions.Macros.expand_in.Given as goal
 
 abbrev pub invariant-pieces : goal.invariant-pieces
 invariant-pieces l =
-    IsExpanding (is_wide l.profile) (meaning_of (ranks_at l.self) l.line) l.fn.text (progress_at l.progress) (stack_of l.callers.items) l.made.items (left_shown l.left)
+    IsExpanding (is_wide l.profile) (meaning_of (ranks_at l.self.texts) l.line) l.fn.text (progress_at l.progress) (stack_of l.callers.items) l.made.items (left_shown l.left)
 
 abbrev pub decreases-pieces : goal.decreases-pieces
 decreases-pieces l =
-    unseen_cost (progress_at l.progress) l.self + callers_cost l.callers.items + left_cost l.left
+    unseen_cost (progress_at l.progress) l.self.texts + callers_cost l.callers.items + left_cost l.left

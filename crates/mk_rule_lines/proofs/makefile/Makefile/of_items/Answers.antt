@@ -1,6 +1,6 @@
 use Rattle.std.proofs.Common.{List, inl, inr, sym, subst}
 use Rattle.std.specs.Prelude.{◌⊎◌}
-use Rattle.mk_macros.specs.Ranks.{ranks_at}
+use Rattle.mk_macros.specs.Ranks.{defined_by}
 use Rattle.mk_rule_lines.specs.Lines.{AreRuleLines, IsLinesFault}
 use Rattle.mk_rule_lines.specs.Taken.{IsTakingFault}
 use Rattle.mk_rule_lines.specs.declared.fault.RuleFault.{RuleFault}
@@ -13,7 +13,7 @@ use Rattle.mk_rule_lines.proofs.makefile.Makefile.of_items.Goals as goal
 pub returns-clause-lines : goal.returns-clause-lines
 returns-clause-lines c =
     if_ok c.of_lines.result _ _
-    (λ (m : Makefile) is. subst (λ v. AreRuleLines (ranks_at c.args.macros.now) c.args.items.items v.items) (sym is) c.in_ok-lines.ensures.lines)
+    (λ (m : Makefile) is. subst (λ v. AreRuleLines (defined_by c.args.macros.now) c.args.items.items v.items) (sym is) c.in_ok-lines.ensures.lines)
     c.of_lines.ensures.lines
 
 pub returns-clause-fault : goal.returns-clause-fault
@@ -22,8 +22,8 @@ returns-clause-fault c =
 
 pub returns-in_err-lines-clause-fault : goal.returns-in_err-lines-clause-fault
 returns-in_err-lines-clause-fault c =
-    let ranks = ranks_at c.args.macros.now in
+    let given = defined_by c.args.macros.now in
     let items = c.args.items.items in
     handed_on _
-    (λ (f : RuleFault). IsLinesFault ranks items f ⊎ ((lines : List RuleLine) × AreRuleLines ranks items lines × IsTakingFault lines f))
+    (λ (f : RuleFault). IsLinesFault given items f ⊎ ((lines : List RuleLine) × AreRuleLines given items lines × IsTakingFault lines f))
     c.in_err-lines.field-0.0 (c.from_residual.ensures).1 (inl c.in_err-lines.ensures.fault)

@@ -3,10 +3,10 @@ use Rattle.std.proofs.lemmas.List.{take_rest}
 use Rattle.mk_profile.specs.Profile.{is_wide}
 use Rattle.mk_macros.specs.Reference.{first, front}
 use Rattle.mk_macros.specs.Shown.{shown_piece}
-use Rattle.mk_macros.specs.Mention.{RefersToNewerIn, in_front, behind, names_newer, holds_references}
+use Rattle.mk_macros.specs.Mention.{RefersToNewer, in_front, behind, names_newer, holds_references}
 use Rattle.mk_macros.proofs.MentionLemmas.{none_left, goes_on, enters, entered, clash}
-use Rattle.mk_macros.proofs.mention.refers_to_newer_in.Goals as goal
-use Rattle.mk_macros.proofs.mention.refers_to_newer_in.Goals.{else-is_wide-via-then-is_wide+else-holds_references, else-is_wide-via-else-is_wide}
+use Rattle.mk_macros.proofs.mention.refers_to_newer.Goals as goal
+use Rattle.mk_macros.proofs.mention.refers_to_newer.Goals.{else-is_wide-via-then-is_wide+else-holds_references, else-is_wide-via-else-is_wide}
 
 pub returns-then-names_newer : goal.returns-then-names_newer
 returns-then-names_newer c =
@@ -21,8 +21,8 @@ loop-piece-preserved-then-holds_references c =
     let w : wide ≡ true = sym c.is_wide-is_wide.ensures ∙ c.if-is_wide.true in
     let holds : holds_references (shown_piece c.in-Some.piece) ≡ true = sym c.holds_references.ensures ∙ c.if-holds_references.true in
     let same = take_rest text 2 in (
-      λ h. c.loop-piece.invariant.0 (enters wide text c.in-Some.after.now (shown_piece c.in-Some.piece) at w holds (subst (RefersToNewerIn wide) same h)),
-      λ h. subst (RefersToNewerIn wide) (sym same) (entered wide text c.in-Some.after.now (shown_piece c.in-Some.piece) at none w holds (c.loop-piece.invariant.1 h)),
+      λ h. c.loop-piece.invariant.0 (enters wide text c.in-Some.after.now (shown_piece c.in-Some.piece) at w holds (subst (RefersToNewer wide) same h)),
+      λ h. subst (RefersToNewer wide) (sym same) (entered wide text c.in-Some.after.now (shown_piece c.in-Some.piece) at none w holds (c.loop-piece.invariant.1 h)),
     )
 
 pub loop-piece-preserved : goal.loop-piece-preserved
