@@ -8,6 +8,7 @@ use Rattle.mk_plan.specs.declared.telling.Telling.{Telling}
 use Rattle.mk_plan.specs.declared.telling.Telling.TheVariants as tellings
 use Rattle.st_disk.specs.declared.which.Which.{Which}
 use Rattle.st_file.specs.declared.fault.OpenFault.TheVariants as open_fault
+use Rattle.dmk_drive.specs.Definitions.{first_defined}
 use Rattle.dmk_drive.specs.Faults.{IsFaultOf}
 use Rattle.dmk_drive.specs.Messages.{SaysFault, SaysCut}
 use Rattle.dmk_drive.specs.Output.{AppendsPart, CutsListing, TellsFault, question_status}
@@ -43,7 +44,7 @@ module _ (files : List ℕ → Option (List ℕ)) (times : List ℕ → Option �
     (telling : Telling) (recipes : Bool) where
   -- what is told of a run for the makefile that is found
   abbrev pub Told : DryRun → Type 0
-  Told run = (items : List Item) × AreItems files times named items
+  Told run = (items : List Item) × AreItems files times named (first_defined profile definitions environment) items
       × Tells profile definitions environment targets all times disk_honest seen items telling recipes run
 
   pub listed_plan : (old new : Option (List ℕ)) (got : Result DryRun Fault) → IfOk got Told → IsOk got → recipes ≡ true →

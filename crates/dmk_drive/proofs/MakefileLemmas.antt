@@ -1,13 +1,15 @@
 -- Which file is the makefile, and what reading its text says, in the words of its file; and so of several that are named.
 use Rattle.std.proofs.Common.{◌≡◌, ◌∙◌, inl, inr, ℕ, ℤ, Bool, true, false, not, List, [], ◌∷◌, ◌++◌, append_assoc, append-nil, Option, Some, None, is_some, option_map, Result, Ok, Err, IfErr, IsErrAnd, IfSome, IsTrue, refl, sym, ap, subst}
-use Rattle.mk_eval.specs.Makefile.{AnswersOf, InOrder, Then, TextItems, GivesItems, Outcome, depth, with_front}
+use Rattle.mk_eval.specs.Makefile.{AnswersOf, InOrder, Then, TextItems, GivesItems, Outcome, behind, depth, with_front}
+use Rattle.mk_macros.specs.Ranks.{Defined}
 use Rattle.mk_reader.specs.declared.item.Item.{Item}
 use Rattle.mk_reader.specs.declared.fault.ReadFault.{ReadFault}
 use Rattle.mk_reader.specs.declared.fault.Refusal.{Refusal}
 use Rattle.mk_reader.specs.declared.fault.ReadFault.TheVariants.{OutOfMemory, Refused}
-use Rattle.mk_eval.proofs.OutcomeLemmas.{text_one}
+use Rattle.mk_eval.proofs.BehindLemmas.{behind-append, behind_nothing}
+use Rattle.mk_eval.proofs.OutcomeLemmas.{order_one, text_one}
 use Rattle.std.proofs.lemmas.Option.{same_Some}
-use Rattle.dmk_drive.specs.Makefile.{IsUsualMakefile, NamedItems, first_name, second_name}
+use Rattle.dmk_drive.specs.Makefile.{IsUsualMakefile, LacksOne, NamedItems, AllItems, first_name, second_name}
 use Rattle.dmk_drive.specs.Planned.{AreItems}
 use Rattle.dmk_drive.specs.Faults.{IsFaultAmong, IsFaultOfOne, IsReadFault, IsTextFault}
 use Rattle.dmk_drive.specs.declared.fault.Fault.{Fault}
@@ -36,29 +38,29 @@ pub second_is : (files : List ℕ → Option (List ℕ)) (times : List ℕ → O
 second_is files times found m is none absent file read =
     inr (subst (λ o. IfSome o (λ x. x.file ≡ second_name)) is file, (none, (absent, read ∙ ap (option_map (λ (x : Makefile). x.text.items)) is)))
 
-module _ (files : List ℕ → Option (List ℕ)) (times : List ℕ → Option ℤ)
+module _ (files : List ℕ → Option (List ℕ)) (times : List ℕ → Option ℤ) (given : Defined)
     (file name text bytes : List ℕ) (is_file : name ≡ file) (is_text : bytes ≡ text) (is_makefile : IsUsualMakefile files times file text) where
   -- what the bytes give under a name is what the makefile's text gives
-  read_alike : (outcome : Outcome) → TextItems (AnswersOf files) depth name bytes outcome → TextItems (AnswersOf files) depth file text outcome
+  read_alike : (outcome : Outcome) → TextItems (AnswersOf files) depth given name bytes outcome → TextItems (AnswersOf files) depth given file text outcome
   read_alike outcome gives =
-      subst (λ f. TextItems (AnswersOf files) depth f text outcome) is_file
-      (subst (λ t. TextItems (AnswersOf files) depth name t outcome) is_text gives)
+      subst (λ f. TextItems (AnswersOf files) depth given f text outcome) is_file
+      (subst (λ t. TextItems (AnswersOf files) depth given name t outcome) is_text gives)
 
-  pub read_items : (items : List Item) → TextItems (AnswersOf files) depth name bytes (Ok items) → AreItems files times [] items
+  pub read_items : (items : List Item) → TextItems (AnswersOf files) depth given name bytes (Ok items) → AreItems files times [] given items
   read_items items gives = record { file = file; text = text; is_makefile = is_makefile; read = read_alike (Ok items) gives }
 
-  pub read_refused : (fault : ReadFault) → GivesItems (Err fault) (TextItems (AnswersOf files) depth name bytes) → IsReadFault files times [] fault
+  pub read_refused : (fault : ReadFault) → GivesItems (Err fault) (TextItems (AnswersOf files) depth given name bytes) → IsReadFault files times [] given fault
   read_refused OutOfMemory gives = tt
   read_refused (Refused refusal) gives = (file, text, is_makefile, read_alike (Err refusal) gives)
 
 -- ---- makefiles that are named
 
 -- what a text gives that the file of this name holds is what the makefile of the name gives
-module _ (files : List ℕ → Option (List ℕ)) (name text bytes : List ℕ) (holds : files name ≡ Some text) (is_text : bytes ≡ text) where
-  pub named_items : (outcome : Outcome) → TextItems (AnswersOf files) depth name bytes outcome → NamedItems files name outcome
-  named_items outcome gives = (text, holds, subst (λ t. TextItems (AnswersOf files) depth name t outcome) is_text gives)
+module _ (files : List ℕ → Option (List ℕ)) (given : Defined) (name text bytes : List ℕ) (holds : files name ≡ Some text) (is_text : bytes ≡ text) where
+  pub named_items : (outcome : Outcome) → TextItems (AnswersOf files) depth given name bytes outcome → NamedItems files given name outcome
+  named_items outcome gives = (text, holds, subst (λ t. TextItems (AnswersOf files) depth given name t outcome) is_text gives)
 
-  pub named_refused : (fault : ReadFault) → GivesItems (Err fault) (TextItems (AnswersOf files) depth name bytes) → IsFaultOfOne files name (Read fault)
+  pub named_refused : (fault : ReadFault) → GivesItems (Err fault) (TextItems (AnswersOf files) depth given name bytes) → IsFaultOfOne files given name (Read fault)
   named_refused OutOfMemory gives = tt
   named_refused (Refused refusal) gives = named_items (Err refusal) gives
 
@@ -77,45 +79,49 @@ same_items a b one other is_a is_b same = let both : Ok a ≡ Ok b = sym is_a �
 no_items : (items : List Item) (refusal : Refusal) (one other : Outcome) → one ≡ Ok items → other ≡ Err refusal → one ≡ other → ⊥
 no_items items refusal one other is_items is_fault same = let both : Ok items ≡ Err refusal = sym is_items ∙ same ∙ is_fault in cc
 
--- what things give that stand behind others
-module _ (One : List ℕ → Outcome → Type 0) (more : List (List ℕ)) (o : Outcome) (rest : InOrder One more o) where
-  pub order_behind : (before : List (List ℕ)) (items : List Item) → InOrder One before (Ok items) → InOrder One (before ++ more) (with_front items o)
-  order_behind [] items gives =
+-- what names give that stand behind others, with what these define
+module _ (One : Defined → List ℕ → Outcome → Type 0) (more : List (List ℕ)) (o : Outcome) where
+  pub order_behind : (given : Defined) (before : List (List ℕ)) (items : List Item) → InOrder behind One given before (Ok items) → InOrder behind One (behind given items) more o → InOrder behind One given (before ++ more) (with_front items o)
+  order_behind given [] items gives rest =
       let none : items ≡ [] = same_items items [] (Ok items) (Ok []) refl refl gives in
-      subst (InOrder One more) (sym (ap (λ xs. with_front xs o) none ∙ no_front o)) rest
-  order_behind (name ∷ before) items (Err refusal, is, same) = absurd (no_items items refusal (Ok items) (Err refusal) refl refl same)
-  order_behind (name ∷ before) items (Ok xs, is, (Err refusal, gives, same)) = absurd (no_items items refusal (Ok items) (Err refusal) refl refl same)
-  order_behind (name ∷ before) items (Ok xs, is, (Ok ys, gives, same)) =
+      subst (InOrder behind One given more) (sym (ap (λ xs. with_front xs o) none ∙ no_front o))
+      (subst (λ now. InOrder behind One now more o) (ap (behind given) none ∙ behind_nothing given) rest)
+  order_behind given (name ∷ before) items (Err refusal, is, same) rest = absurd (no_items items refusal (Ok items) (Err refusal) refl refl same)
+  order_behind given (name ∷ before) items (Ok xs, is, (Err refusal, gives, same)) rest = absurd (no_items items refusal (Ok items) (Err refusal) refl refl same)
+  order_behind given (name ∷ before) items (Ok xs, is, (Ok ys, gives, same)) rest =
       let parts : items ≡ xs ++ ys = same_items items (xs ++ ys) (Ok items) (Ok (xs ++ ys)) refl refl same in
-      (Ok xs, is, (with_front ys o, order_behind before ys gives, ap (λ zs. with_front zs o) parts ∙ front_behind xs ys o))
+      let later = subst (λ now. InOrder behind One now more o) (ap (behind given) parts ∙ sym (behind-append given xs ys)) rest in
+      (Ok xs, is, (with_front ys o, order_behind (behind given xs) before ys gives later, ap (λ zs. with_front zs o) parts ∙ front_behind xs ys o))
 
--- the makefiles that aren't left were read, and gave these items
-pub record AreReadSoFar (files : List ℕ → Option (List ℕ)) (names left : List (List ℕ)) (items : List Item) : Type 0 where
+-- the makefiles that aren't left were read with these definitions before them, and gave these items
+pub record AreReadSoFar (files : List ℕ → Option (List ℕ)) (given : Defined) (names left : List (List ℕ)) (items : List Item) : Type 0 where
   pub before : List (List ℕ)
   pub parts : names ≡ before ++ left
-  pub gives : InOrder (NamedItems files) before (Ok items)
+  pub gives : AllItems files given before (Ok items)
 
-module _ (files : List ℕ → Option (List ℕ)) (names : List (List ℕ)) where
-  pub none_read : (left : List (List ℕ)) (items : List Item) → left ≡ names → items ≡ [] → AreReadSoFar files names left items
+module _ (files : List ℕ → Option (List ℕ)) (given : Defined) (names : List (List ℕ)) where
+  pub none_read : (left : List (List ℕ)) (items : List Item) → left ≡ names → items ≡ [] → AreReadSoFar files given names left items
   none_read left items all none = record { before = []; parts = sym all; gives = ap Ok none }
 
-  pub one_read : (left more : List (List ℕ)) (name : List ℕ) (items front new : List Item) → left ≡ name ∷ more → AreReadSoFar files names left items →
-      NamedItems files name (Ok front) → new ≡ items ++ front → AreReadSoFar files names more new
-  one_read left more name items front new at read given is = record {
-    before = read.before ++ name ∷ [];
-    parts = read.parts ∙ ap (λ ls. read.before ++ ls) at ∙ sym (append_assoc read.before (name ∷ []) more);
-    gives = subst (λ xs. InOrder (NamedItems files) (read.before ++ name ∷ []) (Ok xs)) (sym is)
-        (order_behind (NamedItems files) (name ∷ []) (Ok front) (Ok front, given, (Ok [], refl, ap Ok (sym (append-nil front)))) read.before items read.gives);
-  }
+  pub one_read : (left more : List (List ℕ)) (name : List ℕ) (now : Defined) (items front new : List Item) → left ≡ name ∷ more → AreReadSoFar files given names left items →
+      now ≡ behind given items → NamedItems files now name (Ok front) → new ≡ items ++ front → AreReadSoFar files given names more new
+  one_read left more name now items front new at read at_now gave is =
+      let one = subst (λ g. NamedItems files g name (Ok front)) at_now gave in
+      record {
+        before = read.before ++ name ∷ [];
+        parts = read.parts ∙ ap (λ ls. read.before ++ ls) at ∙ sym (append_assoc read.before (name ∷ []) more);
+        gives = subst (λ xs. AllItems files given (read.before ++ name ∷ []) (Ok xs)) (sym is)
+            (order_behind (NamedItems files) (name ∷ []) (Ok front) given read.before items read.gives (Ok front, one, (Ok [], refl, ap Ok (sym (append-nil front)))));
+      }
 
-  pub all_read : (left : List (List ℕ)) (items : List Item) → left ≡ [] → AreReadSoFar files names left items → InOrder (NamedItems files) names (Ok items)
+  pub all_read : (left : List (List ℕ)) (items : List Item) → left ≡ [] → AreReadSoFar files given names left items → AllItems files given names (Ok items)
   all_read left items none read =
-      subst (λ ls. InOrder (NamedItems files) ls (Ok items)) (sym (read.parts ∙ ap (λ ls. read.before ++ ls) none ∙ append-nil read.before)) read.gives
+      subst (λ ls. AllItems files given ls (Ok items)) (sym (read.parts ∙ ap (λ ls. read.before ++ ls) none ∙ append-nil read.before)) read.gives
 
-  pub fault_among : (left more : List (List ℕ)) (name : List ℕ) (items : List Item) → left ≡ name ∷ more → AreReadSoFar files names left items →
-      (f : Fault) → IsFaultOfOne files name f → IsFaultAmong files names f
-  fault_among left more name items at read fault.OutOfMemory is = tt
-  fault_among left more name items at read fault.NoMakefile is = record {
+  pub fault_among : (left more : List (List ℕ)) (name : List ℕ) (now : Defined) (items : List Item) → left ≡ name ∷ more → AreReadSoFar files given names left items →
+      now ≡ behind given items → (f : Fault) → IsFaultOfOne files now name f → IsFaultAmong files given names f
+  fault_among left more name now items at read at_now fault.OutOfMemory is = tt
+  fault_among left more name now items at read at_now fault.NoMakefile is = record {
     before = read.before;
     lacking = name;
     behind = more;
@@ -124,14 +130,15 @@ module _ (files : List ℕ → Option (List ℕ)) (names : List (List ℕ)) wher
     are_items = read.gives;
     is_lacking = is;
   }
-  fault_among left more name items at read (fault.Read OutOfMemory) is = tt
-  fault_among left more name items at read (fault.Read (Refused refusal)) is =
-      subst (λ ls. InOrder (NamedItems files) ls (Err refusal)) (sym (read.parts ∙ ap (λ ls. read.before ++ ls) at))
-      (order_behind (NamedItems files) (name ∷ more) (Err refusal) (Err refusal, is, refl) read.before items read.gives)
-  fault_among left more name items at read (fault.State f) is = absurd is
-  fault_among left more name items at read (fault.Rules f) is = absurd is
-  fault_among left more name items at read (fault.Recipe f) is = absurd is
-  fault_among left more name items at read fault.Write is = absurd is
+  fault_among left more name now items at read at_now (fault.Read OutOfMemory) is = tt
+  fault_among left more name now items at read at_now (fault.Read (Refused refusal)) is =
+      subst (λ ls. AllItems files given ls (Err refusal)) (sym (read.parts ∙ ap (λ ls. read.before ++ ls) at))
+      (order_behind (NamedItems files) (name ∷ more) (Err refusal) given read.before items read.gives
+      (Err refusal, subst (λ g. NamedItems files g name (Err refusal)) at_now is, refl))
+  fault_among left more name now items at read at_now (fault.State f) is = absurd is
+  fault_among left more name now items at read at_now (fault.Rules f) is = absurd is
+  fault_among left more name now items at read at_now (fault.Recipe f) is = absurd is
+  fault_among left more name now items at read at_now fault.Write is = absurd is
 
 -- what is so of a fault is so of a result that has it
 pub handed_on : {T : Type 0} (got : Result T Fault) (P : Fault → Type 0) (f : Fault) → IsErrAnd got (λ g. g ≡ f) → P f → IfErr got P
@@ -142,13 +149,13 @@ handed_on (Err g) P f is so = subst P (sym is) so
 pub some_named : {A : Type 0} (names : List A) (none : Bool) → (names ≡ [] → IsTrue none) → none ≡ false → names ≡ [] → ⊥
 some_named names none is some empty = let both : true ≡ false = sym (is empty) ∙ some in cc
 
-module _ (files : List ℕ → Option (List ℕ)) (times : List ℕ → Option ℤ) where
-  pub items_among : (names : List (List ℕ)) (items : List Item) → (names ≡ [] → ⊥) → InOrder (NamedItems files) names (Ok items) → AreItems files times names items
+module _ (files : List ℕ → Option (List ℕ)) (times : List ℕ → Option ℤ) (given : Defined) where
+  pub items_among : (names : List (List ℕ)) (items : List Item) → (names ≡ [] → ⊥) → AllItems files given names (Ok items) → AreItems files times names given items
   items_among [] items some gives = absurd (some refl)
   items_among (name ∷ names) items some gives = gives
 
-  pub text_fault_among : (refuses : List ℕ → Type 0) (names : List (List ℕ)) (f : Fault) → (names ≡ [] → ⊥) → IsFaultAmong files names f →
-      IsTextFault files times refuses names f
+  pub text_fault_among : (refuses : List ℕ → Type 0) (names : List (List ℕ)) (f : Fault) → (names ≡ [] → ⊥) → IsFaultAmong files given names f →
+      IsTextFault files times refuses names given f
   text_fault_among refuses [] f some is = absurd (some refl)
   text_fault_among refuses (name ∷ names) fault.OutOfMemory some is = tt
   text_fault_among refuses (name ∷ names) fault.NoMakefile some is = is
@@ -177,29 +184,17 @@ makefile_once files times file other text bytes (inr (is_a, of_a)) (inl (is_b, o
 makefile_once files times file other text bytes (inr (is_a, of_a)) (inr (is_b, of_b)) =
     (is_a ∙ sym is_b, one_text (files second_name) text bytes of_a.1.1 of_b.1.1)
 
--- things that give one outcome each give one in order
-then_once : (front : Outcome) (Rest : Outcome → Type 0) → ((o p : Outcome) → Rest o → Rest p → o ≡ p) → (one other : Outcome) →
-    Then front Rest one → Then front Rest other → one ≡ other
-then_once (Err refusal) Rest h one other a b = a ∙ sym b
-then_once (Ok items) Rest h one other a b = a.2 ∙ ap (with_front items) (h a.0 b.0 a.1 b.1) ∙ sym b.2
+named_once : (files : List ℕ → Option (List ℕ)) (given : Defined) (name : List ℕ) (one other : Outcome) → NamedItems files given name one → NamedItems files given name other → one ≡ other
+named_once files given name one other (text, holds, gives) (bytes, also, gave) =
+    text_one files depth given name bytes one other
+    (subst (λ t. TextItems (AnswersOf files) depth given name t one) (one_text (files name) text bytes holds also) gives) gave
 
-order_once : (One : List ℕ → Outcome → Type 0) → ((name : List ℕ) (o p : Outcome) → One name o → One name p → o ≡ p) → (names : List (List ℕ)) (one other : Outcome) →
-    InOrder One names one → InOrder One names other → one ≡ other
-order_once One h [] one other a b = a ∙ sym b
-order_once One h (name ∷ names) one other a b =
-    then_once b.0 (InOrder One names) (order_once One h names) one other (subst (λ front. Then front (InOrder One names) one) (h name a.0 b.0 a.1 b.1) a.2) b.2
-
-named_once : (files : List ℕ → Option (List ℕ)) (name : List ℕ) (one other : Outcome) → NamedItems files name one → NamedItems files name other → one ≡ other
-named_once files name one other (text, holds, gives) (bytes, also, gave) =
-    text_one files depth name bytes one other
-    (subst (λ t. TextItems (AnswersOf files) depth name t one) (one_text (files name) text bytes holds also) gives) gave
-
-pub items_once : (files : List ℕ → Option (List ℕ)) (times : List ℕ → Option ℤ) (named : List (List ℕ)) (a b : List Item) →
-    AreItems files times named a → AreItems files times named b → a ≡ b
-items_once files times [] a b of_a of_b =
+pub items_once : (files : List ℕ → Option (List ℕ)) (times : List ℕ → Option ℤ) (named : List (List ℕ)) (given : Defined) (a b : List Item) →
+    AreItems files times named given a → AreItems files times named given b → a ≡ b
+items_once files times [] given a b of_a of_b =
     let same = makefile_once files times of_a.file of_b.file of_a.text of_b.text of_a.is_makefile of_b.is_makefile in
-    let read = read_alike files times of_b.file of_a.file of_b.text of_a.text same.0 same.1 of_b.is_makefile (Ok a) of_a.read in
-    same_items a b (Ok a) (Ok b) refl refl (text_one files depth of_b.file of_b.text (Ok a) (Ok b) read of_b.read)
-items_once files times (name ∷ names) a b of_a of_b =
+    let read = read_alike files times given of_b.file of_a.file of_b.text of_a.text same.0 same.1 of_b.is_makefile (Ok a) of_a.read in
+    same_items a b (Ok a) (Ok b) refl refl (text_one files depth given of_b.file of_b.text (Ok a) (Ok b) read of_b.read)
+items_once files times (name ∷ names) given a b of_a of_b =
     same_items a b (Ok a) (Ok b) refl refl
-    (order_once (NamedItems files) (named_once files) (name ∷ names) (Ok a) (Ok b) of_a of_b)
+    (order_one behind (NamedItems files) (named_once files) given (name ∷ names) (Ok a) (Ok b) of_a of_b)

@@ -110,5 +110,5 @@ pub plan_once : (files : List ℕ → Option (List ℕ)) (times : List ℕ → O
 plan_once files times named profile definitions environment targets all honest seen x y d e works of_x of_y =
     planned_once profile definitions environment targets all times honest works seen of_y.items x y d e
     (subst (λ items. IsPlanned profile definitions environment targets all times honest seen items x d)
-    (items_once files times named of_x.items of_y.items of_x.are_items of_y.are_items) of_x.planned)
+    (items_once files times named _ of_x.items of_y.items of_x.are_items of_y.are_items) of_x.planned)
     of_y.planned

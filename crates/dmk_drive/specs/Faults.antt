@@ -2,7 +2,8 @@
 -- that of the cases here.
 use Rattle.std.specs.Prelude.{◌≡◌, ◌||◌, ℕ, ℤ, Bool, true, List, [], ◌∷◌, Option, None, Err}
 use Rattle.std.specs.FinMap as map
-use Rattle.mk_eval.specs.Makefile.{AnswersOf, InOrder, TextItems, depth}
+use Rattle.mk_eval.specs.Makefile.{AnswersOf, TextItems, depth}
+use Rattle.mk_macros.specs.Ranks.{Defined}
 use Rattle.mk_reader.specs.declared.item.Item.{Item}
 use Rattle.mk_reader.specs.declared.fault.ReadFault.{ReadFault}
 use Rattle.mk_reader.specs.declared.fault.ReadFault.TheVariants as read_fault
@@ -18,7 +19,7 @@ use Rattle.st_state.specs.State.{StateMap}
 use Rattle.st_recovery.specs.Recovers.{RefusesWith}
 use Rattle.dmk_drive.specs.Definitions.{first_defined}
 use Rattle.dmk_drive.specs.Keeping.{keeps}
-use Rattle.dmk_drive.specs.Makefile.{IsUsualMakefile, HasNoMakefile, LacksOne, NamedItems}
+use Rattle.dmk_drive.specs.Makefile.{IsUsualMakefile, HasNoMakefile, LacksOne, NamedItems, AllItems}
 use Rattle.dmk_drive.specs.Passing.{IsListingFault}
 use Rattle.dmk_drive.specs.Planned.{AreItems, IsStateOn, IsGraphOf, judged_graph}
 use Rattle.dmk_drive.specs.declared.fault.Fault.{Fault}
@@ -27,28 +28,28 @@ use Rattle.bd_lists.specs.declared.recipe.Variable.{Variable}
 
 -- the makefiles have a first line that is refused: the usual one, where none is named, or one of those that are, with all before
 -- it read; want of memory says nothing of it
-abbrev pub IsReadFault : (files : List ℕ → Option (List ℕ)) (times : List ℕ → Option ℤ) (named : List (List ℕ)) →
+abbrev pub IsReadFault : (files : List ℕ → Option (List ℕ)) (times : List ℕ → Option ℤ) (named : List (List ℕ)) → Defined →
     ReadFault → Type 0
-IsReadFault files times named read_fault.OutOfMemory = Unit {0}
-IsReadFault files times [] (read_fault.Refused refusal) =
-    (file : List ℕ) × (text : List ℕ) × IsUsualMakefile files times file text × TextItems (AnswersOf files) depth file text (Err refusal)
-IsReadFault files times (name ∷ names) (read_fault.Refused refusal) = InOrder (NamedItems files) (name ∷ names) (Err refusal)
+IsReadFault files times named given read_fault.OutOfMemory = Unit {0}
+IsReadFault files times [] given (read_fault.Refused refusal) =
+    (file : List ℕ) × (text : List ℕ) × IsUsualMakefile files times file text × TextItems (AnswersOf files) depth given file text (Err refusal)
+IsReadFault files times (name ∷ names) given (read_fault.Refused refusal) = AllItems files given (name ∷ names) (Err refusal)
 
 -- the fault of the makefile of this name
-abbrev pub IsFaultOfOne : (files : List ℕ → Option (List ℕ)) (name : List ℕ) → Fault → Type 0
-IsFaultOfOne files name fault.OutOfMemory = Unit {0}
-IsFaultOfOne files name fault.NoMakefile = files name ≡ None
-IsFaultOfOne files name (fault.Read read_fault.OutOfMemory) = Unit {0}
-IsFaultOfOne files name (fault.Read (read_fault.Refused refusal)) = NamedItems files name (Err refusal)
-IsFaultOfOne files name _ = ⊥
+abbrev pub IsFaultOfOne : (files : List ℕ → Option (List ℕ)) → Defined → (name : List ℕ) → Fault → Type 0
+IsFaultOfOne files given name fault.OutOfMemory = Unit {0}
+IsFaultOfOne files given name fault.NoMakefile = files name ≡ None
+IsFaultOfOne files given name (fault.Read read_fault.OutOfMemory) = Unit {0}
+IsFaultOfOne files given name (fault.Read (read_fault.Refused refusal)) = NamedItems files given name (Err refusal)
+IsFaultOfOne files given name _ = ⊥
 
 -- the first fault of the makefiles of these names
-abbrev pub IsFaultAmong : (files : List ℕ → Option (List ℕ)) (names : List (List ℕ)) → Fault → Type 0
-IsFaultAmong files names fault.OutOfMemory = Unit {0}
-IsFaultAmong files names fault.NoMakefile = LacksOne files names
-IsFaultAmong files names (fault.Read read_fault.OutOfMemory) = Unit {0}
-IsFaultAmong files names (fault.Read (read_fault.Refused refusal)) = InOrder (NamedItems files) names (Err refusal)
-IsFaultAmong files names _ = ⊥
+abbrev pub IsFaultAmong : (files : List ℕ → Option (List ℕ)) → Defined → (names : List (List ℕ)) → Fault → Type 0
+IsFaultAmong files given names fault.OutOfMemory = Unit {0}
+IsFaultAmong files given names fault.NoMakefile = LacksOne files given names
+IsFaultAmong files given names (fault.Read read_fault.OutOfMemory) = Unit {0}
+IsFaultAmong files given names (fault.Read (read_fault.Refused refusal)) = AllItems files given names (Err refusal)
+IsFaultAmong files given names _ = ⊥
 
 -- the fault of the two sides; a device and want of memory say nothing of their bytes
 abbrev pub IsOpenFault : (seen : Which → List ℕ) → OpenFault → Type 0
@@ -58,11 +59,11 @@ IsOpenFault seen f = RefusesWith (seen sides.A) (seen sides.B) f
 
 -- the fault that looking for the makefile and reading it gives
 abbrev pub IsTextFault : (files : List ℕ → Option (List ℕ)) (times : List ℕ → Option ℤ)
-    (refuses : List ℕ → Type 0) (named : List (List ℕ)) → Fault → Type 0
-IsTextFault files times refuses named fault.OutOfMemory = Unit {0}
-IsTextFault files times refuses named fault.NoMakefile = HasNoMakefile files times refuses named
-IsTextFault files times refuses named (fault.Read f) = IsReadFault files times named f
-IsTextFault files times refuses named _ = ⊥
+    (refuses : List ℕ → Type 0) (named : List (List ℕ)) → Defined → Fault → Type 0
+IsTextFault files times refuses named given fault.OutOfMemory = Unit {0}
+IsTextFault files times refuses named given fault.NoMakefile = HasNoMakefile files times refuses named given
+IsTextFault files times refuses named given (fault.Read f) = IsReadFault files times named given f
+IsTextFault files times refuses named given _ = ⊥
 
 -- the fault of a plan for items that were read
 abbrev pub IsPlanFault : (profile : Profile) (definitions environment : List Variable) (targets : List (List ℕ)) (all : Bool) (times : List ℕ → Option ℤ)
@@ -94,5 +95,6 @@ abbrev pub IsFaultOf : (files : List ℕ → Option (List ℕ)) (times : List �
     (profile : Profile) (definitions environment : List Variable) (targets : List (List ℕ)) (all : Bool) (refuses : List ℕ → Type 0) (disk_honest : Type 0)
     (seen : Which → List ℕ) → Fault → Type 0
 IsFaultOf files times named profile definitions environment targets all refuses disk_honest seen =
-    IsRunFault (IsTextFault files times refuses named) (AreItems files times named)
+    IsRunFault (IsTextFault files times refuses named (first_defined profile definitions environment))
+    (AreItems files times named (first_defined profile definitions environment))
     (IsPlanFault profile definitions environment targets all times refuses disk_honest seen)

@@ -2,8 +2,8 @@
 use Rattle.std.specs.Prelude.{◌≡◌, ◌||◌, ℕ, ℤ, Bool, true, false, List, [], ◌∷◌, Option, Ok}
 use Rattle.std.specs.FinMap as map
 use Rattle.mk_profile.specs.declared.profile.Profile.{Profile}
-use Rattle.mk_macros.specs.Ranks.{defined_by}
-use Rattle.mk_eval.specs.Makefile.{AnswersOf, InOrder, TextItems, depth}
+use Rattle.mk_macros.specs.Ranks.{Defined, defined_by}
+use Rattle.mk_eval.specs.Makefile.{AnswersOf, TextItems, depth}
 use Rattle.mk_reader.specs.declared.item.Item.{Item}
 use Rattle.mk_plan.specs.Passage.{Passage}
 use Rattle.mk_plan.specs.declared.telling.Telling.{Telling}
@@ -18,7 +18,7 @@ use Rattle.st_state.specs.State.{StateMap}
 use Rattle.st_recovery.specs.Recovers.{Recovers}
 use Rattle.dmk_drive.specs.Definitions.{first_defined}
 use Rattle.dmk_drive.specs.Keeping.{keeps}
-use Rattle.dmk_drive.specs.Makefile.{IsUsualMakefile, NamedItems}
+use Rattle.dmk_drive.specs.Makefile.{IsUsualMakefile, AllItems}
 use Rattle.dmk_drive.specs.Passing.{IsListing, listing_text, lists_any}
 use Rattle.dmk_drive.specs.declared.planning.DryRun.{DryRun}
 use Rattle.bd_lists.specs.declared.recipe.Variable.{Variable}
@@ -33,17 +33,18 @@ abbrev pub IsStateOn : (keeping : Bool) (disk_honest : Type 0) (seen : Which →
 IsStateOn true disk_honest seen m = disk_honest → IsStateOf true seen m
 IsStateOn false disk_honest seen m = IsStateOf false seen m
 
--- the items are those of the makefile where none is named, by what the files hold and whether there is a file of a name
-pub record AreUsualItems (files : List ℕ → Option (List ℕ)) (times : List ℕ → Option ℤ) (items : List Item) : Type 0 where
+-- the items are those of the makefile where none is named, by what the files hold and whether there is a file of a name, in
+-- its language and with what is defined before it
+pub record AreUsualItems (files : List ℕ → Option (List ℕ)) (times : List ℕ → Option ℤ) (given : Defined) (items : List Item) : Type 0 where
   pub file : List ℕ
   pub text : List ℕ
   pub is_makefile : IsUsualMakefile files times file text
-  pub read : TextItems (AnswersOf files) depth file text (Ok items)
+  pub read : TextItems (AnswersOf files) depth given file text (Ok items)
 
 -- the items are those of the makefiles that are named, one behind the other, or else of the usual one
-abbrev pub AreItems : (files : List ℕ → Option (List ℕ)) (times : List ℕ → Option ℤ) (named : List (List ℕ)) → (items : List Item) → Type 0
-AreItems files times [] items = AreUsualItems files times items
-AreItems files times (name ∷ names) items = InOrder (NamedItems files) (name ∷ names) (Ok items)
+abbrev pub AreItems : (files : List ℕ → Option (List ℕ)) (times : List ℕ → Option ℤ) (named : List (List ℕ)) → Defined → (items : List Item) → Type 0
+AreItems files times [] given items = AreUsualItems files times given items
+AreItems files times (name ∷ names) given items = AllItems files given (name ∷ names) (Ok items)
 
 -- the graph of these items for the targets that are named, with this state, in the language of the profile
 pub record IsGraphOf (profile : Profile) (definitions environment : List Variable) (targets : List (List ℕ)) (times : List ℕ → Option ℤ)
@@ -84,5 +85,5 @@ pub record Tells (profile : Profile) (definitions environment : List Variable) (
 pub record Plans (files : List ℕ → Option (List ℕ)) (times : List ℕ → Option ℤ) (named : List (List ℕ))
     (profile : Profile) (definitions environment : List Variable) (targets : List (List ℕ)) (all : Bool) (disk_honest : Type 0) (seen : Which → List ℕ) (plan : List Passage) (dropped : Bool) : Type 0 where
   pub items : List Item
-  pub are_items : AreItems files times named items
+  pub are_items : AreItems files times named (first_defined profile definitions environment) items
   pub planned : IsPlanned profile definitions environment targets all times disk_honest seen items plan dropped

@@ -27,8 +27,8 @@ pub fn one_reading_of_the_settings()
 
 /// By the same files and times there are the same makefiles, with one list of items.
 pub fn one_makefile()
-    ensures { (files : List ℕ → Option (List ℕ)) (times : List ℕ → Option ℤ) (named : List (List ℕ)) (a b : List Item)
-        → AreItems files times named a → AreItems files times named b → a ≡ b }
+    ensures { (files : List ℕ → Option (List ℕ)) (times : List ℕ → Option ℤ) (named : List (List ℕ)) (given : Defined) (a b : List Item)
+        → AreItems files times named given a → AreItems files times named given b → a ≡ b }
 {}
 
 /// A plan passes each node of its graph just once, behind all that it counts.

@@ -1,14 +1,20 @@
 //! The makefiles: which files they are, and their items.
 ghost use Rattle.std.specs.Prelude.{◌≡◌, ℕ, ℤ, List, Option, None, [], Ok, IfOk, IfErr, IfSome, IsTrue, option_map, false};
-ghost use Rattle.mk_eval.specs.Makefile.{InOrder};
-ghost use Rattle.dmk_drive.specs.Makefile.{MayBeThere, IsUsualMakefile, NamedItems};
+ghost use Rattle.mk_macros.specs.Ranks.{Defined, defined_by};
+ghost use Rattle.mk_eval.specs.Makefile.{behind};
+ghost use Rattle.dmk_drive.specs.Definitions.{first_defined};
+ghost use Rattle.dmk_drive.specs.Makefile.{MayBeThere, IsUsualMakefile, NamedItems, AllItems};
 ghost use Rattle.dmk_drive.specs.Planned.{AreItems};
 ghost use Rattle.dmk_drive.specs.Faults.{IsTextFault, IsFaultOfOne, IsFaultAmong};
 ghost use Rattle.dmk_drive.specs.declared.fault.Fault.TheVariants.{OutOfMemory, NoMakefile};
 
+use crate::definitions::first_macros;
 use crate::fault::Fault;
+use bd_lists::Variable;
 use byte_strings::{ByteString, ByteStrings};
 use mk_eval::{Includes, read_makefile};
+use mk_macros::Macros;
+use mk_profile::Profile;
 use mk_reader::Item;
 use mk_rules::{Tree, TreeFault};
 use std::alloc::Global;
@@ -69,8 +75,8 @@ fn usual_makefile<T: Tree, I: Includes>(
 ) -> Result<Makefile, Fault>
     ensures makefile { IfOk result (λ m. (files : List ℕ → Option (List ℕ)) (times : List ℕ → Option ℤ) → I.allows includes.new files → T.allows tree.new times
         → IsUsualMakefile files times m.file m.text.items) }
-    ensures fault { IfErr result (λ fault. (files : List ℕ → Option (List ℕ)) (times : List ℕ → Option ℤ) → I.allows includes.new files → T.allows tree.new times
-        → IsTextFault files times (T.refuses tree.new) [] fault) }
+    ensures fault { IfErr result (λ fault. (files : List ℕ → Option (List ℕ)) (times : List ℕ → Option ℤ) (given : Defined) → I.allows includes.new files → T.allows tree.new times
+        → IsTextFault files times (T.refuses tree.new) [] given fault) }
     ensures files { (files : List ℕ → Option (List ℕ)) → I.allows includes.new files → I.allows includes.old files }
     ensures times { (times : List ℕ → Option ℤ) → T.allows tree.new times → T.allows tree.old times }
     ensures kept { (n : List ℕ) → T.refuses tree.old n → T.refuses tree.new n }
@@ -90,19 +96,20 @@ fn usual_makefile<T: Tree, I: Includes>(
 /// The items of the makefile where none is named.
 fn usual_items<T: Tree, I: Includes>(
     alloc: Global,
+    macros: &mut Macros,
     tree: &mut T,
     includes: &mut I,
 ) -> Result<Vec<Item>, Fault>
     ensures items { IfOk result (λ items. (files : List ℕ → Option (List ℕ)) (times : List ℕ → Option ℤ) → I.allows includes.new files → T.allows tree.new times
-        → AreItems files times [] items.items) }
+        → AreItems files times [] (defined_by macros.old) items.items) }
     ensures fault { IfErr result (λ fault. (files : List ℕ → Option (List ℕ)) (times : List ℕ → Option ℤ) → I.allows includes.new files → T.allows tree.new times
-        → IsTextFault files times (T.refuses tree.new) [] fault) }
+        → IsTextFault files times (T.refuses tree.new) [] (defined_by macros.old) fault) }
     ensures times { (times : List ℕ → Option ℤ) → T.allows tree.new times → T.allows tree.old times }
     ensures kept { (n : List ℕ) → T.refuses tree.old n → T.refuses tree.new n }
 {
     let makefile = usual_makefile(alloc, tree, includes)?;
     let file = makefile.file.as_slice();
-    match read_makefile(alloc, file, makefile.text.as_slice(), includes) {
+    match read_makefile(alloc, macros, file, makefile.text.as_slice(), includes) {
         Ok(items) => Ok(items),
         Err(fault) => Err(Fault::Read(fault)),
     }
@@ -111,19 +118,21 @@ fn usual_items<T: Tree, I: Includes>(
 /// The items of the makefile of this name.
 fn items_named<I: Includes>(
     alloc: Global,
+    macros: &mut Macros,
     name: &[u8],
     includes: &mut I,
 ) -> Result<Vec<Item>, Fault>
     ensures items { IfOk result (λ items. (files : List ℕ → Option (List ℕ)) → I.allows includes.new files
-        → NamedItems files name.now (Ok items.items)) }
+        → NamedItems files (defined_by macros.old) name.now (Ok items.items)) }
+    ensures defined { IfOk result (λ items. defined_by macros.new ≡ behind (defined_by macros.old) items.items) }
     ensures fault { IfErr result (λ fault. (files : List ℕ → Option (List ℕ)) → I.allows includes.new files
-        → IsFaultOfOne files name.now fault) }
+        → IsFaultOfOne files (defined_by macros.old) name.now fault) }
     ensures grows { (files : List ℕ → Option (List ℕ)) → I.allows includes.new files → I.allows includes.old files }
 {
     let Some(text) = includes.read(alloc, name)? else {
         return Err(Fault::NoMakefile);
     };
-    match read_makefile(alloc, name, text.as_slice(), includes) {
+    match read_makefile(alloc, macros, name, text.as_slice(), includes) {
         Ok(items) => Ok(items),
         Err(fault) => Err(Fault::Read(fault)),
     }
@@ -132,39 +141,45 @@ fn items_named<I: Includes>(
 /// The items of the makefiles of these names, one behind the other.
 fn all_items<I: Includes>(
     alloc: Global,
+    macros: &mut Macros,
     names: &ByteStrings,
     includes: &mut I,
 ) -> Result<Vec<Item>, Fault>
     ensures items { IfOk result (λ items. (files : List ℕ → Option (List ℕ)) → I.allows includes.new files
-        → InOrder (NamedItems files) names.now (Ok items.items)) }
+        → AllItems files (defined_by macros.old) names.now (Ok items.items)) }
     ensures fault { IfErr result (λ fault. (files : List ℕ → Option (List ℕ)) → I.allows includes.new files
-        → IsFaultAmong files names.now fault) }
+        → IsFaultAmong files (defined_by macros.old) names.now fault) }
 {
     let mut items = Vec::new(alloc);
     for name in names.iter() {
-        let mut more = items_named(alloc, name, includes)?;
+        let mut more = items_named(alloc, macros, name, includes)?;
         items.append(&mut more)?;
     }
     Ok(items)
 }
 
-/// The items of the makefiles that are named, one behind the other, or else of the usual one, and of all files that they include.
+/// The items of the makefiles that are named, one behind the other, or else of the usual one, and of all files that they
+/// include, in this language.
 pub fn items_of<T: Tree, I: Includes>(
     alloc: Global,
+    profile: Profile,
+    definitions: &[Variable],
+    environment: &[Variable],
     named: &ByteStrings,
     tree: &mut T,
     includes: &mut I,
 ) -> Result<Vec<Item>, Fault>
     ensures items { IfOk result (λ items. (files : List ℕ → Option (List ℕ)) (times : List ℕ → Option ℤ) → I.allows includes.new files → T.allows tree.new times
-        → AreItems files times named.now items.items) }
+        → AreItems files times named.now (first_defined profile definitions.now environment.now) items.items) }
     ensures fault { IfErr result (λ fault. (files : List ℕ → Option (List ℕ)) (times : List ℕ → Option ℤ) → I.allows includes.new files → T.allows tree.new times
-        → IsTextFault files times (T.refuses tree.new) named.now fault) }
+        → IsTextFault files times (T.refuses tree.new) named.now (first_defined profile definitions.now environment.now) fault) }
     ensures times { (times : List ℕ → Option ℤ) → T.allows tree.new times → T.allows tree.old times }
     ensures kept { (n : List ℕ) → T.refuses tree.old n → T.refuses tree.new n }
 {
+    let mut macros = first_macros(alloc, profile, definitions, environment)?;
     if named.is_empty() {
-        usual_items(alloc, tree, includes)
+        usual_items(alloc, &mut macros, tree, includes)
     } else {
-        all_items(alloc, named, includes)
+        all_items(alloc, &mut macros, named, includes)
     }
 }

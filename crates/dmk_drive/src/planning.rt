@@ -212,18 +212,27 @@ pub fn dry_run<T: Tree, I: Includes, D: Disk>(
     disk: &mut D,
 ) -> Result<DryRun, Fault>
     ensures tells { IfOk result (λ run. (files : List ℕ → Option (List ℕ)) (times : List ℕ → Option ℤ) → I.allows includes.new files → T.allows tree.new times
-        → (items : List MakefileItem) × AreItems files times given.entry.makefiles.now items
+        → (items : List MakefileItem) × AreItems files times given.entry.makefiles.now (first_defined given.entry.profile given.entry.definitions.now given.entry.environment.now) items
         × Tells given.entry.profile given.entry.definitions.now given.entry.environment.now targets given.entry.makes_all times D.honest (D.seen disk.old) items
         given.entry.shows.telling given.entry.shows.recipes run) }
     ensures fault { IfErr result (λ fault. (files : List ℕ → Option (List ℕ)) (times : List ℕ → Option ℤ) → I.allows includes.new files → T.allows tree.new times
-        → IsRunFault (IsTextFault files times (T.refuses tree.new) given.entry.makefiles.now)
-        (AreItems files times given.entry.makefiles.now)
+        → IsRunFault (IsTextFault files times (T.refuses tree.new) given.entry.makefiles.now (first_defined given.entry.profile given.entry.definitions.now given.entry.environment.now))
+        (AreItems files times given.entry.makefiles.now (first_defined given.entry.profile given.entry.definitions.now given.entry.environment.now))
         (IsPlanFault given.entry.profile given.entry.definitions.now given.entry.environment.now targets given.entry.makes_all times (T.refuses tree.new) D.honest (D.seen disk.old))
         fault) }
     ensures seen { D.honest → D.seen disk.new ≡ D.seen disk.old }
     ensures moments { D.honest → D.moments disk.new ≡ D.moments disk.old }
     ensures device { IsErrOf result (faults.State open_faults.Device) → Rises (D.faults disk.old) (D.faults disk.new) }
 {
-    let items = items_of(alloc, given.makefiles, tree, includes)?;
+    let (definitions, environment) = (given.definitions, given.environment);
+    let items = items_of(
+        alloc,
+        given.profile,
+        definitions,
+        environment,
+        given.makefiles,
+        tree,
+        includes,
+    )?;
     plan_items(alloc, key, given, targets, tree, disk, items)
 }

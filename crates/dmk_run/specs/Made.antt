@@ -15,6 +15,7 @@ use Rattle.bd_flusher.specs.declared.site.receipt.Receipt.{Receipt}
 use Rattle.jb_closing.specs.Agreement.{AreThoseOf}
 use Rattle.jb_closing.specs.Closing.{AreTrueOf}
 use Rattle.jb_closing.specs.Report.{ends_well}
+use Rattle.dmk_drive.specs.Definitions.{first_defined}
 use Rattle.dmk_drive.specs.Planned.{AreItems, IsGraphOf, IsStateOn, judged_graph}
 use Rattle.dmk_drive.specs.Keeping.{keeps}
 use Rattle.dmk_run.specs.Judged.{IsBorneOut}
@@ -56,6 +57,6 @@ pub record MakesItems (profile : Profile) (definitions environment : List Variab
 pub record Makes (files : List ℕ → Option (List ℕ)) (times : List ℕ → Option ℤ) (named : List (List ℕ))
     (profile : Profile) (definitions environment : List Variable) (targets : List (List ℕ)) (all : Bool) (disk_honest : Type 0) (seen : Which → List ℕ) (status : ℕ) (sides : Sides) : Type 0 where
   pub items : List Item
-  pub are_items : AreItems files times named items
+  pub are_items : AreItems files times named (first_defined profile definitions environment) items
   pub made : MakesItems profile definitions environment targets all times items (keeps environment items) (keeps environment items)
       disk_honest seen status sides

@@ -4,6 +4,7 @@ ghost use Rattle.mk_reader.specs.declared.item.Item.{Item as MakefileItem};
 ghost use Rattle.st_disk.specs.Moments.{now};
 ghost use Rattle.dmk_drive.specs.Keeping.{keeps, value_in};
 ghost use Rattle.dmk_drive.specs.Output.{AsksToRun};
+ghost use Rattle.dmk_drive.specs.Definitions.{first_defined};
 ghost use Rattle.dmk_drive.specs.Planned.{AreItems};
 ghost use Rattle.dmk_run.specs.Made.{HasEnded, Makes, MakesItems};
 
@@ -205,11 +206,20 @@ where
         → Makes files times named.now goals.profile goals.definitions.items means.now.environment.now goals.targets wishes.now.makes_all
         D.honest (D.seen disk) s (now (D.moments result.1))) }
     ensures untouched { (files : List ℕ → Option (List ℕ)) (times : List ℕ → Option ℤ) → I.allows includes.new files → T.allows tree.new times
-        → (result.1 ≡ disk) ⊎ ((items : List MakefileItem) × AreItems files times named.now items
+        → (result.1 ≡ disk) ⊎ ((items : List MakefileItem) × AreItems files times named.now (first_defined goals.profile goals.definitions.items means.now.environment.now) items
         × (keeps means.now.environment.now items ≡ true)) }
     ensures let_go { K.serves banks.old ≡ false → K.serves banks.new ≡ false }
 {
-    match items_of(alloc, named, tree, includes) {
+    let environment = means.environment;
+    match items_of(
+        alloc,
+        goals.profile,
+        &goals.definitions,
+        environment,
+        named,
+        tree,
+        includes,
+    ) {
         Ok(items) => run_items(
             rt, alloc, means, guard, wishes, goals, tree, banks, items, disk,
         ),
@@ -309,7 +319,7 @@ where
         D.honest (D.seen disk) result.0 (now (D.moments result.1)) }
     // Unless a makefile that was read keeps state, the disk is handed back as it came.
     ensures untouched { (files : List ℕ → Option (List ℕ)) (times : List ℕ → Option ℤ) → I.allows includes.new files → T.allows tree.new times
-        → (result.1 ≡ disk) ⊎ ((items : List MakefileItem) × AreItems files times options.makefiles items
+        → (result.1 ≡ disk) ⊎ ((items : List MakefileItem) × AreItems files times options.makefiles (first_defined options.profile options.definitions.items means.now.environment.now) items
         × (keeps means.now.environment.now items ≡ true)) }
     // A pool that is served for the run is let go at its end.
     ensures let_go { K.serves banks.old ≡ false → K.serves banks.new ≡ false }

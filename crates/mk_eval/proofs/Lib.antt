@@ -1,2 +1,3 @@
+pub mod BehindLemmas
 pub mod MakefileLemmas
 pub mod OutcomeLemmas

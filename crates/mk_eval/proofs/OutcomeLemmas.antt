@@ -1,110 +1,162 @@
 -- A text has one outcome.
-use Rattle.std.proofs.Common.{◌≡◌, ℕ, zero, suc, List, [], ◌∷◌, map, refl, sym, ap, subst, ◌∙◌, Option, Some, None, Result, Ok, Err, Vec}
+use Rattle.std.proofs.Common.{◌≡◌, ℕ, zero, suc, Bool, true, false, List, [], ◌∷◌, map, refl, sym, ap, subst, ◌∙◌, Option, Some, None, Result, Ok, Err, Vec}
 use Rattle.std.specs.declared.alloc.Global.{Global}
+use Rattle.std.specs.List.{list_any}
 use Rattle.byte_strings.specs.Blanks.{words}
+use Rattle.mk_profile.specs.Profile.{is_wide}
+use Rattle.mk_macros.specs.Expansion as expansion
+use Rattle.mk_macros.specs.Expansion.{gives, fails, ExpandsTo}
+use Rattle.mk_macros.specs.Ranks.{Defined, rule_meanings}
+use Rattle.mk_macros.specs.declared.dynamic.Dynamic.TheVariants.{RuleLine}
+use Rattle.mk_macros.proofs.OutcomeLemmas.{expands_once}
+use Rattle.mk_macros.proofs.SomeOutcomeLemmas.{outcome_some}
+use Rattle.mk_reader.specs.Text.{is_dollar}
 use Rattle.mk_reader.specs.Grammar.{refusal}
 use Rattle.mk_reader.specs.Printed.{PlainItem, ArePlain, printed, items_on}
-use Rattle.mk_reader.specs.declared.fault.Cause.TheVariants.{IncludeDepth, IncludeMissing}
+use Rattle.mk_reader.specs.declared.fault.Cause.TheVariants.{IncludeDepth, IncludeMissing, Macro}
 use Rattle.mk_reader.specs.declared.fault.ReadFault.{ReadFault}
 use Rattle.mk_reader.specs.declared.item.Item.{Item}
+use Rattle.mk_reader.specs.declared.item.IncludeLine.{IncludeLine}
 use Rattle.mk_reader.specs.declared.item.Statement.{Statement}
 use Rattle.mk_reader.specs.declared.item.Statement.TheVariants as statement
 use Rattle.mk_reader.proofs.StatementLemmas as reading
 use Rattle.mk_reader.proofs.PrintedItemsLemmas.{printed_read}
-use Rattle.mk_eval.specs.Makefile.{Outcome, GivesItems, with_front, Then, InOrder, StatementItems, FileItems, AnswersOf, AnswerItems, IncludedItems, TextItems}
+use Rattle.mk_eval.specs.Makefile.{Outcome, GivesItems, with_front, Then, InOrder, behind, NamesIn, LineNames, cause_of, NamedItems, StatementItems, FileItems, AnswersOf, missing_items, AnswerItems, IncludedItems, TextItems}
+use Rattle.mk_eval.proofs.BehindLemmas.{IsListed, behind_listed}
 use Rattle.mk_eval.proofs.MakefileLemmas.{items_passed_on}
 
 -- at most one outcome is of this kind
-abbrev IsOne : (Outcome → Type 0) → Type 0
+abbrev pub IsOne : (Outcome → Type 0) → Type 0
 IsOne P = (one other : Outcome) → P one → P other → one ≡ other
 
-then_one : (front : Outcome) (Rest : Outcome → Type 0) → IsOne Rest → IsOne (Then front Rest)
-then_one (Err fault) Rest h one other a b = a ∙ sym b
-then_one (Ok items) Rest h one other a b = a.2 ∙ ap (with_front items) (h a.0 b.0 a.1 b.1) ∙ sym b.2
+module _ {W : Type 0} (after : W → List Item → W) where
+  then_one : (world : W) (front : Outcome) (Rest : W → Outcome → Type 0) → ((now : W) → IsOne (Rest now)) → IsOne (Then after world front Rest)
+  then_one world (Err fault) Rest h one other a b = a ∙ sym b
+  then_one world (Ok items) Rest h one other a b = a.2 ∙ ap (with_front items) (h (after world items) a.0 b.0 a.1 b.1) ∙ sym b.2
 
-order_one : {A : Type 0} (One : A → Outcome → Type 0) → ((thing : A) → IsOne (One thing)) → (things : List A) → IsOne (InOrder One things)
-order_one One h [] one other a b = a ∙ sym b
-order_one One h (thing ∷ more) one other a b =
-    then_one b.0 (InOrder One more) (order_one One h more) one other (subst (λ front. Then front (InOrder One more) one) (h thing a.0 b.0 a.1 b.1) a.2) b.2
+  pub order_one : {A : Type 0} (One : W → A → Outcome → Type 0) → ((world : W) (thing : A) → IsOne (One world thing)) → (world : W) (things : List A) → IsOne (InOrder after One world things)
+  order_one One h world [] one other a b = a ∙ sym b
+  order_one One h world (thing ∷ more) one other a b =
+      let Rest : W → Outcome → Type 0 = λ now. InOrder after One now more in
+      then_one world b.0 Rest (λ now. order_one One h now more) one other (subst (λ front. Then after world front Rest one) (h world thing a.0 b.0 a.1 b.1) a.2) b.2
 
-statement_one : (Included : ℕ → List ℕ → Outcome → Type 0) → ((number : ℕ) (name : List ℕ) → IsOne (Included number name)) → (said : Statement) → IsOne (StatementItems Included said)
-statement_one Included i (statement.Item item) one other a b = a ∙ sym b
-statement_one Included i (statement.Include include) one other a b = order_one (Included include.line) (i include.line) (words include.names) one other a b
-statement_one Included i (statement.Refused fault) one other a b = a ∙ sym b
+abbrev Including : Type 1
+Including = IncludeLine → Defined → List ℕ → Outcome → Type 0
 
-file_one : (Included : ℕ → List ℕ → Outcome → Type 0) → ((number : ℕ) (name : List ℕ) → IsOne (Included number name)) → (file text : List ℕ) → IsOne (FileItems Included file text)
-file_one Included i file text one other (statements, are, a) (also, were, b) =
-    order_one (StatementItems Included) (statement_one Included i) also one other
-    (subst (λ s. InOrder (StatementItems Included) s one) (reading.text_one file text statements also are were) a) b
+abbrev AreOne : Including → Type 0
+AreOne Included = (include : IncludeLine) (given : Defined) (name : List ℕ) → IsOne (Included include given name)
+
+names_one : (given : Defined) (text : List ℕ) (one other : expansion.Outcome) → LineNames given text one → LineNames given text other → one ≡ other
+names_one given text one other = either_way (list_any is_dollar text)
+  where
+    either_way : (refers : Bool) → NamesIn refers given text one → NamesIn refers given text other → one ≡ other
+    either_way true a b = expands_once (rule_meanings given) a b
+    either_way false a b = a ∙ sym b
+
+named_one : (Included : Including) → AreOne Included → (file : List ℕ) (include : IncludeLine) (given : Defined) (names : expansion.Outcome) → IsOne (NamedItems (Included include) file include given names)
+named_one Included i file include given (gives names) one other a b = order_one behind (Included include) (i include) given (words names) one other a b
+named_one Included i file include given (fails fault) one other a b = a ∙ sym b
+
+statement_one : (Included : Including) → AreOne Included → (file : List ℕ) (given : Defined) (said : Statement) → IsOne (StatementItems Included file given said)
+statement_one Included i file given (statement.Item item) one other a b = a ∙ sym b
+statement_one Included i file given (statement.Include include) one other (names, are, a) (also, were, b) =
+    named_one Included i file include given also one other
+    (subst (λ n. NamedItems (Included include) file include given n one) (names_one given include.names names also are were) a) b
+statement_one Included i file given (statement.Refused fault) one other a b = a ∙ sym b
+
+file_one : (Included : Including) → AreOne Included → (given : Defined) (file text : List ℕ) → IsOne (FileItems Included given file text)
+file_one Included i given file text one other (statements, are, a) (also, were, b) =
+    order_one behind (StatementItems Included file) (statement_one Included i file) given also one other
+    (subst (λ s. InOrder behind (StatementItems Included file) given s one) (reading.text_one given.language file text statements also are were) a) b
 
 module _ (files : List ℕ → Option (List ℕ)) where
-  answer_one : (Included : List ℕ → ℕ → List ℕ → Outcome → Type 0) → ((file : List ℕ) (number : ℕ) (name : List ℕ) → IsOne (Included file number name)) → (file : List ℕ) (number : ℕ) (name : List ℕ) (answer : Option (List ℕ)) → IsOne (AnswerItems Included file number name answer)
-  answer_one Included i file number name None one other a b = a ∙ sym b
-  answer_one Included i file number name (Some text) one other a b = file_one (Included name) (i name) name text one other a b
+  answer_one : (Included : List ℕ → Including) → ((file : List ℕ) → AreOne (Included file)) → (file : List ℕ) (include : IncludeLine) (given : Defined) (name : List ℕ) (answer : Option (List ℕ)) → IsOne (AnswerItems Included file include given name answer)
+  answer_one Included i file include given name None one other a b = a ∙ sym b
+  answer_one Included i file include given name (Some text) one other a b = file_one (Included name) (i name) given name text one other a b
 
-  included_one : (levels : ℕ) (file : List ℕ) (number : ℕ) (name : List ℕ) → IsOne (IncludedItems (AnswersOf files) levels file number name)
-  included_one zero file number name one other a b = a ∙ sym b
-  included_one (suc levels) file number name one other a b =
+  included_one : (levels : ℕ) (file : List ℕ) → AreOne (IncludedItems (AnswersOf files) levels file)
+  included_one zero file include given name one other a b = a ∙ sym b
+  included_one (suc levels) file include given name one other a b =
       let deeper = IncludedItems (AnswersOf files) levels in
-      answer_one deeper (included_one levels) file number name (files name) one other
-      (subst (λ answer. AnswerItems deeper file number name answer one) a.1 a.2)
-      (subst (λ answer. AnswerItems deeper file number name answer other) b.1 b.2)
+      answer_one deeper (included_one levels) file include given name (files name) one other
+      (subst (λ answer. AnswerItems deeper file include given name answer one) a.1 a.2)
+      (subst (λ answer. AnswerItems deeper file include given name answer other) b.1 b.2)
 
-  pub text_one : (levels : ℕ) (file text : List ℕ) (one other : Outcome) → TextItems (AnswersOf files) levels file text one → TextItems (AnswersOf files) levels file text other → one ≡ other
-  text_one levels file text one other a b = file_one (IncludedItems (AnswersOf files) levels file) (included_one levels file) file text one other a b
+  pub text_one : (levels : ℕ) (given : Defined) (file text : List ℕ) (one other : Outcome) → TextItems (AnswersOf files) levels given file text one → TextItems (AnswersOf files) levels given file text other → one ≡ other
+  text_one levels given file text one other a b = file_one (IncludedItems (AnswersOf files) levels file) (included_one levels file) given file text one other a b
 
   -- so what is an outcome of the text is this one
-  pub one_given : (levels : ℕ) (file text : List ℕ) (result : Result (Vec Item Global) ReadFault) (outcome : Outcome) → GivesItems result (TextItems (AnswersOf files) levels file text) → TextItems (AnswersOf files) levels file text outcome → GivesItems result (λ given. given ≡ outcome)
-  one_given levels file text result outcome given is = items_passed_on result (TextItems (AnswersOf files) levels file text) (λ o. o ≡ outcome) given (λ o h. text_one levels file text o outcome h is)
+  pub one_given : (levels : ℕ) (given : Defined) (file text : List ℕ) (result : Result (Vec Item Global) ReadFault) (outcome : Outcome) → GivesItems result (TextItems (AnswersOf files) levels given file text) → TextItems (AnswersOf files) levels given file text outcome → GivesItems result (λ told. told ≡ outcome)
+  one_given levels given file text result outcome told is = items_passed_on result (TextItems (AnswersOf files) levels given file text) (λ o. o ≡ outcome) told (λ o h. text_one levels given file text o outcome h is)
 
 -- There is an outcome.
 
 abbrev Some_of : (Outcome → Type 0) → Type 0
 Some_of P = (o : Outcome) × P o
 
-then_some : (front : Outcome) (Rest : Outcome → Type 0) → Some_of Rest → Some_of (Then front Rest)
-then_some (Err fault) Rest h = (Err fault, refl)
-then_some (Ok items) Rest h = (with_front items h.0, (h.0, h.1, refl))
+-- worlds of this kind, which items leave so
+module _ {W : Type 0} (after : W → List Item → W) (Fine : W → Type 0) (stays : (world : W) (items : List Item) → Fine world → Fine (after world items)) where
+  then_some : (world : W) → Fine world → (front : Outcome) (Rest : W → Outcome → Type 0) → ((now : W) → Fine now → Some_of (Rest now)) → Some_of (Then after world front Rest)
+  then_some world fine (Err fault) Rest h = (Err fault, refl)
+  then_some world fine (Ok items) Rest h = let rest = h (after world items) (stays world items fine) in (with_front items rest.0, (rest.0, rest.1, refl))
 
-order_some : {A : Type 0} (One : A → Outcome → Type 0) → ((thing : A) → Some_of (One thing)) → (things : List A) → Some_of (InOrder One things)
-order_some One h [] = (Ok [], refl)
-order_some One h (thing ∷ more) =
-    let front = h thing in
-    let whole = then_some front.0 (InOrder One more) (order_some One h more) in
-    (whole.0, (front.0, front.1, whole.1))
+  order_some : {A : Type 0} (One : W → A → Outcome → Type 0) → ((world : W) → Fine world → (thing : A) → Some_of (One world thing)) → (world : W) → Fine world → (things : List A) → Some_of (InOrder after One world things)
+  order_some One h world fine [] = (Ok [], refl)
+  order_some One h world fine (thing ∷ more) =
+      let front = h world fine thing in
+      let whole = then_some world fine front.0 (λ now. InOrder after One now more) (λ now well. order_some One h now well more) in
+      (whole.0, (front.0, front.1, whole.1))
 
-statement_some : (Included : ℕ → List ℕ → Outcome → Type 0) → ((number : ℕ) (name : List ℕ) → Some_of (Included number name)) → (said : Statement) → Some_of (StatementItems Included said)
-statement_some Included i (statement.Item item) = (Ok (item ∷ []), refl)
-statement_some Included i (statement.Include include) = order_some (Included include.line) (i include.line) (words include.names)
-statement_some Included i (statement.Refused fault) = (Err fault, refl)
+abbrev AreSome : Including → Type 0
+AreSome Included = (include : IncludeLine) (given : Defined) → IsListed given → (name : List ℕ) → Some_of (Included include given name)
 
-file_some : (Included : ℕ → List ℕ → Outcome → Type 0) → ((number : ℕ) (name : List ℕ) → Some_of (Included number name)) → (file text : List ℕ) → Some_of (FileItems Included file text)
-file_some Included i file text =
-    let statements = reading.text_some file text in
-    let whole = order_some (StatementItems Included) (statement_some Included i) statements.0 in
+names_some : (given : Defined) → IsListed given → (text : List ℕ) → (names : expansion.Outcome) × LineNames given text names
+names_some given (listed, e) text = either_way (list_any is_dollar text)
+  where
+    either_way : (refers : Bool) → (names : expansion.Outcome) × NamesIn refers given text names
+    either_way true =
+        subst (λ g. (names : expansion.Outcome) × ExpandsTo (rule_meanings g) text names) (sym e) (outcome_some (is_wide listed.language) listed.texts RuleLine text)
+    either_way false = (gives text, refl)
+
+named_some : (Included : Including) → AreSome Included → (file : List ℕ) (include : IncludeLine) (given : Defined) → IsListed given → (names : expansion.Outcome) → Some_of (NamedItems (Included include) file include given names)
+named_some Included i file include given is (gives names) = order_some behind IsListed behind_listed (Included include) (i include) given is (words names)
+named_some Included i file include given is (fails fault) = (Err (refusal file include.line (Macro (cause_of fault))), refl)
+
+statement_some : (Included : Including) → AreSome Included → (file : List ℕ) (given : Defined) → IsListed given → (said : Statement) → Some_of (StatementItems Included file given said)
+statement_some Included i file given is (statement.Item item) = (Ok (item ∷ []), refl)
+statement_some Included i file given is (statement.Include include) =
+    let names = names_some given is include.names in
+    let whole = named_some Included i file include given is names.0 in
+    (whole.0, (names.0, names.1, whole.1))
+statement_some Included i file given is (statement.Refused fault) = (Err fault, refl)
+
+file_some : (Included : Including) → AreSome Included → (given : Defined) → IsListed given → (file text : List ℕ) → Some_of (FileItems Included given file text)
+file_some Included i given is file text =
+    let statements = reading.text_some given.language file text in
+    let whole = order_some behind IsListed behind_listed (StatementItems Included file) (statement_some Included i file) given is statements.0 in
     (whole.0, (statements.0, statements.1, whole.1))
 
 module _ (files : List ℕ → Option (List ℕ)) where
-  answer_some : (Included : List ℕ → ℕ → List ℕ → Outcome → Type 0) → ((file : List ℕ) (number : ℕ) (name : List ℕ) → Some_of (Included file number name)) → (file : List ℕ) (number : ℕ) (name : List ℕ) (answer : Option (List ℕ)) → Some_of (AnswerItems Included file number name answer)
-  answer_some Included i file number name None = (Err (refusal file number (IncludeMissing name)), refl)
-  answer_some Included i file number name (Some text) = file_some (Included name) (i name) name text
+  answer_some : (Included : List ℕ → Including) → ((file : List ℕ) → AreSome (Included file)) → (file : List ℕ) (include : IncludeLine) (given : Defined) → IsListed given → (name : List ℕ) (answer : Option (List ℕ)) → Some_of (AnswerItems Included file include given name answer)
+  answer_some Included i file include given is name None = (missing_items include.is_required (refusal file include.line (IncludeMissing name)), refl)
+  answer_some Included i file include given is name (Some text) = file_some (Included name) (i name) given is name text
 
-  included_some : (levels : ℕ) (file : List ℕ) (number : ℕ) (name : List ℕ) → Some_of (IncludedItems (AnswersOf files) levels file number name)
-  included_some zero file number name = (Err (refusal file number IncludeDepth), refl)
-  included_some (suc levels) file number name =
+  included_some : (levels : ℕ) (file : List ℕ) → AreSome (IncludedItems (AnswersOf files) levels file)
+  included_some zero file include given is name = (Err (refusal file include.line IncludeDepth), refl)
+  included_some (suc levels) file include given is name =
       let deeper = IncludedItems (AnswersOf files) levels in
-      let found = answer_some deeper (included_some levels) file number name (files name) in
+      let found = answer_some deeper (included_some levels) file include given is name (files name) in
       (found.0, (files name, refl, found.1))
 
-  pub text_some : (levels : ℕ) (file text : List ℕ) → Some_of (TextItems (AnswersOf files) levels file text)
-  text_some levels file text = file_some (IncludedItems (AnswersOf files) levels file) (included_some levels file) file text
+  pub text_some : (levels : ℕ) (given : Defined) → IsListed given → (file text : List ℕ) → Some_of (TextItems (AnswersOf files) levels given file text)
+  text_some levels given is file text = file_some (IncludedItems (AnswersOf files) levels file) (included_some levels file) given is file text
 
 -- Statements that are items give these.
 
-items_given : (Included : ℕ → List ℕ → Outcome → Type 0) (items : List Item) → InOrder (StatementItems Included) (map statement.Item items) (Ok items)
-items_given Included [] = refl
-items_given Included (item ∷ more) = (Ok (item ∷ []), refl, (Ok more, items_given Included more, refl))
+items_given : (Included : Including) (file : List ℕ) (given : Defined) (items : List Item) → InOrder behind (StatementItems Included file) given (map statement.Item items) (Ok items)
+items_given Included file given [] = refl
+items_given Included file given (item ∷ more) = (Ok (item ∷ []), refl, (Ok more, items_given Included file (behind given (item ∷ [])) more, refl))
 
-pub printed_given : (files : List ℕ → Option (List ℕ)) (levels : ℕ) (file : List ℕ) (items : List PlainItem) → ArePlain items → TextItems (AnswersOf files) levels file (printed items) (Ok (items_on file 1 items))
-printed_given files levels file items plain =
-    (map statement.Item (items_on file 1 items), printed_read file items plain, items_given (IncludedItems (AnswersOf files) levels file) (items_on file 1 items))
+pub printed_given : (files : List ℕ → Option (List ℕ)) (levels : ℕ) (given : Defined) (file : List ℕ) (items : List PlainItem) → ArePlain given.language items → TextItems (AnswersOf files) levels given file (printed items) (Ok (items_on file 1 items))
+printed_given files levels given file items plain =
+    (map statement.Item (items_on file 1 items), printed_read given.language file items plain, items_given (IncludedItems (AnswersOf files) levels file) file given (items_on file 1 items))

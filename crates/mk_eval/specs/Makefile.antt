@@ -1,13 +1,26 @@
--- The items of a text, or the first line of it that is refused; included files are read in place.
-use Rattle.std.specs.Prelude.{◌≡◌, ℕ, zero, suc, List, [], ◌∷◌, ◌++◌, Option, Some, None, Result, Ok, Err, Vec}
+-- The items of a text, or its first fault in the order of reading; included files are read in place.
+use Rattle.std.specs.Prelude.{◌≡◌, ℕ, zero, suc, Bool, true, false, List, [], ◌∷◌, ◌++◌, Option, Some, None, Result, Ok, Err, Vec, if◌then◌else◌}
 use Rattle.std.specs.declared.alloc.Global.{Global}
+use Rattle.std.specs.List.{list_any}
 use Rattle.byte_strings.specs.Blanks.{words}
+use Rattle.mk_profile.specs.Profile.{is_wide}
+use Rattle.mk_macros.specs.Expansion as expansion
+use Rattle.mk_macros.specs.Expansion.{gives, fails, ExpandsTo}
+use Rattle.mk_macros.specs.Ranks.{Defined, with_definition, rule_meanings}
+use Rattle.mk_macros.specs.declared.definitions.Rank.TheVariants.{Makefile}
+use Rattle.mk_macros.specs.declared.fault.MacroFault.{MacroFault}
+use Rattle.mk_macros.specs.declared.fault.MacroFault.TheVariants as macro_fault
+use Rattle.mk_reader.specs.Text.{is_dollar}
 use Rattle.mk_reader.specs.Grammar.{refusal}
 use Rattle.mk_reader.specs.Statements.{AreStatements}
 use Rattle.mk_reader.specs.declared.item.Item.{Item}
+use Rattle.mk_reader.specs.declared.item.Item.TheVariants as item
+use Rattle.mk_reader.specs.declared.item.IncludeLine.{IncludeLine}
 use Rattle.mk_reader.specs.declared.item.Statement.{Statement}
 use Rattle.mk_reader.specs.declared.item.Statement.TheVariants as statement
-use Rattle.mk_reader.specs.declared.fault.Cause.TheVariants.{IncludeDepth, IncludeMissing}
+use Rattle.mk_reader.specs.declared.fault.Cause.TheVariants.{IncludeDepth, IncludeMissing, Macro}
+use Rattle.mk_reader.specs.declared.fault.MacroCause.{MacroCause}
+use Rattle.mk_reader.specs.declared.fault.MacroCause.TheVariants as macro_cause
 use Rattle.mk_reader.specs.declared.fault.Refusal.{Refusal}
 use Rattle.mk_reader.specs.declared.fault.ReadFault.{ReadFault}
 use Rattle.mk_reader.specs.declared.fault.ReadFault.TheVariants.{OutOfMemory, Refused}
@@ -27,46 +40,107 @@ abbrev pub with_front : List Item → Outcome → Outcome
 with_front front (Ok items) = Ok (front ++ items)
 with_front front (Err fault) = Err fault
 
--- a fault ends the reading; behind items comes what Rest allows
-abbrev pub Then : Outcome → (Outcome → Type 0) → Outcome → Type 0
-Then (Err fault) Rest outcome = outcome ≡ Err fault
-Then (Ok front) Rest outcome = (rest : Outcome) × Rest rest × (outcome ≡ with_front front rest)
+-- a fault ends the reading; behind items comes what Rest allows, in the world that they leave
+abbrev pub Then : {W : Type 0} → (W → List Item → W) → W → Outcome → (W → Outcome → Type 0) → Outcome → Type 0
+Then after world (Err fault) Rest outcome = outcome ≡ Err fault
+Then after world (Ok front) Rest outcome = (rest : Outcome) × Rest (after world front) rest × (outcome ≡ with_front front rest)
 
--- what things give, one behind the other; One says it of each
-abbrev pub InOrder : {A : Type 0} → (A → Outcome → Type 0) → List A → Outcome → Type 0
-InOrder One [] outcome = outcome ≡ Ok []
-InOrder One (thing ∷ more) outcome = (front : Outcome) × One thing front × Then front (InOrder One more) outcome
+-- what things give, one behind the other, each in the world that the items before it leave; One says it of each
+abbrev pub InOrder : {W A : Type 0} → (W → List Item → W) → (W → A → Outcome → Type 0) → W → List A → Outcome → Type 0
+InOrder after One world [] outcome = outcome ≡ Ok []
+InOrder after One world (thing ∷ more) outcome =
+    (front : Outcome) × One world thing front × Then after world front (λ now. InOrder after One now more) outcome
 
--- what a statement gives; Included says it of a name on the include line of this number
-abbrev pub StatementItems : (ℕ → List ℕ → Outcome → Type 0) → Statement → Outcome → Type 0
-StatementItems Included (statement.Item one) outcome = outcome ≡ Ok (one ∷ [])
-StatementItems Included (statement.Include include) outcome = InOrder (Included include.line) (words include.names) outcome
-StatementItems Included (statement.Refused refusal) outcome = outcome ≡ Err refusal
+-- what is defined behind an item, and behind items
+abbrev pub with_item : Defined → Item → Defined
+with_item given (item.Definition d) = with_definition given Makefile d.name d.value d.append
+with_item given (item.Rule rule) = given
+with_item given (item.Special special) = given
+
+abbrev pub with_items : Defined → List Item → Defined
+with_items given [] = given
+with_items given (one ∷ more) = with_items (with_item given one) more
+
+-- what counts of it for the lines that are read next: nothing in the strict profile, which has no references in them
+abbrev pub behind : Defined → List Item → Defined
+behind given items = if is_wide given.language then with_items given items else given
+
+-- the names on an include line: without a reference they stand there, with one its text is expanded with what is defined above
+-- the line
+abbrev pub NamesIn : (refers : Bool) → Defined → (text : List ℕ) → expansion.Outcome → Type 0
+NamesIn false given text names = names ≡ gives text
+NamesIn true given text names = ExpandsTo (rule_meanings given) text names
+
+abbrev pub LineNames : Defined → (text : List ℕ) → expansion.Outcome → Type 0
+LineNames given text names = NamesIn (list_any is_dollar text) given text names
+
+-- how the fault of an expansion is told
+abbrev pub cause_of : expansion.Fault → MacroCause
+cause_of (expansion.refers_to_itself name) = macro_cause.Loop name
+cause_of expansion.not_closed = macro_cause.Unclosed
+cause_of expansion.dollar_in_brackets = macro_cause.NestedReference
+cause_of expansion.too_long = macro_cause.TooLong
+
+-- what an include line of the file gives that has these names, or whose text has a fault; Included says it of a name
+abbrev pub NamedItems : (Defined → List ℕ → Outcome → Type 0) → (file : List ℕ) → IncludeLine → Defined → expansion.Outcome → Outcome → Type 0
+NamedItems Included file include given (gives names) outcome = InOrder behind Included given (words names) outcome
+NamedItems Included file include given (fails fault) outcome = outcome ≡ Err (refusal file include.line (Macro (cause_of fault)))
+
+-- what a statement of the file gives; Included says it of a name on an include line
+abbrev pub StatementItems : (IncludeLine → Defined → List ℕ → Outcome → Type 0) → (file : List ℕ) → Defined → Statement → Outcome → Type 0
+StatementItems Included file given (statement.Item one) outcome = outcome ≡ Ok (one ∷ [])
+StatementItems Included file given (statement.Include include) outcome =
+    (names : expansion.Outcome) × LineNames given include.names names × NamedItems (Included include) file include given names outcome
+StatementItems Included file given (statement.Refused refused) outcome = outcome ≡ Err refused
 
 -- what the text of a file gives, read under this name
-abbrev pub FileItems : (ℕ → List ℕ → Outcome → Type 0) → (file text : List ℕ) → Outcome → Type 0
-FileItems Included file text outcome =
-    (statements : List Statement) × AreStatements file text statements × InOrder (StatementItems Included) statements outcome
+abbrev pub FileItems : (IncludeLine → Defined → List ℕ → Outcome → Type 0) → Defined → (file text : List ℕ) → Outcome → Type 0
+FileItems Included given file text outcome =
+    (statements : List Statement) × AreStatements given.language file text statements
+    × InOrder behind (StatementItems Included file) given statements outcome
 
 -- how files answer: with their content
 abbrev pub AnswersOf : (files : List ℕ → Option (List ℕ)) → List ℕ → Option (List ℕ) → Type 0
 AnswersOf files name answer = answer ≡ files name
 
--- what a file gives that an include line names, and that has this content, or can't be read
-abbrev pub AnswerItems : (List ℕ → ℕ → List ℕ → Outcome → Type 0) → List ℕ → ℕ → List ℕ → Option (List ℕ) → Outcome → Type 0
-AnswerItems Included file number name None outcome = outcome ≡ Err (refusal file number (IncludeMissing name))
-AnswerItems Included file number name (Some text) outcome = FileItems (Included name) name text outcome
+-- what a file gives that can't be read: nothing, where the line says that it may be missing
+abbrev pub missing_items : (required : Bool) → Refusal → Outcome
+missing_items true fault = Err fault
+missing_items false fault = Ok []
+
+-- what a file gives that an include line of another one names, and that has this content, or can't be read; Included says
+-- it of the names in it
+abbrev pub AnswerItems : (List ℕ → IncludeLine → Defined → List ℕ → Outcome → Type 0) → List ℕ → IncludeLine → Defined → List ℕ → Option (List ℕ) → Outcome → Type 0
+AnswerItems Included file include given name None outcome = outcome ≡ missing_items include.is_required (refusal file include.line (IncludeMissing name))
+AnswerItems Included file include given name (Some text) outcome = FileItems (Included name) given name text outcome
 
 -- what an include line gives for a name, where so many more levels are allowed and files answer so
-abbrev pub IncludedItems : (List ℕ → Option (List ℕ) → Type 0) → ℕ → List ℕ → ℕ → List ℕ → Outcome → Type 0
-IncludedItems Answers zero file number name outcome = outcome ≡ Err (refusal file number IncludeDepth)
-IncludedItems Answers (suc levels) file number name outcome =
-    (answer : Option (List ℕ)) × Answers name answer × AnswerItems (IncludedItems Answers levels) file number name answer outcome
+abbrev pub IncludedItems : (List ℕ → Option (List ℕ) → Type 0) → ℕ → List ℕ → IncludeLine → Defined → List ℕ → Outcome → Type 0
+IncludedItems Answers zero file include given name outcome = outcome ≡ Err (refusal file include.line IncludeDepth)
+IncludedItems Answers (suc levels) file include given name outcome =
+    (answer : Option (List ℕ)) × Answers name answer × AnswerItems (IncludedItems Answers levels) file include given name answer outcome
 
--- what a text gives, read under this file name, where so many levels of includes are allowed and files answer so
-abbrev pub TextItems : (List ℕ → Option (List ℕ) → Type 0) → ℕ → List ℕ → List ℕ → Outcome → Type 0
-TextItems Answers levels file text outcome = FileItems (IncludedItems Answers levels file) file text outcome
+-- what a text gives, read under this file name with these definitions above it, where so many levels of includes are
+-- allowed and files answer so
+abbrev pub TextItems : (List ℕ → Option (List ℕ) → Type 0) → ℕ → Defined → List ℕ → List ℕ → Outcome → Type 0
+TextItems Answers levels given file text outcome = FileItems (IncludedItems Answers levels file) given file text outcome
 
 -- how deep includes may be nested (own)
 abbrev pub depth : ℕ
 depth = 16
+
+-- What functions tell of an include line's text.
+
+-- the fault that the macros tell, unless memory ran out
+abbrev pub fault_told : MacroFault → Option expansion.Fault
+fault_told macro_fault.OutOfMemory = None
+fault_told (macro_fault.Loop name) = Some (expansion.refers_to_itself name)
+fault_told macro_fault.Unclosed = Some expansion.not_closed
+fault_told macro_fault.NestedReference = Some expansion.dollar_in_brackets
+fault_told macro_fault.TooLong = Some expansion.too_long
+
+-- the fault of an include line's text; want of memory says nothing of it
+abbrev pub IsNamesFault : Defined → (file : List ℕ) → IncludeLine → ReadFault → Type 0
+IsNamesFault given file include OutOfMemory = Unit {0}
+IsNamesFault given file include (Refused refused) =
+    (fault : expansion.Fault) × LineNames given include.names (fails fault) × (refused ≡ refusal file include.line (Macro (cause_of fault)))

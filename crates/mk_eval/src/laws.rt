@@ -1,36 +1,39 @@
 //! Laws of the definitions that `read_makefile` meets. The functions do nothing: what they ensure is the law.
 ghost use Rattle.std.specs.Prelude.{◌≡◌, ℕ, List, Option, Result, Ok, Vec};
 ghost use Rattle.std.specs.declared.alloc.Global.{Global};
+ghost use Rattle.mk_macros.specs.Ranks.{Defined, Listed, defined_by};
 ghost use Rattle.mk_reader.specs.Printed.{PlainItem, ArePlain, printed, items_on};
 ghost use Rattle.mk_reader.specs.declared.fault.ReadFault.{ReadFault};
 ghost use Rattle.mk_reader.specs.declared.item.Item.{Item};
 ghost use Rattle.mk_eval.specs.Makefile.{Outcome, GivesItems, AnswersOf, TextItems};
 
-/// With the files' contents a text has at most one outcome.
+/// With the files' contents, and what is defined before it is read, a text has at most one outcome in its language.
 pub fn one_outcome()
-    ensures { (files : List ℕ → Option (List ℕ)) (levels : ℕ) (file text : List ℕ) (one other : Outcome)
-        → TextItems (AnswersOf files) levels file text one
-        → TextItems (AnswersOf files) levels file text other
+    ensures { (files : List ℕ → Option (List ℕ)) (levels : ℕ) (given : Defined) (file text : List ℕ) (one other : Outcome)
+        → TextItems (AnswersOf files) levels given file text one
+        → TextItems (AnswersOf files) levels given file text other
         → one ≡ other }
 {}
 
-/// With the files' contents a text has an outcome.
+/// With the files' contents a text has an outcome, whatever is defined before it is read.
 pub fn an_outcome()
-    ensures { (files : List ℕ → Option (List ℕ)) (levels : ℕ) (file text : List ℕ)
-        → (outcome : Outcome) × TextItems (AnswersOf files) levels file text outcome }
+    ensures { (files : List ℕ → Option (List ℕ)) (levels : ℕ) (listed : Listed) (file text : List ℕ)
+        → (outcome : Outcome) × TextItems (AnswersOf files) levels (defined_by listed) file text outcome }
 {}
 
 /// What `read_makefile` says that it answers is that one outcome, unless memory ran out.
 pub fn the_outcome_is_given()
-    ensures { (files : List ℕ → Option (List ℕ)) (levels : ℕ) (file text : List ℕ)
+    ensures { (files : List ℕ → Option (List ℕ)) (levels : ℕ) (given : Defined) (file text : List ℕ)
         (result : Result (Vec Item Global) ReadFault) (outcome : Outcome)
-        → GivesItems result (TextItems (AnswersOf files) levels file text)
-        → TextItems (AnswersOf files) levels file text outcome
-        → GivesItems result (λ given. given ≡ outcome) }
+        → GivesItems result (TextItems (AnswersOf files) levels given file text)
+        → TextItems (AnswersOf files) levels given file text outcome
+        → GivesItems result (λ told. told ≡ outcome) }
 {}
 
-/// A makefile that is printed from plain items is read back as these, whatever other files hold.
+/// A makefile that is printed from items that are plain in its language is read back as these, whatever other files hold
+/// and is defined.
 pub fn printed_items_are_read_back()
-    ensures { (files : List ℕ → Option (List ℕ)) (levels : ℕ) (file : List ℕ) (items : List PlainItem) → ArePlain items
-        → TextItems (AnswersOf files) levels file (printed items) (Ok (items_on file 1 items)) }
+    ensures { (files : List ℕ → Option (List ℕ)) (levels : ℕ) (given : Defined) (file : List ℕ) (items : List PlainItem)
+        → ArePlain given.language items
+        → TextItems (AnswersOf files) levels given file (printed items) (Ok (items_on file 1 items)) }
 {}

@@ -5,6 +5,8 @@
 mod includes;
 pub mod laws;
 mod makefile;
+mod names;
+mod refuse;
 
 pub use includes::Includes;
 pub use makefile::{MAX_INCLUDE_DEPTH, read_makefile};

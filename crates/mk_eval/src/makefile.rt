@@ -1,25 +1,39 @@
-//! Evaluates a whole makefile, with the files that it includes.
-ghost use Rattle.std.specs.Prelude.{ℕ, List, Option};
+//! Evaluates a whole makefile, with the files that it includes, in one pass.
+ghost use Rattle.std.specs.Prelude.{◌≡◌, ℕ, List, [], Option, IfOk};
 ghost use Rattle.byte_strings.specs.Blanks.{words};
-ghost use Rattle.mk_reader.specs.Form.{refusal, Refuses};
-ghost use Rattle.mk_eval.specs.Makefile.{depth, AnswersOf, GivesItems, InOrder, StatementItems, IncludedItems, TextItems};
+ghost use Rattle.mk_macros.specs.Ranks.{defined_by};
+ghost use Rattle.mk_reader.specs.Form.{refusal};
+ghost use Rattle.mk_reader.specs.declared.fault.Cause.TheVariants.{IncludeMissing};
+ghost use Rattle.mk_reader.specs.declared.item.Statement.TheVariants as statement;
+ghost use Rattle.mk_eval.specs.Makefile.{depth, behind, AnswersOf, GivesItems, InOrder, StatementItems, IncludedItems, TextItems, missing_items};
 
 use crate::includes::Includes;
+use crate::names::{follow, names_on};
+use crate::refuse::refuse;
 use byte_strings::{ByteString, next_word};
-use mk_reader::{Cause, Item, ReadFault, Refusal, Statement, statements_of};
+use mk_macros::Macros;
+use mk_reader::{Cause, IncludeLine, Item, ReadFault, Statement, statements_of};
 use std::alloc::Global;
 
 /// How deep includes may be nested.
 pub const MAX_INCLUDE_DEPTH: u8 = 16;
 
-/// The fault of an include line; the file's name is copied.
-fn refuse(alloc: Global, file: &[u8], line: usize, cause: Cause) -> ReadFault
-    ensures { Refuses result (refusal file.now line cause) }
+/// What the file of this name gives that can't be read.
+fn missing(
+    alloc: Global,
+    file: &[u8],
+    include: &IncludeLine,
+    name: &[u8],
+) -> Result<Vec<Item>, ReadFault>
+    ensures items { GivesItems result
+        (λ outcome. outcome ≡ missing_items include.now.is_required (refusal file.now include.now.line (IncludeMissing name.now))) }
+    ensures none { IfOk result (λ items. items.items ≡ []) }
 {
-    match ByteString::from_slice(alloc, file) {
-        Ok(file) => ReadFault::Refused(Refusal { file, line, cause }),
-        Err(_) => ReadFault::OutOfMemory,
+    if !include.is_required {
+        return Ok(Vec::new(alloc));
     }
+    let cause = Cause::IncludeMissing(ByteString::from_slice(alloc, name)?);
+    Err(refuse(alloc, file, include.line, cause))
 }
 
 /// Evaluates one text. The first fault in the order of reading is answered.
@@ -29,14 +43,16 @@ fn evaluate_text<I: Includes>(
     levels: u8,
     file: &[u8],
     text: &[u8],
+    macros: &mut Macros,
     includes: &mut I,
 ) -> Result<Vec<Item>, ReadFault>
     ensures items { (files : List ℕ → Option (List ℕ)) → I.allows includes.new files
-        → GivesItems result (TextItems (AnswersOf files) levels file.now text.now) }
+        → GivesItems result (TextItems (AnswersOf files) levels (defined_by macros.old) file.now text.now) }
+    ensures defined { IfOk result (λ items. defined_by macros.new ≡ behind (defined_by macros.old) items.items) }
     ensures grows { (files : List ℕ → Option (List ℕ)) → I.allows includes.new files → I.allows includes.old files }
 {
-    let statements = statements_of(alloc, file, text)?;
-    evaluate_all(alloc, levels, file, statements, includes)
+    let statements = statements_of(alloc, macros.profile(), file, text)?;
+    evaluate_all(alloc, levels, file, statements, macros, includes)
 }
 
 /// Evaluates the statements of a file, one after the other.
@@ -46,26 +62,24 @@ fn evaluate_all<I: Includes>(
     levels: u8,
     file: &[u8],
     statements: Vec<Statement>,
+    macros: &mut Macros,
     includes: &mut I,
 ) -> Result<Vec<Item>, ReadFault>
     ensures items { (files : List ℕ → Option (List ℕ)) → I.allows includes.new files
-        → GivesItems result (InOrder (StatementItems (IncludedItems (AnswersOf files) levels file.now)) statements.items) }
+        → GivesItems result (InOrder behind (StatementItems (IncludedItems (AnswersOf files) levels file.now) file.now)
+        (defined_by macros.old) statements.items) }
+    ensures defined { IfOk result (λ items. defined_by macros.new ≡ behind (defined_by macros.old) items.items) }
     ensures grows { (files : List ℕ → Option (List ℕ)) → I.allows includes.new files → I.allows includes.old files }
 {
     let mut items = Vec::new(alloc);
     for statement in statements {
         match statement {
-            Statement::Item(item) => items.push(item)?,
+            Statement::Item(item) => {
+                follow(alloc, macros, &item)?;
+                items.push(item)?;
+            }
             Statement::Include(include) => {
-                let names = include.names.as_slice();
-                let mut included = evaluate_each(
-                    alloc,
-                    levels,
-                    file,
-                    include.line,
-                    names,
-                    includes,
-                )?;
+                let mut included = evaluate_line(alloc, levels, file, &include, macros, includes)?;
                 items.append(&mut included)?;
             }
             Statement::Refused(refusal) => return Err(ReadFault::Refused(refusal)),
@@ -74,24 +88,55 @@ fn evaluate_all<I: Includes>(
     Ok(items)
 }
 
-/// Evaluates the files of these names, one after the other.
+/// Evaluates an include line.
+#[cycle(evaluating)]
+fn evaluate_line<I: Includes>(
+    alloc: Global,
+    levels: u8,
+    file: &[u8],
+    include: &IncludeLine,
+    macros: &mut Macros,
+    includes: &mut I,
+) -> Result<Vec<Item>, ReadFault>
+    ensures items { (files : List ℕ → Option (List ℕ)) → I.allows includes.new files
+        → GivesItems result (StatementItems (IncludedItems (AnswersOf files) levels file.now) file.now
+        (defined_by macros.old) (statement.Include include.now)) }
+    ensures defined { IfOk result (λ items. defined_by macros.new ≡ behind (defined_by macros.old) items.items) }
+    ensures grows { (files : List ℕ → Option (List ℕ)) → I.allows includes.new files → I.allows includes.old files }
+{
+    let names = names_on(alloc, file, include, macros)?;
+    evaluate_each(
+        alloc,
+        levels,
+        file,
+        include,
+        names.as_slice(),
+        macros,
+        includes,
+    )
+}
+
+/// Evaluates the files of these names, which stand on an include line, one after the other.
 #[cycle(evaluating)]
 fn evaluate_each<I: Includes>(
     alloc: Global,
     levels: u8,
     file: &[u8],
-    number: usize,
+    include: &IncludeLine,
     names: &[u8],
+    macros: &mut Macros,
     includes: &mut I,
 ) -> Result<Vec<Item>, ReadFault>
     ensures items { (files : List ℕ → Option (List ℕ)) → I.allows includes.new files
-        → GivesItems result (InOrder (IncludedItems (AnswersOf files) levels file.now number) (words names.now)) }
+        → GivesItems result (InOrder behind (IncludedItems (AnswersOf files) levels file.now include.now)
+        (defined_by macros.old) (words names.now)) }
+    ensures defined { IfOk result (λ items. defined_by macros.new ≡ behind (defined_by macros.old) items.items) }
     ensures grows { (files : List ℕ → Option (List ℕ)) → I.allows includes.new files → I.allows includes.old files }
 {
     let mut items = Vec::new(alloc);
     let mut rest = names;
     while let Some((name, after)) = next_word(rest) {
-        let mut included = evaluate_included(alloc, levels, file, number, name, includes)?;
+        let mut included = evaluate_included(alloc, levels, file, include, name, macros, includes)?;
         items.append(&mut included)?;
         rest = after;
     }
@@ -104,39 +149,41 @@ fn evaluate_included<I: Includes>(
     alloc: Global,
     levels: u8,
     file: &[u8],
-    number: usize,
+    include: &IncludeLine,
     name: &[u8],
+    macros: &mut Macros,
     includes: &mut I,
 ) -> Result<Vec<Item>, ReadFault>
     ensures items { (files : List ℕ → Option (List ℕ)) → I.allows includes.new files
-        → GivesItems result (IncludedItems (AnswersOf files) levels file.now number name.now) }
+        → GivesItems result (IncludedItems (AnswersOf files) levels file.now include.now (defined_by macros.old) name.now) }
+    ensures defined { IfOk result (λ items. defined_by macros.new ≡ behind (defined_by macros.old) items.items) }
     ensures grows { (files : List ℕ → Option (List ℕ)) → I.allows includes.new files → I.allows includes.old files }
 {
     if levels == 0 {
-        return Err(refuse(alloc, file, number, Cause::IncludeDepth));
+        return Err(refuse(alloc, file, include.line, Cause::IncludeDepth));
     }
     match includes.read(alloc, name)? {
-        None => {
-            let cause = Cause::IncludeMissing(ByteString::from_slice(alloc, name)?);
-            Err(refuse(alloc, file, number, cause))
-        }
-        Some(text) => evaluate_text(alloc, levels - 1, name, text.as_slice(), includes),
+        None => missing(alloc, file, include, name),
+        Some(text) => evaluate_text(alloc, levels - 1, name, text.as_slice(), macros, includes),
     }
 }
 
 /// The items of a makefile's text, in order; included files are read in their place.
 ///
-/// `file` is the name that items and faults give for the text itself. Of several faults the first in the order of
-/// reading is answered, and an `Err` gives no items. So it is for any contents that agree with what was answered.
+/// `file` is the name that items and faults give for the text itself, and `macros` has what is defined before it is read,
+/// and its language; afterwards it has what counts for a text behind it. Of several faults the first in the order of reading
+/// is answered, and an `Err` gives no items. So it is for any contents that agree with what was answered.
 pub fn read_makefile<I: Includes>(
     alloc: Global,
+    macros: &mut Macros,
     file: &[u8],
     bytes: &[u8],
     includes: &mut I,
 ) -> Result<Vec<Item>, ReadFault>
     ensures items { (files : List ℕ → Option (List ℕ)) → I.allows includes.new files
-        → GivesItems result (TextItems (AnswersOf files) depth file.now bytes.now) }
+        → GivesItems result (TextItems (AnswersOf files) depth (defined_by macros.old) file.now bytes.now) }
+    ensures defined { IfOk result (λ items. defined_by macros.new ≡ behind (defined_by macros.old) items.items) }
     ensures grows { (files : List ℕ → Option (List ℕ)) → I.allows includes.new files → I.allows includes.old files }
 {
-    evaluate_text(alloc, MAX_INCLUDE_DEPTH, file, bytes, includes)
+    evaluate_text(alloc, MAX_INCLUDE_DEPTH, file, bytes, macros, includes)
 }

@@ -1,5 +1,5 @@
 -- The code's definition of a line's form gives what the grammar says, and nothing else is as the grammar says.
-use Rattle.std.proofs.Common.{◌≡◌, ℕ, suc, ◌+◌, ◌-◌, Bool, true, false, cond, ◌&&◌, ◌||◌, ◌==◌, List, [], ◌∷◌, ◌++◌, length, take, drop, reverse, refl, sym, ap, subst, ◌∙◌, inl, inr, arith, append_assoc, append-nil, length-append, Option, Some, None, Result, Ok, Err, slice_index, codes, bytes_eq, find}
+use Rattle.std.proofs.Common.{◌≡◌, ℕ, suc, ◌+◌, ◌-◌, Bool, true, false, cond, not, ◌&&◌, ◌||◌, ◌==◌, List, [], ◌∷◌, ◌++◌, length, take, drop, reverse, refl, sym, ap, subst, ◌∙◌, ◌⊎◌, inl, inr, arith, append_assoc, append-nil, length-append, Option, Some, None, Result, Ok, Err, slice_index, codes, bytes_eq, find}
 use Rattle.std.proofs.lemmas.Bool.Decides.{Decides-eqb}
 use Rattle.std.proofs.lemmas.Slice.Eq.{bytes_eq-Decides}
 use Rattle.std.specs.List.{list_any, list_all, prefix_len, before_first}
@@ -7,10 +7,12 @@ use Rattle.std.proofs.lemmas.List.{reverse-append, take_at, take-append-drop}
 use Rattle.std.proofs.lemmas.List.Folds.{list_all-append}
 use Rattle.std.proofs.Math.Seq.{drop-append_seam, get_or-append_seam}
 use Rattle.byte_strings.specs.Blanks.{is_blank, trimmed_start, trimmed, first_word}
+use Rattle.mk_profile.specs.Profile.{is_wide}
+use Rattle.mk_profile.specs.declared.profile.Profile.{Profile}
 use Rattle.mk_reader.specs.Text.{is_hash, is_dollar, is_empty, begins_with, ends_with, without_last, is_text}
 use Rattle.mk_reader.specs.Special.{all_names, special_name, name_text}
-use Rattle.mk_reader.specs.Grammar.{Whole, Padded, AllBlank, begins_blank, BeginsWithWord, IsInclude, SpellsName, SpellsAssignment, SpellsDefinition, SpellsColon, IsShell, IsRuleEnd, SpellsEnd, SpellsRule, HasSpecial, is_refused_with, IsRefused, refusal, first_line, IsStatement, is_bad_include, IsIncludeForm, IsLine, HasContent, IsTextLine, IsRecipeLine, IsOfKind, IsForm}
-use Rattle.mk_reader.specs.Form.{first_outside, include_form, named_form, definition_form, prerequisites_of, recipe_of, judged_form, rule_form, begins_shell_definition, colon_form, decided_form, line_form, statement_form, recipe_form, form_of}
+use Rattle.mk_reader.specs.Grammar.{Whole, Padded, AllBlank, begins_blank, BeginsWithWord, BeginsInclude, IsInclude, SpellsName, SpellsAssignment, SpellsDefinition, SpellsColon, IsShell, IsRuleEnd, SpellsEnd, SpellsRule, HasSpecial, is_refused_with, IsRefused, refusal, first_line, IsStatement, is_bad_include, IsIncludeForm, IsLine, HasContent, IsTextLine, IsRecipeLine, IsOfKind, IsForm}
+use Rattle.mk_reader.specs.Form.{first_outside, include_kind, include_form, opened_form, named_form, definition_form, prerequisites_of, recipe_of, judged_form, rule_form, begins_shell_definition, colon_form, decided_form, line_form, statement_form, recipe_form, form_of}
 use Rattle.mk_reader.specs.declared.special.SpecialName.{SpecialName}
 use Rattle.mk_reader.specs.declared.special.SpecialName.TheVariants as special
 use Rattle.mk_reader.specs.declared.item.Definition.{Definition}
@@ -114,6 +116,67 @@ special_is targets None h = none_left (special_name (first_word targets)) refl
     none_left : (o : Option SpecialName) → special_name (first_word targets) ≡ o → special_name (first_word targets) ≡ None
     none_left None e = e
     none_left (Some name) e = absurd (h name (has_special targets (Some name) e))
+
+-- Words that begin include lines
+
+pub include_bare : (profile : Profile) (word : List ℕ) (required : Bool) → BeginsInclude profile word required → list_any is_blank word ≡ false
+include_bare profile word true e = ap (list_any is_blank) e
+include_bare profile word false (wide, inl e) = ap (list_any is_blank) e
+include_bare profile word false (wide, inr e) = ap (list_any is_blank) e
+
+kind_is : (profile : Profile) (word : List ℕ) (required : Bool) → BeginsInclude profile word required → include_kind profile word ≡ Some required
+unfolding include_kind
+kind_is profile word true e = ap (include_kind profile) e
+kind_is profile word false (wide, inl e) = ap (include_kind profile) e ∙ ap (λ t. cond (t && true) (Some false) None) wide
+kind_is profile word false (wide, inr e) = ap (include_kind profile) e ∙ ap (λ t. cond (t && true) (Some false) None) wide
+
+kind_begins : (profile : Profile) (word : List ℕ) (required : Bool) → include_kind profile word ≡ Some required → BeginsInclude profile word required
+unfolding include_kind
+kind_begins profile word required h =
+    let dashed = bytes_eq word (codes "-include") in
+    let silent = bytes_eq word (codes "sinclude") in
+    either _ (bytes_eq word (codes "include"))
+    (λ t.
+    let same : Some true ≡ Some required = ap (λ x. cond x (Some true) (cond (is_wide profile && (dashed || silent)) (Some false) None)) (sym t) ∙ h in
+    let is : true ≡ required = cc same in
+    subst (BeginsInclude profile word) is ((bytes_eq-Decides word (codes "include")).0 t))
+    (λ f.
+    let later : cond (is_wide profile && (dashed || silent)) (Some false) None ≡ Some required =
+    ap (λ x. cond x (Some true) (cond (is_wide profile && (dashed || silent)) (Some false) None)) (sym f) ∙ h in
+    either _ (is_wide profile && (dashed || silent))
+    (λ t.
+    let same : Some false ≡ Some required = ap (λ x. cond x (Some false) None) (sym t) ∙ later in
+    let is : false ≡ required = cc same in
+    let parts = and_true (is_wide profile) (dashed || silent) t in
+    subst (BeginsInclude profile word) is (parts.0, one_word dashed silent (λ e. (bytes_eq-Decides word (codes "-include")).0 e) (λ e. (bytes_eq-Decides word (codes "sinclude")).0 e) parts.1))
+    (λ g. absurd (cc (ap (λ x. cond x (Some false) None) (sym g) ∙ later))))
+  where
+    one_word : (a b : Bool) → (a ≡ true → word ≡ codes "-include") → (b ≡ true → word ≡ codes "sinclude") → (a || b) ≡ true → (word ≡ codes "-include") ⊎ (word ≡ codes "sinclude")
+    one_word true b h g e = inl (h refl)
+    one_word false b h g e = inr (g e)
+
+-- the kind that is found for the first word of a line, and what is behind it
+opens_kind : (profile : Profile) (line : List ℕ) (required : Bool) (names : List ℕ) → IsInclude profile line required names →
+    (include_kind profile (first_word line) ≡ Some required) × (drop (length (first_word line)) line ≡ names)
+opens_kind profile line required names (word, begins, e, ends) =
+    let same : first_word line ≡ word = word_is line word (names, e, include_bare profile word required begins, ends) in (
+      ap (include_kind profile) same ∙ kind_is profile word required begins,
+      ap (λ w. drop (length w) line) same ∙ ap (drop (length word)) e ∙ drop-append_seam word names,
+    )
+
+kind_opens : (profile : Profile) (line : List ℕ) (required : Bool) → include_kind profile (first_word line) ≡ Some required → IsInclude profile line required (drop (length (first_word line)) line)
+kind_opens profile line required e =
+    let own = begins_with_first_word line in
+    let rest : drop (length (first_word line)) line ≡ own.0 = ap (drop (length (first_word line))) own.1 ∙ drop-append_seam (first_word line) own.0 in
+    subst (IsInclude profile line required) (sym rest) (first_word line, kind_begins profile (first_word line) required e, own.1, own.3)
+
+include_some : (profile : Profile) (line : List ℕ) (required : Bool) (names : List ℕ) → IsInclude profile line required names → is_empty line ≡ false
+include_some profile line required names (word, begins, e, ends) = ap is_empty e ∙ word_some required begins
+  where
+    word_some : (required : Bool) → BeginsInclude profile word required → is_empty (word ++ names) ≡ false
+    word_some true is = ap (λ w. is_empty (w ++ names)) is
+    word_some false (wide, inl is) = ap (λ w. is_empty (w ++ names)) is
+    word_some false (wide, inr is) = ap (λ w. is_empty (w ++ names)) is
 
 module _ (file : List ℕ) (number : ℕ) where
   -- Definitions
@@ -365,6 +428,7 @@ module _ (file : List ℕ) (number : ℕ) where
   refused_back line cause.TabFirst h = absurd h
   refused_back line cause.IncludeDepth h = absurd h
   refused_back line (cause.IncludeMissing name) h = absurd h
+  refused_back line (cause.Macro why) h = absurd h
 
   refusal_back : (r : Refusal) → r.file ≡ file → r.line ≡ number → (told : Told) → told ≡ Err (refusal file number r.cause) → told ≡ Err r
   refusal_back r f n told e = e ∙ ap (λ x. Err (refusal x number r.cause)) (sym f) ∙ ap (λ x. Err (refusal r.file x r.cause)) (sym n)
@@ -374,7 +438,7 @@ module _ (file : List ℕ) (number : ℕ) where
   statement_back line (Ok (form.Rule u)) h = rule_back line u h
   statement_back line (Ok form.Blank) h = absurd h
   statement_back line (Ok (form.Recipe recipe)) h = absurd h
-  statement_back line (Ok (form.Include names)) h = absurd h
+  statement_back line (Ok (form.Include include)) h = absurd h
   statement_back line (Err r) h = refusal_back r h.0.0 h.0.1 _ (refused_back line r.cause h.1)
 
   -- Include lines
@@ -389,82 +453,84 @@ module _ (file : List ℕ) (number : ℕ) where
       ∙ blank_start bs ∙ ap (λ t. t && list_all is_blank bs) (sym e))
       (λ e. ap (λ t. is_empty (drop (cond t (1 + prefix_len is_blank bs) 0) (b ∷ bs))) e ∙ ap (λ t. t && list_all is_blank bs) (sym e))
 
-  abbrev included : List ℕ → Told
-  included names = cond (is_bad_include names) (Err (refusal file number (cause.Unsupported feature.Include))) (Ok (form.Include names))
+  abbrev included : Profile → Bool → List ℕ → Told
+  included profile required names =
+      cond (is_bad_include profile names) (Err (refusal file number (cause.Unsupported feature.Include)))
+      (Ok (form.Include (record { line = number; is_required = required; names = names })))
 
-  include_is : (line names : List ℕ) → line ≡ codes "include" ++ names → include_form file number line ≡ included names
+  include_is : (profile : Profile) (required : Bool) (names : List ℕ) → include_form profile file number required names ≡ included profile required names
   unfolding include_form
-  include_is line names e =
-      ap (include_form file number) e
-      ∙ ap (λ t. cond (list_any is_dollar names || t) (Err (refusal file number (cause.Unsupported feature.Include))) (Ok (form.Include names))) (blank_start names)
+  include_is profile required names =
+      ap (λ t. cond (not (is_wide profile) && (list_any is_dollar names || t)) (Err (refusal file number (cause.Unsupported feature.Include)))
+      (Ok (form.Include (record { line = number; is_required = required; names = names })))) (blank_start names)
 
-  include_word : (line names : List ℕ) → IsInclude line names → bytes_eq (first_word line) (codes "include") ≡ true
-  include_word line names (e, ends) = (bytes_eq-Decides (first_word line) (codes "include")).1 (word_is line (codes "include") (names, e, refl, ends))
+  include_said : (profile : Profile) (required : Bool) (names : List ℕ) → IsIncludeForm profile file number required names (include_form profile file number required names)
+  include_said profile required names =
+      subst (IsIncludeForm profile file number required names) (sym (include_is profile required names))
+      (by_test (IsIncludeForm profile file number required names) (is_bad_include profile names) _ _ (λ bad. inr (bad, refl)) (λ good. inl (good, refl)))
 
-  word_include : (line : List ℕ) → bytes_eq (first_word line) (codes "include") ≡ true → (names : List ℕ) × IsInclude line names
-  word_include line t =
-      let word = begins_with_first_word line in
-      (word.0, (word.1 ∙ ap (λ xs. xs ++ word.0) ((bytes_eq-Decides (first_word line) (codes "include")).0 t), word.3))
+  include_back : (profile : Profile) (required : Bool) (names : List ℕ) (told : Told) → IsIncludeForm profile file number required names told → include_form profile file number required names ≡ told
+  include_back profile required names told (inl (good, e)) =
+      include_is profile required names
+      ∙ ap (λ t. cond t (Err (refusal file number (cause.Unsupported feature.Include))) (Ok (form.Include (record { line = number; is_required = required; names = names })))) good ∙ sym e
+  include_back profile required names told (inr (bad, e)) =
+      include_is profile required names
+      ∙ ap (λ t. cond t (Err (refusal file number (cause.Unsupported feature.Include))) (Ok (form.Include (record { line = number; is_required = required; names = names })))) bad ∙ sym e
 
   -- Lines
 
-  pub line_said : (line : List ℕ) → IsLine file number line (line_form file number line)
+  pub line_said : (profile : Profile) (line : List ℕ) → IsLine profile file number line (line_form profile file number line)
   unfolding line_form
-  line_said line =
-      by_test (IsLine file number line) (is_empty line) _ _
+  line_said profile line =
+      by_test (IsLine profile file number line) (is_empty line) _ _
       (λ t. inl (empty_is line t, refl))
-      (λ f. by_test (IsLine file number line) (bytes_eq (first_word line) (codes "include")) _ _
-      (λ t.
-      let found = word_include line t in
-      inr (inl (
-        found.0,
-        found.1,
-        subst (IsIncludeForm file number found.0) (sym (include_is line found.0 found.1.0))
-            (by_test (IsIncludeForm file number found.0) (is_bad_include found.0) _ _ (λ bad. inr (bad, refl)) (λ good. inl (good, refl))),
-      )))
-      (λ g. inr (inr (f, (λ names h. absurd (cc (include_word line names h, g))), decided_said line _ (said 61 58 refl line)))))
-
-  pub line_back : (line : List ℕ) (told : Told) → IsLine file number line told → line_form file number line ≡ told
-  unfolding line_form
-  line_back line told (inl (e, is)) = ap (line_form file number) e ∙ sym is
-  line_back line told (inr (inl (names, h, is))) =
-      ap (λ t. cond t (Ok form.Blank) (cond (bytes_eq (first_word line) (codes "include")) (include_form file number line) (decided_form file number line (first_outside 61 58 Outside line)))) (ap is_empty h.0)
-      ∙ ap (λ t. cond t (include_form file number line) (decided_form file number line (first_outside 61 58 Outside line))) (include_word line names h)
-      ∙ include_is line names h.0 ∙ told_is is
+      (λ f. opened f (include_kind profile (first_word line)) refl)
     where
-      told_is : IsIncludeForm file number names told → included names ≡ told
-      told_is (inl (good, e)) = ap (λ t. cond t (Err (refusal file number (cause.Unsupported feature.Include))) (Ok (form.Include names))) good ∙ sym e
-      told_is (inr (bad, e)) = ap (λ t. cond t (Err (refusal file number (cause.Unsupported feature.Include))) (Ok (form.Include names))) bad ∙ sym e
-  line_back line told (inr (inr (some, none, h))) =
-      ap (λ t. cond t (Ok form.Blank) (cond (bytes_eq (first_word line) (codes "include")) (include_form file number line) (decided_form file number line (first_outside 61 58 Outside line)))) some
-      ∙ ap (λ t. cond t (include_form file number line) (decided_form file number line (first_outside 61 58 Outside line))) (no_word (bytes_eq (first_word line) (codes "include")) refl)
+      opened : is_empty line ≡ false → (kind : Option Bool) → include_kind profile (first_word line) ≡ kind → IsLine profile file number line (opened_form profile file number line kind)
+      opened f (Some required) e =
+          let names = drop (length (first_word line)) line in
+          inr (inl (required, names, kind_opens profile line required e, include_said profile required names))
+      opened f None e = inr (inr (f, (λ required names h. absurd (cc ((opens_kind profile line required names h).0, e))), decided_said line _ (said 61 58 refl line)))
+
+  pub line_back : (profile : Profile) (line : List ℕ) (told : Told) → IsLine profile file number line told → line_form profile file number line ≡ told
+  unfolding line_form
+  line_back profile line told (inl (e, is)) = ap (line_form profile file number) e ∙ sym is
+  line_back profile line told (inr (inl (required, names, h, is))) =
+      let found = opens_kind profile line required names h in
+      ap (λ t. cond t (Ok form.Blank) (opened_form profile file number line (include_kind profile (first_word line)))) (include_some profile line required names h)
+      ∙ ap (opened_form profile file number line) found.0
+      ∙ ap (include_form profile file number required) found.1
+      ∙ include_back profile required names told is
+  line_back profile line told (inr (inr (some, none, h))) =
+      ap (λ t. cond t (Ok form.Blank) (opened_form profile file number line (include_kind profile (first_word line)))) some
+      ∙ ap (opened_form profile file number line) (no_word (include_kind profile (first_word line)) refl)
       ∙ statement_back line told h
     where
-      no_word : (t : Bool) → bytes_eq (first_word line) (codes "include") ≡ t → bytes_eq (first_word line) (codes "include") ≡ false
-      no_word true e = let found = word_include line e in absurd (none found.0 found.1)
-      no_word false e = e
+      no_word : (kind : Option Bool) → include_kind profile (first_word line) ≡ kind → include_kind profile (first_word line) ≡ None
+      no_word (Some required) e = absurd (none required (drop (length (first_word line)) line) (kind_opens profile line required e))
+      no_word None e = e
 
-  text_said : (text : List ℕ) → IsTextLine file number text (statement_form file number text)
+  text_said : (profile : Profile) (text : List ℕ) → IsTextLine profile file number text (statement_form profile file number text)
   unfolding statement_form
-  text_said text =
+  text_said profile text =
       let cut = before_first_cuts is_hash text in
       let content = before_first is_hash text in
       let has : HasContent text content = (cut.0, cut.1.0, cut.1.1, hash_start cut.0 cut.1.2) in
-      by_test (IsTextLine file number text) (is_text content) _ _
-      (λ t. (content, has, inr (t, (trimmed content, trimmed_padded content, line_said (trimmed content)))))
+      by_test (IsTextLine profile file number text) (is_text content) _ _
+      (λ t. (content, has, inr (t, (trimmed content, trimmed_padded content, line_said profile (trimmed content)))))
       (λ f. (content, has, inl (f, refl)))
 
-  text_back : (text : List ℕ) (told : Told) → IsTextLine file number text told → statement_form file number text ≡ told
+  text_back : (profile : Profile) (text : List ℕ) (told : Told) → IsTextLine profile file number text told → statement_form profile file number text ≡ told
   unfolding statement_form
-  text_back text told (content, has, inl (bad, e)) =
+  text_back profile text told (content, has, inl (bad, e)) =
       let same : before_first is_hash text ≡ content = before_first_is is_hash text content has.0 (has.1, has.2, hash_start_back has.0 has.3) in
-      ap (λ c. cond (is_text c) (line_form file number (trimmed c)) (Err (refusal file number cause.NotText))) same
-      ∙ ap (λ t. cond t (line_form file number (trimmed content)) (Err (refusal file number cause.NotText))) bad ∙ sym e
-  text_back text told (content, has, inr (good, (line, padded, h))) =
+      ap (λ c. cond (is_text c) (line_form profile file number (trimmed c)) (Err (refusal file number cause.NotText))) same
+      ∙ ap (λ t. cond t (line_form profile file number (trimmed content)) (Err (refusal file number cause.NotText))) bad ∙ sym e
+  text_back profile text told (content, has, inr (good, (line, padded, h))) =
       let same : before_first is_hash text ≡ content = before_first_is is_hash text content has.0 (has.1, has.2, hash_start_back has.0 has.3) in
-      ap (λ c. cond (is_text c) (line_form file number (trimmed c)) (Err (refusal file number cause.NotText))) same
-      ∙ ap (λ t. cond t (line_form file number (trimmed content)) (Err (refusal file number cause.NotText))) good
-      ∙ ap (line_form file number) (trimmed_is content line padded) ∙ line_back line told h
+      ap (λ c. cond (is_text c) (line_form profile file number (trimmed c)) (Err (refusal file number cause.NotText))) same
+      ∙ ap (λ t. cond t (line_form profile file number (trimmed content)) (Err (refusal file number cause.NotText))) good
+      ∙ ap (line_form profile file number) (trimmed_is content line padded) ∙ line_back profile line told h
 
   recipe_said : (text : List ℕ) → IsRecipeLine file number text (recipe_form file number text)
   unfolding recipe_form
@@ -486,20 +552,20 @@ module _ (file : List ℕ) (number : ℕ) where
       ap (λ t. cond t (cond (is_empty (trimmed_start text)) (Ok form.Blank) (Ok (form.Recipe (record { text = text; line = number })))) (Err (refusal file number cause.NotText))) good
       ∙ ap (λ t. cond t (Ok form.Blank) (Ok (form.Recipe (record { text = text; line = number })))) (blank_start text ∙ some) ∙ sym e
 
-  kind_said : (k : Bool) (text : List ℕ) → IsOfKind k file number text (cond k (recipe_form file number text) (statement_form file number text))
-  kind_said true text = recipe_said text
-  kind_said false text = text_said text
+  kind_said : (profile : Profile) (k : Bool) (text : List ℕ) → IsOfKind profile k file number text (cond k (recipe_form file number text) (statement_form profile file number text))
+  kind_said profile true text = recipe_said text
+  kind_said profile false text = text_said profile text
 
-  kind_back : (k : Bool) (text : List ℕ) (told : Told) → IsOfKind k file number text told → cond k (recipe_form file number text) (statement_form file number text) ≡ told
-  kind_back true text told h = recipe_back text told h
-  kind_back false text told h = text_back text told h
+  kind_back : (profile : Profile) (k : Bool) (text : List ℕ) (told : Told) → IsOfKind profile k file number text told → cond k (recipe_form file number text) (statement_form profile file number text) ≡ told
+  kind_back profile true text told h = recipe_back text told h
+  kind_back profile false text told h = text_back profile text told h
 
 -- each line has the form that the grammar gives it
-pub form_said : (file : List ℕ) (line : LogicalLine) → IsForm file line (form_of file line)
+pub form_said : (profile : Profile) (file : List ℕ) (line : LogicalLine) → IsForm profile file line (form_of profile file line)
 unfolding form_of
-form_said file line = kind_said file line.number line.is_recipe line.text
+form_said profile file line = kind_said file line.number profile line.is_recipe line.text
 
 -- and no other
-pub form_back : (file : List ℕ) (line : LogicalLine) (told : Told) → IsForm file line told → form_of file line ≡ told
+pub form_back : (profile : Profile) (file : List ℕ) (line : LogicalLine) (told : Told) → IsForm profile file line told → form_of profile file line ≡ told
 unfolding form_of
-form_back file line told h = kind_back file line.number line.is_recipe line.text told h
+form_back profile file line told h = kind_back file line.number profile line.is_recipe line.text told h

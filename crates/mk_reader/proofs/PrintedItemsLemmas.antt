@@ -2,6 +2,7 @@
 use Rattle.std.proofs.Common.{◌≡◌, ℕ, ◌+◌, ◌%◌, Bool, true, false, cond, ◌&&◌, ◌==◌, List, [], ◌∷◌, ◌++◌, drop, map, reverse, flat_map, refl, sym, ap, subst, ◌∙◌, inl, inr, append-nil, Option, Some, Ok}
 use Rattle.std.specs.List.{prefix_len, onto_first}
 use Rattle.std.proofs.lemmas.Str.{is_utf8-from_IsUtf8, IsUtf8-nil}
+use Rattle.mk_profile.specs.declared.profile.Profile.{Profile}
 use Rattle.mk_reader.specs.Text.{is_backslash, begins_with, without_last, is_text}
 use Rattle.mk_reader.specs.Lines.{Physical, spelling, goes_on, body, opening, groups, logical_line, numbered, logical_lines}
 use Rattle.mk_reader.specs.Grammar.{begins_blank, IsForm}
@@ -47,10 +48,10 @@ own_recipe : (recipe rest : List (List ℕ)) → IsPlainRecipe recipe → AllOwn
 own_recipe [] rest h own = own
 own_recipe (text ∷ more) rest h own = (h.0, own_recipe more rest h.3 own)
 
-own_lines : (items : List PlainItem) → ArePlain items → AllOwn (flat_map lines_of items)
-own_lines [] h = tt
-own_lines (definition name append value ∷ more) h = (h.0.3, own_lines more h.1)
-own_lines (rule special targets prerequisites recipe ∷ more) h = (h.0.5, own_recipe recipe (flat_map lines_of more) h.0.6 (own_lines more h.1))
+own_lines : (profile : Profile) (items : List PlainItem) → ArePlain profile items → AllOwn (flat_map lines_of items)
+own_lines profile [] h = tt
+own_lines profile (definition name append value ∷ more) h = (h.0.3, own_lines profile more h.1)
+own_lines profile (rule special targets prerequisites recipe ∷ more) h = (h.0.5, own_recipe recipe (flat_map lines_of more) h.0.6 (own_lines profile more h.1))
 
 -- One logical line each
 
@@ -113,23 +114,23 @@ recipe_numbered number (text ∷ more) texts rest h e =
     one_more number (newline_line (9 ∷ text)) (physical_of (map (λ t. 9 ∷ t) more ++ texts)) (recipe_line number text) (with_recipe (next number) more rest)
     (own_ends (9 ∷ text) h.0) (recipe_logical number text h.0) (recipe_numbered (next number) more texts rest h.3 e)
 
-items_numbered : (number : ℕ) (items : List PlainItem) → ArePlain items → numbered number (groups (physical_of (flat_map lines_of items))) ≡ plain_lines number items
-items_numbered number [] h =
+items_numbered : (profile : Profile) (number : ℕ) (items : List PlainItem) → ArePlain profile items → numbered number (groups (physical_of (flat_map lines_of items))) ≡ plain_lines number items
+items_numbered profile number [] h =
     one_more number last_line [] (line_of_text number []) [] (last_ends last_line refl) (plain_logical number last_line (last_ends last_line refl) refl) refl
-items_numbered number (definition name append value ∷ more) h =
+items_numbered profile number (definition name append value ∷ more) h =
     plain_one number (definition_text name append value) (physical_of (flat_map lines_of more)) (plain_lines (next number) more) h.0.3
-    (begins_more name (sign append ++ spaced value) h.0.0.0 (no_blank_first name h.0.0.1)) (items_numbered (next number) more h.1)
-items_numbered number (rule special targets prerequisites recipe ∷ more) h =
+    (begins_more name (sign append ++ spaced value) h.0.0.0 (no_blank_first name h.0.0.1)) (items_numbered profile (next number) more h.1)
+items_numbered profile number (rule special targets prerequisites recipe ∷ more) h =
     plain_one number (rule_text targets prerequisites) (physical_of (map (λ t. 9 ∷ t) recipe ++ flat_map lines_of more)) (with_recipe (next number) recipe (λ n. plain_lines n more)) h.0.5
     (begins_more targets (32 ∷ 58 ∷ spaced prerequisites) h.0.0.0 h.0.0.1.0)
-    (recipe_numbered (next number) recipe (flat_map lines_of more) (λ n. plain_lines n more) h.0.6 (items_numbered (after_recipe (next number) recipe) more h.1))
+    (recipe_numbered (next number) recipe (flat_map lines_of more) (λ n. plain_lines n more) h.0.6 (items_numbered profile (after_recipe (next number) recipe) more h.1))
 
-pub printed_lines : (items : List PlainItem) → ArePlain items → logical_lines 1 (Some (printed items)) ≡ plain_lines 1 items
+pub printed_lines : (profile : Profile) (items : List PlainItem) → ArePlain profile items → logical_lines 1 (Some (printed items)) ≡ plain_lines 1 items
 unfolding logical_lines
-printed_lines items h =
+printed_lines profile items h =
     let texts = flat_map lines_of items in
-    ap (λ ls. numbered 1 (groups ls)) (lines_are_back (printed items) (physical_of texts) (spelled_lines texts, own_physical texts (own_lines items h)))
-    ∙ items_numbered 1 items h
+    ap (λ ls. numbered 1 (groups ls)) (lines_are_back (printed items) (physical_of texts) (spelled_lines texts, own_physical texts (own_lines profile items h)))
+    ∙ items_numbered profile 1 items h
 
 -- What they give
 
@@ -137,37 +138,37 @@ empty_text : is_text [] ≡ true
 unfolding is_text
 empty_text = ap (λ t. t && true) (is_utf8-from_IsUtf8 [] IsUtf8-nil)
 
-blank_read : (file : List ℕ) (number : ℕ) → IsForm file (line_of_text number []) (Ok form.Blank)
-blank_read file number = ([], ([], refl, refl, refl), inr (empty_text, ([], ([], [], refl, refl, refl, refl, refl), inl (refl, refl))))
+blank_read : (profile : Profile) (file : List ℕ) (number : ℕ) → IsForm profile file (line_of_text number []) (Ok form.Blank)
+blank_read profile file number = ([], ([], refl, refl, refl), inr (empty_text, ([], ([], [], refl, refl, refl, refl, refl), inl (refl, refl))))
 
-module _ (file : List ℕ) where
-  none_below : (number : ℕ) (items : List PlainItem) → ArePlain items → RecipeBelow file (plain_lines number items) []
-  none_below number [] h = (Ok form.Blank, blank_read file number, [], refl, refl)
+module _ (profile : Profile) (file : List ℕ) where
+  none_below : (number : ℕ) (items : List PlainItem) → ArePlain profile items → RecipeBelow profile file (plain_lines number items) []
+  none_below number [] h = (Ok form.Blank, blank_read profile file number, [], refl, refl)
   none_below number (definition name append value ∷ more) h =
-      let rest = recipe_some file (plain_lines (next number) more) in
-      (Ok (form.Definition (definition_on file number name append value)), definition_read file name value number append h.0.0 h.0.1 h.0.2, rest.0, rest.1, refl)
+      let rest = recipe_some profile file (plain_lines (next number) more) in
+      (Ok (form.Definition (definition_on file number name append value)), definition_read profile file name value number append h.0.0 h.0.1 h.0.2, rest.0, rest.1, refl)
   none_below number (rule special targets prerequisites recipe ∷ more) h =
-      let rest = recipe_some file (with_recipe (next number) recipe (λ n. plain_lines n more)) in
-      (Ok (form.Rule (rule_on file number special targets prerequisites)), rule_read file targets prerequisites number special h.0.0 h.0.1 h.0.2 h.0.3 h.0.4, rest.0, rest.1, refl)
+      let rest = recipe_some profile file (with_recipe (next number) recipe (λ n. plain_lines n more)) in
+      (Ok (form.Rule (rule_on file number special targets prerequisites)), rule_read profile file targets prerequisites number special h.0.0 h.0.1 h.0.2 h.0.3 h.0.4, rest.0, rest.1, refl)
 
-  recipe_below : (number : ℕ) (recipe : List (List ℕ)) (rest : ℕ → List LogicalLine) → IsPlainRecipe recipe → RecipeBelow file (rest (after_recipe number recipe)) [] → RecipeBelow file (with_recipe number recipe rest) (recipe_on number recipe)
+  recipe_below : (number : ℕ) (recipe : List (List ℕ)) (rest : ℕ → List LogicalLine) → IsPlainRecipe recipe → RecipeBelow profile file (rest (after_recipe number recipe)) [] → RecipeBelow profile file (with_recipe number recipe rest) (recipe_on number recipe)
   recipe_below number [] rest h none = none
   recipe_below number (text ∷ more) rest h none =
       (Ok (form.Recipe (record { text = text; line = number })), inr (inr (h.1, h.2, refl)), recipe_on (next number) more, recipe_below (next number) more rest h.3 none, refl)
 
-  recipe_read : (number : ℕ) (recipe : List (List ℕ)) (rest : ℕ → List LogicalLine) (said : List Statement) → IsPlainRecipe recipe → LineStatements file true (rest (after_recipe number recipe)) said →
-      LineStatements file true (with_recipe number recipe rest) said
+  recipe_read : (number : ℕ) (recipe : List (List ℕ)) (rest : ℕ → List LogicalLine) (said : List Statement) → IsPlainRecipe recipe → LineStatements profile file true (rest (after_recipe number recipe)) said →
+      LineStatements profile file true (with_recipe number recipe rest) said
   recipe_read number [] rest said h read = read
   recipe_read number (text ∷ more) rest said h read =
-      let below = recipe_some file (with_recipe (next number) more rest) in
+      let below = recipe_some profile file (with_recipe (next number) more rest) in
       (Ok (form.Recipe (record { text = text; line = number })), inr (inr (h.1, h.2, refl)), below.0, below.1, recipe_read (next number) more rest said h.3 read)
 
-  items_read : (number : ℕ) (items : List PlainItem) (above : Bool) → ArePlain items → LineStatements file above (plain_lines number items) (map statement.Item (items_on file number items))
-  items_read number [] above h = (Ok form.Blank, blank_read file number, [], refl, refl)
+  items_read : (number : ℕ) (items : List PlainItem) (above : Bool) → ArePlain profile items → LineStatements profile file above (plain_lines number items) (map statement.Item (items_on file number items))
+  items_read number [] above h = (Ok form.Blank, blank_read profile file number, [], refl, refl)
   items_read number (definition name append value ∷ more) above h =
-      let below = recipe_some file (plain_lines (next number) more) in (
+      let below = recipe_some profile file (plain_lines (next number) more) in (
         Ok (form.Definition (definition_on file number name append value)),
-        definition_read file name value number append h.0.0 h.0.1 h.0.2,
+        definition_read profile file name value number append h.0.0 h.0.1 h.0.2,
         below.0,
         below.1,
         (map statement.Item (items_on file (next number) more), items_read (next number) more false h.1, refl),
@@ -175,7 +176,7 @@ module _ (file : List ℕ) where
   items_read number (rule special targets prerequisites recipe ∷ more) above h =
       let after = after_recipe (next number) recipe in (
         Ok (form.Rule (rule_on file number special targets prerequisites)),
-        rule_read file targets prerequisites number special h.0.0 h.0.1 h.0.2 h.0.3 h.0.4,
+        rule_read profile file targets prerequisites number special h.0.0 h.0.1 h.0.2 h.0.3 h.0.4,
         recipe_on (next number) recipe,
         recipe_below (next number) recipe (λ n. plain_lines n more) h.0.6 (none_below after more h.1),
         (
@@ -185,6 +186,6 @@ module _ (file : List ℕ) where
         ),
       )
 
-pub printed_read : (file : List ℕ) (items : List PlainItem) → ArePlain items → AreStatements file (printed items) (map statement.Item (items_on file 1 items))
-printed_read file items h =
-    subst (λ lines. LineStatements file false lines (map statement.Item (items_on file 1 items))) (sym (printed_lines items h)) (items_read file 1 items false h)
+pub printed_read : (profile : Profile) (file : List ℕ) (items : List PlainItem) → ArePlain profile items → AreStatements profile file (printed items) (map statement.Item (items_on file 1 items))
+printed_read profile file items h =
+    subst (λ lines. LineStatements profile file false lines (map statement.Item (items_on file 1 items))) (sym (printed_lines profile items h)) (items_read profile file 1 items false h)

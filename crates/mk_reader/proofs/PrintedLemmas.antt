@@ -4,8 +4,9 @@ use Rattle.std.specs.List.{list_any}
 use Rattle.std.proofs.lemmas.List.{reverse-append}
 use Rattle.std.proofs.lemmas.List.Folds.{list_any-append}
 use Rattle.byte_strings.specs.Blanks.{is_blank, first_word}
+use Rattle.mk_profile.specs.declared.profile.Profile.{Profile}
 use Rattle.mk_reader.specs.Text.{is_hash, is_empty, begins_with, is_text}
-use Rattle.mk_reader.specs.Grammar.{Piece, plain, piece_text, IsPiece, ArePieces, nothing, Lacks, Whole, Without, begins_blank, Padded, BeginsWithWord, IsNoInclude, SpellsName, SpellsAssignment, SpellsDefinition, SpellsColon, IsRuleEnd, SpellsEnd, SpellsRule, HasSpecial, is_refused_with, IsStatement, HasContent, IsTextLine, IsForm}
+use Rattle.mk_reader.specs.Grammar.{Piece, plain, piece_text, IsPiece, ArePieces, nothing, Lacks, Whole, Without, begins_blank, Padded, BeginsWithWord, BeginsInclude, IsNoInclude, SpellsName, SpellsAssignment, SpellsDefinition, SpellsColon, IsRuleEnd, SpellsEnd, SpellsRule, HasSpecial, is_refused_with, IsStatement, HasContent, IsTextLine, IsForm}
 use Rattle.mk_reader.specs.Printed.{line_of_text, HasBareEnds, IsPlainName, IsPlainValue, ArePlainTargets, ArePlainPrerequisites, sign, spaced, definition_text, rule_text, definition_on, rule_on}
 use Rattle.mk_reader.specs.declared.special.SpecialName.{SpecialName}
 use Rattle.mk_reader.specs.declared.fault.Refusal.{Refusal}
@@ -13,7 +14,7 @@ use Rattle.mk_reader.specs.declared.form.Form.{Form}
 use Rattle.mk_reader.specs.declared.form.Form.TheVariants as form
 use Rattle.mk_reader.proofs.ReferenceLemmas.{or_false}
 use Rattle.mk_reader.proofs.BlankLemmas.{starts, before_first_is}
-use Rattle.mk_reader.proofs.GrammarLemmas.{hash_start_back, word_is, begins_with_first_word}
+use Rattle.mk_reader.proofs.GrammarLemmas.{hash_start_back, word_is, begins_with_first_word, include_bare}
 
 abbrev Told : Type 0
 Told = Result Form Refusal
@@ -92,21 +93,21 @@ without_spaced (b ∷ bs) w = (plain 32 ∷ w.0, w.1, ap (λ xs. 32 ∷ xs) w.2,
 -- A whole line
 
 -- a text without a comment or blanks at its ends is its own line
-itself_read : (file : List ℕ) (number : ℕ) (text : List ℕ) (told : Told) → Lacks 35 text → is_text text ≡ true → HasBareEnds text → is_empty text ≡ false → IsNoInclude text → IsStatement file number text told →
-    IsTextLine file number text told
-itself_read file number text told hash good bare some none is =
+itself_read : (profile : Profile) (file : List ℕ) (number : ℕ) (text : List ℕ) (told : Told) → Lacks 35 text → is_text text ≡ true → HasBareEnds text → is_empty text ≡ false → IsNoInclude profile text → IsStatement file number text told →
+    IsTextLine profile file number text told
+itself_read profile file number text told hash good bare some none is =
     (text, ([], sym (append-nil text), hash, refl), inr (good, (text, padded_itself text bare, inr (inr (some, none, is)))))
 
--- a line whose words before a space don't begin with `include` is no include line
-no_include : (front rest : List ℕ) → (BeginsWithWord front (codes "include") → ⊥) → IsNoInclude (front ++ 32 ∷ rest)
-no_include front rest none names h =
+-- a line whose words before a space begin no include line is none
+no_include : (profile : Profile) (front rest : List ℕ) → ((word : List ℕ) (required : Bool) → BeginsInclude profile word required → BeginsWithWord front word → ⊥) → IsNoInclude profile (front ++ 32 ∷ rest)
+no_include profile front rest none required names (opens, begins, is, closes) =
     let line = front ++ 32 ∷ rest in
     let own = begins_with_first_word front in
     let word = first_word front in
     let ends : (xs : List ℕ) → (is_empty xs || begins_blank xs) ≡ true → (is_empty (xs ++ 32 ∷ rest) || begins_blank (xs ++ 32 ∷ rest)) ≡ true = blank_behind in
     let whole : BeginsWithWord line word = (own.0 ++ 32 ∷ rest, ap (λ xs. xs ++ 32 ∷ rest) own.1 ∙ append_assoc word own.0 (32 ∷ rest), own.2, ends own.0 own.3) in
-    let same : word ≡ codes "include" = sym (word_is line word whole) ∙ word_is line (codes "include") (names, h.0, refl, h.1) in
-    none (subst (BeginsWithWord front) same own)
+    let same : word ≡ opens = sym (word_is line word whole) ∙ word_is line opens (names, is, include_bare profile opens required begins, closes) in
+    none opens required begins (subst (BeginsWithWord front) same own)
   where
     blank_behind : (xs : List ℕ) → (is_empty xs || begins_blank xs) ≡ true → (is_empty (xs ++ 32 ∷ rest) || begins_blank (xs ++ 32 ∷ rest)) ≡ true
     blank_behind [] e = refl
@@ -114,10 +115,11 @@ no_include front rest none names h =
 
 -- Definitions
 
-plain_no_include : (name : List ℕ) → IsPlainName name → BeginsWithWord name (codes "include") → ⊥
-plain_no_include name h begins =
+plain_no_include : (profile : Profile) (name : List ℕ) → IsPlainName profile name → (word : List ℕ) (required : Bool) → BeginsInclude profile word required → BeginsWithWord name word → ⊥
+plain_no_include profile name h word required begins first =
     let own : BeginsWithWord name name = ([], sym (append-nil name), h.1, refl) in
-    h.4 (sym (word_is name name own) ∙ word_is name (codes "include") begins)
+    let same : word ≡ name = sym (word_is name word first) ∙ word_is name name own in
+    h.4 required (subst (λ w. BeginsInclude profile w required) same begins)
 
 -- what stands before the `=`
 abbrev before_sign : (name : List ℕ) (append : Bool) → List ℕ
@@ -162,9 +164,9 @@ signed : (append : Bool) (value : List ℕ) → (rest : List ℕ) × (sign appen
 signed false value = (61 ∷ spaced value, refl)
 signed true value = (43 ∷ 61 ∷ spaced value, refl)
 
-pub definition_read : (file name value : List ℕ) (number : ℕ) (append : Bool) → IsPlainName name → IsPlainValue value → is_text (definition_text name append value) ≡ true →
-    IsForm file (line_of_text number (definition_text name append value)) (Ok (form.Definition (definition_on file number name append value)))
-definition_read file name value number append n v good =
+pub definition_read : (profile : Profile) (file name value : List ℕ) (number : ℕ) (append : Bool) → IsPlainName profile name → IsPlainValue value → is_text (definition_text name append value) ≡ true →
+    IsForm profile file (line_of_text number (definition_text name append value)) (Ok (form.Definition (definition_on file number name append value)))
+definition_read profile file name value number append n v good =
     let text = definition_text name append value in
     let bare = bare_word name n.1 in
     let behind = signed append value in
@@ -175,8 +177,8 @@ definition_read file name value number append n v good =
     let assigns : SpellsAssignment text (before_sign name append) (spaced value) = (sign_cuts name value append, whole_before name append n.3, no_question name append) in
     let spells : SpellsDefinition text name append value =
     (before_sign name append, spaced value, assigns, name_spelled name append bare, n.0, n.1, padded_spaced value v.1) in
-    let none : IsNoInclude text = subst (λ xs. IsNoInclude (name ++ xs)) (sym behind.1) (no_include name behind.0 (plain_no_include name n)) in
-    itself_read file number text _ (lacks_both 35 name (sign append ++ spaced value) n.2 (signed_plain append value v.0)) good ends
+    let none : IsNoInclude profile text = subst (λ xs. IsNoInclude profile (name ++ xs)) (sym behind.1) (no_include profile name behind.0 (plain_no_include profile name n)) in
+    itself_read profile file number text _ (lacks_both 35 name (sign append ++ spaced value) n.2 (signed_plain append value v.0)) good ends
     (empty_more name (sign append ++ spaced value) n.0) none (refl, refl, spells)
 
 -- Rules
@@ -193,9 +195,9 @@ colon_plain : (prerequisites : List ℕ) → Lacks 35 prerequisites → Lacks 35
 colon_plain [] h = refl
 colon_plain (b ∷ bs) h = h
 
-pub rule_read : (file targets prerequisites : List ℕ) (number : ℕ) (special : Option SpecialName) → ArePlainTargets targets → ArePlainPrerequisites prerequisites → HasSpecial targets special → is_refused_with prerequisites special ≡ false → is_text (rule_text targets prerequisites) ≡ true →
-    IsForm file (line_of_text number (rule_text targets prerequisites)) (Ok (form.Rule (rule_on file number special targets prerequisites)))
-rule_read file targets prerequisites number special t p has taken good =
+pub rule_read : (profile : Profile) (file targets prerequisites : List ℕ) (number : ℕ) (special : Option SpecialName) → ArePlainTargets profile targets → ArePlainPrerequisites prerequisites → HasSpecial targets special → is_refused_with prerequisites special ≡ false → is_text (rule_text targets prerequisites) ≡ true →
+    IsForm profile file (line_of_text number (rule_text targets prerequisites)) (Ok (form.Rule (rule_on file number special targets prerequisites)))
+rule_read profile file targets prerequisites number special t p has taken good =
     let text = rule_text targets prerequisites in
     let ends : HasBareEnds text = (
       begins_more targets (32 ∷ 58 ∷ spaced prerequisites) t.0 t.1.0,
@@ -206,8 +208,8 @@ rule_read file targets prerequisites number special t p has taken good =
     let end : SpellsEnd (spaced prerequisites) prerequisites None = (without_spaced prerequisites p.2, padded_spaced prerequisites p.1) in
     let spells : SpellsRule text targets prerequisites None =
     (targets ++ 32 ∷ [], spaced prerequisites, colon, no_rule_sign prerequisites, padded_space targets t.1, t.0, end) in
-    itself_read file number text _ (lacks_both 35 targets (32 ∷ 58 ∷ spaced prerequisites) t.2 (colon_plain prerequisites p.0)) good ends
-    (empty_more targets (32 ∷ 58 ∷ spaced prerequisites) t.0) (no_include targets (58 ∷ spaced prerequisites) t.4)
+    itself_read profile file number text _ (lacks_both 35 targets (32 ∷ 58 ∷ spaced prerequisites) t.2 (colon_plain prerequisites p.0)) good ends
+    (empty_more targets (32 ∷ 58 ∷ spaced prerequisites) t.0) (no_include profile targets (58 ∷ spaced prerequisites) t.4)
     (refl, refl, None, refl, spells, has, taken)
 
 -- Comments
@@ -218,18 +220,18 @@ content_is text content comment none starts has =
     sym (before_first_is is_hash (text ++ comment) text comment (refl, none, hash_start_back comment starts))
     ∙ before_first_is is_hash (text ++ comment) content has.0 (has.1, has.2, hash_start_back has.0 has.3)
 
-other_comment : (file : List ℕ) (number : ℕ) (text one other : List ℕ) (told : Told) → Lacks 35 text → (is_empty one || begins_with 35 one) ≡ true → (is_empty other || begins_with 35 other) ≡ true →
-    IsTextLine file number (text ++ one) told → IsTextLine file number (text ++ other) told
-other_comment file number text one other told none starts also h =
+other_comment : (profile : Profile) (file : List ℕ) (number : ℕ) (text one other : List ℕ) (told : Told) → Lacks 35 text → (is_empty one || begins_with 35 one) ≡ true → (is_empty other || begins_with 35 other) ≡ true →
+    IsTextLine profile file number (text ++ one) told → IsTextLine profile file number (text ++ other) told
+other_comment profile file number text one other told none starts also h =
     let same : text ≡ h.0 = content_is text h.0 one none starts h.1 in
     (h.0, (other, ap (λ xs. xs ++ other) same, ap (list_any (λ b. b == 35)) (sym same) ∙ none, also), h.2)
 
-pub comment_dropped : (file : List ℕ) (number : ℕ) (text comment : List ℕ) (told : Told) → Lacks 35 text →
-    IsForm file (line_of_text number (text ++ 35 ∷ comment)) told → IsForm file (line_of_text number text) told
-comment_dropped file number text comment told none h =
-    subst (λ xs. IsTextLine file number xs told) (append-nil text) (other_comment file number text (35 ∷ comment) [] told none refl refl h)
+pub comment_dropped : (profile : Profile) (file : List ℕ) (number : ℕ) (text comment : List ℕ) (told : Told) → Lacks 35 text →
+    IsForm profile file (line_of_text number (text ++ 35 ∷ comment)) told → IsForm profile file (line_of_text number text) told
+comment_dropped profile file number text comment told none h =
+    subst (λ xs. IsTextLine profile file number xs told) (append-nil text) (other_comment profile file number text (35 ∷ comment) [] told none refl refl h)
 
-pub comment_added : (file : List ℕ) (number : ℕ) (text comment : List ℕ) (told : Told) → Lacks 35 text →
-    IsForm file (line_of_text number text) told → IsForm file (line_of_text number (text ++ 35 ∷ comment)) told
-comment_added file number text comment told none h =
-    other_comment file number text [] (35 ∷ comment) told none refl refl (subst (λ xs. IsTextLine file number xs told) (sym (append-nil text)) h)
+pub comment_added : (profile : Profile) (file : List ℕ) (number : ℕ) (text comment : List ℕ) (told : Told) → Lacks 35 text →
+    IsForm profile file (line_of_text number text) told → IsForm profile file (line_of_text number (text ++ 35 ∷ comment)) told
+comment_added profile file number text comment told none h =
+    other_comment profile file number text [] (35 ∷ comment) told none refl refl (subst (λ xs. IsTextLine profile file number xs told) (sym (append-nil text)) h)

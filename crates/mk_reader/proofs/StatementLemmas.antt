@@ -1,11 +1,13 @@
 -- The statements of a text: it has just one list of them, and what is gathered line by line comes to it.
 use Rattle.std.proofs.Common.{◌≡◌, ℕ, Bool, true, false, List, [], ◌∷◌, ◌++◌, refl, sym, ap, subst, ◌∙◌, Option, Some, None, is_some, Result, Ok, Err, IfOk, append_assoc, append-nil}
+use Rattle.mk_profile.specs.declared.profile.Profile.{Profile}
 use Rattle.mk_reader.specs.Lines.{logical_lines}
 use Rattle.mk_reader.specs.Form.{Gives, form_of}
 use Rattle.mk_reader.specs.Grammar.{refusal, IsForm}
 use Rattle.mk_reader.specs.declared.fault.Cause.TheVariants.{TabFirst}
 use Rattle.mk_reader.specs.declared.item.RecipeLine.{RecipeLine}
 use Rattle.mk_reader.specs.declared.item.Definition.{Definition}
+use Rattle.mk_reader.specs.declared.item.IncludeLine.{IncludeLine}
 use Rattle.mk_reader.specs.declared.item.Item.{Item}
 use Rattle.mk_reader.specs.declared.item.Item.TheVariants as item
 use Rattle.mk_reader.specs.declared.item.Statement.{Statement}
@@ -37,29 +39,28 @@ form_one : (file : List ℕ) (number : ℕ) (above : Bool) (told : Result Form R
 form_one file number above (Err fault) below Rest h one other a b = a ∙ sym b
 form_one file number above (Ok form.Blank) below Rest h one other a b = h above one other a b
 form_one file number above (Ok (form.Recipe line)) below Rest h one other a b = below_one file number above Rest h one other a b
-form_one file number above (Ok (form.Include names)) below Rest h one other a b =
-    before_one (statement.Include (record { line = number; names = names })) (Rest false) (h false) one other a b
+form_one file number above (Ok (form.Include include)) below Rest h one other a b = before_one (statement.Include include) (Rest false) (h false) one other a b
 form_one file number above (Ok (form.Definition definition)) below Rest h one other a b = before_one (statement.Item (item.Definition definition)) (Rest false) (h false) one other a b
 form_one file number above (Ok (form.Rule rule)) below Rest h one other a b = before_one (statement.Item (with_lines rule below)) (Rest true) (h true) one other a b
 
-form_same : (file : List ℕ) (line : LogicalLine) (one other : Result Form Refusal) → IsForm file line one → IsForm file line other → one ≡ other
-form_same file line one other a b = sym (form_back file line one a) ∙ form_back file line other b
+form_same : (profile : Profile) (file : List ℕ) (line : LogicalLine) (one other : Result Form Refusal) → IsForm profile file line one → IsForm profile file line other → one ≡ other
+form_same profile file line one other a b = sym (form_back profile file line one a) ∙ form_back profile file line other b
 
-recipe_one : (file : List ℕ) (lines : List LogicalLine) (one other : List RecipeLine) → RecipeBelow file lines one → RecipeBelow file lines other → one ≡ other
-recipe_one file [] one other a b = a ∙ sym b
-recipe_one file (line ∷ more) one other (told, is, rest, below, e) (also, was, last, under, f) =
-    e ∙ ap (λ t. recipe_from t rest) (form_same file line told also is was) ∙ ap (recipe_from also) (recipe_one file more rest last below under) ∙ sym f
+recipe_one : (profile : Profile) (file : List ℕ) (lines : List LogicalLine) (one other : List RecipeLine) → RecipeBelow profile file lines one → RecipeBelow profile file lines other → one ≡ other
+recipe_one profile file [] one other a b = a ∙ sym b
+recipe_one profile file (line ∷ more) one other (told, is, rest, below, e) (also, was, last, under, f) =
+    e ∙ ap (λ t. recipe_from t rest) (form_same profile file line told also is was) ∙ ap (recipe_from also) (recipe_one profile file more rest last below under) ∙ sym f
 
-line_one : (file : List ℕ) (above : Bool) (lines : List LogicalLine) → IsOne (LineStatements file above lines)
-line_one file above [] one other a b = a ∙ sym b
-line_one file above (line ∷ more) one other (told, is, below, lies, a) (also, was, under, stands, b) =
-    let Rest : Bool → List Statement → Type 0 = λ now. LineStatements file now more in
-    form_one file line.number above also under Rest (λ now. line_one file now more) one other
-    (subst (λ x. FormStatements file line.number above x under Rest one) (form_same file line told also is was)
-    (subst (λ x. FormStatements file line.number above told x Rest one) (recipe_one file more below under lies stands) a)) b
+line_one : (profile : Profile) (file : List ℕ) (above : Bool) (lines : List LogicalLine) → IsOne (LineStatements profile file above lines)
+line_one profile file above [] one other a b = a ∙ sym b
+line_one profile file above (line ∷ more) one other (told, is, below, lies, a) (also, was, under, stands, b) =
+    let Rest : Bool → List Statement → Type 0 = λ now. LineStatements profile file now more in
+    form_one file line.number above also under Rest (λ now. line_one profile file now more) one other
+    (subst (λ x. FormStatements file line.number above x under Rest one) (form_same profile file line told also is was)
+    (subst (λ x. FormStatements file line.number above told x Rest one) (recipe_one profile file more below under lies stands) a)) b
 
-pub text_one : (file text : List ℕ) (one other : List Statement) → AreStatements file text one → AreStatements file text other → one ≡ other
-text_one file text one other a b = line_one file false (logical_lines 1 (Some text)) one other a b
+pub text_one : (profile : Profile) (file text : List ℕ) (one other : List Statement) → AreStatements profile file text one → AreStatements profile file text other → one ≡ other
+text_one profile file text one other a b = line_one profile file false (logical_lines 1 (Some text)) one other a b
 
 -- There is one.
 
@@ -77,31 +78,31 @@ form_some : (file : List ℕ) (number : ℕ) (above : Bool) (told : Result Form 
 form_some file number above (Err fault) below Rest h = (statement.Refused fault ∷ [], refl)
 form_some file number above (Ok form.Blank) below Rest h = h above
 form_some file number above (Ok (form.Recipe line)) below Rest h = below_some file number above Rest h
-form_some file number above (Ok (form.Include names)) below Rest h = before_some (statement.Include (record { line = number; names = names })) (Rest false) (h false)
+form_some file number above (Ok (form.Include include)) below Rest h = before_some (statement.Include include) (Rest false) (h false)
 form_some file number above (Ok (form.Definition definition)) below Rest h = before_some (statement.Item (item.Definition definition)) (Rest false) (h false)
 form_some file number above (Ok (form.Rule rule)) below Rest h = before_some (statement.Item (with_lines rule below)) (Rest true) (h true)
 
-pub recipe_some : (file : List ℕ) (lines : List LogicalLine) → (below : List RecipeLine) × RecipeBelow file lines below
-recipe_some file [] = ([], refl)
-recipe_some file (line ∷ more) =
-    let rest = recipe_some file more in
-    (recipe_from (form_of file line) rest.0, (form_of file line, form_said file line, rest.0, rest.1, refl))
+pub recipe_some : (profile : Profile) (file : List ℕ) (lines : List LogicalLine) → (below : List RecipeLine) × RecipeBelow profile file lines below
+recipe_some profile file [] = ([], refl)
+recipe_some profile file (line ∷ more) =
+    let rest = recipe_some profile file more in
+    (recipe_from (form_of profile file line) rest.0, (form_of profile file line, form_said profile file line, rest.0, rest.1, refl))
 
-line_some : (file : List ℕ) (above : Bool) (lines : List LogicalLine) → Some_of (LineStatements file above lines)
-line_some file above [] = ([], refl)
-line_some file above (line ∷ more) =
-    let below = recipe_some file more in
-    let whole = form_some file line.number above (form_of file line) below.0 (λ now. LineStatements file now more) (λ now. line_some file now more) in
-    (whole.0, (form_of file line, form_said file line, below.0, below.1, whole.1))
+line_some : (profile : Profile) (file : List ℕ) (above : Bool) (lines : List LogicalLine) → Some_of (LineStatements profile file above lines)
+line_some profile file above [] = ([], refl)
+line_some profile file above (line ∷ more) =
+    let below = recipe_some profile file more in
+    let whole = form_some file line.number above (form_of profile file line) below.0 (λ now. LineStatements profile file now more) (λ now. line_some profile file now more) in
+    (whole.0, (form_of profile file line, form_said profile file line, below.0, below.1, whole.1))
 
-pub text_some : (file text : List ℕ) → Some_of (AreStatements file text)
-text_some file text = line_some file false (logical_lines 1 (Some text))
+pub text_some : (profile : Profile) (file text : List ℕ) → Some_of (AreStatements profile file text)
+text_some profile file text = line_some profile file false (logical_lines 1 (Some text))
 
 -- What is gathered comes to it.
 
 -- the form that the code finds is the line's
-pub is_form : (file : List ℕ) (line : LogicalLine) (told : Result Form Refusal) → form_of file line ≡ told → IsForm file line told
-is_form file line told e = subst (IsForm file line) e (form_said file line)
+pub is_form : (profile : Profile) (file : List ℕ) (line : LogicalLine) (told : Result Form Refusal) → form_of profile file line ≡ told → IsForm profile file line told
+is_form profile file line told e = subst (IsForm profile file line) e (form_said profile file line)
 
 pub told_refused : (told : Result Form Refusal) (fault : ReadFault) (refused : Refusal) → Gives {A = Form} (Err fault) told → fault ≡ Refused refused → told ≡ Err refused
 told_refused told fault refused g e = subst (λ f. Gives {A = Form} (Err f) told) e g
@@ -113,37 +114,37 @@ if_ok (Err e) P Q p h = tt
 false_true : false ≡ true → ⊥
 false_true e = cc
 
-module _ (file : List ℕ) (line : LogicalLine) (more : List LogicalLine) where
+module _ (profile : Profile) (file : List ℕ) (line : LogicalLine) (more : List LogicalLine) where
   -- what the line of this form, and what is left behind it, add to what was gathered
-  one_more : (gathered : List Statement) (unfinished : Option UnfinishedRule) (told : Result Form Refusal) → IsForm file line told → (below : List RecipeLine) → RecipeBelow file more below → (rest : List Statement) →
-      FormStatements file line.number (is_some unfinished) told below (λ now. LineStatements file now more) rest →
-      ComesTo file gathered unfinished (line ∷ more) (gathered ++ finished unfinished (recipe_from told below) ++ rest)
+  one_more : (gathered : List Statement) (unfinished : Option UnfinishedRule) (told : Result Form Refusal) → IsForm profile file line told → (below : List RecipeLine) → RecipeBelow profile file more below → (rest : List Statement) →
+      FormStatements file line.number (is_some unfinished) told below (λ now. LineStatements profile file now more) rest →
+      ComesTo profile file gathered unfinished (line ∷ more) (gathered ++ finished unfinished (recipe_from told below) ++ rest)
   one_more gathered unfinished told is below lies rest f = (recipe_from told below, (told, is, below, lies, refl), rest, (told, is, below, lies, f), refl)
 
-  pub blank_more : (gathered : List Statement) (unfinished : Option UnfinishedRule) → IsForm file line (Ok form.Blank) → (whole : List Statement) → ComesTo file gathered unfinished more whole → ComesTo file gathered unfinished (line ∷ more) whole
+  pub blank_more : (gathered : List Statement) (unfinished : Option UnfinishedRule) → IsForm profile file line (Ok form.Blank) → (whole : List Statement) → ComesTo profile file gathered unfinished more whole → ComesTo profile file gathered unfinished (line ∷ more) whole
   blank_more gathered unfinished is whole (below, lies, rest, r, e) =
-      subst (ComesTo file gathered unfinished (line ∷ more)) (sym e) (one_more gathered unfinished (Ok form.Blank) is below lies rest r)
+      subst (ComesTo profile file gathered unfinished (line ∷ more)) (sym e) (one_more gathered unfinished (Ok form.Blank) is below lies rest r)
 
-  recipe_added : (old new : List Statement) (rule : UnfinishedRule) (now : Option UnfinishedRule) (ended : Bool) (text : RecipeLine) → IsForm file line (Ok (form.Recipe text)) → RecipeLineTaken file line.number text old (Some rule) new now ended →
-      (whole : List Statement) → ComesTo file new now more whole → ComesTo file old (Some rule) (line ∷ more) whole
+  recipe_added : (old new : List Statement) (rule : UnfinishedRule) (now : Option UnfinishedRule) (ended : Bool) (text : RecipeLine) → IsForm profile file line (Ok (form.Recipe text)) → RecipeLineTaken file line.number text old (Some rule) new now ended →
+      (whole : List Statement) → ComesTo profile file new now more whole → ComesTo profile file old (Some rule) (line ∷ more) whole
   recipe_added old new rule now ended text is (_, same, u) whole comes =
       let next : UnfinishedRule = record rule { rule = record rule.rule { recipe = rule.rule.recipe ++ text ∷ [] } } in
-      let (below, lies, rest, r, e) = subst (λ s. ComesTo file s (Some next) more whole) same (subst (λ n. ComesTo file new n more whole) u comes) in
+      let (below, lies, rest, r, e) = subst (λ s. ComesTo profile file s (Some next) more whole) same (subst (λ n. ComesTo profile file new n more whole) u comes) in
       let item : List RecipeLine → Item = λ recipe. item_of rule.special (record rule.rule { recipe = recipe }) in
       let all : with_lines next below ≡ with_lines rule (text ∷ below) = ap item (append_assoc rule.rule.recipe (text ∷ []) below) in
-      subst (ComesTo file old (Some rule) (line ∷ more)) (ap (λ i. old ++ (statement.Item i ∷ []) ++ rest) (sym all) ∙ sym e)
+      subst (ComesTo profile file old (Some rule) (line ∷ more)) (ap (λ i. old ++ (statement.Item i ∷ []) ++ rest) (sym all) ∙ sym e)
       (one_more old (Some rule) (Ok (form.Recipe text)) is below lies rest r)
 
-  pub recipe_more : (old new : List Statement) (unfinished now : Option UnfinishedRule) (ended : Bool) (text : RecipeLine) → IsForm file line (Ok (form.Recipe text)) → RecipeLineTaken file line.number text old unfinished new now ended → ended ≡ false →
-      (whole : List Statement) → ComesTo file new now more whole → ComesTo file old unfinished (line ∷ more) whole
+  pub recipe_more : (old new : List Statement) (unfinished now : Option UnfinishedRule) (ended : Bool) (text : RecipeLine) → IsForm profile file line (Ok (form.Recipe text)) → RecipeLineTaken file line.number text old unfinished new now ended → ended ≡ false →
+      (whole : List Statement) → ComesTo profile file new now more whole → ComesTo profile file old unfinished (line ∷ more) whole
   recipe_more old new None now ended text is taken f whole comes = absurd (false_true (sym f ∙ taken.0))
   recipe_more old new (Some rule) now ended text is taken f whole comes = recipe_added old new rule now ended text is taken whole comes
 
-  pub recipe_ends : (old new : List Statement) (unfinished now : Option UnfinishedRule) (ended : Bool) (text : RecipeLine) → IsForm file line (Ok (form.Recipe text)) → RecipeLineTaken file line.number text old unfinished new now ended → ended ≡ true →
-      ComesTo file old unfinished (line ∷ more) new
+  pub recipe_ends : (old new : List Statement) (unfinished now : Option UnfinishedRule) (ended : Bool) (text : RecipeLine) → IsForm profile file line (Ok (form.Recipe text)) → RecipeLineTaken file line.number text old unfinished new now ended → ended ≡ true →
+      ComesTo profile file old unfinished (line ∷ more) new
   recipe_ends old new None now ended text is taken t =
-      let below = recipe_some file more in
-      subst (ComesTo file old None (line ∷ more)) (ap (λ xs. xs ++ statement.Refused (refusal file line.number TabFirst) ∷ []) (append-nil old) ∙ sym taken.1)
+      let below = recipe_some profile file more in
+      subst (ComesTo profile file old None (line ∷ more)) (ap (λ xs. xs ++ statement.Refused (refusal file line.number TabFirst) ∷ []) (append-nil old) ∙ sym taken.1)
       (one_more old None (Ok (form.Recipe text)) is below.0 below.1 (statement.Refused (refusal file line.number TabFirst) ∷ []) refl)
   recipe_ends old new (Some rule) now ended text is taken t = absurd (false_true (sym taken.0 ∙ t))
 
@@ -151,52 +152,52 @@ module _ (file : List ℕ) (line : LogicalLine) (more : List LogicalLine) where
   apart : (old done : List Statement) (one : Statement) (rest : List Statement) → (old ++ done ++ one ∷ []) ++ rest ≡ old ++ done ++ one ∷ rest
   apart old done one rest = append_assoc (old ++ done) (one ∷ []) rest
 
-  added : (told : Result Form Refusal) (one : Statement) → IsForm file line told → ((below : List RecipeLine) → recipe_from told below ≡ []) →
+  added : (told : Result Form Refusal) (one : Statement) → IsForm profile file line told → ((below : List RecipeLine) → recipe_from told below ≡ []) →
       ((above : Bool) (below : List RecipeLine) (Rest : Bool → List Statement → Type 0) (rest : List Statement) → Rest false rest → FormStatements file line.number above told below Rest (one ∷ rest)) →
       (old new : List Statement) (unfinished now : Option UnfinishedRule) → new ≡ old ++ finished unfinished [] ++ one ∷ [] → now ≡ None →
-      (whole : List Statement) → ComesTo file new now more whole → ComesTo file old unfinished (line ∷ more) whole
+      (whole : List Statement) → ComesTo profile file new now more whole → ComesTo profile file old unfinished (line ∷ more) whole
   added told one is none said old new unfinished now n u whole comes =
-      let (below, lies, rest, r, e) = subst (λ s. ComesTo file s None more whole) n (subst (λ x. ComesTo file new x more whole) u comes) in
-      subst (ComesTo file old unfinished (line ∷ more))
+      let (below, lies, rest, r, e) = subst (λ s. ComesTo profile file s None more whole) n (subst (λ x. ComesTo profile file new x more whole) u comes) in
+      subst (ComesTo profile file old unfinished (line ∷ more))
       (ap (λ recipe. old ++ finished unfinished recipe ++ one ∷ rest) (none below) ∙ sym (apart old (finished unfinished []) one rest)
       ∙ ap (λ xs. xs ++ rest) (sym (append-nil (old ++ finished unfinished [] ++ one ∷ []))) ∙ sym e)
-      (one_more old unfinished told is below lies (one ∷ rest) (said (is_some unfinished) below (λ now. LineStatements file now more) rest r))
+      (one_more old unfinished told is below lies (one ∷ rest) (said (is_some unfinished) below (λ now. LineStatements profile file now more) rest r))
 
-  pub include_more : (old new : List Statement) (unfinished now : Option UnfinishedRule) (names : List ℕ) → IsForm file line (Ok (form.Include names)) →
-      new ≡ old ++ finished unfinished [] ++ statement.Include (record { line = line.number; names = names }) ∷ [] → now ≡ None →
-      (whole : List Statement) → ComesTo file new now more whole → ComesTo file old unfinished (line ∷ more) whole
-  include_more old new unfinished now names is =
-      added (Ok (form.Include names)) (statement.Include (record { line = line.number; names = names })) is (λ below. refl) (λ above below Rest rest r. (rest, r, refl)) old new unfinished now
+  pub include_more : (old new : List Statement) (unfinished now : Option UnfinishedRule) (include : IncludeLine) → IsForm profile file line (Ok (form.Include include)) →
+      new ≡ old ++ finished unfinished [] ++ statement.Include include ∷ [] → now ≡ None →
+      (whole : List Statement) → ComesTo profile file new now more whole → ComesTo profile file old unfinished (line ∷ more) whole
+  include_more old new unfinished now include is =
+      added (Ok (form.Include include)) (statement.Include include) is (λ below. refl) (λ above below Rest rest r. (rest, r, refl)) old new unfinished now
 
-  pub definition_more : (old new : List Statement) (unfinished now : Option UnfinishedRule) (definition : Definition) → IsForm file line (Ok (form.Definition definition)) →
+  pub definition_more : (old new : List Statement) (unfinished now : Option UnfinishedRule) (definition : Definition) → IsForm profile file line (Ok (form.Definition definition)) →
       new ≡ old ++ finished unfinished [] ++ statement.Item (item.Definition definition) ∷ [] → now ≡ None →
-      (whole : List Statement) → ComesTo file new now more whole → ComesTo file old unfinished (line ∷ more) whole
+      (whole : List Statement) → ComesTo profile file new now more whole → ComesTo profile file old unfinished (line ∷ more) whole
   definition_more old new unfinished now definition is =
       added (Ok (form.Definition definition)) (statement.Item (item.Definition definition)) is (λ below. refl) (λ above below Rest rest r. (rest, r, refl)) old new unfinished now
 
-  pub rule_more : (old new : List Statement) (unfinished now : Option UnfinishedRule) (rule : UnfinishedRule) → IsForm file line (Ok (form.Rule rule)) →
+  pub rule_more : (old new : List Statement) (unfinished now : Option UnfinishedRule) (rule : UnfinishedRule) → IsForm profile file line (Ok (form.Rule rule)) →
       new ≡ old ++ finished unfinished [] → now ≡ Some rule →
-      (whole : List Statement) → ComesTo file new now more whole → ComesTo file old unfinished (line ∷ more) whole
+      (whole : List Statement) → ComesTo profile file new now more whole → ComesTo profile file old unfinished (line ∷ more) whole
   rule_more old new unfinished now rule is n u whole comes =
-      let (below, lies, rest, r, e) = subst (λ s. ComesTo file s (Some rule) more whole) n (subst (λ x. ComesTo file new x more whole) u comes) in
+      let (below, lies, rest, r, e) = subst (λ s. ComesTo profile file s (Some rule) more whole) n (subst (λ x. ComesTo profile file new x more whole) u comes) in
       let one = statement.Item (with_lines rule below) in
-      subst (ComesTo file old unfinished (line ∷ more)) (sym (append_assoc (old ++ finished unfinished []) (one ∷ []) rest) ∙ sym e)
+      subst (ComesTo profile file old unfinished (line ∷ more)) (sym (append_assoc (old ++ finished unfinished []) (one ∷ []) rest) ∙ sym e)
       (one_more old unfinished (Ok (form.Rule rule)) is below lies (one ∷ rest) (rest, r, refl))
 
-  pub refused_ends : (old new : List Statement) (unfinished : Option UnfinishedRule) (fault : Refusal) → IsForm file line (Err fault) →
-      new ≡ old ++ finished unfinished [] ++ statement.Refused fault ∷ [] → ComesTo file old unfinished (line ∷ more) new
+  pub refused_ends : (old new : List Statement) (unfinished : Option UnfinishedRule) (fault : Refusal) → IsForm profile file line (Err fault) →
+      new ≡ old ++ finished unfinished [] ++ statement.Refused fault ∷ [] → ComesTo profile file old unfinished (line ∷ more) new
   refused_ends old new unfinished fault is n =
-      let below = recipe_some file more in
-      subst (ComesTo file old unfinished (line ∷ more)) (sym n)
+      let below = recipe_some profile file more in
+      subst (ComesTo profile file old unfinished (line ∷ more)) (sym n)
       (one_more old unfinished (Err fault) is below.0 below.1 (statement.Refused fault ∷ []) refl)
 
 -- at the start nothing is gathered
-pub comes_from_start : (file text : List ℕ) (gathered : List Statement) (unfinished : Option UnfinishedRule) → gathered ≡ [] → unfinished ≡ None → (whole : List Statement) →
-    ComesTo file gathered unfinished (logical_lines 1 (Some text)) whole → AreStatements file text whole
-comes_from_start file text gathered unfinished g u whole comes =
-    let (below, lies, rest, r, e) = subst (λ s. ComesTo file s None (logical_lines 1 (Some text)) whole) g (subst (λ x. ComesTo file gathered x (logical_lines 1 (Some text)) whole) u comes) in
-    subst (AreStatements file text) (sym e) r
+pub comes_from_start : (profile : Profile) (file text : List ℕ) (gathered : List Statement) (unfinished : Option UnfinishedRule) → gathered ≡ [] → unfinished ≡ None → (whole : List Statement) →
+    ComesTo profile file gathered unfinished (logical_lines 1 (Some text)) whole → AreStatements profile file text whole
+comes_from_start profile file text gathered unfinished g u whole comes =
+    let (below, lies, rest, r, e) = subst (λ s. ComesTo profile file s None (logical_lines 1 (Some text)) whole) g (subst (λ x. ComesTo profile file gathered x (logical_lines 1 (Some text)) whole) u comes) in
+    subst (AreStatements profile file text) (sym e) r
 
 -- at the end no line is left
-pub comes_at_end : (file : List ℕ) (gathered new : List Statement) (unfinished : Option UnfinishedRule) → new ≡ gathered ++ finished unfinished [] → ComesTo file gathered unfinished [] new
-comes_at_end file gathered new unfinished n = ([], refl, [], refl, n ∙ sym (append-nil (gathered ++ finished unfinished [])))
+pub comes_at_end : (profile : Profile) (file : List ℕ) (gathered new : List Statement) (unfinished : Option UnfinishedRule) → new ≡ gathered ++ finished unfinished [] → ComesTo profile file gathered unfinished [] new
+comes_at_end profile file gathered new unfinished n = ([], refl, [], refl, n ∙ sym (append-nil (gathered ++ finished unfinished [])))

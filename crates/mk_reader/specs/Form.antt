@@ -1,7 +1,9 @@
 -- What one logical line is: nothing, a recipe line, an include line, a definition, a rule, or refused.
-use Rattle.std.specs.Prelude.{◌≡◌, ℕ, ◌+◌, Bool, true, false, not, ◌&&◌, ◌||◌, ◌==◌, List, [], ◌∷◌, take, drop, Option, Some, None, option_map, Result, Ok, Err, slice_index, codes, bytes_eq, if◌then◌else◌}
+use Rattle.std.specs.Prelude.{◌≡◌, ℕ, ◌+◌, Bool, true, false, not, ◌&&◌, ◌||◌, ◌==◌, List, [], ◌∷◌, take, drop, length, Option, Some, None, option_map, Result, Ok, Err, slice_index, codes, bytes_eq, if◌then◌else◌}
 use Rattle.std.specs.List.{before_first, list_any}
 use Rattle.byte_strings.specs.Blanks.{is_blank, trimmed_start, trimmed, first_word}
+use Rattle.mk_profile.specs.Profile.{is_wide}
+use Rattle.mk_profile.specs.declared.profile.Profile.{Profile}
 use Rattle.mk_reader.specs.Text.{is_hash, is_dollar, is_empty, begins_with, ends_with, without_last, is_text}
 use Rattle.mk_reader.specs.Special.{special_name, is_refused, takes_no_prerequisites}
 use Rattle.mk_reader.specs.declared.special.SpecialName.{SpecialName}
@@ -52,10 +54,17 @@ first_outside one other place [] = None
 first_outside one other place (b ∷ bs) =
     if is_outside place && (b == one || b == other) then Some 0 else option_map (λ i. i + 1) (first_outside one other (next_place place b) bs)
 
--- an include line: a reference in it, or no name, is refused
-unfoldable pub include_form : List ℕ → ℕ → List ℕ → Result Form Refusal
-include_form file number line =
-    if list_any is_dollar line || is_empty (trimmed_start (drop 7 line)) then Err (refusal file number (Unsupported feature.Include)) else Ok (form.Include (drop 7 line))
+-- whether the files of an include line that begins with this word have to be there; other words begin none
+unfoldable pub include_kind : Profile → List ℕ → Option Bool
+include_kind profile word =
+    if bytes_eq word (codes "include") then Some true
+    else (if is_wide profile && (bytes_eq word (codes "-include") || bytes_eq word (codes "sinclude")) then Some false else None)
+
+-- an include line: in the strict profile a reference in it, or no name, is refused
+unfoldable pub include_form : Profile → List ℕ → ℕ → Bool → List ℕ → Result Form Refusal
+include_form profile file number required names =
+    if not (is_wide profile) && (list_any is_dollar names || is_empty (trimmed_start names)) then Err (refusal file number (Unsupported feature.Include))
+    else Ok (form.Include (record { line = number; is_required = required; names = names }))
 
 -- a definition: its name is one word
 unfoldable pub named_form : List ℕ → ℕ → List ℕ → Bool → List ℕ → Result Form Refusal
@@ -118,17 +127,20 @@ decided_form file number line (Some at) =
     if slice_index line at == 61 then definition_form file number (take at line) (drop (at + 1) line)
     else colon_form file number (take at line) (drop (at + 1) line)
 
--- a line without its comment and the blanks at its ends; the first word `include` comes before `=` and `:`
-unfoldable pub line_form : List ℕ → ℕ → List ℕ → Result Form Refusal
-line_form file number line =
-    if is_empty line then Ok form.Blank
-    else (if bytes_eq (first_word line) (codes "include") then include_form file number line
-    else decided_form file number line (first_outside 61 58 Outside line))
+-- the first word says whether a line includes files, which comes before `=` and `:`
+abbrev pub opened_form : Profile → List ℕ → ℕ → List ℕ → Option Bool → Result Form Refusal
+opened_form profile file number line (Some required) = include_form profile file number required (drop (length (first_word line)) line)
+opened_form profile file number line None = decided_form file number line (first_outside 61 58 Outside line)
+
+-- a line without its comment and the blanks at its ends
+unfoldable pub line_form : Profile → List ℕ → ℕ → List ℕ → Result Form Refusal
+line_form profile file number line =
+    if is_empty line then Ok form.Blank else opened_form profile file number line (include_kind profile (first_word line))
 
 -- a line that is no recipe line: from the first `#` on it is a comment, which may hold any bytes
-unfoldable pub statement_form : List ℕ → ℕ → List ℕ → Result Form Refusal
-statement_form file number text =
-    if is_text (before_first is_hash text) then line_form file number (trimmed (before_first is_hash text)) else Err (refusal file number NotText)
+unfoldable pub statement_form : Profile → List ℕ → ℕ → List ℕ → Result Form Refusal
+statement_form profile file number text =
+    if is_text (before_first is_hash text) then line_form profile file number (trimmed (before_first is_hash text)) else Err (refusal file number NotText)
 
 -- a recipe line has no comments; one of blanks alone is passed over
 unfoldable pub recipe_form : List ℕ → ℕ → List ℕ → Result Form Refusal
@@ -137,5 +149,6 @@ recipe_form file number text =
     else Err (refusal file number NotText)
 
 -- the form of a logical line of the file
-unfoldable pub form_of : List ℕ → LogicalLine → Result Form Refusal
-form_of file line = if line.is_recipe then recipe_form file line.number line.text else statement_form file line.number line.text
+unfoldable pub form_of : Profile → List ℕ → LogicalLine → Result Form Refusal
+form_of profile file line =
+    if line.is_recipe then recipe_form file line.number line.text else statement_form profile file line.number line.text

@@ -3,6 +3,8 @@
 use Rattle.std.specs.Prelude.{◌≡◌, ◌⊎◌, ℕ, Bool, true, false, not, ◌&&◌, ◌||◌, ◌==◌, List, [], ◌∷◌, ◌++◌, reverse, flat_map, Option, Some, None, Result, Ok, Err, codes}
 use Rattle.std.specs.List.{list_any, list_all}
 use Rattle.byte_strings.specs.Blanks.{is_blank}
+use Rattle.mk_profile.specs.Profile.{is_wide}
+use Rattle.mk_profile.specs.declared.profile.Profile.{Profile}
 use Rattle.mk_reader.specs.Text.{is_dollar, is_empty, begins_with, is_text}
 use Rattle.mk_reader.specs.Special.{name_text, is_refused, takes_no_prerequisites}
 use Rattle.mk_reader.specs.declared.special.SpecialName.{SpecialName}
@@ -95,12 +97,19 @@ BeginsWithWord text word =
 
 -- Include lines
 
--- the first word is `include`, and this follows
-abbrev pub IsInclude : (line names : List ℕ) → Type 0
-IsInclude line names = (line ≡ codes "include" ++ names) × ((is_empty names || begins_blank names) ≡ true)
+-- the word says that files are included, and whether they have to be there; the two words of files that may be missing
+-- are the wide profile's (`-include`: POSIX make; `sinclude`: GNU make)
+abbrev pub BeginsInclude : Profile → (word : List ℕ) → (required : Bool) → Type 0
+BeginsInclude profile word true = word ≡ codes "include"
+BeginsInclude profile word false = (is_wide profile ≡ true) × ((word ≡ codes "-include") ⊎ (word ≡ codes "sinclude"))
 
-abbrev pub IsNoInclude : (line : List ℕ) → Type 0
-IsNoInclude line = (names : List ℕ) → IsInclude line names → ⊥
+-- such a word stands first, and this follows
+abbrev pub IsInclude : Profile → (line : List ℕ) (required : Bool) (names : List ℕ) → Type 0
+IsInclude profile line required names =
+    (word : List ℕ) × BeginsInclude profile word required × (line ≡ word ++ names) × ((is_empty names || begins_blank names) ≡ true)
+
+abbrev pub IsNoInclude : Profile → (line : List ℕ) → Type 0
+IsNoInclude profile line = (required : Bool) (names : List ℕ) → IsInclude profile line required names → ⊥
 
 -- Definitions
 
@@ -183,6 +192,7 @@ IsRefused line cause.NotText = ⊥
 IsRefused line cause.TabFirst = ⊥
 IsRefused line cause.IncludeDepth = ⊥
 IsRefused line (cause.IncludeMissing name) = ⊥
+IsRefused line (cause.Macro why) = ⊥
 
 -- Lines
 
@@ -207,35 +217,35 @@ IsStatement file number line (Ok (form.Rule u)) =
     × HasSpecial u.rule.targets u.special × (is_refused_with u.rule.prerequisites u.special ≡ false)
 IsStatement file number line (Ok form.Blank) = ⊥
 IsStatement file number line (Ok (form.Recipe recipe)) = ⊥
-IsStatement file number line (Ok (form.Include names)) = ⊥
+IsStatement file number line (Ok (form.Include include)) = ⊥
 IsStatement file number line (Err refused) = IsRefusal file number refused × IsRefused line refused.cause
 
--- an include line names files; one with a reference, or without a name, is refused
-abbrev pub is_bad_include : (names : List ℕ) → Bool
-is_bad_include names = list_any is_dollar names || list_all is_blank names
+-- in the strict profile an include line names files, and one with a reference, or without a name, is refused
+abbrev pub is_bad_include : Profile → (names : List ℕ) → Bool
+is_bad_include profile names = not (is_wide profile) && (list_any is_dollar names || list_all is_blank names)
 
-abbrev pub IsIncludeForm : (file : List ℕ) (number : ℕ) (names : List ℕ) → Result Form Refusal → Type 0
-IsIncludeForm file number names told =
-    ((is_bad_include names ≡ false) × (told ≡ Ok (form.Include names)))
-    ⊎ ((is_bad_include names ≡ true) × (told ≡ Err (refusal file number (cause.Unsupported feature.Include))))
+abbrev pub IsIncludeForm : Profile → (file : List ℕ) (number : ℕ) (required : Bool) (names : List ℕ) → Result Form Refusal → Type 0
+IsIncludeForm profile file number required names told =
+    ((is_bad_include profile names ≡ false) × (told ≡ Ok (form.Include (record { line = number; is_required = required; names = names }))))
+    ⊎ ((is_bad_include profile names ≡ true) × (told ≡ Err (refusal file number (cause.Unsupported feature.Include))))
 
 -- what a line is, without its comment and the blanks at its ends; the word `include` comes before `=` and `:`
-abbrev pub IsLine : (file : List ℕ) (number : ℕ) (line : List ℕ) → Result Form Refusal → Type 0
-IsLine file number line told =
+abbrev pub IsLine : Profile → (file : List ℕ) (number : ℕ) (line : List ℕ) → Result Form Refusal → Type 0
+IsLine profile file number line told =
     ((line ≡ []) × (told ≡ Ok form.Blank))
-    ⊎ (((names : List ℕ) × IsInclude line names × IsIncludeForm file number names told)
-    ⊎ ((is_empty line ≡ false) × IsNoInclude line × IsStatement file number line told))
+    ⊎ (((required : Bool) × (names : List ℕ) × IsInclude profile line required names × IsIncludeForm profile file number required names told)
+    ⊎ ((is_empty line ≡ false) × IsNoInclude profile line × IsStatement file number line told))
 
 -- a comment reaches from the first `#` to the end, and may hold any bytes
 abbrev pub HasContent : (text content : List ℕ) → Type 0
 HasContent text content =
     (comment : List ℕ) × (text ≡ content ++ comment) × Lacks 35 content × ((is_empty comment || begins_with 35 comment) ≡ true)
 
-abbrev pub IsTextLine : (file : List ℕ) (number : ℕ) (text : List ℕ) → Result Form Refusal → Type 0
-IsTextLine file number text told =
+abbrev pub IsTextLine : Profile → (file : List ℕ) (number : ℕ) (text : List ℕ) → Result Form Refusal → Type 0
+IsTextLine profile file number text told =
     (content : List ℕ) × HasContent text content
     × (((is_text content ≡ false) × (told ≡ Err (refusal file number cause.NotText)))
-    ⊎ ((is_text content ≡ true) × ((line : List ℕ) × Padded content line × IsLine file number line told)))
+    ⊎ ((is_text content ≡ true) × ((line : List ℕ) × Padded content line × IsLine profile file number line told)))
 
 -- a recipe line has no comments; one of blanks alone is passed over
 abbrev pub IsRecipeLine : (file : List ℕ) (number : ℕ) (text : List ℕ) → Result Form Refusal → Type 0
@@ -244,10 +254,10 @@ IsRecipeLine file number text told =
     ⊎ (((is_text text ≡ true) × AllBlank text × (told ≡ Ok form.Blank))
     ⊎ ((is_text text ≡ true) × (list_all is_blank text ≡ false) × (told ≡ Ok (form.Recipe (record { text = text; line = number })))))
 
-abbrev pub IsOfKind : (is_recipe : Bool) (file : List ℕ) (number : ℕ) (text : List ℕ) → Result Form Refusal → Type 0
-IsOfKind true file number text told = IsRecipeLine file number text told
-IsOfKind false file number text told = IsTextLine file number text told
+abbrev pub IsOfKind : Profile → (is_recipe : Bool) (file : List ℕ) (number : ℕ) (text : List ℕ) → Result Form Refusal → Type 0
+IsOfKind profile true file number text told = IsRecipeLine file number text told
+IsOfKind profile false file number text told = IsTextLine profile file number text told
 
--- what a logical line of the file is, or why it is refused
-abbrev pub IsForm : (file : List ℕ) (line : LogicalLine) → Result Form Refusal → Type 0
-IsForm file line told = IsOfKind line.is_recipe file line.number line.text told
+-- what a logical line of the file is in a profile, or why it is refused
+abbrev pub IsForm : Profile → (file : List ℕ) (line : LogicalLine) → Result Form Refusal → Type 0
+IsForm profile file line told = IsOfKind profile line.is_recipe file line.number line.text told

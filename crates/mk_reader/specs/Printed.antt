@@ -2,9 +2,10 @@
 use Rattle.std.specs.Prelude.{◌≡◌, ℕ, Bool, true, false, List, [], ◌∷◌, ◌++◌, map, reverse, flat_map, Option, codes}
 use Rattle.std.specs.List.{list_any, list_all}
 use Rattle.byte_strings.specs.Blanks.{is_blank}
+use Rattle.mk_profile.specs.declared.profile.Profile.{Profile}
 use Rattle.mk_reader.specs.Text.{is_empty, begins_with, is_text}
 use Rattle.mk_reader.specs.Lines.{number_after}
-use Rattle.mk_reader.specs.Grammar.{Lacks, Whole, Without, begins_blank, BeginsWithWord, HasSpecial, is_refused_with}
+use Rattle.mk_reader.specs.Grammar.{Lacks, Whole, Without, begins_blank, BeginsWithWord, BeginsInclude, HasSpecial, is_refused_with}
 use Rattle.mk_reader.specs.Statements.{item_of}
 use Rattle.mk_reader.specs.declared.special.SpecialName.{SpecialName}
 use Rattle.mk_reader.specs.declared.item.Definition.{Definition}
@@ -22,19 +23,21 @@ line_of_text number text = record { number = number; is_recipe = false; text = t
 abbrev pub HasBareEnds : List ℕ → Type 0
 HasBareEnds text = (begins_blank text ≡ false) × (begins_blank (reverse text) ≡ false)
 
--- a word that can be defined: no comment, no `=` or `:` outside references, and not `include`
-abbrev pub IsPlainName : List ℕ → Type 0
-IsPlainName name =
-    (is_empty name ≡ false) × (list_any is_blank name ≡ false) × Lacks 35 name × Whole 61 58 name × (name ≡ codes "include" → ⊥)
+-- a word that can be defined: no comment, no `=` or `:` outside references, and none that begins an include line
+abbrev pub IsPlainName : Profile → List ℕ → Type 0
+IsPlainName profile name =
+    (is_empty name ≡ false) × (list_any is_blank name ≡ false) × Lacks 35 name × Whole 61 58 name
+    × ((required : Bool) → BeginsInclude profile name required → ⊥)
 
 -- a value may hold any bytes but a `#`
 abbrev pub IsPlainValue : List ℕ → Type 0
 IsPlainValue value = Lacks 35 value × HasBareEnds value
 
 -- words that can be targets
-abbrev pub ArePlainTargets : List ℕ → Type 0
-ArePlainTargets targets =
-    (is_empty targets ≡ false) × HasBareEnds targets × Lacks 35 targets × Whole 61 58 targets × (BeginsWithWord targets (codes "include") → ⊥)
+abbrev pub ArePlainTargets : Profile → List ℕ → Type 0
+ArePlainTargets profile targets =
+    (is_empty targets ≡ false) × HasBareEnds targets × Lacks 35 targets × Whole 61 58 targets
+    × ((word : List ℕ) (required : Bool) → BeginsInclude profile word required → BeginsWithWord targets word → ⊥)
 
 -- words that can be prerequisites: no `;` outside references
 abbrev pub ArePlainPrerequisites : List ℕ → Type 0
@@ -87,16 +90,16 @@ abbrev pub IsPlainRecipe : List (List ℕ) → Type 0
 IsPlainRecipe [] = Unit {0}
 IsPlainRecipe (text ∷ more) = IsOwnLine (9 ∷ text) × (is_text text ≡ true) × (list_all is_blank text ≡ false) × IsPlainRecipe more
 
-abbrev pub IsPlainItem : PlainItem → Type 0
-IsPlainItem (definition name append value) =
-    IsPlainName name × IsPlainValue value × (is_text (definition_text name append value) ≡ true) × IsOwnLine (definition_text name append value)
-IsPlainItem (rule special targets prerequisites recipe) =
-    ArePlainTargets targets × ArePlainPrerequisites prerequisites × HasSpecial targets special × (is_refused_with prerequisites special ≡ false)
+abbrev pub IsPlainItem : Profile → PlainItem → Type 0
+IsPlainItem profile (definition name append value) =
+    IsPlainName profile name × IsPlainValue value × (is_text (definition_text name append value) ≡ true) × IsOwnLine (definition_text name append value)
+IsPlainItem profile (rule special targets prerequisites recipe) =
+    ArePlainTargets profile targets × ArePlainPrerequisites prerequisites × HasSpecial targets special × (is_refused_with prerequisites special ≡ false)
     × (is_text (rule_text targets prerequisites) ≡ true) × IsOwnLine (rule_text targets prerequisites) × IsPlainRecipe recipe
 
-abbrev pub ArePlain : List PlainItem → Type 0
-ArePlain [] = Unit {0}
-ArePlain (one ∷ more) = IsPlainItem one × ArePlain more
+abbrev pub ArePlain : Profile → List PlainItem → Type 0
+ArePlain profile [] = Unit {0}
+ArePlain profile (one ∷ more) = IsPlainItem profile one × ArePlain profile more
 
 -- the number of the next line
 abbrev pub next : ℕ → ℕ

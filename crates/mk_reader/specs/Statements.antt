@@ -1,5 +1,6 @@
 -- The statements of a file: what its lines say, in their order, down to the first line that is refused.
 use Rattle.std.specs.Prelude.{◌≡◌, ℕ, Bool, true, false, List, [], ◌∷◌, ◌++◌, Option, Some, None, Result, Ok, Err, is_some}
+use Rattle.mk_profile.specs.declared.profile.Profile.{Profile}
 use Rattle.mk_reader.specs.Lines.{logical_lines}
 use Rattle.mk_reader.specs.Grammar.{refusal, IsForm}
 use Rattle.mk_reader.specs.declared.special.SpecialName.{SpecialName}
@@ -28,16 +29,16 @@ with_lines unfinished more = item_of unfinished.special (record unfinished.rule 
 abbrev pub recipe_from : Result Form Refusal → List RecipeLine → List RecipeLine
 recipe_from (Ok form.Blank) below = below
 recipe_from (Ok (form.Recipe line)) below = line ∷ below
-recipe_from (Ok (form.Include names)) below = []
+recipe_from (Ok (form.Include include)) below = []
 recipe_from (Ok (form.Definition definition)) below = []
 recipe_from (Ok (form.Rule unfinished)) below = []
 recipe_from (Err fault) below = []
 
 -- these are the recipe lines at the front of the lines, down to the next line that is neither a recipe line nor blank
-abbrev pub RecipeBelow : List ℕ → List LogicalLine → List RecipeLine → Type 0
-RecipeBelow file [] below = below ≡ []
-RecipeBelow file (line ∷ more) below =
-    (told : Result Form Refusal) × IsForm file line told × (rest : List RecipeLine) × RecipeBelow file more rest × (below ≡ recipe_from told rest)
+abbrev pub RecipeBelow : Profile → List ℕ → List LogicalLine → List RecipeLine → Type 0
+RecipeBelow profile file [] below = below ≡ []
+RecipeBelow profile file (line ∷ more) below =
+    (told : Result Form Refusal) × IsForm profile file line told × (rest : List RecipeLine) × RecipeBelow profile file more rest × (below ≡ recipe_from told rest)
 
 -- a statement, and behind it what Rest allows
 abbrev pub Before : Statement → (List Statement → Type 0) → List Statement → Type 0
@@ -54,23 +55,22 @@ abbrev pub FormStatements : List ℕ → ℕ → Bool → Result Form Refusal �
 FormStatements file number above (Err fault) below Rest statements = statements ≡ statement.Refused fault ∷ []
 FormStatements file number above (Ok form.Blank) below Rest statements = Rest above statements
 FormStatements file number above (Ok (form.Recipe line)) below Rest statements = BelowRule file number above Rest statements
-FormStatements file number above (Ok (form.Include names)) below Rest statements =
-    Before (statement.Include (record { line = number; names = names })) (Rest false) statements
+FormStatements file number above (Ok (form.Include include)) below Rest statements = Before (statement.Include include) (Rest false) statements
 FormStatements file number above (Ok (form.Definition definition)) below Rest statements =
     Before (statement.Item (item.Definition definition)) (Rest false) statements
 FormStatements file number above (Ok (form.Rule unfinished)) below Rest statements =
     Before (statement.Item (with_lines unfinished below)) (Rest true) statements
 
 -- what the lines of a file say
-abbrev pub LineStatements : List ℕ → Bool → List LogicalLine → List Statement → Type 0
-LineStatements file above [] statements = statements ≡ []
-LineStatements file above (line ∷ more) statements =
-    (told : Result Form Refusal) × IsForm file line told × (below : List RecipeLine) × RecipeBelow file more below
-    × FormStatements file line.number above told below (λ now. LineStatements file now more) statements
+abbrev pub LineStatements : Profile → List ℕ → Bool → List LogicalLine → List Statement → Type 0
+LineStatements profile file above [] statements = statements ≡ []
+LineStatements profile file above (line ∷ more) statements =
+    (told : Result Form Refusal) × IsForm profile file line told × (below : List RecipeLine) × RecipeBelow profile file more below
+    × FormStatements file line.number above told below (λ now. LineStatements profile file now more) statements
 
--- these are the statements of a text that is read under this file name
-abbrev pub AreStatements : (file text : List ℕ) → List Statement → Type 0
-AreStatements file text statements = LineStatements file false (logical_lines 1 (Some text)) statements
+-- these are the statements of a text that is read in this profile, under this file name
+abbrev pub AreStatements : Profile → (file text : List ℕ) → List Statement → Type 0
+AreStatements profile file text statements = LineStatements profile file false (logical_lines 1 (Some text)) statements
 
 -- What is gathered of a file while it is read.
 
@@ -88,7 +88,7 @@ RecipeLineTaken file number line old (Some rule) new unfinished ended =
     × (unfinished ≡ Some (record rule { rule = record rule.rule { recipe = rule.rule.recipe ++ line ∷ [] } }))
 
 -- where these statements and this rule were gathered and these lines are left, the file comes to these statements
-abbrev pub ComesTo : List ℕ → List Statement → Option UnfinishedRule → List LogicalLine → List Statement → Type 0
-ComesTo file gathered unfinished left whole =
-    (below : List RecipeLine) × RecipeBelow file left below × (rest : List Statement)
-    × LineStatements file (is_some unfinished) left rest × (whole ≡ gathered ++ finished unfinished below ++ rest)
+abbrev pub ComesTo : Profile → List ℕ → List Statement → Option UnfinishedRule → List LogicalLine → List Statement → Type 0
+ComesTo profile file gathered unfinished left whole =
+    (below : List RecipeLine) × RecipeBelow profile file left below × (rest : List Statement)
+    × LineStatements profile file (is_some unfinished) left rest × (whole ≡ gathered ++ finished unfinished below ++ rest)

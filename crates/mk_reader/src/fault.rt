@@ -8,7 +8,7 @@ use thiserror::Error;
 /// What some makes have and this one leaves out.
 #[derive(Clone, Copy, Debug, PartialEq, Eq)]
 pub enum Feature {
-    /// An include line with a reference, or without a name.
+    /// An include line with a reference, or without a name, in the strict profile.
     Include,
     /// `?=`
     OptionalDefinition,
@@ -40,6 +40,19 @@ impl fmt::Display for Feature {
     }
 }
 
+/// Why the text of an include line has no expansion.
+#[derive(Debug, Drop, Error)]
+pub enum MacroCause {
+    #[error("macro {0} refers to itself")]
+    Loop(ByteString),
+    #[error("macro reference not closed")]
+    Unclosed,
+    #[error("nested macro reference")]
+    NestedReference,
+    #[error("expansion too long")]
+    TooLong,
+}
+
 /// Why a line is refused.
 #[derive(Debug, Drop, Error)]
 pub enum Cause {
@@ -58,6 +71,9 @@ pub enum Cause {
     /// The file of this name can't be read.
     #[error("cannot read include file {0}")]
     IncludeMissing(ByteString),
+    /// An include line that is expanded, and can't be.
+    #[error("{0}")]
+    Macro(MacroCause),
     #[error("not supported: {0}")]
     Unsupported(Feature),
 }

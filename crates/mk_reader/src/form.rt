@@ -1,7 +1,6 @@
 //! What one logical line can be, as values.
-use crate::item::{Definition, RecipeLine, Rule};
+use crate::item::{Definition, IncludeLine, RecipeLine, Rule};
 use crate::special::SpecialName;
-use byte_strings::ByteString;
 
 /// Whether a byte stands outside references.
 #[derive(Clone, Copy)]
@@ -25,8 +24,7 @@ pub enum Form {
     /// Nothing but blanks and a comment.
     Blank,
     Recipe(RecipeLine),
-    /// What follows the word `include`, with a name in it.
-    Include(ByteString),
+    Include(IncludeLine),
     Definition(Definition),
     Rule(UnfinishedRule),
 }

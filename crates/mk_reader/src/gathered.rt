@@ -6,9 +6,10 @@ ghost use Rattle.mk_reader.specs.declared.line.LogicalLine.{LogicalLine as Line}
 
 use crate::fault::{Cause, ReadFault};
 use crate::form::{Form, UnfinishedRule};
-use crate::item::{IncludeLine, Item, RecipeLine, Special, Statement};
+use crate::item::{Item, RecipeLine, Special, Statement};
 use crate::line::{LinePlace, LogicalLine};
 use crate::statement::{form_of, refuse};
+use mk_profile::Profile;
 use std::alloc::{AllocError, Global};
 
 /// The statements of the lines that were taken in.
@@ -91,17 +92,18 @@ impl Gathered {
     pub fn take_line(
         &mut self,
         alloc: Global,
+        profile: Profile,
         file: &[u8],
         line: LogicalLine,
     ) -> Result<bool, AllocError>
         ensures goes_on { IfOk result (λ ended. ended ≡ false → (more : List Line) (whole : List Said)
-            → ComesTo file.now self.new.statements.items self.new.unfinished more whole
-            → ComesTo file.now self.old.statements.items self.old.unfinished (line ∷ more) whole) }
+            → ComesTo profile file.now self.new.statements.items self.new.unfinished more whole
+            → ComesTo profile file.now self.old.statements.items self.old.unfinished (line ∷ more) whole) }
         ensures ended { IfOk result (λ ended. ended ≡ true → (more : List Line)
-            → ComesTo file.now self.old.statements.items self.old.unfinished (line ∷ more) self.new.statements.items) }
+            → ComesTo profile file.now self.old.statements.items self.old.unfinished (line ∷ more) self.new.statements.items) }
     {
         let number = line.number;
-        let form = match form_of(alloc, file, line) {
+        let form = match form_of(alloc, profile, file, line) {
             Ok(form) => form,
             Err(fault) => {
                 return match fault {
@@ -118,16 +120,14 @@ impl Gathered {
             Form::Recipe(line) => {
                 let place = LinePlace {
                     alloc,
+                    profile,
                     file,
                     number,
                 };
                 return self.take_recipe_line(place, line);
             }
-            Form::Include(names) => {
-                self.add(Statement::Include(IncludeLine {
-                    line: number,
-                    names,
-                }))?;
+            Form::Include(include) => {
+                self.add(Statement::Include(include))?;
             }
             Form::Definition(definition) => {
                 self.add(Statement::Item(Item::Definition(definition)))?;

@@ -93,12 +93,14 @@ pub enum Item {
     Special(Special),
 }
 
-/// `include NAMES`.
+/// `include NAMES`. In the wide profile the names may hold references, and there may be none.
 #[derive(Drop)]
 pub struct IncludeLine {
     /// The number of the first physical line, from 1, in the file of the statements.
     pub line: usize,
-    /// What follows the word `include`: names between blanks, one at least.
+    /// Whether a file that isn't there is a fault.
+    pub is_required: bool,
+    /// What follows the word that begins the line.
     pub names: ByteString,
 }
 

@@ -1,5 +1,6 @@
 //! Laws of the definitions that `statements_of` meets. The functions do nothing: what they ensure is the law.
 ghost use Rattle.std.specs.Prelude.{◌≡◌, ◌↔◌, ℕ, Bool, true, false, List, ◌∷◌, ◌++◌, Option, Some, Result, Ok, map, flat_map};
+ghost use Rattle.mk_profile.specs.declared.profile.Profile.{Profile};
 ghost use Rattle.mk_reader.specs.Lines.{Physical, spelling, groups, lines_left};
 ghost use Rattle.mk_reader.specs.Spelling.{AreLines, AreGroups};
 ghost use Rattle.mk_reader.specs.Form.{form_of};
@@ -25,40 +26,41 @@ pub fn text_is_its_lines()
         → (groups (lines_left (Some text)) ≡ parts) ↔ AreGroups text parts }
 {}
 
-/// A text has just one list of statements.
+/// A text has just one list of statements in each profile.
 pub fn one_reading()
-    ensures some { (file text : List ℕ) → (statements : List Statement) × AreStatements file text statements }
-    ensures one { (file text : List ℕ) (one other : List Statement)
-        → AreStatements file text one → AreStatements file text other → one ≡ other }
+    ensures some { (profile : Profile) (file text : List ℕ) → (statements : List Statement) × AreStatements profile file text statements }
+    ensures one { (profile : Profile) (file text : List ℕ) (one other : List Statement)
+        → AreStatements profile file text one → AreStatements profile file text other → one ≡ other }
 {}
 
 /// The definition of a line's form that the code follows, and the grammar, say the same of each line. So each line has
 /// one form, or one refusal.
 pub fn each_line_is_as_it_is_spelled()
-    ensures { (file : List ℕ) (line : LogicalLine) (told : Result Form Refusal) → (form_of file line ≡ told) ↔ IsForm file line told }
+    ensures { (profile : Profile) (file : List ℕ) (line : LogicalLine) (told : Result Form Refusal)
+        → (form_of profile file line ≡ told) ↔ IsForm profile file line told }
 {}
 
 /// Plain lines that are printed are read back as what they were printed of.
 pub fn printed_lines_are_read_back()
-    ensures definition { (file name value : List ℕ) (number : ℕ) (append : Bool)
-        → IsPlainName name → IsPlainValue value → is_text (definition_text name append value) ≡ true
-        → IsForm file (line_of_text number (definition_text name append value))
+    ensures definition { (profile : Profile) (file name value : List ℕ) (number : ℕ) (append : Bool)
+        → IsPlainName profile name → IsPlainValue value → is_text (definition_text name append value) ≡ true
+        → IsForm profile file (line_of_text number (definition_text name append value))
         (Ok (form.Definition (definition_on file number name append value))) }
-    ensures rule { (file targets prerequisites : List ℕ) (number : ℕ) (special : Option SpecialName)
-        → ArePlainTargets targets → ArePlainPrerequisites prerequisites → HasSpecial targets special
+    ensures rule { (profile : Profile) (file targets prerequisites : List ℕ) (number : ℕ) (special : Option SpecialName)
+        → ArePlainTargets profile targets → ArePlainPrerequisites prerequisites → HasSpecial targets special
         → is_refused_with prerequisites special ≡ false → is_text (rule_text targets prerequisites) ≡ true
-        → IsForm file (line_of_text number (rule_text targets prerequisites))
+        → IsForm profile file (line_of_text number (rule_text targets prerequisites))
         (Ok (form.Rule (rule_on file number special targets prerequisites))) }
 {}
 
 /// A makefile that is printed from plain items is read back as these.
 pub fn printed_items_are_read_back()
-    ensures { (file : List ℕ) (items : List PlainItem) → ArePlain items
-        → AreStatements file (printed items) (map statement.Item (items_on file 1 items)) }
+    ensures { (profile : Profile) (file : List ℕ) (items : List PlainItem) → ArePlain profile items
+        → AreStatements profile file (printed items) (map statement.Item (items_on file 1 items)) }
 {}
 
 /// A `#` and what follows it in its line change nothing. The byte 35 is `#`.
 pub fn comments_change_nothing()
-    ensures { (file text comment : List ℕ) (number : ℕ) (told : Result Form Refusal) → Lacks 35 text
-        → (IsForm file (line_of_text number (text ++ 35 ∷ comment)) told ↔ IsForm file (line_of_text number text) told) }
+    ensures { (profile : Profile) (file text comment : List ℕ) (number : ℕ) (told : Result Form Refusal) → Lacks 35 text
+        → (IsForm profile file (line_of_text number (text ++ 35 ∷ comment)) told ↔ IsForm profile file (line_of_text number text) told) }
 {}

@@ -15,7 +15,7 @@ mod statement;
 mod statements;
 mod text;
 
-pub use fault::{Cause, Feature, ReadFault, Refusal};
+pub use fault::{Cause, Feature, MacroCause, ReadFault, Refusal};
 pub use item::{Definition, IncludeLine, Item, Recipe, RecipeLine, Rule, Special, Statement};
 pub use lines::next_joined_line;
 pub use special::SpecialName;

@@ -1,5 +1,6 @@
 //! Physical and logical lines, as values.
 use byte_strings::ByteString;
+use mk_profile::Profile;
 use std::alloc::Global;
 
 /// What ends a physical line.
@@ -27,10 +28,11 @@ pub struct LogicalLine {
     pub text: ByteString,
 }
 
-/// Where a line stands, and what allocates what is made of it.
+/// Where a line stands, in which language it is read, and what allocates what is made of it.
 #[derive(Clone, Copy)]
 pub struct LinePlace<'a> {
     pub alloc: Global,
+    pub profile: Profile,
     pub file: &'a [u8],
     pub number: usize,
 }

@@ -3,18 +3,19 @@ ghost use Rattle.std.specs.Prelude.{◌≡◌, ◌+◌, ◌<◌, ◌==◌, ◌&&
 ghost use Rattle.std.specs.List.{before_first, list_any};
 ghost use Rattle.byte_strings.specs.Blanks.{is_blank, trimmed_start};
 ghost use Rattle.mk_reader.specs.Text.{is_hash, is_dollar, is_empty, is_text};
-ghost use Rattle.mk_reader.specs.Form.{Gives, Refuses, refusal, include_form, named_form, definition_form, prerequisites_of, recipe_of, judged_form, rule_form, begins_shell_definition, colon_form, decided_form, line_form, statement_form, recipe_form, form_of, first_outside};
+ghost use Rattle.mk_reader.specs.Form.{Gives, Refuses, refusal, include_kind, include_form, named_form, definition_form, prerequisites_of, recipe_of, judged_form, rule_form, begins_shell_definition, colon_form, decided_form, line_form, statement_form, recipe_form, form_of, first_outside};
 ghost use Rattle.mk_reader.specs.declared.form.Place.TheVariants.{Outside};
 
 use crate::fault::{Cause, Feature, ReadFault, Refusal};
 use crate::form::{Form, UnfinishedRule};
-use crate::item::{Definition, Recipe, RecipeLine, Rule};
+use crate::item::{Definition, IncludeLine, Recipe, RecipeLine, Rule};
 use crate::line::{LinePlace, LogicalLine};
 use crate::lines::{begins_with, ends_with, without_first, without_last};
 use crate::reference::first_outside;
 use crate::special::{SpecialName, is_refused, special_name, takes_no_prerequisites};
 use crate::text::is_text;
 use byte_strings::{ByteString, first_word, is_blank, trim, trim_start};
+use mk_profile::Profile;
 use std::alloc::{AllocError, Global};
 
 /// The fault of a line; the file's name is copied.
@@ -64,16 +65,33 @@ fn before_comment(text: &[u8]) -> &[u8]
     text.split_at(count).0
 }
 
-#[tactic(auto, unfolding(crate::specs::Form::include_form))]
-fn include_form(place: LinePlace<'_>, line: &[u8]) -> Result<Form, ReadFault>
-    ensures { Gives result (include_form place.entry.file.now place.entry.number line.now) }
+/// Whether the files of an include line have to be there, by the word that begins it. Other words begin none.
+#[tactic(auto, unfolding(crate::specs::Form::include_kind))]
+fn include_kind(profile: Profile, word: &[u8]) -> Option<bool>
+    ensures { result ≡ include_kind profile word.now }
 {
-    let names = line.get(7..).unwrap_or(b"".as_slice());
-    if has_dollar(line) || trim_start(names).is_empty() {
+    if word == b"include".as_slice() {
+        return Some(true);
+    }
+    if profile.is_wide() && (word == b"-include".as_slice() || word == b"sinclude".as_slice()) {
+        return Some(false);
+    }
+    None
+}
+
+#[tactic(auto, unfolding(crate::specs::Form::include_form))]
+fn include_form(place: LinePlace<'_>, is_required: bool, names: &[u8]) -> Result<Form, ReadFault>
+    ensures { Gives result (include_form place.entry.profile place.entry.file.now place.entry.number is_required names.now) }
+{
+    if !place.profile.is_wide() && (has_dollar(names) || trim_start(names).is_empty()) {
         return Err(refuse(place, Cause::Unsupported(Feature::Include)));
     }
     let names = ByteString::from_slice(place.alloc, names)?;
-    Ok(Form::Include(names))
+    Ok(Form::Include(IncludeLine {
+        line: place.number,
+        is_required,
+        names,
+    }))
 }
 
 #[tactic(auto, unfolding(crate::specs::Form::named_form))]
@@ -112,7 +130,12 @@ fn definition_form(place: LinePlace<'_>, left: &[u8], right: &[u8]) -> Result<Fo
 }
 
 #[tactic(auto, unfolding(crate::specs::Form::judged_form))]
-fn judged_form(alloc: Global, special: Option<SpecialName>, rule: Rule) -> Result<Form, ReadFault>
+fn judged_form(
+    alloc: Global,
+    profile: Profile,
+    special: Option<SpecialName>,
+    rule: Rule,
+) -> Result<Form, ReadFault>
     ensures { Gives result (judged_form special rule) }
 {
     if let Some(name) = special {
@@ -121,6 +144,7 @@ fn judged_form(alloc: Global, special: Option<SpecialName>, rule: Rule) -> Resul
             let cause = Cause::Unsupported(Feature::SpecialName(name));
             let place = LinePlace {
                 alloc,
+                profile,
                 file: rule.file.as_slice(),
                 number: rule.line,
             };
@@ -174,7 +198,8 @@ fn rule_form(place: LinePlace<'_>, targets: &[u8], right: &[u8]) -> Result<Form,
         prerequisites: ByteString::from_slice(place.alloc, prerequisites_of(right, semicolon))?,
         recipe: recipe_of(place.alloc, place.number, right, semicolon)?,
     };
-    judged_form(place.alloc, special_name(first_word(targets)), rule)
+    let special = special_name(first_word(targets));
+    judged_form(place.alloc, place.profile, special, rule)
 }
 
 #[tactic(auto, unfolding(crate::specs::Form::begins_shell_definition))]
@@ -223,20 +248,24 @@ fn decided_form(place: LinePlace<'_>, line: &[u8]) -> Result<Form, ReadFault>
 
 #[tactic(auto, unfolding(crate::specs::Form::line_form))]
 fn line_form(place: LinePlace<'_>, line: &[u8]) -> Result<Form, ReadFault>
-    ensures { Gives result (line_form place.entry.file.now place.entry.number line.now) }
+    ensures { Gives result (line_form place.entry.profile place.entry.file.now place.entry.number line.now) }
 {
     if line.is_empty() {
         return Ok(Form::Blank);
     }
-    if first_word(line) == b"include".as_slice() {
-        return include_form(place, line);
+    let word = first_word(line);
+    match include_kind(place.profile, word) {
+        Some(is_required) => {
+            let names = line.get(word.len()..).unwrap_or(b"".as_slice());
+            include_form(place, is_required, names)
+        }
+        None => decided_form(place, line),
     }
-    decided_form(place, line)
 }
 
 #[tactic(auto, unfolding(crate::specs::Form::statement_form))]
 fn statement_form(place: LinePlace<'_>, text: &[u8]) -> Result<Form, ReadFault>
-    ensures { Gives result (statement_form place.entry.file.now place.entry.number text.now) }
+    ensures { Gives result (statement_form place.entry.profile place.entry.file.now place.entry.number text.now) }
 {
     let text = before_comment(text);
     if !is_text(text) {
@@ -263,8 +292,13 @@ fn recipe_form(place: LinePlace<'_>, text: ByteString) -> Result<Form, ReadFault
 
 /// The form of a logical line of the file.
 #[tactic(auto, unfolding(crate::specs::Form::form_of))]
-pub fn form_of(alloc: Global, file: &[u8], line: LogicalLine) -> Result<Form, ReadFault>
-    ensures { Gives result (form_of file.now line) }
+pub fn form_of(
+    alloc: Global,
+    profile: Profile,
+    file: &[u8],
+    line: LogicalLine,
+) -> Result<Form, ReadFault>
+    ensures { Gives result (form_of profile file.now line) }
 {
     let LogicalLine {
         number,
@@ -273,6 +307,7 @@ pub fn form_of(alloc: Global, file: &[u8], line: LogicalLine) -> Result<Form, Re
     } = line;
     let place = LinePlace {
         alloc,
+        profile,
         file,
         number,
     };

@@ -5,20 +5,27 @@ ghost use Rattle.std.specs.Prelude.{IfOk};
 use crate::gathered::Gathered;
 use crate::item::Statement;
 use crate::lines::next_logical_line;
+use mk_profile::Profile;
 use std::alloc::{AllocError, Global};
 
 /// The statements of a text, in their order. The first line that is refused is the last of them.
 ///
-/// `file` is the name that statements and refusals give for the text. Files that it includes aren't read.
-pub fn statements_of(alloc: Global, file: &[u8], text: &[u8]) -> Result<Vec<Statement>, AllocError>
-    ensures { IfOk result (λ v. AreStatements file.now text.now v.items) }
+/// `file` is the name that statements and refusals give for the text. Files that it includes aren't read, and nothing
+/// is expanded.
+pub fn statements_of(
+    alloc: Global,
+    profile: Profile,
+    file: &[u8],
+    text: &[u8],
+) -> Result<Vec<Statement>, AllocError>
+    ensures { IfOk result (λ v. AreStatements profile file.now text.now v.items) }
 {
     let mut gathered = Gathered::new(alloc);
     let mut left = Some(text);
     let mut number = 1;
     while let Some(bytes) = left {
         let (line, next_number, after) = next_logical_line(alloc, number, bytes)?;
-        let is_refused = gathered.take_line(alloc, file, line)?;
+        let is_refused = gathered.take_line(alloc, profile, file, line)?;
         if is_refused {
             return Ok(gathered.statements);
         }

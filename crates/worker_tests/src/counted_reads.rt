@@ -3,6 +3,8 @@
 use crate::expected::expect;
 use crate::folder::{File, Folder};
 use mk_eval::read_makefile;
+use mk_macros::Macros;
+use mk_profile::Profile;
 use std::alloc::{AllocError, Global};
 use std::test::Fail;
 
@@ -42,7 +44,8 @@ static ROWS: [Row; 4] = [
 ];
 
 fn fault(alloc: Global, makefile: &str, folder: &mut Folder) -> Result<String, AllocError> {
-    match read_makefile(alloc, b"m", makefile.as_bytes(), folder) {
+    let mut macros = Macros::new(alloc, Profile::Strict);
+    match read_makefile(alloc, &mut macros, b"m", makefile.as_bytes(), folder) {
         Ok(_) => Ok(String::new(alloc)),
         Err(fault) => format!(in alloc; "{fault}"),
     }

@@ -20,7 +20,9 @@ pub struct Asked {
 
 pub fn graph(alloc: Global, asked: &Asked, state: &State) -> Result<Graph, Fail> {
     let mut folder = Folder::new(asked.files);
-    let items = read_makefile(alloc, b"makefile", asked.makefile.as_bytes(), &mut folder)?;
+    let mut macros = Macros::new(alloc, Profile::Strict);
+    let text = asked.makefile.as_bytes();
+    let items = read_makefile(alloc, &mut macros, b"makefile", text, &mut folder)?;
     let goals = ByteStrings::empty(alloc);
     Ok(build(
         alloc,

@@ -7,7 +7,7 @@ returns-in-Some-clause-makefile g c = λ files times text may.
     first_is files times _ c.in-Some.makefile c.in-Some.is c.in_ok-makefile.ensures.name (c.in_ok-makefile.ensures.read files text)
 
 pub returns-then-not-branch-clause-fault : goal.returns-then-not-branch-clause-fault
-returns-then-not-branch-clause-fault g c = λ files times text may. (
+returns-then-not-branch-clause-fault g c = λ files times given text may. (
   c.in_ok-makefile.ensures.read files text ∙ ap (option_map (λ m. m.text.items)) c.in_default.is,
   inl (c.in_ok-is_absent.ensures.there c.if-not-branch.true times may),
 )
@@ -19,7 +19,7 @@ returns-in-Some-2-clause-makefile g c = λ files times text may.
     c.in_ok-makefile-2.ensures.name (c.in_ok-makefile-2.ensures.read files text)
 
 pub returns-in-None-clause-fault : goal.returns-in-None-clause-fault
-returns-in-None-clause-fault g c = λ files times text may. (
+returns-in-None-clause-fault g c = λ files times given text may. (
   c.in_ok-makefile.ensures.read files (c.in_ok-makefile-2.ensures.files files text) ∙ ap (option_map (λ m. m.text.items)) c.in_default.is,
   inr (c.in_ok-is_absent.ensures.absent c.if-not-branch.false times may, c.in_ok-makefile-2.ensures.read files text ∙ ap (option_map (λ m. m.text.items)) c.in-None.is),
 )

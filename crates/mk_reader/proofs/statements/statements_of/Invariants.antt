@@ -6,8 +6,8 @@ use Rattle.mk_reader.proofs.statements.statements_of.Given as goal
 
 abbrev pub invariant-loop-left : goal.invariant-loop-left
 invariant-loop-left l = (whole : List Statement)
-    → ComesTo l.file l.gathered.statements.items l.gathered.unfinished (logical_lines l.number (option_copied l.left)) whole
-    → AreStatements l.file l.text whole
+    → ComesTo l.profile l.file l.gathered.statements.items l.gathered.unfinished (logical_lines l.number (option_copied l.left)) whole
+    → AreStatements l.profile l.file l.text whole
 
 abbrev pub decreases-loop-left : goal.decreases-loop-left
 decreases-loop-left l = size_left (option_copied l.left)
