@@ -1,10 +1,6 @@
 //! make with a state that remembers what each recipe was, and whether it ended.
 #![tactic(auto)]
 
-ghost use Rattle.std.specs.Prelude.{codes};
-ghost use Rattle.dmk_drive.specs.Keeping.{value_in};
-ghost use Rattle.dmk_drive.specs.Output.{AsksToRun};
-
 mod arguments;
 mod asking;
 mod child_signal;
@@ -14,6 +10,7 @@ mod folder;
 mod host_files;
 mod job_words;
 mod lock_file;
+mod making;
 mod pool_path;
 mod reasons;
 mod standard_streams;
@@ -21,28 +18,19 @@ mod state_lock;
 mod terminal;
 
 use asking::ask;
-use bd_lists::Variable;
 use child_signal::run_anew;
 use command_line::{Asked, Request, read_words};
 use dmk_drive::{Fault, Message, Mode, Options, value_of};
-use dmk_run::{Means, Printer, build_targets};
 use environment::{read_environment, with_environment};
 use folder::{FolderFault, enter, tell};
-use host_files::{HostFiles, read_input};
-use jb_host::{HOLDS, HostPlace, Shell};
-use jb_slots::FifoBanks;
+use host_files::read_input;
 use job_words::processors;
-use pool_path::PoolPath;
-use reasons::print_reasons;
-use st_disk::{FileDisk, SystemFolder};
-use st_records::HashKey;
-use standard_streams::{buffered, held_streams, with_patience};
-use state_lock::StateLock;
+use making::make;
+use standard_streams::held_streams;
 use std::alloc::AllocError;
 use std::process::ExitCode;
-use std::sync::{OnceLock, Wait};
+use std::sync::Wait;
 use std::thread::Threads;
-use terminal::status_columns;
 
 fn main(rt: HostRuntime) -> ExitCode {
     match read_words(rt, processors(&rt)) {
@@ -147,57 +135,4 @@ fn run_in<R: Threads + Wait + Sync>(
         Mode::Run => make(rt, host, options, &environment, input),
         Mode::DryRun | Mode::Question => ask(host, options, &environment, input),
     }
-}
-
-/// Runs recipes.
-fn make<R: Threads + Wait + Sync>(
-    rt: &R,
-    host: HostRuntime,
-    options: Options,
-    environment: &[Variable],
-    input: Option<&[u8]>,
-) -> Result<u8, AllocError>
-    requires { AsksToRun options (value_in environment.now (codes "MAKEFLAGS")) }
-{
-    let alloc = host.alloc();
-    let folder = SystemFolder::new(host, alloc, options.state.as_str())?;
-    let flags = value_of(environment, b"MAKEFLAGS");
-    let workers = usize::from(options.workers);
-    let pool = PoolPath::new(host, options.state.as_str(), flags, workers)?;
-    let printer = Printer::new(
-        rt,
-        alloc,
-        buffered(alloc, with_patience(host, host.stdout()))?,
-        buffered(alloc, with_patience(host, host.stderr()))?,
-        status_columns(host, environment, options.is_silent),
-    );
-    let held = OnceLock::new();
-    let above = str::from_utf8(value_of(environment, HOLDS.as_bytes())).unwrap_or("");
-    let mut guard = StateLock::new(host, options.state.as_str(), above, &held)?;
-    let shell = Shell::new(host, alloc, &held);
-    let place = HostPlace::new(host);
-    let means = Means {
-        key: HashKey::from_system(&host),
-        environment,
-        pool: pool.as_bytes(),
-        exec: &shell,
-        say: &printer,
-        place: &place,
-    };
-    let mut makefiles = HostFiles::texts(host, input);
-    let (status, disk) = build_targets(
-        rt,
-        alloc,
-        &means,
-        &mut guard,
-        options,
-        &mut HostFiles::tree(host),
-        &mut makefiles,
-        &mut FifoBanks::new(host, "mkfifo"),
-        FileDisk::new(folder),
-    );
-    pool.release();
-    let (_out, mut err) = printer.into_streams();
-    print_reasons(&mut err, &makefiles, &disk);
-    Ok(status)
 }

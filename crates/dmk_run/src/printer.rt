@@ -9,13 +9,16 @@ use jb_closing::RunFault;
 use jb_recipe::{News, Say, Step};
 use std::alloc::Global;
 use std::io::Write;
-use std::sync::{Mutex, Wait};
+use std::sync::{Condvar, Mutex, Wait};
+use std::time::Duration;
 
 /// Prints lines and blocks on one stream, and faults and notes on another. What can't be printed ends no run.
 #[derive(Drop)]
 pub struct Printer<'a, R: Wait, O: Write + Drop, E: Write + Drop> {
     rt: &'a R,
     streams: Mutex<Streams<O, E>>,
+    /// Told once the run is over.
+    over: Condvar,
 }
 
 impl<'a, R: Wait, O: Write + Drop, E: Write + Drop> Printer<'a, R, O, E> {
@@ -35,20 +38,46 @@ impl<'a, R: Wait, O: Write + Drop, E: Write + Drop> Printer<'a, R, O, E> {
                 err,
                 columns.map(|columns| StatusLine::new(alloc, columns)),
             )),
+            over: Condvar::new(),
         }
     }
 
     /// The two streams again.
     pub fn into_streams(self) -> (O, E) {
-        let Printer { rt: _, streams } = self;
+        let Printer {
+            rt: _,
+            streams,
+            over: _,
+        } = self;
         streams.into_inner().apart()
     }
 
     /// The run is over: its status line goes. Says once more which targets failed, where other lines stand behind that.
     pub fn repeat_failures(&self) {
-        let mut streams = self.streams.lock(self.rt);
-        streams.end_status();
-        streams.repeat_failures();
+        self.end();
+        self.streams.lock(self.rt).repeat_failures();
+    }
+
+    /// The run is over.
+    pub(crate) fn end(&self) {
+        self.streams.lock(self.rt).end_status();
+        self.over.notify_all();
+    }
+
+    /// Draws the status line anew each second until the run is over.
+    pub(crate) fn keep_time(&self) {
+        for _ in self.rt.forever() {
+            let seen = self.over.notifications();
+            if self.is_over() {
+                return;
+            }
+            self.over.sleep(self.rt, seen, Duration::from_secs(1));
+            self.streams.lock(self.rt).tick();
+        }
+    }
+
+    fn is_over(&self) -> bool {
+        self.streams.lock(self.rt).is_over
     }
 
     /// Whether all lines and blocks went out.

@@ -18,6 +18,8 @@ pub(crate) struct StatusLine {
     running: usize,
     /// The line of a recipe that was begun last.
     text: String,
+    /// For how many seconds the run has stood as it does, as they were counted.
+    seconds: u64,
     /// A recipe was begun, and the run isn't over.
     is_wanted: bool,
     /// It stands on the terminal, as far as the run has come.
@@ -51,6 +53,7 @@ impl StatusLine {
             ended: 0,
             running: 0,
             text: String::new(alloc),
+            seconds: 0,
             is_wanted: false,
             is_drawn: false,
         }
@@ -58,6 +61,7 @@ impl StatusLine {
 
     /// The run is a step further.
     pub(crate) fn go_on(&mut self, step: Step<'_>) {
+        self.seconds = 0;
         match step {
             Step::Planned(planned) => self.planned = planned,
             Step::Begins => {
@@ -74,6 +78,11 @@ impl StatusLine {
                 self.ended = self.ended.saturating_add(1);
             }
         }
+    }
+
+    /// A second has passed.
+    pub(crate) fn tick(&mut self) {
+        self.seconds = self.seconds.saturating_add(1);
     }
 
     /// The run is over.
@@ -118,12 +127,16 @@ impl StatusLine {
         Ok(line)
     }
 
-    // How many recipes run, where that is more than the one that is shown.
+    // How many recipes run, where that is more than the one that is shown, and for how long they have, where that is more than
+    // a moment.
     fn behind(&self) -> Result<String, AllocError> {
-        if self.running > 1 {
-            format!(in self.alloc; " ({} run)", self.running)
-        } else {
-            Ok(String::new(self.alloc))
+        let lasts = self.seconds > 1;
+        match self.running {
+            0 => Ok(String::new(self.alloc)),
+            1 if lasts => format!(in self.alloc; " ({} s)", self.seconds),
+            1 => Ok(String::new(self.alloc)),
+            _ if lasts => format!(in self.alloc; " ({} run, {} s)", self.running, self.seconds),
+            _ => format!(in self.alloc; " ({} run)", self.running),
         }
     }
 }

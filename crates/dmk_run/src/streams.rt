@@ -21,6 +21,8 @@ pub(crate) struct Streams<O: Write + Drop, E: Write + Drop> {
     ends_err: bool,
     /// Where standard error is a terminal that shows one.
     pub(crate) status: Option<StatusLine>,
+    /// The run is over.
+    pub(crate) is_over: bool,
 }
 
 fn write_line<O: Write>(out: &mut O, text: &[u8]) -> io::Result<()> {
@@ -138,6 +140,7 @@ impl<O: Write + Drop, E: Write + Drop> Streams<O, E> {
             ends_out: true,
             ends_err: true,
             status,
+            is_over: false,
         }
     }
 
@@ -152,6 +155,7 @@ impl<O: Write + Drop, E: Write + Drop> Streams<O, E> {
             ends_out: _,
             ends_err: _,
             status: _,
+            is_over: _,
         } = self;
         (out, err)
     }
@@ -183,8 +187,17 @@ impl<O: Write + Drop, E: Write + Drop> Streams<O, E> {
         }
     }
 
+    /// A second has passed.
+    pub(crate) fn tick(&mut self) {
+        if let Some(status) = &mut self.status {
+            status.tick();
+        }
+        self.draw_status();
+    }
+
     /// The run is over.
     pub(crate) fn end_status(&mut self) {
+        self.is_over = true;
         self.make_way();
         if let Some(status) = &mut self.status {
             status.end();

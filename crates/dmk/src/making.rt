@@ -1,0 +1,121 @@
+//! A run that makes what is asked for.
+ghost use Rattle.std.specs.Prelude.{codes};
+ghost use Rattle.dmk_drive.specs.Keeping.{value_in};
+ghost use Rattle.dmk_drive.specs.Output.{AsksToRun};
+
+use crate::host_files::HostFiles;
+use crate::pool_path::PoolPath;
+use crate::reasons::print_reasons;
+use crate::standard_streams::{Patient, buffered, with_patience};
+use crate::state_lock::StateLock;
+use crate::terminal::status_columns;
+use bd_lists::Variable;
+use dmk_drive::{FileTexts, Options, value_of};
+use dmk_run::{Means, Printer, build_targets, followed};
+use jb_host::{HOLDS, HostPlace, Shell};
+use jb_slots::FifoBanks;
+use st_disk::{FileDisk, SystemFolder};
+use st_records::HashKey;
+use std::alloc::AllocError;
+use std::io::{BufWriter, Stderr, Stdout, Write};
+use std::sync::{OnceLock, Wait};
+use std::thread::Threads;
+
+/// A printer on the standard streams.
+fn host_printer<'a, R: Wait>(
+    rt: &'a R,
+    host: HostRuntime,
+    environment: &[Variable],
+    is_silent: bool,
+) -> Result<Printer<'a, R, BufWriter<Patient<Stdout>>, BufWriter<Patient<Stderr>>>, AllocError> {
+    let alloc = host.alloc();
+    Ok(Printer::new(
+        rt,
+        alloc,
+        buffered(alloc, with_patience(host, host.stdout()))?,
+        buffered(alloc, with_patience(host, host.stderr()))?,
+        status_columns(host, environment, is_silent),
+    ))
+}
+
+/// Makes the targets over the files of the current folder, and answers the status. The state's disk comes back.
+fn make_here<R, O, W>(
+    rt: &R,
+    host: HostRuntime,
+    means: &Means<'_, Shell<'_>, Printer<'_, R, O, W>, HostPlace>,
+    guard: &mut StateLock<'_>,
+    options: Options,
+    makefiles: &mut FileTexts<HostFiles<'_>>,
+    folder: SystemFolder,
+) -> (u8, FileDisk<SystemFolder>)
+where
+    R: Threads + Wait + Sync,
+    O: Write + Drop + Send,
+    W: Write + Drop + Send,
+    requires { AsksToRun options (value_in means.now.environment.now (codes "MAKEFLAGS")) }
+{
+    followed(
+        rt,
+        means.say,
+        ||
+            requires { AsksToRun options (value_in means.now.environment.now (codes "MAKEFLAGS")) }
+        {
+            build_targets(
+                rt,
+                host.alloc(),
+                means,
+                guard,
+                options,
+                &mut HostFiles::tree(host),
+                makefiles,
+                &mut FifoBanks::new(host, "mkfifo"),
+                FileDisk::new(folder),
+            )
+        },
+    )
+}
+
+/// Runs recipes, and answers the status.
+pub fn make<R: Threads + Wait + Sync>(
+    rt: &R,
+    host: HostRuntime,
+    options: Options,
+    environment: &[Variable],
+    input: Option<&[u8]>,
+) -> Result<u8, AllocError>
+    requires { AsksToRun options (value_in environment.now (codes "MAKEFLAGS")) }
+{
+    let alloc = host.alloc();
+    let folder = SystemFolder::new(host, alloc, options.state.as_str())?;
+    let flags = value_of(environment, b"MAKEFLAGS");
+    let workers = usize::from(options.workers);
+    let pool = PoolPath::new(host, options.state.as_str(), flags, workers)?;
+    let printer = host_printer(rt, host, environment, options.is_silent)?;
+    let held = OnceLock::new();
+    let above = str::from_utf8(value_of(environment, HOLDS.as_bytes())).unwrap_or("");
+    let mut guard = StateLock::new(host, options.state.as_str(), above, &held)?;
+    let shell = Shell::new(host, alloc, &held);
+    let place = HostPlace::new(host);
+    let means = Means {
+        key: HashKey::from_system(&host),
+        environment,
+        pool: pool.as_bytes(),
+        exec: &shell,
+        say: &printer,
+        place: &place,
+    };
+    let mut makefiles = HostFiles::texts(host, input);
+    let (status, disk) = make_here(
+        rt,
+        host,
+        &means,
+        &mut guard,
+        options,
+        &mut makefiles,
+        folder,
+    );
+    pool.release();
+    let (_out, mut err) = printer.into_streams();
+    print_reasons(&mut err, &makefiles, &disk);
+    Ok(status)
+}
