@@ -19,15 +19,21 @@ def write(known):
         out.writelines(f"{name} {key} {count}\n" for name, (key, count) in sorted(known.items()))
 
 
+def logic():
+    """Returns the sum of the logic over which the kit proves. Kits that differ in the rest prove the same goals."""
+    with open(f"{KIT}/KIT-ID", encoding="utf-8") as kit:
+        words = kit.read().split()
+    return words[words.index("logic") + 1]
+
+
 def key_of(crate, edits):
-    """Returns a sum of what the verdicts rest on: the kit, the crate's files and edits, what these name below it."""
+    """Returns a sum of what the verdicts rest on: the kit's logic, the crate's files and edits, what these name below it."""
     key = hashlib.sha256()
 
     def add(*what):
         key.update(repr(what).encode())
 
-    with open(f"{KIT}/KIT-ID", "rb") as kit:
-        add(kit.read())
+    add(logic())
     files = [*rtlib.files_of(crate.folder), *edits]
     for file in files:
         add(os.path.relpath(file, crate.folder), rtlib.sum_of(file))
