@@ -1,6 +1,6 @@
 -- Which file is the makefile, and what reading its text says, in the words of its file; and so of several that are named.
 use Rattle.std.proofs.Common.{◌≡◌, ◌∙◌, inl, inr, ℕ, ℤ, Bool, true, false, not, List, [], ◌∷◌, ◌++◌, append_assoc, append-nil, Option, Some, None, is_some, option_map, Result, Ok, Err, IfErr, IsErrAnd, IfSome, IsTrue, refl, sym, ap, subst}
-use Rattle.mk_eval.specs.Makefile.{AnswersOf, InOrder, Then, TextItems, GivesItems, Outcome, behind, depth, with_front}
+use Rattle.mk_eval.specs.Makefile.{AnswersOf, InOrder, TextItems, GivesItems, Outcome, behind, depth, with_front}
 use Rattle.mk_macros.specs.Ranks.{Defined}
 use Rattle.mk_reader.specs.declared.item.Item.{Item}
 use Rattle.mk_reader.specs.declared.fault.ReadFault.{ReadFault}
@@ -9,7 +9,7 @@ use Rattle.mk_reader.specs.declared.fault.ReadFault.TheVariants.{OutOfMemory, Re
 use Rattle.mk_eval.proofs.BehindLemmas.{behind-append, behind_nothing}
 use Rattle.mk_eval.proofs.OutcomeLemmas.{order_one, text_one}
 use Rattle.std.proofs.lemmas.Option.{same_Some}
-use Rattle.dmk_drive.specs.Makefile.{IsUsualMakefile, LacksOne, NamedItems, AllItems, first_name, second_name}
+use Rattle.dmk_drive.specs.Makefile.{IsUsualMakefile, NamedItems, AllItems, first_name, second_name}
 use Rattle.dmk_drive.specs.Planned.{AreItems}
 use Rattle.dmk_drive.specs.Faults.{IsFaultAmong, IsFaultOfOne, IsReadFault, IsTextFault}
 use Rattle.dmk_drive.specs.declared.fault.Fault.{Fault}

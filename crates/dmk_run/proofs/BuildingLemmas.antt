@@ -1,5 +1,5 @@
 -- What a run leaves, by what its report says of the closed store.
-use Rattle.std.proofs.Common.{◌≡◌, ◌⊎◌, ℕ, zero, suc, ◌≤◌, Bool, true, false, List, [], ◌∷◌, length, map, Result, Ok, Err, IfOk, IsOk, IsTrue, refl, sym, ap, subst, ◌∙◌, inl, inr, arith}
+use Rattle.std.proofs.Common.{◌≡◌, ◌⊎◌, ℕ, zero, suc, Bool, true, false, List, [], ◌∷◌, length, map, Result, Ok, Err, IfOk, IsOk, IsTrue, refl, sym, ap, subst, ◌∙◌, inl, inr, arith}
 use Rattle.std.specs.List.{list_all}
 use Rattle.std.proofs.lemmas.Result.{IfOk-at_ok}
 use Rattle.st_disk.specs.Crash.{Sides}
@@ -14,7 +14,7 @@ use Rattle.bd_flusher.specs.declared.site.receipt.Receipt.{Receipt}
 use Rattle.jb_closing.specs.declared.fault.RunFault.{RunFault}
 use Rattle.jb_closing.specs.declared.report.Report.{Report}
 use Rattle.jb_closing.specs.Agreement.{AreThoseOf}
-use Rattle.jb_closing.specs.Closing.{IsBuilt, IsNamed, IsTrueOf, AreTrueOf}
+use Rattle.jb_closing.specs.Closing.{IsBuilt, IsTrueOf, AreTrueOf}
 use Rattle.jb_closing.specs.Report.{ends_well}
 use Rattle.dmk_run.specs.Judged.{IsBorneOut}
 use Rattle.dmk_run.specs.Known.{IsTold}

@@ -1,5 +1,5 @@
 -- What a run over a store says of a makefile.
-use Rattle.std.proofs.Common.{◌≡◌, ◌≢◌, ◌⊎◌, ◌||◌, inl, inr, ℕ, ℤ, ◌≤◌, Bool, true, false, List, [], Option, Result, Ok, Err, IfOk, IsTrue, ◌∙◌, length, refl, sym, subst}
+use Rattle.std.proofs.Common.{◌≡◌, ◌⊎◌, ◌||◌, inl, inr, ℕ, ℤ, ◌≤◌, Bool, true, false, List, [], Option, Result, Ok, Err, IfOk, IsTrue, ◌∙◌, length, refl, sym, subst}
 use Rattle.std.specs.FinMap as map
 use Rattle.std.specs.List.{list_all}
 use Rattle.mk_profile.specs.declared.profile.Profile.{Profile}
@@ -16,9 +16,9 @@ use Rattle.st_recovery.specs.Recovers.{Recovers, recovered}
 use Rattle.st_recovery.proofs.RecoversLemmas.{one_recovery}
 use Rattle.bd_lists.specs.declared.recipe.Variable.{Variable}
 use Rattle.dmk_drive.specs.Keeping.{keeps}
-use Rattle.dmk_drive.specs.Planned.{AreItems, IsGraphOf, IsStateOn, judged_graph}
+use Rattle.dmk_drive.specs.Planned.{IsGraphOf, IsStateOn, judged_graph}
 use Rattle.dmk_run.specs.Judged.{IsBorneOut}
-use Rattle.dmk_run.specs.Made.{HasEnded, IsMade, Makes, MakesItems}
+use Rattle.dmk_run.specs.Made.{HasEnded, IsMade, MakesItems}
 use Rattle.dmk_run.specs.declared.stop.Stop.{Stop}
 
 same_state : (m n : StateMap) → recovered m ≡ recovered n → m ≡ n

@@ -1,5 +1,5 @@
 -- What a power cut may leave while a store is opened and compacted, and why it isn't opened. Own.
-use Rattle.std.specs.Prelude.{◌≡◌, ◌⊎◌, ℕ, ◌<◌, List}
+use Rattle.std.specs.Prelude.{◌≡◌, ◌⊎◌, ℕ, List}
 use Rattle.st_disk.specs.declared.which.Which.{Which}
 use Rattle.st_disk.specs.declared.which.Which.TheVariants as which
 use Rattle.st_disk.specs.Crash.{Sides, EachPair, IsCrashImage}

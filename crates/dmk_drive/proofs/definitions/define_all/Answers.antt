@@ -1,4 +1,4 @@
-use Rattle.std.proofs.Common.{◌≡◌, ◌∙◌, ◌+◌, ℕ, List, [], ◌∷◌, ◌++◌, false, take, add-one, sym, ap}
+use Rattle.std.proofs.Common.{◌≡◌, ◌∙◌, ◌+◌, [], ◌∷◌, ◌++◌, false, take, add-one, sym, ap}
 use Rattle.std.proofs.Math.Seq.{take-suc}
 use Rattle.mk_macros.specs.Ranks.{Defined, defined_by, with_text}
 use Rattle.bd_lists.specs.declared.recipe.Variable.{Variable}

@@ -1,4 +1,4 @@
-use Rattle.std.proofs.Common.{◌≡◌, refl, ℕ, List, Option, sym, ap, ◌∙◌}
+use Rattle.std.proofs.Common.{ℕ, List, Option, sym, ap, ◌∙◌}
 use Rattle.mk_macros.specs.Ranks.{defined_by}
 use Rattle.mk_eval.specs.Makefile.{behind}
 use Rattle.mk_eval.proofs.BehindLemmas.{behind_nothing, behind_more}

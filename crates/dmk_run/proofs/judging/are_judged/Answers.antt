@@ -1,4 +1,4 @@
-use Rattle.std.proofs.Common.{◌≡◌, Bool, List, map, get_or, subst, ◌∙◌}
+use Rattle.std.proofs.Common.{Bool, List, map, get_or, subst, ◌∙◌}
 use Rattle.std.proofs.lemmas.Option.{slice_get-get_or}
 use Rattle.dmk_run.specs.Judged.{counts_as_remade, IsJudged}
 use Rattle.dmk_run.proofs.JudgingLemmas.{none_before, one_more, all_of_them}

@@ -1,10 +1,9 @@
 use Rattle.std.proofs.Common.{sym, subst}
 use Rattle.st_disk.specs.declared.which.Which.TheVariants as which
-use Rattle.st_disk.specs.Moments.{now, Throughout}
+use Rattle.st_disk.specs.Moments.{now}
 use Rattle.st_state.specs.State.{StateMap}
 use Rattle.st_recovery.specs.Recovers.{Recovers}
 use Rattle.st_recovery.proofs.StoredLemmas.{all_recover}
-use Rattle.dmk_run.specs.Opened.{ArePossibleOrRecover, StandsInVersion1}
 use Rattle.dmk_run.proofs.OpeningLemmas.{opened_so, then_compacted, told_not_compacted}
 use Rattle.dmk_run.proofs.opening.open_store.Goals as goal
 
