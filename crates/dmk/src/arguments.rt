@@ -3,15 +3,13 @@ use clap::{Arg, ArgAction, ArgMatches, Command};
 use dmk_drive::MAX_WORKERS;
 use std::alloc::{AllocError, Global};
 
-/// The state file where none is named.
-pub const DEFAULT_STATE: &str = ".make.state";
-
 const ABOUT: &str =
     "Makes targets by the rules of a makefile, and remembers in a state file what each recipe was";
 
 const AFTER: &str = "\
 Files: the makefile is each FILE of -f, else makefile, else Makefile. Where it has .KEEP_STATE:, or the environment the
-variable KEEP_STATE, state is kept in .make.state and .make.state.2 (-K names others); dmk_state lists them.
+variable KEEP_STATE, state is kept in .make.state and .make.state.2 (-K names others), and under --posix with -f FILE in
+FILE.make.state and FILE.make.state.2; dmk_state lists them.
 
 Status: 0 all is well; 1 a target failed, or -q found one out of date; 2 a fault, told on standard error.";
 
@@ -68,8 +66,7 @@ fn with_files(alloc: Global, command: Command<'_>) -> Result<Command<'_>, AllocE
         "state",
         "FILE",
         "Keep the state in FILE and FILE.2",
-    )
-    .default_value(DEFAULT_STATE);
+    );
     command.arg(folders)?.arg(makefiles)?.arg(state)
 }
 

@@ -95,8 +95,12 @@ impl Look {
     ) -> Result<Option<Look>, AllocError> {
         match read_words(host, 1) {
             Ok(Request::Make(asked)) => {
-                let counts = asked.environment_counts;
-                let options = with_environment(host.alloc(), counts, asked.options, environment)?;
+                let options = with_environment(
+                    host.alloc(),
+                    asked.later,
+                    asked.options,
+                    environment,
+                )?;
                 Look::if_asked(host, options, environment, input)
             }
             _ => Ok(None),

@@ -1,7 +1,7 @@
 //! The words of the command line, read by `clap`.
 ghost use Rattle.std.specs.Prelude.{◌≡◌};
 
-use crate::arguments::{DEFAULT_STATE, find};
+use crate::arguments::find;
 use crate::host_files::INPUT;
 use crate::job_words::with_numbers;
 use bd_lists::Variable;
@@ -21,9 +21,17 @@ pub struct Asked {
     pub folders: Vec<String>,
     /// The folder is told where the run begins and where it ends.
     pub tells_folder: bool,
+    pub later: Later,
+    pub options: Options,
+}
+
+/// What the options don't say before the environment is known.
+#[derive(Clone, Copy)]
+pub struct Later {
     /// The environment's variables count as definitions of the command line, before its own.
     pub environment_counts: bool,
-    pub options: Options,
+    /// -K names the state. Else it goes by the language.
+    pub names_state: bool,
 }
 
 /// What the words ask for.
@@ -179,7 +187,7 @@ fn options_of(alloc: Global, found: &ArgMatches<'_>) -> Result<Options, AllocErr
     Ok(Options {
         makefiles: makefiles_of(alloc, found)?,
         profile: profile_of(found),
-        state: String::from_str(alloc, found.get_str("state").unwrap_or(DEFAULT_STATE))?,
+        state: String::from_str(alloc, found.get_str("state").unwrap_or(""))?,
         workers: found.get_one::<u16>("workers").unwrap_or(2),
         goes_on: found.get_count("goes_on") > 0,
         is_dry: found.get_count("dry") > 0,
@@ -219,7 +227,10 @@ fn asked_of(alloc: Global, found: &ArgMatches<'_>) -> Result<Asked, AllocError> 
     Ok(Asked {
         folders: folders_of(alloc, found)?,
         tells_folder: tells_folder(found),
-        environment_counts: found.get_count("environment") > 0,
+        later: Later {
+            environment_counts: found.get_count("environment") > 0,
+            names_state: found.contains_id("state"),
+        },
         options,
     })
 }

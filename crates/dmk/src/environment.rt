@@ -1,7 +1,8 @@
 //! The variables of the environment, as bytes.
+use crate::command_line::Later;
 use bd_lists::Variable;
 use byte_strings::ByteString;
-use dmk_drive::{Options, value_of};
+use dmk_drive::{Options, usual_state, value_of};
 use std::alloc::{AllocError, Global};
 use std::env::FillError;
 use std::rt::Env;
@@ -56,17 +57,25 @@ pub fn read_environment(rt: HostRuntime) -> Result<Vec<Variable>, AllocError> {
     Ok(variables)
 }
 
-/// The options by this environment: MAKEFLAGS may ask for the wide language, and where the environment counts, its variables are
-/// definitions of the command line, before those that stand there.
+/// The first makefile that the words name.
+fn first_makefile(options: &Options) -> Option<&str> {
+    str::from_utf8(options.makefiles.get(0)?).ok()
+}
+
+/// The options by this environment: MAKEFLAGS may ask for the wide language, by which the state has its name where the words give it
+/// none, and where the environment counts, its variables are definitions of the command line, before those that stand there.
 pub fn with_environment(
     alloc: Global,
-    counts: bool,
+    later: Later,
     options: Options,
     environment: &[Variable],
 ) -> Result<Options, AllocError> {
     let mut options = options;
     options.profile = options.language(value_of(environment, b"MAKEFLAGS"));
-    if !counts {
+    if !later.names_state {
+        options.state = usual_state(alloc, options.profile, first_makefile(&options))?;
+    }
+    if !later.environment_counts {
         return Ok(options);
     }
     let mut definitions = Vec::with_capacity(alloc, environment.len())?;

@@ -19,7 +19,7 @@ mod terminal;
 
 use asking::ask;
 use child_signal::run_anew;
-use command_line::{Asked, Request, read_words};
+use command_line::{Asked, Later, Request, read_words};
 use dmk_drive::{Fault, Message, Mode, Options, value_of};
 use environment::{read_environment, with_environment};
 use folder::{FolderFault, enter, tell};
@@ -70,13 +70,13 @@ fn run_there<R: Threads + Wait + Sync>(
     let Asked {
         folders,
         tells_folder,
-        environment_counts,
+        later,
         options,
     } = asked;
     if let Err(fault) = begin(host, &folders, tells_folder) {
         return refused(host, fault);
     }
-    let status = run(rt, host, options, environment_counts, input);
+    let status = run(rt, host, options, later, input);
     if !tells_folder {
         return status;
     }
@@ -104,10 +104,10 @@ fn run<R: Threads + Wait + Sync>(
     rt: &R,
     host: HostRuntime,
     options: Options,
-    environment_counts: bool,
+    later: Later,
     input: Option<&[u8]>,
 ) -> u8 {
-    match run_in(rt, host, options, environment_counts, input) {
+    match run_in(rt, host, options, later, input) {
         Ok(status) => status,
         Err(_) => {
             let fault = Fault::OutOfMemory;
@@ -125,12 +125,12 @@ fn run_in<R: Threads + Wait + Sync>(
     rt: &R,
     host: HostRuntime,
     options: Options,
-    environment_counts: bool,
+    later: Later,
     input: Option<&[u8]>,
 ) -> Result<u8, AllocError> {
     let _held = held_streams(host);
     let environment = read_environment(host)?;
-    let options = with_environment(host.alloc(), environment_counts, options, &environment)?;
+    let options = with_environment(host.alloc(), later, options, &environment)?;
     match options.mode(value_of(&environment, b"MAKEFLAGS")) {
         Mode::Run => make(rt, host, options, &environment, input),
         Mode::DryRun | Mode::Question => ask(host, options, &environment, input),

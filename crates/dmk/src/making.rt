@@ -86,6 +86,7 @@ pub fn make<R: Threads + Wait + Sync>(
     requires { AsksToRun options (value_in environment.now (codes "MAKEFLAGS")) }
 {
     let alloc = host.alloc();
+    let mut makefiles = HostFiles::texts(host, input);
     let folder = SystemFolder::new(host, alloc, options.state.as_str())?;
     let flags = value_of(environment, b"MAKEFLAGS");
     let workers = usize::from(options.workers);
@@ -104,7 +105,6 @@ pub fn make<R: Threads + Wait + Sync>(
         say: &printer,
         place: &place,
     };
-    let mut makefiles = HostFiles::texts(host, input);
     let (status, disk) = make_here(
         rt,
         host,

@@ -14,5 +14,7 @@ pub mod Faults
 pub mod Messages
 -- Output: what went out, and why a listing or an answer is refused.
 pub mod Output
+-- StateName: which state is kept where none is named.
+pub mod StateName
 -- Files: what the system says of a file.
 pub mod Files

@@ -18,6 +18,7 @@ mod output;
 mod passing;
 mod planning;
 mod recovered;
+mod state_name;
 mod texts;
 
 pub use definitions::first_macros;
@@ -37,3 +38,4 @@ pub use options::{MAX_WORKERS, Mode, Options};
 pub use output::{print_fault, print_note};
 pub use passing::{Shows, unlisted};
 pub use planning::{DryRun, Given, dry_run, judged_graph};
+pub use state_name::usual_state;
