@@ -6,7 +6,7 @@ ghost use Rattle.dmk_drive.specs.Output.{AsksToLook};
 use crate::command_line::{Request, read_words};
 use crate::environment::with_environment;
 use crate::host_files::HostFiles;
-use crate::reasons::print_reasons;
+use crate::reasons::{needs_usual_makefile, print_gnu_makefile, print_reasons};
 use crate::standard_streams::with_patience;
 use bd_lists::Variable;
 use dmk_drive::{Fault, Message, Mode, Options, drive, print_fault, value_of};
@@ -49,6 +49,7 @@ impl Look {
         let mut out = Vec::new(alloc);
         let mut err = Vec::with_capacity(alloc, FAULT_BYTES)?;
         let mut makefiles = HostFiles::texts(host, input);
+        let is_usual = needs_usual_makefile(&options);
         let (reply, disk) = drive(
             alloc,
             HashKey::from_system(&host),
@@ -65,6 +66,7 @@ impl Look {
             return Err(AllocError);
         }
         print_reasons(&mut err, &makefiles, &disk);
+        print_gnu_makefile(host, &mut err, is_usual && reply.status == 2);
         Ok(Look {
             status: reply.status,
             out,

@@ -5,7 +5,7 @@ ghost use Rattle.dmk_drive.specs.Output.{AsksToRun};
 
 use crate::host_files::HostFiles;
 use crate::pool_path::PoolPath;
-use crate::reasons::print_reasons;
+use crate::reasons::{needs_usual_makefile, print_gnu_makefile, print_reasons};
 use crate::standard_streams::{Patient, buffered, with_patience};
 use crate::state_lock::StateLock;
 use crate::terminal::status_columns;
@@ -87,6 +87,7 @@ pub fn make<R: Threads + Wait + Sync>(
 {
     let alloc = host.alloc();
     let mut makefiles = HostFiles::texts(host, input);
+    let is_usual = needs_usual_makefile(&options);
     let folder = SystemFolder::new(host, alloc, options.state.as_str())?;
     let flags = value_of(environment, b"MAKEFLAGS");
     let workers = usize::from(options.workers);
@@ -117,5 +118,6 @@ pub fn make<R: Threads + Wait + Sync>(
     pool.release();
     let (_out, mut err) = printer.into_streams();
     print_reasons(&mut err, &makefiles, &disk);
+    print_gnu_makefile(host, &mut err, is_usual && status == 2);
     Ok(status)
 }

@@ -1,8 +1,9 @@
 //! What the system said of the files that a fault is about, behind the fault.
 
 use crate::host_files::HostFiles;
-use dmk_drive::FileTexts;
+use dmk_drive::{FileTexts, Options};
 use st_disk::{FailedCallMessage, FileDisk, SystemFolder, Which};
+use std::fs;
 use std::io::Write;
 
 /// Says which makefile couldn't be read, and which call on the state's files failed, if there is one. A line that can't be printed
@@ -23,4 +24,28 @@ pub fn print_reasons<W: Write>(
         let _ = writeln!(err, "dmk: note: {message}");
     }
     let _ = err.flush();
+}
+
+/// Whether the makefile is one that other makes look for under one name more.
+pub fn needs_usual_makefile(options: &Options) -> bool {
+    options.profile.is_wide() && options.makefiles.is_empty()
+}
+
+fn is_there(rt: HostRuntime, name: &str) -> bool {
+    fs::metadata(&rt, name).is_ok()
+}
+
+/// Says that GNUmakefile isn't read, where that is looked for and it alone is there.
+pub fn print_gnu_makefile<W: Write>(rt: HostRuntime, err: &mut W, is_wanted: bool) {
+    if is_wanted
+        && is_there(rt, "GNUmakefile")
+        && !is_there(rt, "makefile")
+        && !is_there(rt, "Makefile")
+    {
+        let _ = writeln!(
+            err,
+            "dmk: note: GNUmakefile is not read: -f GNUmakefile names it"
+        );
+        let _ = err.flush();
+    }
 }
