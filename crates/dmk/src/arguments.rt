@@ -173,6 +173,13 @@ fn with_telling(alloc: Global, command: Command<'_>) -> Result<Command<'_>, Allo
         "tells",
         "Tell why each target is made; -dd also which aren't, and what changed of commands",
     );
+    let base = flag(
+        alloc,
+        TELLING,
+        'p',
+        "base",
+        "Print macros and rules first, as they were read, with file and line",
+    );
     let silent = flag(
         alloc,
         TELLING,
@@ -192,7 +199,12 @@ fn with_telling(alloc: Global, command: Command<'_>) -> Result<Command<'_>, Allo
         .action(ArgAction::Count)
         .help_heading(TELLING)
         .help("Don't tell the folder, though there is -C");
-    command.arg(tells)?.arg(silent)?.arg(told)?.arg(untold)
+    command
+        .arg(tells)?
+        .arg(base)?
+        .arg(silent)?
+        .arg(told)?
+        .arg(untold)
 }
 
 // Options of other makes that are refused by name, with the reason.

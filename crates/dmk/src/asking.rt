@@ -3,6 +3,7 @@ ghost use Rattle.std.specs.Prelude.{codes};
 ghost use Rattle.dmk_drive.specs.Keeping.{value_in};
 ghost use Rattle.dmk_drive.specs.Output.{AsksToLook};
 
+use crate::base::base_asked;
 use crate::command_line::{Request, read_words};
 use crate::environment::with_environment;
 use crate::host_files::HostFiles;
@@ -46,9 +47,9 @@ impl Look {
     {
         let alloc = host.alloc();
         let folder = SystemFolder::new(host, alloc, options.state.as_str())?;
-        let mut out = Vec::new(alloc);
         let mut err = Vec::with_capacity(alloc, FAULT_BYTES)?;
         let mut makefiles = HostFiles::texts(host, input);
+        let mut out = base_asked(host, &options, environment, &mut makefiles)?;
         let is_usual = needs_usual_makefile(&options);
         let (reply, disk) = drive(
             alloc,

@@ -196,6 +196,7 @@ fn options_of(alloc: Global, found: &ArgMatches<'_>) -> Result<Options, AllocErr
         asks: found.get_count("asks") > 0,
         makes_all: found.get_count("makes_all") > 0,
         telling: telling_of(found),
+        prints_base: found.get_count("base") > 0,
         definitions: Vec::new(alloc),
         targets: ByteStrings::empty(alloc),
     })

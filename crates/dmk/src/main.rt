@@ -3,6 +3,7 @@
 
 mod arguments;
 mod asking;
+mod base;
 mod child_signal;
 mod command_line;
 mod environment;

@@ -3,6 +3,7 @@ ghost use Rattle.std.specs.Prelude.{codes};
 ghost use Rattle.dmk_drive.specs.Keeping.{value_in};
 ghost use Rattle.dmk_drive.specs.Output.{AsksToRun};
 
+use crate::base::base_asked;
 use crate::host_files::HostFiles;
 use crate::pool_path::PoolPath;
 use crate::reasons::{needs_usual_makefile, print_gnu_makefile, print_reasons};
@@ -87,6 +88,7 @@ pub fn make<R: Threads + Wait + Sync>(
 {
     let alloc = host.alloc();
     let mut makefiles = HostFiles::texts(host, input);
+    let base = base_asked(host, &options, environment, &mut makefiles)?;
     let is_usual = needs_usual_makefile(&options);
     let folder = SystemFolder::new(host, alloc, options.state.as_str())?;
     let flags = value_of(environment, b"MAKEFLAGS");
@@ -106,6 +108,7 @@ pub fn make<R: Threads + Wait + Sync>(
         say: &printer,
         place: &place,
     };
+    printer.text(&base);
     let (status, disk) = make_here(
         rt,
         host,

@@ -14,6 +14,8 @@ pub mod Faults
 pub mod Messages
 -- Output: what went out, and why a listing or an answer is refused.
 pub mod Output
+-- Base: what -p prints.
+pub mod Base
 -- StateName: which state is kept where none is named.
 pub mod StateName
 -- Files: what the system says of a file.

@@ -28,7 +28,7 @@ pub enum Fault {
 
 impl Fault {
     /// Memory was wanted, in whichever stage.
-    fn is_of_memory(&self) -> bool
+    pub fn is_of_memory(&self) -> bool
         ensures { result ≡ is_of_memory self.now }
     {
         match self {

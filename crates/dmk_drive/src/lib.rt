@@ -3,6 +3,7 @@
 //! It runs no recipe: `-n` lists the recipes of the targets that are out of date, `-q` asks whether there are any.
 #![tactic(auto)]
 
+mod base;
 mod definitions;
 mod driver;
 mod fault;
@@ -21,6 +22,7 @@ mod recovered;
 mod state_name;
 mod texts;
 
+pub use base::base_of;
 pub use definitions::first_macros;
 pub use driver::{Reply, drive};
 pub use fault::Fault;

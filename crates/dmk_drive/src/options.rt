@@ -36,6 +36,8 @@ pub struct Options {
     pub makes_all: bool,
     /// How much is told of why targets are made.
     pub telling: Telling,
+    /// Macros and rules are printed first, as they were read.
+    pub prints_base: bool,
     pub definitions: Vec<Variable>,
     pub targets: ByteStrings,
 }

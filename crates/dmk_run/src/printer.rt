@@ -85,6 +85,11 @@ impl<'a, R: Wait, O: Write + Drop, E: Write + Drop> Printer<'a, R, O, E> {
         self.streams.lock(self.rt).is_whole
     }
 
+    /// A text in whole lines, before the run.
+    pub fn text(&self, text: &[u8]) {
+        self.streams.lock(self.rt).text(text);
+    }
+
     /// One line with a fault that is met before anything is made.
     pub fn fault(&self, message: Message<'_>) {
         let mut streams = self.streams.lock(self.rt);

@@ -31,6 +31,11 @@ fn write_line<O: Write>(out: &mut O, text: &[u8]) -> io::Result<()> {
     out.flush()
 }
 
+fn write_text<O: Write>(out: &mut O, text: &[u8]) -> io::Result<()> {
+    out.write_all(text)?;
+    out.flush()
+}
+
 fn write_out<O: Write>(out: &mut O, ended: &[Ended]) -> io::Result<()> {
     for one in ended {
         out.write_all(one.out.as_slice())?;
@@ -201,6 +206,13 @@ impl<O: Write + Drop, E: Write + Drop> Streams<O, E> {
         self.make_way();
         if let Some(status) = &mut self.status {
             status.end();
+        }
+    }
+
+    /// A text that stands before all that a run prints.
+    pub(crate) fn text(&mut self, text: &[u8]) {
+        if write_text(&mut self.out, text).is_err() {
+            self.is_whole = false;
         }
     }
 
