@@ -83,13 +83,15 @@ fn with_language(alloc: Global, command: Command<'_>) -> Result<Command<'_>, All
         FILES,
         'r',
         "no_rules",
-        "Accepted: no rules are built in",
+        "Leave out the rules and suffixes that the wide profile has built in",
     );
     let posix = Arg::new(alloc, "posix")
         .long("posix")
         .action(ArgAction::Count)
         .help_heading(FILES)
-        .help("Read the makefile in the wide profile: references in references, 1,000,000 names");
+        .help(
+            "Read the makefile in the wide profile: built-in rules, references in references, 1,000,000 names",
+        );
     command.arg(environment)?.arg(no_rules)?.arg(posix)
 }
 

@@ -8,7 +8,7 @@ use bd_lists::Variable;
 use byte_strings::{ByteString, ByteStrings};
 use clap::ArgMatches;
 use clap::error::ErrorKind;
-use dmk_drive::{Options, Telling};
+use dmk_drive::{Makefiles, Options, Telling};
 use mk_profile::Profile;
 use std::alloc::{AllocError, Global};
 use std::{env, io};
@@ -111,7 +111,7 @@ fn request_of(alloc: Global, found: &ArgMatches<'_>) -> Result<Request, WordsFau
 /// How often standard input is named as a makefile.
 fn inputs_in(options: &Options) -> usize {
     let mut found: usize = 0;
-    for name in options.makefiles.iter() {
+    for name in options.makefiles.named.iter() {
         if name == INPUT {
             found = found.saturating_add(1);
         }
@@ -155,13 +155,16 @@ fn add_word(alloc: Global, options: &mut Options, word: &str) -> Result<(), Allo
     }
 }
 
-/// The makefiles that were found, in the order of the words.
-fn makefiles_of(alloc: Global, found: &ArgMatches<'_>) -> Result<ByteStrings, AllocError> {
-    let mut makefiles = ByteStrings::empty(alloc);
+/// What is read as the makefile: those that were found, in the order of the words.
+fn makefiles_of(alloc: Global, found: &ArgMatches<'_>) -> Result<Makefiles, AllocError> {
+    let mut named = ByteStrings::empty(alloc);
     for name in found.get_strs("makefiles").unwrap_or(&[]) {
-        makefiles.push(name.as_bytes())?;
+        named.push(name.as_bytes())?;
     }
-    Ok(makefiles)
+    Ok(Makefiles {
+        named,
+        without_rules: found.get_count("no_rules") > 0,
+    })
 }
 
 /// The language of the makefile.

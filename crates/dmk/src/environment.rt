@@ -59,7 +59,7 @@ pub fn read_environment(rt: HostRuntime) -> Result<Vec<Variable>, AllocError> {
 
 /// The first makefile that the words name.
 fn first_makefile(options: &Options) -> Option<&str> {
-    str::from_utf8(options.makefiles.get(0)?).ok()
+    str::from_utf8(options.makefiles.named.get(0)?).ok()
 }
 
 /// The options by this environment: MAKEFLAGS may ask for the wide language, by which the state has its name where the words give it

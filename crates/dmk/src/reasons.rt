@@ -28,7 +28,7 @@ pub fn print_reasons<W: Write>(
 
 /// Whether the makefile is one that other makes look for under one name more.
 pub fn needs_usual_makefile(options: &Options) -> bool {
-    options.profile.is_wide() && options.makefiles.is_empty()
+    options.profile.is_wide() && options.makefiles.named.is_empty()
 }
 
 fn is_there(rt: HostRuntime, name: &str) -> bool {

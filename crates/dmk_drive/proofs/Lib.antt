@@ -9,4 +9,5 @@ pub mod DriveLemmas
 pub mod ListingLemmas
 pub mod AllowedLemmas
 pub mod DefinitionLemmas
+pub mod BaseLemmas
 pub mod OnePlanLemmas

@@ -10,12 +10,14 @@ use Rattle.mk_eval.proofs.BehindLemmas.{behind-append, behind_nothing}
 use Rattle.mk_eval.proofs.OutcomeLemmas.{order_one, text_one}
 use Rattle.std.proofs.lemmas.Option.{same_Some}
 use Rattle.dmk_drive.specs.Makefile.{IsUsualMakefile, NamedItems, AllItems, first_name, second_name}
-use Rattle.dmk_drive.specs.Planned.{AreItems}
-use Rattle.dmk_drive.specs.Faults.{IsFaultAmong, IsFaultOfOne, IsReadFault, IsTextFault}
+use Rattle.dmk_drive.specs.BuiltIn.{reads_rules, rules_name, rules_text, AreRules}
+use Rattle.dmk_drive.specs.Planned.{AreItems, AreOwnItems, WithRules}
+use Rattle.dmk_drive.specs.Faults.{IsFaultAmong, IsFaultOfOne, IsFaultOfRules, IsOwnFault, IsReadFault, IsRulesFault, IsTextFault}
 use Rattle.dmk_drive.specs.declared.fault.Fault.{Fault}
 use Rattle.dmk_drive.specs.declared.fault.Fault.TheVariants as fault
 use Rattle.dmk_drive.specs.declared.fault.Fault.TheVariants.{Read}
 use Rattle.dmk_drive.specs.declared.makefile.Makefile.{Makefile}
+use Rattle.dmk_drive.specs.declared.makefiles.Makefiles.{Makefiles}
 
 -- a time that isn't there, and one that is
 pub none_is : {A : Type 0} (o : Option A) (none : Bool) → is_some o ≡ not none → IsTrue none → o ≡ None
@@ -46,7 +48,7 @@ module _ (files : List ℕ → Option (List ℕ)) (times : List ℕ → Option �
       subst (λ f. TextItems (AnswersOf files) depth given f text outcome) is_file
       (subst (λ t. TextItems (AnswersOf files) depth given name t outcome) is_text gives)
 
-  pub read_items : (items : List Item) → TextItems (AnswersOf files) depth given name bytes (Ok items) → AreItems files times [] given items
+  pub read_items : (items : List Item) → TextItems (AnswersOf files) depth given name bytes (Ok items) → AreOwnItems files times [] given items
   read_items items gives = record { file = file; text = text; is_makefile = is_makefile; read = read_alike (Ok items) gives }
 
   pub read_refused : (fault : ReadFault) → GivesItems (Err fault) (TextItems (AnswersOf files) depth given name bytes) → IsReadFault files times [] given fault
@@ -145,17 +147,17 @@ pub handed_on : {T : Type 0} (got : Result T Fault) (P : Fault → Type 0) (f : 
 handed_on (Ok x) P f is so = tt
 handed_on (Err g) P f is so = subst P (sym is) so
 
--- so it is of the makefiles of a run, where some are named
 pub some_named : {A : Type 0} (names : List A) (none : Bool) → (names ≡ [] → IsTrue none) → none ≡ false → names ≡ [] → ⊥
 some_named names none is some empty = let both : true ≡ false = sym (is empty) ∙ some in cc
 
+-- so it is of the makefiles of a run, where some are named
 module _ (files : List ℕ → Option (List ℕ)) (times : List ℕ → Option ℤ) (given : Defined) where
-  pub items_among : (names : List (List ℕ)) (items : List Item) → (names ≡ [] → ⊥) → AllItems files given names (Ok items) → AreItems files times names given items
+  pub items_among : (names : List (List ℕ)) (items : List Item) → (names ≡ [] → ⊥) → AllItems files given names (Ok items) → AreOwnItems files times names given items
   items_among [] items some gives = absurd (some refl)
   items_among (name ∷ names) items some gives = gives
 
   pub text_fault_among : (refuses : List ℕ → Type 0) (names : List (List ℕ)) (f : Fault) → (names ≡ [] → ⊥) → IsFaultAmong files given names f →
-      IsTextFault files times refuses names given f
+      IsOwnFault files times refuses names given f
   text_fault_among refuses [] f some is = absurd (some refl)
   text_fault_among refuses (name ∷ names) fault.OutOfMemory some is = tt
   text_fault_among refuses (name ∷ names) fault.NoMakefile some is = is
@@ -189,12 +191,68 @@ named_once files given name one other (text, holds, gives) (bytes, also, gave) =
     text_one files depth given name bytes one other
     (subst (λ t. TextItems (AnswersOf files) depth given name t one) (one_text (files name) text bytes holds also) gives) gave
 
-pub items_once : (files : List ℕ → Option (List ℕ)) (times : List ℕ → Option ℤ) (named : List (List ℕ)) (given : Defined) (a b : List Item) →
-    AreItems files times named given a → AreItems files times named given b → a ≡ b
-items_once files times [] given a b of_a of_b =
+own_once : (files : List ℕ → Option (List ℕ)) (times : List ℕ → Option ℤ) (named : List (List ℕ)) (given : Defined) (a b : List Item) →
+    AreOwnItems files times named given a → AreOwnItems files times named given b → a ≡ b
+own_once files times [] given a b of_a of_b =
     let same = makefile_once files times of_a.file of_b.file of_a.text of_b.text of_a.is_makefile of_b.is_makefile in
     let read = read_alike files times given of_b.file of_a.file of_b.text of_a.text same.0 same.1 of_b.is_makefile (Ok a) of_a.read in
     same_items a b (Ok a) (Ok b) refl refl (text_one files depth given of_b.file of_b.text (Ok a) (Ok b) read of_b.read)
-items_once files times (name ∷ names) given a b of_a of_b =
+own_once files times (name ∷ names) given a b of_a of_b =
     same_items a b (Ok a) (Ok b) refl refl
     (order_one behind (NamedItems files) (named_once files) given (name ∷ names) (Ok a) (Ok b) of_a of_b)
+
+-- what stands behind the tool's rules is one list too
+behind_once : (files : List ℕ → Option (List ℕ)) (Own : List Item → Type 0) (given : Defined) → ((a b : List Item) → Own a → Own b → a ≡ b) →
+    (reads : Bool) (a b : List Item) → WithRules reads files Own given a → WithRules reads files Own given b → a ≡ b
+behind_once files Own given one false a b of_a of_b = one a b of_a of_b
+behind_once files Own given one true a b of_a of_b =
+    let own = one of_a.own of_b.own of_a.are_own of_b.are_own in
+    let rules = same_items of_a.rules of_b.rules (Ok of_a.rules) (Ok of_b.rules) refl refl
+    (text_one files depth given rules_name (rules_text of_b.own) (Ok of_a.rules) (Ok of_b.rules)
+    (subst (λ items. AreRules files given items (Ok of_a.rules)) own of_a.are_rules) of_b.are_rules) in
+    of_a.whole ∙ ap (λ front. front ++ of_a.own) rules ∙ ap (λ items. of_b.rules ++ items) own ∙ sym of_b.whole
+
+pub items_once : (files : List ℕ → Option (List ℕ)) (times : List ℕ → Option ℤ) (makefiles : Makefiles) (given : Defined) (a b : List Item) →
+    AreItems files times makefiles given a → AreItems files times makefiles given b → a ≡ b
+items_once files times makefiles given =
+    behind_once files (AreOwnItems files times makefiles.named given) given (own_once files times makefiles.named given) (reads_rules makefiles given.language)
+
+-- ---- all that is read
+
+-- the fault of the tool's rules
+pub rules_refused : (files : List ℕ → Option (List ℕ)) (given : Defined) (own : List Item) (fault : ReadFault) →
+    GivesItems (Err fault) (AreRules files given own) → IsFaultOfRules files given own (Read fault)
+rules_refused files given own OutOfMemory gives = tt
+rules_refused files given own (Refused refusal) gives = gives
+
+module _ (files : List ℕ → Option (List ℕ)) (times : List ℕ → Option ℤ) (makefiles : Makefiles) (given : Defined) (own : List Item) where
+  abbrev Own : List Item → Type 0
+  Own items = AreOwnItems files times makefiles.named given items
+
+  pub without_rules : reads_rules makefiles given.language ≡ false → Own own → AreItems files times makefiles given own
+  without_rules reads is = subst (λ b. WithRules b files Own given own) (sym reads) is
+
+  pub behind_rules : reads_rules makefiles given.language ≡ true → Own own → (rules items : List Item) → AreRules files given own (Ok rules) →
+      items ≡ rules ++ own → AreItems files times makefiles given items
+  behind_rules reads is rules items are whole =
+      subst (λ b. WithRules b files Own given items) (sym reads) (record { rules = rules; own = own; whole = whole; are_rules = are; are_own = is })
+
+  pub fault_behind : (refuses : List ℕ → Type 0) → reads_rules makefiles given.language ≡ true → Own own → (f : Fault) →
+      IsFaultOfRules files given own f → IsTextFault files times refuses makefiles given f
+  fault_behind refuses reads is fault.OutOfMemory of_f = tt
+  fault_behind refuses reads is (fault.Read f) of_f = inr (subst (λ b. IsRulesFault b files Own given f) (sym reads) (own, is, of_f))
+  fault_behind refuses reads is fault.NoMakefile of_f = absurd of_f
+  fault_behind refuses reads is (fault.State f) of_f = absurd of_f
+  fault_behind refuses reads is (fault.Rules f) of_f = absurd of_f
+  fault_behind refuses reads is (fault.Recipe f) of_f = absurd of_f
+  fault_behind refuses reads is fault.Write of_f = absurd of_f
+
+pub own_fault : (files : List ℕ → Option (List ℕ)) (times : List ℕ → Option ℤ) (makefiles : Makefiles) (given : Defined)
+    (refuses : List ℕ → Type 0) (f : Fault) → IsOwnFault files times refuses makefiles.named given f → IsTextFault files times refuses makefiles given f
+own_fault files times makefiles given refuses fault.OutOfMemory is = is
+own_fault files times makefiles given refuses fault.NoMakefile is = is
+own_fault files times makefiles given refuses (fault.Read f) is = inl is
+own_fault files times makefiles given refuses (fault.State f) is = is
+own_fault files times makefiles given refuses (fault.Rules f) is = is
+own_fault files times makefiles given refuses (fault.Recipe f) is = is
+own_fault files times makefiles given refuses fault.Write is = is

@@ -29,6 +29,7 @@ use Rattle.mk_plan.specs.declared.passing.Passed.TheVariants as passed
 use Rattle.mk_plan.specs.declared.telling.Telling.{Telling}
 use Rattle.mk_plan.specs.declared.telling.Telling.TheVariants as tellings
 use Rattle.dmk_drive.specs.Planned.{Plans, judged_graph}
+use Rattle.dmk_drive.specs.declared.makefiles.Makefiles.{Makefiles}
 use Rattle.dmk_drive.specs.Passing.{Lists, at_end, behind, ListsFault, here, later, IsListing, IsListingFault, no_marks, printed, text_of, recipe_in, passage_text, listing_text, lists_any, PassesEach}
 use Rattle.mk_profile.specs.declared.profile.Profile.{Profile}
 
@@ -166,8 +167,8 @@ all_listed graph marks _ _ (behind (is_up_to_date recipe lines target is_recipe 
 all_listed graph marks _ _ (behind (has_no_recipe none remade) rest) = all_listed graph _ _ _ rest
 all_listed graph marks _ _ (behind (is_left none left) rest) = all_listed graph _ _ _ rest
 
-pub each_made : (files : List ℕ → Option (List ℕ)) (times : List ℕ → Option ℤ) (named : List (List ℕ)) (profile : Profile) (definitions environment : List Variable)
+pub each_made : (files : List ℕ → Option (List ℕ)) (times : List ℕ → Option ℤ) (makefiles : Makefiles) (profile : Profile) (definitions environment : List Variable)
     (targets : List (List ℕ)) (honest : Type 0) (seen : Which → List ℕ) (plan : List Passage) (dropped : Bool) →
-    Plans files times named profile definitions environment targets true honest seen plan dropped → list_all is_listed plan ≡ true
-each_made files times named profile definitions environment targets honest seen plan dropped is =
+    Plans files times makefiles profile definitions environment targets true honest seen plan dropped → list_all is_listed plan ≡ true
+each_made files times makefiles profile definitions environment targets honest seen plan dropped is =
     all_listed is.planned.graph _ _ plan is.planned.lists

@@ -3,11 +3,13 @@
 use Rattle.std.specs.Prelude.{ℕ, Bool, true, false, List, [], ◌∷◌, ◌++◌, codes, decimal}
 use Rattle.std.specs.List.{flat_map}
 use Rattle.bd_lists.specs.declared.recipe.Variable.{Variable}
+use Rattle.mk_profile.specs.declared.profile.Profile.{Profile}
 use Rattle.mk_reader.specs.declared.item.Definition.{Definition}
 use Rattle.mk_reader.specs.declared.item.RecipeLine.{RecipeLine}
 use Rattle.mk_reader.specs.declared.item.Rule.{Rule}
 use Rattle.mk_reader.specs.declared.item.Item.{Item}
 use Rattle.mk_reader.specs.declared.item.Item.TheVariants as item
+use Rattle.dmk_drive.specs.Definitions.{tool_macros, environment_macros}
 
 -- a comment with where the next lines come from
 abbrev pub origin_line : (origin : List ℕ) → List ℕ
@@ -50,10 +52,10 @@ item_text (item.Special special) = rule_text special.rule
 abbrev pub variable_text : (origin : List ℕ) → Variable → List ℕ
 variable_text origin variable = origin_line origin ++ macro_line variable.name (codes " = ") variable.value
 
--- all that is printed: what is built in, the environment and the command line in their orders, and then the makefile's items
-abbrev pub base_text : (definitions environment : List Variable) (items : List Item) → List ℕ
-base_text definitions environment items =
-    variable_text (codes "default") (record { name = codes "MAKE"; value = codes "dmk" })
-    ++ flat_map (variable_text (codes "environment")) environment
+-- all that is printed in this language: what is built in, the environment and the command line in their orders, and then the items
+abbrev pub base_text : Profile → (definitions environment : List Variable) (items : List Item) → List ℕ
+base_text profile definitions environment items =
+    flat_map (variable_text (codes "default")) (tool_macros profile)
+    ++ flat_map (variable_text (codes "environment")) (environment_macros profile environment)
     ++ flat_map (variable_text (codes "command line")) definitions
     ++ flat_map item_text items

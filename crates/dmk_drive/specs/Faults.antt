@@ -1,6 +1,6 @@
 -- What each fault says. Of a fault that comes later all stages before it are told, so that the order of the faults is
 -- that of the cases here.
-use Rattle.std.specs.Prelude.{◌≡◌, ◌||◌, ℕ, ℤ, Bool, true, List, [], ◌∷◌, Option, None, Err}
+use Rattle.std.specs.Prelude.{◌≡◌, ◌⊎◌, ◌||◌, ℕ, ℤ, Bool, true, false, List, [], ◌∷◌, Option, None, Err}
 use Rattle.std.specs.FinMap as map
 use Rattle.mk_eval.specs.Makefile.{AnswersOf, TextItems, depth}
 use Rattle.mk_macros.specs.Ranks.{Defined}
@@ -17,13 +17,15 @@ use Rattle.st_file.specs.declared.fault.OpenFault.{OpenFault}
 use Rattle.st_file.specs.declared.fault.OpenFault.TheVariants as open_fault
 use Rattle.st_state.specs.State.{StateMap}
 use Rattle.st_recovery.specs.Recovers.{RefusesWith}
+use Rattle.dmk_drive.specs.BuiltIn.{reads_rules, AreRules}
 use Rattle.dmk_drive.specs.Definitions.{first_defined}
 use Rattle.dmk_drive.specs.Keeping.{keeps}
 use Rattle.dmk_drive.specs.Makefile.{IsUsualMakefile, HasNoMakefile, LacksOne, NamedItems, AllItems}
 use Rattle.dmk_drive.specs.Passing.{IsListingFault}
-use Rattle.dmk_drive.specs.Planned.{AreItems, IsStateOn, IsGraphOf, judged_graph}
+use Rattle.dmk_drive.specs.Planned.{AreItems, AreOwnItems, IsStateOn, IsGraphOf, judged_graph}
 use Rattle.dmk_drive.specs.declared.fault.Fault.{Fault}
 use Rattle.dmk_drive.specs.declared.fault.Fault.TheVariants as fault
+use Rattle.dmk_drive.specs.declared.makefiles.Makefiles.{Makefiles}
 use Rattle.bd_lists.specs.declared.recipe.Variable.{Variable}
 
 -- the makefiles have a first line that is refused: the usual one, where none is named, or one of those that are, with all before
@@ -58,12 +60,32 @@ IsOpenFault seen open_fault.OutOfMemory = Unit {0}
 IsOpenFault seen f = RefusesWith (seen sides.A) (seen sides.B) f
 
 -- the fault that looking for the makefile and reading it gives
-abbrev pub IsTextFault : (files : List ℕ → Option (List ℕ)) (times : List ℕ → Option ℤ)
+abbrev pub IsOwnFault : (files : List ℕ → Option (List ℕ)) (times : List ℕ → Option ℤ)
     (refuses : List ℕ → Type 0) (named : List (List ℕ)) → Defined → Fault → Type 0
-IsTextFault files times refuses named given fault.OutOfMemory = Unit {0}
-IsTextFault files times refuses named given fault.NoMakefile = HasNoMakefile files times refuses named given
-IsTextFault files times refuses named given (fault.Read f) = IsReadFault files times named given f
-IsTextFault files times refuses named given _ = ⊥
+IsOwnFault files times refuses named given fault.OutOfMemory = Unit {0}
+IsOwnFault files times refuses named given fault.NoMakefile = HasNoMakefile files times refuses named given
+IsOwnFault files times refuses named given (fault.Read f) = IsReadFault files times named given f
+IsOwnFault files times refuses named given _ = ⊥
+
+-- the fault of the tool's rules, which are read in front of these items; want of memory says nothing of them
+abbrev pub IsFaultOfRules : (files : List ℕ → Option (List ℕ)) → Defined → (own : List Item) → Fault → Type 0
+IsFaultOfRules files given own fault.OutOfMemory = Unit {0}
+IsFaultOfRules files given own (fault.Read read_fault.OutOfMemory) = Unit {0}
+IsFaultOfRules files given own (fault.Read (read_fault.Refused refusal)) = AreRules files given own (Err refusal)
+IsFaultOfRules files given own _ = ⊥
+
+-- they are read, and have this fault
+abbrev pub IsRulesFault : (reads : Bool) (files : List ℕ → Option (List ℕ)) (Own : List Item → Type 0) → Defined → ReadFault → Type 0
+IsRulesFault false files Own given f = ⊥
+IsRulesFault true files Own given f = (own : List Item) × Own own × IsFaultOfRules files given own (fault.Read f)
+
+-- the fault of all that is read: the makefile's own, or else the rules'
+abbrev pub IsTextFault : (files : List ℕ → Option (List ℕ)) (times : List ℕ → Option ℤ)
+    (refuses : List ℕ → Type 0) → Makefiles → Defined → Fault → Type 0
+IsTextFault files times refuses makefiles given (fault.Read f) =
+    IsReadFault files times makefiles.named given f
+    ⊎ IsRulesFault (reads_rules makefiles given.language) files (AreOwnItems files times makefiles.named given) given f
+IsTextFault files times refuses makefiles given f = IsOwnFault files times refuses makefiles.named given f
 
 -- the fault of a plan for items that were read
 abbrev pub IsPlanFault : (profile : Profile) (definitions environment : List Variable) (targets : List (List ℕ)) (all : Bool) (times : List ℕ → Option ℤ)
@@ -91,10 +113,10 @@ IsRunFault Text Items Plan (fault.Recipe f) = (items : List Item) × Items items
 IsRunFault Text Items Plan fault.Write = ⊥
 
 -- so it is of the makefile that is named, or the usual one, for these targets
-abbrev pub IsFaultOf : (files : List ℕ → Option (List ℕ)) (times : List ℕ → Option ℤ) (named : List (List ℕ))
+abbrev pub IsFaultOf : (files : List ℕ → Option (List ℕ)) (times : List ℕ → Option ℤ) (makefiles : Makefiles)
     (profile : Profile) (definitions environment : List Variable) (targets : List (List ℕ)) (all : Bool) (refuses : List ℕ → Type 0) (disk_honest : Type 0)
     (seen : Which → List ℕ) → Fault → Type 0
-IsFaultOf files times named profile definitions environment targets all refuses disk_honest seen =
-    IsRunFault (IsTextFault files times refuses named (first_defined profile definitions environment))
-    (AreItems files times named (first_defined profile definitions environment))
+IsFaultOf files times makefiles profile definitions environment targets all refuses disk_honest seen =
+    IsRunFault (IsTextFault files times refuses makefiles (first_defined profile definitions environment))
+    (AreItems files times makefiles (first_defined profile definitions environment))
     (IsPlanFault profile definitions environment targets all times refuses disk_honest seen)

@@ -2,6 +2,8 @@
 pub mod Definitions
 -- Keeping: whether state is kept.
 pub mod Keeping
+-- BuiltIn: the rules that are built in.
+pub mod BuiltIn
 -- Makefile: which file is the makefile.
 pub mod Makefile
 -- Passing: the nodes passed in order, and which are listed.

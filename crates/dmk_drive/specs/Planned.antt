@@ -1,5 +1,5 @@
 -- A dry run from the makefile's text to the listing: each stage is that of its crate.
-use Rattle.std.specs.Prelude.{◌≡◌, ◌||◌, ℕ, ℤ, Bool, true, false, List, [], ◌∷◌, Option, Ok}
+use Rattle.std.specs.Prelude.{◌≡◌, ◌||◌, ℕ, ℤ, Bool, true, false, List, [], ◌∷◌, ◌++◌, Option, Ok}
 use Rattle.std.specs.FinMap as map
 use Rattle.mk_profile.specs.declared.profile.Profile.{Profile}
 use Rattle.mk_macros.specs.Ranks.{Defined, defined_by}
@@ -18,8 +18,10 @@ use Rattle.st_state.specs.State.{StateMap}
 use Rattle.st_recovery.specs.Recovers.{Recovers}
 use Rattle.dmk_drive.specs.Definitions.{first_defined}
 use Rattle.dmk_drive.specs.Keeping.{keeps}
+use Rattle.dmk_drive.specs.BuiltIn.{reads_rules, AreRules}
 use Rattle.dmk_drive.specs.Makefile.{IsUsualMakefile, AllItems}
 use Rattle.dmk_drive.specs.Passing.{IsListing, listing_text, lists_any}
+use Rattle.dmk_drive.specs.declared.makefiles.Makefiles.{Makefiles}
 use Rattle.dmk_drive.specs.declared.planning.DryRun.{DryRun}
 use Rattle.bd_lists.specs.declared.recipe.Variable.{Variable}
 
@@ -42,9 +44,26 @@ pub record AreUsualItems (files : List ℕ → Option (List ℕ)) (times : List 
   pub read : TextItems (AnswersOf files) depth given file text (Ok items)
 
 -- the items are those of the makefiles that are named, one behind the other, or else of the usual one
-abbrev pub AreItems : (files : List ℕ → Option (List ℕ)) (times : List ℕ → Option ℤ) (named : List (List ℕ)) → Defined → (items : List Item) → Type 0
-AreItems files times [] given items = AreUsualItems files times given items
-AreItems files times (name ∷ names) given items = AllItems files given (name ∷ names) (Ok items)
+abbrev pub AreOwnItems : (files : List ℕ → Option (List ℕ)) (times : List ℕ → Option ℤ) (named : List (List ℕ)) → Defined → (items : List Item) → Type 0
+AreOwnItems files times [] given items = AreUsualItems files times given items
+AreOwnItems files times (name ∷ names) given items = AllItems files given (name ∷ names) (Ok items)
+
+-- the tool's rules stand in front of these items
+pub record AreBehindRules (files : List ℕ → Option (List ℕ)) (Own : List Item → Type 0) (given : Defined) (items : List Item) : Type 0 where
+  pub rules : List Item
+  pub own : List Item
+  pub whole : items ≡ rules ++ own
+  pub are_rules : AreRules files given own (Ok rules)
+  pub are_own : Own own
+
+abbrev pub WithRules : (reads : Bool) (files : List ℕ → Option (List ℕ)) (Own : List Item → Type 0) → Defined → (items : List Item) → Type 0
+WithRules false files Own given items = Own items
+WithRules true files Own given items = AreBehindRules files Own given items
+
+-- all items: those of the makefiles, behind the tool's rules where these are read
+abbrev pub AreItems : (files : List ℕ → Option (List ℕ)) (times : List ℕ → Option ℤ) → Makefiles → Defined → (items : List Item) → Type 0
+AreItems files times makefiles given =
+    WithRules (reads_rules makefiles given.language) files (AreOwnItems files times makefiles.named given) given
 
 -- the graph of these items for the targets that are named, with this state, in the language of the profile
 pub record IsGraphOf (profile : Profile) (definitions environment : List Variable) (targets : List (List ℕ)) (times : List ℕ → Option ℤ)
@@ -82,8 +101,8 @@ pub record Tells (profile : Profile) (definitions environment : List Variable) (
 
 -- what a dry run has to tell, for the makefile that is found by these files and times, and whether soft edges make a
 -- cycle
-pub record Plans (files : List ℕ → Option (List ℕ)) (times : List ℕ → Option ℤ) (named : List (List ℕ))
+pub record Plans (files : List ℕ → Option (List ℕ)) (times : List ℕ → Option ℤ) (makefiles : Makefiles)
     (profile : Profile) (definitions environment : List Variable) (targets : List (List ℕ)) (all : Bool) (disk_honest : Type 0) (seen : Which → List ℕ) (plan : List Passage) (dropped : Bool) : Type 0 where
   pub items : List Item
-  pub are_items : AreItems files times named (first_defined profile definitions environment) items
+  pub are_items : AreItems files times makefiles (first_defined profile definitions environment) items
   pub planned : IsPlanned profile definitions environment targets all times disk_honest seen items plan dropped

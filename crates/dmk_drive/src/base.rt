@@ -1,15 +1,16 @@
 //! What -p prints: macros and rules as they were read, and where they stand.
-ghost use Rattle.std.specs.Prelude.{◌≡◌, ◌++◌, ℕ, ℤ, List, Option, codes, IfOk, OnOk};
+ghost use Rattle.std.specs.Prelude.{◌≡◌, ◌++◌, ℕ, ℤ, List, Option, codes, map, IfOk, OnOk};
 ghost use Rattle.std.specs.List.{flat_map};
 ghost use Rattle.mk_reader.specs.declared.item.Item.{Item as MakefileItem};
 ghost use Rattle.dmk_drive.specs.Base.{origin_line, place_line, equals, macro_line, definition_text, target_line, recipe_line, rule_text, item_text, variable_text, base_text};
-ghost use Rattle.dmk_drive.specs.Definitions.{first_defined};
+ghost use Rattle.dmk_drive.specs.Definitions.{first_defined, variable, tool_macros, environment_macros};
 ghost use Rattle.dmk_drive.specs.Planned.{AreItems};
 
+use crate::definitions::table;
 use crate::fault::Fault;
 use crate::makefile::items_of;
+use crate::makefiles::Makefiles;
 use bd_lists::Variable;
-use byte_strings::ByteStrings;
 use mk_eval::Includes;
 use mk_profile::Profile;
 use mk_reader::{Definition, Item, RecipeLine, Rule};
@@ -161,18 +162,46 @@ fn append_variables(
     Ok(())
 }
 
+/// Appends what is defined by a table of the tool's.
+fn append_table(text: &mut Vec<u8>, table: &[(&[u8], &[u8])]) -> Result<(), AllocError>
+    ensures { OnOk result (text.new.items ≡ text.old.items
+        ++ flat_map (variable_text (codes "default")) (map (λ entry. variable entry.0.now entry.1.now) table.now)) }
+{
+    for entry in table {
+        append_variable(text, b"default", entry.0, entry.1)?;
+    }
+    Ok(())
+}
+
+/// Appends what the environment gives a makefile in this language.
+fn append_environment(
+    text: &mut Vec<u8>,
+    profile: Profile,
+    environment: &[Variable],
+) -> Result<(), AllocError>
+    ensures { OnOk result (text.new.items ≡ text.old.items
+        ++ flat_map (variable_text (codes "environment")) (environment_macros profile environment.now)) }
+{
+    append_variables(text, b"environment", environment)?;
+    if profile.is_wide() {
+        append_variable(text, b"environment", b"SHELL", b"/bin/sh")?;
+    }
+    Ok(())
+}
+
 /// All that is printed of these items and of what is defined before them.
 fn text_of(
     alloc: Global,
+    profile: Profile,
     definitions: &[Variable],
     environment: &[Variable],
     items: &[Item],
 ) -> Result<Vec<u8>, AllocError>
-    ensures { IfOk result (λ text. text.items ≡ base_text definitions.now environment.now items.now) }
+    ensures { IfOk result (λ text. text.items ≡ base_text profile definitions.now environment.now items.now) }
 {
     let mut text = Vec::new(alloc);
-    append_variable(&mut text, b"default", b"MAKE", b"dmk")?;
-    append_variables(&mut text, b"environment", environment)?;
+    append_table(&mut text, table(profile))?;
+    append_environment(&mut text, profile, environment)?;
     append_variables(&mut text, b"command line", definitions)?;
     append_items(alloc, &mut text, items)?;
     Ok(text)
@@ -184,22 +213,22 @@ pub fn base_of<T: Tree, I: Includes>(
     profile: Profile,
     definitions: &[Variable],
     environment: &[Variable],
-    named: &ByteStrings,
+    makefiles: &Makefiles,
     tree: &mut T,
     includes: &mut I,
 ) -> Result<Vec<u8>, Fault>
     ensures { IfOk result (λ text. (files : List ℕ → Option (List ℕ)) (times : List ℕ → Option ℤ) → I.allows includes.new files → T.allows tree.new times
-        → (items : List MakefileItem) × AreItems files times named.now (first_defined profile definitions.now environment.now) items
-        × (text.items ≡ base_text definitions.now environment.now items)) }
+        → (items : List MakefileItem) × AreItems files times makefiles.now (first_defined profile definitions.now environment.now) items
+        × (text.items ≡ base_text profile definitions.now environment.now items)) }
 {
     let items = items_of(
         alloc,
         profile,
         definitions,
         environment,
-        named,
+        makefiles,
         tree,
         includes,
     )?;
-    Ok(text_of(alloc, definitions, environment, &items)?)
+    Ok(text_of(alloc, profile, definitions, environment, &items)?)
 }

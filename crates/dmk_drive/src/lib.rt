@@ -4,6 +4,7 @@
 #![tactic(auto)]
 
 mod base;
+mod built_in;
 mod definitions;
 mod driver;
 mod fault;
@@ -13,6 +14,7 @@ mod file_tree;
 mod keeping;
 mod laws;
 mod makefile;
+mod makefiles;
 mod messages;
 mod options;
 mod output;
@@ -34,6 +36,7 @@ pub use laws::{
     each_made, one_listing, one_makefile, one_plan, one_reading_of_the_settings, plan_of_the_graph,
 };
 pub use makefile::items_of;
+pub use makefiles::Makefiles;
 pub use messages::{Message, SOFT_EDGES_NOTE};
 pub use mk_plan::Telling;
 pub use options::{MAX_WORKERS, Mode, Options};

@@ -1,15 +1,18 @@
 //! The makefiles: which files they are, and their items.
-ghost use Rattle.std.specs.Prelude.{◌≡◌, ℕ, ℤ, List, Option, None, [], Ok, IfOk, IfErr, IfSome, IsTrue, option_map, false};
+ghost use Rattle.std.specs.Prelude.{◌≡◌, ◌++◌, ℕ, ℤ, List, Option, None, [], Ok, IfOk, IfErr, IfSome, IsTrue, option_map, false};
 ghost use Rattle.mk_macros.specs.Ranks.{Defined, defined_by};
 ghost use Rattle.mk_eval.specs.Makefile.{behind};
 ghost use Rattle.dmk_drive.specs.Definitions.{first_defined};
 ghost use Rattle.dmk_drive.specs.Makefile.{MayBeThere, IsUsualMakefile, NamedItems, AllItems};
-ghost use Rattle.dmk_drive.specs.Planned.{AreItems};
-ghost use Rattle.dmk_drive.specs.Faults.{IsTextFault, IsFaultOfOne, IsFaultAmong};
+ghost use Rattle.dmk_drive.specs.BuiltIn.{AreRules};
+ghost use Rattle.dmk_drive.specs.Planned.{AreItems, AreOwnItems};
+ghost use Rattle.dmk_drive.specs.Faults.{IsTextFault, IsOwnFault, IsFaultOfRules, IsFaultOfOne, IsFaultAmong};
 ghost use Rattle.dmk_drive.specs.declared.fault.Fault.TheVariants.{OutOfMemory, NoMakefile};
 
+use crate::built_in::{reads_rules, rules_before};
 use crate::definitions::first_macros;
 use crate::fault::Fault;
+use crate::makefiles::Makefiles;
 use bd_lists::Variable;
 use byte_strings::{ByteString, ByteStrings};
 use mk_eval::{Includes, read_makefile};
@@ -76,7 +79,7 @@ fn usual_makefile<T: Tree, I: Includes>(
     ensures makefile { IfOk result (λ m. (files : List ℕ → Option (List ℕ)) (times : List ℕ → Option ℤ) → I.allows includes.new files → T.allows tree.new times
         → IsUsualMakefile files times m.file m.text.items) }
     ensures fault { IfErr result (λ fault. (files : List ℕ → Option (List ℕ)) (times : List ℕ → Option ℤ) (given : Defined) → I.allows includes.new files → T.allows tree.new times
-        → IsTextFault files times (T.refuses tree.new) [] given fault) }
+        → IsOwnFault files times (T.refuses tree.new) [] given fault) }
     ensures files { (files : List ℕ → Option (List ℕ)) → I.allows includes.new files → I.allows includes.old files }
     ensures times { (times : List ℕ → Option ℤ) → T.allows tree.new times → T.allows tree.old times }
     ensures kept { (n : List ℕ) → T.refuses tree.old n → T.refuses tree.new n }
@@ -101,9 +104,9 @@ fn usual_items<T: Tree, I: Includes>(
     includes: &mut I,
 ) -> Result<Vec<Item>, Fault>
     ensures items { IfOk result (λ items. (files : List ℕ → Option (List ℕ)) (times : List ℕ → Option ℤ) → I.allows includes.new files → T.allows tree.new times
-        → AreItems files times [] (defined_by macros.old) items.items) }
+        → AreOwnItems files times [] (defined_by macros.old) items.items) }
     ensures fault { IfErr result (λ fault. (files : List ℕ → Option (List ℕ)) (times : List ℕ → Option ℤ) → I.allows includes.new files → T.allows tree.new times
-        → IsTextFault files times (T.refuses tree.new) [] (defined_by macros.old) fault) }
+        → IsOwnFault files times (T.refuses tree.new) [] (defined_by macros.old) fault) }
     ensures times { (times : List ℕ → Option ℤ) → T.allows tree.new times → T.allows tree.old times }
     ensures kept { (n : List ℕ) → T.refuses tree.old n → T.refuses tree.new n }
 {
@@ -160,7 +163,7 @@ fn all_items<I: Includes>(
 
 /// The items of the makefiles that are named, one behind the other, or else of the usual one, and of all files that they
 /// include, in this language.
-pub fn items_of<T: Tree, I: Includes>(
+fn own_items<T: Tree, I: Includes>(
     alloc: Global,
     profile: Profile,
     definitions: &[Variable],
@@ -170,9 +173,9 @@ pub fn items_of<T: Tree, I: Includes>(
     includes: &mut I,
 ) -> Result<Vec<Item>, Fault>
     ensures items { IfOk result (λ items. (files : List ℕ → Option (List ℕ)) (times : List ℕ → Option ℤ) → I.allows includes.new files → T.allows tree.new times
-        → AreItems files times named.now (first_defined profile definitions.now environment.now) items.items) }
+        → AreOwnItems files times named.now (first_defined profile definitions.now environment.now) items.items) }
     ensures fault { IfErr result (λ fault. (files : List ℕ → Option (List ℕ)) (times : List ℕ → Option ℤ) → I.allows includes.new files → T.allows tree.new times
-        → IsTextFault files times (T.refuses tree.new) named.now (first_defined profile definitions.now environment.now) fault) }
+        → IsOwnFault files times (T.refuses tree.new) named.now (first_defined profile definitions.now environment.now) fault) }
     ensures times { (times : List ℕ → Option ℤ) → T.allows tree.new times → T.allows tree.old times }
     ensures kept { (n : List ℕ) → T.refuses tree.old n → T.refuses tree.new n }
 {
@@ -181,5 +184,67 @@ pub fn items_of<T: Tree, I: Includes>(
         usual_items(alloc, &mut macros, tree, includes)
     } else {
         all_items(alloc, &mut macros, named, includes)
+    }
+}
+
+/// The items of a makefile behind those of the rules that are built in.
+fn behind_rules<I: Includes>(
+    alloc: Global,
+    profile: Profile,
+    definitions: &[Variable],
+    environment: &[Variable],
+    own: Vec<Item>,
+    includes: &mut I,
+) -> Result<Vec<Item>, Fault>
+    ensures items { IfOk result (λ items. (files : List ℕ → Option (List ℕ)) → I.allows includes.new files
+        → (rules : List Item) × AreRules files (first_defined profile definitions.now environment.now) own.items (Ok rules)
+        × (items.items ≡ rules ++ own.items)) }
+    ensures fault { IfErr result (λ fault. (files : List ℕ → Option (List ℕ)) → I.allows includes.new files
+        → IsFaultOfRules files (first_defined profile definitions.now environment.now) own.items fault) }
+    ensures grows { (files : List ℕ → Option (List ℕ)) → I.allows includes.new files → I.allows includes.old files }
+{
+    let mut macros = first_macros(alloc, profile, definitions, environment)?;
+    let mut own = own;
+    match rules_before(alloc, &mut macros, own.as_slice(), includes) {
+        Ok(mut items) => {
+            items.append(&mut own)?;
+            Ok(items)
+        }
+        Err(fault) => Err(Fault::Read(fault)),
+    }
+}
+
+/// All items that are read before names are made, in this language: those of the makefiles, behind the tool's rules where these are
+/// read.
+pub fn items_of<T: Tree, I: Includes>(
+    alloc: Global,
+    profile: Profile,
+    definitions: &[Variable],
+    environment: &[Variable],
+    makefiles: &Makefiles,
+    tree: &mut T,
+    includes: &mut I,
+) -> Result<Vec<Item>, Fault>
+    ensures items { IfOk result (λ items. (files : List ℕ → Option (List ℕ)) (times : List ℕ → Option ℤ) → I.allows includes.new files → T.allows tree.new times
+        → AreItems files times makefiles.now (first_defined profile definitions.now environment.now) items.items) }
+    ensures fault { IfErr result (λ fault. (files : List ℕ → Option (List ℕ)) (times : List ℕ → Option ℤ) → I.allows includes.new files → T.allows tree.new times
+        → IsTextFault files times (T.refuses tree.new) makefiles.now (first_defined profile definitions.now environment.now) fault) }
+    ensures times { (times : List ℕ → Option ℤ) → T.allows tree.new times → T.allows tree.old times }
+    ensures kept { (n : List ℕ) → T.refuses tree.old n → T.refuses tree.new n }
+{
+    let named = &makefiles.named;
+    let own = own_items(
+        alloc,
+        profile,
+        definitions,
+        environment,
+        named,
+        tree,
+        includes,
+    )?;
+    if reads_rules(makefiles, profile) {
+        behind_rules(alloc, profile, definitions, environment, own, includes)
+    } else {
+        Ok(own)
     }
 }

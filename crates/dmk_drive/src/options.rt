@@ -2,6 +2,7 @@
 ghost use Rattle.std.specs.Prelude.{◌≡◌};
 ghost use Rattle.dmk_drive.specs.Output.{AsksFor, AsksForLanguage, language_of, mode_of};
 
+use crate::makefiles::Makefiles;
 use bd_lists::Variable;
 use byte_strings::ByteStrings;
 use jb_auth::{dry, posix};
@@ -14,8 +15,8 @@ pub const MAX_WORKERS: u16 = 256;
 /// What the words ask for. Definitions and targets stand in the order of the words.
 #[derive(Drop)]
 pub struct Options {
-    /// The makefiles that are named, read one behind the other.
-    pub makefiles: ByteStrings,
+    /// What is read as the makefile.
+    pub makefiles: Makefiles,
     /// The language that they are written in.
     pub profile: Profile,
     /// The name of the state's side A.

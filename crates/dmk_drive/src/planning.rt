@@ -23,6 +23,7 @@ use crate::definitions::first_macros;
 use crate::fault::Fault;
 use crate::keeping::keeps_state;
 use crate::makefile::items_of;
+use crate::makefiles::Makefiles;
 use crate::passing::{Listing, Shows, listing_of};
 use crate::recovered::state_of;
 use bd_lists::Variable;
@@ -39,8 +40,8 @@ use std::alloc::Global;
 /// What a makefile is read and planned with.
 #[derive(Clone, Copy)]
 pub struct Given<'m, 'a> {
-    /// The makefiles that are named.
-    pub makefiles: &'m ByteStrings,
+    /// What is read as the makefile.
+    pub makefiles: &'m Makefiles,
     /// The language that they are written in.
     pub profile: Profile,
     pub definitions: &'a [Variable],

@@ -16,6 +16,7 @@ use Rattle.jb_closing.specs.Agreement.{AreThoseOf}
 use Rattle.jb_closing.specs.Closing.{AreTrueOf}
 use Rattle.jb_closing.specs.Report.{ends_well}
 use Rattle.dmk_drive.specs.Definitions.{first_defined}
+use Rattle.dmk_drive.specs.declared.makefiles.Makefiles.{Makefiles}
 use Rattle.dmk_drive.specs.Planned.{AreItems, IsGraphOf, IsStateOn, judged_graph}
 use Rattle.dmk_drive.specs.Keeping.{keeps}
 use Rattle.dmk_run.specs.Judged.{IsBorneOut}
@@ -54,9 +55,9 @@ pub record MakesItems (profile : Profile) (definitions environment : List Variab
   pub ended : HasEnded (judged_graph all graph) (all || keeping) keeping disk_honest sides status
 
 -- so it is for the items of the makefile that is found by these files and times
-pub record Makes (files : List ℕ → Option (List ℕ)) (times : List ℕ → Option ℤ) (named : List (List ℕ))
+pub record Makes (files : List ℕ → Option (List ℕ)) (times : List ℕ → Option ℤ) (makefiles : Makefiles)
     (profile : Profile) (definitions environment : List Variable) (targets : List (List ℕ)) (all : Bool) (disk_honest : Type 0) (seen : Which → List ℕ) (status : ℕ) (sides : Sides) : Type 0 where
   pub items : List Item
-  pub are_items : AreItems files times named (first_defined profile definitions environment) items
+  pub are_items : AreItems files times makefiles (first_defined profile definitions environment) items
   pub made : MakesItems profile definitions environment targets all times items (keeps environment items) (keeps environment items)
       disk_honest seen status sides

@@ -17,8 +17,7 @@ use crate::printer::Printer;
 use crate::stop::Stop;
 use bd_flusher::Receipt;
 use bd_lists::{Exec, Variable};
-use byte_strings::ByteStrings;
-use dmk_drive::{Fault, Message, Options, items_of, keeps_state};
+use dmk_drive::{Fault, Makefiles, Message, Options, items_of, keeps_state};
 use jb_recipe::Place;
 use jb_slots::Banks;
 use mk_eval::Includes;
@@ -175,14 +174,14 @@ where
     (found, disk)
 }
 
-/// Makes the goals of the makefiles that are named, or of the usual one.
+/// Makes the goals of these makefiles.
 fn run_makefile<R, T, I, E, O, W, P, G, K, D>(
     rt: &R,
     alloc: Global,
     means: &Means<'_, E, Printer<'_, R, O, W>, P>,
     guard: &mut G,
     wishes: &Wishes,
-    named: &ByteStrings,
+    makefiles: &Makefiles,
     goals: Goals,
     tree: &mut T,
     includes: &mut I,
@@ -203,10 +202,10 @@ where
     D: Disk + Drop + Send,
     ensures status { IfOk result.0 (λ s. s ≤ 2) }
     ensures makes { IfOk result.0 (λ s. (files : List ℕ → Option (List ℕ)) (times : List ℕ → Option ℤ) → I.allows includes.new files → T.allows tree.new times
-        → Makes files times named.now goals.profile goals.definitions.items means.now.environment.now goals.targets wishes.now.makes_all
+        → Makes files times makefiles.now goals.profile goals.definitions.items means.now.environment.now goals.targets wishes.now.makes_all
         D.honest (D.seen disk) s (now (D.moments result.1))) }
     ensures untouched { (files : List ℕ → Option (List ℕ)) (times : List ℕ → Option ℤ) → I.allows includes.new files → T.allows tree.new times
-        → (result.1 ≡ disk) ⊎ ((items : List MakefileItem) × AreItems files times named.now (first_defined goals.profile goals.definitions.items means.now.environment.now) items
+        → (result.1 ≡ disk) ⊎ ((items : List MakefileItem) × AreItems files times makefiles.now (first_defined goals.profile goals.definitions.items means.now.environment.now) items
         × (keeps means.now.environment.now items ≡ true)) }
     ensures let_go { K.serves banks.old ≡ false → K.serves banks.new ≡ false }
 {
@@ -216,7 +215,7 @@ where
         goals.profile,
         &goals.definitions,
         environment,
-        named,
+        makefiles,
         tree,
         includes,
     ) {

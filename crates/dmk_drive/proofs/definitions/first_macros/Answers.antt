@@ -3,5 +3,8 @@ use Rattle.dmk_drive.proofs.definitions.first_macros.Goals as goal
 
 pub returns : goal.returns
 returns c =
-    all_ranks c.args.profile c.args.definitions.now c.args.environment.now c.in_ok-macros.macros c.define_all.new.macros c.define_all-2.new.macros c.in_ok-macros.ensures
-    c.in_ok-define_all.ensures.ranks c.in_ok-define_all.ensures.language c.in_ok-define_all-2.ensures.ranks c.in_ok-define_all-2.ensures.language
+    all_ranks c.args.profile c.args.definitions.now c.args.environment.now _ c.table.ensures
+    c.new-macros.result c.define_table.new.macros c.define_environment.new.macros c.define_all.new.macros c.new-macros.ensures
+    c.in_ok-define_table.ensures.ranks c.in_ok-define_table.ensures.language
+    c.in_ok-define_environment.ensures.ranks c.in_ok-define_environment.ensures.language
+    c.in_ok-define_all.ensures.ranks c.in_ok-define_all.ensures.language

@@ -1,40 +1,39 @@
-use Rattle.std.proofs.Common.{sym, subst, [], Ok}
+use Rattle.std.proofs.Common.{◌∙◌, ℕ, ℤ, List, Option, sym}
 use Rattle.mk_rule_lines.proofs.ResultLemmas.{if_ok, if_err}
 use Rattle.dmk_drive.specs.Definitions.{first_defined}
-use Rattle.dmk_drive.specs.Faults.{IsTextFault, IsFaultAmong}
-use Rattle.dmk_drive.specs.Makefile.{AllItems}
-use Rattle.dmk_drive.specs.Planned.{AreItems}
-use Rattle.dmk_drive.proofs.MakefileLemmas.{items_among, some_named, text_fault_among}
+use Rattle.dmk_drive.specs.Faults.{IsTextFault}
+use Rattle.dmk_drive.proofs.MakefileLemmas.{handed_on, own_fault, without_rules, behind_rules, fault_behind}
 use Rattle.dmk_drive.proofs.makefile.items_of.Goals as goal
 
-pub returns-then-is_empty-clause-items : goal.returns-then-is_empty-clause-items
-returns-then-is_empty-clause-items g c =
-    if_ok c.usual_items.result _ _
-    (λ items gives files times text now.
-    subst (λ names. AreItems files times names (first_defined c.args.profile c.args.definitions.now c.args.environment.now) items.items) (sym (c.is_empty.ensures.0 c.if-is_empty.true))
-    (subst (λ given. AreItems files times [] given items.items) c.in_ok-macros.ensures (gives files times text now)))
-    c.usual_items.ensures.items
+pub returns-in_err-own-clause-fault : goal.returns-in_err-own-clause-fault
+returns-in_err-own-clause-fault g c =
+    let given = first_defined c.args.profile c.args.definitions.now c.args.environment.now in
+    handed_on _ (λ f. (files : List ℕ → Option (List ℕ)) (times : List ℕ → Option ℤ) → g.I.Includes.allows c.own_items.new.includes files → g.T.Tree.allows c.own_items.new.tree times
+    → IsTextFault files times (g.T.Tree.refuses c.own_items.new.tree) c.args.makefiles.now given f)
+    c.in_err-own.field-0.0 (c.from_residual.ensures).1
+    (λ files times text now. own_fault files times c.args.makefiles.now given (g.T.Tree.refuses c.own_items.new.tree) c.in_err-own.field-0.0 (c.in_err-own.ensures.fault files times text now))
 
-pub returns-then-is_empty-clause-fault : goal.returns-then-is_empty-clause-fault
-returns-then-is_empty-clause-fault g c =
-    if_err c.usual_items.result _ _
+pub returns-then-reads_rules-clause-items : goal.returns-then-reads_rules-clause-items
+returns-then-reads_rules-clause-items g c =
+    let given = first_defined c.args.profile c.args.definitions.now c.args.environment.now in
+    if_ok c.behind_rules.result _ _
+    (λ items has files times text now.
+    let (rules, are, whole) = has files text in
+    behind_rules files times c.args.makefiles.now given c.in_ok-own.own.items (sym c.reads_rules.ensures ∙ c.if-reads_rules.true)
+    (c.in_ok-own.ensures.items files times (c.behind_rules.ensures.grows files text) now) rules items.items are whole)
+    c.behind_rules.ensures.items
+
+pub returns-then-reads_rules-clause-fault : goal.returns-then-reads_rules-clause-fault
+returns-then-reads_rules-clause-fault g c =
+    let given = first_defined c.args.profile c.args.definitions.now c.args.environment.now in
+    if_err c.behind_rules.result _ _
     (λ f is files times text now.
-    subst (λ names. IsTextFault files times (g.T.Tree.refuses c.usual_items.new.tree) names (first_defined c.args.profile c.args.definitions.now c.args.environment.now) f) (sym (c.is_empty.ensures.0 c.if-is_empty.true))
-    (subst (λ given. IsTextFault files times (g.T.Tree.refuses c.usual_items.new.tree) [] given f) c.in_ok-macros.ensures (is files times text now)))
-    c.usual_items.ensures.fault
+    fault_behind files times c.args.makefiles.now given c.in_ok-own.own.items (g.T.Tree.refuses c.own_items.new.tree) (sym c.reads_rules.ensures ∙ c.if-reads_rules.true)
+    (c.in_ok-own.ensures.items files times (c.behind_rules.ensures.grows files text) now) f (is files text))
+    c.behind_rules.ensures.fault
 
-pub returns-clause-items : goal.returns-clause-items
-returns-clause-items g c =
-    if_ok c.all_items.result _ _
-    (λ items gives files times text now.
-    items_among files times (first_defined c.args.profile c.args.definitions.now c.args.environment.now) c.args.named.now items.items (some_named c.args.named.now c.is_empty.result (c.is_empty.ensures).1 c.if-is_empty.false)
-    (subst (λ given. AllItems files given c.args.named.now (Ok items.items)) c.in_ok-macros.ensures (gives files text)))
-    c.all_items.ensures.items
-
-pub returns-clause-fault : goal.returns-clause-fault
-returns-clause-fault g c =
-    if_err c.all_items.result _ _
-    (λ f is files times text now.
-    text_fault_among files times (first_defined c.args.profile c.args.definitions.now c.args.environment.now) (g.T.Tree.refuses c.args.tree.now) c.args.named.now f (some_named c.args.named.now c.is_empty.result (c.is_empty.ensures).1 c.if-is_empty.false)
-    (subst (λ given. IsFaultAmong files given c.args.named.now f) c.in_ok-macros.ensures (is files text)))
-    c.all_items.ensures.fault
+pub returns-else-reads_rules-clause-items : goal.returns-else-reads_rules-clause-items
+returns-else-reads_rules-clause-items g c = λ files times text now.
+    let given = first_defined c.args.profile c.args.definitions.now c.args.environment.now in
+    without_rules files times c.args.makefiles.now given c.in_ok-own.own.items (sym c.reads_rules.ensures ∙ c.if-reads_rules.false)
+    (c.in_ok-own.ensures.items files times text now)

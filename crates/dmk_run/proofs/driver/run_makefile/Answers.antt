@@ -10,7 +10,7 @@ returns-in-Ok-clause-makes g c =
     if_ok c.run_items.result.0 _ _
     (λ s made files times text may. record {
       items = c.in-Ok.items.items;
-      are_items = subst (λ defined. AreItems files times c.args.named.now (first_defined c.args.goals.profile defined c.args.means.now.environment.now) c.in-Ok.items.items) c.deref.ensures.value
+      are_items = subst (λ defined. AreItems files times c.args.makefiles.now (first_defined c.args.goals.profile defined c.args.means.now.environment.now) c.in-Ok.items.items) c.deref.ensures.value
           (c.in-Ok.ensures.items files times text (c.run_items.ensures.times times may));
       made = made times may;
     })
@@ -18,6 +18,6 @@ returns-in-Ok-clause-makes g c =
 
 pub returns-in-Ok-clause-untouched : goal.returns-in-Ok-clause-untouched
 returns-in-Ok-clause-untouched g c = λ files times text may.
-    untouched_unless_kept (AreItems files times c.args.named.now (first_defined c.args.goals.profile c.args.goals.definitions.items c.args.means.now.environment.now)) c.args.means.now.environment.now c.in-Ok.items.items
-    (subst (λ defined. AreItems files times c.args.named.now (first_defined c.args.goals.profile defined c.args.means.now.environment.now) c.in-Ok.items.items) c.deref.ensures.value
+    untouched_unless_kept (AreItems files times c.args.makefiles.now (first_defined c.args.goals.profile c.args.goals.definitions.items c.args.means.now.environment.now)) c.args.means.now.environment.now c.in-Ok.items.items
+    (subst (λ defined. AreItems files times c.args.makefiles.now (first_defined c.args.goals.profile defined c.args.means.now.environment.now) c.in-Ok.items.items) c.deref.ensures.value
     (c.in-Ok.ensures.items files times text (c.run_items.ensures.times times may))) c.args.disk c.run_items.result.1 c.run_items.ensures.untouched

@@ -1,0 +1,155 @@
+//! The rules that are built in.
+ghost use Rattle.std.specs.Prelude.{◌≡◌, ◌++◌, ℕ, List, Option, flat_map, IfOk, OnOk};
+ghost use Rattle.dmk_drive.specs.BuiltIn.{spells, has_own, rule_text, rules_text, reads_rules, AreRules};
+ghost use Rattle.mk_macros.specs.Ranks.{defined_by};
+ghost use Rattle.mk_eval.specs.Makefile.{GivesItems};
+ghost use Rattle.mk_rule_lines.specs.Rules.{has};
+ghost use Rattle.byte_strings.specs.Blanks.{words};
+
+use crate::makefiles::Makefiles;
+use byte_strings::Words;
+use mk_eval::{Includes, read_makefile};
+use mk_macros::Macros;
+use mk_profile::Profile;
+use mk_reader::{Item, ReadFault};
+use std::alloc::{AllocError, Global};
+
+/// The suffixes that count before a makefile lists its own.
+const SUFFIXES: &[u8] = b".SUFFIXES: .o .c .y .l .a .sh .cc .cpp .cxx .C .S\n";
+
+const LINK_C: &[u8] = b"\t$(CC) $(CFLAGS) $(CPPFLAGS) $(LDFLAGS) -o $@ $< $(LDLIBS)\n";
+
+const LINK_CXX: &[u8] = b"\t$(CXX) $(CXXFLAGS) $(CPPFLAGS) $(LDFLAGS) -o $@ $< $(LDLIBS)\n";
+
+const COMPILE_C: &[u8] = b"\t$(CC) $(CFLAGS) $(CPPFLAGS) -c -o $@ $<\n";
+
+const COMPILE_CXX: &[u8] = b"\t$(CXX) $(CXXFLAGS) $(CPPFLAGS) -c -o $@ $<\n";
+
+const COPY: &[u8] = b"\tcp $< $@\n\tchmod a+x $@\n";
+
+const YACC_OBJECT: &[u8] =
+    b"\t$(YACC) $(YFLAGS) $<\n\t$(CC) $(CFLAGS) $(CPPFLAGS) -c -o $@ y.tab.c\n\trm -f y.tab.c\n";
+
+const LEX_OBJECT: &[u8] =
+    b"\t$(LEX) $(LFLAGS) $<\n\t$(CC) $(CFLAGS) $(CPPFLAGS) -c -o $@ lex.yy.c\n\trm -f lex.yy.c\n";
+
+const YACC_SOURCE: &[u8] = b"\t$(YACC) $(YFLAGS) $<\n\tmv -f y.tab.c $@\n";
+
+const LEX_SOURCE: &[u8] = b"\t$(LEX) $(LFLAGS) $<\n\tmv -f lex.yy.c $@\n";
+
+/// The rules by their names, each with the lines of its recipe.
+pub const RULES: [(&[u8], &[u8]); 17] = [
+    (b".c", LINK_C),
+    (b".cc", LINK_CXX),
+    (b".cpp", LINK_CXX),
+    (b".cxx", LINK_CXX),
+    (b".C", LINK_CXX),
+    (b".S", LINK_C),
+    (b".sh", COPY),
+    (b".c.o", COMPILE_C),
+    (b".cc.o", COMPILE_CXX),
+    (b".cpp.o", COMPILE_CXX),
+    (b".cxx.o", COMPILE_CXX),
+    (b".C.o", COMPILE_CXX),
+    (b".S.o", COMPILE_C),
+    (b".y.o", YACC_OBJECT),
+    (b".l.o", LEX_OBJECT),
+    (b".y.c", YACC_SOURCE),
+    (b".l.c", LEX_SOURCE),
+];
+
+/// The name that the rules are read under.
+const NAME: &[u8] = b"(built-in)";
+
+/// Whether the rules are read before makefiles in this language.
+pub fn reads_rules(makefiles: &Makefiles, profile: Profile) -> bool
+    ensures { result ≡ reads_rules makefiles.now profile }
+{
+    profile.is_wide() && !makefiles.without_rules
+}
+
+/// Whether a text has the word.
+fn has_word(name: &[u8], text: &[u8]) -> bool
+    ensures { result ≡ has name.now (words text.now) }
+{
+    for word in Words::new(text) {
+        if name == word {
+            return true;
+        }
+    }
+    false
+}
+
+/// Whether the item is a rule line that spells the name among its targets.
+fn spells(name: &[u8], item: &Item) -> bool
+    ensures { result ≡ spells name.now item.now }
+{
+    match item {
+        Item::Rule(rule) => has_word(name, rule.targets.as_slice()),
+        Item::Definition(_) | Item::Special(_) => false,
+    }
+}
+
+/// Whether the makefile has a rule of its own for the name.
+fn has_own(own: &[Item], name: &[u8]) -> bool
+    ensures { result ≡ has_own own.now name.now }
+{
+    own.iter().any(|item| spells(name, item))
+}
+
+/// Appends a rule's lines, where the makefile has no rule of its own for the name.
+fn append_rule(
+    text: &mut Vec<u8>,
+    own: &[Item],
+    name: &[u8],
+    recipe: &[u8],
+) -> Result<(), AllocError>
+    ensures { OnOk result (text.new.items ≡ text.old.items ++ rule_text own.now name.now recipe.now) }
+{
+    if has_own(own, name) {
+        return Ok(());
+    }
+    text.extend_from_slice(name)?;
+    text.push(b':')?;
+    text.push(b'\n')?;
+    text.extend_from_slice(recipe)
+}
+
+/// Appends the lines of these rules, where the makefile has none of its own for their names.
+fn append_rules(
+    text: &mut Vec<u8>,
+    own: &[Item],
+    rules: &[(&[u8], &[u8])],
+) -> Result<(), AllocError>
+    ensures { OnOk result (text.new.items ≡ text.old.items ++ flat_map (λ rule. rule_text own.now rule.0.now rule.1.now) rules.now) }
+{
+    for rule in rules {
+        append_rule(text, own, rule.0, rule.1)?;
+    }
+    Ok(())
+}
+
+/// What is read in front of these items.
+fn rules_text(alloc: Global, own: &[Item]) -> Result<Vec<u8>, AllocError>
+    ensures { IfOk result (λ text. text.items ≡ rules_text own.now) }
+{
+    let mut text = Vec::new(alloc);
+    text.extend_from_slice(SUFFIXES)?;
+    append_rules(&mut text, own, &RULES)?;
+    Ok(text)
+}
+
+/// The items of the tool's rules, which stand in front of these.
+pub fn rules_before<I: Includes>(
+    alloc: Global,
+    macros: &mut Macros,
+    own: &[Item],
+    includes: &mut I,
+) -> Result<Vec<Item>, ReadFault>
+    ensures items { (files : List ℕ → Option (List ℕ)) → I.allows includes.new files
+        → GivesItems result (AreRules files (defined_by macros.old) own.now) }
+    ensures grows { (files : List ℕ → Option (List ℕ)) → I.allows includes.new files → I.allows includes.old files }
+{
+    let text = rules_text(alloc, own)?;
+    read_makefile(alloc, macros, NAME, text.as_slice(), includes)
+}
