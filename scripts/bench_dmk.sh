@@ -2,7 +2,8 @@
 # bench_dmk.sh [FOLDER [KIND TARGETS]]: times bin/dmk (scripts/build.sh makes it) on trees that are up to date, beside GNU make
 # and, where it is installed, ninja, in turns: seconds of processor time, the least of $ROUNDS (5), and the most memory that was in
 # use. The trees stand in a folder of their own in FOLDER (the system's temporary one); KIND (flat, layers, hidden, chain) and
-# TARGETS name one of them. The program is $DMK, or bin/dmk. Nothing is tested.
+# TARGETS name one of them, which dmk reads in the wide profile (--posix) where it has 100,000 targets or more. The program is
+# $DMK, or bin/dmk. Nothing is tested.
 set -eu
 folder=$(cd "${1:-${TMPDIR:-/tmp}}" && pwd)
 cd "$(dirname "$0")/.."
@@ -30,16 +31,17 @@ for _ in range(int(sys.argv[1])):
         most[number], status[number] = max(most[number], used.ru_maxrss), os.waitstatus_to_exitcode(ended)
 for number, command in enumerate(words):
     name = " ".join([os.path.basename(command[0]), *command[1:]])
-    print(f"  {name:<13} {least[number]:.3f} s, {most[number] / 1024:.0f} MB (status {status[number]})")' "${ROUNDS:-5}" "$@"
+    print(f"  {name:<14} {least[number]:.3f} s, {most[number] / 1024:.0f} MB (status {status[number]})")' "${ROUNDS:-5}" "$@"
 }
 
 measure() {
-    local kind=$1 targets=$2 tree=$work/tree
+    local kind=$1 targets=$2 tree=$work/tree wide=
+    [ "$targets" -lt 100000 ] || wide=" --posix"
     rm -rf "$tree"
     python3 "$scripts/dmk_tree.py" "$kind" "$targets" "$tree"
     cd "$tree"
     echo "$kind, $targets targets, state of $(stat -c %s .make.state) bytes, load $(cut -d' ' -f1 /proc/loadavg)"
-    set -- "$dmk -q" "make -rR -q" "$dmk -n" "make -rR -n" "$dmk" "make -rR"
+    set -- "$dmk$wide -q" "make -rR -q" "$dmk$wide -n" "make -rR -n" "$dmk$wide" "make -rR"
     ! command -v ninja >/dev/null || set -- "$@" "ninja -n" "ninja"
     rounds "$@"
     cd "$scripts/.."

@@ -2,27 +2,47 @@
 # Builds the project of this folder with dmk over three servers of distcc, with ccache in front, with hosts that go away, and with
 # dmk killed, and compares what comes of it with what gcc makes alone. README.md has what it prints.
 #
-#   run.sh [PART..]    PART: hosts, cache, away, cut; all of them where none is named
+#   run.sh [PART..]    PART: hosts, cache, away, cut; all of these where none is named; or icecream, which wants root (icecream.sh)
 #
-# The program is $DMK, or that of scripts/build.sh, which is called where there is none. It works in a folder of its own in the
-# system's temporary one. The last line is 'N passed, M failed'; with FARM_FIRST set it ends at the first step that fails. Status: 0 where M is 0; 77 where a program that it needs isn't
-# there, so that nothing was tried; else 1.
+# The program is $DMK, or bin/dmk, which scripts/build.sh is called to make where it isn't there (that is told on standard error). It
+# works in a folder of its own in the system's temporary one. The last line is 'N passed, M failed'; with FARM_FIRST set it ends at
+# the first step that fails. Status: 0 where M is 0; 77 where a program that it needs isn't there, so that nothing was tried; else 1.
 set -u
+[ -z "${DMK:-}" ] || DMK=$(realpath -m -- "$DMK")
+[ -z "${DMK_STATE:-}" ] || DMK_STATE=$(realpath -m -- "$DMK_STATE")
 cd "$(dirname "$0")" || exit 1
 here=$PWD root=$(cd ../.. && pwd)
-for program in distcc distccd ccache gcc python3 setsid; do
-    command -v "$program" >/dev/null || { echo "run.sh: no $program (Debian: apt-get install distcc ccache gcc python3)"; exit 77; }
+icecream=
+[ $# -gt 0 ] && parts=("$@") || parts=(hosts cache away cut)
+for part in "${parts[@]}"; do
+    case $part in
+    hosts | cache | away | cut) ;;
+    icecream) icecream="iceccd icecc-scheduler unshare ip" ;;
+    *) echo "run.sh: no part $part" && exit 1 ;;
+    esac
 done
+missing=
+for program in distcc distccd ccache gcc python3 setsid ${icecream:-}; do
+    PATH=$PATH:/usr/sbin:/sbin command -v "$program" >/dev/null || missing="$missing $program"
+done
+[ -z "$missing" ] || { echo "run.sh: not there:$missing (Debian: apt-get install distcc ccache gcc python3 util-linux)"; exit 77; }
 if [ -z "${DMK:-}" ] && ! [ -x "$root/bin/dmk" ]; then
-    echo "run.sh: no $root/bin/dmk; scripts/build.sh makes it"
-    bash "$root/scripts/build.sh" || exit 1
+    command -v rt >/dev/null || { echo "run.sh: no $root/bin/dmk, and no rt to make it with; DMK=PATH names another one"; exit 77; }
+    echo "run.sh: no $root/bin/dmk, so scripts/build.sh makes it first" >&2
+    bash "$root/scripts/build.sh" >&2 || exit 1
 fi
-dmk=$(realpath "${DMK:-$root/bin/dmk}")
-lister=$(realpath "${DMK_STATE:-$(dirname "$dmk")/dmk_state}")
+dmk=${DMK:-$root/bin/dmk}
+lister=${DMK_STATE:-$(dirname "$dmk")/dmk_state}
+[ -x "$dmk" ] && [ -x "$lister" ] || { echo "run.sh: no $dmk, or no $lister; DMK=PATH and DMK_STATE=PATH name them"; exit 77; }
+if [ -n "${icecream:-}" ] && [ -z "${FARM_NETWORK:-}" ]; then
+    FARM_NETWORK=own exec unshare --net --mount bash run.sh "$@"
+fi
 work=$(mktemp -d) || exit 1
 chmod 755 "$work"
 . "$here/hosts.sh"
-trap 'end_hosts; rm -rf "$work"' EXIT
+ice_end() { :; }
+[ -z "${icecream:-}" ] || { . "$here/icecream.sh" && ice_network || exit 1; }
+trap 'end_hosts; ice_end; rm -rf "$work"' EXIT
 trap 'exit 1' INT TERM HUP
 unset MAKEFLAGS MAKELEVEL MFLAGS KEEP_STATE SUNPRO_DEPENDENCIES DMK_HOLDS ENGINE
 export CCACHE_DIR=$work/cache CCACHE_PREFIX=distcc
@@ -206,13 +226,6 @@ cp -r "$work/plain" "$work/tree"
 cp project.py "$work/tree/"
 (plain_build) || exit 1
 cd "$work/tree" || exit 1
-for part in "${@:-hosts cache away cut}"; do
-    for name in $part; do
-        case $name in
-        hosts | cache | away | cut) "part_$name" ;;
-        *) echo "run.sh: no part $name" && exit 1 ;;
-        esac
-    done
-done
+for part in "${parts[@]}"; do "part_$part"; done
 echo "$passed passed, $failed failed"
 [ "$failed" -eq 0 ]
