@@ -22,10 +22,10 @@ for part in "${parts[@]}"; do
     esac
 done
 missing=
-for program in distcc distccd ccache gcc python3 setsid ${icecream:-}; do
+for program in distcc distccd ccache gcc python3 setsid $icecream; do
     PATH=$PATH:/usr/sbin:/sbin command -v "$program" >/dev/null || missing="$missing $program"
 done
-[ -z "$missing" ] || { echo "run.sh: not there:$missing (Debian: apt-get install distcc ccache gcc python3 util-linux)"; exit 77; }
+[ -z "$missing" ] || { echo "run.sh: not there:$missing (Debian: apt-get install distcc ccache gcc python3 util-linux${icecream:+ icecc iproute2})"; exit 77; }
 if [ -z "${DMK:-}" ] && ! [ -x "$root/bin/dmk" ]; then
     command -v rt >/dev/null || { echo "run.sh: no $root/bin/dmk, and no rt to make it with; DMK=PATH names another one"; exit 77; }
     echo "run.sh: no $root/bin/dmk, so scripts/build.sh makes it first" >&2
@@ -34,14 +34,15 @@ fi
 dmk=${DMK:-$root/bin/dmk}
 lister=${DMK_STATE:-$(dirname "$dmk")/dmk_state}
 [ -x "$dmk" ] && [ -x "$lister" ] || { echo "run.sh: no $dmk, or no $lister; DMK=PATH and DMK_STATE=PATH name them"; exit 77; }
-if [ -n "${icecream:-}" ] && [ -z "${FARM_NETWORK:-}" ]; then
+if [ -n "$icecream" ] && [ -z "${FARM_NETWORK:-}" ]; then
+    [ "$(id -u)" = 0 ] || { echo "run.sh: the part icecream wants root"; exit 77; }
     FARM_NETWORK=own exec unshare --net --mount bash run.sh "$@"
 fi
 work=$(mktemp -d) || exit 1
 chmod 755 "$work"
 . "$here/hosts.sh"
 ice_end() { :; }
-[ -z "${icecream:-}" ] || { . "$here/icecream.sh" && ice_network || exit 1; }
+[ -z "$icecream" ] || { . "$here/icecream.sh" && ice_network || exit 1; }
 trap 'end_hosts; ice_end; rm -rf "$work"' EXIT
 trap 'exit 1' INT TERM HUP
 unset MAKEFLAGS MAKELEVEL MFLAGS KEEP_STATE SUNPRO_DEPENDENCIES DMK_HOLDS ENGINE
