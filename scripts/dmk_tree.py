@@ -50,7 +50,8 @@ def has_recipe(kind, number, count):
 def write_makefiles(kind, nodes):
     count = len(nodes)
     goals = ["t0"] if kind == "chain" else [target for target, _, _ in nodes]
-    lines = [".KEEP_STATE:", "all: " + " ".join(goals)]
+    # In parts: a text over 1 MiB has no expansion (docs/MAKEFILES.md).
+    lines = [".KEEP_STATE:"] + ["all: " + " ".join(goals[at:at + 50000]) for at in range(0, count, 50000) if goals[at:]]
     for number, (target, prerequisites, _) in enumerate(nodes):
         lines.append(f"{target}: " + " ".join(prerequisites))
         if has_recipe(kind, number, count):
