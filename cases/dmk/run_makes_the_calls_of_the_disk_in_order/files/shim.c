@@ -8,7 +8,8 @@
 #include <unistd.h>
 
 /* Adds to the file that CALLS names a line for each call that opens, reads, writes, cuts or syncs a side of the state, and for
-   each sync of the folder that is worked in. A write of one byte is noted with the byte, a longer one with its length. */
+   each sync of the folder that is worked in. A write of one byte is noted with the byte, a longer one with its length, a read
+   that begins behind the first byte as one that goes on. */
 static FILE *note(void)
 {
     FILE *out = fopen(getenv("CALLS"), "a");
@@ -61,7 +62,7 @@ int open(const char *path, int flags, ...)
 
 ssize_t pread(int file, void *bytes, size_t count, off_t at)
 {
-    note_call("read", file);
+    note_call(at == 0 ? "read" : "read on in", file);
     return syscall(SYS_pread64, file, bytes, count, at);
 }
 
