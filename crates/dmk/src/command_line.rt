@@ -2,13 +2,16 @@
 ghost use Rattle.std.specs.Prelude.{◌≡◌};
 
 use crate::arguments::find;
+use crate::environment::read_environment;
+use crate::flags::taken_words;
 use crate::host_files::INPUT;
 use crate::job_words::with_numbers;
 use bd_lists::Variable;
 use byte_strings::{ByteString, ByteStrings};
 use clap::ArgMatches;
 use clap::error::ErrorKind;
-use dmk_drive::{Makefiles, Options, Telling};
+use dmk_drive::{Makefiles, Options, Telling, value_of};
+use jb_flags::PROFILE;
 use mk_profile::Profile;
 use std::alloc::{AllocError, Global};
 use std::{env, io};
@@ -49,6 +52,8 @@ pub enum WordsFault {
     OutOfMemory,
     #[error("a word of the command line isn't UTF-8")]
     NotText,
+    #[error("a definition in MAKEFLAGS isn't UTF-8")]
+    FlagsNotText,
     /// The help or the version was asked for and couldn't be printed.
     #[error("cannot write")]
     Write,
@@ -61,6 +66,17 @@ pub enum WordsFault {
     Touch,
     #[error("-l isn't supported: how busy the machine is isn't looked at")]
     Load,
+}
+
+impl Later {
+    /// How many definitions stand before those of the command line.
+    pub fn definitions_before(self, environment: &[Variable]) -> usize {
+        if self.environment_counts {
+            environment.len()
+        } else {
+            0
+        }
+    }
 }
 
 impl From<io::Error> for WordsFault {
@@ -84,10 +100,61 @@ pub fn read_words(rt: HostRuntime, processors: u16) -> Result<Request, WordsFaul
     let processors = format!(in alloc; "{processors}")?;
     let words = env::args(&rt)?.collect::<Vec<String>>(alloc)?;
     let words = with_numbers(alloc, words, processors.as_str())?;
+    let request = match find(alloc, processors.as_str(), words.as_slice()) {
+        Ok(found) => request_of(alloc, &found)?,
+        Err(answer) => return say(rt, answer),
+    };
+    let environment = read_environment(rt)?;
+    if !is_wide(&request, &environment) {
+        return Ok(request);
+    }
+    let makeflags = value_of(&environment, b"MAKEFLAGS");
+    let Some(words) = with_flags(alloc, words, makeflags)? else {
+        return Err(WordsFault::FlagsNotText);
+    };
     match find(alloc, processors.as_str(), words.as_slice()) {
         Ok(found) => request_of(alloc, &found),
         Err(answer) => say(rt, answer),
     }
+}
+
+/// Whether the wide profile is asked for: by the words, by MAKEFLAGS or by a run above that has it.
+fn is_wide(request: &Request, environment: &[Variable]) -> bool {
+    let (name, wide) = PROFILE;
+    match request {
+        Request::Make(asked) => {
+            value_of(environment, name) == wide
+                || asked
+                    .options
+                    .language(value_of(environment, b"MAKEFLAGS"))
+                    .is_wide()
+        }
+        Request::Leave(_) => false,
+    }
+}
+
+/// The words with what MAKEFLAGS has, and with the profile, before their own behind the program's name; None where that isn't UTF-8.
+fn with_flags(
+    alloc: Global,
+    words: Vec<String>,
+    makeflags: &[u8],
+) -> Result<Option<Vec<String>>, AllocError> {
+    let mut all = Vec::new(alloc);
+    let mut words = words.into_iter();
+    if let Some(program) = words.next() {
+        all.push(program)?;
+    }
+    all.push(String::from_str(alloc, "--posix")?)?;
+    for taken in &taken_words(alloc, makeflags)? {
+        match str::from_utf8(taken) {
+            Ok(taken) => all.push(String::from_str(alloc, taken)?)?,
+            Err(_) => return Ok(None),
+        }
+    }
+    for word in words {
+        all.push(word)?;
+    }
+    Ok(Some(all))
 }
 
 // What the words that were found ask for, unless it is refused by name.

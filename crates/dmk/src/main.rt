@@ -7,6 +7,7 @@ mod base;
 mod child_signal;
 mod command_line;
 mod environment;
+mod flags;
 mod folder;
 mod host_files;
 mod job_words;
@@ -133,7 +134,7 @@ fn run_in<R: Threads + Wait + Sync>(
     let environment = read_environment(host)?;
     let options = with_environment(host.alloc(), later, options, &environment)?;
     match options.mode(value_of(&environment, b"MAKEFLAGS")) {
-        Mode::Run => make(rt, host, options, &environment, input),
+        Mode::Run => make(rt, host, options, later, &environment, input),
         Mode::DryRun | Mode::Question => ask(host, options, &environment, input),
     }
 }

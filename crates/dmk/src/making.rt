@@ -4,6 +4,8 @@ ghost use Rattle.dmk_drive.specs.Keeping.{value_in};
 ghost use Rattle.dmk_drive.specs.Output.{AsksToRun};
 
 use crate::base::base_asked;
+use crate::command_line::Later;
+use crate::flags::handed_on;
 use crate::host_files::HostFiles;
 use crate::pool_path::PoolPath;
 use crate::reasons::{needs_usual_makefile, print_gnu_makefile, print_reasons};
@@ -13,6 +15,7 @@ use crate::terminal::status_columns;
 use bd_lists::Variable;
 use dmk_drive::{FileTexts, Options, value_of};
 use dmk_run::{Means, Printer, build_targets, followed};
+use jb_flags::Handing;
 use jb_host::{HOLDS, HostPlace, Shell};
 use jb_slots::FifoBanks;
 use st_disk::{FileDisk, SystemFolder};
@@ -43,7 +46,7 @@ fn host_printer<'a, R: Wait>(
 fn make_here<R, O, W>(
     rt: &R,
     host: HostRuntime,
-    means: &Means<'_, Shell<'_>, Printer<'_, R, O, W>, HostPlace>,
+    means: &Means<'_, Handing<'_, Shell<'_>>, Printer<'_, R, O, W>, HostPlace>,
     guard: &mut StateLock<'_>,
     options: Options,
     makefiles: &mut FileTexts<HostFiles<'_>>,
@@ -81,6 +84,7 @@ pub fn make<R: Threads + Wait + Sync>(
     rt: &R,
     host: HostRuntime,
     options: Options,
+    later: Later,
     environment: &[Variable],
     input: Option<&[u8]>,
 ) -> Result<u8, AllocError>
@@ -99,12 +103,19 @@ pub fn make<R: Threads + Wait + Sync>(
     let above = str::from_utf8(value_of(environment, HOLDS.as_bytes())).unwrap_or("");
     let mut guard = StateLock::new(host, options.state.as_str(), above, &held)?;
     let shell = Shell::new(host, alloc, &held);
+    let before = later.definitions_before(environment);
+    let handed = handed_on(alloc, &options, later.environment_counts, before, flags)?;
+    let exec = Handing {
+        alloc,
+        handed: handed.as_ref(),
+        exec: &shell,
+    };
     let place = HostPlace::new(host);
     let means = Means {
         key: HashKey::from_system(&host),
         environment,
         pool: pool.as_bytes(),
-        exec: &shell,
+        exec: &exec,
         say: &printer,
         place: &place,
     };

@@ -24,10 +24,10 @@ over r Makefile (Some before) text = refl
 over r Environment (Some before) text = refl
 over r Tool (Some before) text = refl
 
-module _ (ranks old : List ℕ → Ranks) (rank : Rank) (v : Variable) (before : List Variable)
+module _ (language : Profile) (ranks old : List ℕ → Ranks) (rank : Rank) (v : Variable) (before : List Variable)
     (so_far : (name : List ℕ) → ranks name ≡ with_last (old name) rank (last_value before name)) (name : List ℕ) where
   by_test : (b : Bool) → bytes_eq name v.name ≡ b →
-      cond b (redefined (ranks v.name) rank v.value false) (ranks name)
+      cond b (redefined language (ranks v.name) rank v.value false) (ranks name)
       ≡ with_last (old name) rank (option_map (λ w. w.value) (cond b (Some v) (find (is_named name) (reverse before))))
   by_test true e =
       ap (λ n. with_rank (ranks n) rank v.value) (sym ((bytes_eq-Decides name v.name).0 e))
@@ -36,7 +36,7 @@ module _ (ranks old : List ℕ → Ranks) (rank : Rank) (v : Variable) (before :
   by_test false e = so_far name
 
   pub one_more : (all : List Variable) → all ≡ before ++ v ∷ [] →
-      with_text ranks rank v.name v.value false name ≡ with_last (old name) rank (last_value all name)
+      with_text language ranks rank v.name v.value false name ≡ with_last (old name) rank (last_value all name)
   one_more all is =
       by_test (bytes_eq name v.name) refl
       ∙ ap (λ vs. with_last (old name) rank (option_map (λ w. w.value) (find (is_named name) vs)))
@@ -47,26 +47,26 @@ abbrev shell : Variable
 shell = variable (codes "SHELL") (codes "/bin/sh")
 
 -- so it is where a table has the variables
-one_more_entry : {E : Type 0} (v : E) (of : E → Variable) (ranks old : List ℕ → Ranks) (rank : Rank) (before all : List E) → all ≡ before ++ v ∷ [] →
+one_more_entry : {E : Type 0} (language : Profile) (v : E) (of : E → Variable) (ranks old : List ℕ → Ranks) (rank : Rank) (before all : List E) → all ≡ before ++ v ∷ [] →
     ((name : List ℕ) → ranks name ≡ with_last (old name) rank (last_value (map of before) name)) → (name : List ℕ) →
-    with_text ranks rank (of v).name (of v).value false name ≡ with_last (old name) rank (last_value (map of all) name)
-one_more_entry v of ranks old rank before all is so_far name =
-    one_more ranks old rank (of v) (map of before) so_far name (map of all) (ap (map of) is ∙ map-append of before (v ∷ []))
+    with_text language ranks rank (of v).name (of v).value false name ≡ with_last (old name) rank (last_value (map of all) name)
+one_more_entry language v of ranks old rank before all is so_far name =
+    one_more language ranks old rank (of v) (map of before) so_far name (map of all) (ap (map of) is ∙ map-append of before (v ∷ []))
 
 -- so the table's part goes on by the entry that stands behind it
-pub one_more_at : {E : Type 0} (all : List E) (i : ℕ) (d : E) → i < length all → (of : E → Variable) (ranks old : List ℕ → Ranks) (rank : Rank) →
+pub one_more_at : {E : Type 0} (language : Profile) (all : List E) (i : ℕ) (d : E) → i < length all → (of : E → Variable) (ranks old : List ℕ → Ranks) (rank : Rank) →
     ((name : List ℕ) → ranks name ≡ with_last (old name) rank (last_value (map of (take i all)) name)) → (name : List ℕ) →
-    with_text ranks rank (of (get_or all i d)).name (of (get_or all i d)).value false name ≡ with_last (old name) rank (last_value (map of (take (i + 1) all)) name)
-one_more_at all i d below of ranks old rank so_far name =
-    one_more_entry (get_or all i d) of ranks old rank (take i all) (take (i + 1) all) (ap (λ k. take k all) (add-one i) ∙ take-suc all i d below) so_far name
+    with_text language ranks rank (of (get_or all i d)).name (of (get_or all i d)).value false name ≡ with_last (old name) rank (last_value (map of (take (i + 1) all)) name)
+one_more_at language all i d below of ranks old rank so_far name =
+    one_more_entry language (get_or all i d) of ranks old rank (take i all) (take (i + 1) all) (ap (λ k. take k all) (add-one i) ∙ take-suc all i d below) so_far name
 
 -- what the environment gives, by the language
 module _ (profile : Profile) (environment : List Variable) where
   pub wide_environment : is_wide profile ≡ true → (ranks old : List ℕ → Ranks) →
       ((name : List ℕ) → ranks name ≡ with_last (old name) Environment (last_value environment name)) → (name : List ℕ) →
-      with_text ranks Environment (codes "SHELL") (codes "/bin/sh") false name ≡ with_last (old name) Environment (last_value (environment_macros profile environment) name)
+      with_text profile ranks Environment (codes "SHELL") (codes "/bin/sh") false name ≡ with_last (old name) Environment (last_value (environment_macros profile environment) name)
   wide_environment wide ranks old so_far name =
-      one_more ranks old Environment shell environment so_far name (environment_macros profile environment) (ap (λ b. cond b (environment ++ shell ∷ []) environment) wide)
+      one_more profile ranks old Environment shell environment so_far name (environment_macros profile environment) (ap (λ b. cond b (environment ++ shell ∷ []) environment) wide)
 
   pub strict_environment : is_wide profile ≡ false → (ranks old : List ℕ → Ranks) →
       ((name : List ℕ) → ranks name ≡ with_last (old name) Environment (last_value environment name)) → (name : List ℕ) →
@@ -78,7 +78,7 @@ module _ (profile : Profile) (environment : List Variable) where
 -- a name has what each rank has for it
 each_rank : (t e d : Option (List ℕ)) →
     with_last (with_last (with_last no_ranks Tool t) Environment e) CommandLine d
-    ≡ record { command_line = d; makefile = None; environment = e; tool = t }
+    ≡ record { command_line = d; makefile = None; environment = e; tool = t; is_fixed = false }
 each_rank None None None = refl
 each_rank None None (Some d) = refl
 each_rank None (Some e) None = refl

@@ -51,7 +51,11 @@ judged_alike true a b alike = record {
   stem = alike.stem;
   source = alike.source;
   explicit = alike.explicit;
+  sources = alike.sources;
+  implicit = alike.implicit;
   recipe = alike.recipe;
+  beside = alike.beside;
+  lines = alike.lines;
   dropped = alike.dropped;
   defined = alike.defined;
 }

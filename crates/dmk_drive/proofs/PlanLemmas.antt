@@ -1,8 +1,15 @@
 -- The stages of a plan put together.
-use Rattle.std.proofs.Common.{◌≡◌, ◌⊎◌, ◌||◌, inl, inr, ℕ, ℤ, Bool, List, length, Option, Result, Ok, Err, IfOk, IfErr, IsTrue, refl, sym, ap, subst, ◌∙◌, true, false}
+use Rattle.std.proofs.Common.{◌≡◌, ◌⊎◌, ◌||◌, inl, inr, ℕ, ℤ, Bool, List, length, Option, Result, Ok, Err, IfOk, IfErr, IfSome, is_some, IsTrue, refl, sym, ap, subst, ◌∙◌, true, false}
 use Rattle.std.proofs.Props.{props}
 use Rattle.std.specs.List.Sorted.{IsStrictlyIncreasing}
 use Rattle.mk_graph.specs.Edges.{row, is_closed}
+use Rattle.mk_macros.specs.Ranks.{defined_by}
+use Rattle.mk_profile.specs.Profile.{is_wide}
+use Rattle.mk_rule_lines.specs.Explicit.{numbers_of}
+use Rattle.mk_rule_lines.specs.Rules.{suffixes_of}
+use Rattle.mk_rule_lines.specs.Table.{named_at}
+use Rattle.mk_rule_lines.specs.declared.rule_line.RuleLine.{RuleLine}
+use Rattle.mk_rule_lines.specs.declared.table.TargetTable.{TargetTable}
 use Rattle.mk_rules.specs.Node.{EachHasOneNumber}
 use Rattle.std.specs.FinMap as map
 use Rattle.mk_macros.specs.declared.fault.MacroFault.{MacroFault}
@@ -40,11 +47,22 @@ one_number names = hlevel props
 ascending : (rows : List (List ℕ)) → IsProp ((n : ℕ) → IsStrictlyIncreasing (row rows n))
 ascending rows = hlevel props
 
+same_suffixes : (a b : List (List ℕ)) → IsProp (a ≡ b)
+same_suffixes a b = hlevel props
+
+same_answer : (a b : Bool) → IsProp (a ≡ b)
+same_answer a b = hlevel props
+
+same_table : (targets : Option TargetTable) (lines : List RuleLine) → IsProp (IfSome targets (λ t. (name : List ℕ) → (named_at t name).lines ≡ numbers_of lines name))
+same_table targets lines = hlevel props
+
 -- whichever proofs go with its fields, a graph with this state in place of its own is one
 pub with_state : (g : Graph) (state : StateMap) (named : length g.names ≡ length g.nodes.items) (distinct : EachHasOneNumber g.names)
     (hard_rows : length g.hard ≡ length g.nodes.items) (soft_rows : length g.soft ≡ length g.nodes.items) (counted_rows : length g.counted ≡ length g.nodes.items)
     (hard_closed : IsTrue (is_closed g.hard)) (soft_closed : IsTrue (is_closed g.soft)) (counted_closed : IsTrue (is_closed g.counted))
-    (counted_ascending : (n : ℕ) → IsStrictlyIncreasing (row g.counted n)) →
+    (counted_ascending : (n : ℕ) → IsStrictlyIncreasing (row g.counted n)) (suffixes_are : g.suffixes ≡ suffixes_of g.lines.items)
+    (kept : is_some g.targets ≡ is_wide (defined_by g.macros).language)
+    (table : IfSome g.targets (λ t. (name : List ℕ) → (named_at t name).lines ≡ numbers_of g.lines.items name)) →
     record g {
       state = state;
       named = named;
@@ -56,9 +74,12 @@ pub with_state : (g : Graph) (state : StateMap) (named : length g.names ≡ leng
       soft_closed = soft_closed;
       counted_closed = counted_closed;
       counted_ascending = counted_ascending;
+      suffixes_are = suffixes_are;
+      kept = kept;
+      table = table;
     }
     ≡ record g { state = state }
-with_state g state named distinct hard_rows soft_rows counted_rows hard_closed soft_closed counted_closed counted_ascending = λ i. record g {
+with_state g state named distinct hard_rows soft_rows counted_rows hard_closed soft_closed counted_closed counted_ascending suffixes_are kept table = λ i. record g {
   state = state;
   named = same_count (length g.names) (length g.nodes.items) named g.named i;
   distinct = one_number g.names distinct g.distinct i;
@@ -69,6 +90,9 @@ with_state g state named distinct hard_rows soft_rows counted_rows hard_closed s
   soft_closed = is_true (is_closed g.soft) soft_closed g.soft_closed i;
   counted_closed = is_true (is_closed g.counted) counted_closed g.counted_closed i;
   counted_ascending = ascending g.counted counted_ascending g.counted_ascending i;
+  suffixes_are = same_suffixes g.suffixes (suffixes_of g.lines.items) suffixes_are g.suffixes_are i;
+  kept = same_answer (is_some g.targets) (is_wide (defined_by g.macros).language) kept g.kept i;
+  table = same_table g.targets g.lines.items table g.table i;
 }
 
 judged_dropped : (all : Bool) (graph : Graph) → (judged_graph all graph).soft_dropped ≡ graph.soft_dropped

@@ -1,5 +1,5 @@
 -- What is defined before the makefile is read.
-use Rattle.std.specs.Prelude.{ℕ, List, [], ◌∷◌, ◌++◌, Option, Some, None, reverse, find, option_map, codes, if◌then◌else◌}
+use Rattle.std.specs.Prelude.{ℕ, false, List, [], ◌∷◌, ◌++◌, Option, Some, None, reverse, find, option_map, codes, if◌then◌else◌}
 use Rattle.mk_profile.specs.Profile.{is_wide}
 use Rattle.mk_profile.specs.declared.profile.Profile.{Profile}
 use Rattle.mk_profile.specs.declared.profile.Profile.TheVariants.{Strict, Posix}
@@ -50,6 +50,7 @@ first_ranks profile definitions environment name = record {
   makefile = None;
   environment = last_value (environment_macros profile environment) name;
   tool = last_value (tool_macros profile) name;
+  is_fixed = false;
 }
 
 -- so it is defined, in the language of the makefile

@@ -6,7 +6,7 @@ ghost use Rattle.mk_rule_lines.specs.Goals.{is_keep_state, has_special};
 ghost use Rattle.mk_rules.specs.Graph.{IsGraph};
 ghost use Rattle.mk_profile.specs.declared.profile.Profile.{Profile};
 ghost use Rattle.mk_macros.specs.Ranks.{Defined};
-ghost use Rattle.mk_rule_lines.specs.Lines.{AreRuleLines};
+ghost use Rattle.mk_rule_lines.specs.InForce.{AreLinesInForce};
 ghost use Rattle.mk_rules.specs.Prerequisites.{Inputs};
 ghost use Rattle.mk_rules.specs.declared.graph.Graph.{Graph};
 ghost use Rattle.mk_rule_lines.specs.declared.rule_line.RuleLine.{RuleLine};
@@ -22,7 +22,7 @@ use st_disk::Disk;
 
 /// State is kept by the items of a makefile just where it is by their rule lines.
 pub fn one_reading_of_the_settings()
-    ensures { (ranks : Defined) (items : List Item) (lines : List RuleLine) → AreRuleLines ranks items lines
+    ensures { (ranks : Defined) (items : List Item) (lines : List RuleLine) → AreLinesInForce ranks items lines
         → has_special is_keep_state lines ≡ list_any is_keep_item items }
 {}
 

@@ -1,5 +1,5 @@
 //! What a worker brings home.
-ghost use Rattle.std.specs.Prelude.{◌≡◌, ◌≤◌, ◌++◌, Some, None, unwrap_or, IfSome};
+ghost use Rattle.std.specs.Prelude.{◌≡◌, ◌+◌, ◌≤◌, ◌++◌, Some, None, unwrap_or, IfSome, OnOk, vec_len, vec_capacity};
 
 use crate::pending::Pending;
 use bd_flusher::Receipt;
@@ -86,6 +86,7 @@ impl Shift {
     /// Makes room for the receipts of one node and of the end that is pending: to keep them takes no memory then.
     pub(crate) fn make_room(&mut self) -> Result<(), RunFault>
         ensures same { (self.new.status ≡ self.old.status) × (self.new.fault ≡ self.old.fault) }
+        ensures room { OnOk result (vec_len self.new.receipts + 3 ≤ vec_capacity self.new.receipts) }
     {
         self.receipts.reserve(3)?;
         Ok(())

@@ -2,7 +2,7 @@
 use Rattle.std.proofs.Common.{◌≡◌, ℕ, Bool, true, false, cond, List, [], ◌∷◌, ◌++◌, Some, unwrap_or, refl, sym, ap, subst, ◌∙◌, bytes_eq}
 use Rattle.std.specs.Map.{lookup}
 use Rattle.mk_profile.specs.Profile.{is_wide}
-use Rattle.mk_macros.specs.Ranks.{Ranks, no_ranks, Defined, Listed, defined_by, ranks_at, redefined, with_text, with_definition}
+use Rattle.mk_macros.specs.Ranks.{Ranks, no_ranks, Defined, Listed, defined_by, ranks_at, redefined, with_change, with_definition, with_mark}
 use Rattle.mk_macros.specs.declared.definitions.Rank.{Rank}
 use Rattle.mk_macros.specs.declared.definitions.Rank.TheVariants.{Makefile}
 use Rattle.mk_reader.specs.declared.item.Item.{Item}
@@ -50,24 +50,33 @@ behind_more start now next items new front is e n = e ∙ ap (λ g. behind g fro
 abbrev pub IsListed : Defined → Type 0
 IsListed given = (listed : Listed) × (given ≡ defined_by listed)
 
-abbrev defined_in : Listed → Rank → (name text : List ℕ) → (append : Bool) → Listed
-defined_in listed rank name text append =
-    record listed { texts = (name, redefined (ranks_at listed.texts name) rank text append) ∷ listed.texts }
+abbrev changed_in : Listed → (name : List ℕ) → (Ranks → Ranks) → Listed
+changed_in listed name change = record listed { texts = (name, change (ranks_at listed.texts name)) ∷ listed.texts }
 
-defined_alike : (listed : Listed) (rank : Rank) (name text : List ℕ) (append : Bool) →
-    with_definition (defined_by listed) rank name text append ≡ defined_by (defined_in listed rank name text append)
-defined_alike listed rank name text append =
-    let new = redefined (ranks_at listed.texts name) rank text append in
-    let each : with_text (ranks_at listed.texts) rank name text append ≡ ranks_at ((name, new) ∷ listed.texts) = λ i n. one_more new n (bytes_eq n name) i in
+changed_alike : (listed : Listed) (name : List ℕ) (change : Ranks → Ranks) →
+    in_language listed.language (with_change (ranks_at listed.texts) name change) ≡ defined_by (changed_in listed name change)
+changed_alike listed name change =
+    let new = change (ranks_at listed.texts name) in
+    let each : with_change (ranks_at listed.texts) name change ≡ ranks_at ((name, new) ∷ listed.texts) = λ i n. one_more new n (bytes_eq n name) i in
     ap (in_language listed.language) each
   where
     one_more : (new : Ranks) (n : List ℕ) (t : Bool) → cond t new (ranks_at listed.texts n) ≡ unwrap_or (cond t (Some new) (lookup (bytes_eq n) listed.texts)) no_ranks
     one_more new n true = refl
     one_more new n false = refl
 
+abbrev defined_in : Listed → Rank → (name text : List ℕ) → (append : Bool) → Listed
+defined_in listed rank name text append = changed_in listed name (λ r. redefined listed.language r rank text append)
+
+defined_alike : (listed : Listed) (rank : Rank) (name text : List ℕ) (append : Bool) →
+    with_definition (defined_by listed) rank name text append ≡ defined_by (defined_in listed rank name text append)
+defined_alike listed rank name text append = changed_alike listed name (λ r. redefined listed.language r rank text append)
+
 item_listed : (given : Defined) (one : Item) → IsListed given → IsListed (with_item given one)
 item_listed given (item.Definition d) (listed, e) =
-    (defined_in listed Makefile d.name d.value d.append, ap (λ g. with_definition g Makefile d.name d.value d.append) e ∙ defined_alike listed Makefile d.name d.value d.append)
+    let next = defined_in listed Makefile d.name d.value d.append in
+    let is : with_definition given Makefile d.name d.value d.append ≡ defined_by next =
+    ap (λ g. with_definition g Makefile d.name d.value d.append) e ∙ defined_alike listed Makefile d.name d.value d.append in
+    (changed_in next d.name (λ r. record r { is_fixed = d.is_fixed }), ap (λ g. with_mark g d.name d.is_fixed) is ∙ changed_alike next d.name (λ r. record r { is_fixed = d.is_fixed }))
 item_listed given (item.Rule rule) is = is
 item_listed given (item.Special special) is = is
 

@@ -1,3 +1,4 @@
 pub mod BehindLemmas
+pub mod DoubledLemmas
 pub mod MakefileLemmas
 pub mod OutcomeLemmas

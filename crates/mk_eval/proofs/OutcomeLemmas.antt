@@ -1,29 +1,42 @@
 -- A text has one outcome.
-use Rattle.std.proofs.Common.{◌≡◌, ℕ, zero, suc, Bool, true, false, List, [], ◌∷◌, map, refl, sym, ap, subst, ◌∙◌, Option, Some, None, Result, Ok, Err, Vec}
+use Rattle.std.proofs.Common.{◌≡◌, ℕ, zero, suc, Bool, true, false, cond, ◌&&◌, bytes_eq, List, [], ◌∷◌, map, refl, sym, ap, subst, ◌∙◌, Option, Some, None, Result, Ok, Err, Vec}
 use Rattle.std.specs.declared.alloc.Global.{Global}
 use Rattle.std.specs.List.{list_any}
 use Rattle.byte_strings.specs.Blanks.{words}
 use Rattle.mk_profile.specs.Profile.{is_wide}
 use Rattle.mk_macros.specs.Expansion as expansion
 use Rattle.mk_macros.specs.Expansion.{gives, fails, ExpandsTo}
-use Rattle.mk_macros.specs.Ranks.{Defined, rule_meanings}
+use Rattle.mk_macros.specs.Ranks.{Ranks, Defined, redefined, with_definition, rule_meanings}
+use Rattle.mk_macros.specs.declared.definitions.Rank.TheVariants.{Makefile}
 use Rattle.mk_macros.specs.declared.dynamic.Dynamic.TheVariants.{RuleLine}
 use Rattle.mk_macros.proofs.OutcomeLemmas.{expands_once}
 use Rattle.mk_macros.proofs.SomeOutcomeLemmas.{outcome_some}
 use Rattle.mk_reader.specs.Text.{is_dollar}
 use Rattle.mk_reader.specs.Grammar.{refusal}
-use Rattle.mk_reader.specs.Printed.{PlainItem, ArePlain, printed, items_on}
+use Rattle.mk_reader.specs.Printed.{PlainItem, definition, rule, ArePlain, printed, next, after_recipe, items_on}
 use Rattle.mk_reader.specs.declared.fault.Cause.TheVariants.{IncludeDepth, IncludeMissing, Macro}
 use Rattle.mk_reader.specs.declared.fault.ReadFault.{ReadFault}
+use Rattle.mk_reader.specs.declared.item.Definition.{Definition}
+use Rattle.mk_reader.specs.declared.item.DefinitionKind.{DefinitionKind}
+use Rattle.mk_reader.specs.declared.item.DefinitionKind.TheVariants.{IfUndefined, AtOnce, AtOnceAlone}
 use Rattle.mk_reader.specs.declared.item.Item.{Item}
+use Rattle.mk_reader.specs.declared.item.Item.TheVariants as item
+use Rattle.mk_reader.specs.declared.item.Rule.{Rule}
+use Rattle.mk_reader.specs.declared.special.SpecialName.{SpecialName}
 use Rattle.mk_reader.specs.declared.item.IncludeLine.{IncludeLine}
 use Rattle.mk_reader.specs.declared.item.Statement.{Statement}
 use Rattle.mk_reader.specs.declared.item.Statement.TheVariants as statement
+use Rattle.mk_reader.specs.Statements.{item_of}
+use Rattle.mk_reader.proofs.ReferenceLemmas.{either}
 use Rattle.mk_reader.proofs.StatementLemmas as reading
 use Rattle.mk_reader.proofs.PrintedItemsLemmas.{printed_read}
-use Rattle.mk_eval.specs.Makefile.{Outcome, GivesItems, with_front, Then, InOrder, behind, NamesIn, LineNames, cause_of, NamedItems, StatementItems, FileItems, AnswersOf, missing_items, AnswerItems, IncludedItems, TextItems}
-use Rattle.mk_eval.proofs.BehindLemmas.{IsListed, behind_listed}
+use Rattle.mk_eval.specs.Makefile.{Outcome, GivesItems, with_front, Then, InOrder, behind, NamesIn, LineNames, cause_of, NamedItems, fixed_as, FixedItems, KindItems, DefinitionItems, appends_fixed, ItemItems, StatementItems, FileItems, NoneFixed, with_item, AnswersOf, missing_items, AnswerItems, IncludedItems, TextItems}
+use Rattle.mk_eval.proofs.BehindLemmas.{IsListed, behind_listed, behind_wide, behind_strict}
 use Rattle.mk_eval.proofs.MakefileLemmas.{items_passed_on}
+
+and_false : (t : Bool) → (t && false) ≡ false
+and_false true = refl
+and_false false = refl
 
 -- at most one outcome is of this kind
 abbrev pub IsOne : (Outcome → Type 0) → Type 0
@@ -57,8 +70,26 @@ named_one : (Included : Including) → AreOne Included → (file : List ℕ) (in
 named_one Included i file include given (gives names) one other a b = order_one behind (Included include) (i include) given (words names) one other a b
 named_one Included i file include given (fails fault) one other a b = a ∙ sym b
 
+fixed_one : (d : Definition) (is_fixed : Bool) (given : Defined) → IsOne (FixedItems d is_fixed given)
+fixed_one d is_fixed given one other (text, is, a) (also, was, b) = a ∙ ap (fixed_as d is_fixed) (expands_once (rule_meanings given) is was) ∙ sym b
+
+definition_one : (expanded : Bool) (d : Definition) (given : Defined) → IsOne (DefinitionItems expanded d given)
+definition_one false d given one other a b = a ∙ sym b
+definition_one true d given one other a b = fixed_one d true given one other a b
+
+item_one : (said : Item) (given : Defined) → IsOne (ItemItems said given)
+item_one (item.Definition d) given one other a b = definition_one (appends_fixed d given) d given one other a b
+item_one (item.Rule lines) given one other a b = a ∙ sym b
+item_one (item.Special special) given one other a b = a ∙ sym b
+
+kind_one : (kind : DefinitionKind) (d : Definition) (given : Defined) → IsOne (KindItems kind d given)
+kind_one IfUndefined d given one other a b = a ∙ sym b
+kind_one AtOnce d given one other a b = fixed_one d true given one other a b
+kind_one AtOnceAlone d given one other a b = fixed_one d false given one other a b
+
 statement_one : (Included : Including) → AreOne Included → (file : List ℕ) (given : Defined) (said : Statement) → IsOne (StatementItems Included file given said)
-statement_one Included i file given (statement.Item item) one other a b = a ∙ sym b
+statement_one Included i file given (statement.Item said) one other a b = item_one said given one other a b
+statement_one Included i file given (statement.Definition line) one other a b = kind_one line.kind line.definition given one other a b
 statement_one Included i file given (statement.Include include) one other (names, are, a) (also, were, b) =
     named_one Included i file include given also one other
     (subst (λ n. NamedItems (Included include) file include given n one) (names_one given include.names names also are were) a) b
@@ -110,20 +141,41 @@ module _ {W : Type 0} (after : W → List Item → W) (Fine : W → Type 0) (sta
 abbrev AreSome : Including → Type 0
 AreSome Included = (include : IncludeLine) (given : Defined) → IsListed given → (name : List ℕ) → Some_of (Included include given name)
 
+text_expands : (given : Defined) → IsListed given → (text : List ℕ) → (o : expansion.Outcome) × ExpandsTo (rule_meanings given) text o
+text_expands given (listed, e) text =
+    subst (λ g. (o : expansion.Outcome) × ExpandsTo (rule_meanings g) text o) (sym e) (outcome_some (is_wide listed.language) listed.texts RuleLine text)
+
 names_some : (given : Defined) → IsListed given → (text : List ℕ) → (names : expansion.Outcome) × LineNames given text names
-names_some given (listed, e) text = either_way (list_any is_dollar text)
+names_some given is text = either_way (list_any is_dollar text)
   where
     either_way : (refers : Bool) → (names : expansion.Outcome) × NamesIn refers given text names
-    either_way true =
-        subst (λ g. (names : expansion.Outcome) × ExpandsTo (rule_meanings g) text names) (sym e) (outcome_some (is_wide listed.language) listed.texts RuleLine text)
+    either_way true = text_expands given is text
     either_way false = (gives text, refl)
 
 named_some : (Included : Including) → AreSome Included → (file : List ℕ) (include : IncludeLine) (given : Defined) → IsListed given → (names : expansion.Outcome) → Some_of (NamedItems (Included include) file include given names)
 named_some Included i file include given is (gives names) = order_some behind IsListed behind_listed (Included include) (i include) given is (words names)
 named_some Included i file include given is (fails fault) = (Err (refusal file include.line (Macro (cause_of fault))), refl)
 
+fixed_some : (d : Definition) (is_fixed : Bool) (given : Defined) → IsListed given → Some_of (FixedItems d is_fixed given)
+fixed_some d is_fixed given is = let text = text_expands given is d.value in (fixed_as d is_fixed text.0, (text.0, text.1, refl))
+
+definition_some : (expanded : Bool) (d : Definition) (given : Defined) → IsListed given → Some_of (DefinitionItems expanded d given)
+definition_some false d given is = (_, refl)
+definition_some true d given is = fixed_some d true given is
+
+item_some : (said : Item) (given : Defined) → IsListed given → Some_of (ItemItems said given)
+item_some (item.Definition d) given is = definition_some (appends_fixed d given) d given is
+item_some (item.Rule lines) given is = (_, refl)
+item_some (item.Special special) given is = (_, refl)
+
+kind_some : (kind : DefinitionKind) (d : Definition) (given : Defined) → IsListed given → Some_of (KindItems kind d given)
+kind_some IfUndefined d given is = (_, refl)
+kind_some AtOnce d given is = fixed_some d true given is
+kind_some AtOnceAlone d given is = fixed_some d false given is
+
 statement_some : (Included : Including) → AreSome Included → (file : List ℕ) (given : Defined) → IsListed given → (said : Statement) → Some_of (StatementItems Included file given said)
-statement_some Included i file given is (statement.Item item) = (Ok (item ∷ []), refl)
+statement_some Included i file given is (statement.Item said) = item_some said given is
+statement_some Included i file given is (statement.Definition line) = kind_some line.kind line.definition given is
 statement_some Included i file given is (statement.Include include) =
     let names = names_some given is include.names in
     let whole = named_some Included i file include given is names.0 in
@@ -153,10 +205,63 @@ module _ (files : List ℕ → Option (List ℕ)) where
 
 -- Statements that are items give these.
 
-items_given : (Included : Including) (file : List ℕ) (given : Defined) (items : List Item) → InOrder behind (StatementItems Included file) given (map statement.Item items) (Ok items)
-items_given Included file given [] = refl
-items_given Included file given (item ∷ more) = (Ok (item ∷ []), refl, (Ok more, items_given Included file (behind given (item ∷ [])) more, refl))
+-- the item fixes no text
+abbrev IsLoose : Item → Type 0
+IsLoose (item.Definition d) = d.is_fixed ≡ false
+IsLoose (item.Rule lines) = Unit {0}
+IsLoose (item.Special special) = Unit {0}
 
-pub printed_given : (files : List ℕ → Option (List ℕ)) (levels : ℕ) (given : Defined) (file : List ℕ) (items : List PlainItem) → ArePlain given.language items → TextItems (AnswersOf files) levels given file (printed items) (Ok (items_on file 1 items))
-printed_given files levels given file items plain =
-    (map statement.Item (items_on file 1 items), printed_read given.language file items plain, items_given (IncludedItems (AnswersOf files) levels file) file given (items_on file 1 items))
+loose_item : (given : Defined) (one : Item) → IsLoose one → (name : List ℕ) → (given.ranks name).is_fixed ≡ false → ((with_item given one).ranks name).is_fixed ≡ false
+loose_item given (item.Rule lines) loose name h = h
+loose_item given (item.Special special) loose name h = h
+loose_item given (item.Definition d) loose name h = at (bytes_eq name d.name) refl
+  where
+    marked : Ranks → Ranks
+    marked r = record r { is_fixed = d.is_fixed }
+
+    later : Defined
+    later = with_definition given Makefile d.name d.value d.append
+
+    at : (t : Bool) → bytes_eq name d.name ≡ t → ((with_item given (item.Definition d)).ranks name).is_fixed ≡ false
+    at true e = ap (λ t. (cond t (marked (later.ranks d.name)) (later.ranks name)).is_fixed) e ∙ loose
+    at false e =
+        ap (λ t. (cond t (marked (later.ranks d.name)) (later.ranks name)).is_fixed) e
+        ∙ ap (λ t. (cond t (redefined given.language (given.ranks d.name) Makefile d.value d.append) (given.ranks name)).is_fixed) e ∙ h
+
+none_behind : (given : Defined) (one : Item) → IsLoose one → NoneFixed given → NoneFixed (behind given (one ∷ []))
+none_behind given one loose h =
+    either _ (is_wide given.language)
+    (λ wide. subst NoneFixed (sym (behind_wide given (one ∷ []) wide))
+    (λ name. ap (λ t. is_wide (with_item given one).language && t) (loose_item given one loose name (ap (λ w. w && (given.ranks name).is_fixed) (sym wide) ∙ h name)) ∙ and_false (is_wide (with_item given one).language)))
+    (λ strict. subst NoneFixed (sym (behind_strict given (one ∷ []) strict)) h)
+
+item_given : (Included : Including) (file : List ℕ) (given : Defined) → NoneFixed given → (one : Item) → StatementItems Included file given (statement.Item one) (Ok (one ∷ []))
+item_given Included file given h (item.Definition d) =
+    subst (λ t. DefinitionItems t d given (Ok (item.Definition d ∷ []))) (sym (ap (λ t. d.append && t) (h d.name) ∙ and_false d.append)) refl
+item_given Included file given h (item.Rule lines) = refl
+item_given Included file given h (item.Special special) = refl
+
+abbrev AreLoose : List Item → Type 0
+AreLoose [] = Unit {0}
+AreLoose (one ∷ more) = IsLoose one × AreLoose more
+
+items_given : (Included : Including) (file : List ℕ) (given : Defined) (items : List Item) → AreLoose items → NoneFixed given → InOrder behind (StatementItems Included file) given (map statement.Item items) (Ok items)
+items_given Included file given [] loose h = refl
+items_given Included file given (one ∷ more) (here, later) h =
+    (Ok (one ∷ []), item_given Included file given h one, (Ok more, items_given Included file (behind given (one ∷ [])) more later (none_behind given one here h), refl))
+
+rule_loose : (special : Option SpecialName) (lines : Rule) → IsLoose (item_of special lines)
+rule_loose None lines = tt
+rule_loose (Some name) lines = tt
+
+plain_loose : (file : List ℕ) (number : ℕ) (items : List PlainItem) → AreLoose (items_on file number items)
+plain_loose file number [] = tt
+plain_loose file number (definition name append value ∷ more) = (refl, plain_loose file (next number) more)
+plain_loose file number (rule special targets prerequisites recipe ∷ more) = (rule_loose special _, plain_loose file (after_recipe (next number) recipe) more)
+
+pub printed_given : (files : List ℕ → Option (List ℕ)) (levels : ℕ) (given : Defined) (file : List ℕ) (items : List PlainItem) → NoneFixed given → ArePlain given.language items → TextItems (AnswersOf files) levels given file (printed items) (Ok (items_on file 1 items))
+printed_given files levels given file items none plain = (
+  map statement.Item (items_on file 1 items),
+  printed_read given.language file items plain,
+  items_given (IncludedItems (AnswersOf files) levels file) file given (items_on file 1 items) (plain_loose file 1 items) none,
+)

@@ -1,18 +1,21 @@
 -- The items of a text, or its first fault in the order of reading; included files are read in place.
-use Rattle.std.specs.Prelude.{◌≡◌, ℕ, zero, suc, Bool, true, false, List, [], ◌∷◌, ◌++◌, Option, Some, None, Result, Ok, Err, Vec, if◌then◌else◌}
+use Rattle.std.specs.Prelude.{◌≡◌, ℕ, zero, suc, Bool, true, false, ◌&&◌, flat_map, List, [], ◌∷◌, ◌++◌, Option, Some, None, is_some, Result, Ok, Err, Vec, if◌then◌else◌}
 use Rattle.std.specs.declared.alloc.Global.{Global}
 use Rattle.std.specs.List.{list_any}
 use Rattle.byte_strings.specs.Blanks.{words}
 use Rattle.mk_profile.specs.Profile.{is_wide}
 use Rattle.mk_macros.specs.Expansion as expansion
 use Rattle.mk_macros.specs.Expansion.{gives, fails, ExpandsTo}
-use Rattle.mk_macros.specs.Ranks.{Defined, with_definition, rule_meanings}
+use Rattle.mk_macros.specs.Ranks.{Defined, in_force, with_definition, with_mark, rule_meanings}
 use Rattle.mk_macros.specs.declared.definitions.Rank.TheVariants.{Makefile}
 use Rattle.mk_macros.specs.declared.fault.MacroFault.{MacroFault}
 use Rattle.mk_macros.specs.declared.fault.MacroFault.TheVariants as macro_fault
 use Rattle.mk_reader.specs.Text.{is_dollar}
 use Rattle.mk_reader.specs.Grammar.{refusal}
 use Rattle.mk_reader.specs.Statements.{AreStatements}
+use Rattle.mk_reader.specs.declared.item.Definition.{Definition}
+use Rattle.mk_reader.specs.declared.item.DefinitionKind.{DefinitionKind}
+use Rattle.mk_reader.specs.declared.item.DefinitionKind.TheVariants.{IfUndefined, AtOnce, AtOnceAlone}
 use Rattle.mk_reader.specs.declared.item.Item.{Item}
 use Rattle.mk_reader.specs.declared.item.Item.TheVariants as item
 use Rattle.mk_reader.specs.declared.item.IncludeLine.{IncludeLine}
@@ -35,6 +38,12 @@ GivesItems (Ok v) Is = Is (Ok v.items)
 GivesItems (Err OutOfMemory) Is = Unit {0}
 GivesItems (Err (Refused r)) Is = Is (Err r)
 
+-- the same of one item
+abbrev pub GivesItem : Result Item ReadFault → (Outcome → Type 0) → Type 0
+GivesItem (Ok one) Is = Is (Ok (one ∷ []))
+GivesItem (Err OutOfMemory) Is = Unit {0}
+GivesItem (Err (Refused r)) Is = Is (Err r)
+
 -- items, and then what the rest gives: its items, or its fault
 abbrev pub with_front : List Item → Outcome → Outcome
 with_front front (Ok items) = Ok (front ++ items)
@@ -53,7 +62,7 @@ InOrder after One world (thing ∷ more) outcome =
 
 -- what is defined behind an item, and behind items
 abbrev pub with_item : Defined → Item → Defined
-with_item given (item.Definition d) = with_definition given Makefile d.name d.value d.append
+with_item given (item.Definition d) = with_mark (with_definition given Makefile d.name d.value d.append) d.name d.is_fixed
 with_item given (item.Rule rule) = given
 with_item given (item.Special special) = given
 
@@ -86,9 +95,52 @@ abbrev pub NamedItems : (Defined → List ℕ → Outcome → Type 0) → (file 
 NamedItems Included file include given (gives names) outcome = InOrder behind Included given (words names) outcome
 NamedItems Included file include given (fails fault) outcome = outcome ≡ Err (refusal file include.line (Macro (cause_of fault)))
 
+-- the text with each `$` doubled, which expands to it
+abbrev pub doubled_byte : ℕ → List ℕ
+doubled_byte b = if is_dollar b then 36 ∷ b ∷ [] else b ∷ []
+
+abbrev pub doubled : List ℕ → List ℕ
+doubled text = flat_map doubled_byte text
+
+-- the definition with the text that its own came to, which is not expanded again, or the fault
+abbrev pub fixed_as : Definition → (is_fixed : Bool) → expansion.Outcome → Outcome
+fixed_as d is_fixed (gives text) = Ok (item.Definition (record d { value = doubled text; is_fixed = is_fixed }) ∷ [])
+fixed_as d is_fixed (fails fault) = Err (refusal d.file d.line (Macro (cause_of fault)))
+
+-- what a definition gives whose text is expanded with what is defined above it
+abbrev pub FixedItems : Definition → (is_fixed : Bool) → Defined → Outcome → Type 0
+FixedItems d is_fixed given outcome = (text : expansion.Outcome) × ExpandsTo (rule_meanings given) d.value text × (outcome ≡ fixed_as d is_fixed text)
+
+-- what a definition gives that counts by what stands above it (POSIX make, "Macros"): `?=` gives it where its name has no text at
+-- any rank; `::=` and `:=` with its text expanded, as are texts that are appended to it; `:::=` with its text expanded alone
+abbrev pub KindItems : DefinitionKind → Definition → Defined → Outcome → Type 0
+KindItems IfUndefined d given outcome = outcome ≡ Ok (if is_some (in_force (given.ranks d.name)) then [] else item.Definition d ∷ [])
+KindItems AtOnce d given outcome = FixedItems d true given outcome
+KindItems AtOnceAlone d given outcome = FixedItems d false given outcome
+
+-- what is appended to a fixed text is expanded where it stands (POSIX make, `+=`)
+abbrev pub DefinitionItems : (expanded : Bool) → Definition → Defined → Outcome → Type 0
+DefinitionItems false d given outcome = outcome ≡ Ok (item.Definition d ∷ [])
+DefinitionItems true d given outcome = FixedItems d true given outcome
+
+-- the definition appends to a fixed text, which the wide profile alone has
+abbrev pub appends_fixed : Definition → Defined → Bool
+appends_fixed d given = d.append && (is_wide given.language && (given.ranks d.name).is_fixed)
+
+-- no name's text is fixed, as it is before a makefile is read
+abbrev pub NoneFixed : Defined → Type 0
+NoneFixed given = (name : List ℕ) → (is_wide given.language && (given.ranks name).is_fixed) ≡ false
+
+-- what an item gives
+abbrev pub ItemItems : Item → Defined → Outcome → Type 0
+ItemItems (item.Definition d) given outcome = DefinitionItems (appends_fixed d given) d given outcome
+ItemItems (item.Rule rule) given outcome = outcome ≡ Ok (item.Rule rule ∷ [])
+ItemItems (item.Special special) given outcome = outcome ≡ Ok (item.Special special ∷ [])
+
 -- what a statement of the file gives; Included says it of a name on an include line
 abbrev pub StatementItems : (IncludeLine → Defined → List ℕ → Outcome → Type 0) → (file : List ℕ) → Defined → Statement → Outcome → Type 0
-StatementItems Included file given (statement.Item one) outcome = outcome ≡ Ok (one ∷ [])
+StatementItems Included file given (statement.Item one) outcome = ItemItems one given outcome
+StatementItems Included file given (statement.Definition line) outcome = KindItems line.kind line.definition given outcome
 StatementItems Included file given (statement.Include include) outcome =
     (names : expansion.Outcome) × LineNames given include.names names × NamedItems (Included include) file include given names outcome
 StatementItems Included file given (statement.Refused refused) outcome = outcome ≡ Err refused

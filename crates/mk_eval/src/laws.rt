@@ -1,11 +1,12 @@
 //! Laws of the definitions that `read_makefile` meets. The functions do nothing: what they ensure is the law.
-ghost use Rattle.std.specs.Prelude.{◌≡◌, ℕ, List, Option, Result, Ok, Vec};
+ghost use Rattle.std.specs.Prelude.{◌≡◌, ◌≤◌, ℕ, length, List, Option, Result, Ok, Vec};
 ghost use Rattle.std.specs.declared.alloc.Global.{Global};
+ghost use Rattle.mk_macros.specs.Expansion.{Meanings, gives, limit, ExpandsTo};
 ghost use Rattle.mk_macros.specs.Ranks.{Defined, Listed, defined_by};
 ghost use Rattle.mk_reader.specs.Printed.{PlainItem, ArePlain, printed, items_on};
 ghost use Rattle.mk_reader.specs.declared.fault.ReadFault.{ReadFault};
 ghost use Rattle.mk_reader.specs.declared.item.Item.{Item};
-ghost use Rattle.mk_eval.specs.Makefile.{Outcome, GivesItems, AnswersOf, TextItems};
+ghost use Rattle.mk_eval.specs.Makefile.{Outcome, GivesItems, AnswersOf, NoneFixed, doubled, TextItems};
 
 /// With the files' contents, and what is defined before it is read, a text has at most one outcome in its language.
 pub fn one_outcome()
@@ -21,6 +22,11 @@ pub fn an_outcome()
         → (outcome : Outcome) × TextItems (AnswersOf files) levels (defined_by listed) file text outcome }
 {}
 
+/// A text that isn't expanded again is one whose dollars are doubled: whatever names stand for, it expands to what it came to.
+pub fn doubled_texts_expand_to_themselves()
+    ensures { (names : Meanings) (text : List ℕ) → length text ≤ limit → ExpandsTo names (doubled text) (gives text) }
+{}
+
 /// What `read_makefile` says that it answers is that one outcome, unless memory ran out.
 pub fn the_outcome_is_given()
     ensures { (files : List ℕ → Option (List ℕ)) (levels : ℕ) (given : Defined) (file text : List ℕ)
@@ -31,9 +37,9 @@ pub fn the_outcome_is_given()
 {}
 
 /// A makefile that is printed from items that are plain in its language is read back as these, whatever other files hold
-/// and is defined.
+/// and is defined, where no text is fixed.
 pub fn printed_items_are_read_back()
     ensures { (files : List ℕ → Option (List ℕ)) (levels : ℕ) (given : Defined) (file : List ℕ) (items : List PlainItem)
-        → ArePlain given.language items
+        → NoneFixed given → ArePlain given.language items
         → TextItems (AnswersOf files) levels given file (printed items) (Ok (items_on file 1 items)) }
 {}

@@ -2,6 +2,7 @@
 //! `read_makefile` is the one call; `laws` says in which sense its definition is right.
 #![tactic(auto)]
 
+mod definition;
 mod includes;
 pub mod laws;
 mod makefile;

@@ -7,8 +7,9 @@ ghost use Rattle.mk_reader.specs.declared.fault.Cause.TheVariants.{IncludeMissin
 ghost use Rattle.mk_reader.specs.declared.item.Statement.TheVariants as statement;
 ghost use Rattle.mk_eval.specs.Makefile.{depth, behind, AnswersOf, GivesItems, InOrder, StatementItems, IncludedItems, TextItems, missing_items};
 
+use crate::definition::{evaluate_definition, evaluate_item};
 use crate::includes::Includes;
-use crate::names::{follow, names_on};
+use crate::names::names_on;
 use crate::refuse::refuse;
 use byte_strings::{ByteString, next_word};
 use mk_macros::Macros;
@@ -75,8 +76,12 @@ fn evaluate_all<I: Includes>(
     for statement in statements {
         match statement {
             Statement::Item(item) => {
-                follow(alloc, macros, &item)?;
-                items.push(item)?;
+                let mut given = evaluate_item(alloc, item, macros)?;
+                items.append(&mut given)?;
+            }
+            Statement::Definition(line) => {
+                let mut defined = evaluate_definition(alloc, line, macros)?;
+                items.append(&mut defined)?;
             }
             Statement::Include(include) => {
                 let mut included = evaluate_line(alloc, levels, file, &include, macros, includes)?;

@@ -48,7 +48,8 @@ pub fn follow(alloc: Global, macros: &mut Macros, item: &Item) -> Result<(), All
     if let Item::Definition(definition) = item {
         let name = definition.name.as_slice();
         let value = definition.value.as_slice();
-        return macros.define(alloc, Rank::Makefile, name, value, definition.append);
+        macros.define(alloc, Rank::Makefile, name, value, definition.append)?;
+        return macros.mark(alloc, name, definition.is_fixed);
     }
     Ok(())
 }

@@ -5,5 +5,7 @@ pub mod NameLemmas
 pub mod CycleLemmas
 pub mod RowLemmas
 pub mod PlanLemmas
+pub mod ReadyLemmas
 pub mod WholeLemmas
 pub mod EdgeLemmas
+pub mod UserLemmas

@@ -217,13 +217,13 @@ or_true false = refl
 
 -- one more user counted down
 module _ (us ms old : List ℕ) (i : ℕ) (within : i < length us) (one : 1 ≤ get_or ms (get_or us i 0) 0) (place : get_or us i 0 < length ms) where
-  pub counted_more : ((q : ℕ) → slice_index ms q + times q (take i us) ≡ slice_index old q)
-      → (q : ℕ) → slice_index (set ms (get_or us i 0) (get_or ms (get_or us i 0) 0 - 1)) q + times q (take (i + 1) us) ≡ slice_index old q
-  counted_more so_far q = ⊎_elim same other (cases_eq q (get_or us i 0))
+  pub counted_at : (q : ℕ) → slice_index ms q + times q (take i us) ≡ slice_index old q
+      → slice_index (set ms (get_or us i 0) (get_or ms (get_or us i 0) 0 - 1)) q + times q (take (i + 1) us) ≡ slice_index old q
+  counted_at q so_far = ⊎_elim same other (cases_eq q (get_or us i 0))
     where
       same : q ≡ get_or us i 0 → slice_index (set ms (get_or us i 0) (get_or ms (get_or us i 0) 0 - 1)) q + times q (take (i + 1) us) ≡ slice_index old q
       same e =
-          let b = so_far q in
+          let b = so_far in
           let t : times q (take (i + 1) us) ≡ times q (take i us) + 1 = times-more q us i within ∙ rw (eq-eqb q (get_or us i 0) e) refl in
           let r : slice_index (set ms (get_or us i 0) (get_or ms (get_or us i 0) 0 - 1)) q ≡ get_or ms (get_or us i 0) 0 - 1
           = ap (slice_index (set ms (get_or us i 0) (get_or ms (get_or us i 0) 0 - 1))) e ∙ get_or-set_same ms (get_or us i 0) (get_or ms (get_or us i 0) 0 - 1) 0 place in
@@ -232,24 +232,31 @@ module _ (us ms old : List ℕ) (i : ℕ) (within : i < length us) (one : 1 ≤ 
 
       other : q ≢ get_or us i 0 → slice_index (set ms (get_or us i 0) (get_or ms (get_or us i 0) 0 - 1)) q + times q (take (i + 1) us) ≡ slice_index old q
       other apart =
-          let b = so_far q in
+          let b = so_far in
           let t : times q (take (i + 1) us) ≡ times q (take i us) = times-more q us i within ∙ rw (ne_eqb q (get_or us i 0) apart) (omega arith) in
           let r : slice_index (set ms (get_or us i 0) (get_or ms (get_or us i 0) 0 - 1)) q ≡ slice_index ms q = get_or-set_other ms (get_or us i 0) q (get_or ms (get_or us i 0) 0 - 1) 0 apart in
           omega arith
 
-  pub noted_more : (start before after : ℕ → Bool) → ((q : ℕ) → before q ≡ (start q || (has (take i us) q && nat_eq (slice_index ms q) 0)))
-      → ((q : ℕ) → after q ≡ (before q || (nat_eq q (get_or us i 0) && nat_eq (get_or ms (get_or us i 0) 0 - 1) 0)))
-      → (q : ℕ) → after q ≡ (start q || (has (take (i + 1) us) q && nat_eq (slice_index (set ms (get_or us i 0) (get_or ms (get_or us i 0) 0 - 1)) q) 0))
-  noted_more start before after so_far now q = ⊎_elim same other (cases_eq q (get_or us i 0))
+  pub counted_more : ((q : ℕ) → slice_index ms q + times q (take i us) ≡ slice_index old q)
+      → (q : ℕ) → slice_index (set ms (get_or us i 0) (get_or ms (get_or us i 0) 0 - 1)) q + times q (take (i + 1) us) ≡ slice_index old q
+  counted_more so_far q = counted_at q (so_far q)
+
+  pub noted_more : (within_of start before after : ℕ → Bool)
+      → ((q : ℕ) → before q ≡ (start q || (within_of q && (has (take i us) q && nat_eq (slice_index ms q) 0))))
+      → ((q : ℕ) → after q ≡ (before q || (within_of q && (nat_eq q (get_or us i 0) && nat_eq (get_or ms (get_or us i 0) 0 - 1) 0))))
+      → (q : ℕ) → after q ≡ (start q || (within_of q && (has (take (i + 1) us) q && nat_eq (slice_index (set ms (get_or us i 0) (get_or ms (get_or us i 0) 0 - 1)) q) 0)))
+  noted_more within_of start before after so_far now q = ⊎_elim same other (cases_eq q (get_or us i 0))
     where
-      same : q ≡ get_or us i 0 → after q ≡ (start q || (has (take (i + 1) us) q && nat_eq (slice_index (set ms (get_or us i 0) (get_or ms (get_or us i 0) 0 - 1)) q) 0))
+      same : q ≡ get_or us i 0 → after q ≡ (start q || (within_of q && (has (take (i + 1) us) q && nat_eq (slice_index (set ms (get_or us i 0) (get_or ms (get_or us i 0) 0 - 1)) q) 0)))
       same e =
           let r : slice_index (set ms (get_or us i 0) (get_or ms (get_or us i 0) 0 - 1)) q ≡ get_or ms (get_or us i 0) 0 - 1
           = ap (slice_index (set ms (get_or us i 0) (get_or ms (get_or us i 0) 0 - 1))) e ∙ get_or-set_same ms (get_or us i 0) (get_or ms (get_or us i 0) 0 - 1) 0 place in
           let some : nat_eq (slice_index ms q) 0 ≡ false = ne_eqb (slice_index ms q) 0 (λ z. let m = ap (slice_index ms) e in absurd (omega arith)) in
-          now q ∙ rw (so_far q, some, and_false (has (take i us) q), or_false (start q), has-more us i q within, eq-eqb q (get_or us i 0) e, or_true (has (take i us) q), r) refl
+          now q
+          ∙ rw (so_far q, some, and_false (has (take i us) q), and_false (within_of q), or_false (start q), has-more us i q within, eq-eqb q (get_or us i 0) e, or_true (has (take i us) q), r) refl
 
-      other : q ≢ get_or us i 0 → after q ≡ (start q || (has (take (i + 1) us) q && nat_eq (slice_index (set ms (get_or us i 0) (get_or ms (get_or us i 0) 0 - 1)) q) 0))
+      other : q ≢ get_or us i 0 → after q ≡ (start q || (within_of q && (has (take (i + 1) us) q && nat_eq (slice_index (set ms (get_or us i 0) (get_or ms (get_or us i 0) 0 - 1)) q) 0)))
       other apart =
           let r : slice_index (set ms (get_or us i 0) (get_or ms (get_or us i 0) 0 - 1)) q ≡ slice_index ms q = get_or-set_other ms (get_or us i 0) q (get_or ms (get_or us i 0) 0 - 1) 0 apart in
-          now q ∙ rw (ne_eqb q (get_or us i 0) apart, or_false (before q), so_far q, has-more us i q within, ne_eqb q (get_or us i 0) apart, or_false (has (take i us) q), r) refl
+          now q
+          ∙ rw (ne_eqb q (get_or us i 0) apart, and_false (within_of q), or_false (before q), so_far q, has-more us i q within, ne_eqb q (get_or us i 0) apart, or_false (has (take i us) q), r) refl

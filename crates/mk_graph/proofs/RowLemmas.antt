@@ -96,36 +96,6 @@ times-row_more g i m n h = ⊎_elim same other (cases_eq n i)
         (cases_lt n i) in
         ap (times m) at ∙ rw (ne_eqb n i apart) (omega arith)
 
--- one more prerequisite noted: us are the users so far, base those at the start
-module _ (base us : List (List ℕ)) (node : ℕ) (ps : List ℕ) (i : ℕ) (within : i < length ps)
-    (noted : (m : ℕ) → m < length base → row us m ≡ row base m ++ replicate (times m (take i ps)) node) where
-  noted_apart : (us' : List (List ℕ)) (m : ℕ) → m < length base → m ≢ get_or ps i 0 → row us' m ≡ row us m
-      → row us' m ≡ row base m ++ replicate (times m (take (i + 1) ps)) node
-  noted_apart us' m below apart same =
-      let t : times m (take (i + 1) ps) ≡ times m (take i ps) = times-more m ps i within ∙ rw (ne_eqb m (get_or ps i 0) apart) (omega arith) in
-      same ∙ noted m below ∙ ap (λ k. row base m ++ replicate k node) (sym t)
-
-  pub noted_in : length us ≡ length base → get_or ps i 0 < length us → (m : ℕ) → m < length base
-      → row (set us (get_or ps i 0) (row us (get_or ps i 0) ++ node ∷ [])) m ≡ row base m ++ replicate (times m (take (i + 1) ps)) node
-  noted_in nodes place m below = ⊎_elim same other (cases_eq m (get_or ps i 0))
-    where
-      same : m ≡ get_or ps i 0 → row (set us (get_or ps i 0) (row us (get_or ps i 0) ++ node ∷ [])) m ≡ row base m ++ replicate (times m (take (i + 1) ps)) node
-      same e =
-          let t : times m (take (i + 1) ps) ≡ times m (take i ps) + 1 = times-more m ps i within ∙ rw (eq-eqb m (get_or ps i 0) e) refl in
-          ap (row (set us (get_or ps i 0) (row us (get_or ps i 0) ++ node ∷ []))) e
-          ∙ get_or-set_same us (get_or ps i 0) (row us (get_or ps i 0) ++ node ∷ []) [] place ∙ ap (λ k. row us k ++ node ∷ []) (sym e)
-          ∙ ap (λ l. l ++ node ∷ []) (noted m below)
-          ∙ append_assoc (row base m) (replicate (times m (take i ps)) node) (node ∷ [])
-          ∙ ap (λ l. row base m ++ l) (replicate-append-replicate (times m (take i ps)) 1 node ∙ ap (λ k. replicate k node) (sym t))
-
-      other : m ≢ get_or ps i 0 → row (set us (get_or ps i 0) (row us (get_or ps i 0) ++ node ∷ [])) m ≡ row base m ++ replicate (times m (take (i + 1) ps)) node
-      other apart =
-          noted_apart (set us (get_or ps i 0) (row us (get_or ps i 0) ++ node ∷ [])) m below apart
-          (get_or-set_other us (get_or ps i 0) m (row us (get_or ps i 0) ++ node ∷ []) [] apart)
-
-  pub noted_past : length base ≤ get_or ps i 0 → (m : ℕ) → m < length base → row us m ≡ row base m ++ replicate (times m (take (i + 1) ps)) node
-  noted_past past m below = noted_apart us m below (λ e. absurd (omega arith)) refl
-
 -- a node at the end of a row, so often
 times_noted : (n : ℕ) (xs : List ℕ) (k node : ℕ) → times n (xs ++ replicate k node) ≡ times n xs + cond (nat_eq n node) k 0
 times_noted n xs k node =
@@ -150,11 +120,6 @@ list_all_weaker p q then (x ∷ xs) all =
 list_all_replicate : (p : ℕ → Bool) (k node : ℕ) → p node ≡ true → list_all p (replicate k node) ≡ true
 list_all_replicate p zero node h = refl
 list_all_replicate p (suc k) node h = rw (h, list_all_replicate p k node h) refl
-
-pub row_replicate : (k m : ℕ) → row (replicate k []) m ≡ []
-row_replicate zero m = refl
-row_replicate (suc k) zero = refl
-row_replicate (suc k) (suc m) = row_replicate k m
 
 -- what is kept of a row while nodes are noted in their order
 pub record Rises (limit : ℕ) (xs : List ℕ) : Type 0 where
@@ -186,16 +151,16 @@ rises_more node k xs before = record {
       (list_all_weaker (λ n. nat_lt n node) (λ n. nat_le n node) (λ n h. let lt = ltb-true n node h in le-leb n node (omega arith)) xs before.below) before.ascending;
 }
 
--- one more node noted in the rows of its prerequisites
-module _ (g us us' : List (List ℕ)) (node : ℕ) (within : node < length g) (m : ℕ)
-    (noted : row us' m ≡ row us m ++ replicate (times m (row g node)) node) where
-  pub counts_more : (n : ℕ) → times n (row us m) ≡ times m (row (take node g) n) → times n (row us' m) ≡ times m (row (take (node + 1) g) n)
+-- one more node noted in the row of a prerequisite
+module _ (g : List (List ℕ)) (before after : List ℕ) (node : ℕ) (within : node < length g) (m : ℕ)
+    (noted : after ≡ before ++ replicate (times m (row g node)) node) where
+  pub counts_more : (n : ℕ) → times n before ≡ times m (row (take node g) n) → times n after ≡ times m (row (take (node + 1) g) n)
   counts_more n so_far =
-      ap (times n) noted ∙ times_noted n (row us m) (times m (row g node)) node
+      ap (times n) noted ∙ times_noted n before (times m (row g node)) node
       ∙ ap (λ k. k + cond (nat_eq n node) (times m (row g node)) 0) so_far ∙ sym (times-row_more g node m n within)
 
-  pub rises_in_row : Rises node (row us m) → Rises (node + 1) (row us' m)
-  rises_in_row so_far = subst (Rises (node + 1)) (sym noted) (rises_more node (times m (row g node)) (row us m) so_far)
+  pub rises_in_row : Rises node before → Rises (node + 1) after
+  rises_in_row so_far = subst (Rises (node + 1)) (sym noted) (rises_more node (times m (row g node)) before so_far)
 
 -- rows within a graph rise, and past its end there are none
 pub ascending_everywhere : (us : List (List ℕ)) (nodes limit : ℕ) → length us ≡ nodes → ((m : ℕ) → m < nodes → Rises limit (row us m)) → (m : ℕ) → IsNonDecreasing (row us m)

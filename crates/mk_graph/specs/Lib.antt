@@ -5,5 +5,7 @@ pub mod Numbering
 pub mod NumberingFault
 pub mod Order
 pub mod Plan
+pub mod Ready
 pub mod Ring
+pub mod Users
 pub mod Waits

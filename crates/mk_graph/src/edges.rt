@@ -1,9 +1,10 @@
 //! A graph: the prerequisites of each node.
 
-ghost use Rattle.std.specs.Prelude.{◌≡◌, ℕ, ◌<◌, ◌≤◌, [], ◌∷◌, ◌++◌, length, map, replicate, slice_index, IfOk, OnOk, OnErr, nat_lt};
-ghost use Rattle.mk_graph.specs.Edges.{row, times, is_closed, AreUsers};
+ghost use Rattle.std.specs.Prelude.{◌≡◌, ◌<◌, ◌≤◌, [], ◌∷◌, ◌++◌, length, map, slice_index, IfOk, OnOk, OnErr, nat_lt};
+ghost use Rattle.mk_graph.specs.Edges.{row, is_closed, AreUsers};
 ghost use Rattle.std.specs.List.{list_all};
 
+use crate::users::{counted, ends_of, note_user};
 use std::alloc::{AllocError, Global};
 use std::marker::Model;
 
@@ -32,35 +33,6 @@ fn start_of(ends: &[usize], node: usize) -> usize
     ensures { result ≡ slice_index (0 ∷ ends.now) node }
 {
     if node == 0 { 0 } else { ends[node - 1] }
-}
-
-fn empty_rows(alloc: Global, nodes: usize) -> Result<Vec<Vec<usize>>, AllocError>
-    ensures { IfOk result (λ rows. map (λ r. r.items) rows.items ≡ replicate nodes []) }
-{
-    let mut rows = Vec::with_capacity(alloc, nodes)?;
-    for _ in 0..nodes {
-        rows.push(Vec::new(alloc))?;
-    }
-    Ok(rows)
-}
-
-/// Notes a node at the end of the row of each of its prerequisites, as often as it names it.
-fn note_user(
-    users: &mut Vec<Vec<usize>>,
-    node: usize,
-    prerequisites: &[usize],
-) -> Result<(), AllocError>
-    ensures nodes { OnOk result (length users.new.items ≡ length users.old.items) }
-    ensures rows { OnOk result ((m : ℕ) → m < length users.old.items → row (map (λ r. r.items) users.new.items) m
-        ≡ row (map (λ r. r.items) users.old.items) m ++ replicate (times m prerequisites.now) node) }
-{
-    for prerequisite in prerequisites {
-        if *prerequisite < users.len() {
-            let row = &mut users[*prerequisite];
-            row.push(node)?;
-        }
-    }
-    Ok(())
 }
 
 fn all_below(numbers: &[usize], limit: usize) -> bool
@@ -141,11 +113,16 @@ impl Edges {
     pub fn reversed(&self, alloc: Global) -> Result<Edges, AllocError>
         ensures { IfOk result (AreUsers self.now) }
     {
-        let mut users = empty_rows(alloc, self.len())?;
+        let mut left = counted(alloc, &self.numbers, self.len())?;
+        let ends = ends_of(alloc, &left)?;
+        let mut users = Vec::from_elem(alloc, 0, start_of(&ends, ends.len()))?;
         for node in 0..self.len() {
-            note_user(&mut users, node, self.row(node))?;
+            note_user(node, self.row(node), &ends, &mut left, &mut users);
         }
-        Edges::of_rows(alloc, &users)
+        Ok(Edges {
+            numbers: users,
+            ends,
+        })
     }
 
     /// The same rows.

@@ -8,6 +8,7 @@ mod edges;
 mod names;
 mod numbering;
 mod planning;
+mod users;
 mod waiting;
 
 pub use counting::{Counted, count_edges};

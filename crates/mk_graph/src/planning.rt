@@ -1,11 +1,12 @@
 //! The order in which nodes are passed.
 
-ghost use Rattle.std.specs.Prelude.{◌≡◌, ℕ, ◌+◌, ◌<◌, ◌≤◌, ◌||◌, ◌&&◌, [], true, length, map, IfOk, OnOk, nat_eq, nat_lt, slice_index};
+ghost use Rattle.std.specs.Prelude.{◌≡◌, ℕ, ◌+◌, ◌<◌, ◌≤◌, ◌||◌, ◌&&◌, [], true, false, not, length, map, IfOk, IfSome, IfNone, OnOk, nat_eq, nat_lt, slice_index};
 ghost use Rattle.std.specs.List.{IsDistinct, list_all};
 ghost use Rattle.std.specs.Ordering.{nat_cmp};
 ghost use Rattle.std.specs.BTreeSet.{contains};
 ghost use Rattle.mk_graph.specs.Edges.{row, has, times};
 ghost use Rattle.mk_graph.specs.Plan.{IsPlan, OnePlan, WholePlan};
+ghost use Rattle.mk_graph.specs.Ready.{is_open, are_ready, IsBelow};
 
 use crate::edges::Edges;
 use std::alloc::{AllocError, Global};
@@ -22,34 +23,58 @@ fn counts(alloc: Global, edges: &Edges) -> Result<Vec<usize>, AllocError>
     Ok(missing)
 }
 
-/// The nodes that lack nothing.
-fn without_missing(alloc: Global, missing: &[usize]) -> Result<BTreeSet<usize>, AllocError>
-    ensures { IfOk result (λ ready. (q : ℕ) → contains nat_cmp ready q
-        ≡ (nat_lt q (length missing.now) && nat_eq (slice_index missing.now q) 0)) }
+/// The least node from a number on that lacks nothing.
+fn first_open(missing: &[usize], from: usize) -> Option<usize>
+    ensures some { IfSome result (λ n. is_open missing.now from n ≡ true) }
+    ensures least { IfSome result (λ n. (m : ℕ) → m < n → is_open missing.now from m ≡ false) }
+    ensures none { IfNone result ((q : ℕ) → is_open missing.now from q ≡ false) }
 {
-    let mut ready = BTreeSet::new(alloc);
-    for (node, count) in missing.iter().enumerate() {
-        if *count == 0 {
-            ready.insert(node)?;
+    for node in from..missing.len() {
+        if missing[node] == 0 {
+            return Some(node);
         }
     }
-    Ok(ready)
+    None
 }
 
-/// Counts down what each user lacks, and notes those that lack nothing more.
+/// Takes out the least of the nodes that are ready: those below `from` stand in a set, and of the others each that lacks
+/// nothing is one. So the set stays small where most nodes lack nothing at the start.
+fn next_ready(ready: &mut BTreeSet<usize>, from: &mut usize, missing: &[usize]) -> Option<usize>
+    requires below { IsBelow ready.old from.old }
+    ensures below { IsBelow ready.new from.new }
+    ensures some { IfSome result (λ n. are_ready ready.old from.old missing.now n ≡ true) }
+    ensures least { IfSome result (λ n. (m : ℕ) → m < n → are_ready ready.old from.old missing.now m ≡ false) }
+    ensures others { IfSome result (λ n. (q : ℕ) → are_ready ready.new from.new missing.now q
+        ≡ (are_ready ready.old from.old missing.now q && not (nat_eq q n))) }
+    ensures none { IfNone result ((q : ℕ) → are_ready ready.old from.old missing.now q ≡ false) }
+{
+    if let Some(node) = ready.pop_first() {
+        return Some(node);
+    }
+    match first_open(missing, *from) {
+        Some(node) => {
+            *from = node + 1;
+            Some(node)
+        }
+        None => None,
+    }
+}
+
+/// Counts down what each user lacks, and notes those below `from` that lack nothing more.
 fn count_down(
     users: &[usize],
+    from: usize,
     missing: &mut [usize],
     ready: &mut BTreeSet<usize>,
 ) -> Result<(), AllocError>
     requires { (q : ℕ) → times q users.now ≤ slice_index missing.old q }
     ensures missing { OnOk result ((q : ℕ) → slice_index missing.new q + times q users.now ≡ slice_index missing.old q) }
     ensures ready { OnOk result ((q : ℕ) → contains nat_cmp ready.new q
-        ≡ (contains nat_cmp ready.old q || (has users.now q && nat_eq (slice_index missing.new q) 0))) }
+        ≡ (contains nat_cmp ready.old q || (nat_lt q from && (has users.now q && nat_eq (slice_index missing.new q) 0)))) }
 {
     for user in users {
         missing[*user] -= 1;
-        if missing[*user] == 0 {
+        if missing[*user] == 0 && *user < from {
             ready.insert(*user)?;
         }
     }
@@ -65,11 +90,12 @@ pub fn plan(alloc: Global, edges: &Edges) -> Result<Vec<usize>, AllocError>
 {
     let users = edges.reversed(alloc)?;
     let mut missing = counts(alloc, edges)?;
-    let mut ready = without_missing(alloc, &missing)?;
+    let mut ready = BTreeSet::new(alloc);
+    let mut from = 0;
     let mut order = Vec::with_capacity(alloc, edges.len())?;
-    while let Some(node) = ready.pop_first() {
+    while let Some(node) = next_ready(&mut ready, &mut from, &missing) {
         order.push(node)?;
-        count_down(users.row(node), &mut missing, &mut ready)?;
+        count_down(users.row(node), from, &mut missing, &mut ready)?;
     }
     Ok(order)
 }

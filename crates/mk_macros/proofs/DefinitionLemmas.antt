@@ -6,7 +6,7 @@ use Rattle.std.specs.Map.{lookup, lookup_key, set_value}
 use Rattle.std.specs.Cmp.Lexicographic.{pointwise}
 use Rattle.std.proofs.lemmas.Slice.Eq.{bytes_eq-Decides}
 use Rattle.indexmap.specs.IndexMap.{insert_entry}
-use Rattle.mk_macros.specs.Ranks.{Ranks, no_ranks, ranks_at, redefined, with_text, Defined, with_definition}
+use Rattle.mk_macros.specs.Ranks.{Ranks, no_ranks, ranks_at, redefined, with_change, Defined, with_definition, with_mark}
 use Rattle.mk_profile.specs.declared.profile.Profile.{Profile}
 use Rattle.mk_macros.specs.declared.definitions.Rank.{Rank}
 
@@ -83,20 +83,30 @@ module _ {K D : Type 0} (bytes_of : K → List ℕ) (ranks : D → Ranks) where
   shown_at (e ∷ es) name = shown_at_entry e es name (is_named bytes_of name e.0) refl (shown_at es name)
 
   module _ (old new : List (K × D)) (name : List ℕ) (others : (n : List ℕ) → n ≢ name → found_at new n ≡ found_at old n) where
-    defined_at : (rank : Rank) (text : List ℕ) (append : Bool) → found_at new name ≡ redefined (found_at old name) rank text append →
-        (n : List ℕ) (t : Bool) → bytes_eq n name ≡ t → ranks_at (shown new) n ≡ cond t (redefined (ranks_at (shown old) name) rank text append) (ranks_at (shown old) n)
-    defined_at rank text append at n true e =
+    changed_at : (change : Ranks → Ranks) → found_at new name ≡ change (found_at old name) →
+        (n : List ℕ) (t : Bool) → bytes_eq n name ≡ t → ranks_at (shown new) n ≡ cond t (change (ranks_at (shown old) name)) (ranks_at (shown old) n)
+    changed_at change at n true e =
         let same : n ≡ name = (bytes_eq-Decides n name).0 e in
         rw (same, shown_at new name, shown_at old name) at
-    defined_at rank text append at n false e =
+    changed_at change at n false e =
         rw (shown_at new n, shown_at old n) (others n (λ same. absurd (false≢true (sym e ∙ (bytes_eq-Decides n name).1 same))))
 
-    -- a definition, for all names at once
-    pub defines : (profile : Profile) (rank : Rank) (text : List ℕ) (append : Bool) → found_at new name ≡ redefined (found_at old name) rank text append →
-        in_language profile (ranks_at (shown new)) ≡ with_definition (in_language profile (ranks_at (shown old))) rank name text append
-    defines profile rank text append at =
-        let each : ranks_at (shown new) ≡ with_text (ranks_at (shown old)) rank name text append = λ i n. defined_at rank text append at n (bytes_eq n name) refl i in
+    -- a change of one name, for all names at once
+    pub changes : (profile : Profile) (change : Ranks → Ranks) → found_at new name ≡ change (found_at old name) →
+        in_language profile (ranks_at (shown new)) ≡ in_language profile (with_change (ranks_at (shown old)) name change)
+    changes profile change at =
+        let each : ranks_at (shown new) ≡ with_change (ranks_at (shown old)) name change = λ i n. changed_at change at n (bytes_eq n name) refl i in
         ap (in_language profile) each
+
+    -- a definition
+    pub defines : (profile : Profile) (rank : Rank) (text : List ℕ) (append : Bool) → found_at new name ≡ redefined profile (found_at old name) rank text append →
+        in_language profile (ranks_at (shown new)) ≡ with_definition (in_language profile (ranks_at (shown old))) rank name text append
+    defines profile rank text append at = changes profile (λ r. redefined profile r rank text append) at
+
+    -- whether the makefile's text is fixed
+    pub marks : (profile : Profile) (is_fixed : Bool) → found_at new name ≡ record (found_at old name) { is_fixed = is_fixed } →
+        in_language profile (ranks_at (shown new)) ≡ with_mark (in_language profile (ranks_at (shown old))) name is_fixed
+    marks profile is_fixed at = changes profile (λ r. record r { is_fixed = is_fixed }) at
 
     kept_at : found_at new name ≡ found_at old name → (n : List ℕ) (t : Bool) → bytes_eq n name ≡ t → ranks_at (shown new) n ≡ ranks_at (shown old) n
     kept_at at n true e = let same : n ≡ name = (bytes_eq-Decides n name).0 e in rw (same, shown_at new name, shown_at old name) at

@@ -2,6 +2,7 @@
 use Rattle.std.specs.Prelude.{ℕ, Bool, true, false, List, [], ◌∷◌, ◌++◌, Option, Some, None, unwrap_or, bytes_eq, if◌then◌else◌}
 use Rattle.std.specs.Map.{lookup}
 use Rattle.mk_macros.specs.Dynamic.{dynamic_value}
+use Rattle.mk_profile.specs.Profile.{is_wide}
 use Rattle.mk_profile.specs.declared.profile.Profile.{Profile}
 use Rattle.mk_macros.specs.Expansion.{Meaning, Meanings, undefined, dynamic, defined}
 use Rattle.mk_macros.specs.declared.definitions.Rank.{Rank}
@@ -9,16 +10,18 @@ use Rattle.mk_macros.specs.declared.definitions.Rank.TheVariants.{CommandLine, M
 use Rattle.mk_macros.specs.declared.dynamic.Dynamic.{Dynamic}
 use Rattle.mk_macros.specs.declared.dynamic.Dynamic.TheVariants.{RuleLine}
 
--- the text of a name at each rank that has one
+-- the text of a name at each rank that has one, and whether the makefile's is fixed: what a line appends to it is then
+-- expanded where it stands (POSIX make, `::=`)
 pub record Ranks : Type 0 where
   pub command_line : Option (List ℕ)
   pub makefile : Option (List ℕ)
   pub environment : Option (List ℕ)
   pub tool : Option (List ℕ)
+  pub is_fixed : Bool
 
 -- nothing is defined
 abbrev pub no_ranks : Ranks
-no_ranks = record { command_line = None; makefile = None; environment = None; tool = None }
+no_ranks = record { command_line = None; makefile = None; environment = None; tool = None; is_fixed = false }
 
 -- the first text that there is
 abbrev pub or_else : Option (List ℕ) → Option (List ℕ) → Option (List ℕ)
@@ -37,13 +40,18 @@ with_rank r Makefile text = record r { makefile = Some text }
 with_rank r Environment text = record r { environment = Some text }
 with_rank r Tool text = record r { tool = Some text }
 
+-- the tool's own text, where a makefile may append to it: in the wide profile (POSIX make, "Macros": built-in macros are
+-- defined before the makefile is read)
+abbrev pub tool_base : Profile → Ranks → Option (List ℕ)
+tool_base language r = if is_wide language then r.tool else None
+
 -- what an appending definition at this rank adds to: in a makefile also what the environment has, where no makefile
 -- defined the name before
-abbrev pub base_of : Ranks → Rank → Option (List ℕ)
-base_of r CommandLine = r.command_line
-base_of r Makefile = or_else r.makefile r.environment
-base_of r Environment = r.environment
-base_of r Tool = r.tool
+abbrev pub base_of : (language : Profile) → Ranks → Rank → Option (List ℕ)
+base_of language r CommandLine = r.command_line
+base_of language r Makefile = or_else r.makefile (or_else r.environment (tool_base language r))
+base_of language r Environment = r.environment
+base_of language r Tool = r.tool
 
 -- a text behind another and a space; behind nothing it stands alone
 -- (make(1S), appending definitions; that nothing takes no space is our own)
@@ -53,9 +61,9 @@ appended (Some []) text = text
 appended (Some (b ∷ bs)) text = b ∷ (bs ++ 32 ∷ text)
 
 -- what is defined after one more definition
-abbrev pub redefined : Ranks → Rank → (text : List ℕ) → (append : Bool) → Ranks
-redefined r rank text false = with_rank r rank text
-redefined r rank text true = with_rank r rank (appended (base_of r rank) text)
+abbrev pub redefined : (language : Profile) → Ranks → Rank → (text : List ℕ) → (append : Bool) → Ranks
+redefined language r rank text false = with_rank r rank text
+redefined language r rank text true = with_rank r rank (appended (base_of language r rank) text)
 
 -- what a name with these values stands for
 abbrev pub meaning_from : (dynamic_value : Option (List ℕ)) (text : Option (List ℕ)) → Meaning
@@ -67,9 +75,13 @@ meaning_from None None = undefined
 abbrev pub ranks_at : List (List ℕ × Ranks) → (name : List ℕ) → Ranks
 ranks_at definitions name = unwrap_or (lookup (bytes_eq name) definitions) no_ranks
 
+-- what each name has once that of one name has changed
+abbrev pub with_change : (List ℕ → Ranks) → (name : List ℕ) → (Ranks → Ranks) → List ℕ → Ranks
+with_change ranks name change n = if bytes_eq n name then change (ranks name) else ranks n
+
 -- what each name has after one more definition
-abbrev pub with_text : (List ℕ → Ranks) → Rank → (name text : List ℕ) → (append : Bool) → List ℕ → Ranks
-with_text ranks rank name text append n = if bytes_eq n name then redefined (ranks name) rank text append else ranks n
+abbrev pub with_text : (language : Profile) → (List ℕ → Ranks) → Rank → (name text : List ℕ) → (append : Bool) → List ℕ → Ranks
+with_text language ranks rank name text append = with_change ranks name (λ r. redefined language r rank text append)
 
 -- what is defined: the language of the texts, and what each name has
 pub record Defined : Type 0 where
@@ -91,7 +103,11 @@ defined_by listed = record { language = listed.language; ranks = ranks_at listed
 
 -- what is defined after one more definition, in the same language
 abbrev pub with_definition : Defined → Rank → (name text : List ℕ) → (append : Bool) → Defined
-with_definition before rank name text append = record before { ranks = with_text before.ranks rank name text append }
+with_definition before rank name text append = record before { ranks = with_text before.language before.ranks rank name text append }
+
+-- what is defined once the makefile's text of a name is fixed, or isn't
+abbrev pub with_mark : Defined → (name : List ℕ) → (is_fixed : Bool) → Defined
+with_mark before name is_fixed = record before { ranks = with_change before.ranks name (λ r. record r { is_fixed = is_fixed }) }
 
 -- what a name stands for in a line: dynamic macros hide definitions
 abbrev pub meaning_of : (List ℕ → Ranks) → Dynamic → (name : List ℕ) → Meaning

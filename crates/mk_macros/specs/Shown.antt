@@ -58,6 +58,7 @@ ranks_of d = record {
   makefile = option_map (λ v. v.items) d.makefile;
   environment = option_map (λ v. v.items) d.environment;
   tool = option_map (λ v. v.items) d.tool;
+  is_fixed = d.is_fixed;
 }
 
 -- a name and its texts

@@ -1,6 +1,7 @@
 // What is defined for each name, by rank.
-ghost use Rattle.std.specs.Prelude.{◌≡◌, ◌≢◌, ℕ, List, [], None, Some, OnOk, OnErr, IfOk, IfSome, option_map, option_copied};
-ghost use Rattle.mk_macros.specs.Ranks.{defined_by, none_listed, no_ranks, in_force, with_rank, base_of, appended, redefined, with_definition, or_else};
+ghost use Rattle.std.specs.Prelude.{◌≡◌, ◌≢◌, ℕ, List, [], None, Some, OnOk, OnErr, IfOk, IfSome, is_some, option_map, option_copied, if◌then◌else◌};
+ghost use Rattle.mk_profile.specs.Profile.{is_wide};
+ghost use Rattle.mk_macros.specs.Ranks.{defined_by, none_listed, no_ranks, in_force, with_rank, base_of, appended, redefined, with_definition, with_mark, or_else};
 ghost use Rattle.mk_macros.specs.Shown.{ranks_of, texts_at};
 
 use indexmap::IndexMap;
@@ -25,6 +26,8 @@ pub(crate) struct Definition {
     makefile: Option<Vec<u8>>,
     environment: Option<Vec<u8>>,
     tool: Option<Vec<u8>>,
+    /// Whether what a line appends to the makefile's text is expanded where it stands.
+    is_fixed: bool,
 }
 
 fn text_of(text: &Option<Vec<u8>>) -> Option<&[u8]>
@@ -59,6 +62,7 @@ impl Definition {
             makefile: None,
             environment: None,
             tool: None,
+            is_fixed: false,
         }
     }
 
@@ -111,17 +115,41 @@ fn append_rank(
     Ok(())
 }
 
+/// What a makefile's appending definition adds to where no makefile has defined the name before.
+fn inherited<'a>(
+    profile: Profile,
+    environment: &'a Option<Vec<u8>>,
+    tool: &'a Option<Vec<u8>>,
+) -> Option<&'a [u8]>
+    ensures { option_copied result
+        ≡ or_else
+        (option_map (λ v. v.items) environment.now)
+        (if is_wide profile then option_map (λ v. v.items) tool.now else None) }
+{
+    if environment.is_some() || !profile.is_wide() {
+        return text_of(environment);
+    }
+    text_of(tool)
+}
+
 impl Definition {
-    fn append(&mut self, alloc: Global, rank: Rank, value: &[u8]) -> Result<(), AllocError>
+    fn append(
+        &mut self,
+        alloc: Global,
+        profile: Profile,
+        rank: Rank,
+        value: &[u8],
+    ) -> Result<(), AllocError>
         ensures ok { OnOk result
             (ranks_of self.new
-            ≡ with_rank (ranks_of self.old) rank (appended (base_of (ranks_of self.old) rank) value.now)) }
+            ≡ with_rank (ranks_of self.old) rank (appended (base_of profile (ranks_of self.old) rank) value.now)) }
         ensures err { OnErr result (ranks_of self.new ≡ ranks_of self.old) }
     {
         match rank {
             Rank::CommandLine => append_rank(alloc, &mut self.command_line, None, value),
             Rank::Makefile => {
-                append_rank(alloc, &mut self.makefile, text_of(&self.environment), value)
+                let inherited = inherited(profile, &self.environment, &self.tool);
+                append_rank(alloc, &mut self.makefile, inherited, value)
             }
             Rank::Environment => append_rank(alloc, &mut self.environment, None, value),
             Rank::Tool => append_rank(alloc, &mut self.tool, None, value),
@@ -131,15 +159,16 @@ impl Definition {
     fn define(
         &mut self,
         alloc: Global,
+        profile: Profile,
         rank: Rank,
         value: &[u8],
         append: bool,
     ) -> Result<(), AllocError>
-        ensures ok { OnOk result (ranks_of self.new ≡ redefined (ranks_of self.old) rank value.now append) }
+        ensures ok { OnOk result (ranks_of self.new ≡ redefined profile (ranks_of self.old) rank value.now append) }
         ensures err { OnErr result (ranks_of self.new ≡ ranks_of self.old) }
     {
         if append {
-            return self.append(alloc, rank, value);
+            return self.append(alloc, profile, rank, value);
         }
         let text = Vec::from_slice(alloc, value)?;
         self.put(rank, text);
@@ -151,21 +180,44 @@ impl Definition {
 fn define_in(
     definitions: &mut IndexMap<Vec<u8>, Definition>,
     alloc: Global,
+    profile: Profile,
     rank: Rank,
     name: &[u8],
     value: &[u8],
     append: bool,
 ) -> Result<(), AllocError>
     ensures ok { OnOk result
-        (texts_at definitions.new name.now ≡ redefined (texts_at definitions.old name.now) rank value.now append) }
+        (texts_at definitions.new name.now ≡ redefined profile (texts_at definitions.old name.now) rank value.now append) }
     ensures others { (n : List ℕ) → n ≢ name.now → texts_at definitions.new n ≡ texts_at definitions.old n }
     ensures err { OnErr result (texts_at definitions.new name.now ≡ texts_at definitions.old name.now) }
 {
     if let Some(definition) = definitions.get_mut(name) {
-        return definition.define(alloc, rank, value, append);
+        return definition.define(alloc, profile, rank, value, append);
     }
     let mut definition = Definition::new();
-    definition.define(alloc, rank, value, append)?;
+    definition.define(alloc, profile, rank, value, append)?;
+    definitions.insert(Vec::from_slice(alloc, name)?, definition)?;
+    Ok(())
+}
+
+/// Says of a name in the map whether its text is fixed. At an error each name has what it had.
+fn mark_in(
+    definitions: &mut IndexMap<Vec<u8>, Definition>,
+    alloc: Global,
+    name: &[u8],
+    is_fixed: bool,
+) -> Result<(), AllocError>
+    ensures ok { OnOk result
+        (texts_at definitions.new name.now ≡ record (texts_at definitions.old name.now) { is_fixed = is_fixed }) }
+    ensures others { (n : List ℕ) → n ≢ name.now → texts_at definitions.new n ≡ texts_at definitions.old n }
+    ensures err { OnErr result (texts_at definitions.new name.now ≡ texts_at definitions.old name.now) }
+{
+    if let Some(definition) = definitions.get_mut(name) {
+        definition.is_fixed = is_fixed;
+        return Ok(());
+    }
+    let mut definition = Definition::new();
+    definition.is_fixed = is_fixed;
     definitions.insert(Vec::from_slice(alloc, name)?, definition)?;
     Ok(())
 }
@@ -179,6 +231,15 @@ fn definition_in<'a>(
 {
     let (key, definition) = definitions.get_key_value(name)?;
     Some((key.as_slice(), definition.text()?))
+}
+
+fn is_fixed_in(definitions: &IndexMap<Vec<u8>, Definition>, name: &[u8]) -> bool
+    ensures { result ≡ (texts_at definitions.now name.now).is_fixed }
+{
+    match definitions.get(name) {
+        Some(definition) => definition.is_fixed,
+        None => false,
+    }
 }
 
 /// The definitions that texts are expanded with, and the language of the texts. Contracts see each name with its text at each
@@ -220,7 +281,7 @@ impl Macros {
 
     /// Defines a name at a rank, in place of what the rank had for it, or at its end where `append` is set. Only
     /// makefiles append: an appending definition there adds to what the environment has, where no makefile has
-    /// defined the name before.
+    /// defined the name before, and in the wide profile, where that has nothing either, to the tool's own.
     ///
     /// Where memory is refused, every name has what it had.
     pub fn define(
@@ -235,7 +296,40 @@ impl Macros {
             (defined_by self.new ≡ with_definition (defined_by self.old) rank name.now value.now append) }
         ensures err { OnErr result (defined_by self.new ≡ defined_by self.old) }
     {
-        define_in(&mut self.definitions, alloc, rank, name, value, append)
+        let profile = self.profile;
+        define_in(
+            &mut self.definitions,
+            alloc,
+            profile,
+            rank,
+            name,
+            value,
+            append,
+        )
+    }
+
+    /// Says of a name whether what a line of the makefile appends to its text is expanded where it stands.
+    ///
+    /// Where memory is refused, every name has what it had.
+    pub fn mark(&mut self, alloc: Global, name: &[u8], is_fixed: bool) -> Result<(), AllocError>
+        ensures ok { OnOk result (defined_by self.new ≡ with_mark (defined_by self.old) name.now is_fixed) }
+        ensures err { OnErr result (defined_by self.new ≡ defined_by self.old) }
+    {
+        mark_in(&mut self.definitions, alloc, name, is_fixed)
+    }
+
+    /// Whether what is appended to a name's text is expanded where it stands.
+    pub fn is_fixed(&self, name: &[u8]) -> bool
+        ensures { result ≡ ((defined_by self.now).ranks name.now).is_fixed }
+    {
+        is_fixed_in(&self.definitions, name)
+    }
+
+    /// Whether a name has a text, at any rank.
+    pub fn is_defined(&self, name: &[u8]) -> bool
+        ensures { result ≡ is_some (in_force ((defined_by self.now).ranks name.now)) }
+    {
+        self.definition(name).is_some()
     }
 
     /// The text in force for a name, behind the name as it is kept here.

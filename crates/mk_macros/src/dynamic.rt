@@ -1,23 +1,27 @@
-// The dynamic macros of a recipe line: `$@`, `$<`, `$*`, `$?`, and their D and F parts.
+// The dynamic macros of a recipe line: `$@`, `$<`, `$*`, `$?`, `$^`, `$+`, and their D and F parts.
 ghost use Rattle.std.specs.Prelude.{◌≡◌, ◌≤◌, ◌<◌, [], ◌∷◌, ◌++◌, length, map, option_map, IfOk, IfErr, IfSome};
 ghost use Rattle.std.specs.List.{join_with_byte};
 ghost use Rattle.mk_macros.specs.Words.{changed_words};
 ghost use Rattle.mk_macros.specs.Shown.{shown_change};
-ghost use Rattle.mk_macros.specs.Dynamic.{whole_value, part_value, recipe_value, dynamic_value};
+ghost use Rattle.mk_macros.specs.Dynamic.{words_in, whole_value, part_value, recipe_value, dynamic_value};
 ghost use Rattle.mk_macros.specs.Expansion.{limit, IsTooLongAt, IsLongValue};
 
 use crate::fault::{MAX_EXPANSION_BYTES, MacroFault};
 use crate::substitution::{WordChange, append_changed_words};
 use std::alloc::{AllocError, Global};
 
-/// What a recipe's dynamic macros stand for. An explicit recipe has no source and no stem: both are empty.
+/// What a recipe's dynamic macros stand for.
 #[derive(Clone, Copy)]
 pub struct RecipeNames<'a> {
     pub target: &'a [u8],
+    /// The value of `$<`, and that of `$*`: empty where there is none.
     pub source: &'a [u8],
     pub stem: &'a [u8],
     /// The words of `$?`.
     pub newer: &'a [&'a [u8]],
+    /// The words of `$^`, and those of `$+`; None where it is no dynamic macro.
+    pub once: Option<&'a [&'a [u8]]>,
+    pub repeated: Option<&'a [&'a [u8]]>,
 }
 
 /// The line whose text is expanded.
@@ -42,6 +46,16 @@ fn joined(alloc: Global, words: &[&[u8]]) -> Result<Vec<u8>, AllocError>
     Ok(text)
 }
 
+/// The same of words that there may be.
+fn joined_in(alloc: Global, words: Option<&[&[u8]]>) -> Result<Option<Vec<u8>>, AllocError>
+    ensures { IfOk result (λ found. option_map (λ v. v.items) found ≡ option_map (join_with_byte 32) (words_in words.entry)) }
+{
+    match words {
+        Some(words) => Ok(Some(joined(alloc, words)?)),
+        None => Ok(None),
+    }
+}
+
 impl<'a> RecipeNames<'a> {
     fn whole_value(&self, alloc: Global, sign: u8) -> Result<Option<Vec<u8>>, AllocError>
         ensures { IfOk result (λ found. option_map (λ v. v.items) found ≡ whole_value self.now sign) }
@@ -51,6 +65,8 @@ impl<'a> RecipeNames<'a> {
             b'<' => Ok(Some(Vec::from_slice(alloc, self.source)?)),
             b'*' => Ok(Some(Vec::from_slice(alloc, self.stem)?)),
             b'?' => Ok(Some(joined(alloc, self.newer)?)),
+            b'^' => joined_in(alloc, self.once),
+            b'+' => joined_in(alloc, self.repeated),
             _ => Ok(None),
         }
     }

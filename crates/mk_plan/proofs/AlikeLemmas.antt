@@ -1,13 +1,13 @@
 -- Graphs that say the same of each number pass their nodes in the same way.
 use mathlib.Core.Path.{fun_ext}
-use Rattle.std.specs.Prelude.{IsTrue, codes, encode_utf8_all}
+use Rattle.std.specs.Prelude.{IsTrue, ◌&&◌, if◌then◌else◌, codes, encode_utf8_all}
 use Rattle.std.specs.List.{Any}
 use Rattle.std.specs.Option.{option_map_or}
 use Rattle.std.proofs.Common.{◌≡◌, ◌∙◌, ◌⊎◌, ℕ, ℤ, Bool, true, false, not, List, [], ◌∷◌, ◌++◌, map, Option, Some, None, refl, sym, ap, subst}
 use Rattle.bstr.specs.Utf8.{lossy_chars}
 use Rattle.mk_graph.specs.Edges.{row}
 use Rattle.mk_graph.specs.Numbering.{all_added, name_at}
-use Rattle.mk_macros.specs.Ranks.{defined_by, meanings_of}
+use Rattle.mk_macros.specs.Ranks.{Defined, defined_by, meanings_of}
 use Rattle.mk_macros.specs.declared.dynamic.Dynamic.TheVariants as dynamic
 use Rattle.mk_macros.specs.declared.dynamic.RecipeNames.{RecipeNames}
 use Rattle.mk_reader.specs.declared.item.RecipeLine.{RecipeLine}
@@ -15,14 +15,21 @@ use Rattle.mk_recipe.specs.declared.line.Line.{Line}
 use Rattle.mk_verdict.specs.Verdict.{IsLater, IsFirstReason, IsOutOfDate}
 use Rattle.mk_verdict.specs.declared.verdict.Reason.{Reason}
 use Rattle.mk_verdict.specs.declared.verdict.Target.{Target}
+use Rattle.mk_profile.specs.Profile.{is_wide}
+use Rattle.mk_profile.specs.declared.profile.Profile.{Profile}
+use Rattle.mk_rule_lines.specs.Explicit.{explicit_of as explicit_names}
+use Rattle.mk_rule_lines.specs.Rules.{suffixes_of}
+use Rattle.mk_rule_lines.specs.declared.rule_line.RuleLine.{RuleLine}
 use Rattle.mk_rules.specs.Prerequisites.{distinct, hidden_in}
 use Rattle.mk_rules.specs.declared.graph.Graph.{Graph}
 use Rattle.st_records.specs.declared.record.Entry.{Entry}
+use Rattle.mk_plan.specs.ExplicitWords.{language_of, once_of, first_of, is_implicit, recipe_names, source_word, stem_left, stem_word}
 use Rattle.mk_plan.specs.Nodes.{stamp_of, entry_of, hidden_of, stem_of, source_of, explicit_of, recipe_of, is_marked, IsNewer, AreNewer, nothing, named, left_out, EndsRemade}
 use Rattle.mk_plan.specs.Recipe.{AreExpanded, AreNames, AreLinesOf}
 use Rattle.mk_plan.specs.Target.{Seen, seen_at, seen_hard, seen_of, IsTargetOf}
 use Rattle.mk_plan.specs.Passage.{Passage, to_make, finished, commands_of}
 use Rattle.mk_plan.specs.Passing.{Passes, is_to_be_run, is_up_to_date, has_no_recipe, is_left}
+use Rattle.mk_plan.specs.Words.{in_wide, source_names, written_of}
 use Rattle.mk_plan.specs.Why.{IsWhy, judged_names, words_by, gone_number}
 use Rattle.mk_plan.specs.declared.why.Why.{Why}
 
@@ -36,7 +43,11 @@ pub record AreAlike (a b : Graph) : Type 0 where
   pub stem : (n : ℕ) → stem_of a n ≡ stem_of b n
   pub source : (n : ℕ) → source_of a n ≡ source_of b n
   pub explicit : (n : ℕ) → explicit_of a n ≡ explicit_of b n
+  pub sources : (n : ℕ) → source_names a n ≡ source_names b n
+  pub implicit : (n : ℕ) → is_implicit a n ≡ is_implicit b n
   pub recipe : (n : ℕ) → recipe_of a n ≡ recipe_of b n
+  pub beside : (n : ℕ) → recipe_names a n ≡ recipe_names b n
+  pub lines : a.lines.items ≡ b.lines.items
   pub dropped : a.soft_dropped ≡ b.soft_dropped
   pub defined : defined_by a.macros ≡ defined_by b.macros
 
@@ -50,7 +61,11 @@ turned a b same = record {
   stem = λ n. sym (same.stem n);
   source = λ n. sym (same.source n);
   explicit = λ n. sym (same.explicit n);
+  sources = λ n. sym (same.sources n);
+  implicit = λ n. sym (same.implicit n);
   recipe = λ n. sym (same.recipe n);
+  beside = λ n. sym (same.beside n);
+  lines = sym same.lines;
   dropped = sym same.dropped;
   defined = sym same.defined;
 }
@@ -83,12 +98,49 @@ ends_in a b same marks n ends =
 -- ---- lines and targets
 
 module _ (a b : Graph) (same : AreAlike a b) (marks : List Bool) (n : ℕ) where
+  once_in : once_of a n ≡ once_of b n
+  once_in = ap (λ ns. map (name_at ns) (row a.hard n)) same.names ∙ ap (λ h. map (name_at b.names) (row h n)) same.hard
+
+  written_in : written_of a n ≡ written_of b n
+  written_in =
+      ap (λ s. s ++ explicit_names a.lines.items (name_at a.names n)) (same.sources n)
+      ∙ ap (λ lines. source_names b n ++ explicit_names lines (name_at a.names n)) same.lines
+      ∙ ap (λ ns. source_names b n ++ explicit_names b.lines.items (name_at ns n)) same.names
+
+  wide_in : {A : Type 0} (v w : A) → v ≡ w → in_wide (language_of a) v ≡ in_wide (language_of b) w
+  wide_in v w e = ap (λ (d : Defined). in_wide d.language v) same.defined ∙ ap (in_wide (language_of b)) e
+
+  -- what `$<` and `$*` stand for is the same choice of the same values
+  abbrev source_from : Profile → (implicit : Bool) (beside once : List (List ℕ)) (source : List ℕ) → List ℕ
+  source_from profile implicit beside once source = if is_wide profile && not implicit then first_of (beside ++ once) else source
+
+  source_alike : source_word a n ≡ source_word b n
+  source_alike =
+      ap (λ (d : Defined). source_from d.language (is_implicit a n) (recipe_names a n) (once_of a n) (source_of a n)) same.defined
+      ∙ ap (λ i. source_from (language_of b) i (recipe_names a n) (once_of a n) (source_of a n)) (same.implicit n)
+      ∙ ap (λ ns. source_from (language_of b) (is_implicit b n) ns (once_of a n) (source_of a n)) (same.beside n)
+      ∙ ap (λ ns. source_from (language_of b) (is_implicit b n) (recipe_names b n) ns (source_of a n)) once_in
+      ∙ ap (source_from (language_of b) (is_implicit b n) (recipe_names b n) (once_of b n)) (same.source n)
+
+  abbrev stem_from : Profile → (implicit : Bool) (lines : List RuleLine) (name stem : List ℕ) → List ℕ
+  stem_from profile implicit lines name stem = if is_wide profile && not implicit then stem_left (suffixes_of lines) name else stem
+
+  stem_alike : stem_word a n ≡ stem_word b n
+  stem_alike =
+      ap (λ (d : Defined). stem_from d.language (is_implicit a n) a.lines.items (name_at a.names n) (stem_of a n)) same.defined
+      ∙ ap (λ i. stem_from (language_of b) i a.lines.items (name_at a.names n) (stem_of a n)) (same.implicit n)
+      ∙ ap (λ lines. stem_from (language_of b) (is_implicit b n) lines (name_at a.names n) (stem_of a n)) same.lines
+      ∙ ap (λ ns. stem_from (language_of b) (is_implicit b n) b.lines.items (name_at ns n) (stem_of a n)) same.names
+      ∙ ap (stem_from (language_of b) (is_implicit b n) b.lines.items (name_at b.names n)) (same.stem n)
+
   names_in : (names : RecipeNames) → AreNames a marks n names → AreNames b marks n names
   names_in names are = record {
     target = are.target ∙ ap (λ ns. name_at ns n) same.names;
-    source = are.source ∙ same.source n;
-    stem = are.stem ∙ same.stem n;
+    source = are.source ∙ source_alike;
+    stem = are.stem ∙ stem_alike;
     newer = subst (λ h. AreNewer b marks n (row h n) (map (λ word. word.now) names.newer.now)) same.hard (words_in a b same marks n _ _ are.newer);
+    once = are.once ∙ wide_in (once_of a n) (once_of b n) once_in;
+    repeated = are.repeated ∙ wide_in (written_of a n) (written_of b n) written_in;
   }
 
   lines_in : (recipe : List RecipeLine) (lines : List Line) → AreLinesOf a marks n recipe lines → AreLinesOf b marks n recipe lines

@@ -6,3 +6,5 @@ pub mod SameLemmas
 pub mod AlikeLemmas
 pub mod OneNodeLemmas
 pub mod TellingLemmas
+pub mod ExplicitWordLemmas
+pub mod WordLemmas

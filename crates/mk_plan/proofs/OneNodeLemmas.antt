@@ -1,9 +1,9 @@
 -- By the same inputs and goals two graphs say the same of each number.
-use Rattle.std.specs.Prelude.{slice_get, option_map, option_and_then, unwrap_or}
+use Rattle.std.specs.Prelude.{slice_get, option_map, is_some, option_and_then, option_to_list, unwrap_or}
 use Rattle.std.specs.List.{list_all}
 use Rattle.std.specs.Option.{option_map_or}
 use Rattle.std.specs.FinMap as finmap
-use Rattle.std.proofs.Common.{◌≡◌, ◌∙◌, ◌<◌, ◌≤◌, ℕ, true, ◌&&◌, nat_lt, List, [], ◌∷◌, ◌++◌, length, map, drop, Option, Some, None, inl, inr, refl, sym, ap, subst, ⊎_elim, arith}
+use Rattle.std.proofs.Common.{◌≡◌, ◌∙◌, ◌<◌, ◌≤◌, ℕ, true, false, ◌&&◌, nat_lt, List, [], ◌∷◌, ◌++◌, length, map, drop, Option, Some, None, inl, inr, refl, sym, ap, subst, ⊎_elim, arith}
 use Rattle.std.proofs.lemmas.Bool.{and_from, cases_lt}
 use Rattle.std.proofs.lemmas.List.{get_or_past}
 use Rattle.std.proofs.lemmas.List.Folds.{list_all-append}
@@ -12,14 +12,17 @@ use Rattle.mk_graph.specs.Edges.{row}
 use Rattle.mk_graph.specs.Numbering.{name_at}
 use Rattle.mk_graph.proofs.CycleLemmas.{closed_row}
 use Rattle.mk_macros.specs.Ranks.{defined_by}
+use Rattle.mk_rule_lines.specs.Explicit.{names_in}
 use Rattle.mk_rules.specs.Graph.{IsGraph, is_numbered, judged, judged_name}
 use Rattle.mk_rules.specs.Node.{source_in, explicit_in}
-use Rattle.mk_rules.specs.Prerequisites.{Inputs, hard_of, judged_of, implicit_source, recipe_of as rule_of, explicit_names}
+use Rattle.mk_rules.specs.Prerequisites.{Inputs, hard_of, judged_of, implicit_source, source_names as names_of_source, recipe_of as rule_of, explicit_names}
 use Rattle.mk_rules.specs.declared.graph.Node.{Node}
 use Rattle.mk_rules.specs.declared.graph.Graph.{Graph}
 use Rattle.mk_rules.proofs.OneGraphLemmas.{one_names, one_count, one_hard, one_dropped, same_hidden}
 use Rattle.mk_plan.specs.Nodes.{node_at, stamp_of, hidden_of, stem_of, source_of, explicit_of, recipe_of}
+use Rattle.mk_plan.specs.ExplicitWords.{is_implicit, recipe_names}
 use Rattle.mk_plan.specs.Known.{IsNodeOf}
+use Rattle.mk_plan.specs.Words.{source_names}
 use Rattle.mk_plan.proofs.KnownLemmas.{node_of_name}
 use Rattle.mk_plan.proofs.AlikeLemmas.{AreAlike}
 use Rattle.st_records.specs.declared.record.Entry.{Entry}
@@ -46,6 +49,12 @@ module _ (graph : Graph) (n : ℕ) (past : length graph.nodes.items ≤ n) where
   no_stem : stem_of graph n ≡ []
   no_stem = ap (λ o. unwrap_or (option_and_then (λ (node : Node). node.stem) o) []) none
 
+  not_implicit : is_implicit graph n ≡ false
+  not_implicit = ap (λ o. is_some (option_and_then (λ (node : Node). node.stem) o)) none
+
+  none_beside : recipe_names graph n ≡ []
+  none_beside = ap (λ o. option_map_or names_in (option_and_then (slice_get graph.lines.items) (option_and_then (λ (node : Node). node.recipe) o)) []) none
+
   no_source : source_of graph n ≡ []
   no_source = ap (λ o. option_map_or (name_at graph.names) (source_in o (row graph.hard n)) []) none
 
@@ -53,6 +62,9 @@ module _ (graph : Graph) (n : ℕ) (past : length graph.nodes.items ≤ n) where
   no_explicit =
       ap (λ o. map (name_at graph.names) (explicit_in o (row graph.hard n))) none
       ∙ ap (map (name_at graph.names)) (get_or_past graph.hard n [] (omega (arith, graph.hard_rows)))
+
+  no_sources : source_names graph n ≡ []
+  no_sources = ap (λ o. option_to_list (option_map (name_at graph.names) (source_in o (row graph.hard n)))) none
 
   no_recipe : recipe_of graph n ≡ None
   no_recipe = ap (λ o. option_map (λ l. l.recipe) (option_and_then (slice_get graph.lines.items) (option_and_then (λ (node : Node). node.recipe) o))) none
@@ -159,6 +171,17 @@ module _ (inputs : Inputs) (named : List (List ℕ)) (a b : Graph) (is_a : IsGra
     explicit =
         view_once (length a.nodes.items) (explicit_of a) (explicit_of b) (λ n. explicit_names inputs (name_at a.names n)) []
         (λ n inside. (known_a n inside).explicit) (λ n inside. (known_b n inside).explicit) (no_explicit a) (λ n past. no_explicit b n (past_b n past));
+    sources =
+        view_once (length a.nodes.items) (source_names a) (source_names b) (λ n. names_of_source (implicit_source inputs (name_at a.names n))) []
+        (λ n inside. (known_a n inside).sources) (λ n inside. (known_b n inside).sources) (no_sources a) (λ n past. no_sources b n (past_b n past));
+    implicit =
+        view_once (length a.nodes.items) (is_implicit a) (is_implicit b) (λ n. is_some (implicit_source inputs (name_at a.names n))) false
+        (λ n inside. (known_a n inside).implicit) (λ n inside. (known_b n inside).implicit) (not_implicit a) (λ n past. not_implicit b n (past_b n past));
+    beside =
+        view_once (length a.nodes.items) (recipe_names a) (recipe_names b)
+        (λ n. option_map_or names_in (option_and_then (slice_get inputs.lines) (rule_of inputs (name_at a.names n))) []) []
+        (λ n inside. (known_a n inside).beside) (λ n inside. (known_b n inside).beside) (none_beside a) (λ n past. none_beside b n (past_b n past));
+    lines = is_a.lines ∙ sym is_b.lines;
     recipe =
         view_once (length a.nodes.items) (recipe_of a) (recipe_of b)
         (λ n. option_map (λ l. l.recipe) (option_and_then (slice_get inputs.lines) (rule_of inputs (name_at a.names n)))) None

@@ -9,7 +9,7 @@ use Rattle.bstr.specs.Utf8.{lossy_chars}
 use Rattle.mk_graph.specs.Edges.{row}
 use Rattle.mk_graph.specs.Numbering.{name_at}
 use Rattle.mk_macros.specs.Words.{to_directory, to_file, changed_words}
-use Rattle.mk_macros.specs.Dynamic.{whole_value, recipe_value}
+use Rattle.mk_macros.specs.Dynamic.{words_in, whole_value, recipe_value}
 use Rattle.mk_profile.specs.declared.profile.Profile.{Profile}
 use Rattle.mk_macros.specs.Expansion.{Meaning, Meanings, gives}
 use Rattle.mk_macros.specs.Ranks.{Defined, defined_by, in_force, meaning_from}
@@ -40,13 +40,15 @@ use Rattle.mk_plan.proofs.NodeLemmas.{same_newer}
 
 -- ---- one meaning
 
-abbrev whole_from : (target source stem : List ℕ) (newer : List (List ℕ)) (sign : ℕ) → Option (List ℕ)
-whole_from target source stem newer sign =
+abbrev whole_from : (target source stem : List ℕ) (newer : List (List ℕ)) (once repeated : Option (List (List ℕ))) (sign : ℕ) → Option (List ℕ)
+whole_from target source stem newer once repeated sign =
     if sign == 64 then Some target
     else (if sign == 60 then Some source
     else (if sign == 42 then Some stem
     else (if sign == 63 then Some (join_with_byte 32 newer)
-    else None)))
+    else (if sign == 94 then option_map (join_with_byte 32) once
+    else (if sign == 43 then option_map (join_with_byte 32) repeated
+    else None)))))
 
 abbrev part_from : (whole : Option (List ℕ)) (part : ℕ) → Option (List ℕ)
 part_from whole part =
@@ -60,10 +62,13 @@ in_language profile meaning = record { language = profile; meaning = meaning }
 module _ (graph : Graph) (marks : List Bool) (n : ℕ) (a b : RecipeNames) (of_a : AreNames graph marks n a) (of_b : AreNames graph marks n b) where
   same_whole : (sign : ℕ) → whole_value a sign ≡ whole_value b sign
   same_whole sign =
-      ap (λ t. whole_from t a.source.now a.stem.now (map (λ word. word.now) a.newer.now) sign) (of_a.target ∙ sym of_b.target)
-      ∙ ap (λ s. whole_from b.target.now s a.stem.now (map (λ word. word.now) a.newer.now) sign) (of_a.source ∙ sym of_b.source)
-      ∙ ap (λ s. whole_from b.target.now b.source.now s (map (λ word. word.now) a.newer.now) sign) (of_a.stem ∙ sym of_b.stem)
-      ∙ ap (λ ws. whole_from b.target.now b.source.now b.stem.now ws sign) (same_newer graph marks n (row graph.hard n) _ _ of_a.newer of_b.newer)
+      ap (λ t. whole_from t a.source.now a.stem.now (map (λ word. word.now) a.newer.now) (words_in a.once) (words_in a.repeated) sign) (of_a.target ∙ sym of_b.target)
+      ∙ ap (λ s. whole_from b.target.now s a.stem.now (map (λ word. word.now) a.newer.now) (words_in a.once) (words_in a.repeated) sign) (of_a.source ∙ sym of_b.source)
+      ∙ ap (λ s. whole_from b.target.now b.source.now s (map (λ word. word.now) a.newer.now) (words_in a.once) (words_in a.repeated) sign) (of_a.stem ∙ sym of_b.stem)
+      ∙ ap (λ ws. whole_from b.target.now b.source.now b.stem.now ws (words_in a.once) (words_in a.repeated) sign)
+      (same_newer graph marks n (row graph.hard n) _ _ of_a.newer of_b.newer)
+      ∙ ap (λ ws. whole_from b.target.now b.source.now b.stem.now (map (λ word. word.now) b.newer.now) ws (words_in a.repeated) sign) (of_a.once ∙ sym of_b.once)
+      ∙ ap (λ ws. whole_from b.target.now b.source.now b.stem.now (map (λ word. word.now) b.newer.now) (words_in b.once) ws sign) (of_a.repeated ∙ sym of_b.repeated)
 
   same_value : (name : List ℕ) → recipe_value a name ≡ recipe_value b name
   same_value [] = refl

@@ -1,3 +1,4 @@
+pub mod ExplicitWords
 pub mod Known
 pub mod Nodes
 pub mod Passage
@@ -7,3 +8,4 @@ pub mod Target
 pub mod Telling
 pub mod Tests
 pub mod Why
+pub mod Words

@@ -1,5 +1,6 @@
 -- The lines of a recipe, expanded (make(1S), "Command Lines" and "Dynamic Macros").
-use Rattle.std.specs.Prelude.{◌≡◌, ◌⊎◌, ℕ, Bool, List, [], ◌∷◌, map}
+use Rattle.std.specs.Prelude.{◌≡◌, ◌⊎◌, ℕ, Bool, List, [], ◌∷◌, map, option_map}
+use Rattle.mk_macros.specs.Dynamic.{words_in}
 use Rattle.mk_macros.specs.Expansion.{Meanings, gives, ExpandsTo, ExpandsToFault}
 use Rattle.mk_macros.specs.Ranks.{defined_by, meanings_of}
 use Rattle.mk_macros.specs.declared.dynamic.RecipeNames.{RecipeNames}
@@ -12,7 +13,10 @@ use Rattle.mk_recipe.specs.declared.line.Line.{Line}
 use Rattle.mk_rules.specs.declared.graph.Graph.{Graph}
 use Rattle.mk_graph.specs.Edges.{row}
 use Rattle.mk_graph.specs.Numbering.{name_at}
-use Rattle.mk_plan.specs.Nodes.{source_of, stem_of, AreNewer}
+use Rattle.mk_plan.specs.ExplicitWords.{language_of, once_of, source_word, stem_word}
+use Rattle.mk_plan.specs.Nodes.{AreNewer}
+use Rattle.mk_plan.specs.declared.words.RecipeWords.{RecipeWords}
+use Rattle.mk_plan.specs.Words.{in_wide, written_of}
 
 -- the line is what the unexpanded one gives, where names mean this
 pub record IsExpandedLine (meanings : Meanings) (raw : RecipeLine) (line : Line) : Type 0 where
@@ -38,13 +42,21 @@ abbrev pub IsRecipeFault : (meanings : Meanings) → List RecipeLine → MacroFa
 IsRecipeFault meanings recipe OutOfMemory = Unit {0}
 IsRecipeFault meanings recipe fault = HasFirstFault meanings recipe fault
 
--- what the dynamic macros of node n stand for. The source and the stem are empty where no implicit rule makes it; the words of
--- `$?` are of the source and the prerequisites by name
+-- what the dynamic macros of node n stand for. The words of `$?` are of the source and the prerequisites by name; those of `$^` and
+-- `$+` are all of them, and the wide profile alone has them
 pub record AreNames (graph : Graph) (marks : List Bool) (n : ℕ) (names : RecipeNames) : Type 0 where
   pub target : names.target.now ≡ name_at graph.names n
-  pub source : names.source.now ≡ source_of graph n
-  pub stem : names.stem.now ≡ stem_of graph n
+  pub source : names.source.now ≡ source_word graph n
+  pub stem : names.stem.now ≡ stem_word graph n
   pub newer : AreNewer graph marks n (row graph.hard n) (map (λ word. word.now) names.newer.now)
+  pub once : words_in names.once ≡ in_wide (language_of graph) (once_of graph n)
+  pub repeated : words_in names.repeated ≡ in_wide (language_of graph) (written_of graph n)
+
+-- the words of `$?`, of `$^` and of `$+` in the recipe of node n
+pub record AreRecipeWords (graph : Graph) (marks : List Bool) (n : ℕ) (words : RecipeWords) : Type 0 where
+  pub newer : AreNewer graph marks n (row graph.hard n) (map (λ word. word.now) words.newer.items)
+  pub once : option_map (λ found. map (λ word. word.now) found.items) words.once ≡ in_wide (language_of graph) (once_of graph n)
+  pub repeated : option_map (λ found. map (λ word. word.now) found.items) words.repeated ≡ in_wide (language_of graph) (written_of graph n)
 
 -- what a name means in a line of this recipe: recipe lines are expanded with all definitions of the makefile
 abbrev pub recipe_meaning : Graph → RecipeNames → Meanings

@@ -2,6 +2,7 @@
 //! ask it alike.
 #![tactic(auto)]
 
+mod explicit_words;
 mod laws;
 mod nodes;
 mod passing;
@@ -9,6 +10,7 @@ mod recipe;
 mod target;
 mod telling;
 mod why;
+mod words;
 
 pub use laws::{nodes_by_name, one_passing};
 pub use nodes::explicit_of;

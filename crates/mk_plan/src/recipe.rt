@@ -4,7 +4,9 @@ ghost use Rattle.mk_macros.specs.Ranks.{defined_by, meanings_of};
 ghost use Rattle.mk_macros.specs.Expansion.{ExpandsToFault};
 ghost use Rattle.mk_plan.specs.Recipe.{IsExpandedLine, AreExpanded, IsRecipeFault, AreLinesOf, IsFaultOf};
 
-use crate::nodes::{name_of, newer_words, source_of, stem_of};
+use crate::explicit_words::{source_word, stem_word};
+use crate::nodes::name_of;
+use crate::words::{as_words, explicit_names, recipe_words};
 use mk_macros::{Dynamic, MacroFault, Macros, RecipeNames};
 use mk_reader::RecipeLine;
 use mk_recipe::{Line, split_line};
@@ -43,7 +45,6 @@ fn expanded_lines(
 }
 
 /// The lines of the recipe of a node, where the marks are those of the nodes that were remade before it.
-#[tactic(auto, using(crate::proofs::NodeLemmas::are_newer))]
 pub fn lines_of(
     alloc: Global,
     graph: &Graph,
@@ -55,12 +56,15 @@ pub fn lines_of(
     ensures lines { IfOk result (λ lines. AreLinesOf graph.now marks.now node recipe.now lines.items) }
     ensures fault { IfErr result (IsFaultOf graph.now marks.now node recipe.now) }
 {
-    let newer = newer_words(alloc, graph, marks, node)?;
+    let explicit = explicit_names(alloc, graph, node)?;
+    let words = recipe_words(alloc, graph, marks, node, &explicit)?;
     let dynamic = Dynamic::RecipeLine(RecipeNames {
         target: name_of(graph, node),
-        source: source_of(graph, node),
-        stem: stem_of(graph, node),
-        newer: &newer,
+        source: source_word(graph, node),
+        stem: stem_word(graph, node),
+        newer: &words.newer,
+        once: as_words(&words.once),
+        repeated: as_words(&words.repeated),
     });
     expanded_lines(alloc, &graph.macros, &dynamic, recipe)
 }

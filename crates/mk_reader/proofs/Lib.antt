@@ -1,4 +1,6 @@
 pub mod BlankLemmas
+pub mod ConditionalLemmas
+pub mod CutLemmas
 pub mod FormLemmas
 pub mod GrammarLemmas
 pub mod JoinedLemmas
@@ -6,6 +8,9 @@ pub mod LinesLemmas
 pub mod PrintedItemsLemmas
 pub mod PrintedLemmas
 pub mod ReferenceLemmas
+pub mod SaidLemmas
+pub mod SpelledLemmas
 pub mod SpellingLemmas
 pub mod SplitLemmas
 pub mod StatementLemmas
+pub mod WordLemmas

@@ -14,7 +14,8 @@ use Rattle.mk_reader.specs.declared.form.Form.{Form}
 use Rattle.mk_reader.specs.declared.form.Form.TheVariants as form
 use Rattle.mk_reader.proofs.ReferenceLemmas.{or_false}
 use Rattle.mk_reader.proofs.BlankLemmas.{starts, before_first_is}
-use Rattle.mk_reader.proofs.GrammarLemmas.{hash_start_back, word_is, begins_with_first_word, include_bare}
+use Rattle.mk_reader.proofs.WordLemmas.{word_is, begins_with_first_word, include_bare}
+use Rattle.mk_reader.proofs.GrammarLemmas.{hash_start_back}
 
 abbrev Told : Type 0
 Told = Result Form Refusal
@@ -93,10 +94,10 @@ without_spaced (b ∷ bs) w = (plain 32 ∷ w.0, w.1, ap (λ xs. 32 ∷ xs) w.2,
 -- A whole line
 
 -- a text without a comment or blanks at its ends is its own line
-itself_read : (profile : Profile) (file : List ℕ) (number : ℕ) (text : List ℕ) (told : Told) → Lacks 35 text → is_text text ≡ true → HasBareEnds text → is_empty text ≡ false → IsNoInclude profile text → IsStatement file number text told →
-    IsTextLine profile file number text told
-itself_read profile file number text told hash good bare some none is =
-    (text, ([], sym (append-nil text), hash, refl), inr (good, (text, padded_itself text bare, inr (inr (some, none, is)))))
+itself_read : (profile : Profile) (file : List ℕ) (number : ℕ) (text : List ℕ) (f : Form) → Lacks 35 text → is_text text ≡ true → HasBareEnds text → is_empty text ≡ false → IsNoInclude profile text → IsStatement profile file number text (Ok f) →
+    IsTextLine profile file number text (Ok f)
+itself_read profile file number text f hash good bare some none is =
+    (text, ([], sym (append-nil text), hash, refl), inr (good, (text, padded_itself text bare, inr (inr (some, none, (Ok f, is, refl))))))
 
 -- a line whose words before a space begin no include line is none
 no_include : (profile : Profile) (front rest : List ℕ) → ((word : List ℕ) (required : Bool) → BeginsInclude profile word required → BeginsWithWord front word → ⊥) → IsNoInclude profile (front ++ 32 ∷ rest)
@@ -179,7 +180,7 @@ definition_read profile file name value number append n v good =
     (before_sign name append, spaced value, assigns, name_spelled name append bare, n.0, n.1, padded_spaced value v.1) in
     let none : IsNoInclude profile text = subst (λ xs. IsNoInclude profile (name ++ xs)) (sym behind.1) (no_include profile name behind.0 (plain_no_include profile name n)) in
     itself_read profile file number text _ (lacks_both 35 name (sign append ++ spaced value) n.2 (signed_plain append value v.0)) good ends
-    (empty_more name (sign append ++ spaced value) n.0) none (refl, refl, spells)
+    (empty_more name (sign append ++ spaced value) n.0) none (refl, refl, refl, spells)
 
 -- Rules
 
@@ -195,7 +196,7 @@ colon_plain : (prerequisites : List ℕ) → Lacks 35 prerequisites → Lacks 35
 colon_plain [] h = refl
 colon_plain (b ∷ bs) h = h
 
-pub rule_read : (profile : Profile) (file targets prerequisites : List ℕ) (number : ℕ) (special : Option SpecialName) → ArePlainTargets profile targets → ArePlainPrerequisites prerequisites → HasSpecial targets special → is_refused_with prerequisites special ≡ false → is_text (rule_text targets prerequisites) ≡ true →
+pub rule_read : (profile : Profile) (file targets prerequisites : List ℕ) (number : ℕ) (special : Option SpecialName) → ArePlainTargets profile targets → ArePlainPrerequisites prerequisites → HasSpecial targets special → is_refused_with profile prerequisites special ≡ false → is_text (rule_text targets prerequisites) ≡ true →
     IsForm profile file (line_of_text number (rule_text targets prerequisites)) (Ok (form.Rule (rule_on file number special targets prerequisites)))
 rule_read profile file targets prerequisites number special t p has taken good =
     let text = rule_text targets prerequisites in

@@ -7,6 +7,7 @@ use Rattle.mk_reader.specs.Grammar.{refusal, IsForm}
 use Rattle.mk_reader.specs.declared.fault.Cause.TheVariants.{TabFirst}
 use Rattle.mk_reader.specs.declared.item.RecipeLine.{RecipeLine}
 use Rattle.mk_reader.specs.declared.item.Definition.{Definition}
+use Rattle.mk_reader.specs.declared.item.DefinitionLine.{DefinitionLine}
 use Rattle.mk_reader.specs.declared.item.IncludeLine.{IncludeLine}
 use Rattle.mk_reader.specs.declared.item.Item.{Item}
 use Rattle.mk_reader.specs.declared.item.Item.TheVariants as item
@@ -40,6 +41,7 @@ form_one file number above (Err fault) below Rest h one other a b = a ∙ sym b
 form_one file number above (Ok form.Blank) below Rest h one other a b = h above one other a b
 form_one file number above (Ok (form.Recipe line)) below Rest h one other a b = below_one file number above Rest h one other a b
 form_one file number above (Ok (form.Include include)) below Rest h one other a b = before_one (statement.Include include) (Rest false) (h false) one other a b
+form_one file number above (Ok (form.DefinitionLine line)) below Rest h one other a b = before_one (statement.Definition line) (Rest false) (h false) one other a b
 form_one file number above (Ok (form.Definition definition)) below Rest h one other a b = before_one (statement.Item (item.Definition definition)) (Rest false) (h false) one other a b
 form_one file number above (Ok (form.Rule rule)) below Rest h one other a b = before_one (statement.Item (with_lines rule below)) (Rest true) (h true) one other a b
 
@@ -79,6 +81,7 @@ form_some file number above (Err fault) below Rest h = (statement.Refused fault 
 form_some file number above (Ok form.Blank) below Rest h = h above
 form_some file number above (Ok (form.Recipe line)) below Rest h = below_some file number above Rest h
 form_some file number above (Ok (form.Include include)) below Rest h = before_some (statement.Include include) (Rest false) (h false)
+form_some file number above (Ok (form.DefinitionLine line)) below Rest h = before_some (statement.Definition line) (Rest false) (h false)
 form_some file number above (Ok (form.Definition definition)) below Rest h = before_some (statement.Item (item.Definition definition)) (Rest false) (h false)
 form_some file number above (Ok (form.Rule rule)) below Rest h = before_some (statement.Item (with_lines rule below)) (Rest true) (h true)
 
@@ -168,6 +171,12 @@ module _ (profile : Profile) (file : List ℕ) (line : LogicalLine) (more : List
       (whole : List Statement) → ComesTo profile file new now more whole → ComesTo profile file old unfinished (line ∷ more) whole
   include_more old new unfinished now include is =
       added (Ok (form.Include include)) (statement.Include include) is (λ below. refl) (λ above below Rest rest r. (rest, r, refl)) old new unfinished now
+
+  pub definition_line_more : (old new : List Statement) (unfinished now : Option UnfinishedRule) (definition : DefinitionLine) → IsForm profile file line (Ok (form.DefinitionLine definition)) →
+      new ≡ old ++ finished unfinished [] ++ statement.Definition definition ∷ [] → now ≡ None →
+      (whole : List Statement) → ComesTo profile file new now more whole → ComesTo profile file old unfinished (line ∷ more) whole
+  definition_line_more old new unfinished now definition is =
+      added (Ok (form.DefinitionLine definition)) (statement.Definition definition) is (λ below. refl) (λ above below Rest rest r. (rest, r, refl)) old new unfinished now
 
   pub definition_more : (old new : List Statement) (unfinished now : Option UnfinishedRule) (definition : Definition) → IsForm profile file line (Ok (form.Definition definition)) →
       new ≡ old ++ finished unfinished [] ++ statement.Item (item.Definition definition) ∷ [] → now ≡ None →

@@ -1,5 +1,6 @@
 -- How faults name what isn't supported.
 use Rattle.std.specs.Prelude.{ℕ, List, codes}
+use Rattle.mk_reader.specs.Directive.{directive_text}
 use Rattle.mk_reader.specs.Special.{name_text}
 use Rattle.mk_reader.specs.declared.fault.Feature.{Feature}
 use Rattle.mk_reader.specs.declared.fault.Feature.TheVariants as feature
@@ -12,3 +13,4 @@ feature_text feature.DoubleColon = codes "::"
 feature_text feature.ColonDefinition = codes ":="
 feature_text feature.ShellDefinition = codes ":sh"
 feature_text (feature.SpecialName name) = name_text name
+feature_text (feature.Directive directive) = directive_text directive

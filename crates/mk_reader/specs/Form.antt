@@ -1,12 +1,17 @@
 -- What one logical line is: nothing, a recipe line, an include line, a definition, a rule, or refused.
 use Rattle.std.specs.Prelude.{◌≡◌, ℕ, ◌+◌, Bool, true, false, not, ◌&&◌, ◌||◌, ◌==◌, List, [], ◌∷◌, take, drop, length, Option, Some, None, option_map, Result, Ok, Err, slice_index, codes, bytes_eq, if◌then◌else◌}
-use Rattle.std.specs.List.{before_first, list_any}
+use Rattle.std.specs.List.{before_first, list_any, list_all}
 use Rattle.byte_strings.specs.Blanks.{is_blank, trimmed_start, trimmed, first_word}
 use Rattle.mk_profile.specs.Profile.{is_wide}
 use Rattle.mk_profile.specs.declared.profile.Profile.{Profile}
+use Rattle.mk_reader.specs.Directive.{told_as}
+use Rattle.mk_reader.specs.Grammar.{is_name_byte}
 use Rattle.mk_reader.specs.Text.{is_hash, is_dollar, is_empty, begins_with, ends_with, without_last, is_text}
 use Rattle.mk_reader.specs.Special.{special_name, is_refused, takes_no_prerequisites}
 use Rattle.mk_reader.specs.declared.special.SpecialName.{SpecialName}
+use Rattle.mk_reader.specs.declared.item.Definition.{Definition}
+use Rattle.mk_reader.specs.declared.item.DefinitionKind.{DefinitionKind}
+use Rattle.mk_reader.specs.declared.item.DefinitionKind.TheVariants.{IfUndefined, AtOnce, AtOnceAlone}
 use Rattle.mk_reader.specs.declared.item.RecipeLine.{RecipeLine}
 use Rattle.mk_reader.specs.declared.item.Rule.{Rule}
 use Rattle.mk_reader.specs.declared.fault.Feature.TheVariants as feature
@@ -66,16 +71,34 @@ include_form profile file number required names =
     if not (is_wide profile) && (list_any is_dollar names || is_empty (trimmed_start names)) then Err (refusal file number (Unsupported feature.Include))
     else Ok (form.Include (record { line = number; is_required = required; names = names }))
 
--- a definition: its name is one word
+-- a definition whose value has no blanks at its ends
+unfoldable pub defined_as : List ℕ → ℕ → List ℕ → Bool → List ℕ → Definition
+defined_as file number name append value = record { file = file; line = number; name = name; append = append; value = trimmed value; is_fixed = false }
+
+-- this isn't one word
+unfoldable pub is_no_name : List ℕ → Bool
+is_no_name name = is_empty name || list_any is_blank name
+
+-- a definition that is taken as it stands
 unfoldable pub named_form : List ℕ → ℕ → List ℕ → Bool → List ℕ → Result Form Refusal
 named_form file number name append value =
-    if is_empty name || list_any is_blank name then Err (refusal file number MissingSeparator)
-    else Ok (form.Definition (record { file = file; line = number; name = name; append = append; value = trimmed value }))
+    if is_no_name name then Err (refusal file number MissingSeparator) else Ok (form.Definition (defined_as file number name append value))
 
--- what stands around the `=` of a definition: `+` directly before it appends, `?` directly before it is refused
-unfoldable pub definition_form : List ℕ → ℕ → List ℕ → List ℕ → Result Form Refusal
-definition_form file number left right =
-    if ends_with 63 left then Err (refusal file number (Unsupported feature.OptionalDefinition))
+-- a definition that counts by what stands above it
+unfoldable pub kind_form : List ℕ → ℕ → DefinitionKind → List ℕ → List ℕ → Result Form Refusal
+kind_form file number kind name value =
+    if is_no_name name then Err (refusal file number MissingSeparator)
+    else Ok (form.DefinitionLine (record { kind = kind; definition = defined_as file number name false value }))
+
+-- what stands around `?=`, which the strict profile refuses
+unfoldable pub optional_form : Profile → List ℕ → ℕ → List ℕ → List ℕ → Result Form Refusal
+optional_form profile file number left right =
+    if not (is_wide profile) then Err (refusal file number (Unsupported feature.OptionalDefinition)) else kind_form file number IfUndefined (trimmed left) right
+
+-- what stands around the `=` of a definition: `+` directly before it appends, `?` directly before it is another sign
+unfoldable pub definition_form : Profile → List ℕ → ℕ → List ℕ → List ℕ → Result Form Refusal
+definition_form profile file number left right =
+    if ends_with 63 left then optional_form profile file number (without_last left) right
     else (if ends_with 43 left then named_form file number (trimmed (without_last left)) true right
     else named_form file number (trimmed left) false right)
 
@@ -90,17 +113,17 @@ recipe_of number right None = []
 recipe_of number right (Some semicolon) = record { text = drop (semicolon + 1) right; line = number } ∷ []
 
 -- a rule whose first target is, or isn't, a special name
-unfoldable pub judged_form : Option SpecialName → Rule → Result Form Refusal
-judged_form None rule = Ok (form.Rule (record { special = None; rule = rule }))
-judged_form (Some name) rule =
-    if is_refused name || (takes_no_prerequisites name && not (is_empty rule.prerequisites)) then Err (refusal rule.file rule.line (Unsupported (feature.SpecialName name)))
+unfoldable pub judged_form : Profile → Option SpecialName → Rule → Result Form Refusal
+judged_form profile None rule = Ok (form.Rule (record { special = None; rule = rule }))
+judged_form profile (Some name) rule =
+    if is_refused profile name || (takes_no_prerequisites name && not (is_empty rule.prerequisites)) then Err (refusal rule.file rule.line (Unsupported (feature.SpecialName name)))
     else Ok (form.Rule (record { special = Some name; rule = rule }))
 
 -- a rule: it has a target
-unfoldable pub rule_form : List ℕ → ℕ → List ℕ → List ℕ → Result Form Refusal
-rule_form file number targets right =
+unfoldable pub rule_form : Profile → List ℕ → ℕ → List ℕ → List ℕ → Result Form Refusal
+rule_form profile file number targets right =
     if is_empty targets then Err (refusal file number MissingSeparator)
-    else judged_form (special_name (first_word targets)) (record {
+    else judged_form profile (special_name (first_word targets)) (record {
       file = file;
       line = number;
       targets = targets;
@@ -112,25 +135,51 @@ rule_form file number targets right =
 unfoldable pub begins_shell_definition : List ℕ → Bool
 begins_shell_definition right = bytes_eq (take 2 right) (codes "sh") && begins_with 61 (trimmed_start (drop 2 right))
 
--- what stands around the `:` of a rule; `::`, `:=` and `:sh =` are refused
-unfoldable pub colon_form : List ℕ → ℕ → List ℕ → List ℕ → Result Form Refusal
-colon_form file number left right =
-    if begins_with 58 right then Err (refusal file number (Unsupported feature.DoubleColon))
-    else (if begins_with 61 right then Err (refusal file number (Unsupported feature.ColonDefinition))
+-- every make takes this for a macro's name
+unfoldable pub is_macro_name : List ℕ → Bool
+is_macro_name name = not (is_empty name) && list_all is_name_byte name
+
+-- without the `+` of `+=`
+unfoldable pub without_plus : List ℕ → List ℕ
+without_plus left = if ends_with 43 left then without_last left else left
+
+-- behind `:=` stands a definition, with its `=` at this place
+unfoldable pub conditional_at : List ℕ → Option ℕ → Bool
+conditional_at right None = false
+conditional_at right (Some at) = is_macro_name (trimmed (without_plus (take at right)))
+
+-- what stands around `::`; the wide profile has `::=` and `:::=`
+unfoldable pub double_form : Profile → List ℕ → ℕ → List ℕ → List ℕ → Result Form Refusal
+double_form profile file number left right =
+    if is_wide profile && begins_with 61 right then kind_form file number AtOnce (trimmed left) (drop 1 right)
+    else (if is_wide profile && (begins_with 58 right && begins_with 61 (drop 1 right)) then kind_form file number AtOnceAlone (trimmed left) (drop 1 (drop 1 right))
+    else Err (refusal file number (Unsupported feature.DoubleColon)))
+
+-- what stands around `:=`, which the wide profile has where it isn't that of a conditional macro
+unfoldable pub set_form : Profile → List ℕ → ℕ → List ℕ → List ℕ → Result Form Refusal
+set_form profile file number left right =
+    if not (is_wide profile) || (is_no_name (trimmed left) || conditional_at right (first_outside 61 61 Outside right)) then Err (refusal file number (Unsupported feature.ColonDefinition))
+    else kind_form file number AtOnce (trimmed left) right
+
+-- what stands around the `:` of a rule; `::` and `:=` are other signs, and `:sh =` is refused
+unfoldable pub colon_form : Profile → List ℕ → ℕ → List ℕ → List ℕ → Result Form Refusal
+colon_form profile file number left right =
+    if begins_with 58 right then double_form profile file number left (drop 1 right)
+    else (if begins_with 61 right then set_form profile file number left (drop 1 right)
     else (if begins_shell_definition right then Err (refusal file number (Unsupported feature.ShellDefinition))
-    else rule_form file number (trimmed left) right))
+    else rule_form profile file number (trimmed left) right))
 
 -- the first `=` or `:` outside references decides
-unfoldable pub decided_form : List ℕ → ℕ → List ℕ → Option ℕ → Result Form Refusal
-decided_form file number line None = Err (refusal file number MissingSeparator)
-decided_form file number line (Some at) =
-    if slice_index line at == 61 then definition_form file number (take at line) (drop (at + 1) line)
-    else colon_form file number (take at line) (drop (at + 1) line)
+unfoldable pub decided_form : Profile → List ℕ → ℕ → List ℕ → Option ℕ → Result Form Refusal
+decided_form profile file number line None = Err (refusal file number MissingSeparator)
+decided_form profile file number line (Some at) =
+    if slice_index line at == 61 then definition_form profile file number (take at line) (drop (at + 1) line)
+    else colon_form profile file number (take at line) (drop (at + 1) line)
 
--- the first word says whether a line includes files, which comes before `=` and `:`
+-- the first word says whether a line includes files, which comes before `=` and `:`, and how a line is told that is refused
 abbrev pub opened_form : Profile → List ℕ → ℕ → List ℕ → Option Bool → Result Form Refusal
 opened_form profile file number line (Some required) = include_form profile file number required (drop (length (first_word line)) line)
-opened_form profile file number line None = decided_form file number line (first_outside 61 58 Outside line)
+opened_form profile file number line None = told_as profile line (decided_form profile file number line (first_outside 61 58 Outside line))
 
 -- a line without its comment and the blanks at its ends
 unfoldable pub line_form : Profile → List ℕ → ℕ → List ℕ → Result Form Refusal

@@ -1,13 +1,18 @@
 -- What a line of a makefile is, told by how its text is spelled: each form by its parts, each refusal by what stands
 -- there (make(1S), "Macros" and "Targets and Rules"; the refusals are own). Blanks at its ends and its comment are off.
-use Rattle.std.specs.Prelude.{◌≡◌, ◌⊎◌, ℕ, Bool, true, false, not, ◌&&◌, ◌||◌, ◌==◌, List, [], ◌∷◌, ◌++◌, reverse, flat_map, Option, Some, None, Result, Ok, Err, codes}
+use Rattle.std.specs.Prelude.{◌≡◌, ◌⊎◌, ℕ, Bool, true, false, not, ◌&&◌, ◌||◌, ◌==◌, List, [], ◌∷◌, ◌++◌, reverse, drop, flat_map, Option, Some, None, Result, Ok, Err, codes}
+use Rattle.std.specs.Char.{is_ascii_alphanumeric}
 use Rattle.std.specs.List.{list_any, list_all}
 use Rattle.byte_strings.specs.Blanks.{is_blank}
 use Rattle.mk_profile.specs.Profile.{is_wide}
 use Rattle.mk_profile.specs.declared.profile.Profile.{Profile}
 use Rattle.mk_reader.specs.Text.{is_dollar, is_empty, begins_with, is_text}
+use Rattle.mk_reader.specs.Directive.{told_as}
 use Rattle.mk_reader.specs.Special.{name_text, is_refused, takes_no_prerequisites}
 use Rattle.mk_reader.specs.declared.special.SpecialName.{SpecialName}
+use Rattle.mk_reader.specs.declared.item.Definition.{Definition}
+use Rattle.mk_reader.specs.declared.item.DefinitionKind.{DefinitionKind}
+use Rattle.mk_reader.specs.declared.item.DefinitionKind.TheVariants.{IfUndefined, AtOnce, AtOnceAlone}
 use Rattle.mk_reader.specs.declared.item.RecipeLine.{RecipeLine}
 use Rattle.mk_reader.specs.declared.fault.Feature.TheVariants as feature
 use Rattle.mk_reader.specs.declared.fault.Cause.{Cause}
@@ -127,11 +132,41 @@ SpellsDefinition line name append value =
     (left : List ℕ) × (right : List ℕ) × SpellsAssignment line left right
     × SpellsName left name append × (is_empty name ≡ false) × (list_any is_blank name ≡ false) × Padded right value
 
--- Rules
+-- the name is one word
+abbrev pub IsOneWord : (name : List ℕ) → Type 0
+IsOneWord name = (is_empty name ≡ false) × (list_any is_blank name ≡ false)
 
 -- the first `:` outside references comes before any `=`
 abbrev pub SpellsColon : (line left right : List ℕ) → Type 0
 SpellsColon line left right = (line ≡ left ++ 58 ∷ right) × Whole 61 58 left
+
+-- the names that every make takes for macros (POSIX make, "Macros")
+abbrev pub is_name_byte : ℕ → Bool
+is_name_byte b = is_ascii_alphanumeric b || (b == 95 || b == 46)
+
+-- a conditional macro follows the targets and `:=` in make(1S): such a name, and `=` or `+=`
+abbrev pub IsConditional : (right : List ℕ) → Type 0
+IsConditional right =
+    (left : List ℕ) × (value : List ℕ) × (right ≡ left ++ 61 ∷ value) × Whole 61 61 left
+    × (name : List ℕ) × (append : Bool) × SpellsName left name append × (is_empty name ≡ false) × (list_all is_name_byte name ≡ true)
+
+-- one word stands before `:=`, and no conditional macro behind it
+abbrev pub IsSet : (left right : List ℕ) → Type 0
+IsSet left right = ((name : List ℕ) × Padded left name × IsOneWord name) × (IsConditional right → ⊥)
+
+-- what stands around the sign of a definition of this kind (POSIX make, "Macros"; `:=`: GNU make)
+abbrev pub SpellsSign : DefinitionKind → (line left right : List ℕ) → Type 0
+SpellsSign IfUndefined line left right = (line ≡ (left ++ 63 ∷ []) ++ 61 ∷ right) × Whole 61 58 (left ++ 63 ∷ [])
+SpellsSign AtOnce line left right = SpellsColon line left (58 ∷ 61 ∷ right) ⊎ (SpellsColon line left (61 ∷ right) × IsSet left right)
+SpellsSign AtOnceAlone line left right = SpellsColon line left (58 ∷ 58 ∷ 61 ∷ right)
+
+-- a definition of the wide profile, which counts by what stands above it; it doesn't append
+abbrev pub SpellsKind : (line : List ℕ) → DefinitionKind → Definition → Type 0
+SpellsKind line kind d =
+    (left : List ℕ) × (right : List ℕ) × SpellsSign kind line left right
+    × Padded left d.name × IsOneWord d.name × (d.append ≡ false) × (d.is_fixed ≡ false) × Padded right d.value
+
+-- Rules
 
 -- behind the `:` of `NAME:sh =`
 abbrev pub IsShell : (right : List ℕ) → Type 0
@@ -158,9 +193,9 @@ HasSpecial targets None = (name : SpecialName) → BeginsWithWord targets (name_
 HasSpecial targets (Some name) = BeginsWithWord targets (name_text name)
 
 -- such a rule is refused
-abbrev pub is_refused_with : (prerequisites : List ℕ) → Option SpecialName → Bool
-is_refused_with prerequisites None = false
-is_refused_with prerequisites (Some name) = is_refused name || (takes_no_prerequisites name && not (is_empty prerequisites))
+abbrev pub is_refused_with : Profile → (prerequisites : List ℕ) → Option SpecialName → Bool
+is_refused_with profile prerequisites None = false
+is_refused_with profile prerequisites (Some name) = is_refused profile name || (takes_no_prerequisites name && not (is_empty prerequisites))
 
 -- Refusals
 
@@ -170,29 +205,40 @@ NamesNoWord line =
     (left : List ℕ) × (right : List ℕ) × SpellsAssignment line left right
     × (name : List ℕ) × (append : Bool) × SpellsName left name append × ((is_empty name || list_any is_blank name) ≡ true)
 
+-- one of the wide profile whose name isn't one word
+abbrev pub NamesNoWordOfKind : Profile → (line : List ℕ) → Type 0
+NamesNoWordOfKind profile line =
+    (is_wide profile ≡ true) × (kind : DefinitionKind) × (left : List ℕ) × (right : List ℕ) × SpellsSign kind line left right
+    × (name : List ℕ) × Padded left name × ((is_empty name || list_any is_blank name) ≡ true)
+
 -- a rule without a target
 abbrev pub HasNoTarget : (line : List ℕ) → Type 0
 HasNoTarget line = (left : List ℕ) × (right : List ℕ) × SpellsColon line left right × IsRuleEnd right × AllBlank left
 
+-- behind `::` the sign of a definition ends: `=` or `:=`
+abbrev pub ends_sign : List ℕ → Bool
+ends_sign right = begins_with 61 right || (begins_with 58 right && begins_with 61 (drop 1 right))
+
 -- why a line is refused that isn't empty and is no include line
-abbrev pub IsRefused : (line : List ℕ) → Cause → Type 0
-IsRefused line cause.MissingSeparator = Without 61 58 line ⊎ (NamesNoWord line ⊎ HasNoTarget line)
-IsRefused line (cause.Unsupported feature.OptionalDefinition) =
-    (left : List ℕ) × (right : List ℕ) × (line ≡ left ++ 61 ∷ right) × Whole 61 58 left × (begins_with 63 (reverse left) ≡ true)
-IsRefused line (cause.Unsupported feature.DoubleColon) =
-    (left : List ℕ) × (right : List ℕ) × SpellsColon line left right × (begins_with 58 right ≡ true)
-IsRefused line (cause.Unsupported feature.ColonDefinition) =
-    (left : List ℕ) × (right : List ℕ) × SpellsColon line left right × (begins_with 61 right ≡ true)
-IsRefused line (cause.Unsupported feature.ShellDefinition) = (left : List ℕ) × (right : List ℕ) × SpellsColon line left right × IsShell right
-IsRefused line (cause.Unsupported (feature.SpecialName name)) =
+abbrev pub IsRefused : Profile → (line : List ℕ) → Cause → Type 0
+IsRefused profile line cause.MissingSeparator = Without 61 58 line ⊎ (NamesNoWord line ⊎ (NamesNoWordOfKind profile line ⊎ HasNoTarget line))
+IsRefused profile line (cause.Unsupported feature.OptionalDefinition) =
+    (is_wide profile ≡ false) × (left : List ℕ) × (right : List ℕ) × SpellsSign IfUndefined line left right
+IsRefused profile line (cause.Unsupported feature.DoubleColon) =
+    (left : List ℕ) × (right : List ℕ) × SpellsColon line left (58 ∷ right) × ((is_wide profile && ends_sign right) ≡ false)
+IsRefused profile line (cause.Unsupported feature.ColonDefinition) =
+    (left : List ℕ) × (right : List ℕ) × SpellsColon line left (61 ∷ right) × (is_wide profile ≡ true → IsSet left right → ⊥)
+IsRefused profile line (cause.Unsupported feature.ShellDefinition) = (left : List ℕ) × (right : List ℕ) × SpellsColon line left right × IsShell right
+IsRefused profile line (cause.Unsupported (feature.SpecialName name)) =
     (targets : List ℕ) × (prerequisites : List ℕ) × (recipe : Option (List ℕ)) × SpellsRule line targets prerequisites recipe
-    × HasSpecial targets (Some name) × (is_refused_with prerequisites (Some name) ≡ true)
-IsRefused line (cause.Unsupported feature.Include) = ⊥
-IsRefused line cause.NotText = ⊥
-IsRefused line cause.TabFirst = ⊥
-IsRefused line cause.IncludeDepth = ⊥
-IsRefused line (cause.IncludeMissing name) = ⊥
-IsRefused line (cause.Macro why) = ⊥
+    × HasSpecial targets (Some name) × (is_refused_with profile prerequisites (Some name) ≡ true)
+IsRefused profile line (cause.Unsupported feature.Include) = ⊥
+IsRefused profile line (cause.Unsupported (feature.Directive directive)) = ⊥
+IsRefused profile line cause.NotText = ⊥
+IsRefused profile line cause.TabFirst = ⊥
+IsRefused profile line cause.IncludeDepth = ⊥
+IsRefused profile line (cause.IncludeMissing name) = ⊥
+IsRefused profile line (cause.Macro why) = ⊥
 
 -- Lines
 
@@ -209,16 +255,18 @@ first_line number None = []
 first_line number (Some text) = record { text = text; line = number } ∷ []
 
 -- what a line is that isn't empty and is no include line: a definition, a rule, or refused
-abbrev pub IsStatement : (file : List ℕ) (number : ℕ) (line : List ℕ) → Result Form Refusal → Type 0
-IsStatement file number line (Ok (form.Definition d)) = (d.file ≡ file) × (d.line ≡ number) × SpellsDefinition line d.name d.append d.value
-IsStatement file number line (Ok (form.Rule u)) =
+abbrev pub IsStatement : Profile → (file : List ℕ) (number : ℕ) (line : List ℕ) → Result Form Refusal → Type 0
+IsStatement profile file number line (Ok (form.Definition d)) = (d.file ≡ file) × (d.line ≡ number) × (d.is_fixed ≡ false) × SpellsDefinition line d.name d.append d.value
+IsStatement profile file number line (Ok (form.DefinitionLine l)) =
+    (is_wide profile ≡ true) × (l.definition.file ≡ file) × (l.definition.line ≡ number) × SpellsKind line l.kind l.definition
+IsStatement profile file number line (Ok (form.Rule u)) =
     (u.rule.file ≡ file) × (u.rule.line ≡ number) × (recipe : Option (List ℕ)) × (u.rule.recipe ≡ first_line number recipe)
     × SpellsRule line u.rule.targets u.rule.prerequisites recipe
-    × HasSpecial u.rule.targets u.special × (is_refused_with u.rule.prerequisites u.special ≡ false)
-IsStatement file number line (Ok form.Blank) = ⊥
-IsStatement file number line (Ok (form.Recipe recipe)) = ⊥
-IsStatement file number line (Ok (form.Include include)) = ⊥
-IsStatement file number line (Err refused) = IsRefusal file number refused × IsRefused line refused.cause
+    × HasSpecial u.rule.targets u.special × (is_refused_with profile u.rule.prerequisites u.special ≡ false)
+IsStatement profile file number line (Ok form.Blank) = ⊥
+IsStatement profile file number line (Ok (form.Recipe recipe)) = ⊥
+IsStatement profile file number line (Ok (form.Include include)) = ⊥
+IsStatement profile file number line (Err refused) = IsRefusal file number refused × IsRefused profile line refused.cause
 
 -- in the strict profile an include line names files, and one with a reference, or without a name, is refused
 abbrev pub is_bad_include : Profile → (names : List ℕ) → Bool
@@ -229,12 +277,14 @@ IsIncludeForm profile file number required names told =
     ((is_bad_include profile names ≡ false) × (told ≡ Ok (form.Include (record { line = number; is_required = required; names = names }))))
     ⊎ ((is_bad_include profile names ≡ true) × (told ≡ Err (refusal file number (cause.Unsupported feature.Include))))
 
--- what a line is, without its comment and the blanks at its ends; the word `include` comes before `=` and `:`
+-- what a line is, without its comment and the blanks at its ends; the word `include` comes before `=` and `:`, and a line that is
+-- refused is told in the wide profile by the directive that it begins with
 abbrev pub IsLine : Profile → (file : List ℕ) (number : ℕ) (line : List ℕ) → Result Form Refusal → Type 0
 IsLine profile file number line told =
     ((line ≡ []) × (told ≡ Ok form.Blank))
     ⊎ (((required : Bool) × (names : List ℕ) × IsInclude profile line required names × IsIncludeForm profile file number required names told)
-    ⊎ ((is_empty line ≡ false) × IsNoInclude profile line × IsStatement file number line told))
+    ⊎ ((is_empty line ≡ false) × IsNoInclude profile line
+    × ((plain : Result Form Refusal) × IsStatement profile file number line plain × (told ≡ told_as profile line plain))))
 
 -- a comment reaches from the first `#` to the end, and may hold any bytes
 abbrev pub HasContent : (text content : List ℕ) → Type 0

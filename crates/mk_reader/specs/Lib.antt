@@ -1,4 +1,6 @@
 -- The model is Lines, Spelling, Grammar, Special and Statements; Form is what the code does.
+-- Directive: words that begin lines of GNU make, and how such a line is told.
+pub mod Directive
 -- Fault: how faults name what isn't supported.
 pub mod Fault
 -- Form: the form of a line, branch by branch.

@@ -61,7 +61,7 @@ abbrev pub rule_text : (targets prerequisites : List ℕ) → List ℕ
 rule_text targets prerequisites = targets ++ (codes " :" ++ spaced prerequisites)
 
 abbrev pub definition_on : (file : List ℕ) (number : ℕ) (name : List ℕ) (append : Bool) (value : List ℕ) → Definition
-definition_on file number name append value = record { file = file; line = number; name = name; append = append; value = value }
+definition_on file number name append value = record { file = file; line = number; name = name; append = append; value = value; is_fixed = false }
 
 abbrev pub rule_on : (file : List ℕ) (number : ℕ) (special : Option SpecialName) (targets prerequisites : List ℕ) → UnfinishedRule
 rule_on file number special targets prerequisites =
@@ -94,7 +94,7 @@ abbrev pub IsPlainItem : Profile → PlainItem → Type 0
 IsPlainItem profile (definition name append value) =
     IsPlainName profile name × IsPlainValue value × (is_text (definition_text name append value) ≡ true) × IsOwnLine (definition_text name append value)
 IsPlainItem profile (rule special targets prerequisites recipe) =
-    ArePlainTargets profile targets × ArePlainPrerequisites prerequisites × HasSpecial targets special × (is_refused_with prerequisites special ≡ false)
+    ArePlainTargets profile targets × ArePlainPrerequisites prerequisites × HasSpecial targets special × (is_refused_with profile prerequisites special ≡ false)
     × (is_text (rule_text targets prerequisites) ≡ true) × IsOwnLine (rule_text targets prerequisites) × IsPlainRecipe recipe
 
 abbrev pub ArePlain : Profile → List PlainItem → Type 0

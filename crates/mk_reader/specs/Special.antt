@@ -1,5 +1,7 @@
 -- The special names of make and dmake: which are used, which have no effect, and which are refused.
-use Rattle.std.specs.Prelude.{ℕ, Bool, true, false, List, [], ◌∷◌, Option, bytes_eq, codes, find}
+use Rattle.std.specs.Prelude.{ℕ, Bool, true, false, not, List, [], ◌∷◌, Option, bytes_eq, codes, find}
+use Rattle.mk_profile.specs.Profile.{is_wide}
+use Rattle.mk_profile.specs.declared.profile.Profile.{Profile}
 use Rattle.mk_reader.specs.declared.special.SpecialName.{SpecialName}
 use Rattle.mk_reader.specs.declared.special.SpecialName.TheVariants.{KeepState, Suffixes, NoParallel, Ignore, Silent, Precious, Posix, Parallel, SccsGet, Local, Init, Done, Failed, Default, KeepStateFile, MakeVersion, GetPosix, SccsGetPosix, Phony}
 
@@ -32,27 +34,27 @@ all_names = KeepState ∷ Suffixes ∷ NoParallel ∷ Ignore ∷ Silent ∷ Prec
 unfoldable pub special_name : List ℕ → Option SpecialName
 special_name word = find (λ name. bytes_eq (name_text name) word) all_names
 
--- a rule of this name is refused
-unfoldable pub is_refused : SpecialName → Bool
-is_refused Init = true
-is_refused Done = true
-is_refused Failed = true
-is_refused Default = true
-is_refused KeepStateFile = true
-is_refused MakeVersion = true
-is_refused GetPosix = true
-is_refused SccsGetPosix = true
-is_refused Phony = true
-is_refused KeepState = false
-is_refused Suffixes = false
-is_refused NoParallel = false
-is_refused Ignore = false
-is_refused Silent = false
-is_refused Precious = false
-is_refused Posix = false
-is_refused Parallel = false
-is_refused SccsGet = false
-is_refused Local = false
+-- a rule of this name is refused; that of PHONY in the strict profile alone
+unfoldable pub is_refused : Profile → SpecialName → Bool
+is_refused profile Init = true
+is_refused profile Done = true
+is_refused profile Failed = true
+is_refused profile Default = true
+is_refused profile KeepStateFile = true
+is_refused profile MakeVersion = true
+is_refused profile GetPosix = true
+is_refused profile SccsGetPosix = true
+is_refused profile Phony = not (is_wide profile)
+is_refused profile KeepState = false
+is_refused profile Suffixes = false
+is_refused profile NoParallel = false
+is_refused profile Ignore = false
+is_refused profile Silent = false
+is_refused profile Precious = false
+is_refused profile Posix = false
+is_refused profile Parallel = false
+is_refused profile SccsGet = false
+is_refused profile Local = false
 
 -- a rule of this name is refused where it has prerequisites, which would speak of single targets
 unfoldable pub takes_no_prerequisites : SpecialName → Bool

@@ -30,6 +30,7 @@ abbrev pub recipe_from : Result Form Refusal → List RecipeLine → List Recipe
 recipe_from (Ok form.Blank) below = below
 recipe_from (Ok (form.Recipe line)) below = line ∷ below
 recipe_from (Ok (form.Include include)) below = []
+recipe_from (Ok (form.DefinitionLine line)) below = []
 recipe_from (Ok (form.Definition definition)) below = []
 recipe_from (Ok (form.Rule unfinished)) below = []
 recipe_from (Err fault) below = []
@@ -56,6 +57,7 @@ FormStatements file number above (Err fault) below Rest statements = statements 
 FormStatements file number above (Ok form.Blank) below Rest statements = Rest above statements
 FormStatements file number above (Ok (form.Recipe line)) below Rest statements = BelowRule file number above Rest statements
 FormStatements file number above (Ok (form.Include include)) below Rest statements = Before (statement.Include include) (Rest false) statements
+FormStatements file number above (Ok (form.DefinitionLine line)) below Rest statements = Before (statement.Definition line) (Rest false) statements
 FormStatements file number above (Ok (form.Definition definition)) below Rest statements =
     Before (statement.Item (item.Definition definition)) (Rest false) statements
 FormStatements file number above (Ok (form.Rule unfinished)) below Rest statements =

@@ -1,4 +1,5 @@
 //! Why a makefile is refused, and the texts of the faults.
+use crate::directive::Directive;
 use crate::special::SpecialName;
 use byte_strings::ByteString;
 use std::alloc::{AllocError, AllocFailed};
@@ -10,16 +11,18 @@ use thiserror::Error;
 pub enum Feature {
     /// An include line with a reference, or without a name, in the strict profile.
     Include,
-    /// `?=`
+    /// `?=` in the strict profile.
     OptionalDefinition,
-    /// `::`, and so `::=`
+    /// `::`, and in the strict profile so `::=`.
     DoubleColon,
-    /// `:=`
+    /// `:=` in the strict profile, and where it would be a conditional macro.
     ColonDefinition,
     /// `:sh =`
     ShellDefinition,
     /// A rule of this special name, or one with prerequisites where they would ask for something else.
     SpecialName(SpecialName),
+    /// A line of GNU make's, in the wide profile.
+    Directive(Directive),
 }
 
 impl fmt::Display for Feature {
@@ -36,6 +39,7 @@ impl fmt::Display for Feature {
             Feature::ColonDefinition => f.write_str(":="),
             Feature::ShellDefinition => f.write_str(":sh"),
             Feature::SpecialName(name) => f.write_str(name.as_str()),
+            Feature::Directive(directive) => f.write_str(directive.as_str()),
         }
     }
 }

@@ -1,5 +1,5 @@
 //! What one logical line can be, as values.
-use crate::item::{Definition, IncludeLine, RecipeLine, Rule};
+use crate::item::{Definition, DefinitionLine, IncludeLine, RecipeLine, Rule};
 use crate::special::SpecialName;
 
 /// Whether a byte stands outside references.
@@ -26,5 +26,6 @@ pub enum Form {
     Recipe(RecipeLine),
     Include(IncludeLine),
     Definition(Definition),
+    DefinitionLine(DefinitionLine),
     Rule(UnfinishedRule),
 }

@@ -8,7 +8,8 @@ use crate::fault::{Cause, ReadFault};
 use crate::form::{Form, UnfinishedRule};
 use crate::item::{Item, RecipeLine, Special, Statement};
 use crate::line::{LinePlace, LogicalLine};
-use crate::statement::{form_of, refuse};
+use crate::refuse::refuse;
+use crate::statement::form_of;
 use mk_profile::Profile;
 use std::alloc::{AllocError, Global};
 
@@ -128,6 +129,9 @@ impl Gathered {
             }
             Form::Include(include) => {
                 self.add(Statement::Include(include))?;
+            }
+            Form::DefinitionLine(definition) => {
+                self.add(Statement::Definition(definition))?;
             }
             Form::Definition(definition) => {
                 self.add(Statement::Item(Item::Definition(definition)))?;

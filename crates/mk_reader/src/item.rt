@@ -16,6 +16,8 @@ pub struct Definition {
     /// Whether `+=` stood there.
     pub append: bool,
     pub value: ByteString,
+    /// Whether what is appended to this is expanded where it stands.
+    pub is_fixed: bool,
 }
 
 /// A line of a recipe, without its TAB.
@@ -56,6 +58,10 @@ impl Recipe {
     pub fn push(&mut self, line: RecipeLine) -> Result<(), AllocError>
         ensures ok { OnOk result (self.new ≡ self.old ++ line ∷ []) }
     {
+        // Most recipes have one line.
+        if self.lines.is_empty() {
+            self.lines.reserve_exact(1)?;
+        }
         self.lines.push(line)?;
         Ok(())
     }
@@ -86,6 +92,24 @@ pub struct Special {
     pub rule: Rule,
 }
 
+/// When a definition counts that isn't taken as it stands.
+#[derive(Clone, Copy)]
+pub enum DefinitionKind {
+    /// `?=`: where the name has no text yet.
+    IfUndefined,
+    /// `::=` and `:=`: with its text expanded where it stands, as are texts that are appended to it.
+    AtOnce,
+    /// `:::=`: with its text expanded where it stands, but not what is appended to it.
+    AtOnceAlone,
+}
+
+/// A definition of the wide profile, which counts by what stands above it. It doesn't append.
+#[derive(Drop)]
+pub struct DefinitionLine {
+    pub kind: DefinitionKind,
+    pub definition: Definition,
+}
+
 #[derive(Drop)]
 pub enum Item {
     Definition(Definition),
@@ -108,6 +132,7 @@ pub struct IncludeLine {
 #[derive(Drop)]
 pub enum Statement {
     Item(Item),
+    Definition(DefinitionLine),
     Include(IncludeLine),
     /// A line that is refused. It is the last statement of its file.
     Refused(Refusal),

@@ -48,7 +48,7 @@ pub fn printed_lines_are_read_back()
         (Ok (form.Definition (definition_on file number name append value))) }
     ensures rule { (profile : Profile) (file targets prerequisites : List ℕ) (number : ℕ) (special : Option SpecialName)
         → ArePlainTargets profile targets → ArePlainPrerequisites prerequisites → HasSpecial targets special
-        → is_refused_with prerequisites special ≡ false → is_text (rule_text targets prerequisites) ≡ true
+        → is_refused_with profile prerequisites special ≡ false → is_text (rule_text targets prerequisites) ≡ true
         → IsForm profile file (line_of_text number (rule_text targets prerequisites))
         (Ok (form.Rule (rule_on file number special targets prerequisites))) }
 {}

@@ -2,6 +2,8 @@
 //! `statements_of` is the one call; `laws` says in which sense the definition of a text's lines is right.
 #![tactic(auto)]
 
+mod definition_line;
+mod directive;
 mod fault;
 mod form;
 mod gathered;
@@ -10,13 +12,18 @@ pub mod laws;
 mod line;
 mod lines;
 mod reference;
+mod refuse;
 mod special;
 mod statement;
 mod statements;
 mod text;
 
+pub use directive::Directive;
 pub use fault::{Cause, Feature, MacroCause, ReadFault, Refusal};
-pub use item::{Definition, IncludeLine, Item, Recipe, RecipeLine, Rule, Special, Statement};
+pub use item::{
+    Definition, DefinitionKind, DefinitionLine, IncludeLine, Item, Recipe, RecipeLine, Rule,
+    Special, Statement,
+};
 pub use lines::next_joined_line;
 pub use special::SpecialName;
 pub use statements::statements_of;

@@ -2,6 +2,7 @@
 ghost use Rattle.std.specs.Prelude.{◌≡◌};
 ghost use Rattle.mk_reader.specs.Special.{name_text, special_name, is_refused, takes_no_prerequisites};
 
+use mk_profile::Profile;
 use std::fmt;
 
 /// A target that changes how make works. The names are make's, and dmake's.
@@ -19,7 +20,7 @@ pub enum SpecialName {
     Parallel,
     SccsGet,
     Local,
-    // These are refused.
+    // These are refused, the last one in the strict profile alone.
     Init,
     Done,
     Failed,
@@ -102,10 +103,10 @@ pub fn special_name(word: &[u8]) -> Option<SpecialName>
         .find(|name| name.as_str().as_bytes() == word)
 }
 
-/// Whether passing over a rule of this name could change what is built.
+/// Whether passing over a rule of this name could change what is built. The wide profile takes `.PHONY`.
 #[tactic(auto, unfolding(crate::specs::Special::is_refused))]
-pub fn is_refused(name: SpecialName) -> bool
-    ensures { result ≡ is_refused name }
+pub fn is_refused(profile: Profile, name: SpecialName) -> bool
+    ensures { result ≡ is_refused profile name }
 {
     match name {
         SpecialName::Init
@@ -115,8 +116,8 @@ pub fn is_refused(name: SpecialName) -> bool
         | SpecialName::KeepStateFile
         | SpecialName::MakeVersion
         | SpecialName::GetPosix
-        | SpecialName::SccsGetPosix
-        | SpecialName::Phony => true,
+        | SpecialName::SccsGetPosix => true,
+        SpecialName::Phony => !profile.is_wide(),
         _ => false,
     }
 }

@@ -1,42 +1,26 @@
 //! From one logical line to its form. Each function answers the form, or the line's fault.
 ghost use Rattle.std.specs.Prelude.{◌≡◌, ◌+◌, ◌<◌, ◌==◌, ◌&&◌, IfOk, IfSome, length, take, drop, codes, bytes_eq};
 ghost use Rattle.std.specs.List.{before_first, list_any};
-ghost use Rattle.byte_strings.specs.Blanks.{is_blank, trimmed_start};
+ghost use Rattle.byte_strings.specs.Blanks.{trimmed_start};
 ghost use Rattle.mk_reader.specs.Text.{is_hash, is_dollar, is_empty, is_text};
-ghost use Rattle.mk_reader.specs.Form.{Gives, Refuses, refusal, include_kind, include_form, named_form, definition_form, prerequisites_of, recipe_of, judged_form, rule_form, begins_shell_definition, colon_form, decided_form, line_form, statement_form, recipe_form, form_of, first_outside};
+ghost use Rattle.mk_reader.specs.Directive.{told_as};
+ghost use Rattle.mk_reader.specs.Form.{Gives, include_kind, include_form, prerequisites_of, recipe_of, judged_form, rule_form, begins_shell_definition, colon_form, decided_form, line_form, statement_form, recipe_form, form_of, first_outside};
 ghost use Rattle.mk_reader.specs.declared.form.Place.TheVariants.{Outside};
 
-use crate::fault::{Cause, Feature, ReadFault, Refusal};
+use crate::definition_line::{definition_form, double_form, set_form};
+use crate::directive::told_refusal;
+use crate::fault::{Cause, Feature, ReadFault};
 use crate::form::{Form, UnfinishedRule};
-use crate::item::{Definition, IncludeLine, Recipe, RecipeLine, Rule};
+use crate::item::{IncludeLine, Recipe, RecipeLine, Rule};
 use crate::line::{LinePlace, LogicalLine};
-use crate::lines::{begins_with, ends_with, without_first, without_last};
+use crate::lines::{begins_with, without_first};
 use crate::reference::first_outside;
+use crate::refuse::refuse;
 use crate::special::{SpecialName, is_refused, special_name, takes_no_prerequisites};
 use crate::text::is_text;
-use byte_strings::{ByteString, first_word, is_blank, trim, trim_start};
+use byte_strings::{ByteString, first_word, trim, trim_start};
 use mk_profile::Profile;
 use std::alloc::{AllocError, Global};
-
-/// The fault of a line; the file's name is copied.
-pub fn refuse(place: LinePlace<'_>, cause: Cause) -> ReadFault
-    ensures { Refuses result (refusal place.entry.file.now place.entry.number cause) }
-{
-    match ByteString::from_slice(place.alloc, place.file) {
-        Ok(file) => ReadFault::Refused(Refusal {
-            file,
-            line: place.number,
-            cause,
-        }),
-        Err(_) => ReadFault::OutOfMemory,
-    }
-}
-
-fn has_blank(bytes: &[u8]) -> bool
-    ensures { result ≡ list_any is_blank bytes.now }
-{
-    bytes.iter().any(|byte| is_blank(*byte))
-}
 
 fn has_dollar(bytes: &[u8]) -> bool
     ensures { result ≡ list_any is_dollar bytes.now }
@@ -94,41 +78,6 @@ fn include_form(place: LinePlace<'_>, is_required: bool, names: &[u8]) -> Result
     }))
 }
 
-#[tactic(auto, unfolding(crate::specs::Form::named_form))]
-fn named_form(
-    place: LinePlace<'_>,
-    name: &[u8],
-    append: bool,
-    value: &[u8],
-) -> Result<Form, ReadFault>
-    ensures { Gives result (named_form place.entry.file.now place.entry.number name.now append value.now) }
-{
-    if name.is_empty() || has_blank(name) {
-        return Err(refuse(place, Cause::MissingSeparator));
-    }
-    Ok(Form::Definition(Definition {
-        file: ByteString::from_slice(place.alloc, place.file)?,
-        line: place.number,
-        name: ByteString::from_slice(place.alloc, name)?,
-        append,
-        value: ByteString::from_slice(place.alloc, trim(value))?,
-    }))
-}
-
-#[tactic(auto, unfolding(crate::specs::Form::definition_form))]
-fn definition_form(place: LinePlace<'_>, left: &[u8], right: &[u8]) -> Result<Form, ReadFault>
-    ensures { Gives result (definition_form place.entry.file.now place.entry.number left.now right.now) }
-{
-    if ends_with(left, b'?') {
-        let cause = Cause::Unsupported(Feature::OptionalDefinition);
-        return Err(refuse(place, cause));
-    }
-    if ends_with(left, b'+') {
-        return named_form(place, trim(without_last(left)), true, right);
-    }
-    named_form(place, trim(left), false, right)
-}
-
 #[tactic(auto, unfolding(crate::specs::Form::judged_form))]
 fn judged_form(
     alloc: Global,
@@ -136,11 +85,11 @@ fn judged_form(
     special: Option<SpecialName>,
     rule: Rule,
 ) -> Result<Form, ReadFault>
-    ensures { Gives result (judged_form special rule) }
+    ensures { Gives result (judged_form profile special rule) }
 {
     if let Some(name) = special {
         let has_prerequisites = !rule.prerequisites.as_slice().is_empty();
-        if is_refused(name) || (takes_no_prerequisites(name) && has_prerequisites) {
+        if is_refused(profile, name) || (takes_no_prerequisites(name) && has_prerequisites) {
             let cause = Cause::Unsupported(Feature::SpecialName(name));
             let place = LinePlace {
                 alloc,
@@ -185,7 +134,7 @@ fn recipe_of(
 
 #[tactic(auto, unfolding(crate::specs::Form::rule_form))]
 fn rule_form(place: LinePlace<'_>, targets: &[u8], right: &[u8]) -> Result<Form, ReadFault>
-    ensures { Gives result (rule_form place.entry.file.now place.entry.number targets.now right.now) }
+    ensures { Gives result (rule_form place.entry.profile place.entry.file.now place.entry.number targets.now right.now) }
 {
     if targets.is_empty() {
         return Err(refuse(place, Cause::MissingSeparator));
@@ -214,15 +163,13 @@ fn begins_shell_definition(right: &[u8]) -> bool
 
 #[tactic(auto, unfolding(crate::specs::Form::colon_form))]
 fn colon_form(place: LinePlace<'_>, left: &[u8], right: &[u8]) -> Result<Form, ReadFault>
-    ensures { Gives result (colon_form place.entry.file.now place.entry.number left.now right.now) }
+    ensures { Gives result (colon_form place.entry.profile place.entry.file.now place.entry.number left.now right.now) }
 {
     if begins_with(right, b':') {
-        let cause = Cause::Unsupported(Feature::DoubleColon);
-        return Err(refuse(place, cause));
+        return double_form(place, left, without_first(right));
     }
     if begins_with(right, b'=') {
-        let cause = Cause::Unsupported(Feature::ColonDefinition);
-        return Err(refuse(place, cause));
+        return set_form(place, left, without_first(right));
     }
     if begins_shell_definition(right) {
         let cause = Cause::Unsupported(Feature::ShellDefinition);
@@ -233,7 +180,7 @@ fn colon_form(place: LinePlace<'_>, left: &[u8], right: &[u8]) -> Result<Form, R
 
 #[tactic(auto, unfolding(crate::specs::Form::decided_form))]
 fn decided_form(place: LinePlace<'_>, line: &[u8]) -> Result<Form, ReadFault>
-    ensures { Gives result (decided_form place.entry.file.now place.entry.number line.now (first_outside 61 58 Outside line.now)) }
+    ensures { Gives result (decided_form place.entry.profile place.entry.file.now place.entry.number line.now (first_outside 61 58 Outside line.now)) }
 {
     let Some(at) = first_outside(line, b'=', b':') else {
         return Err(refuse(place, Cause::MissingSeparator));
@@ -243,6 +190,22 @@ fn decided_form(place: LinePlace<'_>, line: &[u8]) -> Result<Form, ReadFault>
         definition_form(place, left, right)
     } else {
         colon_form(place, left, right)
+    }
+}
+
+/// The form of a line that is neither empty nor an include line, as it is told.
+fn told_form(place: LinePlace<'_>, line: &[u8]) -> Result<Form, ReadFault>
+    ensures { Gives result (told_as place.entry.profile line.now
+        (decided_form place.entry.profile place.entry.file.now place.entry.number line.now (first_outside 61 58 Outside line.now))) }
+{
+    let profile = place.profile;
+    match decided_form(place, line) {
+        Ok(form) => Ok(form),
+        Err(ReadFault::OutOfMemory) => Err(ReadFault::OutOfMemory),
+        Err(ReadFault::Refused(refused)) => {
+            let told = told_refusal(profile, line, refused);
+            Err(ReadFault::Refused(told))
+        }
     }
 }
 
@@ -259,7 +222,7 @@ fn line_form(place: LinePlace<'_>, line: &[u8]) -> Result<Form, ReadFault>
             let names = line.get(word.len()..).unwrap_or(b"".as_slice());
             include_form(place, is_required, names)
         }
-        None => decided_form(place, line),
+        None => told_form(place, line),
     }
 }
 

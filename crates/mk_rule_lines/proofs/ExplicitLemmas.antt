@@ -1,7 +1,7 @@
 -- The prerequisites of a name's lines, by the numbers of the lines.
-use Rattle.std.proofs.Common.{◌≡◌, ℕ, ◌+◌, Bool, true, false, List, [], ◌∷◌, ◌++◌, length, filter, Option, Some, None, refl, sym, ap, ◌∙◌}
+use Rattle.std.proofs.Common.{◌≡◌, ℕ, ◌+◌, Bool, true, false, ◌&&◌, List, [], ◌∷◌, ◌++◌, length, filter, Option, Some, None, refl, sym, ap, ◌∙◌}
 use Rattle.std.specs.Prelude.{slice_get}
-use Rattle.std.specs.List.{flat_map}
+use Rattle.std.specs.List.{flat_map, list_any}
 use Rattle.std.specs.Option.{option_map_or}
 use Rattle.std.proofs.lemmas.List.{append_assoc, length-append}
 use Rattle.mk_rule_lines.specs.Rules.{places}
@@ -32,6 +32,28 @@ module _ (p : RuleLine → Bool) where
   names-places done (l ∷ left) =
       at_places done l left (p l) refl
       (let more = names-places (done ++ l ∷ []) left in
+      let whole : (done ++ l ∷ []) ++ left ≡ done ++ l ∷ left = append_assoc done (l ∷ []) left in
+      let count : length (done ++ l ∷ []) ≡ length done + 1 = length-append done (l ∷ []) in
+      rw whole at (rw count at more))
+
+module _ (p q : RuleLine → Bool) where
+  abbrev at_number : List RuleLine → (k : ℕ) → Bool
+  at_number lines k = option_map_or q (slice_get lines k) false
+
+  any_at : (done : List RuleLine) (l : RuleLine) (left : List RuleLine) (t : Bool) → p l ≡ t →
+      list_any (at_number (done ++ l ∷ left)) (places p (length done + 1) left) ≡ list_any (λ l. p l && q l) left →
+      list_any (at_number (done ++ l ∷ left)) (places p (length done) (l ∷ left)) ≡ list_any (λ l. p l && q l) (l ∷ left)
+  any_at done l left true e more =
+      let here : at_number (done ++ l ∷ left) (length done) ≡ q l = ap (λ (o : Option RuleLine). option_map_or q o false) (read_behind done l left) in
+      simp (e, here, more) refl
+  any_at done l left false e more = simp (e, more) refl
+
+  -- among the lines that pass, and among the numbers of these lines, there is the same
+  pub any-places : (done left : List RuleLine) → list_any (at_number (done ++ left)) (places p (length done) left) ≡ list_any (λ l. p l && q l) left
+  any-places done [] = refl
+  any-places done (l ∷ left) =
+      any_at done l left (p l) refl
+      (let more = any-places (done ++ l ∷ []) left in
       let whole : (done ++ l ∷ []) ++ left ≡ done ++ l ∷ left = append_assoc done (l ∷ []) left in
       let count : length (done ++ l ∷ []) ≡ length done + 1 = length-append done (l ∷ []) in
       rw whole at (rw count at more))

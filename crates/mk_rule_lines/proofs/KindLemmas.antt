@@ -3,7 +3,7 @@ use Rattle.std.specs.Prelude.{is_none, slice_index_or, Contains}
 use Rattle.std.specs.Bool.{Decides}
 use Rattle.std.specs.List.{Any, list_any}
 use Rattle.std.specs.Option.{option_map_or}
-use Rattle.std.proofs.Common.{◌≡◌, ◌∙◌, ℕ, Bool, true, false, not, cond, ◌&&◌, ◌==◌, List, [], ◌∷◌, ◌++◌, length, take, drop, filter, Option, Some, None, refl, sym, ap, subst, bytes_eq}
+use Rattle.std.proofs.Common.{◌≡◌, ◌⊎◌, ◌∙◌, ℕ, Bool, true, false, not, cond, ◌&&◌, ◌==◌, List, [], ◌∷◌, ◌++◌, length, take, drop, filter, Option, Some, None, refl, sym, ap, subst, bytes_eq}
 use Rattle.std.proofs.lemmas.Bool.{both_ways, not-true, not_from_false, false_from_ne_true, and_parts, and_from}
 use Rattle.std.proofs.lemmas.Bool.Decides.{Decides-and, Decides-or, Decides-not, Decides-like, Decides-at, Decides-eqb}
 use Rattle.std.proofs.lemmas.List.{take_at, drop_at, take-append-drop}
@@ -12,8 +12,10 @@ use Rattle.std.proofs.lemmas.Map.Views.{any-filter_same}
 use Rattle.std.proofs.lemmas.Slice.Eq.{bytes_eq-Decides}
 use Rattle.mk_macros.specs.Words.{without_front}
 use Rattle.mk_reader.specs.Text.{is_empty}
-use Rattle.mk_rule_lines.specs.Kinds.{IsRule, HasRecipe, IsPatternRule, IsSuffixName, IsSuffixRule, Mentions, IsRuleFor, IsSuffixRuleFor}
-use Rattle.mk_rule_lines.specs.Rules.{has, has_percent, is_rule, is_pattern_rule, joins, is_suffix_name, may_be_suffix_rule, is_suffix_target, comes_out, targets_by}
+use Rattle.mk_reader.specs.declared.special.SpecialName.{SpecialName}
+use Rattle.mk_reader.specs.declared.special.SpecialName.TheVariants.{Phony}
+use Rattle.mk_rule_lines.specs.Kinds.{IsRule, HasRecipe, IsPatternRule, IsPhonyList, IsSuffixName, IsSuffixRule, Mentions, IsRuleFor, IsSuffixRuleFor}
+use Rattle.mk_rule_lines.specs.Rules.{has, has_percent, is_rule, is_pattern_rule, is_phony_list, makes_targets, joins, is_suffix_name, may_be_suffix_rule, is_suffix_target, comes_out, targets_by}
 use Rattle.mk_rule_lines.specs.declared.rule_line.RuleLine.{RuleLine}
 
 -- ---- lists
@@ -56,13 +58,23 @@ pub pattern_rule_decides : (l : RuleLine) → Decides (is_pattern_rule l) (IsPat
 pattern_rule_decides l =
     Decides-and (is_rule l) (list_any has_percent l.targets) (rule_decides l) (any_decides has_percent (λ target. Contains target 37) (byte_decides 37) l.targets)
 
+phony_list_at : (o : Option SpecialName) → Decides (is_phony_list o) (o ≡ Some Phony)
+phony_list_at None = ((λ e. absurd cc), λ e. absurd cc)
+phony_list_at (Some Phony) = ((λ e. refl), λ e. refl)
+phony_list_at (Some other) = ((λ e. absurd cc), λ e. absurd cc)
+
+makes_decides : (l : RuleLine) → Decides (makes_targets l) (IsPhonyList l ⊎ (IsRule l × (IsPatternRule l → ⊥)))
+makes_decides l =
+    Decides-or (is_phony_list l.special) (is_rule l && not (is_pattern_rule l)) (phony_list_at l.special)
+    (Decides-and (is_rule l) (not (is_pattern_rule l)) (rule_decides l) (Decides-not (is_pattern_rule l) (pattern_rule_decides l)))
+
 pub recipe_decides : (l : RuleLine) → Decides (not (is_empty l.recipe)) (HasRecipe l)
 recipe_decides l = Decides-not (is_empty l.recipe) (empty_decides l.recipe)
 
 -- ---- suffix rules
 
 module _ (suffixes : List (List ℕ)) where
-  rest_is : (s t : List ℕ) → without_front s (s ++ t) ≡ Some t
+  pub rest_is : (s t : List ℕ) → without_front s (s ++ t) ≡ Some t
   rest_is s t =
       let test : bytes_eq s s ≡ true = (bytes_eq-Decides s s).1 refl in
       rw (take_at s t (length s) refl, drop_at s t (length s) refl, test) refl
@@ -106,24 +118,13 @@ has-filter : (p : List ℕ → Bool) (name : List ℕ) (names : List (List ℕ))
 has-filter p name names = any-filter_same (bytes_eq name) p (p name) (λ n e. ap p (sym ((bytes_eq-Decides name n).0 e))) names
 
 module _ (b : Bool) (suffixes : List (List ℕ)) (l : RuleLine) (name : List ℕ) where
-  mentions : (is_rule l && not (is_pattern_rule l)) ≡ true → has name l.targets ≡ true → Mentions l name
-  mentions e h =
-      let parts = and_parts (is_rule l) (not (is_pattern_rule l)) e in
-      record {
-        rule = (rule_decides l).0 parts.0;
-        no_pattern = λ is. both_ways (is_pattern_rule l) (not-true (is_pattern_rule l) parts.1) ((pattern_rule_decides l).1 is);
-        target = (has_decides name l.targets).0 h;
-      }
-
-  mentioned : Mentions l name → (is_rule l && not (is_pattern_rule l)) ≡ true
-  mentioned m =
-      and_from (is_rule l) (not (is_pattern_rule l)) ((rule_decides l).1 m.rule)
-      (not_from_false (is_pattern_rule l) (false_from_ne_true (is_pattern_rule l) (λ e. m.no_pattern ((pattern_rule_decides l).0 e))))
+  mentions : makes_targets l ≡ true → has name l.targets ≡ true → Mentions l name
+  mentions e h = record { makes = (makes_decides l).0 e; target = (has_decides name l.targets).0 h }
 
   abbrev IsChosen : Type 0
   IsChosen = Mentions l name × (comes_out b (is_suffix_target suffixes l name) ≡ true)
 
-  listed_at : (t : Bool) → (is_rule l && not (is_pattern_rule l)) ≡ t → Decides (has name (targets_by b suffixes l)) IsChosen
+  listed_at : (t : Bool) → makes_targets l ≡ t → Decides (has name (targets_by b suffixes l)) IsChosen
   listed_at true e =
       let chosen : List ℕ → Bool = λ n. comes_out b (is_suffix_target suffixes l n) in
       let whole : has name (targets_by b suffixes l) ≡ (chosen name && has name l.targets) =
@@ -136,11 +137,11 @@ module _ (b : Bool) (suffixes : List (List ℕ)) (l : RuleLine) (name : List ℕ
       let chosen : List ℕ → Bool = λ n. comes_out b (is_suffix_target suffixes l n) in
       let whole : has name (targets_by b suffixes l) ≡ false = ap (λ (t : Bool). has name (cond t (filter chosen l.targets) [])) e in (
         (λ h. absurd (both_ways (has name (targets_by b suffixes l)) whole h)),
-        λ h. absurd (both_ways (is_rule l && not (is_pattern_rule l)) e (mentioned h.0)),
+        λ h. absurd (both_ways (makes_targets l) e ((makes_decides l).1 h.0.makes)),
       )
 
   listed_decides : Decides (has name (targets_by b suffixes l)) IsChosen
-  listed_decides = listed_at (is_rule l && not (is_pattern_rule l)) refl
+  listed_decides = listed_at (makes_targets l) refl
 
 -- the line has the name among its targets that are no suffix rules, or among those that are
 pub rule_for_decides : (suffixes : List (List ℕ)) (name : List ℕ) (l : RuleLine) → Decides (has name (targets_by false suffixes l)) (IsRuleFor suffixes name l)

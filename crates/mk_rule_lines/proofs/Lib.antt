@@ -2,6 +2,7 @@ pub mod ExplicitLemmas
 pub mod FormLemmas
 pub mod GoalLemmas
 pub mod ImplicitLemmas
+pub mod InForceLemmas
 pub mod KindLemmas
 pub mod LineLemmas
 pub mod NameLemmas

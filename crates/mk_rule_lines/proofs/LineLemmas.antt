@@ -1,6 +1,7 @@
 -- The rule lines of items, one more item at a time.
 use Rattle.std.specs.Prelude.{Result, Ok, Err, IsErrAnd, IfErr}
-use Rattle.std.proofs.Common.{arith, length, ◌+◌, ◌≡◌, ℕ, inl, inr, List, [], ◌∷◌, ◌++◌, Some, None, refl, sym, ap, subst}
+use Rattle.std.proofs.Common.{arith, length, ◌+◌, ◌≡◌, ℕ, true, false, inl, inr, List, [], ◌∷◌, ◌++◌, Option, Some, None, refl, sym, ap, subst}
+use Rattle.byte_strings.specs.Blanks.{words}
 use Rattle.mk_macros.specs.Expansion.{ExpandsToFault}
 use Rattle.mk_macros.specs.declared.fault.MacroFault.{MacroFault}
 use Rattle.mk_macros.specs.declared.fault.MacroFault.TheVariants.{OutOfMemory, Loop, Unclosed, NestedReference, TooLong}
@@ -8,50 +9,88 @@ use Rattle.mk_reader.specs.declared.item.Definition.{Definition}
 use Rattle.mk_reader.specs.declared.item.Rule.{Rule}
 use Rattle.mk_reader.specs.declared.item.Item.{Item}
 use Rattle.mk_reader.specs.declared.item.Item.TheVariants as item
+use Rattle.mk_rule_lines.specs.declared.fault.TextPlace.{TextPlace}
 use Rattle.mk_rule_lines.specs.declared.fault.RuleFault.{RuleFault}
 use Rattle.mk_rule_lines.specs.declared.fault.RuleFault.TheVariants as fault
 use Rattle.std.proofs.lemmas.List.{append_assoc, append-nil}
 use Rattle.mk_reader.specs.declared.special.SpecialName.{SpecialName}
+use Rattle.mk_reader.specs.declared.special.SpecialName.TheVariants.{Phony}
+use Rattle.mk_rule_lines.specs.Rules.{is_phony_list}
 use Rattle.mk_rule_lines.specs.declared.rule_line.RuleLine.{RuleLine}
 use Rattle.mk_macros.specs.Ranks.{Defined, rule_meanings}
-use Rattle.mk_rule_lines.specs.Lines.{IsRuleLine, AreRuleLines, no_items, behind_definition, a_rule, a_special, behind, behind_items, rule_in, IsTextFault, IsRuleTextFault, IsLinesFault, IsToldAs}
+use Rattle.mk_rule_lines.specs.Lines.{AreWordsOf, IsRuleLine, AreRuleLines, no_items, behind_definition, a_rule, a_special, behind, behind_items, IsTextsFault, IsRuleLineFault, IsLinesFault, IsToldAt, told_place}
 
--- a fault of the expansion, told, is a fault of the text
-pub told_fault : (given : Defined) (text : List ℕ) (f : MacroFault) (told : RuleFault) → IsToldAs f told → ExpandsToFault (rule_meanings given) text f → IsTextFault given text told
-told_fault given text OutOfMemory told is meets = subst (IsTextFault given text) (sym is) tt
-told_fault given text (Loop name) told is meets = subst (IsTextFault given text) (sym is) meets
-told_fault given text Unclosed told is meets = subst (IsTextFault given text) (sym is) meets
-told_fault given text NestedReference told is meets = subst (IsTextFault given text) (sym is) meets
-told_fault given text TooLong told is meets = subst (IsTextFault given text) (sym is) meets
+-- a fault of a rule's targets, or of its prerequisites, is one of its texts
+pub targets_fault : (given : Defined) (rule : Rule) (f : MacroFault) → ExpandsToFault (rule_meanings given) rule.targets f → IsTextsFault given rule f
+targets_fault given rule OutOfMemory meets = tt
+targets_fault given rule (Loop name) meets = inl meets
+targets_fault given rule Unclosed meets = inl meets
+targets_fault given rule NestedReference meets = inl meets
+targets_fault given rule TooLong meets = inl meets
 
--- a fault of a rule's targets, or of its prerequisites, is one of the rule
-pub targets_fault : (given : Defined) (rule : Rule) (f : RuleFault) → IsTextFault given rule.targets f → IsRuleTextFault given rule f
-targets_fault given rule fault.OutOfMemory meets = tt
-targets_fault given rule (fault.Macro f) meets = inl meets
-targets_fault given rule _ meets = meets
+pub prerequisites_fault : (given : Defined) (rule : Rule) (f : MacroFault) → ExpandsToFault (rule_meanings given) rule.prerequisites f → IsTextsFault given rule f
+prerequisites_fault given rule OutOfMemory meets = tt
+prerequisites_fault given rule (Loop name) meets = inr meets
+prerequisites_fault given rule Unclosed meets = inr meets
+prerequisites_fault given rule NestedReference meets = inr meets
+prerequisites_fault given rule TooLong meets = inr meets
 
-pub prerequisites_fault : (given : Defined) (rule : Rule) (f : RuleFault) → IsTextFault given rule.prerequisites f → IsRuleTextFault given rule f
-prerequisites_fault given rule fault.OutOfMemory meets = tt
-prerequisites_fault given rule (fault.Macro f) meets = inr meets
-prerequisites_fault given rule _ meets = meets
+-- a fault of the texts, told of the place of the line, is one of the line
+pub told_at : (given : Defined) (rule : Rule) (place : Option TextPlace) (f : MacroFault) (told : RuleFault) →
+    place ≡ told_place given.language rule.file rule.line → IsToldAt place f told → IsTextsFault given rule f → IsRuleLineFault given rule told
+told_at given rule place OutOfMemory told here is meets = subst (IsRuleLineFault given rule) (sym is) tt
+told_at given rule place (Loop name) told here is meets = subst (IsRuleLineFault given rule) (sym is) (record { text = meets; place = here })
+told_at given rule place Unclosed told here is meets = subst (IsRuleLineFault given rule) (sym is) (record { text = meets; place = here })
+told_at given rule place NestedReference told here is meets = subst (IsRuleLineFault given rule) (sym is) (record { text = meets; place = here })
+told_at given rule place TooLong told here is meets = subst (IsRuleLineFault given rule) (sym is) (record { text = meets; place = here })
 
--- a fault of the first item's rule
-pub first_fault : (given : Defined) (at : Item) (items : List Item) (rule : Rule) → rule_in at ≡ Some rule → (f : RuleFault) → IsRuleTextFault given rule f → IsLinesFault given (at ∷ items) f
-first_fault given at items rule is fault.OutOfMemory meets = tt
-first_fault given at items rule is (fault.Macro f) meets =
-    record { above = []; at = at; below = items; whole = refl; rule = rule; rule_is = is; text = meets }
-first_fault given at items rule is _ meets = meets
+-- a fault of the items below a definition
+definition_passed : (given : Defined) (d : Definition) (items : List Item) (f : RuleFault) → IsLinesFault (behind given d) items f → IsLinesFault given (item.Definition d ∷ items) f
+definition_passed given d items fault.OutOfMemory meets = tt
+definition_passed given d items (fault.Macro f) meets = meets
+definition_passed given d items _ meets = absurd meets
 
--- a fault of the items below the first
-pub later_fault : (given : Defined) (at : Item) (items : List Item) (f : RuleFault) → IsLinesFault (behind_items given (at ∷ [])) items f → IsLinesFault given (at ∷ items) f
-later_fault given at items fault.OutOfMemory meets = tt
-later_fault given (item.Definition d) items (fault.Macro f) meets =
-    record { above = item.Definition d ∷ meets.above; at = meets.at; below = meets.below; whole = ap (λ more. item.Definition d ∷ more) meets.whole; rule = meets.rule; rule_is = meets.rule_is; text = meets.text }
-later_fault given (item.Rule r) items (fault.Macro f) meets =
-    record { above = item.Rule r ∷ meets.above; at = meets.at; below = meets.below; whole = ap (λ more. item.Rule r ∷ more) meets.whole; rule = meets.rule; rule_is = meets.rule_is; text = meets.text }
-later_fault given (item.Special s) items (fault.Macro f) meets =
-    record { above = item.Special s ∷ meets.above; at = meets.at; below = meets.below; whole = ap (λ more. item.Special s ∷ more) meets.whole; rule = meets.rule; rule_is = meets.rule_is; text = meets.text }
-later_fault given at items _ meets = meets
+-- a fault of the first rule, and of the items below it, where it gives a line
+module _ (given : Defined) (items : List Item) (rule : Rule) where
+  rule_meets : (f : RuleFault) → IsRuleLineFault given rule f → IsLinesFault given (item.Rule rule ∷ items) f
+  rule_meets fault.OutOfMemory meets = tt
+  rule_meets (fault.Macro f) meets = inl meets
+  rule_meets _ meets = absurd meets
+
+  special_meets : (name : SpecialName) (f : RuleFault) → IsRuleLineFault given rule f → IsLinesFault given (item.Special (record { name = name; rule = rule }) ∷ items) f
+  special_meets name fault.OutOfMemory meets = tt
+  special_meets name (fault.Macro f) meets = inl meets
+  special_meets name _ meets = absurd meets
+
+  rule_passed : (l : RuleLine) → IsRuleLine given None rule l → (f : RuleFault) → IsLinesFault given items f → IsLinesFault given (item.Rule rule ∷ items) f
+  rule_passed l is fault.OutOfMemory meets = tt
+  rule_passed l is (fault.Macro f) meets = inr (l, is, meets)
+  rule_passed l is _ meets = absurd meets
+
+  special_passed : (name : SpecialName) (l : RuleLine) → IsRuleLine given (Some name) rule l → (f : RuleFault) → IsLinesFault given items f →
+      IsLinesFault given (item.Special (record { name = name; rule = rule }) ∷ items) f
+  special_passed name l is fault.OutOfMemory meets = tt
+  special_passed name l is (fault.Macro f) meets = inr (l, is, meets)
+  special_passed name l is _ meets = absurd meets
+
+-- an empty text has no words
+pub no_words : words [] ≡ []
+unfolding words
+no_words = refl
+
+-- a line of `.PHONY` is a rule line for the names that it lists, and any other line has its own texts
+pub phony_line_is : (given : Defined) (special : Option SpecialName) (rule : Rule) (l : RuleLine) → is_phony_list special ≡ true → l.line ≡ rule.line →
+    l.special ≡ Some Phony → AreWordsOf given rule.prerequisites l.targets → l.prerequisites ≡ [] → l.recipe ≡ [] → IsRuleLine given special rule l
+phony_line_is given None rule l is_list n s t p r = absurd cc
+phony_line_is given (Some Phony) rule l is_list n s t p r = record { number = n; name = s; targets = t; prerequisites = p; recipe = r }
+phony_line_is given (Some other) rule l is_list n s t p r = absurd cc
+
+pub other_line_is : (given : Defined) (special : Option SpecialName) (rule : Rule) (l : RuleLine) → is_phony_list special ≡ false → l.line ≡ rule.line →
+    l.special ≡ special → AreWordsOf given rule.targets l.targets → AreWordsOf given rule.prerequisites l.prerequisites → l.recipe ≡ rule.recipe →
+    IsRuleLine given special rule l
+other_line_is given None rule l no_phony n s t p r = record { number = n; name = s; targets = t; prerequisites = p; recipe = r }
+other_line_is given (Some Phony) rule l no_phony n s t p r = absurd cc
+other_line_is given (Some other) rule l no_phony n s t p r = record { number = n; name = s; targets = t; prerequisites = p; recipe = r }
 
 -- what is known where some of the items have been read: what the lines of the items that are left, and what their
 -- faults, say of all items
@@ -69,7 +108,7 @@ module _ (first : Defined) (items : List Item) (given : Defined) (done : List Ru
       let here : SoFar first items (behind given d) done left = record {
         lines = λ more h. so.lines more (behind_definition h);
         all = so.all;
-        faults = λ f h. so.faults f (later_fault given (item.Definition d) left f h);
+        faults = λ f h. so.faults f (definition_passed given d left f h);
       } in
       subst (λ (r : Defined). SoFar first items r done left) (sym is) here
 
@@ -77,7 +116,7 @@ module _ (first : Defined) (items : List Item) (given : Defined) (done : List Ru
   so_far_rule rule l is so = record {
     lines = λ more h. subst (AreRuleLines first items) (sym (append_assoc done (l ∷ []) more)) (so.lines (l ∷ more) (a_rule is h));
     all = so.all;
-    faults = λ f h. so.faults f (later_fault given (item.Rule rule) left f h);
+    faults = λ f h. so.faults f (rule_passed given left rule l is f h);
   }
 
   pub so_far_special : (name : SpecialName) (rule : Rule) (l : RuleLine) → IsRuleLine given (Some name) rule l →
@@ -85,13 +124,17 @@ module _ (first : Defined) (items : List Item) (given : Defined) (done : List Ru
   so_far_special name rule l is so = record {
     lines = λ more h. subst (AreRuleLines first items) (sym (append_assoc done (l ∷ []) more)) (so.lines (l ∷ more) (a_special is h));
     all = so.all;
-    faults = λ f h. so.faults f (later_fault given (item.Special (record { name = name; rule = rule })) left f h);
+    faults = λ f h. so.faults f (special_passed given left rule name l is f h);
   }
 
 -- the first item that is left has the fault
-pub so_far_fault : (first : Defined) (items : List Item) (given : Defined) (done : List RuleLine) (at : Item) (left : List Item) (rule : Rule) → rule_in at ≡ Some rule →
-    SoFar first items given done (at ∷ left) → (f : RuleFault) → IsRuleTextFault given rule f → IsLinesFault first items f
-so_far_fault first items given done at left rule is so f meets = so.faults f (first_fault given at left rule is f meets)
+module _ (first : Defined) (items : List Item) (given : Defined) (done : List RuleLine) (left : List Item) (rule : Rule) where
+  pub rule_refused : SoFar first items given done (item.Rule rule ∷ left) → (f : RuleFault) → IsRuleLineFault given rule f → IsLinesFault first items f
+  rule_refused so f meets = so.faults f (rule_meets given left rule f meets)
+
+  pub special_refused : (name : SpecialName) → SoFar first items given done (item.Special (record { name = name; rule = rule }) ∷ left) →
+      (f : RuleFault) → IsRuleLineFault given rule f → IsLinesFault first items f
+  special_refused name so f meets = so.faults f (special_meets given left rule name f meets)
 
 pub so_far_end : (first : Defined) (items : List Item) (given : Defined) (done : List RuleLine) → SoFar first items given done [] → AreRuleLines first items done
 so_far_end first items given done so = subst (AreRuleLines first items) (append-nil done) (so.lines [] no_items)

@@ -8,6 +8,7 @@ use Rattle.std.proofs.lemmas.Bool.Decides.{Decides-and, Decides-or, Decides-eqb}
 use Rattle.std.proofs.lemmas.List.Sums.{sum_by-cons, sum_by-append}
 use Rattle.mk_macros.specs.Spelled.{Lacks}
 use Rattle.mk_reader.specs.Text.{is_empty}
+use Rattle.mk_rule_lines.specs.InForce.{IsOnePattern}
 use Rattle.mk_rule_lines.specs.Kinds.{IsRule, IsPatternRuleOf}
 use Rattle.mk_rule_lines.specs.Rules.{has, is_percent, is_rule, is_pattern_rule}
 use Rattle.mk_rule_lines.specs.Supported.{HasBracket, IsRefused, IsSupported}
@@ -79,6 +80,15 @@ one_name_is : (before after : List ℕ) → Lacks 37 before → Lacks 37 after �
 one_name_is before after front back =
     and_from (length ((before ++ 37 ∷ after) ∷ []) == 1) (list_any is_pattern ((before ++ 37 ∷ after) ∷ [])) refl
     (or_left (is_pattern (before ++ 37 ∷ after)) false (pattern_is before after front back))
+
+pub one_pattern_decides : (names : List (List ℕ)) → Decides (is_one_pattern names) (IsOnePattern names)
+one_pattern_decides names = (
+  (λ e.
+      let (name, are, t) = one_name names e in
+      let (before, after, is, b, a) = parts_of name (eqb-true (count name) 1 t) in
+      (before, after, are ∙ ap (λ n. n ∷ []) is, b, a)),
+  λ (before, after, is, b, a). ap is_one_pattern is ∙ one_name_is before after b a,
+)
 
 -- ---- pattern rules
 

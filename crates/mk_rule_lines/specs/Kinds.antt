@@ -1,7 +1,8 @@
 -- What kind a rule line is, and what its targets are: told of the line, whatever order it is looked at in.
-use Rattle.std.specs.Prelude.{◌≡◌, ◌≢◌, ◌⊎◌, ℕ, List, [], ◌∷◌, ◌++◌, None, Contains}
+use Rattle.std.specs.Prelude.{◌≡◌, ◌≢◌, ◌⊎◌, ℕ, List, [], ◌∷◌, ◌++◌, Some, None, Contains}
 use Rattle.std.specs.List.{Any}
 use Rattle.mk_macros.specs.Spelled.{Lacks}
+use Rattle.mk_reader.specs.declared.special.SpecialName.TheVariants.{Phony}
 use Rattle.mk_rule_lines.specs.declared.rule_line.RuleLine.{RuleLine}
 
 -- a line that is no special rule
@@ -37,10 +38,13 @@ pub record IsSuffixRule (suffixes : List (List ℕ)) (l : RuleLine) (name : List
   pub recipe : HasRecipe l
   pub name_is : IsSuffixName suffixes name
 
--- the line has the name among its targets, and is no special and no pattern rule
+-- a line of `.PHONY`, whose targets are the names that it lists (POSIX make, .PHONY)
+abbrev pub IsPhonyList : RuleLine → Type 0
+IsPhonyList l = l.special ≡ Some Phony
+
+-- the line has the name among its targets, and is a rule that is no pattern rule, or lists phony names
 pub record Mentions (l : RuleLine) (name : List ℕ) : Type 0 where
-  pub rule : IsRule l
-  pub no_pattern : IsPatternRule l → ⊥
+  pub makes : IsPhonyList l ⊎ (IsRule l × (IsPatternRule l → ⊥))
   pub target : Contains l.targets name
 
 -- the line is one of the name's rules (make(1S), "Rules"), and it has the suffix rule of this name

@@ -5,7 +5,7 @@ use Rattle.std.specs.Option.{option_map_or}
 use Rattle.mk_macros.specs.Words.{without_front}
 use Rattle.mk_reader.specs.Text.{is_empty}
 use Rattle.mk_reader.specs.declared.special.SpecialName.{SpecialName}
-use Rattle.mk_reader.specs.declared.special.SpecialName.TheVariants.{Suffixes}
+use Rattle.mk_reader.specs.declared.special.SpecialName.TheVariants.{Suffixes, Phony}
 use Rattle.mk_rule_lines.specs.declared.rule_line.RuleLine.{RuleLine}
 
 -- the name is one of these
@@ -26,6 +26,15 @@ is_rule l = is_none l.special
 -- a rule that has a `%` in a target
 abbrev pub is_pattern_rule : RuleLine → Bool
 is_pattern_rule l = is_rule l && list_any has_percent l.targets
+
+-- a line of `.PHONY`
+abbrev pub is_phony_list : Option SpecialName → Bool
+is_phony_list (Some Phony) = true
+is_phony_list _ = false
+
+-- a line that makes its targets by name: a rule that is no pattern rule, or one of `.PHONY`
+abbrev pub makes_targets : RuleLine → Bool
+makes_targets l = is_phony_list l.special || (is_rule l && not (is_pattern_rule l))
 
 -- the suffixes with those of a list that are new, in order (own: one that is there keeps its place)
 abbrev pub added : (suffixes names : List (List ℕ)) → List (List ℕ)
@@ -73,10 +82,10 @@ abbrev pub comes_out : (wanted answer : Bool) → Bool
 comes_out true answer = answer
 comes_out false answer = not answer
 
--- the targets of a line that are suffix rules, or those that are not; a special or a pattern rule has neither
+-- the targets of a line that are suffix rules, or those that are not; a line that makes none has neither
 abbrev pub targets_by : (suffix_rules : Bool) → (suffixes : List (List ℕ)) → RuleLine → List (List ℕ)
 targets_by suffix_rules suffixes l =
-    if is_rule l && not (is_pattern_rule l) then filter (λ t. comes_out suffix_rules (is_suffix_target suffixes l t)) l.targets else []
+    if makes_targets l then filter (λ t. comes_out suffix_rules (is_suffix_target suffixes l t)) l.targets else []
 
 -- the numbers, from k on, of the lines that pass a test
 abbrev pub places : (passes : RuleLine → Bool) → (k : ℕ) → List RuleLine → List ℕ

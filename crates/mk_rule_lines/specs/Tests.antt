@@ -1,8 +1,10 @@
 -- What the private functions compute of a line, by one test after the other. `Supported` says what it means.
-use Rattle.std.specs.Prelude.{ℕ, Bool, not, ◌&&◌, ◌||◌, ◌==◌, List, count_by, length, codes}
+use Rattle.std.specs.Prelude.{ℕ, Bool, false, not, ◌&&◌, ◌||◌, ◌==◌, List, [], ◌∷◌, bytes_eq, count_by, length, codes}
 use Rattle.std.specs.List.{list_any}
+use Rattle.std.specs.Option.{option_map_or}
+use Rattle.mk_macros.specs.Words.{without_front}
 use Rattle.mk_reader.specs.Text.{is_empty}
-use Rattle.mk_rule_lines.specs.Rules.{has, is_percent, is_rule, is_pattern_rule}
+use Rattle.mk_rule_lines.specs.Rules.{has, is_percent, is_rule, is_pattern_rule, may_be_suffix_rule}
 use Rattle.mk_rule_lines.specs.declared.fault.Unsupported.{Unsupported}
 use Rattle.mk_rule_lines.specs.declared.fault.Unsupported.TheVariants.{TargetGroup, LibraryMember, PatternRule}
 use Rattle.mk_rule_lines.specs.declared.rule_line.RuleLine.{RuleLine}
@@ -30,3 +32,42 @@ abbrev pub is_refused : Unsupported → RuleLine → Bool
 is_refused TargetGroup l = is_rule l && has (codes "+") l.targets
 is_refused LibraryMember l = is_rule l && (list_any has_bracket l.targets || list_any has_bracket l.prerequisites)
 is_refused PatternRule l = is_pattern_rule l && not (is_whole_pattern_rule l)
+
+-- a pattern rule of one target and one prerequisite, with one `%` in each, and without a recipe
+abbrev pub is_taking : RuleLine → Bool
+is_taking l = is_rule l && (is_one_pattern l.targets && (is_one_pattern l.prerequisites && is_empty l.recipe))
+
+-- both are just one name, and the same one
+abbrev pub same_word : (names others : List (List ℕ)) → Bool
+same_word (name ∷ []) (other ∷ []) = bytes_eq name other
+same_word _ _ = false
+
+-- both have the same target and the same prerequisite
+abbrev pub is_same_pattern : (l taking : RuleLine) → Bool
+is_same_pattern l taking = same_word l.targets taking.targets && same_word l.prerequisites taking.prerequisites
+
+-- the name is these two, one behind the other
+abbrev pub is_joined : (name s t : List ℕ) → Bool
+is_joined name s t = option_map_or (λ rest. bytes_eq rest t) (without_front s name) false
+
+-- the name is that of the suffix rule `st`, or `s`
+abbrev pub names_suffix_rule : (suffixes : List (List ℕ)) → (name s t : List ℕ) → Bool
+names_suffix_rule suffixes name s t = has s suffixes && ((is_empty t || has t suffixes) && is_joined name s t)
+
+-- the name is that of the suffix rule of this form: the target `%t` and the source `%s`
+abbrev pub names_form : (suffixes : List (List ℕ)) → (name target source : List ℕ) → Bool
+names_form suffixes name target source =
+    option_map_or (λ t. option_map_or (λ s. names_suffix_rule suffixes name s t) (without_front (37 ∷ []) source) false) (without_front (37 ∷ []) target) false
+
+-- the same of just one name each
+abbrev pub one_names_form : (suffixes : List (List ℕ)) → (names targets sources : List (List ℕ)) → Bool
+one_names_form suffixes (name ∷ []) (target ∷ []) (source ∷ []) = names_form suffixes name target source
+one_names_form suffixes _ _ _ = false
+
+-- the line is that of the suffix rule of the other one's form alone
+abbrev pub is_suffix_rule_of : (suffixes : List (List ℕ)) → (l taking : RuleLine) → Bool
+is_suffix_rule_of suffixes l taking = may_be_suffix_rule l && one_names_form suffixes l.targets taking.targets taking.prerequisites
+
+-- the line is taken away by the other one
+abbrev pub takes : (suffixes : List (List ℕ)) → (l taking : RuleLine) → Bool
+takes suffixes l taking = is_rule l && ((is_same_pattern l taking || is_suffix_rule_of suffixes l taking) && is_taking taking)

@@ -1,8 +1,9 @@
-//! What a name is made from by name.
+//! What a name is made from by name, and whether it is phony.
 ghost use Rattle.std.specs.Prelude.{◌≡◌, ◌++◌, ℕ, List, IfOk, OnOk};
-ghost use Rattle.mk_rule_lines.specs.Explicit.{is_wait, names_in, numbers_of, explicit_of};
+ghost use Rattle.std.specs.List.{list_any};
+ghost use Rattle.mk_rule_lines.specs.Explicit.{is_wait, is_phony, is_phony_at, names_in, numbers_of, explicit_of};
 
-use crate::rule_line::RuleLine;
+use crate::rule_line::{RuleLine, is_phony_list};
 use byte_strings::ByteStrings;
 use std::alloc::{AllocError, Global};
 
@@ -41,4 +42,28 @@ pub fn explicit_of(
         add_names_in(&mut found, line)?;
     }
     Ok(found)
+}
+
+/// Whether the line of this number is one of `.PHONY`.
+fn is_phony_at(lines: &[RuleLine], number: usize) -> bool
+    ensures { result ≡ is_phony_at lines.now number }
+{
+    match lines.get(number) {
+        Some(line) => is_phony_list(line.special),
+        None => false,
+    }
+}
+
+/// Whether one of these lines is of `.PHONY`.
+fn any_is_phony(lines: &[RuleLine], numbers: &[usize]) -> bool
+    ensures { result ≡ list_any (is_phony_at lines.now) numbers.now }
+{
+    numbers.iter().any(|number| is_phony_at(lines, *number))
+}
+
+/// Whether the name is phony: `numbers` are those of the lines that have the name among their targets.
+pub fn is_phony(lines: &[RuleLine], numbers: &[usize]) -> bool
+    ensures { (name : List ℕ) → numbers.now ≡ numbers_of lines.now name → result ≡ is_phony lines.now name }
+{
+    any_is_phony(lines, numbers)
 }

@@ -20,6 +20,53 @@ pub enum Unsupported {
     PatternRule,
 }
 
+/// Where a line of a makefile stands.
+#[derive(Debug, Drop, Error)]
+#[error("{file}:{line}")]
+pub struct TextPlace {
+    /// The file that holds the line.
+    pub file: ByteString,
+    /// Its number there, from 1.
+    pub line: usize,
+}
+
+/// Why a rule's texts have no expansion.
+#[derive(Debug, Drop)]
+pub struct TextFault {
+    /// The place of the rule's line, in the wide profile: in the strict one the cause is all that is told.
+    pub place: Option<TextPlace>,
+    pub cause: MacroFault,
+}
+
+impl fmt::Display for TextFault {
+    fn fmt<W: fmt::Write>(&self, f: &mut fmt::Formatter<W>) -> fmt::Result {
+        if let Some(place) = &self.place {
+            fmt::Display::fmt(place, f)?;
+            f.write_str(": ")?;
+        }
+        fmt::Display::fmt(&self.cause, f)
+    }
+}
+
+/// A name that has no file, and that nothing makes.
+#[derive(Debug, Drop)]
+pub struct Unmade {
+    pub name: ByteString,
+    /// A name that has it as a prerequisite, in the wide profile: in the strict one it isn't told.
+    pub needed_by: Option<ByteString>,
+}
+
+impl fmt::Display for Unmade {
+    fn fmt<W: fmt::Write>(&self, f: &mut fmt::Formatter<W>) -> fmt::Result {
+        fmt::Display::fmt(&self.name, f)?;
+        if let Some(by) = &self.needed_by {
+            f.write_str(", needed by ")?;
+            fmt::Display::fmt(by, f)?;
+        }
+        Ok(())
+    }
+}
+
 /// Names of which each is a prerequisite of the one before. The last is the first again.
 #[derive(Debug, Drop)]
 pub struct CycleNames {
@@ -47,9 +94,8 @@ pub enum RuleFault {
     /// No goal is named, and no rule gives one.
     #[error("no target")]
     NoTarget,
-    /// The name has no file, and nothing makes it.
     #[error("no rule for {0}")]
-    NoRule(ByteString),
+    NoRule(Unmade),
     /// The name, and the number of the rule line whose recipe is its second.
     #[error("two recipes for {0} (line {1})")]
     TwoRecipes(ByteString, usize),
@@ -60,7 +106,7 @@ pub enum RuleFault {
     TooMany,
     /// In the targets or the prerequisites of a rule.
     #[error("{0}")]
-    Macro(MacroFault),
+    Macro(TextFault),
     /// The number is that of the rule line.
     #[error("not supported: {0} (line {1})")]
     Unsupported(Unsupported, usize),

@@ -1,6 +1,7 @@
 //! The rule lines of a makefile: what they say of each name, which implicit rules and goals they give, what they set.
 #![tactic(auto)]
 
+mod counting;
 mod explicit;
 mod fault;
 mod form;
@@ -16,8 +17,9 @@ mod suffixes;
 mod supported;
 mod table;
 
-pub use explicit::{explicit_of, is_wait};
-pub use fault::{CycleNames, RuleFault, Unsupported};
+pub use counting::in_force;
+pub use explicit::{explicit_of, is_phony, is_wait};
+pub use fault::{CycleNames, RuleFault, TextFault, TextPlace, Unmade, Unsupported};
 pub use form::{Form, Source};
 pub use forms::forms_of;
 pub use goals::goals_of;

@@ -1,42 +1,80 @@
 //! The rule lines of a makefile's items.
-ghost use Rattle.std.specs.Prelude.{◌≡◌, ℕ, List, None, Some, IfOk, IfErr, OnOk};
+ghost use Rattle.std.specs.Prelude.{◌≡◌, ℕ, List, [], None, Some, IfOk, IfErr, OnOk};
+ghost use Rattle.mk_reader.specs.declared.special.SpecialName.TheVariants.{Phony};
 ghost use Rattle.mk_macros.specs.Ranks.{defined_by, rule_meanings};
-ghost use Rattle.mk_rule_lines.specs.Lines.{behind, behind_items, AreWordsOf, IsRuleLine, AreRuleLines, IsTextFault, IsRuleTextFault, IsLinesFault, IsToldAs};
-ghost use Rattle.mk_macros.specs.Expansion.{gives, ExpandsTo};
+ghost use Rattle.mk_rule_lines.specs.Lines.{behind, behind_items, AreWordsOf, IsRuleLine, AreRuleLines, IsTextsFault, IsRuleLineFault, IsLinesFault, IsToldAt, told_place};
+ghost use Rattle.mk_macros.specs.Expansion.{ExpandsToFault};
 
-use crate::fault::RuleFault;
+use crate::fault::{RuleFault, TextFault, TextPlace};
 use crate::line_words::LineWords;
-use crate::rule_line::RuleLine;
+use crate::rule_line::{RuleLine, is_phony_list};
+use byte_strings::ByteString;
 use mk_macros::{Dynamic, MacroFault, Macros, Rank};
-use mk_reader::{Definition, Item, Rule, Special, SpecialName};
+use mk_profile::Profile;
+use mk_reader::{Definition, Item, Recipe, Rule, Special, SpecialName};
 use std::alloc::{AllocError, Global};
 
-fn macro_fault(fault: MacroFault) -> RuleFault
-    ensures { IsToldAs fault result }
+/// The place of a line as it is told in this language.
+#[tactic(auto, unfolding(crate::specs::Lines::told_place))]
+fn told_place(profile: Profile, file: ByteString, line: usize) -> Option<TextPlace>
+    ensures { result ≡ told_place profile file line }
 {
-    match fault {
-        MacroFault::OutOfMemory => RuleFault::OutOfMemory,
-        fault => RuleFault::Macro(fault),
+    if profile.is_wide() {
+        Some(TextPlace { file, line })
+    } else {
+        None
     }
 }
 
-/// What the text of a rule line expands to.
-fn expanded(alloc: Global, macros: &Macros, text: &[u8]) -> Result<Vec<u8>, RuleFault>
-    ensures expansion { IfOk result (λ v. ExpandsTo (rule_meanings (defined_by macros.now)) text.now (gives v.items)) }
-    ensures fault { IfErr result (IsTextFault (defined_by macros.now) text.now) }
+/// The fault of a rule's texts, told of this place.
+fn fault_at(place: Option<TextPlace>, cause: MacroFault) -> RuleFault
+    ensures { IsToldAt place cause result }
 {
-    match macros.expand(alloc, text, &Dynamic::RuleLine) {
-        Ok(expansion) => Ok(expansion),
-        Err(fault) => Err(macro_fault(fault)),
+    match cause {
+        MacroFault::OutOfMemory => RuleFault::OutOfMemory,
+        cause => RuleFault::Macro(TextFault { place, cause }),
     }
 }
 
 /// The words of what the text of a rule line expands to.
-fn words_of(alloc: Global, macros: &Macros, text: &[u8]) -> Result<LineWords, RuleFault>
+fn words_of(alloc: Global, macros: &Macros, text: &[u8]) -> Result<LineWords, MacroFault>
     ensures words { IfOk result (λ words. AreWordsOf (defined_by macros.now) text.now words) }
-    ensures fault { IfErr result (IsTextFault (defined_by macros.now) text.now) }
+    ensures fault { IfErr result (ExpandsToFault (rule_meanings (defined_by macros.now)) text.now) }
 {
-    Ok(LineWords::new(expanded(alloc, macros, text)?))
+    let expansion = macros.expand(alloc, text, &Dynamic::RuleLine)?;
+    Ok(LineWords::new(expansion))
+}
+
+/// The words of a rule's two texts.
+fn both_words(
+    alloc: Global,
+    macros: &Macros,
+    rule: &Rule,
+) -> Result<(LineWords, LineWords), MacroFault>
+    ensures targets { IfOk result (λ both. AreWordsOf (defined_by macros.now) rule.now.targets both.0) }
+    ensures prerequisites { IfOk result (λ both. AreWordsOf (defined_by macros.now) rule.now.prerequisites both.1) }
+    ensures fault { IfErr result (IsTextsFault (defined_by macros.now) rule.now) }
+{
+    let targets = words_of(alloc, macros, rule.targets.as_slice())?;
+    let prerequisites = words_of(alloc, macros, rule.prerequisites.as_slice())?;
+    Ok((targets, prerequisites))
+}
+
+/// The line of `.PHONY` as a rule line for the names that it lists.
+fn phony_line(alloc: Global, line: usize, names: LineWords) -> RuleLine
+    ensures line { result.line ≡ line }
+    ensures special { result.special ≡ Some Phony }
+    ensures targets { result.targets ≡ names }
+    ensures prerequisites { result.prerequisites ≡ [] }
+    ensures recipe { result.recipe ≡ [] }
+{
+    RuleLine {
+        line,
+        special: Some(SpecialName::Phony),
+        targets: names,
+        prerequisites: LineWords::new(Vec::new(alloc)),
+        recipe: Recipe::new(alloc),
+    }
 }
 
 /// The line of a rule, expanded.
@@ -47,20 +85,30 @@ fn rule_line(
     rule: Rule,
 ) -> Result<RuleLine, RuleFault>
     ensures line { IfOk result (IsRuleLine (defined_by macros.now) special rule) }
-    ensures fault { IfErr result (IsRuleTextFault (defined_by macros.now) rule) }
+    ensures fault { IfErr result (IsRuleLineFault (defined_by macros.now) rule) }
 {
+    let words = both_words(alloc, macros, &rule);
     let Rule {
+        file,
         line,
-        targets,
-        prerequisites,
         recipe,
         ..
     } = rule;
+    let (targets, prerequisites) = match words {
+        Ok(both) => both,
+        Err(cause) => {
+            let place = told_place(macros.profile(), file, line);
+            return Err(fault_at(place, cause));
+        }
+    };
+    if is_phony_list(special) {
+        return Ok(phony_line(alloc, line, prerequisites));
+    }
     Ok(RuleLine {
         line,
         special,
-        targets: words_of(alloc, macros, targets.as_slice())?,
-        prerequisites: words_of(alloc, macros, prerequisites.as_slice())?,
+        targets,
+        prerequisites,
         recipe,
     })
 }

@@ -2,11 +2,13 @@
 ghost use Rattle.std.specs.Prelude.{◌≡◌, ◌≤◌, ◌⊎◌, ℕ, List, length, true, false, IfOk, IfErr, OnOk};
 ghost use Rattle.mk_macros.specs.Ranks.{defined_by};
 ghost use Rattle.mk_rule_lines.specs.Forms.{forms_of};
-ghost use Rattle.mk_rule_lines.specs.Lines.{behind_items, AreRuleLines, IsLinesFault};
+ghost use Rattle.mk_rule_lines.specs.InForce.{AreLinesInForce};
+ghost use Rattle.mk_rule_lines.specs.Lines.{behind_items, IsLinesFault};
 ghost use Rattle.mk_rule_lines.specs.Rules.{suffixes_of, targets_by, recipe_places};
 ghost use Rattle.mk_rule_lines.specs.Table.{IsTable, IsTableFault};
 ghost use Rattle.mk_rule_lines.specs.Taken.{AreTaken, IsTakingFault};
 
+use crate::counting::in_force;
 use crate::fault::RuleFault;
 use crate::form::Form;
 use crate::forms::forms_of;
@@ -48,19 +50,21 @@ fn implicit_rules(
 }
 
 impl Makefile {
-    /// Takes in a makefile's items: its rule lines, each expanded with the definitions above it. The macros take in the
+    /// Takes in a makefile's items: its rule lines that count, each expanded with the definitions above it. The macros take in the
     /// definitions.
     pub fn of_items(
         alloc: Global,
         items: Vec<Item>,
         macros: &mut Macros,
     ) -> Result<Makefile, RuleFault>
-        ensures lines { IfOk result (λ makefile. AreRuleLines (defined_by macros.old) items.items makefile.lines.items) }
+        ensures lines { IfOk result (λ makefile. AreLinesInForce (defined_by macros.old) items.items makefile.lines.items) }
         ensures macros { OnOk result (defined_by macros.new ≡ behind_items (defined_by macros.old) items.items) }
         ensures fault { IfErr result (λ fault. IsLinesFault (defined_by macros.old) items.items fault
-            ⊎ ((lines : List RuleLine) × AreRuleLines (defined_by macros.old) items.items lines × IsTakingFault lines fault)) }
+            ⊎ ((lines : List RuleLine) × AreLinesInForce (defined_by macros.old) items.items lines × IsTakingFault lines fault)) }
     {
-        let lines = rule_lines(alloc, items, macros)?;
+        let profile = macros.profile();
+        let all = rule_lines(alloc, items, macros)?;
+        let lines = in_force(alloc, profile, all)?;
         Makefile::of_lines(alloc, lines)
     }
 

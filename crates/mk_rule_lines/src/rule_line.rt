@@ -2,14 +2,14 @@
 ghost use Rattle.std.specs.Prelude.{◌≡◌, not, IfOk};
 ghost use Rattle.std.specs.List.{list_any};
 ghost use Rattle.mk_reader.specs.Text.{is_empty};
-ghost use Rattle.mk_rule_lines.specs.Rules.{has, has_percent, is_rule, is_pattern_rule, is_suffix_list, joins, is_suffix_name, may_be_suffix_rule, is_suffix_target, comes_out, targets_by};
+ghost use Rattle.mk_rule_lines.specs.Rules.{has, has_percent, is_rule, is_pattern_rule, is_phony_list, makes_targets, is_suffix_list, joins, is_suffix_name, may_be_suffix_rule, is_suffix_target, comes_out, targets_by};
 
 use crate::line_words::LineWords;
 use byte_strings::ByteStrings;
 use mk_reader::{Recipe, SpecialName};
 use std::alloc::{AllocError, Global};
 
-/// A rule line, or the line of a special rule.
+/// A rule line, or the line of a special rule. That of `.PHONY` has the names that it lists as its targets.
 #[derive(Drop)]
 pub struct RuleLine {
     /// The number of the line, from 1, in the file that holds it.
@@ -62,6 +62,15 @@ fn is_suffix_name(suffixes: &ByteStrings, name: &[u8]) -> bool
     has(suffixes, name) || joins_any(suffixes, name)
 }
 
+pub(crate) fn is_phony_list(special: Option<SpecialName>) -> bool
+    ensures { result ≡ is_phony_list special }
+{
+    match special {
+        Some(SpecialName::Phony) => true,
+        _ => false,
+    }
+}
+
 fn comes_out(wanted: bool, answer: bool) -> bool
     ensures { result ≡ comes_out wanted answer }
 {
@@ -82,13 +91,20 @@ impl RuleLine {
         self.is_rule() && any_percent(&self.targets)
     }
 
+    /// Whether it makes its targets by name.
+    fn makes_targets(&self) -> bool
+        ensures { result ≡ makes_targets self.now }
+    {
+        is_phony_list(self.special) || (self.is_rule() && !self.is_pattern_rule())
+    }
+
     pub fn has_recipe(&self) -> bool
         ensures { result ≡ not (is_empty self.now.recipe) }
     {
         !self.recipe.lines().is_empty()
     }
 
-    fn may_be_suffix_rule(&self) -> bool
+    pub(crate) fn may_be_suffix_rule(&self) -> bool
         ensures { result ≡ may_be_suffix_rule self.now }
     {
         self.prerequisites.is_empty() && self.has_recipe()
@@ -111,7 +127,7 @@ impl RuleLine {
         ensures { IfOk result (λ targets. targets ≡ targets_by suffix_rules suffixes.now self.now) }
     {
         let mut targets = ByteStrings::empty(alloc);
-        if !self.is_rule() || self.is_pattern_rule() {
+        if !self.makes_targets() {
             return Ok(targets);
         }
         for target in self.targets.iter() {

@@ -20,7 +20,7 @@ fn any_is_pattern(names: &LineWords) -> bool
     names.iter().any(|name| is_pattern(name))
 }
 
-fn is_one_pattern(names: &LineWords) -> bool
+pub(crate) fn is_one_pattern(names: &LineWords) -> bool
     ensures { result ≡ is_one_pattern names.now }
 {
     names.is_one() && any_is_pattern(names)

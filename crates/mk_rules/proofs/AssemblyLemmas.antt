@@ -5,7 +5,7 @@ use Rattle.st_state.specs.State.{StateMap}
 use Rattle.mk_graph.specs.Counted.{AreCounted}
 use Rattle.mk_graph.specs.Cycle.{HasCycle}
 use Rattle.mk_graph.specs.Edges.{row, is_closed}
-use Rattle.mk_graph.specs.Numbering.{IsNumbering, name_at}
+use Rattle.mk_graph.specs.Numbering.{IsNumbering, name_at, has_name}
 use Rattle.mk_graph.specs.Plan.{IsPlan}
 use Rattle.mk_graph.specs.declared.numbering.Numbered.{Numbered}
 use Rattle.mk_rules.specs.Assembly.{IsPutTogether}
@@ -13,7 +13,7 @@ use Rattle.mk_rules.specs.Found.{AreFound, IsUnmadeFault, IsGraphlessFault}
 use Rattle.mk_rule_lines.specs.Goals.{goals_of, settings_of}
 use Rattle.mk_rules.specs.Graph.{IsGraph, IsNode, AreMade, AreHard, AreSoft}
 use Rattle.mk_rules.specs.Ordering.{IsCycleFault}
-use Rattle.mk_rules.specs.Prerequisites.{Inputs, prerequisites_of}
+use Rattle.mk_rules.specs.Prerequisites.{Inputs, prerequisites_of, is_made}
 use Rattle.mk_rules.specs.Rows.{EachRow, IsHardRow}
 use Rattle.mk_rule_lines.specs.Taken.{AreTaken}
 use Rattle.mk_rule_lines.specs.declared.fault.RuleFault.{RuleFault}
@@ -22,6 +22,8 @@ use Rattle.mk_rules.specs.declared.graph.Graph.{Graph}
 use Rattle.mk_rules.specs.declared.known.Known.{Known}
 use Rattle.mk_rules.specs.declared.ordering.Ordered.{Ordered}
 use Rattle.mk_rule_lines.specs.declared.rule_line.RuleLine.{RuleLine}
+use Rattle.mk_rules.proofs.MadeLemmas.{has_at}
+use Rattle.mk_rules.proofs.NeededLemmas.{needed_is}
 use Rattle.mk_rules.proofs.RowLaws.{are_hard, nodes_are}
 
 module _ (inputs : Inputs) (named : List (List ℕ)) (lines : List RuleLine) (lines_are : inputs.lines ≡ lines) (n : Numbered Known)
@@ -62,9 +64,15 @@ module _ (inputs : Inputs) (named : List (List ℕ)) (lines : List RuleLine) (li
     }
 
   -- the faults that are met on the way
-  pub unmade_fault : (f : RuleFault) → IsUnmadeFault inputs n.names f → IsGraphlessFault inputs named f
+  pub unmade_fault : (f : RuleFault) → IsUnmadeFault inputs n.names n.rows f → IsGraphlessFault inputs named f
   unmade_fault fault.OutOfMemory meets = tt
-  unmade_fault (fault.NoRule name) meets = record { names = n.names; are_names = found.names_are; is_name = meets.0; unmade = meets.1 }
+  unmade_fault (fault.NoRule told) meets = record {
+    names = n.names;
+    are_names = found.names_are;
+    is_name = ap (has_name n.names) meets.name ∙ has_at n.names meets.node meets.within;
+    unmade = ap (is_made inputs) meets.name ∙ meets.unmade;
+    needed = needed_is inputs n.names n.rows n.nodes.items found.rows_are found.known node_count meets.node told.name meets.name told.needed_by meets.needed;
+  }
   unmade_fault (fault.Cycle cycle) meets = absurd meets
   unmade_fault _ meets = absurd meets
 

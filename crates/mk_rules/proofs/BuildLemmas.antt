@@ -9,7 +9,8 @@ use Rattle.mk_rules.specs.Found.{AreFound, IsGraphlessFault}
 use Rattle.mk_rule_lines.specs.Goals.{goals_of}
 use Rattle.mk_rules.specs.Graph.{IsGraph}
 use Rattle.mk_macros.specs.Ranks.{Defined}
-use Rattle.mk_rule_lines.specs.Lines.{AreRuleLines, IsLinesFault}
+use Rattle.mk_rule_lines.specs.InForce.{AreLinesInForce}
+use Rattle.mk_rule_lines.specs.Lines.{IsLinesFault}
 use Rattle.mk_rules.specs.Prerequisites.{Inputs, inputs_of}
 use Rattle.mk_rule_lines.specs.Taken.{IsTakingFault}
 use Rattle.mk_rule_lines.specs.declared.fault.RuleFault.{RuleFault}
@@ -35,7 +36,7 @@ module _ (inputs : Inputs) (refuses : List ℕ → Type 0) (named : List (List �
   graphless _ meets = absurd meets
 
 module _ (given : Defined) (items : List Item) (times : (name : List ℕ) → Option ℤ) (entries : (name : List ℕ) → Option Entry)
-    (named : List (List ℕ)) (lines : List RuleLine) (are : AreRuleLines given items lines) where
+    (named : List (List ℕ)) (lines : List RuleLine) (are : AreLinesInForce given items lines) where
   are_inputs : AreInputs given items times entries (inputs_of lines entries times)
   are_inputs = record { lines = are; times_are = refl; entries_are = refl }
 
@@ -65,7 +66,7 @@ module _ (given : Defined) (items : List Item) (times : (name : List ℕ) → Op
 -- a makefile is refused for a fault of its text, or of its rule lines
 pub makefile_refused : (given : Defined) (items : List Item) (times : (name : List ℕ) → Option ℤ)
     (entries : (name : List ℕ) → Option Entry) (named : List (List ℕ)) (refuses : List ℕ → Type 0) (limit : ℕ) (f : RuleFault) →
-    IsLinesFault given items f ⊎ ((lines : List RuleLine) × AreRuleLines given items lines × IsTakingFault lines f) →
+    IsLinesFault given items f ⊎ ((lines : List RuleLine) × AreLinesInForce given items lines × IsTakingFault lines f) →
     IsRuleFault given items times entries refuses named limit f
 makefile_refused given items times entries named refuses limit f (inl meets) = inl meets
 makefile_refused given items times entries named refuses limit f (inr meets) =

@@ -3,8 +3,8 @@ use Rattle.std.proofs.Common.{◌≡◌, ℕ, ℤ, Bool, List, inl, inr, Option,
 use Rattle.mk_graph.specs.Numbering.{IsNumbering}
 use Rattle.mk_reader.specs.declared.item.Item.{Item}
 use Rattle.st_records.specs.declared.record.Entry.{Entry}
-use Rattle.mk_rules.specs.Faults.{IsGraphFault, IsRuleFault, AreInputs, AreNames}
-use Rattle.mk_rules.specs.Found.{IsFindingFault, IsUnmadeFault}
+use Rattle.mk_rules.specs.Faults.{IsGraphFault, IsRuleFault, AreInputs}
+use Rattle.mk_rules.specs.Found.{IsFindingFault}
 use Rattle.mk_rule_lines.specs.Goals.{goals_of, IsGoalFault}
 use Rattle.mk_macros.specs.Ranks.{Defined}
 use Rattle.mk_rule_lines.specs.Lines.{IsLinesFault}
@@ -56,12 +56,6 @@ module _ (inputs : Inputs) (refuses : List ℕ → Type 0) (named : List (List �
     meets.1,
   )
   not_found goals are _ meets = absurd meets
-
-  -- a name that nothing makes
-  pub unmade : (names : List (List ℕ)) → AreNames inputs named names → (f : RuleFault) → IsUnmadeFault inputs names f → IsGraphFault inputs refuses named limit f
-  unmade names are fault.OutOfMemory meets = tt
-  unmade names are (fault.NoRule name) meets = record { names = names; are_names = are; is_name = meets.0; unmade = meets.1 }
-  unmade names are _ meets = absurd meets
 
 -- ---- faults of the whole
 

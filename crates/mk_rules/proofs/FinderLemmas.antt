@@ -1,5 +1,5 @@
 -- What is looked up of a name, put together.
-use Rattle.std.proofs.Common.{◌≡◌, ◌⊎◌, ℕ, true, false, List, [], ◌++◌, length, filter, map, drop, inl, inr, Option, sym, ap, ◌∙◌}
+use Rattle.std.proofs.Common.{◌≡◌, ◌⊎◌, ℕ, Bool, true, false, List, [], ◌++◌, length, filter, map, drop, inl, inr, Option, sym, ap, ◌∙◌}
 use Rattle.std.specs.Prelude.{option_map, option_to_list}
 use Rattle.mk_graph.specs.Numbering.{all_added}
 use Rattle.st_records.specs.declared.record.Entry.{Entry}
@@ -55,22 +55,22 @@ module _ (inputs : Inputs) (name : List ℕ) (source : Option Source) (explicit 
 no_value : false ≡ true → ⊥
 no_value is = cc
 
-module _ (targets : TargetTable) (stamps : Stamps) (refuses : List ℕ → Type 0) (forms : List Form) (own : List ℕ) (hidden : List (List ℕ)) (name : List ℕ) where
+module _ (targets : TargetTable) (stamps : Stamps) (refuses : List ℕ → Type 0) (forms : List Form) (phony : Bool) (own : List ℕ) (hidden : List (List ℕ)) (name : List ℕ) where
   -- each look that fails is one of looking up the name
-  pub own_look : (f : RuleFault) → IsLookFault refuses name f → IsLookUpFault targets stamps refuses forms own hidden name f
-  own_look fault.OutOfMemory meets = tt
-  own_look (fault.Tree n) meets = (inl meets.0, meets.1)
-  own_look _ meets = meets
+  pub own_look : phony ≡ false → (f : RuleFault) → IsLookFault refuses name f → IsLookUpFault targets stamps refuses forms phony own hidden name f
+  own_look no_phony fault.OutOfMemory meets = tt
+  own_look no_phony (fault.Tree n) meets = (inl (no_phony, meets.0), meets.1)
+  own_look no_phony _ meets = meets
 
-  -- a source is looked for only where no line has a recipe for the name
-  pub source_look : {A : Type 0} → (own ≡ []) ⊎ A → (A → false ≡ true) → (f : RuleFault) → IsSourceFault targets stamps refuses forms name f →
-      IsLookUpFault targets stamps refuses forms own hidden name f
+  -- a source is looked for only where the name isn't phony, and no line has a recipe for it
+  pub source_look : {A : Type 0} → ((phony ≡ false) × (own ≡ [])) ⊎ A → (A → false ≡ true) → (f : RuleFault) → IsSourceFault targets stamps refuses forms name f →
+      IsLookUpFault targets stamps refuses forms phony own hidden name f
   source_look (inl none) never fault.OutOfMemory meets = tt
-  source_look (inl none) never (fault.Tree n) meets = (inr (inr (none, meets.0)), meets.1)
+  source_look (inl none) never (fault.Tree n) meets = (inr (inr (none.0, none.1, meets.0)), meets.1)
   source_look (inl none) never _ meets = meets
   source_look (inr beside) never f meets = absurd (no_value (never beside))
 
-  pub hidden_look : (f : RuleFault) → IsNamesFault refuses hidden f → IsLookUpFault targets stamps refuses forms own hidden name f
+  pub hidden_look : (f : RuleFault) → IsNamesFault refuses hidden f → IsLookUpFault targets stamps refuses forms phony own hidden name f
   hidden_look fault.OutOfMemory meets = tt
   hidden_look (fault.Tree n) meets = (inr (inl meets.0), meets.1)
   hidden_look _ meets = meets

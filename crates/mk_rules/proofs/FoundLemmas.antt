@@ -7,8 +7,8 @@ use Rattle.mk_graph.specs.declared.numbering.NumberingFault.{NumberingFault}
 use Rattle.mk_graph.specs.declared.numbering.NumberingFault.TheVariants.{TooMany, Source}
 use Rattle.mk_reader.specs.Text.{is_empty}
 use Rattle.st_records.specs.declared.record.Entry.{Entry}
-use Rattle.mk_rule_lines.specs.Explicit.{explicit_targets}
-use Rattle.mk_rules.specs.Faults.{IsReachedFrom}
+use Rattle.mk_rule_lines.specs.Explicit.{explicit_targets, is_phony}
+use Rattle.mk_rules.specs.Faults.{IsItself, IsReachedFrom}
 use Rattle.mk_rule_lines.specs.Forms.{forms_of}
 use Rattle.mk_rules.specs.Found.{IsFindingFault}
 use Rattle.mk_rules.specs.Known.{IsAsked, IsLookUpFault}
@@ -49,8 +49,10 @@ module _ (lines : List RuleLine) (targets : TargetTable)
     (named : (name : List ℕ) → (table.named_at targets name).lines ≡ places (λ l. has name (targets_by false (suffixes_of lines) l)) 0 lines)
     (forms : List Form) (all_forms : forms ≡ forms_of (suffixes_of lines) lines) (entries : (name : List ℕ) → Option Entry)
     (stamps : Stamps) (times : List ℕ → Option ℤ) (agrees : AgreesWith stamps times) where
-  reached : (node name : List ℕ) → own_recipes lines node ≡ [] → IsReached targets stamps forms node name → IsReachedFrom (inputs_of lines entries times) node name
-  reached node name none r = record {
+  reached : (node name : List ℕ) → is_phony lines node ≡ false → own_recipes lines node ≡ [] → IsReached targets stamps forms node name →
+      IsReachedFrom (inputs_of lines entries times) node name
+  reached node name no_phony none r = record {
+    no_phony = no_phony;
     no_recipe = none;
     place = r.place;
     form = r.form;
@@ -64,15 +66,15 @@ module _ (lines : List RuleLine) (targets : TargetTable)
         ∙ ap (λ (fs : List Form). source_of (table.is_there targets times) (take r.place fs) node) (sym all_forms) ∙ r.earlier times agrees;
   }
 
-  asked : (node name : List ℕ) → IsAsked targets stamps forms (own_recipes lines node) (hidden_in (entries node)) node name →
-      (name ≡ node) ⊎ (IsTextAmong (hidden_of (inputs_of lines entries times) node) name ⊎ IsReachedFrom (inputs_of lines entries times) node name)
+  asked : (node name : List ℕ) → IsAsked targets stamps forms (is_phony lines node) (own_recipes lines node) (hidden_in (entries node)) node name →
+      IsItself lines node name ⊎ (IsTextAmong (hidden_of (inputs_of lines entries times) node) name ⊎ IsReachedFrom (inputs_of lines entries times) node name)
   asked node name (inl own) = inl own
   asked node name (inr (inl hidden)) = inr (inl hidden)
-  asked node name (inr (inr (none, r))) = inr (inr (reached node name none r))
+  asked node name (inr (inr (no_phony, none, r))) = inr (inr (reached node name no_phony none r))
 
   -- a name that can't be looked up is one that the goals lead to
   pub finding_fault : (refuses : List ℕ → Type 0) (goals : List (List ℕ)) (limit : ℕ) (node : List ℕ) (f : RuleFault) →
-      IsLookUpFault targets stamps refuses forms (own_recipes lines node) (hidden_in (entries node)) node f →
+      IsLookUpFault targets stamps refuses forms (is_phony lines node) (own_recipes lines node) (hidden_in (entries node)) node f →
       ((names : List (List ℕ)) → IsNumbering (prerequisites_of (inputs_of lines entries times)) goals names → has_name names node ≡ true) →
       IsFindingFault (inputs_of lines entries times) refuses goals limit f
   finding_fault refuses goals limit node fault.OutOfMemory meets is = tt

@@ -1,17 +1,23 @@
 -- By the same makefile, times and entries the inputs are the same.
-use Rattle.std.proofs.Common.{◌≡◌, ◌∙◌, ℕ, ℤ, List, [], ◌∷◌, Option, Some, None, refl, sym, ap}
+use Rattle.std.proofs.Common.{◌≡◌, ◌∙◌, ℕ, ℤ, List, [], ◌∷◌, Option, Some, None, refl, sym, ap, subst}
 use Rattle.byte_strings.specs.Blanks.{words}
 use Rattle.mk_macros.specs.Expansion.{gives}
 use Rattle.mk_macros.proofs.OutcomeLemmas.{expands_once}
 use Rattle.mk_reader.specs.declared.item.Item.{Item}
 use Rattle.mk_reader.specs.declared.item.Rule.{Rule}
 use Rattle.mk_reader.specs.declared.special.SpecialName.{SpecialName}
+use Rattle.mk_reader.specs.declared.special.SpecialName.TheVariants.{Phony}
 use Rattle.st_records.specs.declared.record.Entry.{Entry}
 use Rattle.mk_macros.specs.Ranks.{Defined, rule_meanings}
-use Rattle.mk_rule_lines.specs.Lines.{AreWordsOf, IsRuleLine, AreRuleLines, no_items, behind_definition, a_rule, a_special}
+use Rattle.mk_profile.specs.declared.profile.Profile.{Profile}
+use Rattle.mk_profile.specs.declared.profile.Profile.TheVariants.{Strict, Posix}
+use Rattle.mk_rule_lines.specs.InForce.{AreInForce, AreLinesInForce}
+use Rattle.mk_rule_lines.proofs.InForceLemmas.{left_once}
+use Rattle.mk_rule_lines.specs.Lines.{AreWordsOf, targets_text, ArePrerequisites, IsRuleLine, AreRuleLines, no_items, behind_definition, a_rule, a_special}
+use Rattle.mk_rule_lines.specs.Rules.{suffixes_of}
 use Rattle.mk_rule_lines.specs.declared.rule_line.RuleLine.{RuleLine}
 use Rattle.mk_rules.specs.Faults.{AreInputs}
-use Rattle.mk_rules.specs.Prerequisites.{Inputs}
+use Rattle.mk_rules.specs.Prerequisites.{Inputs, seen_times}
 
 words_once : (given : Defined) (text : List ℕ) (ws vs : List (List ℕ)) → AreWordsOf given text ws → AreWordsOf given text vs → ws ≡ vs
 words_once given text ws vs of_a of_b =
@@ -19,11 +25,17 @@ words_once given text ws vs of_a of_b =
     let same : of_a.expansion ≡ of_b.expansion = cc in
     of_a.cut ∙ ap words same ∙ sym of_b.cut
 
+prerequisites_once : (given : Defined) (special : Option SpecialName) (rule : Rule) (ws vs : List (List ℕ)) →
+    ArePrerequisites given special rule ws → ArePrerequisites given special rule vs → ws ≡ vs
+prerequisites_once given None rule ws vs of_a of_b = words_once given rule.prerequisites ws vs of_a of_b
+prerequisites_once given (Some Phony) rule ws vs of_a of_b = of_a ∙ sym of_b
+prerequisites_once given (Some other) rule ws vs of_a of_b = words_once given rule.prerequisites ws vs of_a of_b
+
 line_once : (given : Defined) (special : Option SpecialName) (rule : Rule) (l m : RuleLine) → IsRuleLine given special rule l → IsRuleLine given special rule m → l ≡ m
 line_once given special rule l m of_l of_m =
-    let targets : l.targets ≡ m.targets = words_once given rule.targets l.targets m.targets of_l.targets of_m.targets in
+    let targets : l.targets ≡ m.targets = words_once given (targets_text special rule) l.targets m.targets of_l.targets of_m.targets in
     let prerequisites : l.prerequisites ≡ m.prerequisites
-    = words_once given rule.prerequisites l.prerequisites m.prerequisites of_l.prerequisites of_m.prerequisites in
+    = prerequisites_once given special rule l.prerequisites m.prerequisites of_l.prerequisites of_m.prerequisites in
     let first : l ≡ record l { line = m.line } = ap (λ n. record l { line = n }) (of_l.number ∙ sym of_m.number) in
     let second : record l { line = m.line } ≡ record l { line = m.line; special = m.special }
     = ap (λ s. record l { line = m.line; special = s }) (of_l.name ∙ sym of_m.name) in
@@ -45,12 +57,22 @@ lines_once given _ _ _ (a_rule {rule = rule} {l = l} {lines = ls} of_l of_a) (a_
 lines_once given _ _ _ (a_special {name = name} {rule = rule} {l = l} {lines = ls} of_l of_a) (a_special {l = m} {lines = ms} of_m of_b) =
     ap (λ x. x ∷ ls) (line_once given (Some name) rule l m of_l of_m) ∙ ap (λ xs. m ∷ xs) (lines_once given _ ls ms of_a of_b)
 
+in_force_once : (profile : Profile) (lines a b : List RuleLine) → AreInForce profile lines a → AreInForce profile lines b → a ≡ b
+in_force_once Strict lines a b of_a of_b = of_a ∙ sym of_b
+in_force_once Posix lines a b of_a of_b = left_once (suffixes_of lines) lines a b of_a of_b
+
+all_once : (given : Defined) (items : List Item) (a b : List RuleLine) → AreLinesInForce given items a → AreLinesInForce given items b → a ≡ b
+all_once given items a b of_a of_b =
+    let same : of_a.lines ≡ of_b.lines = lines_once given items of_a.lines of_b.lines of_a.are of_b.are in
+    in_force_once given.language of_b.lines a b (subst (λ ls. AreInForce given.language ls a) same of_a.in_force) of_b.in_force
+
 pub inputs_once : (given : Defined) (items : List Item) (times : List ℕ → Option ℤ) (entries : List ℕ → Option Entry) (a b : Inputs) →
     AreInputs given items times entries a → AreInputs given items times entries b → a ≡ b
 inputs_once given items times entries a b of_a of_b =
-    let first : a ≡ record a { lines = b.lines } = ap (λ ls. record a { lines = ls }) (lines_once given items a.lines b.lines of_a.lines of_b.lines) in
+    let same : a.lines ≡ b.lines = all_once given items a.lines b.lines of_a.lines of_b.lines in
+    let first : a ≡ record a { lines = b.lines } = ap (λ ls. record a { lines = ls }) same in
     let second : record a { lines = b.lines } ≡ record a { lines = b.lines; times = b.times }
-    = ap (λ t. record a { lines = b.lines; times = t }) (of_a.times_are ∙ sym of_b.times_are) in
+    = ap (λ t. record a { lines = b.lines; times = t }) (of_a.times_are ∙ ap (λ ls. seen_times ls times) same ∙ sym of_b.times_are) in
     let third : record a { lines = b.lines; times = b.times } ≡ b
     = ap (λ e. record a { lines = b.lines; times = b.times; entries = e }) (of_a.entries_are ∙ sym of_b.entries_are) in
     first ∙ second ∙ third

@@ -10,6 +10,7 @@ pub mod HiddenLemmas
 pub mod InputLemmas
 pub mod LookupLemmas
 pub mod MadeLemmas
+pub mod NeededLemmas
 pub mod NodeLemmas
 pub mod OneGraphLemmas
 pub mod OneNumberingLemmas
@@ -18,6 +19,7 @@ pub mod PartsLaws
 pub mod RowLaws
 pub mod RowsLemmas
 pub mod RuleLemmas
+pub mod SetLemmas
 pub mod SourceLemmas
 pub mod StampLemmas
 pub mod WaitLemmas

@@ -1,13 +1,14 @@
 -- What is looked up of a name, in terms of the inputs.
-use Rattle.std.proofs.Common.{◌≡◌, ℕ, ℤ, Bool, true, false, not, List, [], Option, Some, None, refl, sym, ap, ◌∙◌}
+use Rattle.std.proofs.Common.{◌≡◌, ℕ, ℤ, Bool, true, false, not, cond, List, [], ◌∷◌, Option, Some, None, refl, sym, ap, ◌∙◌}
 use Rattle.std.specs.Prelude.{Result, Ok, Err, IfOk, ◌&&◌, ◌||◌, is_some, option_to_list}
+use Rattle.std.specs.List.{list_any}
 use Rattle.std.specs.Str.{is_utf8}
 use Rattle.mk_reader.specs.Text.{is_empty}
 use Rattle.st_records.specs.declared.record.Entry.{Entry}
-use Rattle.mk_rule_lines.specs.Explicit.{explicit_targets}
+use Rattle.mk_rule_lines.specs.Explicit.{explicit_targets, is_phony}
 use Rattle.mk_rule_lines.specs.Forms.{forms_of}
 use Rattle.mk_rules.specs.Prerequisites as inputs
-use Rattle.mk_rule_lines.specs.Rules.{has, places, targets_by, suffixes_of}
+use Rattle.mk_rule_lines.specs.Rules.{has, is_phony_list, places, targets_by, suffixes_of}
 use Rattle.mk_rule_lines.specs.Source.{source_of}
 use Rattle.mk_rule_lines.specs.Table as table
 use Rattle.mk_rule_lines.specs.declared.form.Form.{Form}
@@ -30,6 +31,27 @@ pub no_own : (recipe : Option ℕ) → is_some recipe ≡ false → option_to_li
 no_own None none = refl
 no_own (Some n) none = cc
 
+module _ (p q : RuleLine → Bool) where
+  first_at : (l : RuleLine) (lines : List RuleLine) (t : Bool) → p l ≡ t → (list_any (λ l. p l && q l) lines ≡ true → list_any p lines ≡ true) →
+      ((t && q l) || list_any (λ l. p l && q l) lines) ≡ true → list_any p (l ∷ lines) ≡ true
+  first_at l lines true is more e = simp is refl
+  first_at l lines false is more e = simp is (more e)
+
+  -- where something passes both tests, something passes the first
+  first_passes : (lines : List RuleLine) → list_any (λ l. p l && q l) lines ≡ true → list_any p lines ≡ true
+  first_passes [] e = cc
+  first_passes (l ∷ lines) e = first_at l lines (p l) refl (first_passes lines) e
+
+-- a phony name is a target
+phony_target : (lines : List RuleLine) (name : List ℕ) → is_phony lines name ≡ true → inputs.is_target lines name ≡ true
+phony_target lines name e = first_passes (λ l. has name (explicit_targets lines l)) (λ l. is_phony_list l.special) lines e
+
+-- so it is there, whatever its time
+there_whatever : (target phony : Bool) (time : Option ℤ) → (phony ≡ true → target ≡ true) → (target || is_some time) ≡ (target || is_some (cond phony None time))
+there_whatever true phony time there = refl
+there_whatever false true time there = let is = there refl in cc
+there_whatever false false time there = refl
+
 module _ (lines : List RuleLine) (targets : TargetTable)
     (named : (name : List ℕ) → (table.named_at targets name).lines ≡ places (λ l. has name (targets_by false (suffixes_of lines) l)) 0 lines)
     (entries : (name : List ℕ) → Option Entry) (times : List ℕ → Option ℤ) where
@@ -37,6 +59,7 @@ module _ (lines : List RuleLine) (targets : TargetTable)
   there_at name =
       ap (λ (ns : List ℕ). not (is_empty ns) || is_some (times name)) (named name)
       ∙ ap (λ (t : Bool). t || is_some (times name)) (any_place (λ (l : RuleLine). has name (explicit_targets lines l)) 0 lines)
+      ∙ there_whatever (inputs.is_target lines name) (is_phony lines name) (times name) (phony_target lines name)
 
   -- the table says of each name what the lines say
   pub same_there : table.is_there targets times ≡ inputs.is_there (inputs.inputs_of lines entries times)
@@ -46,12 +69,13 @@ module _ (lines : List RuleLine) (targets : TargetTable)
   pub node_there : (name : List ℕ) → is_utf8 name ≡ true → table.is_there targets times name ≡ inputs.is_node (inputs.inputs_of lines entries times) name
   node_there name text = there_at name ∙ sym (ap (λ (t : Bool). t && inputs.is_there (inputs.inputs_of lines entries times) name) text)
 
-  -- where no line has a recipe for the name
+  -- where the name isn't phony, and no line has a recipe for it
   pub implicit_is : (forms : List Form) (name : List ℕ) (recipe : Option ℕ) (found : Option Source) → forms ≡ forms_of (suffixes_of lines) lines →
-      option_to_list recipe ≡ inputs.own_recipes lines name → is_some recipe ≡ false → found ≡ source_of (table.is_there targets times) forms name →
+      option_to_list recipe ≡ inputs.own_recipes lines name → is_some recipe ≡ false → is_phony lines name ≡ false → found ≡ source_of (table.is_there targets times) forms name →
       found ≡ inputs.implicit_source (inputs.inputs_of lines entries times) name
-  implicit_is forms name recipe found all own none is =
+  implicit_is forms name recipe found all own none no_phony is =
       let there = inputs.is_there (inputs.inputs_of lines entries times) in
       let source = source_of there (forms_of (suffixes_of lines) lines) name in
       is ∙ ap (λ (f : List ℕ → Bool). source_of f forms name) same_there ∙ ap (λ (fs : List Form). source_of there fs name) all
       ∙ ap (λ (ns : List ℕ). inputs.unless_any ns source) (sym (no_own recipe none) ∙ own)
+      ∙ ap (λ (t : Bool). cond t None (inputs.unless_any (inputs.own_recipes lines name) source)) (sym no_phony)

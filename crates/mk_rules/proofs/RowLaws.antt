@@ -190,10 +190,10 @@ closed_hidden g known hidden rows count each closed =
 
 module _ (inputs : Inputs) (names : List (List ℕ)) (g : List (List ℕ)) (known : List Known) (rows_are : map (map (name_at names)) g ≡ map (prerequisites_of inputs) names)
     (described : AreDescribed (IsKnown inputs) names known) (count : length known ≡ length names) where
-  rows_count : length g ≡ length names
+  pub rows_count : length g ≡ length names
   rows_count = sym (length-map g (map (name_at names))) ∙ ap length rows_are ∙ length-map names (prerequisites_of inputs)
 
-  row_at : (n : ℕ) → n < length names → map (name_at names) (row g n) ≡ prerequisites_of inputs (name_at names n)
+  pub row_at : (n : ℕ) → n < length names → map (name_at names) (row g n) ≡ prerequisites_of inputs (name_at names n)
   row_at n within =
       sym (get_or-map (map (name_at names)) g n [] [] (subst (λ l. n < l) (sym rows_count) within))
       ∙ ap (λ (rs : List (List (List ℕ))). get_or rs n []) rows_are

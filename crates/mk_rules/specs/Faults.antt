@@ -1,33 +1,42 @@
 -- What each refusal says of a makefile, its files and its state.
-use Rattle.std.specs.Prelude.{◌≡◌, ℕ, ℤ, ◌<◌, ◌⊎◌, Bool, true, false, List, [], length, map, take, slice_get, Option, Some, None}
+use Rattle.std.specs.Prelude.{◌≡◌, ℕ, ℤ, ◌<◌, ◌⊎◌, Bool, true, false, List, [], length, map, take, slice_get, Option, Some, None, IfSome}
 use Rattle.mk_graph.specs.Cycle.{IsCycle}
 use Rattle.mk_graph.specs.Numbering.{IsNumbering, name_at, has_name}
 use Rattle.mk_reader.specs.declared.item.Item.{Item}
 use Rattle.st_records.specs.declared.record.Entry.{Entry}
+use Rattle.mk_rule_lines.specs.Explicit.{is_phony}
 use Rattle.mk_rule_lines.specs.Forms.{forms_of}
 use Rattle.mk_rule_lines.specs.Goals.{goals_of}
 use Rattle.mk_rules.specs.Graph.{AreHard}
 use Rattle.mk_macros.specs.Ranks.{Defined}
-use Rattle.mk_rule_lines.specs.Lines.{AreRuleLines, IsLinesFault}
-use Rattle.mk_rules.specs.Prerequisites.{Inputs, IsTextAmong, own_recipes, is_target, is_there, hidden_of, prerequisites_of, is_made}
-use Rattle.mk_rule_lines.specs.Rules.{targets_by, suffixes_of}
+use Rattle.mk_rule_lines.specs.InForce.{AreLinesInForce}
+use Rattle.mk_rule_lines.specs.Lines.{IsLinesFault}
+use Rattle.mk_rules.specs.Prerequisites.{Inputs, IsTextAmong, seen_times, own_recipes, is_target, is_there, hidden_of, prerequisites_of, is_made}
+use Rattle.mk_rule_lines.specs.Rules.{has, targets_by, suffixes_of}
 use Rattle.mk_rule_lines.specs.Source.{stem_of, source_at, source_of}
 use Rattle.mk_rule_lines.specs.Supported.{HasRefusedLine}
 use Rattle.mk_rule_lines.specs.Table.{HasTwoRecipes}
+use Rattle.mk_rule_lines.specs.declared.fault.Unmade.{Unmade}
 use Rattle.mk_rule_lines.specs.declared.fault.RuleFault.{RuleFault}
 use Rattle.mk_rule_lines.specs.declared.fault.RuleFault.TheVariants as fault
 use Rattle.mk_rule_lines.specs.declared.form.Form.{Form}
+use Rattle.mk_rule_lines.specs.declared.rule_line.RuleLine.{RuleLine}
 
 -- the names of the graph for these goals
 abbrev pub AreNames : Inputs → (named names : List (List ℕ)) → Type 0
 AreNames inputs named names = IsNumbering (prerequisites_of inputs) (goals_of inputs.lines named) names
 
--- a name of the graph that has no file, and that nothing makes
-pub record HasUnmade (inputs : Inputs) (named : List (List ℕ)) (name : List ℕ) : Type 0 where
+-- a name of the graph that has the other one among its prerequisites
+abbrev pub IsNeededBy : Inputs → (names : List (List ℕ)) (name user : List ℕ) → Type 0
+IsNeededBy inputs names name user = (has_name names user ≡ true) × (has name (prerequisites_of inputs user) ≡ true)
+
+-- a name of the graph that has no file, and that nothing makes; by which name it is told to be needed, by that one it is
+pub record HasUnmade (inputs : Inputs) (named : List (List ℕ)) (told : Unmade) : Type 0 where
   pub names : List (List ℕ)
   pub are_names : AreNames inputs named names
-  pub is_name : has_name names name ≡ true
-  pub unmade : is_made inputs name ≡ false
+  pub is_name : has_name names told.name ≡ true
+  pub unmade : is_made inputs told.name ≡ false
+  pub needed : IfSome told.needed_by (IsNeededBy inputs names told.name)
 
 -- these names are a cycle of hard prerequisites in the graph, from its name of least number on
 pub record HasNamedCycle (inputs : Inputs) (named cycle : List (List ℕ)) : Type 0 where
@@ -39,9 +48,14 @@ pub record HasNamedCycle (inputs : Inputs) (named cycle : List (List ℕ)) : Typ
   pub is_cycle : IsCycle hard numbers
   pub told : cycle ≡ map (name_at names) numbers
 
--- the search for a source of the node reaches the name: no line has a recipe for the node, the name is that of a candidate,
--- no line makes it, and no candidate of an earlier form is there
+-- the name is the node's own, which isn't phony
+abbrev pub IsItself : List RuleLine → (node name : List ℕ) → Type 0
+IsItself lines node name = (is_phony lines node ≡ false) × (name ≡ node)
+
+-- the search for a source of the node reaches the name: the node isn't phony, no line has a recipe for it, the name is that of a
+-- candidate, no line makes it, and no candidate of an earlier form is there
 pub record IsReachedFrom (inputs : Inputs) (node name : List ℕ) : Type 0 where
+  pub no_phony : is_phony inputs.lines node ≡ false
   pub no_recipe : own_recipes inputs.lines node ≡ []
   pub place : ℕ
   pub form : Form
@@ -52,19 +66,19 @@ pub record IsReachedFrom (inputs : Inputs) (node name : List ℕ) : Type 0 where
   pub no_target : is_target inputs.lines name ≡ false
   pub earlier : source_of (is_there inputs) (take place (forms_of (suffixes_of inputs.lines) inputs.lines)) node ≡ None
 
--- the name is one of the graph, a hidden prerequisite of one that is text, or the candidate that the search for a source of
--- one reaches
+-- the name is one of the graph that isn't phony, a hidden prerequisite of one that is text, or the candidate that the search for a
+-- source of one reaches
 pub record IsLookedAt (inputs : Inputs) (named : List (List ℕ)) (name : List ℕ) : Type 0 where
   pub node : List ℕ
   pub is_name : (names : List (List ℕ)) → AreNames inputs named names → has_name names node ≡ true
-  pub asked : (name ≡ node) ⊎ (IsTextAmong (hidden_of inputs node) name ⊎ IsReachedFrom inputs node name)
+  pub asked : IsItself inputs.lines node name ⊎ (IsTextAmong (hidden_of inputs node) name ⊎ IsReachedFrom inputs node name)
 
 -- the fault of these inputs, for the goals that are named. A name that can't be looked at is one that the tree refuses; that
 -- memory was wanted stands outside the inputs
 abbrev pub IsGraphFault : Inputs → (refuses : List ℕ → Type 0) → (named : List (List ℕ)) → (limit : ℕ) → RuleFault → Type 0
 IsGraphFault inputs refuses named limit fault.OutOfMemory = Unit {0}
 IsGraphFault inputs refuses named limit fault.NoTarget = goals_of inputs.lines named ≡ []
-IsGraphFault inputs refuses named limit (fault.NoRule name) = HasUnmade inputs named name
+IsGraphFault inputs refuses named limit (fault.NoRule told) = HasUnmade inputs named told
 IsGraphFault inputs refuses named limit (fault.TwoRecipes name line) =
     (suffix_rules : Bool) × HasTwoRecipes (targets_by suffix_rules (suffixes_of inputs.lines)) inputs.lines name line
 IsGraphFault inputs refuses named limit (fault.Cycle cycle) = HasNamedCycle inputs named cycle.names
@@ -76,8 +90,8 @@ IsGraphFault inputs refuses named limit (fault.Tree name) = IsLookedAt inputs na
 -- the inputs that a makefile, the times of files and a state give
 pub record AreInputs (given : Defined) (items : List Item) (times : (name : List ℕ) → Option ℤ)
     (entries : (name : List ℕ) → Option Entry) (inputs : Inputs) : Type 0 where
-  pub lines : AreRuleLines given items inputs.lines
-  pub times_are : inputs.times ≡ times
+  pub lines : AreLinesInForce given items inputs.lines
+  pub times_are : inputs.times ≡ seen_times inputs.lines times
   pub entries_are : inputs.entries ≡ entries
 
 -- the fault of a makefile, the times of files and a state: a macro's, met while the lines are expanded, or that of what they

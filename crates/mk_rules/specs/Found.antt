@@ -1,10 +1,12 @@
 -- What is found of all names that goals lead to.
-use Rattle.std.specs.Prelude.{◌≡◌, ℕ, ◌<◌, ◌⊎◌, true, false, List, length, map}
+use Rattle.std.specs.Prelude.{◌≡◌, ℕ, ◌<◌, ◌⊎◌, true, false, List, length, map, IfSome}
+use Rattle.mk_graph.specs.Edges.{row, has as has_number}
 use Rattle.mk_graph.specs.Numbering.{IsNumbering, AreDescribed, name_at, has_name}
 use Rattle.mk_graph.specs.declared.numbering.Numbered.{Numbered}
-use Rattle.mk_rules.specs.Faults.{IsReachedFrom, HasUnmade, HasNamedCycle}
+use Rattle.mk_rules.specs.Faults.{IsItself, IsReachedFrom, HasUnmade, HasNamedCycle}
 use Rattle.mk_rules.specs.Known.{IsKnown}
 use Rattle.mk_rules.specs.Prerequisites.{Inputs, IsTextAmong, prerequisites_of, hidden_of, is_made}
+use Rattle.mk_rule_lines.specs.declared.fault.Unmade.{Unmade}
 use Rattle.mk_rule_lines.specs.declared.fault.RuleFault.{RuleFault}
 use Rattle.mk_rule_lines.specs.declared.fault.RuleFault.TheVariants as fault
 use Rattle.mk_rules.specs.declared.known.Known.{Known}
@@ -16,12 +18,12 @@ pub record AreFound (inputs : Inputs) (goals : List (List ℕ)) (n : Numbered Kn
   pub goals_are : map (name_at n.names) n.goals.items ≡ goals
   pub known : AreDescribed (IsKnown inputs) n.names n.nodes.items
 
--- a name that can't be looked at: one that the goals lead to, a hidden prerequisite of one that is text, or the candidate that
--- the search for a source of one reaches
+-- a name that can't be looked at: one that the goals lead to and that isn't phony, a hidden prerequisite of one that is text, or
+-- the candidate that the search for a source of one reaches
 pub record IsAskedFor (inputs : Inputs) (goals : List (List ℕ)) (name : List ℕ) : Type 0 where
   pub node : List ℕ
   pub is_name : (names : List (List ℕ)) → IsNumbering (prerequisites_of inputs) goals names → has_name names node ≡ true
-  pub asked : (name ≡ node) ⊎ (IsTextAmong (hidden_of inputs node) name ⊎ IsReachedFrom inputs node name)
+  pub asked : IsItself inputs.lines node name ⊎ (IsTextAmong (hidden_of inputs node) name ⊎ IsReachedFrom inputs node name)
 
 -- the fault of looking up all names that the goals lead to
 abbrev pub IsFindingFault : Inputs → (refuses : List ℕ → Type 0) → (goals : List (List ℕ)) → (limit : ℕ) → RuleFault → Type 0
@@ -30,15 +32,30 @@ IsFindingFault inputs refuses goals limit fault.TooMany = (names : List (List �
 IsFindingFault inputs refuses goals limit (fault.Tree name) = IsAskedFor inputs goals name × refuses name
 IsFindingFault inputs refuses goals limit _ = ⊥
 
+-- this is the name of a node in whose row the other node stands
+pub record HasItInItsRow (names : List (List ℕ)) (rows : List (List ℕ)) (node : ℕ) (user : List ℕ) : Type 0 where
+  pub number : ℕ
+  pub within : number < length rows
+  pub in_row : has_number (row rows number) node ≡ true
+  pub name : user ≡ name_at names number
+
+-- a name that nothing makes, and a name in whose row it stands, if one is told
+pub record IsUnmadeNode (inputs : Inputs) (names : List (List ℕ)) (rows : List (List ℕ)) (told : Unmade) : Type 0 where
+  pub node : ℕ
+  pub within : node < length names
+  pub name : told.name ≡ name_at names node
+  pub unmade : is_made inputs (name_at names node) ≡ false
+  pub needed : IfSome told.needed_by (HasItInItsRow names rows node)
+
 -- the fault of looking for a name that nothing makes
-abbrev pub IsUnmadeFault : Inputs → (names : List (List ℕ)) → RuleFault → Type 0
-IsUnmadeFault inputs names fault.OutOfMemory = Unit {0}
-IsUnmadeFault inputs names (fault.NoRule name) = (has_name names name ≡ true) × (is_made inputs name ≡ false)
-IsUnmadeFault inputs names _ = ⊥
+abbrev pub IsUnmadeFault : Inputs → (names : List (List ℕ)) (rows : List (List ℕ)) → RuleFault → Type 0
+IsUnmadeFault inputs names rows fault.OutOfMemory = Unit {0}
+IsUnmadeFault inputs names rows (fault.NoRule told) = IsUnmadeNode inputs names rows told
+IsUnmadeFault inputs names rows _ = ⊥
 
 -- the fault of putting a graph together
 abbrev pub IsGraphlessFault : Inputs → (named : List (List ℕ)) → RuleFault → Type 0
 IsGraphlessFault inputs named fault.OutOfMemory = Unit {0}
-IsGraphlessFault inputs named (fault.NoRule name) = HasUnmade inputs named name
+IsGraphlessFault inputs named (fault.NoRule told) = HasUnmade inputs named told
 IsGraphlessFault inputs named (fault.Cycle cycle) = HasNamedCycle inputs named cycle.names
 IsGraphlessFault inputs named _ = ⊥

@@ -1,5 +1,5 @@
 -- What is found of a name while names are numbered.
-use Rattle.std.specs.Prelude.{◌≡◌, ◌⊎◌, ℕ, ℤ, Bool, List, [], length, map, drop, Option, option_map}
+use Rattle.std.specs.Prelude.{◌≡◌, ◌⊎◌, ℕ, ℤ, Bool, false, List, [], length, map, drop, Option, option_map}
 use Rattle.st_records.specs.declared.record.Entry.{Entry}
 use Rattle.mk_rules.specs.Prerequisites.{Inputs, IsTextAmong, inputs_of, implicit_source, recipe_of, hard_of, judged_of, is_node, prerequisites_of}
 use Rattle.mk_rules.specs.Source.{IsReached}
@@ -24,18 +24,18 @@ pub record IsKnown (inputs : Inputs) (name : List ℕ) (known : Known) : Type 0 
   pub hard : known.hard ≡ length (hard_of inputs name)
   pub hidden : known.hidden.items ≡ nodes_among inputs known.hard (judged_of inputs name)
 
--- a name that can't be looked at while another is looked up: that name itself, a hidden prerequisite that is text, or, where
--- no line has a recipe for it, the candidate for its source that the search has reached
-abbrev pub IsAsked : TargetTable → Stamps → List Form → (own : List ℕ) → (hidden : List (List ℕ)) → (name n : List ℕ) → Type 0
-IsAsked targets stamps forms own hidden name n =
-    (n ≡ name) ⊎ (IsTextAmong hidden n ⊎ ((own ≡ []) × IsReached targets stamps forms name n))
+-- a name that can't be looked at while another is looked up: a hidden prerequisite that is text, or, where the other isn't phony,
+-- that name itself, and where no line has a recipe for it, the candidate for its source that the search has reached
+abbrev pub IsAsked : TargetTable → Stamps → List Form → (phony : Bool) → (own : List ℕ) → (hidden : List (List ℕ)) → (name n : List ℕ) → Type 0
+IsAsked targets stamps forms phony own hidden name n =
+    ((phony ≡ false) × (n ≡ name)) ⊎ (IsTextAmong hidden n ⊎ ((phony ≡ false) × (own ≡ []) × IsReached targets stamps forms name n))
 
 -- the fault of looking up a name
-abbrev pub IsLookUpFault : TargetTable → Stamps → (refuses : List ℕ → Type 0) → List Form → (own : List ℕ) → (hidden : List (List ℕ)) →
+abbrev pub IsLookUpFault : TargetTable → Stamps → (refuses : List ℕ → Type 0) → List Form → (phony : Bool) → (own : List ℕ) → (hidden : List (List ℕ)) →
     (name : List ℕ) → RuleFault → Type 0
-IsLookUpFault targets stamps refuses forms own hidden name fault.OutOfMemory = Unit {0}
-IsLookUpFault targets stamps refuses forms own hidden name (fault.Tree n) = IsAsked targets stamps forms own hidden name n × refuses n
-IsLookUpFault targets stamps refuses forms own hidden name _ = ⊥
+IsLookUpFault targets stamps refuses forms phony own hidden name fault.OutOfMemory = Unit {0}
+IsLookUpFault targets stamps refuses forms phony own hidden name (fault.Tree n) = IsAsked targets stamps forms phony own hidden name n × refuses n
+IsLookUpFault targets stamps refuses forms phony own hidden name _ = ⊥
 
 -- the prerequisites are those that the inputs give, for some times that agree with what is known
 pub record IsAllowed (stamps : Stamps) (lines : List RuleLine) (entries : (name : List ℕ) → Option Entry) (of : List ℕ → List (List ℕ)) : Type 0 where

@@ -1,4 +1,5 @@
 pub mod Assembly
+pub mod DistinctNames
 pub mod Faults
 pub mod Found
 pub mod Graph

@@ -1,25 +1,30 @@
 -- What the rules, the files and the state say of a name: what makes it and what it is made from.
-use Rattle.std.specs.Prelude.{◌≡◌, ℕ, ℤ, Bool, true, not, ◌&&◌, ◌||◌, List, [], ◌∷◌, ◌++◌, filter, Option, Some, None, is_some, option_map, option_to_list}
+use Rattle.std.specs.Prelude.{◌≡◌, ℕ, ℤ, Bool, true, not, ◌&&◌, ◌||◌, List, [], ◌∷◌, ◌++◌, filter, Option, Some, None, is_some, option_map, option_to_list, if◌then◌else◌}
 use Rattle.std.specs.List.{list_any}
 use Rattle.std.specs.Option.{option_map_or}
 use Rattle.std.specs.Str.{is_utf8}
 use Rattle.mk_graph.specs.Numbering.{all_added}
 use Rattle.st_records.specs.declared.record.Entry.{Entry}
 use Rattle.mk_rule_lines.specs.Rules.{has, suffixes_of, recipe_places}
-use Rattle.mk_rule_lines.specs.Explicit.{explicit_targets, explicit_of}
+use Rattle.mk_rule_lines.specs.Explicit.{explicit_targets, explicit_of, is_phony}
 use Rattle.mk_rule_lines.specs.Source.{source_of}
 use Rattle.mk_rule_lines.specs.Forms.{forms_of}
 use Rattle.mk_rule_lines.specs.declared.form.Source.{Source}
 use Rattle.mk_rule_lines.specs.declared.rule_line.RuleLine.{RuleLine}
 
--- what a graph is made of: the rule lines, the times of files, and what the state has of each target
+-- what a graph is made of: the rule lines, the times of names as the lines let them be seen, and what the state has of each
+-- target
 pub record Inputs : Type 0 where
   pub lines : List RuleLine
   pub times : (name : List ℕ) → Option ℤ
   pub entries : (name : List ℕ) → Option Entry
 
+-- the time of a name: that of its file; a phony name has none, whatever lies there (POSIX make, .PHONY)
+abbrev pub seen_times : (lines : List RuleLine) (times : (name : List ℕ) → Option ℤ) → (name : List ℕ) → Option ℤ
+seen_times lines times name = if is_phony lines name then None else times name
+
 abbrev pub inputs_of : (lines : List RuleLine) (entries : (name : List ℕ) → Option Entry) (times : (name : List ℕ) → Option ℤ) → Inputs
-inputs_of lines entries times = record { lines = lines; times = times; entries = entries }
+inputs_of lines entries times = record { lines = lines; times = seen_times lines times; entries = entries }
 
 -- some line makes the name
 abbrev pub is_target : List RuleLine → (name : List ℕ) → Bool
@@ -43,10 +48,12 @@ abbrev pub first_or : List ℕ → (other : Option ℕ) → Option ℕ
 first_or [] other = other
 first_or (n ∷ ns) other = Some n
 
--- what an implicit rule makes the name from, where no line has a recipe for it (make(1S), "Implicit Rules")
+-- what an implicit rule makes the name from, where no line has a recipe for it and it isn't phony (make(1S), "Implicit Rules";
+-- POSIX make, .PHONY)
 abbrev pub implicit_source : Inputs → (name : List ℕ) → Option Source
 implicit_source inputs name =
-    unless_any (own_recipes inputs.lines name) (source_of (is_there inputs) (forms_of (suffixes_of inputs.lines) inputs.lines) name)
+    if is_phony inputs.lines name then None
+    else unless_any (own_recipes inputs.lines name) (source_of (is_there inputs) (forms_of (suffixes_of inputs.lines) inputs.lines) name)
 
 -- the line whose recipe makes the name: its own, else that of the implicit rule
 abbrev pub recipe_of : Inputs → (name : List ℕ) → Option ℕ

@@ -2,11 +2,11 @@
 ghost use Rattle.std.specs.List.{IsDistinct};
 ghost use Rattle.std.specs.List.Sorted.{IsStrictlyIncreasing};
 ghost use Rattle.std.specs.Str.{bytes_eq};
-ghost use Rattle.std.specs.Prelude.{◌≡◌, ◌≤◌, ◌||◌, ℕ, ℤ, List, Option, length, map, is_ok, is_some, true, IsTrue, IfOk, IfErr, OnOk};
+ghost use Rattle.std.specs.Prelude.{◌≡◌, ◌≤◌, ◌||◌, ℕ, ℤ, List, Option, length, map, is_ok, is_some, true, IsTrue, IfOk, IfErr, IfSome, OnOk};
 ghost use Rattle.std.specs.FinMap as finmap;
 ghost use Rattle.mk_graph.specs.Edges.{row, is_closed};
 ghost use Rattle.mk_graph.specs.Numbering.{AreDescribed, name_at};
-ghost use Rattle.mk_rules.specs.Found.{AreFound, IsFindingFault, IsUnmadeFault, IsGraphlessFault};
+ghost use Rattle.mk_rules.specs.Found.{AreFound, IsFindingFault, IsGraphlessFault};
 ghost use Rattle.mk_rules.specs.Known.{IsKnown};
 ghost use Rattle.mk_rules.specs.Node.{EachHasOneNumber};
 ghost use Rattle.mk_rules.specs.Nodes.{AreMadeOf};
@@ -15,7 +15,10 @@ ghost use Rattle.mk_rules.specs.Stamps.{AgreesWith, Asks, Looks};
 ghost use Rattle.mk_rule_lines.specs.Table.{is_named, named_at};
 ghost use Rattle.mk_rules.specs.Tree.{AskedOnce};
 ghost use Rattle.mk_macros.specs.Ranks.{defined_by};
+ghost use Rattle.mk_profile.specs.Profile.{is_wide};
+ghost use Rattle.mk_rule_lines.specs.Explicit.{numbers_of};
 ghost use Rattle.mk_rule_lines.specs.Lines.{behind_items};
+ghost use Rattle.mk_rule_lines.specs.Rules.{suffixes_of};
 ghost use Rattle.mk_rules.specs.Prerequisites.{Inputs, inputs_of, is_target, prerequisites_of};
 ghost use Rattle.mk_rule_lines.specs.Goals.{goals_of};
 ghost use Rattle.mk_rules.specs.Graph.{IsGraph, AreMade};
@@ -31,9 +34,11 @@ use crate::rules::Rules;
 use crate::soft::soft_edges;
 use crate::stamps::Stamps;
 use crate::tree::Tree;
-use byte_strings::{ByteString, ByteStrings};
+use crate::unmade::check_made;
+use byte_strings::ByteStrings;
 use mk_graph::{Names, Numbered, NumberingFault, number};
 use mk_macros::Macros;
+use mk_profile::Profile;
 use mk_reader::Item;
 use mk_rule_lines::{Makefile, RuleFault, RuleLine, Settings, TargetTable, goals_of};
 use st_state::State;
@@ -99,36 +104,6 @@ fn numbered_names<T: Tree>(
     found_names(alloc, &mut finder, goals, limit)
 }
 
-/// Whether something is known to make a name: a file, an implicit rule, or a line.
-fn is_made(targets: &TargetTable, name: &[u8], known: &Known) -> bool
-    ensures { result ≡ (is_some known.now.stamp || (is_some known.now.stem || is_named (named_at targets.now name.now))) }
-{
-    known.stamp.is_some() || known.stem.is_some() || targets.is_target(name)
-}
-
-/// Refuses a name that has no file, and that nothing makes.
-fn check_made(
-    alloc: Global,
-    lines: &[RuleLine],
-    targets: &TargetTable,
-    numbered: &Numbered<Known>,
-) -> Result<(), RuleFault>
-    requires table { (name : List ℕ) → is_named (named_at targets.now name) ≡ is_target lines.now name }
-    requires count { length numbered.now.nodes.items ≡ length numbered.now.names }
-    ensures made { OnOk result ((inputs : Inputs) → inputs.lines ≡ lines.now
-        → AreDescribed (IsKnown inputs) numbered.now.names numbered.now.nodes.items → AreMade inputs numbered.now.names) }
-    ensures fault { IfErr result (λ fault. (inputs : Inputs) → inputs.lines ≡ lines.now
-        → AreDescribed (IsKnown inputs) numbered.now.names numbered.now.nodes.items → IsUnmadeFault inputs numbered.now.names fault) }
-{
-    for (node, known) in numbered.nodes.iter().enumerate() {
-        let name = numbered.names.name(node);
-        if !is_made(targets, name, known) {
-            return Err(RuleFault::NoRule(ByteString::from_slice(alloc, name)?));
-        }
-    }
-    Ok(())
-}
-
 /// The names that were found, the numbers of the goals, and the node of each name.
 fn named_nodes(
     alloc: Global,
@@ -154,6 +129,8 @@ fn named_nodes(
 fn put_together(
     alloc: Global,
     lines: Vec<RuleLine>,
+    targets: Option<TargetTable>,
+    suffixes: ByteStrings,
     macros: Macros,
     numbered: Numbered<Known>,
     ordered: Ordered,
@@ -169,6 +146,9 @@ fn put_together(
     requires soft_closed { IsTrue (is_closed ordered.soft) }
     requires counted_closed { IsTrue (is_closed ordered.counted) }
     requires counted_ascending { (n : ℕ) → IsStrictlyIncreasing (row ordered.counted n) }
+    requires kept { is_some targets ≡ is_wide (defined_by macros).language }
+    requires suffixes { suffixes ≡ suffixes_of lines.items }
+    requires table { IfSome targets (λ t. (name : List ℕ) → (named_at t name).lines ≡ numbers_of lines.items name) }
     ensures graph { IfOk result (IsPutTogether lines.items numbered ordered state) }
     ensures count { IfOk result (λ graph. length graph.nodes.items ≡ length numbered.names) }
     ensures macros { IfOk result (λ graph. graph.macros ≡ macros) }
@@ -192,6 +172,8 @@ fn put_together(
         soft_dropped,
         settings: Settings::of_lines(&lines),
         lines,
+        targets,
+        suffixes,
         macros,
         state,
     })
@@ -200,6 +182,7 @@ fn put_together(
 /// The edges of the names that were found, and the order that they make. Each name has to have something that makes it.
 fn order_found(
     alloc: Global,
+    profile: Profile,
     makefile: &Makefile,
     numbered: &Numbered<Known>,
 ) -> Result<Ordered, RuleFault>
@@ -222,17 +205,33 @@ fn order_found(
     ensures fault { IfErr result (λ fault. (inputs : Inputs) (named : List (List ℕ)) → inputs.lines ≡ makefile.now.lines.items
         → AreFound inputs (goals_of inputs.lines named) numbered.now → IsGraphlessFault inputs named fault) }
 {
-    check_made(alloc, &makefile.lines, &makefile.targets, numbered)?;
+    check_made(alloc, profile, &makefile.lines, &makefile.targets, numbered)?;
     let hard = hard_edges(alloc, numbered)?;
     let soft = soft_edges(alloc, numbered, &makefile.lines, &makefile.suffixes)?;
     ordered_by(alloc, &numbered.names, hard, soft)
 }
 
-fn lines_of(makefile: Makefile) -> Vec<RuleLine>
-    ensures { result ≡ makefile.lines }
+/// The lines of a makefile, in the wide profile which of them make each name, and the suffixes.
+fn parts_of(
+    makefile: Makefile,
+    profile: Profile,
+) -> (Vec<RuleLine>, Option<TargetTable>, ByteStrings)
+    ensures lines { result.0 ≡ makefile.lines }
+    ensures suffixes { result.2 ≡ suffixes_of result.0.items }
+    ensures kept { is_some result.1 ≡ is_wide profile }
+    ensures table { IfSome result.1 (λ t. (name : List ℕ) → (named_at t name).lines ≡ numbers_of result.0.items name) }
 {
-    let Makefile { lines, .. } = makefile;
-    lines
+    let Makefile {
+        lines,
+        targets,
+        suffixes,
+        ..
+    } = makefile;
+    if profile.is_wide() {
+        (lines, Some(targets), suffixes)
+    } else {
+        (lines, None, suffixes)
+    }
 }
 
 /// The graph of names that were found.
@@ -254,9 +253,11 @@ fn graph_of(
     ensures fault { IfErr result (λ fault. (inputs : Inputs) (named : List (List ℕ)) → inputs.lines ≡ makefile.lines.items
         → AreFound inputs (goals_of inputs.lines named) numbered → IsGraphlessFault inputs named fault) }
 {
-    let ordered = order_found(alloc, &makefile, &numbered)?;
-    let lines = lines_of(makefile);
-    Ok(put_together(alloc, lines, macros, numbered, ordered, state)?)
+    let ordered = order_found(alloc, macros.profile(), &makefile, &numbered)?;
+    let (lines, targets, suffixes) = parts_of(makefile, macros.profile());
+    Ok(put_together(
+        alloc, lines, targets, suffixes, macros, numbered, ordered, state,
+    )?)
 }
 
 /// The names that the goals of a makefile lead to, with what was found of each.

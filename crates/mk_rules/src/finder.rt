@@ -1,14 +1,14 @@
 //! Names looked up one by one while they are numbered.
 ghost use Rattle.std.specs.Prelude.{◌≡◌, ◌++◌, ℕ, ℤ, List, Option, [], length, option_map, option_to_list, IfOk, IfErr, OnOk, is_ok};
 ghost use Rattle.std.specs.FinMap as map;
-ghost use Rattle.mk_rule_lines.specs.Explicit.{numbers_of, explicit_of};
+ghost use Rattle.mk_rule_lines.specs.Explicit.{numbers_of, explicit_of, is_phony};
 ghost use Rattle.mk_rules.specs.Prerequisites.{inputs_of, is_node, first_or, hidden_in, own_recipes, prerequisites_of, source_names, distinct};
 ghost use Rattle.mk_rules.specs.Stamps.{AgreesWith, Asks, Looks};
 ghost use Rattle.mk_rules.specs.Hidden.{HasHidden, IsNamesFault};
 ghost use Rattle.mk_rules.specs.Known.{IsKnown, IsLookUpFault};
 
 use crate::known::Known;
-use crate::lookup::{add_hidden, implicit_source};
+use crate::lookup::{add_hidden, implicit_source, seen_stamp};
 use crate::mentioned::Mentioned;
 use crate::rules::Rules;
 use crate::stamps::Stamps;
@@ -132,11 +132,12 @@ fn look_up<T: Tree>(
     ensures looks { Looks stamps.old stamps.new (T.allows tree.old) (T.allows tree.new) (T.refuses tree.old) (T.refuses tree.new) }
     ensures asks { Asks (is_ok result) stamps.old stamps.new (T.asked tree.old) (T.asked tree.new) }
     ensures fault { IfErr result (IsLookUpFault rules.now.targets.now stamps.new (T.refuses tree.new) rules.now.forms.now
-        (own_recipes rules.now.lines.now name.now) (hidden_in (map.get rules.now.state.now name.now)) name.now) }
+        (is_phony rules.now.lines.now name.now) (own_recipes rules.now.lines.now name.now) (hidden_in (map.get rules.now.state.now name.now)) name.now) }
 {
-    let stamp = stamps.stamp(alloc, tree, name)?;
     let (numbers, own) = rules.named(name);
-    let source = implicit_source(alloc, rules, tree, stamps, name, own)?;
+    let phony = rules.is_phony(numbers);
+    let stamp = seen_stamp(alloc, tree, stamps, name, phony)?;
+    let source = implicit_source(alloc, rules, tree, stamps, name, own, phony)?;
     let (mentioned, hard) = mentioned_of(alloc, rules, tree, stamps, name, numbers, &source)?;
     Ok(gathered(stamp, source, own, mentioned, hard))
 }
@@ -169,7 +170,7 @@ impl<'m, 't, 's, T: Tree> Dependencies for Finder<'m, 't, 's, T> {
         → IsKnown (inputs_of f.rules.lines.now (map.get f.rules.state.now) times) name known };
 
     ghost refuses = { λ f name fault. IsLookUpFault f.rules.targets.now f.stamps.now (T.refuses f.tree.now) f.rules.forms.now
-        (own_recipes f.rules.lines.now name) (hidden_in (map.get f.rules.state.now name)) name fault };
+        (is_phony f.rules.lines.now name) (own_recipes f.rules.lines.now name) (hidden_in (map.get f.rules.state.now name)) name fault };
 
     ghost follows = { λ f answers g. (g.rules ≡ f.rules) × (g.tree.ghost_name ≡ f.tree.ghost_name)
         × Looks f.stamps.now g.stamps.now (T.allows f.tree.now) (T.allows g.tree.now) (T.refuses f.tree.now) (T.refuses g.tree.now)

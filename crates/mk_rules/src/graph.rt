@@ -1,13 +1,19 @@
 //! The graph of a makefile's names: what each is made from, and what the state and the files say of it.
-ghost use Rattle.std.specs.Prelude.{◌≡◌, ℕ, ◌<◌, length, option_copied, slice_index, slice_get, IsTrue, IfSome};
+ghost use Rattle.std.proofs.Props.{props};
+ghost use Rattle.std.specs.Prelude.{◌≡◌, ℕ, List, ◌<◌, length, option_copied, slice_index, slice_get, is_some, IsTrue, IfSome};
 ghost use Rattle.std.specs.List.Sorted.{IsStrictlyIncreasing};
 ghost use Rattle.mk_graph.specs.Edges.{row, is_closed};
+ghost use Rattle.mk_macros.specs.Ranks.{defined_by};
+ghost use Rattle.mk_profile.specs.Profile.{is_wide};
+ghost use Rattle.mk_rule_lines.specs.Explicit.{numbers_of};
+ghost use Rattle.mk_rule_lines.specs.Rules.{suffixes_of};
+ghost use Rattle.mk_rule_lines.specs.Table.{named_at};
 ghost use Rattle.mk_rules.specs.Node.{EachHasOneNumber, source_in, explicit_in};
 
-use byte_strings::ByteString;
+use byte_strings::{ByteString, ByteStrings};
 use mk_graph::{Edges, Names};
 use mk_macros::Macros;
-use mk_rule_lines::{RuleLine, Settings};
+use mk_rule_lines::{RuleLine, Settings, TargetTable};
 use st_state::State;
 
 /// A name of the graph.
@@ -43,6 +49,10 @@ pub struct Graph {
     /// Whether soft edges don't count, since they would make a cycle.
     pub soft_dropped: bool,
     pub lines: Vec<RuleLine>,
+    /// Which lines make each name; None in the strict profile, where nothing asks for it.
+    pub targets: Option<TargetTable>,
+    /// The suffixes that count.
+    pub suffixes: ByteStrings,
     pub settings: Settings,
     /// With all definitions of the makefile.
     pub macros: Macros,
@@ -59,6 +69,10 @@ pub struct Graph {
     pub ghost soft_closed: { IsTrue (is_closed soft) },
     pub ghost counted_closed: { IsTrue (is_closed counted) },
     pub ghost counted_ascending: { (n : ℕ) → IsStrictlyIncreasing (row counted n) },
+    // The suffixes are those of the lines, and the wide profile keeps the table of the lines.
+    pub ghost suffixes_are: { suffixes ≡ suffixes_of lines.items },
+    pub ghost kept: { is_some targets ≡ is_wide (defined_by macros).language },
+    pub ghost table: { IfSome targets (λ t. (name : List ℕ) → (named_at t name).lines ≡ numbers_of lines.items name) } by { Prim.hlevel props },
 }
 
 impl Graph {

@@ -2,6 +2,7 @@
 #![tactic(auto)]
 
 mod building;
+mod distinct_names;
 mod finder;
 mod graph;
 mod known;
@@ -16,6 +17,7 @@ mod soft;
 mod source;
 mod stamps;
 mod tree;
+mod unmade;
 mod waits;
 
 pub use building::build;

@@ -1,7 +1,8 @@
 //! What is found of a name: what makes it, and what it is made from.
-ghost use Rattle.std.specs.Prelude.{◌≡◌, ◌⊎◌, ℕ, ℤ, List, Option, [], false, option_to_list, IfOk, IfErr, OnOk, IsOk, is_ok};
+ghost use Rattle.std.specs.Prelude.{◌≡◌, ◌⊎◌, ℕ, ℤ, List, Option, None, [], false, option_to_list, IfOk, IfErr, OnOk, IsOk, IsErr, is_ok, if◌then◌else◌};
 ghost use Rattle.std.specs.FinMap as map;
 ghost use Rattle.std.specs.Str.{is_utf8};
+ghost use Rattle.mk_rule_lines.specs.Explicit.{is_phony};
 ghost use Rattle.mk_rules.specs.Prerequisites.{inputs_of, is_node, implicit_source, own_recipes, prerequisites_of};
 ghost use Rattle.mk_rules.specs.Stamps.{AgreesWith, Asks, Looks, IsLookFault};
 ghost use Rattle.mk_rules.specs.Source.{IsSourceFault};
@@ -48,7 +49,29 @@ fn is_node<T: Tree>(
     is_there(alloc, rules.targets, tree, stamps, name)
 }
 
-/// What an implicit rule makes the name from, where no line has a recipe for it: `own` is the number of the line that has.
+/// The time of a name, which isn't asked for where the name is phony: such a one has none.
+pub(crate) fn seen_stamp<T: Tree>(
+    alloc: Global,
+    tree: &mut T,
+    stamps: &mut Stamps,
+    name: &[u8],
+    is_phony: bool,
+) -> Result<Option<i128>, RuleFault>
+    ensures stamp { IfOk result (λ stamp. (times : List ℕ → Option ℤ)
+        → AgreesWith stamps.new times → stamp ≡ (if is_phony then None else times name.now)) }
+    ensures looks { Looks stamps.old stamps.new (T.allows tree.old) (T.allows tree.new) (T.refuses tree.old) (T.refuses tree.new) }
+    ensures asks { Asks (is_ok result) stamps.old stamps.new (T.asked tree.old) (T.asked tree.new) }
+    ensures fault { IfErr result (IsLookFault (T.refuses tree.new) name.now) }
+    ensures asked { IsErr result → is_phony ≡ false }
+{
+    if is_phony {
+        return Ok(None);
+    }
+    stamps.stamp(alloc, tree, name)
+}
+
+/// What an implicit rule makes the name from, where it isn't phony and no line has a recipe for it: `own` is the number of the
+/// line that has.
 pub(crate) fn implicit_source<T: Tree>(
     alloc: Global,
     rules: &Rules,
@@ -56,16 +79,22 @@ pub(crate) fn implicit_source<T: Tree>(
     stamps: &mut Stamps,
     name: &[u8],
     own: Option<usize>,
+    phony: bool,
 ) -> Result<Option<Source>, RuleFault>
     requires own { option_to_list own ≡ own_recipes rules.now.lines.now name.now }
+    requires phony { phony ≡ is_phony rules.now.lines.now name.now }
     ensures source { IfOk result (λ found. (times : List ℕ → Option ℤ) → AgreesWith stamps.new times
         → found ≡ implicit_source (inputs_of rules.now.lines.now (map.get rules.now.state.now) times) name.now) }
     ensures looks { Looks stamps.old stamps.new (T.allows tree.old) (T.allows tree.new) (T.refuses tree.old) (T.refuses tree.new) }
     ensures asks { Asks (is_ok result) stamps.old stamps.new (T.asked tree.old) (T.asked tree.new) }
     ensures fault { IfErr result (IsSourceFault rules.now.targets.now stamps.new (T.refuses tree.new) rules.now.forms.now name.now) }
-    // Beside a recipe of its own no source is looked for.
-    ensures unasked { (own_recipes rules.now.lines.now name.now ≡ []) ⊎ ((tree.new ≡ tree.old) × ((stamps.new ≡ stamps.old) × IsOk result)) }
+    // Of a phony name, and beside a recipe of its own, no source is looked for.
+    ensures unasked { ((is_phony rules.now.lines.now name.now ≡ false) × (own_recipes rules.now.lines.now name.now ≡ []))
+        ⊎ ((tree.new ≡ tree.old) × ((stamps.new ≡ stamps.old) × IsOk result)) }
 {
+    if phony {
+        return Ok(None);
+    }
     if own.is_some() {
         return Ok(None);
     }

@@ -3,8 +3,8 @@ ghost use Rattle.std.specs.Prelude.{◌≡◌, ◌++◌, ◌∷◌, ◌||◌, []
 ghost use Rattle.mk_graph.specs.Numbering.{has_name, added, all_added};
 ghost use Rattle.mk_rules.specs.Prerequisites.{source_names, distinct};
 
+use crate::distinct_names::DistinctNames;
 use byte_strings::ByteStrings;
-use mk_graph::Names;
 use mk_rule_lines::Source;
 use std::alloc::{AllocError, Global};
 
@@ -12,14 +12,18 @@ use std::alloc::{AllocError, Global};
 #[derive(Drop)]
 pub(crate) struct Mentioned {
     /// As they are judged: hidden ones stand here too where they are gone.
-    pub judged: Names,
+    pub judged: DistinctNames,
     /// Those that are nodes.
     pub nodes: ByteStrings,
     /// Of each hidden one that wasn't mentioned before, whether it is a node.
     pub hidden: Vec<bool>,
 }
 
-fn mention_all(alloc: Global, names: &mut Names, mentioned: &ByteStrings) -> Result<(), AllocError>
+fn mention_all(
+    alloc: Global,
+    names: &mut DistinctNames,
+    mentioned: &ByteStrings,
+) -> Result<(), AllocError>
     ensures { OnOk result (names.new ≡ all_added names.old mentioned.now) }
 {
     for name in mentioned.iter() {
@@ -33,25 +37,15 @@ fn hard_names(
     alloc: Global,
     source: &Option<Source>,
     explicit: &ByteStrings,
-) -> Result<Names, AllocError>
+) -> Result<DistinctNames, AllocError>
     ensures { IfOk result (λ names. names ≡ distinct (source_names (source.now) ++ explicit.now)) }
 {
-    let mut names = Names::new(alloc);
+    let mut names = DistinctNames::new(alloc);
     if let Some(source) = source {
         let _is_new = names.mention(alloc, source.name.as_slice())?;
     }
     mention_all(alloc, &mut names, explicit)?;
     Ok(names)
-}
-
-fn listed(alloc: Global, names: &Names) -> Result<ByteStrings, AllocError>
-    ensures { IfOk result (λ list. list ≡ names.now) }
-{
-    let mut list = ByteStrings::empty(alloc);
-    for number in 0..names.len() {
-        list.push(names.name(number))?;
-    }
-    Ok(list)
 }
 
 impl Mentioned {
@@ -67,7 +61,7 @@ impl Mentioned {
     {
         let judged = hard_names(alloc, source, explicit)?;
         Ok(Mentioned {
-            nodes: listed(alloc, &judged)?,
+            nodes: judged.listed(alloc)?,
             judged,
             hidden: Vec::new(alloc),
         })

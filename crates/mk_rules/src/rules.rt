@@ -12,7 +12,7 @@ use crate::source::source_of;
 use crate::stamps::Stamps;
 use crate::tree::Tree;
 use byte_strings::ByteStrings;
-use mk_rule_lines::{Form, RuleFault, RuleLine, Source, TargetTable, explicit_of};
+use mk_rule_lines::{Form, RuleFault, RuleLine, Source, TargetTable, explicit_of, is_phony};
 use st_records::Entry;
 use st_state::State;
 use std::alloc::{AllocError, Global};
@@ -32,7 +32,7 @@ pub(crate) struct Rules<'m> {
 }
 
 impl<'m> Rules<'m> {
-    ghost use Rattle.mk_rule_lines.specs.Explicit.{numbers_of, explicit_of};
+    ghost use Rattle.mk_rule_lines.specs.Explicit.{numbers_of, explicit_of, is_phony};
     ghost use Rattle.mk_rules.specs.Prerequisites.{own_recipes, is_target};
     ghost use Rattle.mk_rule_lines.specs.Source.{source_of};
 
@@ -57,6 +57,13 @@ impl<'m> Rules<'m> {
             → found ≡ explicit_of self.now.lines.now name) }
     {
         explicit_of(alloc, self.lines, numbers)
+    }
+
+    /// Whether the name that the lines of these numbers make is phony.
+    pub fn is_phony(&self, numbers: &[usize]) -> bool
+        ensures { (name : List ℕ) → numbers.now ≡ numbers_of self.now.lines.now name → result ≡ is_phony self.now.lines.now name }
+    {
+        is_phony(self.lines, numbers)
     }
 
     /// What an implicit rule makes the name from.

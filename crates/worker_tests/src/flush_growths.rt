@@ -144,3 +144,23 @@ fn a_record_that_was_not_submitted_is_unknown(rt: HostRuntime) -> Result<(), Fai
     assert_eq!(rt; (own, other), (Ok(0), Err(FlushFault::Unknown(ticket))));
     Ok(())
 }
+
+/// What is told of the first record, what once more while another one waits, and how many wait then.
+fn told_again<R: Wait + AllocGlobal>(
+    rt: &R,
+) -> Result<(Result<usize, FlushFault>, Result<usize, FlushFault>, usize), Fail> {
+    let flusher = flusher(rt.alloc())?;
+    let ticket = submitted_to(rt, &flusher).ok_or("nothing was submitted")?;
+    let first = acknowledged(rt, rt.alloc(), &flusher, b"a", ticket);
+    submitted(rt.alloc(), &mut flusher.board.lock(rt), b"b").ok_or("nothing was submitted")?;
+    let again = acknowledged(rt, rt.alloc(), &flusher, b"a", ticket);
+    let waiting = flusher.board.lock(rt).unflushed();
+    Ok((first, again, waiting))
+}
+
+#[test]
+fn a_record_that_is_told_writes_no_other(rt: HostRuntime) -> Result<(), Fail> {
+    let told = told_again(&rt)?;
+    assert_eq!(rt; told, (Ok(0), Ok(0), 1));
+    Ok(())
+}

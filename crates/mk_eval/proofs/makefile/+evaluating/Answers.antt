@@ -1,4 +1,4 @@
-use Rattle.std.proofs.Common.{rules, ◌≡◌, ◌∷◌, [], refl, length, List, ◌-◌, option_map, Some, None, sym, ap, subst, ◌∙◌, arith}
+use Rattle.std.proofs.Common.{rules, ◌≡◌, ◌∷◌, refl, length, List, ◌-◌, option_map, Some, None, sym, ap, subst, ◌∙◌, arith}
 use Rattle.std.proofs.lemmas.Result.{err_from_is_err_and}
 use Rattle.std.specs.Vec.Iter.{into_iter_items, into_iter_len}
 use Rattle.byte_strings.specs.Blanks.{words}
@@ -126,23 +126,79 @@ evaluate_all-loop-statement-init g t c =
       grows = λ files now. now;
     }
 
-pub evaluate_all-loop-statement-preserved-in-Continue-branch-2 : goal.evaluate_all-loop-statement-preserved-in-Continue-branch-2
-evaluate_all-loop-statement-preserved-in-Continue-branch-2 g t c =
+pub evaluate_all-returns-in_err-given-in-Item-clause-items : goal.evaluate_all-returns-in_err-given-in-Item-clause-items
+evaluate_all-returns-in_err-given-in-Item-clause-items g t c = λ files allowed.
     let now = c.loop-statement in
     let st = c.in-Some.ensures.steps in
     let more = into_iter_items c.next.new.self in
     let start = defined_by c.args.macros.now in
     let here = defined_by now.macros in
-    let next = defined_by c.follow.new.macros in
-    let front = c.in-Item.item ∷ [] in
-    let at : into_iter_items now.statement-iterator ≡ statement.Item c.in-Item.item ∷ more = st.0 ∙ ap (λ (s : Statement). s ∷ more) c.in-Item.is in
+    let said = statement.Item c.in-Item.item in
+    let at : into_iter_items now.statement-iterator ≡ said ∷ more = st.0 ∙ ap (λ (s : Statement). s ∷ more) c.in-Item.is in
+    let p = err_from_is_err_and c.from_residual.result c.from_residual.ensures.1 in
+    let one = StatementItems (IncludedItems (AnswersOf files) c.args.levels c.args.file.now) c.args.file.now in
+    let told = fault_passed_on c.in_err-given-in-Item.field-0.0 (one here said) (InOrder behind one start c.args.statements.items)
+    c.in_err-given-in-Item.ensures.items
+    (λ fault h. reach_fault behind one start c.args.statements.items here now.items.items _ more said fault (now.invariant.gathered files allowed) at h) in
+    rw (p.1, p.2) told
+
+pub evaluate_all-loop-statement-preserved-in-Item : goal.evaluate_all-loop-statement-preserved-in-Item
+evaluate_all-loop-statement-preserved-in-Item g t c =
+    let now = c.loop-statement in
+    let st = c.in-Some.ensures.steps in
+    let more = into_iter_items c.next.new.self in
+    let start = defined_by c.args.macros.now in
+    let here = defined_by now.macros in
+    let next = defined_by c.evaluate_item.new.macros in
+    let said = statement.Item c.in-Item.item in
+    let at : into_iter_items now.statement-iterator ≡ said ∷ more = st.0 ∙ ap (λ (s : Statement). s ∷ more) c.in-Item.is in
+    let front = c.in_ok-given-in-Item.given.items in
     record {
       left = one_fewer _ _ c.in-Some.statement (into_iter_len now.statement-iterator) (into_iter_len c.next.new.self) st.0 st.1 now.invariant.left;
       gathered = λ files allowed.
           let one = StatementItems (IncludedItems (AnswersOf files) c.args.levels c.args.file.now) c.args.file.now in
-          reach_more behind one start c.args.statements.items here next now.items.items _ front _ more (statement.Item c.in-Item.item)
-          (now.invariant.gathered files allowed) at refl c.in_ok-follow-in-Item.ensures c.in_ok-push-in-Item.ensures.items;
-      defined = behind_more start here next now.items.items _ front now.invariant.defined c.in_ok-follow-in-Item.ensures c.in_ok-push-in-Item.ensures.items;
+          reach_more behind one start c.args.statements.items here next now.items.items _ front _ more said
+          (now.invariant.gathered files allowed) at
+          c.in_ok-given-in-Item.ensures.items c.in_ok-given-in-Item.ensures.defined c.in_ok-append-in-Item.ensures.items;
+      defined = behind_more start here next now.items.items _ front now.invariant.defined c.in_ok-given-in-Item.ensures.defined c.in_ok-append-in-Item.ensures.items;
+      grows = now.invariant.grows;
+    }
+
+pub evaluate_all-returns-in_err-defined-in-Definition-clause-items : goal.evaluate_all-returns-in_err-defined-in-Definition-clause-items
+evaluate_all-returns-in_err-defined-in-Definition-clause-items g t c = λ files allowed.
+    let now = c.loop-statement in
+    let st = c.in-Some.ensures.steps in
+    let more = into_iter_items c.next.new.self in
+    let start = defined_by c.args.macros.now in
+    let here = defined_by now.macros in
+    let said = statement.Definition c.in-Definition.line in
+    let at : into_iter_items now.statement-iterator ≡ said ∷ more = st.0 ∙ ap (λ (s : Statement). s ∷ more) c.in-Definition.is in
+    let p = err_from_is_err_and c.from_residual-in_err-defined-in-Definition.result c.from_residual-in_err-defined-in-Definition.ensures.1 in
+    let one = StatementItems (IncludedItems (AnswersOf files) c.args.levels c.args.file.now) c.args.file.now in
+    let told = fault_passed_on c.in_err-defined-in-Definition.field-0.0 (one here said) (InOrder behind one start c.args.statements.items)
+    c.in_err-defined-in-Definition.ensures.items
+    (λ fault h. reach_fault behind one start c.args.statements.items here now.items.items _ more said fault (now.invariant.gathered files allowed) at h) in
+    rw (p.1, p.2) told
+
+pub evaluate_all-loop-statement-preserved-in-Definition : goal.evaluate_all-loop-statement-preserved-in-Definition
+evaluate_all-loop-statement-preserved-in-Definition g t c =
+    let now = c.loop-statement in
+    let st = c.in-Some.ensures.steps in
+    let more = into_iter_items c.next.new.self in
+    let start = defined_by c.args.macros.now in
+    let here = defined_by now.macros in
+    let next = defined_by c.evaluate_definition.new.macros in
+    let said = statement.Definition c.in-Definition.line in
+    let at : into_iter_items now.statement-iterator ≡ said ∷ more = st.0 ∙ ap (λ (s : Statement). s ∷ more) c.in-Definition.is in
+    let front = c.in_ok-defined-in-Definition.defined.items in
+    record {
+      left = one_fewer _ _ c.in-Some.statement (into_iter_len now.statement-iterator) (into_iter_len c.next.new.self) st.0 st.1 now.invariant.left;
+      gathered = λ files allowed.
+          let one = StatementItems (IncludedItems (AnswersOf files) c.args.levels c.args.file.now) c.args.file.now in
+          reach_more behind one start c.args.statements.items here next now.items.items _ front _ more said
+          (now.invariant.gathered files allowed) at
+          c.in_ok-defined-in-Definition.ensures.items c.in_ok-defined-in-Definition.ensures.defined c.in_ok-append-in-Definition.ensures.items;
+      defined = behind_more start here next now.items.items _ front now.invariant.defined c.in_ok-defined-in-Definition.ensures.defined c.in_ok-append-in-Definition.ensures.items;
       grows = now.invariant.grows;
     }
 

@@ -1,4 +1,4 @@
-use Rattle.std.proofs.Common.{◌≡◌, ℕ, ◌+◌, ◌<◌, ◌≤◌, List, length, get_or, take, slice_index, arith, rules}
+use Rattle.std.proofs.Common.{◌≡◌, ℕ, ◌+◌, ◌<◌, ◌≤◌, List, length, get_or, take, slice_index, nat_lt, arith, rules}
 use Rattle.std.proofs.lemmas.Grind.{common_steps}
 use Rattle.std.specs.Ordering.{nat_cmp}
 use Rattle.std.specs.BTreeSet.{contains}
@@ -6,7 +6,7 @@ use Rattle.mk_graph.specs.Edges.{times}
 use Rattle.mk_graph.proofs.RowLemmas.{times_room, below_from_positive}
 use Rattle.mk_graph.proofs.PlanLemmas.{counted_more, noted_more}
 use Rattle.mk_graph.proofs.planning.count_down.Goals as goal
-use Rattle.mk_graph.proofs.planning.count_down.Goals.{then-missing-user-eq0+in_ok-insert, else-missing-user-eq0}
+use Rattle.mk_graph.proofs.planning.count_down.Goals.{then-missing-user-eq0+then-user-from+in_ok-insert, else-missing-user-eq0, else-missing-user-eq0-via-then-missing-user-eq0+else-user-from, else-missing-user-eq0-via-else-missing-user-eq0}
 
 room : (us ms old : List ℕ) (i : ℕ) → i < length us → ((q : ℕ) → times q us ≤ slice_index old q)
     → ((q : ℕ) → slice_index ms q + times q (take i us) ≡ slice_index old q) → 1 ≤ get_or ms (get_or us i 0) 0
@@ -37,8 +37,14 @@ loop-user-preserved c =
     let place = below_from_positive ms (get_or us i 0) one in
     record {
       counted = counted_more us ms c.args.missing.now i c.loop-user-test.true one place c.loop-user.invariant.counted;
-      noted = noted_more us ms c.args.missing.now i c.loop-user-test.true one place
+      noted = noted_more us ms c.args.missing.now i c.loop-user-test.true one place (λ q. nat_lt q c.args.from)
           (contains nat_cmp c.args.ready.now) (contains nat_cmp c.loop-user.ready) (contains nat_cmp c.if-missing-user-eq0.ready)
           c.loop-user.invariant.noted
-          (λ q. elim c.if-missing-user-eq0.branch [ then-missing-user-eq0+in_ok-insert w ↦ grind (arith, common_steps, w.in_ok-insert.ensures.updates.0 q) | else-missing-user-eq0 w ↦ grind (arith, common_steps) ]);
+          (λ q. elim c.if-missing-user-eq0.branch [
+            | then-missing-user-eq0+then-user-from+in_ok-insert w ↦ grind (arith, common_steps, w.in_ok-insert.ensures.updates.0 q)
+            | else-missing-user-eq0 w ↦ elim w.else-missing-user-eq0.branch [
+              | else-missing-user-eq0-via-then-missing-user-eq0+else-user-from w' ↦ grind (arith, common_steps)
+              | else-missing-user-eq0-via-else-missing-user-eq0 w' ↦ grind (arith, common_steps)
+            ]
+          ]);
     }

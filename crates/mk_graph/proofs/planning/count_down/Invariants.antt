@@ -1,4 +1,4 @@
-use Rattle.std.proofs.Common.{◌≡◌, ℕ, ◌+◌, ◌&&◌, ◌||◌, take, nat_eq, slice_index}
+use Rattle.std.proofs.Common.{◌≡◌, ℕ, ◌+◌, ◌&&◌, ◌||◌, take, nat_eq, nat_lt, slice_index}
 use Rattle.std.specs.Ordering.{nat_cmp}
 use Rattle.std.specs.BTreeSet.{contains}
 use Rattle.mk_graph.specs.Edges.{has, times}
@@ -8,5 +8,5 @@ abbrev pub invariant-loop-user : goal.invariant-loop-user
 invariant-loop-user l = record {
   counted : (q : ℕ) → slice_index l.missing q + times q (take l.user-index l.users) ≡ slice_index l.fn.missing q;
   noted : (q : ℕ) → contains nat_cmp l.ready q
-      ≡ (contains nat_cmp l.fn.ready q || (has (take l.user-index l.users) q && nat_eq (slice_index l.missing q) 0));
+      ≡ (contains nat_cmp l.fn.ready q || (nat_lt q l.from && (has (take l.user-index l.users) q && nat_eq (slice_index l.missing q) 0)));
 }

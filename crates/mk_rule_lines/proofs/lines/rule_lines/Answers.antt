@@ -1,10 +1,10 @@
-use Rattle.std.proofs.Common.{rules, ◌≡◌, ◌∷◌, List, length, sym, ap, subst, ◌∙◌, refl}
+use Rattle.std.proofs.Common.{rules, ◌≡◌, ◌∷◌, List, length, sym, ap, subst, ◌∙◌}
 use Rattle.std.specs.Vec.Iter.{into_iter_items, into_iter_len}
 use Rattle.mk_macros.specs.Ranks.{defined_by}
 use Rattle.mk_reader.specs.declared.item.Item.{Item}
 use Rattle.mk_reader.specs.declared.item.Item.TheVariants as item
 use Rattle.mk_rule_lines.specs.Lines.{IsLinesFault}
-use Rattle.mk_rule_lines.proofs.LineLemmas.{SoFar, so_far_start, so_far_definition, so_far_rule, so_far_special, so_far_fault, so_far_end, one_fewer, nothing_left, handed_on}
+use Rattle.mk_rule_lines.proofs.LineLemmas.{SoFar, so_far_start, so_far_definition, so_far_rule, so_far_special, rule_refused, special_refused, so_far_end, one_fewer, nothing_left, handed_on}
 use Rattle.mk_rule_lines.proofs.lines.rule_lines.Goals as goal
 
 pub loop-item-init : goal.loop-item-init
@@ -36,7 +36,7 @@ returns-in_err-rule_line-in-Rule-clause-fault c =
     st.0 ∙ ap (λ (i : Item). i ∷ into_iter_items c.next.new.self) c.in-Rule.is in
     let so = subst (λ (left : List Item). SoFar (defined_by c.args.macros.now) c.args.items.items (defined_by now.macros) now.lines.items left) at now.invariant.so_far in
     handed_on _ (IsLinesFault (defined_by c.args.macros.now) c.args.items.items) c.in_err-rule_line-in-Rule.field-0.0 (c.from_residual-in_err-rule_line-in-Rule.ensures).1
-    (so_far_fault _ _ _ _ (item.Rule c.in-Rule.rule) _ c.in-Rule.rule refl so c.in_err-rule_line-in-Rule.field-0.0 c.in_err-rule_line-in-Rule.ensures.fault)
+    (rule_refused _ _ _ _ _ c.in-Rule.rule so c.in_err-rule_line-in-Rule.field-0.0 c.in_err-rule_line-in-Rule.ensures.fault)
 
 pub loop-item-preserved-in_ok-push-in-Rule : goal.loop-item-preserved-in_ok-push-in-Rule
 loop-item-preserved-in_ok-push-in-Rule c =
@@ -60,7 +60,7 @@ returns-in_err-rule_line-in-Special-clause-fault c =
     st.0 ∙ ap (λ (i : Item). i ∷ into_iter_items c.next.new.self) c.in-Special.is in
     let so = subst (λ (left : List Item). SoFar (defined_by c.args.macros.now) c.args.items.items (defined_by now.macros) now.lines.items left) at now.invariant.so_far in
     handed_on _ (IsLinesFault (defined_by c.args.macros.now) c.args.items.items) c.in_err-rule_line-in-Special.field-0.0 (c.from_residual-in_err-rule_line-in-Special.ensures).1
-    (so_far_fault _ _ _ _ (item.Special c.in-Special.special) _ c.in-Special.special.rule refl so c.in_err-rule_line-in-Special.field-0.0 c.in_err-rule_line-in-Special.ensures.fault)
+    (special_refused _ _ _ _ _ c.in-Special.special.rule c.in-Special.special.name so c.in_err-rule_line-in-Special.field-0.0 c.in_err-rule_line-in-Special.ensures.fault)
 
 pub loop-item-preserved : goal.loop-item-preserved
 loop-item-preserved c =

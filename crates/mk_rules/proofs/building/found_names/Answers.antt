@@ -4,6 +4,7 @@ use Rattle.mk_graph.specs.Numbering.{IsNumbering}
 use Rattle.mk_rules.specs.Stamps.{AgreesWith}
 use Rattle.mk_rules.specs.declared.known.Known.{Known}
 use Rattle.mk_rules.specs.Found.{AreFound, IsFindingFault}
+use Rattle.mk_rule_lines.specs.Explicit.{is_phony}
 use Rattle.mk_rules.specs.Known.{IsKnown, IsAllowed, IsLookUpFault}
 use Rattle.mk_rules.specs.Prerequisites.{Inputs, inputs_of, own_recipes, prerequisites_of, hidden_in}
 use Rattle.mk_rules.specs.declared.rules.Rules.{Rules}
@@ -40,7 +41,7 @@ returns-in-Err-Source-clause-fault g c = λ times agrees.
     let inputs = inputs_of ends.lines.now (map.get ends.state.now) times in
     let e = c.in-Err-Source.ensures in
     let meets = of_source (IsAllowed c.number.new.source.stamps.now ends.lines.now (map.get ends.state.now))
-    (λ name f. IsLookUpFault ends.targets.now c.number.new.source.stamps.now (g.T.Tree.refuses c.number.new.source.tree.now) ends.forms.now (own_recipes ends.lines.now name) (hidden_in (map.get ends.state.now name)) name f)
+    (λ name f. IsLookUpFault ends.targets.now c.number.new.source.stamps.now (g.T.Tree.refuses c.number.new.source.tree.now) ends.forms.now (is_phony ends.lines.now name) (own_recipes ends.lines.now name) (hidden_in (map.get ends.state.now name)) name f)
     c.args.goals.now c.args.limit _ c.in-Err-Source.cause c.in-Err-Source.field-0-is e.fault in
     subst (λ (i : Inputs). IsFindingFault i (g.T.Tree.refuses c.number.new.source.tree.now) c.args.goals.now c.args.limit c.in-Err-Source.cause)
     (ap (λ (r : Rules). inputs_of r.lines.now (map.get r.state.now) times) (e.follows).0)

@@ -25,7 +25,7 @@ returns-in_err-put_together-clause-fault c =
 
 pub returns-clause-graph : goal.returns-clause-graph
 returns-clause-graph c = λ inputs named are entries found.
-    c.in_ok-ordered.ensures.graph inputs named are found c.args.state entries c.in_ok-put_together.field-0 (rw c.lines_of-lines.ensures at c.in_ok-put_together.ensures.graph)
+    c.in_ok-ordered.ensures.graph inputs named are found c.args.state entries c.in_ok-put_together.field-0 (rw c.parts_of-lines.ensures.lines at c.in_ok-put_together.ensures.graph)
 
 pub put_together-requires-clause-names : goal.put_together-requires-clause-names
 put_together-requires-clause-names c = distinct_numbers c.args.numbered.names c.requires.names

@@ -1,7 +1,7 @@
-use Rattle.std.proofs.Common.{◌++◌, ◌∙◌, refl}
+use Rattle.std.proofs.Common.{◌++◌, ◌∙◌, Bool, None, cond, ap, refl}
 use Rattle.std.specs.FinMap as map
 use Rattle.mk_rules.proofs.FinderLemmas.{nodes_are, known_is, source_look}
-use Rattle.mk_rule_lines.specs.Explicit.{explicit_of}
+use Rattle.mk_rule_lines.specs.Explicit.{explicit_of, is_phony}
 use Rattle.mk_rules.specs.LooksLaws.{looks_on}
 use Rattle.mk_rule_lines.proofs.LineLemmas.{handed_on}
 use Rattle.mk_rules.specs.Known.{IsLookUpFault}
@@ -33,21 +33,20 @@ returns-clause-node g c = λ times agrees.
     let looked = of.looks.grows times agrees in
     known_is inputs name source explicit (map.get rules.state.now name) (distinct (source_names source ++ explicit)) _
     (c.in_ok-source.ensures.source times looked) refl refl refl (of.mentioned times agrees)
-    _ c.named-own.result.1 (is.stamp ∙ c.in_ok-stamp.ensures.stamp times (c.in_ok-source.ensures.looks.grows times looked)) is.stem is.recipe c.named-own.ensures.recipe
+    _ c.named-own.result.1 (is.stamp ∙ c.in_ok-stamp.ensures.stamp times (c.in_ok-source.ensures.looks.grows times looked)
+    ∙ ap (λ (t : Bool). cond t None (times name)) (c.is_phony-phony.ensures name c.named-own.ensures.lines)) is.stem is.recipe c.named-own.ensures.recipe
     (is.hard ∙ of.hard) is.hidden
 
 pub returns-clause-looks : goal.returns-clause-looks
 returns-clause-looks g c =
-    let tells = c.in_ok-stamp.ensures in
     looks_on _ _ _ _ _ _ _ _ _
-    (looks_on _ _ _ _ _ _ _ _ _ (record { grows = tells.grows; answers = tells.answers; narrows = tells.narrows; kept = tells.kept }) c.in_ok-source.ensures.looks)
+    (looks_on _ _ _ _ _ _ _ _ _ c.in_ok-stamp.ensures.looks c.in_ok-source.ensures.looks)
     c.in_ok-mentioned.ensures.looks
 
 pub returns-in_err-mentioned-clause-looks : goal.returns-in_err-mentioned-clause-looks
 returns-in_err-mentioned-clause-looks g c =
-    let tells = c.in_ok-stamp.ensures in
     looks_on _ _ _ _ _ _ _ _ _
-    (looks_on _ _ _ _ _ _ _ _ _ (record { grows = tells.grows; answers = tells.answers; narrows = tells.narrows; kept = tells.kept }) c.in_ok-source.ensures.looks)
+    (looks_on _ _ _ _ _ _ _ _ _ c.in_ok-stamp.ensures.looks c.in_ok-source.ensures.looks)
     c.in_err-mentioned.ensures.looks
 
 pub returns-clause-asks : goal.returns-clause-asks
@@ -66,11 +65,12 @@ pub returns-in_err-source-clause-fault : goal.returns-in_err-source-clause-fault
 returns-in_err-source-clause-fault g c =
     let rules = c.args.rules.now in
     let name = c.args.name.now in
+    let phony = is_phony rules.lines.now name in
     let own = own_recipes rules.lines.now name in
     let hidden = hidden_in (map.get rules.state.now name) in
     let stamps = c.implicit_source.new.stamps in
     let refuses = g.T.Tree.refuses c.implicit_source.new.tree in
     let met = c.in_err-source.ensures in
-    handed_on _ (IsLookUpFault rules.targets.now stamps refuses rules.forms.now own hidden name) c.in_err-source.field-0.0
+    handed_on _ (IsLookUpFault rules.targets.now stamps refuses rules.forms.now phony own hidden name) c.in_err-source.field-0.0
     (c.from_residual-in_err-source.ensures).1
-    (source_look rules.targets.now stamps refuses rules.forms.now own hidden name met.unasked (λ beside. (beside.1).1) c.in_err-source.field-0.0 met.fault)
+    (source_look rules.targets.now stamps refuses rules.forms.now phony own hidden name met.unasked (λ beside. (beside.1).1) c.in_err-source.field-0.0 met.fault)

@@ -1,48 +1,118 @@
-use Rattle.std.proofs.Common.{◌≡◌, ℕ, ◌<◌, ◌≤◌, ◌++◌, [], length, map, replicate, sym, ap, ◌∙◌, subst, arith, List}
-use Rattle.std.proofs.lemmas.List.{length-map, length-replicate, take_all}
-use Rattle.std.proofs.lemmas.Result.{IfOk-weaker}
-use Rattle.mk_graph.specs.Edges.{row, times, AreUsers}
-use Rattle.mk_graph.proofs.RowLemmas.{counts_more, rises_in_row, rises_none, ascending_everywhere, row_replicate}
+use Rattle.std.proofs.Common.{◌≡◌, ℕ, ◌+◌, ◌<◌, ◌≤◌, ◌∷◌, List, length, slice_index, sum_by, sym, ap, ◌∙◌, subst, arith, rules}
+use Rattle.std.proofs.lemmas.List.{with_items_is}
+use Rattle.std.proofs.lemmas.Grind.{common_steps}
+use Rattle.byte_strings.specs.Pieces.{pieces, AreEnds}
+use Rattle.mk_graph.specs.Edges.{row, times}
+use Rattle.mk_graph.specs.Users.{ends_from}
+use Rattle.mk_graph.proofs.UserLemmas.{Fills, times-pieces, as_many, up_to, row_end, fills_none, room_left, within_rows, fills_more, refilled, all_noted}
 use Rattle.mk_graph.proofs.edges.Edges.reversed.Goals as goal
+
+-- how many users each node has
+all_users : (numbers own counts : List ℕ) (g : List (List ℕ)) → AreEnds (length numbers) 0 own → pieces numbers 0 own ≡ g
+    → ((n : ℕ) → n < length g → slice_index counts n ≡ times n numbers) → (n : ℕ) → n < length g → slice_index counts n ≡ sum_by (times n) g
+all_users numbers own counts g are shown counted n below = counted n below ∙ sym (times-pieces n numbers 0 own are) ∙ ap (sum_by (times n)) shown
+
+row_ends : (counts ends : List ℕ) (g : List (List ℕ)) → ends ≡ ends_from 0 counts → length counts ≡ length g
+    → ((n : ℕ) → n < length g → slice_index counts n ≡ sum_by (times n) g)
+    → (n : ℕ) → n < length g → slice_index ends n ≡ slice_index (0 ∷ ends) n + sum_by (times n) g
+row_ends counts ends g made same all n below = row_end counts ends made n (omega arith) ∙ ap (λ k. slice_index (0 ∷ ends) n + k) (all n below)
 
 pub loop-node-init : goal.loop-node-init
 loop-node-init c =
-    let none = λ (m : ℕ). ap (λ l. row l m) c.in_ok-users.ensures ∙ row_replicate c.len.result m in
+    let g = c.args.self.now in
+    let counts = c.in_ok-left.left.items in
+    let ends = c.in_ok-ends.ends.items in
+    let made : ends ≡ ends_from 0 counts = c.in_ok-ends.ensures ∙ ap (ends_from 0) c.deref-2.ensures.value in
+    let same : length counts ≡ length g = c.in_ok-left.ensures.nodes ∙ c.len.ensures in
+    let all = all_users c.self.inside.numbers.items c.self.inside.ends.items counts g c.self.invariant c.self.view_is
+    (λ n below. c.in_ok-left.ensures.times n (let l = c.len.ensures in omega arith) ∙ ap (times n) c.deref.ensures.value) in
     record {
-      nodes = sym (length-map c.in_ok-users.users.items (λ r. r.items)) ∙ ap length c.in_ok-users.ensures ∙ length-replicate c.len.result [] ∙ c.len.ensures;
-      counts = λ n m below. ap (times n) (none m);
-      rises = λ m below. rises_none (row (map (λ r. r.items) c.in_ok-users.users.items) m) (none m);
+      fills = fills_none g c.in_ok-users.users.items ends counts same all (λ n below. row_end counts ends made n (omega arith));
+      size = search rules;
     }
+
+pub note_user-requires-clause-ends : goal.note_user-requires-clause-ends
+note_user-requires-clause-ends c =
+    let counts = c.in_ok-left.left.items in
+    let ends = c.in_ok-ends.ends.items in
+    let made : ends ≡ ends_from 0 counts = c.in_ok-ends.ensures ∙ ap (ends_from 0) c.deref-2.ensures.value in
+    let many : c.len-2.result ≡ length ends = omega arith in
+    let made_long : length c.in_ok-users.users.items ≡ c.start_of.result = grind (arith, common_steps, c.in_ok-users.ensures.len) in
+    let size : length c.in_ok-users.users.items ≡ slice_index (0 ∷ ends) (length ends)
+    = made_long ∙ c.start_of.ensures ∙ ap (λ l. slice_index (0 ∷ l) c.len-2.result) c.deref-3.ensures.value ∙ ap (slice_index (0 ∷ ends)) many in
+    rw (c.deref_mut-in-loop-node.ensures.value, c.deref-in-loop-node.ensures.value) (up_to counts ends made (length c.loop-node.users.items) (c.loop-node.invariant.size ∙ size))
+
+pub note_user-requires-clause-nodes : goal.note_user-requires-clause-nodes
+note_user-requires-clause-nodes c =
+    let counts = c.in_ok-left.left.items in
+    let ends = c.in_ok-ends.ends.items in
+    let made : ends ≡ ends_from 0 counts = c.in_ok-ends.ensures ∙ ap (ends_from 0) c.deref-2.ensures.value in
+    let same : length counts ≡ length c.args.self.now = c.in_ok-left.ensures.nodes ∙ c.len.ensures in
+    rw (c.deref_mut.ensures.value, c.deref-in-loop-node.ensures.value) (c.loop-node.invariant.fills.nodes ∙ sym (as_many counts ends made ∙ same))
+
+pub note_user-requires-clause-room : goal.note_user-requires-clause-room
+note_user-requires-clause-room c =
+    let g = c.args.self.now in
+    let counts = c.in_ok-left.left.items in
+    let ends = c.in_ok-ends.ends.items in
+    let made : ends ≡ ends_from 0 counts = c.in_ok-ends.ensures ∙ ap (ends_from 0) c.deref-2.ensures.value in
+    let many : length ends ≡ length g = as_many counts ends made ∙ c.in_ok-left.ensures.nodes ∙ c.len.ensures in
+    let in_graph : c.loop-node.node < length g = omega arith in
+    rw (c.deref_mut.ensures.value, c.deref-in-loop-node.ensures.value, c.row.ensures)
+    (room_left g c.loop-node.node c.loop-node.users.items ends c.loop-node.left.items c.loop-node.invariant.fills many in_graph)
+
+pub note_user-requires-clause-rows : goal.note_user-requires-clause-rows
+note_user-requires-clause-rows c =
+    let g = c.args.self.now in
+    let counts = c.in_ok-left.left.items in
+    let ends = c.in_ok-ends.ends.items in
+    let made : ends ≡ ends_from 0 counts = c.in_ok-ends.ensures ∙ ap (ends_from 0) c.deref-2.ensures.value in
+    let same : length counts ≡ length g = c.in_ok-left.ensures.nodes ∙ c.len.ensures in
+    let all = all_users c.self.inside.numbers.items c.self.inside.ends.items counts g c.self.invariant c.self.view_is
+    (λ n below. c.in_ok-left.ensures.times n (let l = c.len.ensures in omega arith) ∙ ap (times n) c.deref.ensures.value) in
+    rw (c.deref_mut.ensures.value, c.deref-in-loop-node.ensures.value)
+    (within_rows g c.loop-node.node c.loop-node.users.items ends c.loop-node.left.items c.loop-node.invariant.fills (as_many counts ends made ∙ same) (row_ends counts ends g made same all))
 
 pub loop-node-preserved : goal.loop-node-preserved
 loop-node-preserved c =
     let g = c.args.self.now in
-    let us = map (λ r. r.items) c.loop-node.users.items in
-    let us' = map (λ r. r.items) c.note_user.new.users.items in
-    let node = c.loop-node.node in
-    let in_graph : node < length g = omega arith in
+    let k = c.loop-node.node in
+    let counts = c.in_ok-left.left.items in
+    let ends = c.in_ok-ends.ends.items in
+    let made : ends ≡ ends_from 0 counts = c.in_ok-ends.ensures ∙ ap (ends_from 0) c.deref-2.ensures.value in
+    let many : length ends ≡ length g = as_many counts ends made ∙ c.in_ok-left.ensures.nodes ∙ c.len.ensures in
+    let in_graph : k < length g = omega arith in
+    let left' = c.note_user.new.left in
+    let users' = c.note_user.new.users in
+    let long_left : length left' ≡ length c.loop-node.left.items = grind arith in
+    let long_users : length users' ≡ length c.loop-node.users.items = grind arith in
+    let new_left = with_items_is c.loop-node.left left' (grind arith) in
+    let new_users = with_items_is c.loop-node.users users' (grind arith) in
+    let left = rw (c.deref_mut.ensures.value, c.deref-in-loop-node.ensures.value, c.row.ensures) at c.note_user.ensures.left in
+    let rows = rw (c.deref_mut.ensures.value, c.deref_mut-in-loop-node.ensures.value, c.deref-in-loop-node.ensures.value, c.row.ensures) at c.note_user.ensures.rows in
+    let more : Fills g (k + 1) users' ends left'
+    = fills_more g k c.loop-node.users.items ends c.loop-node.left.items c.loop-node.invariant.fills many users' left' in_graph long_left left rows in
     record {
-      nodes = c.in_ok-note_user.ensures.nodes ∙ c.loop-node.invariant.nodes;
-      counts = λ n m below.
-          let noted : row us' m ≡ row us m ++ replicate (times m (row g node)) node
-          = c.in_ok-note_user.ensures.rows m (subst (λ k. m < k) (sym c.loop-node.invariant.nodes) below) ∙ ap (λ l. row us m ++ replicate (times m l) node) c.row.ensures in
-          counts_more g us us' node in_graph m noted n (c.loop-node.invariant.counts n m below);
-      rises = λ m below.
-          let noted : row us' m ≡ row us m ++ replicate (times m (row g node)) node
-          = c.in_ok-note_user.ensures.rows m (subst (λ k. m < k) (sym c.loop-node.invariant.nodes) below) ∙ ap (λ l. row us m ++ replicate (times m l) node) c.row.ensures in
-          rises_in_row g us us' node in_graph m noted (c.loop-node.invariant.rises m below);
+      fills = refilled g (k + 1) ends users' _ left' _ new_users new_left more;
+      size = ap length new_users ∙ long_users ∙ c.loop-node.invariant.size;
     }
+
+pub invariant_of-result : goal.invariant_of-result
+invariant_of-result c =
+    let counts = c.in_ok-left.left.items in
+    let ends = c.in_ok-ends.ends.items in
+    let made : ends ≡ ends_from 0 counts = c.in_ok-ends.ensures ∙ ap (ends_from 0) c.deref-2.ensures.value in
+    let many : c.len-2.result ≡ length ends = omega arith in
+    let made_long : length c.in_ok-users.users.items ≡ c.start_of.result = grind (arith, common_steps, c.in_ok-users.ensures.len) in
+    let size : length c.in_ok-users.users.items ≡ slice_index (0 ∷ ends) (length ends)
+    = made_long ∙ c.start_of.ensures ∙ ap (λ l. slice_index (0 ∷ l) c.len-2.result) c.deref-3.ensures.value ∙ ap (slice_index (0 ∷ ends)) many in
+    up_to counts ends made (length c.loop-node.users.items) (c.loop-node.invariant.size ∙ size)
 
 pub returns : goal.returns
 returns c =
-    let us = map (λ r. r.items) c.loop-node.users.items in
-    let end : length c.args.self.now ≤ c.loop-node.node = omega arith in
-    let nodes = length-map c.loop-node.users.items (λ r. r.items) ∙ c.loop-node.invariant.nodes in
-    let are : AreUsers c.args.self.now us = record {
-      nodes = nodes;
-      counts = λ n m below. c.loop-node.invariant.counts n m below ∙ ap (λ g. times m (row g n)) (take_all c.loop-node.node c.args.self.now end);
-      ascending = ascending_everywhere us (length c.args.self.now) c.loop-node.node nodes c.loop-node.invariant.rises;
-    } in
-    let rows : List (List ℕ) = map (λ r. r.items) c.deref.result.now in
-    let same : rows ≡ us = ap (map (λ r. r.items)) c.deref.ensures.value in
-    IfOk-weaker c.of_rows.result (λ e. e ≡ rows) (AreUsers c.args.self.now) (λ e is. subst (AreUsers c.args.self.now) (sym (is ∙ same)) are) c.of_rows.ensures
+    let g = c.args.self.now in
+    let counts = c.in_ok-left.left.items in
+    let ends = c.in_ok-ends.ends.items in
+    let made : ends ≡ ends_from 0 counts = c.in_ok-ends.ensures ∙ ap (ends_from 0) c.deref-2.ensures.value in
+    let many : length ends ≡ length g = as_many counts ends made ∙ c.in_ok-left.ensures.nodes ∙ c.len.ensures in
+    all_noted g c.loop-node.node c.loop-node.users.items ends c.loop-node.left.items c.loop-node.invariant.fills many (omega arith)

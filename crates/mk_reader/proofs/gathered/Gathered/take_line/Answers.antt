@@ -3,7 +3,7 @@ use Rattle.mk_reader.specs.Form.{form_of}
 use Rattle.mk_reader.specs.Statements.{RecipeLineTaken, ComesTo}
 use Rattle.mk_reader.specs.declared.item.Statement.{Statement}
 use Rattle.mk_reader.specs.declared.line.LogicalLine.{LogicalLine}
-use Rattle.mk_reader.proofs.StatementLemmas.{is_form, told_refused, if_ok, blank_more, recipe_more, recipe_ends, include_more, definition_more, rule_more, refused_ends}
+use Rattle.mk_reader.proofs.StatementLemmas.{is_form, told_refused, if_ok, blank_more, recipe_more, recipe_ends, include_more, definition_line_more, definition_more, rule_more, refused_ends}
 use Rattle.mk_reader.proofs.gathered.Gathered.take_line.Goals as goal
 
 pub returns-in_ok-add-in-Refused-clause-ended : goal.returns-in_ok-add-in-Refused-clause-ended
@@ -34,6 +34,11 @@ pub returns-in_ok-add-in-Include-clause-goes_on : goal.returns-in_ok-add-in-Incl
 returns-in_ok-add-in-Include-clause-goes_on c = λ _ more.
     include_more c.args.profile c.args.file.now c.args.line more c.args.self.now.statements.items _ c.args.self.now.unfinished _ c.in-Include.include
     (is_form c.args.profile c.args.file.now c.args.line _ (c.in-Ok.ensures ∙ ap Ok c.in-Include.is)) c.in_ok-add-in-Include.ensures.statements c.in_ok-add-in-Include.ensures.unfinished
+
+pub returns-in_ok-add-in-DefinitionLine-clause-goes_on : goal.returns-in_ok-add-in-DefinitionLine-clause-goes_on
+returns-in_ok-add-in-DefinitionLine-clause-goes_on c = λ _ more.
+    definition_line_more c.args.profile c.args.file.now c.args.line more c.args.self.now.statements.items _ c.args.self.now.unfinished _ c.in-DefinitionLine.definition
+    (is_form c.args.profile c.args.file.now c.args.line _ (c.in-Ok.ensures ∙ ap Ok c.in-DefinitionLine.is)) c.in_ok-add-in-DefinitionLine.ensures.statements c.in_ok-add-in-DefinitionLine.ensures.unfinished
 
 pub returns-in_ok-add-in-Definition-clause-goes_on : goal.returns-in_ok-add-in-Definition-clause-goes_on
 returns-in_ok-add-in-Definition-clause-goes_on c = λ _ more.

@@ -1,0 +1,108 @@
+//! What MAKEFLAGS says of options and definitions, and what makes below are told of them. Only in the wide profile.
+
+use byte_strings::ByteStrings;
+use dmk_drive::Options;
+use jb_flags::{Handed, definition_words, words_of};
+use std::alloc::{AllocError, Global};
+
+/// The options that are taken: those of POSIX make but -f and -p, and what GNU make shares with dmk.
+const TAKEN: &[u8] = b"BSeiknqrstw";
+
+/// Those behind which a value stands, in this make and in others.
+const WITH_VALUES: &[u8] = b"CDIJKOTVWfjlmov";
+
+/// Appends the options of a word that are taken, as a word of the command line.
+fn push_options(alloc: Global, taken: &mut ByteStrings, letters: &[u8]) -> Result<(), AllocError> {
+    let mut word = vec![in alloc; b'-'; 1]?;
+    for letter in letters {
+        if WITH_VALUES.contains(letter) {
+            break;
+        }
+        if TAKEN.contains(letter) {
+            word.push(*letter)?;
+        }
+    }
+    if word.len() > 1 {
+        taken.push(&word)?;
+    }
+    Ok(())
+}
+
+/// The options and definitions of MAKEFLAGS, as words of the command line. The first word may be letters without a hyphen; behind `--` there
+/// are definitions alone.
+pub fn taken_words(alloc: Global, makeflags: &[u8]) -> Result<ByteStrings, AllocError> {
+    let mut taken = ByteStrings::empty(alloc);
+    let mut are_letters = true;
+    let mut has_options = true;
+    for word in &words_of(alloc, makeflags)? {
+        match word.strip_prefix(b"-") {
+            Some(b"-") => has_options = false,
+            Some([b'-', ..]) => {}
+            Some(letters) if has_options => push_options(alloc, &mut taken, letters)?,
+            None if word.contains(&b'=') => taken.push(word)?,
+            None if are_letters => push_options(alloc, &mut taken, word)?,
+            _ => {}
+        }
+        are_letters = false;
+    }
+    Ok(taken)
+}
+
+/// The options that makes below are told.
+fn option_word(
+    alloc: Global,
+    options: &Options,
+    environment_counts: bool,
+) -> Result<Vec<u8>, AllocError> {
+    let mut word = Vec::new(alloc);
+    for (is_set, letter) in [
+        (options.makes_all, b'B'),
+        (environment_counts, b'e'),
+        (options.ignores_statuses, b'i'),
+        (options.goes_on, b'k'),
+        (options.makefiles.without_rules, b'r'),
+        (options.is_silent, b's'),
+    ] {
+        if is_set {
+            if word.is_empty() {
+                word.push(b'-')?;
+            }
+            word.push(letter)?;
+        }
+    }
+    Ok(word)
+}
+
+/// The words of MAKEFLAGS that tell of job slots, as they stand there before the definitions.
+fn slot_words(alloc: Global, makeflags: &[u8]) -> Result<Vec<u8>, AllocError> {
+    let mut kept = Vec::new(alloc);
+    for word in makeflags.split(|byte| *byte == b' ') {
+        if word == b"--".as_slice() {
+            break;
+        }
+        if word.starts_with(b"--jobserver-") || word.starts_with(b"-j") {
+            kept.push(b' ')?;
+            kept.extend_from_slice(word)?;
+        }
+    }
+    Ok(kept)
+}
+
+/// What makes below are told of the options, and of the definitions of the command line, which stand behind so many others.
+pub fn handed_on(
+    alloc: Global,
+    options: &Options,
+    environment_counts: bool,
+    before: usize,
+    makeflags: &[u8],
+) -> Result<Option<Handed>, AllocError> {
+    if !options.profile.is_wide() {
+        return Ok(None);
+    }
+    let definitions = options.definitions.get(before..).unwrap_or(&[]);
+    Ok(Some(Handed {
+        options: option_word(alloc, options, environment_counts)?,
+        slots: slot_words(alloc, makeflags)?,
+        definitions: definition_words(alloc, definitions)?,
+    }))
+}

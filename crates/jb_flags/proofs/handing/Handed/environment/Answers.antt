@@ -1,0 +1,17 @@
+use Rattle.std.proofs.Common.{◌≡◌, ◌++◌, ◌∷◌, [], ap, ◌∙◌, append_assoc, codes, arith}
+use Rattle.std.proofs.lemmas.Grind.{common_steps}
+use Rattle.jb_flags.specs.Handed.{variable, makeflags}
+use Rattle.jb_flags.proofs.handing.Handed.environment.Goals as goal
+
+pub returns : goal.returns
+returns c =
+    let env = c.args.env.now in
+    let all : c.loop-given.all.items ≡ env = grind (arith, common_steps) in
+    let flags = variable (codes "MAKEFLAGS") (makeflags c.args.self.now env) in
+    let profile = variable (codes "DMK_PROFILE") (codes "posix") in
+    let told : c.push-2.new.self.items ≡ env ++ flags ∷ [] =
+    c.in_ok-push-2.ensures.items ∙ ap (λ t. t ++ c.in_ok-variable-2.field-0 ∷ []) all
+    ∙ ap (λ v. env ++ v ∷ []) (c.in_ok-variable-2.ensures ∙ ap (variable (codes "MAKEFLAGS")) (c.deref.ensures.value ∙ c.in_ok-flags.ensures)) in
+    c.in_ok-push-3.ensures.items ∙ ap (λ t. t ++ c.in_ok-variable-3.field-0 ∷ []) told
+    ∙ ap (λ v. (env ++ flags ∷ []) ++ v ∷ []) c.in_ok-variable-3.ensures
+    ∙ append_assoc env (flags ∷ []) (profile ∷ [])

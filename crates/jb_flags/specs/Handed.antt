@@ -1,0 +1,45 @@
+-- What makes below are told in the wide profile (POSIX make, MAKEFLAGS): the options as one word with its hyphen, the words of job slots, and
+-- behind `--` the definitions. That form is read alike by GNU make and by BSD make. The profile is told by a variable of its own, since
+-- BSD make ends at an option that it doesn't know. Own.
+use Rattle.std.specs.Prelude.{ℕ, Bool, not, ◌||◌, List, [], ◌∷◌, ◌++◌, Option, Some, None, codes, filter, find}
+use Rattle.std.specs.List.{flat_map}
+use Rattle.std.specs.Option.{option_map_or}
+use Rattle.std.specs.Str.{bytes_eq}
+use Rattle.bd_lists.specs.declared.recipe.Variable.{Variable}
+use Rattle.jb_flags.specs.Words.{quoted}
+use Rattle.jb_flags.specs.declared.handing.Handed.{Handed}
+
+abbrev pub variable : (name value : List ℕ) → Variable
+variable name value = record { name = name; value = value }
+
+abbrev pub is_makeflags : Variable → Bool
+is_makeflags v = bytes_eq (codes "MAKEFLAGS") v.name
+
+-- a definition that recipes get as a variable too: the empty name can't be one's, and MAKEFLAGS is what is told here
+abbrev pub is_passed_on : Variable → Bool
+is_passed_on v = not (bytes_eq v.name [] || bytes_eq v.name (codes "MAKEFLAGS"))
+
+-- a definition as one word, behind a blank
+abbrev pub definition_word : Variable → List ℕ
+definition_word v = 32 ∷ quoted v.name ++ 61 ∷ quoted v.value
+
+-- words behind the one that ends the options, where there are any
+abbrev pub behind_options : (words : List ℕ) → List ℕ
+behind_options [] = []
+behind_options (b ∷ words) = codes " --" ++ b ∷ words
+
+-- the definitions that recipes get as variables too
+abbrev pub definition_words : List Variable → List ℕ
+definition_words variables = behind_options (flat_map definition_word (filter is_passed_on variables))
+
+-- the words of job slots: those that the recipe is given, or those that came where it is given none of its own
+abbrev pub slot_words : Handed → List Variable → List ℕ
+slot_words handed env = option_map_or (λ v. v.value) (find is_makeflags env) handed.slots.items
+
+abbrev pub makeflags : Handed → List Variable → List ℕ
+makeflags handed env = handed.options.items ++ slot_words handed env ++ handed.definitions.items
+
+-- a recipe's variables with what makes below are told, where something is: of two of one name the later counts
+abbrev pub with_handed : Option Handed → List Variable → List Variable
+with_handed None env = env
+with_handed (Some handed) env = env ++ variable (codes "MAKEFLAGS") (makeflags handed env) ∷ variable (codes "DMK_PROFILE") (codes "posix") ∷ []

@@ -1,0 +1,124 @@
+//! Definitions that count by what stands above them.
+ghost use Rattle.std.specs.Prelude.{◌≡◌, [], ◌∷◌, ◌++◌, IfOk, OnOk};
+ghost use Rattle.mk_macros.specs.Ranks.{defined_by};
+ghost use Rattle.mk_eval.specs.Makefile.{behind, GivesItem, GivesItems, KindItems, ItemItems, FixedItems, doubled_byte, doubled};
+
+use crate::names::follow;
+use crate::refuse::refuse_text;
+use byte_strings::ByteString;
+use mk_macros::{Dynamic, Macros};
+use mk_reader::{Definition, DefinitionKind, DefinitionLine, Item, ReadFault};
+use std::alloc::{AllocError, Global};
+
+fn push_doubled(out: &mut Vec<u8>, byte: u8) -> Result<(), AllocError>
+    ensures { OnOk result (out.new.items ≡ out.old.items ++ doubled_byte byte) }
+{
+    if byte == b'$' {
+        out.push(b'$')?;
+    }
+    out.push(byte)?;
+    Ok(())
+}
+
+/// The text with each `$` doubled, which expands to it.
+fn doubled(alloc: Global, text: &[u8]) -> Result<Vec<u8>, AllocError>
+    ensures { IfOk result (λ v. v.items ≡ doubled text.now) }
+{
+    let mut out = Vec::new(alloc);
+    let mut rest = text;
+    while let Some((byte, after)) = rest.split_first() {
+        push_doubled(&mut out, *byte)?;
+        rest = after;
+    }
+    Ok(out)
+}
+
+/// The definition with its text expanded where it stands.
+fn fixed(
+    alloc: Global,
+    definition: Definition,
+    is_fixed: bool,
+    macros: &Macros,
+) -> Result<Item, ReadFault>
+    ensures { GivesItem result (FixedItems definition is_fixed (defined_by macros.now)) }
+{
+    match macros.expand(alloc, definition.value.as_slice(), &Dynamic::RuleLine) {
+        Ok(text) => {
+            let value = ByteString::new(doubled(alloc, text.as_slice())?);
+            Ok(Item::Definition(Definition {
+                value,
+                is_fixed,
+                ..definition
+            }))
+        }
+        Err(fault) => {
+            let Definition { file, line, .. } = definition;
+            Err(refuse_text(alloc, file.as_slice(), line, fault))
+        }
+    }
+}
+
+/// The item alone, which is taken into the macros.
+fn take(alloc: Global, item: Item, macros: &mut Macros) -> Result<Vec<Item>, AllocError>
+    ensures items { IfOk result (λ items. items.items ≡ item ∷ []) }
+    ensures defined { IfOk result (λ items. defined_by macros.new ≡ behind (defined_by macros.old) items.items) }
+{
+    let mut items = Vec::new(alloc);
+    follow(alloc, macros, &item)?;
+    items.push(item)?;
+    Ok(items)
+}
+
+/// As `take`, with the text expanded where the definition stands.
+fn take_fixed(
+    alloc: Global,
+    definition: Definition,
+    is_fixed: bool,
+    macros: &mut Macros,
+) -> Result<Vec<Item>, ReadFault>
+    ensures items { GivesItems result (FixedItems definition is_fixed (defined_by macros.old)) }
+    ensures defined { IfOk result (λ items. defined_by macros.new ≡ behind (defined_by macros.old) items.items) }
+{
+    let item = fixed(alloc, definition, is_fixed, macros)?;
+    Ok(take(alloc, item, macros)?)
+}
+
+/// What a definition gives that counts by what stands above it: an item, which is taken into the macros, or nothing.
+pub fn evaluate_definition(
+    alloc: Global,
+    line: DefinitionLine,
+    macros: &mut Macros,
+) -> Result<Vec<Item>, ReadFault>
+    ensures items { GivesItems result (KindItems line.kind line.definition (defined_by macros.old)) }
+    ensures defined { IfOk result (λ items. defined_by macros.new ≡ behind (defined_by macros.old) items.items) }
+{
+    let DefinitionLine { kind, definition } = line;
+    match kind {
+        DefinitionKind::IfUndefined => {
+            if macros.is_defined(definition.name.as_slice()) {
+                return Ok(Vec::new(alloc));
+            }
+            Ok(take(alloc, Item::Definition(definition), macros)?)
+        }
+        DefinitionKind::AtOnce => take_fixed(alloc, definition, true, macros),
+        DefinitionKind::AtOnceAlone => take_fixed(alloc, definition, false, macros),
+    }
+}
+
+/// What an item gives, which is taken into the macros.
+pub fn evaluate_item(alloc: Global, item: Item, macros: &mut Macros) -> Result<Vec<Item>, ReadFault>
+    ensures items { GivesItems result (ItemItems item (defined_by macros.old)) }
+    ensures defined { IfOk result (λ items. defined_by macros.new ≡ behind (defined_by macros.old) items.items) }
+{
+    match item {
+        Item::Definition(definition) => {
+            let is_wide = macros.profile().is_wide();
+            if definition.append && is_wide && macros.is_fixed(definition.name.as_slice()) {
+                return take_fixed(alloc, definition, true, macros);
+            }
+            Ok(take(alloc, Item::Definition(definition), macros)?)
+        }
+        Item::Rule(rule) => Ok(take(alloc, Item::Rule(rule), macros)?),
+        Item::Special(special) => Ok(take(alloc, Item::Special(special), macros)?),
+    }
+}

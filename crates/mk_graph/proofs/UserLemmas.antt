@@ -1,0 +1,316 @@
+-- Rows of known lengths, filled from their starts on.
+use Rattle.std.proofs.Common.{◌≡◌, ◌≢◌, ℕ, zero, suc, ◌+◌, ◌-◌, ◌<◌, ◌≤◌, ◌⊎◌, inl, inr, cond, nat_eq, List, [], ◌∷◌, ◌++◌, length, get_or, take, drop, set, replicate, sum, sum_by, slice_index, get_or-set_same, get_or-set_other, append_assoc, refl, sym, ap, ◌∙◌, subst, ⊎_elim, arith, eq-eqb, ne_eqb}
+use Rattle.std.specs.Prelude.{slice_range}
+use Rattle.std.proofs.lemmas.Bool.{cases_eq, cases_order}
+use Rattle.std.proofs.lemmas.List.{replicate-append-replicate, drop-drop, drop_all, take-append-drop, take_all, take_more, take_more_set}
+use Rattle.std.proofs.lemmas.List.Sums.{sum_by-append, sum_by-cons, sum_by-take-le, sum_by_more, sum_by-set, count_by-le-length}
+use Rattle.std.proofs.lemmas.Option.{get_or_from_slice_get}
+use Rattle.byte_strings.specs.Pieces.{pieces, AreEnds}
+use Rattle.byte_strings.proofs.PieceLemmas.{AreEnds-at, pieces-get, length-pieces}
+use Rattle.mk_graph.specs.Edges.{row, times, AreUsers}
+use Rattle.mk_graph.specs.Users.{ends_from, filled}
+use Rattle.mk_graph.proofs.RowLemmas.{times-more, times_room, Rises, rises_none, counts_more, rises_in_row, ascending_everywhere}
+
+-- the ends of rows
+pub length-ends_from : (start : ℕ) (ns : List ℕ) → length (ends_from start ns) ≡ length ns
+length-ends_from start [] = refl
+length-ends_from start (n ∷ ns) = ap suc (length-ends_from (start + n) ns)
+
+pub ends_from-push : (start : ℕ) (ns : List ℕ) (n : ℕ) → ends_from start (ns ++ n ∷ []) ≡ ends_from start ns ++ (start + sum ns + n) ∷ []
+ends_from-push start [] n = ap (λ k. (k + n) ∷ []) (omega arith)
+ends_from-push start (m ∷ ns) n =
+    let s = sum_by-cons (λ x. x) m ns in
+    let e : start + m + sum ns ≡ start + sum (m ∷ ns) = omega arith in
+    ap (λ l. (start + m) ∷ l) (ends_from-push (start + m) ns n ∙ ap (λ k. ends_from (start + m) ns ++ (k + n) ∷ []) e)
+
+pub are_ends : (start size : ℕ) (ns : List ℕ) → size ≡ start + sum ns → AreEnds size start (ends_from start ns)
+are_ends start size [] e = omega arith
+are_ends start size (n ∷ ns) e = let s = sum_by-cons (λ x. x) n ns in (omega arith, are_ends (start + n) size ns (omega arith))
+
+pub end_of_row : (start : ℕ) (ns : List ℕ) (n : ℕ) → n < length ns
+    → slice_index (ends_from start ns) n ≡ slice_index (start ∷ ends_from start ns) n + slice_index ns n
+end_of_row start [] n h = absurd (omega arith)
+end_of_row start (m ∷ ns) zero h = refl
+end_of_row start (m ∷ ns) (suc n) h = end_of_row (start + m) ns n (omega arith)
+
+pub ends_more : (ns : List ℕ) (i end : ℕ) → i < length ns → end ≡ sum (take i ns)
+    → ends_from 0 (take i ns) ++ (end + get_or ns i 0) ∷ [] ≡ ends_from 0 (take (i + 1) ns)
+ends_more ns i end within so_far =
+    let e : end + get_or ns i 0 ≡ 0 + sum (take i ns) + get_or ns i 0 = omega arith in
+    ap (λ k. ends_from 0 (take i ns) ++ k ∷ []) e
+    ∙ sym (ends_from-push 0 (take i ns) (get_or ns i 0)) ∙ ap (ends_from 0) (sym (take_more ns i 0 within))
+
+-- the last row ends at the size
+pub last_end : (size start : ℕ) (ends : List ℕ) → AreEnds size start ends → slice_index (start ∷ ends) (length ends) ≡ size
+last_end size start [] h = h
+last_end size start (end ∷ ends) h = last_end size end ends h.1
+
+-- of ends that were made of lengths
+module _ (ns ends : List ℕ) (made : ends ≡ ends_from 0 ns) where
+  pub as_many : length ends ≡ length ns
+  as_many = ap length made ∙ length-ends_from 0 ns
+
+  sized : AreEnds (sum ns) 0 ends
+  sized = subst (AreEnds (sum ns) 0) (sym made) (are_ends 0 (sum ns) ns (omega arith))
+
+  pub up_to : (size : ℕ) → size ≡ slice_index (0 ∷ ends) (length ends) → AreEnds size 0 ends
+  up_to size e = subst (λ k. AreEnds k 0 ends) (sym (e ∙ last_end (sum ns) 0 ends sized)) sized
+
+  pub row_end : (n : ℕ) → n < length ns → slice_index ends n ≡ slice_index (0 ∷ ends) n + slice_index ns n
+  row_end n below =
+      ap (λ l. slice_index l n) made ∙ end_of_row 0 ns n below ∙ ap (λ l. slice_index (0 ∷ l) n + slice_index ns n) (sym made)
+
+-- a row starts where the one before it ends, or behind that
+pub starts_behind : (size start : ℕ) (ends : List ℕ) (m n : ℕ) → AreEnds size start ends → m < n → n < length ends
+    → slice_index ends m ≤ slice_index (start ∷ ends) n
+starts_behind size start [] m n h lt within = absurd (omega arith)
+starts_behind size start (end ∷ ends) m zero h lt within = absurd (omega arith)
+starts_behind size start (end ∷ ends) zero (suc n) h lt within = first size end ends n h.1 (omega arith)
+  where
+    first : (size start : ℕ) (ends : List ℕ) (n : ℕ) → AreEnds size start ends → n < length ends → start ≤ slice_index (start ∷ ends) n
+    first size start ends zero h within = omega arith
+    first size start [] (suc n) h within = absurd (omega arith)
+    first size start (end ∷ ends) (suc n) h within = let e = first size end ends n h.1 (omega arith) in let b = h.0 in omega arith
+starts_behind size start (end ∷ ends) (suc m) (suc n) h lt within = starts_behind size end ends m n h.1 (omega arith) (omega arith)
+
+-- a number set at the end of a range, and one outside of it
+range_apart : (xs : List ℕ) (a b i y : ℕ) → (i < a) ⊎ (b ≤ i) → slice_range (set xs i y) a b ≡ slice_range xs a b
+range_apart [] a b i y h = refl
+range_apart (x ∷ xs) zero zero zero y h = refl
+range_apart (x ∷ xs) zero (suc b) zero y h = absurd (⊎_elim (λ l. omega arith) (λ r. omega arith) h)
+range_apart (x ∷ xs) zero zero (suc i) y h = refl
+range_apart (x ∷ xs) zero (suc b) (suc i) y h =
+    let whole : suc b - 0 ≡ suc b = omega arith in
+    let rest : b - 0 ≡ b = omega arith in
+    let behind = range_apart xs zero b i y (⊎_elim (λ l. absurd (omega arith)) (λ r. inr (omega arith)) h) in
+    ap (λ k. take k (x ∷ set xs i y)) whole
+    ∙ ap (λ l. x ∷ l) (ap (λ k. take k (set xs i y)) (sym rest) ∙ behind ∙ ap (λ k. take k xs) rest)
+    ∙ ap (λ k. take k (x ∷ xs)) (sym whole)
+range_apart (x ∷ xs) (suc a) b zero y h = refl
+range_apart (x ∷ xs) (suc a) zero (suc i) y h = ap (λ k. take k (drop a (set xs i y))) none ∙ ap (λ k. take k (drop a xs)) (sym none)
+  where
+    none : 0 - suc a ≡ 0
+    none = omega arith
+range_apart (x ∷ xs) (suc a) (suc b) (suc i) y h =
+    ap (λ k. take k (drop a (set xs i y))) less ∙ range_apart xs a b i y (⊎_elim (λ l. inl (omega arith)) (λ r. inr (omega arith)) h) ∙ ap (λ k. take k (drop a xs)) (sym less)
+  where
+    less : suc b - suc a ≡ b - a
+    less = omega arith
+
+range_more : (xs : List ℕ) (a i y : ℕ) → a ≤ i → i < length xs → slice_range (set xs i y) a (i + 1) ≡ slice_range xs a i ++ y ∷ []
+range_more [] a i y h within = absurd (omega arith)
+range_more (x ∷ xs) zero i y h within =
+    let to : i + 1 - 0 ≡ i + 1 = omega arith in
+    let before : i - 0 ≡ i = omega arith in
+    ap (λ k. take k (set (x ∷ xs) i y)) to ∙ take_more_set (x ∷ xs) i y within ∙ ap (λ k. take k (x ∷ xs) ++ y ∷ []) (sym before)
+range_more (x ∷ xs) (suc a) zero y h within = absurd (omega arith)
+range_more (x ∷ xs) (suc a) (suc i) y h within =
+    ap (λ k. take k (drop a (set xs i y))) more ∙ range_more xs a i y (omega arith) (omega arith) ∙ ap (λ k. take k (drop a xs) ++ y ∷ []) (sym less)
+  where
+    more : suc i + 1 - suc a ≡ i + 1 - a
+    more = omega arith
+
+    less : suc i - suc a ≡ i - a
+    less = omega arith
+
+-- how often each number stands in a list, one longer
+module _ (counts ns : List ℕ) (nodes i : ℕ) (within : i < length ns) (same : length counts ≡ nodes)
+    (so_far : (n : ℕ) → n < nodes → slice_index counts n ≡ times n (take i ns)) where
+  not_there : (n : ℕ) → n < nodes → n ≢ get_or ns i 0 → slice_index counts n ≡ times n (take (i + 1) ns)
+  not_there n below apart = so_far n below ∙ sym (times-more n ns i within ∙ rw (ne_eqb n (get_or ns i 0) apart) (omega arith))
+
+  pub counted_past : nodes ≤ get_or ns i 0 → (n : ℕ) → n < nodes → slice_index counts n ≡ times n (take (i + 1) ns)
+  counted_past past n below = not_there n below (λ e. absurd (omega arith))
+
+  pub counted_in : (y : ℕ) → get_or ns i 0 < nodes → y ≡ get_or counts (get_or ns i 0) 0 + 1
+      → (n : ℕ) → n < nodes → slice_index (set counts (get_or ns i 0) y) n ≡ times n (take (i + 1) ns)
+  counted_in y place more n below = ⊎_elim there (λ apart. get_or-set_other counts (get_or ns i 0) n y 0 apart ∙ not_there n below apart) (cases_eq n (get_or ns i 0))
+    where
+      there : n ≡ get_or ns i 0 → slice_index (set counts (get_or ns i 0) y) n ≡ times n (take (i + 1) ns)
+      there e =
+          let t : times n (take (i + 1) ns) ≡ times n (take i ns) + 1 = times-more n ns i within ∙ rw (eq-eqb n (get_or ns i 0) e) refl in
+          let b = so_far n below in
+          let c = ap (λ k. get_or counts k 0) e in
+          let s = ap (λ k. get_or (set counts (get_or ns i 0) y) k 0) e ∙ get_or-set_same counts (get_or ns i 0) y 0 (omega arith) in
+          omega arith
+
+  pub sum_in : (y : ℕ) → get_or ns i 0 < nodes → y ≡ get_or counts (get_or ns i 0) 0 + 1 → sum counts ≤ i → sum (set counts (get_or ns i 0) y) ≤ i + 1
+  sum_in y place more so = let s = sum_by-set (λ x. x) counts (get_or ns i 0) y 0 (omega arith) in omega arith
+
+  -- no number stands there more often than numbers were read
+  pub few : get_or ns i 0 < nodes → get_or counts (get_or ns i 0) 0 < length ns
+  few place =
+      let b = so_far (get_or ns i 0) place in
+      let r = times_room ns i within in
+      let l = count_by-le-length (nat_eq (get_or ns i 0)) ns in
+      omega arith
+
+-- one more user noted
+module _ (users ends left : List ℕ) (p node at : ℕ) (h : AreEnds (length users) 0 ends) (within : p < length ends) (same : length left ≡ length ends)
+    (room : 1 ≤ get_or left p 0) (rows : (n : ℕ) → n < length ends → slice_index (0 ∷ ends) n + slice_index left n ≤ slice_index ends n)
+    (place : at ≡ get_or ends p 0 - get_or left p 0) where
+  pub at_within : at < length users
+  at_within = let e = AreEnds-at (length users) 0 ends p h within in let r = rows p within in let b = e.1 in omega arith
+
+  left_there : get_or (set left p (get_or left p 0 - 1)) p 0 ≡ get_or left p 0 - 1
+  left_there = get_or-set_same left p (get_or left p 0 - 1) 0 (omega arith)
+
+  left_elsewhere : (n : ℕ) → n ≢ p → get_or (set left p (get_or left p 0 - 1)) n 0 ≡ get_or left n 0
+  left_elsewhere n apart = get_or-set_other left p n (get_or left p 0 - 1) 0 apart
+
+  pub rows_left : (n : ℕ) → n < length ends → slice_index (0 ∷ ends) n + slice_index (set left p (get_or left p 0 - 1)) n ≤ slice_index ends n
+  rows_left n below = ⊎_elim there elsewhere (cases_eq n p)
+    where
+      there : n ≡ p → slice_index (0 ∷ ends) n + slice_index (set left p (get_or left p 0 - 1)) n ≤ slice_index ends n
+      there e = let r = rows n below in let s = ap (λ k. get_or (set left p (get_or left p 0 - 1)) k 0) e ∙ left_there in let t = ap (λ k. get_or left k 0) e in omega arith
+
+      elsewhere : n ≢ p → slice_index (0 ∷ ends) n + slice_index (set left p (get_or left p 0 - 1)) n ≤ slice_index ends n
+      elsewhere apart = let r = rows n below in let s = left_elsewhere n apart in omega arith
+
+  pub filled_there : filled (set users at node) ends (set left p (get_or left p 0 - 1)) p ≡ filled users ends left p ++ node ∷ []
+  filled_there =
+      let r = rows p within in
+      let to : slice_index ends p - slice_index (set left p (get_or left p 0 - 1)) p ≡ at + 1 = let l = left_there in omega arith in
+      ap (slice_range (set users at node) (slice_index (0 ∷ ends) p)) to
+      ∙ range_more users (slice_index (0 ∷ ends) p) at node (omega arith) at_within
+      ∙ ap (λ k. slice_range users (slice_index (0 ∷ ends) p) k ++ node ∷ []) place
+
+  pub filled_elsewhere : (n : ℕ) → n < length ends → n ≢ p → filled (set users at node) ends (set left p (get_or left p 0 - 1)) n ≡ filled users ends left n
+  filled_elsewhere n below apart =
+      let r = rows p within in
+      let s = rows n below in
+      let outside : (at < slice_index (0 ∷ ends) n) ⊎ (slice_index ends n - slice_index left n ≤ at)
+      = ⊎_elim (λ e. absurd (apart e))
+      (⊎_elim (λ lt. inr (let b = starts_behind (length users) 0 ends n p h lt within in omega arith))
+      (λ lt. inl (let b = starts_behind (length users) 0 ends p n h lt below in omega arith)))
+      (cases_order n p) in
+      ap (λ k. slice_range (set users at node) (slice_index (0 ∷ ends) n) (slice_index ends n - k)) (left_elsewhere n apart)
+      ∙ range_apart users (slice_index (0 ∷ ends) n) (slice_index ends n - slice_index left n) at node outside
+
+-- of the rows: before the call they are base, and before are those once so many prerequisites were noted
+module _ (base before : ℕ → List ℕ) (nodes node : ℕ) (ps : List ℕ) (i : ℕ) (within : i < length ps)
+    (noted : (n : ℕ) → n < nodes → before n ≡ base n ++ replicate (times n (take i ps)) node) where
+  elsewhere : (n : ℕ) → n < nodes → n ≢ get_or ps i 0 → before n ≡ base n ++ replicate (times n (take (i + 1) ps)) node
+  elsewhere n below apart =
+      let t : times n (take (i + 1) ps) ≡ times n (take i ps) = times-more n ps i within ∙ rw (ne_eqb n (get_or ps i 0) apart) (omega arith) in
+      noted n below ∙ ap (λ k. base n ++ replicate k node) (sym t)
+
+  pub noted_past : nodes ≤ get_or ps i 0 → (n : ℕ) → n < nodes → before n ≡ base n ++ replicate (times n (take (i + 1) ps)) node
+  noted_past past n below = elsewhere n below (λ e. absurd (omega arith))
+
+  pub noted_in : (after : ℕ → List ℕ) → after (get_or ps i 0) ≡ before (get_or ps i 0) ++ node ∷ []
+      → ((n : ℕ) → n < nodes → n ≢ get_or ps i 0 → after n ≡ before n)
+      → (n : ℕ) → n < nodes → after n ≡ base n ++ replicate (times n (take (i + 1) ps)) node
+  noted_in after here others n below = ⊎_elim there (λ apart. others n below apart ∙ elsewhere n below apart) (cases_eq n (get_or ps i 0))
+    where
+      there : n ≡ get_or ps i 0 → after n ≡ base n ++ replicate (times n (take (i + 1) ps)) node
+      there e =
+          let t : times n (take (i + 1) ps) ≡ times n (take i ps) + 1 = times-more n ps i within ∙ rw (eq-eqb n (get_or ps i 0) e) refl in
+          ap after e ∙ here ∙ ap (λ k. before k ++ node ∷ []) (sym e)
+          ∙ ap (λ l. l ++ node ∷ []) (noted n below)
+          ∙ append_assoc (base n) (replicate (times n (take i ps)) node) (node ∷ [])
+          ∙ ap (λ l. base n ++ l) (replicate-append-replicate (times n (take i ps)) 1 node ∙ ap (λ k. replicate k node) (sym t))
+
+-- of the room that is left
+module _ (ps left old : List ℕ) (nodes i : ℕ) (within : i < length ps)
+    (so_far : (n : ℕ) → n < nodes → slice_index left n + times n (take i ps) ≡ slice_index old n) where
+  pub some_room : ((n : ℕ) → n < nodes → times n ps ≤ slice_index old n) → get_or ps i 0 < nodes → 1 ≤ get_or left (get_or ps i 0) 0
+  some_room enough below = let a = enough (get_or ps i 0) below in let b = so_far (get_or ps i 0) below in let r = times_room ps i within in omega arith
+
+  -- what is left of a row isn't more than before
+  pub rows_still : (ends : List ℕ) → ((n : ℕ) → n < nodes → slice_index (0 ∷ ends) n + slice_index old n ≤ slice_index ends n)
+      → (n : ℕ) → n < nodes → slice_index (0 ∷ ends) n + slice_index left n ≤ slice_index ends n
+  rows_still ends rows n below = let a = rows n below in let b = so_far n below in omega arith
+
+  pub room_past : nodes ≤ get_or ps i 0 → (n : ℕ) → n < nodes → slice_index left n + times n (take (i + 1) ps) ≡ slice_index old n
+  room_past past n below =
+      let t : times n (take (i + 1) ps) ≡ times n (take i ps) = times-more n ps i within ∙ rw (ne_eqb n (get_or ps i 0) (λ e. absurd (omega arith))) (omega arith) in
+      let b = so_far n below in omega arith
+
+-- how many users a node has: as often as it stands in the numbers of all rows
+pub times-pieces : (n : ℕ) (numbers : List ℕ) (start : ℕ) (ends : List ℕ) → AreEnds (length numbers) start ends
+    → sum_by (times n) (pieces numbers start ends) ≡ times n (drop start numbers)
+times-pieces n numbers start [] h = sym (ap (times n) (drop_all start numbers (omega (arith, h))))
+times-pieces n numbers start (end ∷ ends) h =
+    let rising : start ≤ end = h.0 in
+    let behind : drop end numbers ≡ drop (end - start) (drop start numbers)
+    = ap (λ k. drop k numbers) (omega arith) ∙ sym (drop-drop (end - start) start numbers) in
+    sum_by-cons (times n) (slice_range numbers start end) (pieces numbers end ends)
+    ∙ ap (λ k. times n (slice_range numbers start end) + k) (times-pieces n numbers end ends h.1)
+    ∙ sym (sum_by-append (λ y. cond (nat_eq n y) 1 0) (take (end - start) (drop start numbers)) (drop end numbers))
+    ∙ ap (times n) (ap (λ l. take (end - start) (drop start numbers) ++ l) behind ∙ take-append-drop (end - start) (drop start numbers))
+
+-- a node's row has no more users than are left
+pub room_for : (g : List (List ℕ)) (n k left all : ℕ) → k < length g → left + sum_by (times n) (take k g) ≡ all → sum_by (times n) g ≡ all → times n (row g k) ≤ left
+room_for g n k left all within so_far whole =
+    let more = sum_by_more (times n) g k [] within in
+    let part = sum_by-take-le (times n) g (k + 1) in
+    omega arith
+
+-- the row of a node before it is filled, and once all is
+pub filled_none : (users ends left : List ℕ) (n : ℕ) → slice_index ends n ≡ slice_index (0 ∷ ends) n + slice_index left n → filled users ends left n ≡ []
+filled_none users ends left n e = let none : slice_index ends n - slice_index left n - slice_index (0 ∷ ends) n ≡ 0 = omega arith in ap (λ k. take k (drop (slice_index (0 ∷ ends) n) users)) none
+
+pub filled_row : (users ends left : List ℕ) (n : ℕ) → n < length ends → slice_index left n ≡ 0 → row (pieces users 0 ends) n ≡ filled users ends left n
+filled_row users ends left n below none =
+    get_or_from_slice_get (pieces users 0 ends) n (slice_range users (slice_index (0 ∷ ends) n) (slice_index ends n)) [] (pieces-get users 0 ends n below)
+    ∙ ap (slice_range users (slice_index (0 ∷ ends) n)) (rw none (omega arith))
+
+-- the rows of users, once the first k nodes are noted in them
+pub record Fills (g : List (List ℕ)) (k : ℕ) (users ends left : List ℕ) : Type 0 where
+  pub nodes : length left ≡ length g
+  pub rest : (n : ℕ) → n < length g → slice_index left n + sum_by (times n) (take k g) ≡ sum_by (times n) g
+  pub counts : (n m : ℕ) → m < length g → times n (filled users ends left m) ≡ times m (row (take k g) n)
+  pub rises : (m : ℕ) → m < length g → Rises k (filled users ends left m)
+
+pub refilled : (g : List (List ℕ)) (k : ℕ) (ends users users' left left' : List ℕ) → users' ≡ users → left' ≡ left
+    → Fills g k users ends left → Fills g k users' ends left'
+refilled g k ends users users' left left' same_users same_left fills =
+    subst (λ u. Fills g k u ends left') (sym same_users) (subst (λ l. Fills g k users ends l) (sym same_left) fills)
+
+pub fills_none : (g : List (List ℕ)) (users ends left : List ℕ) → length left ≡ length g
+    → ((n : ℕ) → n < length g → slice_index left n ≡ sum_by (times n) g)
+    → ((n : ℕ) → n < length g → slice_index ends n ≡ slice_index (0 ∷ ends) n + slice_index left n) → Fills g 0 users ends left
+fills_none g users ends left same all rows = record {
+  nodes = same;
+  rest = λ n below. let a = all n below in omega arith;
+  counts = λ n m below. ap (times n) (filled_none users ends left m (rows m below));
+  rises = λ m below. rises_none (filled users ends left m) (filled_none users ends left m (rows m below));
+}
+
+module _ (g : List (List ℕ)) (k : ℕ) (users ends left : List ℕ) (fills : Fills g k users ends left) (as_many : length ends ≡ length g) where
+  pub room_left : k < length g → (n : ℕ) → n < length ends → times n (row g k) ≤ slice_index left n
+  room_left within n below = room_for g n k (slice_index left n) (sum_by (times n) g) within (fills.rest n (omega arith)) refl
+
+  pub within_rows : ((n : ℕ) → n < length g → slice_index ends n ≡ slice_index (0 ∷ ends) n + sum_by (times n) g)
+      → (n : ℕ) → n < length ends → slice_index (0 ∷ ends) n + slice_index left n ≤ slice_index ends n
+  within_rows rows n below = let r = rows n (omega arith) in let f = fills.rest n (omega arith) in omega arith
+
+  pub fills_more : (users' left' : List ℕ) → k < length g → length left' ≡ length left
+      → ((n : ℕ) → n < length ends → slice_index left' n + times n (row g k) ≡ slice_index left n)
+      → ((n : ℕ) → n < length ends → filled users' ends left' n ≡ filled users ends left n ++ replicate (times n (row g k)) k)
+      → Fills g (k + 1) users' ends left'
+  fills_more users' left' within same counted noted = record {
+    nodes = same ∙ fills.nodes;
+    rest = λ n below.
+        let more = sum_by_more (times n) g k [] within in
+        let b = fills.rest n below in
+        let c = counted n (omega arith) in
+        omega arith;
+    counts = λ n m below. counts_more g (filled users ends left m) (filled users' ends left' m) k within m (noted m (omega arith)) n (fills.counts n m below);
+    rises = λ m below. rises_in_row g (filled users ends left m) (filled users' ends left' m) k within m (noted m (omega arith)) (fills.rises m below);
+  }
+
+  pub all_noted : length g ≤ k → AreUsers g (pieces users 0 ends)
+  all_noted past =
+      let whole : take k g ≡ g = take_all k g past in
+      let none : (n : ℕ) → n < length g → slice_index left n ≡ 0
+      = λ n below. let b = fills.rest n below in let e = ap (sum_by (times n)) whole in omega arith in
+      let at : (n : ℕ) → n < length g → row (pieces users 0 ends) n ≡ filled users ends left n
+      = λ n below. filled_row users ends left n (omega arith) (none n below) in
+      let many : length (pieces users 0 ends) ≡ length g = length-pieces users 0 ends ∙ as_many in
+      record {
+        nodes = many;
+        counts = λ n m below. ap (times n) (at m below) ∙ fills.counts n m below ∙ ap (λ l. times m (row l n)) whole;
+        ascending = ascending_everywhere (pieces users 0 ends) (length g) k many (λ m below. subst (Rises k) (sym (at m below)) (fills.rises m below));
+      }

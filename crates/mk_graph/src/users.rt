@@ -1,0 +1,62 @@
+//! Rows of users, filled once it is known how many each node has.
+
+ghost use Rattle.std.specs.Prelude.{◌≡◌, ℕ, ◌+◌, ◌<◌, ◌≤◌, ◌^◌, ◌∷◌, ◌++◌, length, replicate, slice_index, sum, IfOk};
+ghost use Rattle.byte_strings.specs.Pieces.{AreEnds};
+ghost use Rattle.mk_graph.specs.Edges.{times};
+ghost use Rattle.mk_graph.specs.Users.{ends_from, filled};
+
+use std::alloc::{AllocError, Global};
+
+/// How often each number below `nodes` stands in a list.
+pub fn counted(alloc: Global, numbers: &[usize], nodes: usize) -> Result<Vec<usize>, AllocError>
+    ensures nodes { IfOk result (λ counts. length counts.items ≡ nodes) }
+    ensures times { IfOk result (λ counts. (n : ℕ) → n < nodes → slice_index counts.items n ≡ times n numbers.now) }
+    ensures sum { IfOk result (λ counts. sum counts.items ≤ length numbers.now) }
+{
+    let mut counts = Vec::from_elem(alloc, 0, nodes)?;
+    for number in numbers {
+        if *number < nodes {
+            counts[*number] += 1;
+        }
+    }
+    Ok(counts)
+}
+
+/// Where rows of these lengths end that lie one behind the other.
+pub fn ends_of(alloc: Global, lengths: &[usize]) -> Result<Vec<usize>, AllocError>
+    requires { sum lengths.now < 2 ^ 63 }
+    ensures { IfOk result (λ ends. ends.items ≡ ends_from 0 lengths.now) }
+{
+    let mut ends = Vec::with_capacity(alloc, lengths.len())?;
+    let mut end = 0;
+    for length in lengths {
+        end += *length;
+        ends.push(end)?;
+    }
+    Ok(ends)
+}
+
+/// Notes a node behind what the row of each of its prerequisites has so far, as often as it names it.
+pub fn note_user(
+    node: usize,
+    prerequisites: &[usize],
+    ends: &[usize],
+    left: &mut [usize],
+    users: &mut [usize],
+)
+    requires ends { AreEnds (length users.old) 0 ends.now }
+    requires nodes { length left.old ≡ length ends.now }
+    requires room { (n : ℕ) → n < length ends.now → times n prerequisites.now ≤ slice_index left.old n }
+    requires rows { (n : ℕ) → n < length ends.now → slice_index (0 ∷ ends.now) n + slice_index left.old n ≤ slice_index ends.now n }
+    ensures left { (n : ℕ) → n < length ends.now → slice_index left.new n + times n prerequisites.now ≡ slice_index left.old n }
+    ensures rows { (n : ℕ) → n < length ends.now → filled users.new ends.now left.new n
+        ≡ filled users.old ends.now left.old n ++ replicate (times n prerequisites.now) node }
+{
+    for prerequisite in prerequisites {
+        let number = *prerequisite;
+        if number < ends.len() {
+            users[ends[number] - left[number]] = node;
+            left[number] -= 1;
+        }
+    }
+}

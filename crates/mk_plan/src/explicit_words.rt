@@ -1,0 +1,112 @@
+//! What `$<` and `$*` stand for in a recipe of the target's own, where the wide profile has words for them.
+ghost use Rattle.std.specs.Prelude.{◌≡◌, ◌<◌, length, slice_get};
+ghost use Rattle.std.specs.Option.{option_copied};
+ghost use Rattle.mk_rule_lines.specs.Explicit.{names_in};
+ghost use Rattle.mk_plan.specs.ExplicitWords.{first_of, once_of, is_implicit, recipe_names, first_prerequisite, without_suffix, stem_left, has_words, source_word, stem_word};
+
+use crate::nodes::{name_of, source_of, stem_of};
+use byte_strings::ByteStrings;
+use mk_rule_lines::{RuleLine, is_wait};
+use mk_rules::Graph;
+
+/// Whether an implicit rule makes a node.
+fn is_implicit(graph: &Graph, node: usize) -> bool
+    ensures { result ≡ is_implicit graph.now node }
+{
+    match graph.nodes.get(node) {
+        Some(node) => node.stem.is_some(),
+        None => false,
+    }
+}
+
+/// The first prerequisite of a line.
+fn first_in(line: &RuleLine) -> Option<&[u8]>
+    ensures { option_copied result ≡ slice_get (names_in line.now) 0 }
+{
+    for word in line.prerequisites.iter() {
+        if !is_wait(word) {
+            return Some(word);
+        }
+    }
+    None
+}
+
+/// The first prerequisite of the line whose recipe makes a node.
+fn first_beside(graph: &Graph, node: usize) -> Option<&[u8]>
+    ensures { option_copied result ≡ slice_get (recipe_names graph.now node) 0 }
+{
+    let number = graph.nodes.get(node)?.recipe?;
+    first_in(graph.lines.get(number)?)
+}
+
+/// The first of all prerequisites of a node.
+fn first_hard(graph: &Graph, node: usize) -> &[u8]
+    requires { node < length graph.now.nodes.items }
+    ensures { result.now ≡ first_of (once_of graph.now node) }
+{
+    match graph.hard.row(node) {
+        [first, ..] => name_of(graph, *first),
+        [] => &[],
+    }
+}
+
+fn first_prerequisite(graph: &Graph, node: usize) -> &[u8]
+    requires { node < length graph.now.nodes.items }
+    ensures { result.now ≡ first_prerequisite graph.now node }
+{
+    match first_beside(graph, node) {
+        Some(name) => name,
+        None => first_hard(graph, node),
+    }
+}
+
+/// What stands before the suffix, where something does.
+fn without_suffix<'n>(name: &'n [u8], suffix: &[u8]) -> Option<&'n [u8]>
+    ensures { option_copied result ≡ without_suffix name.now suffix.now }
+{
+    let stem = name.strip_suffix(suffix)?;
+    if stem.is_empty() {
+        return None;
+    }
+    Some(stem)
+}
+
+/// What the first suffix leaves of a name that leaves something.
+fn stem_left<'n>(suffixes: &ByteStrings, name: &'n [u8]) -> &'n [u8]
+    ensures { result.now ≡ stem_left suffixes.now name.now }
+{
+    for suffix in suffixes.iter() {
+        if let Some(stem) = without_suffix(name, suffix) {
+            return stem;
+        }
+    }
+    &[]
+}
+
+/// Whether the recipe of a node is its own, and in the wide profile.
+fn has_words(graph: &Graph, node: usize) -> bool
+    ensures { result ≡ has_words graph.now node }
+{
+    graph.macros.profile().is_wide() && !is_implicit(graph, node)
+}
+
+/// The value of `$<` in the recipe of a node.
+pub fn source_word(graph: &Graph, node: usize) -> &[u8]
+    requires { node < length graph.now.nodes.items }
+    ensures { result.now ≡ source_word graph.now node }
+{
+    if has_words(graph, node) {
+        return first_prerequisite(graph, node);
+    }
+    source_of(graph, node)
+}
+
+/// The value of `$*` in the recipe of a node.
+pub fn stem_word(graph: &Graph, node: usize) -> &[u8]
+    ensures { result.now ≡ stem_word graph.now node }
+{
+    if has_words(graph, node) {
+        return stem_left(&graph.suffixes, name_of(graph, node));
+    }
+    stem_of(graph, node)
+}

@@ -1,0 +1,59 @@
+-- Tests, and texts that are cut at a byte.
+use Rattle.std.proofs.Common.{◌≡◌, ℕ, ◌+◌, Bool, true, false, cond, not, ◌&&◌, ◌||◌, ◌==◌, List, [], ◌∷◌, ◌++◌, length, take, drop, refl, sym, ap, ◌∙◌, arith, append_assoc, length-append, Result, slice_index}
+use Rattle.std.proofs.lemmas.Bool.Decides.{Decides-eqb}
+use Rattle.std.proofs.lemmas.List.{take_at}
+use Rattle.std.proofs.Math.Seq.{drop-append_seam, get_or-append_seam}
+use Rattle.mk_reader.specs.Text.{is_empty, begins_with}
+use Rattle.mk_reader.specs.declared.fault.Refusal.{Refusal}
+use Rattle.mk_reader.specs.declared.form.Form.{Form}
+use Rattle.mk_reader.proofs.ReferenceLemmas.{either}
+
+abbrev pub Told : Type 0
+Told = Result Form Refusal
+
+pub by_test : (P : Told → Type 0) (t : Bool) (x y : Told) → (t ≡ true → P x) → (t ≡ false → P y) → P (cond t x y)
+by_test P true x y h g = h refl
+by_test P false x y h g = g refl
+
+pub empty_is : (xs : List ℕ) → is_empty xs ≡ true → xs ≡ []
+empty_is [] h = refl
+empty_is (b ∷ bs) h = absurd (cc h)
+
+pub one_of : (c b : ℕ) → (b == c || b == c) ≡ true → b ≡ c
+one_of c b h = either _ (b == c) (λ e. (Decides-eqb b c).0 e) (λ e. absurd (cc (ap (λ t. t || t) e, h)))
+
+pub cut_first : (byte : ℕ) (text : List ℕ) → begins_with byte text ≡ true → text ≡ byte ∷ drop 1 text
+cut_first byte [] h = absurd (cc h)
+cut_first byte (b ∷ bs) h = ap (λ c. c ∷ bs) ((Decides-eqb b byte).0 h)
+
+pub not_false : (t : Bool) → not t ≡ false → t ≡ true
+not_false true h = refl
+not_false false h = absurd (cc h)
+
+pub not_true : (t : Bool) → not t ≡ true → t ≡ false
+not_true true h = absurd (cc h)
+not_true false h = refl
+
+pub neither : (w a b : Bool) → (w && a) ≡ false → (w && b) ≡ false → (w && (a || b)) ≡ false
+neither false a b f g = refl
+neither true true b f g = f
+neither true false b f g = g
+
+pub third : (w a b : Bool) (x y z : Told) → (w && (a || b)) ≡ false → cond (w && a) x (cond (w && b) y z) ≡ z
+third false a b x y z h = refl
+third true true b x y z h = absurd (cc h)
+third true false true x y z h = absurd (cc h)
+third true false false x y z h = refl
+
+-- a text that is cut at a byte
+module _ (text left : List ℕ) (b : ℕ) (right : List ℕ) (n : ℕ) (e : text ≡ left ++ b ∷ right) (long : length left ≡ n) where
+  pub cut_left : take n text ≡ left
+  cut_left = ap (take n) e ∙ take_at left (b ∷ right) n (omega (arith, long))
+
+  pub cut_right : drop (n + 1) text ≡ right
+  cut_right =
+      let on : n + 1 ≡ length (left ++ b ∷ []) = omega (arith, long, length-append left (b ∷ [])) in
+      ap (drop (n + 1)) (e ∙ sym (append_assoc left (b ∷ []) right)) ∙ ap (λ k. drop k ((left ++ b ∷ []) ++ right)) on ∙ drop-append_seam (left ++ b ∷ []) right
+
+  pub cut_byte : slice_index text n ≡ b
+  cut_byte = ap (λ k. slice_index text k) (sym long) ∙ ap (λ xs. slice_index xs (length left)) e ∙ get_or-append_seam left b right 0

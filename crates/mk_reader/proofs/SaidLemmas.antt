@@ -1,0 +1,191 @@
+-- The code's definition of a statement's form gives what the grammar says.
+use Rattle.std.proofs.Common.{◌≡◌, ℕ, ◌+◌, Bool, true, false, cond, not, ◌&&◌, ◌||◌, ◌==◌, List, [], ◌∷◌, ◌++◌, take, drop, reverse, refl, sym, ap, subst, ◌∙◌, inl, inr, Option, Some, None, Err, slice_index, codes, bytes_eq}
+use Rattle.std.proofs.lemmas.Bool.Decides.{Decides-eqb}
+use Rattle.std.proofs.lemmas.Slice.Eq.{bytes_eq-Decides}
+use Rattle.std.specs.List.{list_any, list_all}
+use Rattle.std.proofs.lemmas.List.{take-append-drop}
+use Rattle.std.proofs.lemmas.List.Folds.{list_all-append}
+use Rattle.byte_strings.specs.Blanks.{is_blank, trimmed_start, trimmed, first_word}
+use Rattle.mk_profile.specs.Profile.{is_wide}
+use Rattle.mk_profile.specs.declared.profile.Profile.{Profile}
+use Rattle.mk_reader.specs.Text.{is_empty, begins_with, ends_with, without_last}
+use Rattle.mk_reader.specs.Special.{special_name}
+use Rattle.mk_reader.specs.Grammar.{Whole, Padded, AllBlank, SpellsName, SpellsAssignment, SpellsSign, SpellsColon, IsShell, IsRuleEnd, SpellsEnd, SpellsRule, HasSpecial, is_refused_with, refusal, first_line, IsStatement}
+use Rattle.mk_reader.specs.Form.{first_outside, defined_as, is_no_name, named_form, kind_form, optional_form, definition_form, prerequisites_of, recipe_of, judged_form, rule_form, begins_shell_definition, double_form, set_form, colon_form, decided_form}
+use Rattle.mk_reader.specs.declared.special.SpecialName.{SpecialName}
+use Rattle.mk_reader.specs.declared.item.DefinitionKind.{DefinitionKind}
+use Rattle.mk_reader.specs.declared.item.DefinitionKind.TheVariants.{IfUndefined, AtOnce, AtOnceAlone}
+use Rattle.mk_reader.specs.declared.item.Rule.{Rule}
+use Rattle.mk_reader.specs.declared.fault.Feature.TheVariants as feature
+use Rattle.mk_reader.specs.declared.fault.Cause.TheVariants as cause
+use Rattle.mk_reader.specs.declared.form.Place.TheVariants.{Outside}
+use Rattle.mk_reader.proofs.ReferenceLemmas.{either, or_false, Said, said}
+use Rattle.mk_reader.proofs.BlankLemmas.{and_true, begins_is, start_cut, trimmed_start_of, trimmed_padded}
+use Rattle.mk_reader.proofs.SpellingLemmas.{ends_at}
+use Rattle.mk_reader.proofs.CutLemmas.{Told, by_test, empty_is, one_of, cut_first, neither, cut_left, cut_right, cut_byte}
+use Rattle.mk_reader.proofs.WordLemmas.{has_special}
+use Rattle.mk_reader.proofs.ConditionalLemmas.{is_unset, set_parts, set_taken}
+
+core_blank : (text : List ℕ) → Padded text [] → AllBlank text
+core_blank text (front, back, e, f, b, first, last) = ap (list_all is_blank) e ∙ list_all-append is_blank front back ∙ ap (λ t. t && list_all is_blank back) f ∙ b
+
+pub shell_said : (right : List ℕ) → begins_shell_definition right ≡ true → IsShell right
+unfolding begins_shell_definition
+shell_said right h =
+    let parts = and_true (bytes_eq (take 2 right) (codes "sh")) (begins_with 61 (trimmed_start (drop 2 right))) h in
+    let front : take 2 right ≡ codes "sh" = (bytes_eq-Decides (take 2 right) (codes "sh")).0 parts.0 in
+    let rest = begins_is 61 (trimmed_start (drop 2 right)) parts.1 in
+    let cut = start_cut (drop 2 right) in (
+      cut.0,
+      rest.0,
+      sym (take-append-drop 2 right) ∙ ap (λ xs. xs ++ drop 2 right) front
+          ∙ ap (λ xs. codes "sh" ++ xs) (cut.1 ∙ ap (λ xs. cut.0 ++ xs) rest.1),
+      cut.2,
+    )
+
+pub shell_back : (right : List ℕ) → IsShell right → begins_shell_definition right ≡ true
+unfolding begins_shell_definition
+shell_back right (blanks, rest, e, blank) =
+    ap (λ xs. bytes_eq (take 2 xs) (codes "sh") && begins_with 61 (trimmed_start (drop 2 xs))) e
+    ∙ ap (begins_with 61) (trimmed_start_of blanks (61 ∷ rest) blank refl)
+
+module _ (file : List ℕ) (number : ℕ) (profile : Profile) where
+  -- Definitions
+
+  named_said : (line left right name : List ℕ) (append : Bool) → SpellsAssignment line left right → SpellsName left name append →
+      IsStatement profile file number line (named_form file number name append right)
+  unfolding named_form is_no_name defined_as
+  named_said line left right name append h spells =
+      by_test (IsStatement profile file number line) (is_empty name || list_any is_blank name) _ _
+      (λ e. ((refl, refl), inr (inl (left, right, h, name, append, spells, e))))
+      (λ e. let parts = or_false (is_empty name) (list_any is_blank name) e in (refl, refl, refl, (left, right, h, spells, parts.0, parts.1, trimmed_padded right)))
+
+  signed_said : (line : List ℕ) (kind : DefinitionKind) (left right : List ℕ) → is_wide profile ≡ true → SpellsSign kind line left right →
+      IsStatement profile file number line (kind_form file number kind (trimmed left) right)
+  unfolding kind_form is_no_name defined_as
+  signed_said line kind left right wide spells =
+      let name = trimmed left in
+      by_test (IsStatement profile file number line) (is_empty name || list_any is_blank name) _ _
+      (λ e. ((refl, refl), inr (inr (inl (wide, kind, left, right, spells, name, trimmed_padded left, e)))))
+      (λ e. (wide, refl, refl, (left, right, spells, trimmed_padded left, or_false (is_empty name) (list_any is_blank name) e, refl, refl, trimmed_padded right)))
+
+  optional_said : (line left right : List ℕ) → line ≡ left ++ 61 ∷ right → Whole 61 58 left → begins_with 63 (reverse left) ≡ true →
+      IsStatement profile file number line (optional_form profile file number (without_last left) right)
+  unfolding optional_form
+  optional_said line left right e whole mark =
+      let front = without_last left in
+      let is : left ≡ front ++ 63 ∷ [] = ends_at 63 left (reverse left) refl mark in
+      let spells : SpellsSign IfUndefined line front right = (e ∙ ap (λ xs. xs ++ 61 ∷ right) is, subst (Whole 61 58) is whole) in
+      either _ (is_wide profile)
+      (λ wide. subst (IsStatement profile file number line) (ap (λ t. cond (not t) (Err (refusal file number (cause.Unsupported feature.OptionalDefinition))) (kind_form file number IfUndefined (trimmed front) right)) (sym wide))
+      (signed_said line IfUndefined front right wide spells))
+      (λ strict. subst (IsStatement profile file number line) (ap (λ t. cond (not t) (Err (refusal file number (cause.Unsupported feature.OptionalDefinition))) (kind_form file number IfUndefined (trimmed front) right)) (sym strict))
+      ((refl, refl), (strict, front, right, spells)))
+
+  definition_said : (line left right : List ℕ) → line ≡ left ++ 61 ∷ right → Whole 61 58 left →
+      IsStatement profile file number line (definition_form profile file number left right)
+  unfolding definition_form ends_with
+  definition_said line left right e whole =
+      by_test (IsStatement profile file number line) (begins_with 63 (reverse left)) _ _
+      (λ t. optional_said line left right e whole t)
+      (λ f. by_test (IsStatement profile file number line) (begins_with 43 (reverse left)) _ _
+      (λ t. named_said line left right (trimmed (without_last left)) true (e, whole, f) (without_last left, ends_at 43 left (reverse left) refl t, trimmed_padded (without_last left)))
+      (λ t. named_said line left right (trimmed left) false (e, whole, f) (t, trimmed_padded left)))
+
+  -- Rules
+
+  end_said : (right : List ℕ) (o : Option ℕ) → Said 59 59 refl o right → (recipe : Option (List ℕ)) × SpellsEnd right (prerequisites_of right o) recipe × (recipe_of number right o ≡ first_line number recipe)
+  unfolding prerequisites_of recipe_of
+  end_said right None s = (None, (s, trimmed_padded right), refl)
+  end_said right (Some n) (before, b, rest, e, whole, is_one, long) =
+      let same : b ≡ 59 = one_of 59 b is_one in
+      let at : right ≡ before ++ 59 ∷ rest = e ∙ ap (λ c. before ++ c ∷ rest) same in
+      let left : take n right ≡ before = cut_left right before b rest n e long in (
+        Some rest,
+        (before, at, whole, subst (λ xs. Padded xs (trimmed (take n right))) left (trimmed_padded (take n right))),
+        ap (λ xs. first_line number (Some xs)) (cut_right right before b rest n e long),
+      )
+
+  judged_said : (line targets prerequisites : List ℕ) (recipe : Option (List ℕ)) (special : Option SpecialName) (rule : Rule) →
+      rule.file ≡ file → rule.line ≡ number → rule.targets ≡ targets → rule.prerequisites ≡ prerequisites → rule.recipe ≡ first_line number recipe →
+      SpellsRule line targets prerequisites recipe → HasSpecial targets special → IsStatement profile file number line (judged_form profile special rule)
+  unfolding judged_form
+  judged_said line targets prerequisites recipe None rule f n t p r spells has = (
+    f,
+    n,
+    recipe,
+    r,
+    subst (λ xs. SpellsRule line xs rule.prerequisites recipe) (sym t) (subst (λ xs. SpellsRule line targets xs recipe) (sym p) spells),
+    subst (λ xs. HasSpecial xs None) (sym t) has,
+    refl,
+  )
+  judged_said line targets prerequisites recipe (Some name) rule f n t p r spells has =
+      by_test (IsStatement profile file number line) (is_refused_with profile rule.prerequisites (Some name)) _ _
+      (λ e. ((f, n), (targets, prerequisites, recipe, spells, has, ap (λ xs. is_refused_with profile xs (Some name)) (sym p) ∙ e)))
+      (λ e. (
+        f,
+        n,
+        recipe,
+        r,
+        subst (λ xs. SpellsRule line xs rule.prerequisites recipe) (sym t) (subst (λ xs. SpellsRule line targets xs recipe) (sym p) spells),
+        subst (λ xs. HasSpecial xs (Some name)) (sym t) has,
+        e,
+      ))
+
+  rule_said : (line left right : List ℕ) → SpellsColon line left right → IsRuleEnd right → IsStatement profile file number line (rule_form profile file number (trimmed left) right)
+  unfolding rule_form
+  rule_said line left right colon ends =
+      let end = end_said right (first_outside 59 59 Outside right) (said 59 59 refl right) in
+      by_test (IsStatement profile file number line) (is_empty (trimmed left)) _ _
+      (λ e. ((refl, refl), inr (inr (inr (left, right, colon, ends, core_blank left (subst (Padded left) (empty_is (trimmed left) e) (trimmed_padded left)))))))
+      (λ e. judged_said line (trimmed left) (prerequisites_of right (first_outside 59 59 Outside right)) end.0 (special_name (first_word (trimmed left))) _
+      refl refl refl refl end.2 (left, right, colon, ends, trimmed_padded left, e, end.1) (has_special (trimmed left) (special_name (first_word (trimmed left))) refl))
+
+  double_said : (line left right : List ℕ) → SpellsColon line left (58 ∷ right) → IsStatement profile file number line (double_form profile file number left right)
+  unfolding double_form
+  double_said line left right h =
+      let next = begins_with 58 right && begins_with 61 (drop 1 right) in
+      by_test (IsStatement profile file number line) (is_wide profile && begins_with 61 right) _ _
+      (λ t. let parts = and_true (is_wide profile) (begins_with 61 right) t in
+      signed_said line AtOnce left (drop 1 right) parts.0 (inl (h.0 ∙ ap (λ xs. left ++ 58 ∷ 58 ∷ xs) (cut_first 61 right parts.1), h.1)))
+      (λ f. by_test (IsStatement profile file number line) (is_wide profile && next) _ _
+      (λ t.
+      let parts = and_true (is_wide profile) next t in
+      let more = and_true (begins_with 58 right) (begins_with 61 (drop 1 right)) parts.1 in
+      let at : right ≡ 58 ∷ 61 ∷ drop 1 (drop 1 right) = cut_first 58 right more.0 ∙ ap (λ xs. 58 ∷ xs) (cut_first 61 (drop 1 right) more.1) in
+      signed_said line AtOnceAlone left (drop 1 (drop 1 right)) parts.0 (h.0 ∙ ap (λ xs. left ++ 58 ∷ 58 ∷ xs) at, h.1))
+      (λ g. ((refl, refl), (left, right, h, neither (is_wide profile) (begins_with 61 right) next f g))))
+
+  set_said : (line left right : List ℕ) → SpellsColon line left (61 ∷ right) → IsStatement profile file number line (set_form profile file number left right)
+  unfolding set_form is_no_name
+  set_said line left right h =
+      by_test (IsStatement profile file number line) (is_unset profile left right) _ _
+      (λ t. ((refl, refl), (left, right, h, (λ wide set. absurd (cc (set_taken profile left right wide set, t))))))
+      (λ f. let parts = set_parts profile left right f in signed_said line AtOnce left right parts.0 (inr (h, parts.1)))
+
+  colon_said : (line left right : List ℕ) → SpellsColon line left right → IsStatement profile file number line (colon_form profile file number left right)
+  unfolding colon_form
+  colon_said line left right h =
+      by_test (IsStatement profile file number line) (begins_with 58 right) _ _
+      (λ t. double_said line left (drop 1 right) (h.0 ∙ ap (λ xs. left ++ 58 ∷ xs) (cut_first 58 right t), h.1))
+      (λ f. by_test (IsStatement profile file number line) (begins_with 61 right) _ _
+      (λ t. set_said line left (drop 1 right) (h.0 ∙ ap (λ xs. left ++ 58 ∷ xs) (cut_first 61 right t), h.1))
+      (λ g. by_test (IsStatement profile file number line) (begins_shell_definition right) _ _
+      (λ t. ((refl, refl), (left, right, h, shell_said right t)))
+      (λ k. rule_said line left right h (f, g, (λ s. absurd (cc (shell_back right s, k)))))))
+
+  -- Statements
+
+  pub decided_said : (line : List ℕ) (o : Option ℕ) → Said 61 58 refl o line → IsStatement profile file number line (decided_form profile file number line o)
+  unfolding decided_form
+  decided_said line None s = ((refl, refl), inl s)
+  decided_said line (Some n) (left, b, right, e, whole, is_one, long) =
+      let form_at : List ℕ → List ℕ → ℕ → Told = λ xs ys c. cond (c == 61) (definition_form profile file number xs ys) (colon_form profile file number xs ys) in
+      let at : form_at left right b ≡ form_at (take n line) (drop (n + 1) line) (slice_index line n) =
+      sym (ap (λ xs. form_at xs (drop (n + 1) line) (slice_index line n)) (cut_left line left b right n e long)
+      ∙ ap (λ ys. form_at left ys (slice_index line n)) (cut_right line left b right n e long)
+      ∙ ap (form_at left right) (cut_byte line left b right n e long)) in
+      subst (IsStatement profile file number line) at
+      (by_test (IsStatement profile file number line) (b == 61) _ _
+      (λ t. definition_said line left right (e ∙ ap (λ c. left ++ c ∷ right) ((Decides-eqb b 61).0 t)) whole)
+      (λ f. colon_said line left right (e ∙ ap (λ c. left ++ c ∷ right) ((Decides-eqb b 58).0 (ap (λ t. t || b == 58) (sym f) ∙ is_one)), whole)))

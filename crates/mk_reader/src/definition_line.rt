@@ -1,0 +1,180 @@
+//! Definition lines: a name, a sign and a text.
+ghost use Rattle.std.specs.Prelude.{◌≡◌, IfOk};
+ghost use Rattle.std.specs.List.{list_any, list_all};
+ghost use Rattle.byte_strings.specs.Blanks.{is_blank};
+ghost use Rattle.mk_reader.specs.Form.{Gives, defined_as, is_no_name, named_form, kind_form, optional_form, definition_form, is_macro_name, without_plus, conditional_at, double_form, set_form, first_outside};
+ghost use Rattle.mk_reader.specs.Grammar.{is_name_byte};
+ghost use Rattle.mk_reader.specs.declared.form.Place.TheVariants.{Outside};
+
+use crate::fault::{Cause, Feature, ReadFault};
+use crate::form::Form;
+use crate::item::{Definition, DefinitionKind, DefinitionLine};
+use crate::line::LinePlace;
+use crate::lines::{begins_with, ends_with, without_first, without_last};
+use crate::reference::first_outside;
+use crate::refuse::refuse;
+use byte_strings::{ByteString, is_blank, trim};
+use std::alloc::AllocError;
+
+fn has_blank(bytes: &[u8]) -> bool
+    ensures { result ≡ list_any is_blank bytes.now }
+{
+    bytes.iter().any(|byte| is_blank(*byte))
+}
+
+/// A definition whose value has no blanks at its ends.
+#[tactic(auto, unfolding(crate::specs::Form::defined_as))]
+fn defined_as(
+    place: LinePlace<'_>,
+    name: &[u8],
+    append: bool,
+    value: &[u8],
+) -> Result<Definition, AllocError>
+    ensures { IfOk result (λ d. d ≡ defined_as place.entry.file.now place.entry.number name.now append value.now) }
+{
+    Ok(Definition {
+        file: ByteString::from_slice(place.alloc, place.file)?,
+        line: place.number,
+        name: ByteString::from_slice(place.alloc, name)?,
+        append,
+        value: ByteString::from_slice(place.alloc, trim(value))?,
+        is_fixed: false,
+    })
+}
+
+/// Whether this isn't one word.
+#[tactic(auto, unfolding(crate::specs::Form::is_no_name))]
+fn is_no_name(name: &[u8]) -> bool
+    ensures { result ≡ is_no_name name.now }
+{
+    name.is_empty() || has_blank(name)
+}
+
+#[tactic(auto, unfolding(crate::specs::Form::named_form))]
+fn named_form(
+    place: LinePlace<'_>,
+    name: &[u8],
+    append: bool,
+    value: &[u8],
+) -> Result<Form, ReadFault>
+    ensures { Gives result (named_form place.entry.file.now place.entry.number name.now append value.now) }
+{
+    if is_no_name(name) {
+        return Err(refuse(place, Cause::MissingSeparator));
+    }
+    Ok(Form::Definition(defined_as(place, name, append, value)?))
+}
+
+#[tactic(auto, unfolding(crate::specs::Form::kind_form))]
+fn kind_form(
+    place: LinePlace<'_>,
+    kind: DefinitionKind,
+    name: &[u8],
+    value: &[u8],
+) -> Result<Form, ReadFault>
+    ensures { Gives result (kind_form place.entry.file.now place.entry.number kind name.now value.now) }
+{
+    if is_no_name(name) {
+        return Err(refuse(place, Cause::MissingSeparator));
+    }
+    let definition = defined_as(place, name, false, value)?;
+    Ok(Form::DefinitionLine(DefinitionLine { kind, definition }))
+}
+
+#[tactic(auto, unfolding(crate::specs::Form::optional_form))]
+fn optional_form(place: LinePlace<'_>, left: &[u8], right: &[u8]) -> Result<Form, ReadFault>
+    ensures { Gives result (optional_form place.entry.profile place.entry.file.now place.entry.number left.now right.now) }
+{
+    if !place.profile.is_wide() {
+        let cause = Cause::Unsupported(Feature::OptionalDefinition);
+        return Err(refuse(place, cause));
+    }
+    kind_form(place, DefinitionKind::IfUndefined, trim(left), right)
+}
+
+#[tactic(auto, unfolding(crate::specs::Form::definition_form))]
+pub fn definition_form(place: LinePlace<'_>, left: &[u8], right: &[u8]) -> Result<Form, ReadFault>
+    ensures { Gives result (definition_form place.entry.profile place.entry.file.now place.entry.number left.now right.now) }
+{
+    if ends_with(left, b'?') {
+        return optional_form(place, without_last(left), right);
+    }
+    if ends_with(left, b'+') {
+        return named_form(place, trim(without_last(left)), true, right);
+    }
+    named_form(place, trim(left), false, right)
+}
+
+fn is_name_byte(byte: u8) -> bool
+    ensures { result ≡ is_name_byte byte }
+{
+    byte.is_ascii_alphanumeric() || byte == b'_' || byte == b'.'
+}
+
+fn has_name_bytes_alone(name: &[u8]) -> bool
+    ensures { result ≡ list_all is_name_byte name.now }
+{
+    name.iter().all(|byte| is_name_byte(*byte))
+}
+
+/// Whether every make takes this for a macro's name.
+#[tactic(auto, unfolding(crate::specs::Form::is_macro_name))]
+fn is_macro_name(name: &[u8]) -> bool
+    ensures { result ≡ is_macro_name name.now }
+{
+    !name.is_empty() && has_name_bytes_alone(name)
+}
+
+#[tactic(auto, unfolding(crate::specs::Form::without_plus))]
+fn without_plus(left: &[u8]) -> &[u8]
+    ensures { result.now ≡ without_plus left.now }
+{
+    if ends_with(left, b'+') {
+        return without_last(left);
+    }
+    left
+}
+
+/// Whether what stands behind `:=` is a definition, so that the line is that of a conditional macro.
+#[tactic(auto, unfolding(crate::specs::Form::conditional_at))]
+fn is_conditional(right: &[u8]) -> bool
+    ensures { result ≡ conditional_at right.now (first_outside 61 61 Outside right.now) }
+{
+    match first_outside(right, b'=', b'=') {
+        Some(at) => is_macro_name(trim(without_plus(right.split_at(at).0))),
+        None => false,
+    }
+}
+
+#[tactic(auto, unfolding(crate::specs::Form::double_form))]
+pub fn double_form(place: LinePlace<'_>, left: &[u8], right: &[u8]) -> Result<Form, ReadFault>
+    ensures { Gives result (double_form place.entry.profile place.entry.file.now place.entry.number left.now right.now) }
+{
+    let is_wide = place.profile.is_wide();
+    if is_wide && begins_with(right, b'=') {
+        return kind_form(
+            place,
+            DefinitionKind::AtOnce,
+            trim(left),
+            without_first(right),
+        );
+    }
+    if is_wide && begins_with(right, b':') && begins_with(without_first(right), b'=') {
+        let value = without_first(without_first(right));
+        return kind_form(place, DefinitionKind::AtOnceAlone, trim(left), value);
+    }
+    let cause = Cause::Unsupported(Feature::DoubleColon);
+    Err(refuse(place, cause))
+}
+
+#[tactic(auto, unfolding(crate::specs::Form::set_form))]
+pub fn set_form(place: LinePlace<'_>, left: &[u8], right: &[u8]) -> Result<Form, ReadFault>
+    ensures { Gives result (set_form place.entry.profile place.entry.file.now place.entry.number left.now right.now) }
+{
+    let name = trim(left);
+    if !place.profile.is_wide() || is_no_name(name) || is_conditional(right) {
+        let cause = Cause::Unsupported(Feature::ColonDefinition);
+        return Err(refuse(place, cause));
+    }
+    kind_form(place, DefinitionKind::AtOnce, name, right)
+}

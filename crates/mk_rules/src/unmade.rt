@@ -1,0 +1,94 @@
+//! Names that have no file, and that nothing makes.
+ghost use Rattle.std.specs.Prelude.{◌≡◌, ◌<◌, ◌||◌, ℕ, List, length, is_some, IfOk, IfErr, IfSome, OnOk};
+ghost use Rattle.mk_graph.specs.Edges.{has};
+ghost use Rattle.mk_graph.specs.Numbering.{AreDescribed, name_at};
+ghost use Rattle.mk_rule_lines.specs.Table.{is_named, named_at};
+ghost use Rattle.mk_rules.specs.Found.{HasItInItsRow, IsUnmadeFault};
+ghost use Rattle.mk_rules.specs.Graph.{AreMade};
+ghost use Rattle.mk_rules.specs.Known.{IsKnown};
+ghost use Rattle.mk_rules.specs.Prerequisites.{Inputs, is_target};
+
+use crate::known::Known;
+use byte_strings::ByteString;
+use mk_graph::Numbered;
+use mk_profile::Profile;
+use mk_rule_lines::{RuleFault, RuleLine, TargetTable, Unmade};
+use std::alloc::{AllocError, Global};
+
+/// Whether something is known to make a name: a file, an implicit rule, or a line.
+fn is_made(targets: &TargetTable, name: &[u8], known: &Known) -> bool
+    ensures { result ≡ (is_some known.now.stamp || (is_some known.now.stem || is_named (named_at targets.now name.now))) }
+{
+    known.stamp.is_some() || known.stem.is_some() || targets.is_target(name)
+}
+
+fn has(numbers: &[usize], node: usize) -> bool
+    ensures { result ≡ has numbers.now node }
+{
+    numbers.iter().any(|number| node == *number)
+}
+
+/// The first name in number order that has this node as a prerequisite.
+fn user_of(
+    alloc: Global,
+    numbered: &Numbered<Known>,
+    node: usize,
+) -> Result<Option<ByteString>, AllocError>
+    requires { length numbered.now.rows ≡ length numbered.now.names }
+    ensures { IfOk result (λ user. IfSome user (HasItInItsRow numbered.now.names numbered.now.rows node)) }
+{
+    for user in 0..numbered.rows.len() {
+        if has(numbered.rows.row(user), node) {
+            let name = ByteString::from_slice(alloc, numbered.names.name(user))?;
+            return Ok(Some(name));
+        }
+    }
+    Ok(None)
+}
+
+/// The name of a node that nothing makes, as it is told in this language.
+fn unmade_at(
+    alloc: Global,
+    profile: Profile,
+    numbered: &Numbered<Known>,
+    node: usize,
+) -> Result<Unmade, AllocError>
+    requires count { length numbered.now.rows ≡ length numbered.now.names }
+    requires node { node < length numbered.now.names }
+    ensures name { IfOk result (λ unmade. unmade.name ≡ name_at numbered.now.names node) }
+    ensures needed { IfOk result (λ unmade. IfSome unmade.needed_by (HasItInItsRow numbered.now.names numbered.now.rows node)) }
+{
+    let name = ByteString::from_slice(alloc, numbered.names.name(node))?;
+    let mut needed_by = None;
+    if profile.is_wide() {
+        needed_by = user_of(alloc, numbered, node)?;
+    }
+    Ok(Unmade { name, needed_by })
+}
+
+/// Refuses a name that has no file, and that nothing makes.
+pub(crate) fn check_made(
+    alloc: Global,
+    profile: Profile,
+    lines: &[RuleLine],
+    targets: &TargetTable,
+    numbered: &Numbered<Known>,
+) -> Result<(), RuleFault>
+    requires table { (name : List ℕ) → is_named (named_at targets.now name) ≡ is_target lines.now name }
+    requires count { length numbered.now.nodes.items ≡ length numbered.now.names }
+    requires rows { length numbered.now.rows ≡ length numbered.now.names }
+    ensures made { OnOk result ((inputs : Inputs) → inputs.lines ≡ lines.now
+        → AreDescribed (IsKnown inputs) numbered.now.names numbered.now.nodes.items → AreMade inputs numbered.now.names) }
+    ensures fault { IfErr result (λ fault. (inputs : Inputs) → inputs.lines ≡ lines.now
+        → AreDescribed (IsKnown inputs) numbered.now.names numbered.now.nodes.items
+        → IsUnmadeFault inputs numbered.now.names numbered.now.rows fault) }
+{
+    for (node, known) in numbered.nodes.iter().enumerate() {
+        let name = numbered.names.name(node);
+        if !is_made(targets, name, known) {
+            let unmade = unmade_at(alloc, profile, numbered, node)?;
+            return Err(RuleFault::NoRule(unmade));
+        }
+    }
+    Ok(())
+}
