@@ -22,7 +22,6 @@ LISTER = ROOT / "crates/dmk_state/out/dmk_state"
 SECONDS = 20
 # So many runs of each program have to end for want of memory: with fewer, the library refuses nothing.
 LEAST = 50
-TAKEN_OUT = ["MAKEFLAGS", "MAKELEVEL", "MFLAGS", "KEEP_STATE", "SUNPRO_DEPENDENCIES"]
 
 MAKEFILE = """.KEEP_STATE:
 .SUFFIXES: .c .o
@@ -51,8 +50,8 @@ STATE += batch([failed("one.o", 1), begun("sum")]) + b"\0"
 
 
 def environment(more):
-    kept = {name: value for name, value in os.environ.items() if name not in TAKEN_OUT}
-    return {**kept, **more}
+    """Nothing of the caller's but PATH: how much memory a run wants, and so which call is refused, goes by the environment too."""
+    return {"PATH": os.environ.get("PATH", "/usr/bin:/bin"), "LC_ALL": "C", **more}
 
 
 def run(command, folder, more=None):
