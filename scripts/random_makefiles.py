@@ -6,6 +6,7 @@ refused behind one in ten has to be told with its number. Each makefile has name
 one call.
 The last line is 'N passed, M failed'; the status is 1 where M isn't 0.
 """
+import functools
 import heapq
 import multiprocessing
 import os
@@ -55,6 +56,11 @@ class Random:
 class Makefile:
     """The lines of one makefile as they are printed, and what they mean."""
 
+    SHARED = SHARED
+    COMMAND = "dmk -n"
+    STATEMENTS = 9  # and fewer
+    PREFIXES = (b"", b" ", b"\t", b"@", b"-@ ", b"+", b"? !")
+
     def __init__(self, seed):
         self.random = Random(seed)
         self.prefix = b"t%d_" % seed
@@ -65,14 +71,18 @@ class Makefile:
         self.spellings = {}      # of each target
         self.prerequisites = {}  # of each target, each once
         self.recipes = {}        # of a target: what its lines come to
-        for _ in range(self.random.below(9)):
-            self.random.choice((self.definition, self.rule))()
+        for _ in range(self.random.below(self.STATEMENTS)):
+            self.random.choice(self.statements())()
             self.nothing()
             if self.random.once_in(12):
                 self.go_on_in_another_file()
         if self.text and self.random.once_in(3) and self.ends_plainly():
             self.text = self.text[:-1]
         self.end_file()
+
+    def statements(self):
+        """What may be printed next."""
+        return self.definition, self.rule
 
     def ends_plainly(self):
         """Whether the last newline may be left out: it is one, and no return stands in front of it."""
@@ -152,6 +162,7 @@ class Makefile:
             names = [self.target() for _ in range(1 + self.random.below(2))]
         earlier = self.targets[:min(self.targets.index(name) for name in names)]
         wanted = [self.random.choice(earlier) for _ in range(self.random.below(4))] if earlier else []
+        self.wanted = wanted
         self.text += self.random.choice((b"", b" ")) + self.spelled(names[0])
         for name in names[1:]:
             self.text += self.gap() + self.spelled(name)
@@ -185,7 +196,7 @@ class Makefile:
         """A line behind a TAB, perhaps with prefixes and over several lines."""
         pieces = SHELL + SIGNS + LETTERS + REFERENCES + [(b"$@", TARGET), (b"$(?)", NEWER)]
         spelled, meant = self.word(pieces)
-        self.text += b"\t" + self.random.choice((b"", b" ", b"\t", b"@", b"-@ ", b"+", b"? !")) + b"echo " + spelled
+        self.text += b"\t" + self.random.choice(self.PREFIXES) + b"echo " + spelled
         meant = b"echo " + meant
         while self.random.once_in(4):
             spelled, more = self.word(pieces)
@@ -235,7 +246,8 @@ def differences(makefiles, folder):
     """What `dmk -n` lists otherwise than these mean, as lines; none where all is as it is to be."""
     files = {name: text for makefile in makefiles for name, text in makefile.files.items()}
     entries = b" ".join(makefile.entry() for makefile in makefiles)
-    files[b"makefile"] = SHARED + b"include " + entries + b"\n" + b"".join(makefile.probe() for makefile in makefiles)
+    probes = b"".join(makefile.probe() for makefile in makefiles)
+    files[b"makefile"] = makefiles[0].SHARED + b"include " + entries + b"\n" + probes
     for name, text in files.items():
         rows.write_file(folder, os.fsdecode(name), text)
     goals, prerequisites, listings = [], {}, {}
@@ -244,7 +256,7 @@ def differences(makefiles, folder):
         prerequisites.update(makefile.prerequisites)
         listings.update((target, makefile.listing_of(target)) for target in makefile.targets)
         listings[makefile.prefix + b"show"] = makefile.values_shown()
-    command = "dmk -n " + " ".join("'%s'" % goal.decode() for goal in goals)
+    command = makefiles[0].COMMAND + " " + " ".join("'%s'" % goal.decode() for goal in goals)
     wanted = b"".join(listings[goal] for goal in order(goals, prerequisites))
     return rows.compared((wanted, b"", 0), rows.answer_of(command, folder, rows.environment()))
 
@@ -257,15 +269,15 @@ def fault_differences(makefile, folder):
     name = makefile.entry().decode()
     rows.write_file(folder, name, text + b"bad\n")
     err = b"dmk: %s:%d: missing separator\n" % (makefile.entry(), text.count(b"\n") + 1)
-    return rows.compared((b"", err, 2), rows.answer_of("dmk -n -f " + name, folder, rows.environment()))
+    return rows.compared((b"", err, 2), rows.answer_of(makefile.COMMAND + " -f " + name, folder, rows.environment()))
 
 
-def check(seeds):
-    """(seed, lines) of each makefile that isn't read as it is meant."""
+def check(kind, seeds):
+    """(seed, lines) of each makefile of this kind that isn't read as it is meant."""
     folder = tempfile.mkdtemp(prefix="makefiles")
     failures = []
     try:
-        makefiles = {seed: Makefile(seed) for seed in seeds}
+        makefiles = {seed: kind(seed) for seed in seeds}
         together = differences(list(makefiles.values()), folder)
         if together:
             alone = [(seed, differences([makefile], folder)) for seed, makefile in makefiles.items()]
@@ -279,7 +291,7 @@ def check(seeds):
     return failures
 
 
-def main():
+def main(kind):
     first = int(sys.argv[1]) if len(sys.argv) > 1 else 0
     last = int(sys.argv[2]) if len(sys.argv) > 2 else (first if len(sys.argv) > 1 else MAKEFILES - 1)
     seeds = range(first, last + 1)
@@ -287,7 +299,7 @@ def main():
     failed, folder = 0, rows.place()
     try:
         with multiprocessing.Pool(os.cpu_count(), rows.work_in, (folder,)) as pool:
-            for failures in pool.imap(check, calls):
+            for failures in pool.imap(functools.partial(check, kind), calls):
                 failed += len(failures)
                 for seed, lines in failures[:3]:
                     print("FAILED makefile %d\n" % seed + "\n".join(lines))
@@ -298,4 +310,4 @@ def main():
 
 
 if __name__ == "__main__":
-    sys.exit(main())
+    sys.exit(main(Makefile))

@@ -35,6 +35,7 @@ if [ "$failed" -eq 0 ]; then
     run_part bash scripts/store_rows.sh
     run_part bash scripts/board_rows.sh
     run_part python3 scripts/random_makefiles.py
+    run_part python3 scripts/random_wide_makefiles.py
     run_part python3 scripts/random_graphs.py crates/dmk/out/dmk
     run_part bash scripts/slot_runs.sh
     run_part bash scripts/two_runs.sh

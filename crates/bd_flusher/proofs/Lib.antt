@@ -8,3 +8,4 @@ pub mod CompactionLemmas
 pub mod AnswerLemmas
 pub mod WritableLemmas
 pub mod SameLemmas
+pub mod WritingLemmas

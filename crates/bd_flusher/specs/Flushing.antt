@@ -12,7 +12,7 @@ use Rattle.st_file.specs.Side.{HoldsUpTo}
 use Rattle.st_recovery.specs.Stored.{AllRecover, AllRecoverEither}
 use Rattle.bd_flusher.specs.declared.fault.FlushFault.{FlushFault}
 use Rattle.bd_flusher.specs.declared.fault.FlushFault.TheVariants as faults
-use Rattle.bd_flusher.specs.Site.{Facts, KeepsRecords, told_state, held_state}
+use Rattle.bd_flusher.specs.Site.{Facts, KeepsRecords, holding, told_state, held_state}
 use Rattle.bd_flusher.specs.Tidying.{IsLong, IsOnOtherSide, IsCompacted}
 use Rattle.bd_flusher.specs.Turns.{IsOutOfTurn}
 
@@ -86,3 +86,14 @@ pub record FlushAnswer {D T : Type 0} (honest : Type 0) (moments : D → Moments
       → (new.side ≡ old.side) × (new.generation ≡ old.generation) × (new.size ≡ old.size)
   pub unknown : (ticket : ℕ) → IsErrOf result (faults.Unknown ticket) → ⊥
   pub none : length old.held ≡ 0 → (new ≡ old) × (old.dead ≡ false → IsOk result)
+
+-- what a site holds once what waits on a board was taken in: what it held, or else these drained records
+abbrev pub HasTakenIn : {D : Type 0} → (old new : Facts D) → Type 0
+HasTakenIn old new = ((0 < length old.held) × (new ≡ old)) ⊎ ((length old.held ≡ 0) × (notes : List (ℕ × Record)) × (new ≡ holding notes old))
+
+-- what was written of all that waits: it was taken in and then flushed, once, and that flush's answer is told; or there was no
+-- memory to take it in, and the site is as it was
+abbrev pub IsWritten : {D T : Type 0} → (honest : Type 0) → (moments : D → Moments) → (seen : D → Which → List ℕ) → (count : D → ℕ) → (old new : Facts D) → Result T FlushFault → Type 0
+IsWritten {D} honest moments seen count old new result =
+    (IsErrOf result faults.OutOfMemory × (new ≡ old))
+    ⊎ ((between : Facts D) × HasTakenIn old between × FlushAnswer honest moments seen count between new result)

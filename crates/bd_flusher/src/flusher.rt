@@ -2,6 +2,7 @@
 
 ghost use Rattle.std.specs.Prelude.{◌≡◌, ℕ, [], IfOk, IfErr, OnOk, IsErrOf};
 ghost use Rattle.bd_flusher.specs.Batches.{StandsAt};
+ghost use Rattle.bd_flusher.specs.Flushing.{IsWritten};
 ghost use Rattle.bd_flusher.specs.declared.fault.FlushFault.TheVariants as faults;
 
 use crate::{FlushFault, Receipt, Site};
@@ -23,6 +24,7 @@ pub struct Flusher<D: Disk + Drop> {
 impl<D: Disk + Drop> Flusher<D> {
     /// Writes what is held, or else all that waits on the board. Then nothing is held.
     fn write<R: Wait>(&self, rt: &R, alloc: Global, site: &mut Site<D>) -> Result<(), FlushFault>
+        ensures written { IsWritten D.honest D.moments D.seen D.faults site.old site.new result }
         ensures ok { OnOk result (site.new.held ≡ []) }
         ensures unknown { (ticket : ℕ) → IsErrOf result (faults.Unknown ticket) → ⊥ }
     {

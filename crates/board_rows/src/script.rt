@@ -73,6 +73,7 @@ fn line(alloc: Global, text: &str) -> Result<Line, AllocError> {
         is_printed: true,
         is_ignored,
         is_exempt,
+        is_always_run: false,
     })
 }
 

@@ -155,14 +155,14 @@ fn with_asking(alloc: Global, command: Command<'_>) -> Result<Command<'_>, Alloc
         ASKING,
         'n',
         "dry",
-        "Print the recipes of the targets that are out of date; run nothing",
+        "Print the recipes of the targets that are out of date, and make none",
     );
     let asks = flag(
         alloc,
         ASKING,
         'q',
         "asks",
-        "Print and run nothing; status 1 where a target is out of date, else 0",
+        "Print nothing and make nothing; status 1 where a target is out of date, else 0",
     );
     command.arg(lists)?.arg(asks)
 }

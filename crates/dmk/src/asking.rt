@@ -3,14 +3,15 @@ ghost use Rattle.std.specs.Prelude.{codes};
 ghost use Rattle.dmk_drive.specs.Keeping.{value_in};
 ghost use Rattle.dmk_drive.specs.Output.{AsksToLook};
 
+use crate::always_run::AlwaysLines;
 use crate::base::base_asked;
-use crate::command_line::{Request, read_words};
+use crate::command_line::{Later, Request, read_words};
 use crate::environment::with_environment;
 use crate::host_files::HostFiles;
 use crate::reasons::{needs_usual_makefile, print_gnu_makefile, print_reasons};
 use crate::standard_streams::with_patience;
 use bd_lists::Variable;
-use dmk_drive::{Fault, Message, Mode, Options, drive, print_fault, value_of};
+use dmk_drive::{AlwaysRun, Fault, Message, Mode, Options, drive, print_fault, value_of};
 use st_disk::{FileDisk, SystemFolder};
 use st_records::HashKey;
 use std::alloc::AllocError;
@@ -31,8 +32,12 @@ const FAULT_BYTES: usize = 64;
 #[derive(Drop)]
 struct Look {
     status: u8,
+    /// What -p prints, so many bytes, and the listing.
     out: Vec<u8>,
+    before: usize,
     err: Vec<u8>,
+    /// The lines that are run all the same, once it is told.
+    always: Vec<AlwaysRun>,
 }
 
 impl Look {
@@ -50,8 +55,9 @@ impl Look {
         let mut err = Vec::with_capacity(alloc, FAULT_BYTES)?;
         let mut makefiles = HostFiles::texts(host, input);
         let mut out = base_asked(host, &options, environment, &mut makefiles)?;
+        let before = out.len();
         let is_usual = needs_usual_makefile(&options);
-        let (reply, disk) = drive(
+        let (reply, disk, always) = drive(
             alloc,
             HashKey::from_system(&host),
             options,
@@ -71,7 +77,9 @@ impl Look {
         Ok(Look {
             status: reply.status,
             out,
+            before,
             err,
+            always,
         })
     }
 
@@ -121,17 +129,17 @@ impl Look {
     }
 
     // What standard error doesn't take is lost: there is nobody left to tell.
-    fn print(&self, host: HostRuntime) -> io::Result<()> {
+    fn print(&self, host: HostRuntime, lines: &AlwaysLines) -> io::Result<bool> {
         let _ = with_patience(host, host.stderr()).write_all(&self.err);
-        let mut out = with_patience(host, host.stdout());
-        out.write_all(&self.out)?;
-        out.flush()
+        lines.print(&self.out, self.before, &self.always)
     }
 
-    /// Prints it, and answers the status.
-    fn tell(self, host: HostRuntime) -> u8 {
-        if self.print(host).is_ok() {
-            return self.status;
+    /// Prints it, runs its lines, and answers the status: 2 where one of them failed.
+    fn tell(self, host: HostRuntime, lines: &AlwaysLines) -> u8 {
+        match self.print(host, lines) {
+            Ok(true) => return self.status,
+            Ok(false) => return 2,
+            Err(_) => {}
         }
         let fault = Fault::Write;
         let message = Message {
@@ -144,15 +152,18 @@ impl Look {
 }
 
 /// Lists what a run would make, or asks whether there is anything. A run that writes the state meanwhile may make a reading of it fail;
-/// so a fault is told once two looks, one behind the other, have come to the same.
+/// so a fault is told once two looks, one behind the other, have come to the same. The lines that are run all the same are those of the
+/// last look, and are run once.
 pub fn ask(
     host: HostRuntime,
     options: Options,
+    later: Later,
     environment: &[Variable],
     input: Option<&[u8]>,
 ) -> Result<u8, AllocError>
     requires { AsksToLook options (value_in environment.now (codes "MAKEFLAGS")) }
 {
+    let lines = AlwaysLines::new(host, &options, later, environment)?;
     let mut look = Look::of(host, options, environment, input)?;
     for _ in 1..MAX_LOOKS {
         if !look.is_fault() {
@@ -168,5 +179,5 @@ pub fn ask(
             break;
         }
     }
-    Ok(look.tell(host))
+    Ok(look.tell(host, &lines))
 }

@@ -3,8 +3,9 @@ use crate::command_line::Later;
 use bd_lists::Variable;
 use byte_strings::ByteString;
 use dmk_drive::{Options, usual_state, value_of};
+use mk_profile::Profile;
 use std::alloc::{AllocError, Global};
-use std::env::FillError;
+use std::env::{self, FillError};
 use std::rt::Env;
 
 // How often the room for an entry is doubled: up to 32 MB, and the kernel hands a program no longer one.
@@ -55,6 +56,38 @@ pub fn read_environment(rt: HostRuntime) -> Result<Vec<Variable>, AllocError> {
         }
     }
     Ok(variables)
+}
+
+/// The variables in this language: in the wide one CURDIR is the folder that is worked in, whatever the environment says of it
+/// (POSIX make, "Macros"). It isn't handed to recipes. Where the folder has no name that can be had, there is none.
+fn with_folder(
+    rt: HostRuntime,
+    profile: Profile,
+    environment: Vec<Variable>,
+) -> Result<Vec<Variable>, AllocError> {
+    if !profile.is_wide() {
+        return Ok(environment);
+    }
+    let mut variables = Vec::with_capacity(rt.alloc(), environment.len())?;
+    for variable in environment {
+        if variable.name.as_slice() != b"CURDIR".as_slice() {
+            variables.push(variable)?;
+        }
+    }
+    if let Ok(folder) = env::current_dir(&rt) {
+        variables.push(Variable {
+            name: ByteString::from_slice(rt.alloc(), b"CURDIR")?,
+            value: ByteString::from_slice(rt.alloc(), folder.as_str().as_bytes())?,
+        })?;
+    }
+    Ok(variables)
+}
+
+/// The variables that macros see, in the language that these options and the environment's MAKEFLAGS ask for.
+pub fn macro_variables(rt: HostRuntime, options: &Options) -> Result<Vec<Variable>, AllocError> {
+    let environment = read_environment(rt)?;
+    let language = options.language(value_of(&environment, b"MAKEFLAGS"));
+    with_folder(rt, language, environment)
 }
 
 /// The first makefile that the words name.

@@ -60,6 +60,8 @@ fn option_word(
         (environment_counts, b'e'),
         (options.ignores_statuses, b'i'),
         (options.goes_on, b'k'),
+        (options.is_dry && !options.asks, b'n'),
+        (options.asks, b'q'),
         (options.makefiles.without_rules, b'r'),
         (options.is_silent, b's'),
     ] {

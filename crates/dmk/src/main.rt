@@ -1,6 +1,7 @@
 //! make with a state that remembers what each recipe was, and whether it ended.
 #![tactic(auto)]
 
+mod always_run;
 mod arguments;
 mod asking;
 mod base;
@@ -23,7 +24,7 @@ use asking::ask;
 use child_signal::run_anew;
 use command_line::{Asked, Later, Request, read_words};
 use dmk_drive::{Fault, Message, Mode, Options, value_of};
-use environment::{read_environment, with_environment};
+use environment::{macro_variables, with_environment};
 use folder::{FolderFault, enter, tell};
 use host_files::read_input;
 use job_words::processors;
@@ -131,10 +132,10 @@ fn run_in<R: Threads + Wait + Sync>(
     input: Option<&[u8]>,
 ) -> Result<u8, AllocError> {
     let _held = held_streams(host);
-    let environment = read_environment(host)?;
+    let environment = macro_variables(host, &options)?;
     let options = with_environment(host.alloc(), later, options, &environment)?;
     match options.mode(value_of(&environment, b"MAKEFLAGS")) {
         Mode::Run => make(rt, host, options, later, &environment, input),
-        Mode::DryRun | Mode::Question => ask(host, options, &environment, input),
+        Mode::DryRun | Mode::Question => ask(host, options, later, &environment, input),
     }
 }

@@ -8,6 +8,8 @@ use Rattle.mk_plan.specs.declared.telling.Telling.{Telling}
 use Rattle.mk_plan.specs.declared.telling.Telling.TheVariants as tellings
 use Rattle.st_disk.specs.declared.which.Which.{Which}
 use Rattle.st_file.specs.declared.fault.OpenFault.TheVariants as open_fault
+use Rattle.dmk_drive.specs.AlwaysRun.{lines_run_always}
+use Rattle.dmk_drive.specs.declared.always_run.AlwaysRun.{AlwaysRun}
 use Rattle.dmk_drive.specs.Definitions.{first_defined}
 use Rattle.dmk_drive.specs.Faults.{IsFaultOf}
 use Rattle.dmk_drive.specs.Messages.{SaysFault, SaysCut}
@@ -51,33 +53,38 @@ module _ (files : List ℕ → Option (List ℕ)) (times : List ℕ → Option �
   pub listed_plan : (old new : Option (List ℕ)) (got : Result DryRun Fault) → IfOk got Told → IsOk got → recipes ≡ true →
       IfOk got (λ run. Appends old new run.text.items) → (Quiet : Type 0) → IfOk got (λ run. run.soft_dropped ≡ false → Quiet) →
       (Says : Bool → Type 0) → IfOk got (λ run. Says run.soft_dropped) →
+      (always : List AlwaysRun) → IfOk got (λ run. always ≡ run.always.items) →
       (plan : List Passage) × (dropped : Bool)
       × Plans files times makefiles profile definitions environment targets all disk_honest seen plan dropped
       × Appends old new (listing_text telling true plan) × (dropped ≡ false → Quiet) × Says dropped
-  listed_plan old new (Ok run) (items, are, tells) found lists appended Quiet quiet Says says = (
+      × (always ≡ lines_run_always telling true plan)
+  listed_plan old new (Ok run) (items, are, tells) found lists appended Quiet quiet Says says always those = (
     tells.plan,
     run.soft_dropped,
     record { items = items; are_items = are; planned = tells.planned },
     subst (Appends old new) (tells.text ∙ ap (λ r. listing_text telling r tells.plan) lists) appended,
     quiet,
     says,
+    those ∙ tells.always ∙ ap (λ r. lines_run_always telling r tells.plan) lists,
   )
-  listed_plan old new (Err f) told found lists appended Quiet quiet Says says = absurd (no_value found)
+  listed_plan old new (Err f) told found lists appended Quiet quiet Says says always those = absurd (no_value found)
 
   pub asked_plan : (old new : Option (List ℕ)) (status : ℕ) (got : Result DryRun Fault) → IfOk got Told → IsOk got → recipes ≡ false →
       IfOk got (λ run. Appends old new run.text.items) →
       IfOk got (λ run. (plan : List Passage) → run.lists_any ≡ lists_any plan → status ≡ question_status plan) →
+      (always : List AlwaysRun) → IfOk got (λ run. always ≡ run.always.items) →
       (plan : List Passage) × (dropped : Bool)
       × Plans files times makefiles profile definitions environment targets all disk_honest seen plan dropped × (status ≡ question_status plan)
-      × Appends old new (listing_text telling false plan)
-  asked_plan old new status (Ok run) (items, are, tells) found lists appended answered = (
+      × Appends old new (listing_text telling false plan) × (always ≡ lines_run_always telling false plan)
+  asked_plan old new status (Ok run) (items, are, tells) found lists appended answered always those = (
     tells.plan,
     run.soft_dropped,
     record { items = items; are_items = are; planned = tells.planned },
     answered tells.plan tells.any,
     subst (Appends old new) (tells.text ∙ ap (λ r. listing_text telling r tells.plan) lists) appended,
+    those ∙ tells.always ∙ ap (λ r. lines_run_always telling r tells.plan) lists,
   )
-  asked_plan old new status (Err f) told found lists appended answered = absurd (no_value found)
+  asked_plan old new status (Err f) told found lists appended answered always those = absurd (no_value found)
 
   -- a fault that was found is told, and the listing of what was found is cut short
   pub refused_plan : (asks : Bool) (Meets : Fault → Type 0) (Failed : Type 0) (told : Bool) (old new err err_after : Option (List ℕ)) (got : Result DryRun Fault) →

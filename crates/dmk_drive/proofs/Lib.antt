@@ -8,6 +8,8 @@ pub mod PlanLemmas
 pub mod DriveLemmas
 pub mod ListingLemmas
 pub mod AllowedLemmas
+pub mod AlwaysLemmas
 pub mod DefinitionLemmas
 pub mod BaseLemmas
 pub mod OnePlanLemmas
+pub mod StampLemmas

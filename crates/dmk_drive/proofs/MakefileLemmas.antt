@@ -7,7 +7,8 @@ use Rattle.mk_reader.specs.declared.fault.ReadFault.{ReadFault}
 use Rattle.mk_reader.specs.declared.fault.Refusal.{Refusal}
 use Rattle.mk_reader.specs.declared.fault.ReadFault.TheVariants.{OutOfMemory, Refused}
 use Rattle.mk_eval.proofs.BehindLemmas.{behind-append, behind_nothing}
-use Rattle.mk_eval.proofs.OutcomeLemmas.{order_one, text_one}
+use Rattle.mk_eval.proofs.OrderLemmas.{order_one}
+use Rattle.mk_eval.proofs.OutcomeLemmas.{text_one}
 use Rattle.std.proofs.lemmas.Option.{same_Some}
 use Rattle.dmk_drive.specs.Makefile.{IsUsualMakefile, NamedItems, AllItems, first_name, second_name}
 use Rattle.dmk_drive.specs.BuiltIn.{reads_rules, rules_name, rules_text, AreRules}

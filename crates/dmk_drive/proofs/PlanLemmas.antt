@@ -25,6 +25,7 @@ use Rattle.st_disk.specs.declared.which.Which.{Which}
 use Rattle.st_state.specs.State.{StateMap}
 use Rattle.dmk_drive.specs.Definitions.{first_defined}
 use Rattle.dmk_drive.specs.Keeping.{keeps}
+use Rattle.dmk_drive.specs.AlwaysRun.{lines_run_always}
 use Rattle.dmk_drive.specs.Passing.{IsListing, IsListingFault, listing_text, lists_any}
 use Rattle.dmk_drive.specs.Planned.{IsStateOn, IsGraphOf, Tells, judged_graph}
 use Rattle.dmk_drive.specs.Faults.{IsPlanFault}
@@ -133,9 +134,10 @@ module _ (profile : Profile) (definitions environment : List Variable) (targets 
         )
 
     pub told : (telling : Telling) (recipes : Bool) (run : DryRun) → ((plan : List Passage) × IsListing counting judged plan
-        × (run.text.items ≡ listing_text telling recipes plan) × (run.lists_any ≡ lists_any plan)) →
+        × (run.text.items ≡ listing_text telling recipes plan) × (run.lists_any ≡ lists_any plan)
+        × (run.always.items ≡ lines_run_always telling recipes plan)) →
         run.soft_dropped ≡ judged.soft_dropped → Tells profile definitions environment targets all times disk_honest seen items telling recipes run
-    told telling recipes run (plan, lists, text, any) dropped = record {
+    told telling recipes run (plan, lists, text, any, always) dropped = record {
       plan = plan;
       planned = record {
         state = state;
@@ -147,6 +149,7 @@ module _ (profile : Profile) (definitions environment : List Variable) (targets 
       };
       text = text;
       any = any;
+      always = always;
     }
 
     pub recipes_result : (refuses : List ℕ → Type 0) (got : Result DryRun Fault) →
@@ -157,7 +160,8 @@ module _ (profile : Profile) (definitions environment : List Variable) (targets 
 
     pub told_result : (telling : Telling) (recipes : Bool) (got : Result DryRun Fault) →
         IfOk got (λ run. (plan : List Passage) × IsListing counting judged plan × (run.text.items ≡ listing_text telling recipes plan)
-        × (run.lists_any ≡ lists_any plan)) → IfOk got (λ run. run.soft_dropped ≡ judged.soft_dropped) →
+        × (run.lists_any ≡ lists_any plan)
+        × (run.always.items ≡ lines_run_always telling recipes plan)) → IfOk got (λ run. run.soft_dropped ≡ judged.soft_dropped) →
         IfOk got (Tells profile definitions environment targets all times disk_honest seen items telling recipes)
     told_result telling recipes (Ok run) listing dropped = told telling recipes run listing dropped
     told_result telling recipes (Err f) listing dropped = tt

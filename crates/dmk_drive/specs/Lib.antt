@@ -8,6 +8,8 @@ pub mod BuiltIn
 pub mod Makefile
 -- Passing: the nodes passed in order, and which are listed.
 pub mod Passing
+-- AlwaysRun: the lines that are run in a dry run too.
+pub mod AlwaysRun
 -- Planned: a dry run from the makefile's text to the listing.
 pub mod Planned
 -- Faults: what each fault says, and so what was met before it.
@@ -22,3 +24,7 @@ pub mod Base
 pub mod StateName
 -- Files: what the system says of a file.
 pub mod Files
+-- Stamps: the times of files that are known so far.
+pub mod Stamps
+-- Fits: what is known of names, and what it may come from.
+pub mod Fits

@@ -20,6 +20,7 @@ use Rattle.dmk_drive.specs.Definitions.{first_defined}
 use Rattle.dmk_drive.specs.Keeping.{keeps}
 use Rattle.dmk_drive.specs.BuiltIn.{reads_rules, AreRules}
 use Rattle.dmk_drive.specs.Makefile.{IsUsualMakefile, AllItems}
+use Rattle.dmk_drive.specs.AlwaysRun.{lines_run_always}
 use Rattle.dmk_drive.specs.Passing.{IsListing, listing_text, lists_any}
 use Rattle.dmk_drive.specs.declared.makefiles.Makefiles.{Makefiles}
 use Rattle.dmk_drive.specs.declared.planning.DryRun.{DryRun}
@@ -91,13 +92,15 @@ pub record IsPlanned (profile : Profile) (definitions environment : List Variabl
   pub lists : IsListing (all || keeps environment items) (judged_graph all graph) plan
   pub soft : dropped ≡ graph.soft_dropped
 
--- what is told of a dry run: the text of what it lists, as much as is wanted, and whether it lists a recipe
+-- what is told of a dry run: the text of what it lists, as much as is wanted, whether it lists a recipe, and which lines are run
+-- all the same
 pub record Tells (profile : Profile) (definitions environment : List Variable) (targets : List (List ℕ)) (all : Bool) (times : List ℕ → Option ℤ)
     (disk_honest : Type 0) (seen : Which → List ℕ) (items : List Item) (telling : Telling) (recipes : Bool) (run : DryRun) : Type 0 where
   pub plan : List Passage
   pub planned : IsPlanned profile definitions environment targets all times disk_honest seen items plan run.soft_dropped
   pub text : run.text.items ≡ listing_text telling recipes plan
   pub any : run.lists_any ≡ lists_any plan
+  pub always : run.always.items ≡ lines_run_always telling recipes plan
 
 -- what a dry run has to tell, for the makefile that is found by these files and times, and whether soft edges make a
 -- cycle

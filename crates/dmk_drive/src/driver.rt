@@ -1,10 +1,11 @@
 //! The program over handed-in parts.
-ghost use Rattle.std.specs.Prelude.{◌≡◌, ◌≢◌, ◌⊎◌, ◌&&◌, ℕ, ℤ, Bool, true, false, not, List, Option, codes, IfOk, IfErr, IsOk, IsErr};
+ghost use Rattle.std.specs.Prelude.{◌≡◌, ◌≢◌, ◌⊎◌, ◌&&◌, ℕ, ℤ, Bool, true, false, not, List, [], Option, codes, IfOk, IfErr, IsOk, IsErr};
 ghost use Rattle.std.specs.Io.KnownBytes.{Appends, Keeps};
 ghost use Rattle.mk_plan.specs.Passage.{Passage};
 ghost use Rattle.mk_plan.specs.declared.telling.Telling.TheVariants as tellings;
 ghost use Rattle.st_disk.specs.Faults.{Rises};
 ghost use Rattle.st_file.specs.declared.fault.OpenFault.TheVariants as open_faults;
+ghost use Rattle.dmk_drive.specs.AlwaysRun.{lines_run_always};
 ghost use Rattle.dmk_drive.specs.Faults.{IsFaultOf};
 ghost use Rattle.dmk_drive.specs.Keeping.{value_in};
 ghost use Rattle.dmk_drive.specs.Messages.{SaysFault, SaysNote, SaysCut};
@@ -13,6 +14,7 @@ ghost use Rattle.dmk_drive.specs.Passing.{listing_text, lists_any};
 ghost use Rattle.dmk_drive.specs.Planned.{Plans};
 ghost use Rattle.dmk_drive.specs.declared.fault.Fault.TheVariants as faults;
 
+use crate::always_run::AlwaysRun;
 use crate::fault::Fault;
 use crate::messages::Message;
 use crate::options::Options;
@@ -55,14 +57,11 @@ fn question_status(run: &DryRun) -> u8
 }
 
 /// Prints the fault and answers 2.
-fn refuse<E: Write>(state: &str, fault: Fault, err: &mut E) -> Reply
+fn refuse<E: Write>(state: &str, fault: &Fault, err: &mut E) -> Reply
     ensures status { result.status ≡ 2 }
-    ensures told { result.is_told ≡ true → SaysFault (E.contents err.old) (E.contents err.new) fault }
+    ensures told { result.is_told ≡ true → SaysFault (E.contents err.old) (E.contents err.new) fault.now }
 {
-    let message = Message {
-        state,
-        fault: &fault,
-    };
+    let message = Message { state, fault };
     Reply {
         status: 2,
         is_told: print_fault(err, message),
@@ -85,7 +84,7 @@ fn print_listing<O: Write, E: Write>(state: &str, run: &DryRun, out: &mut O, err
             is_told: is_noted,
         },
         Err(fault) => {
-            let refusal = refuse(state, fault, err);
+            let refusal = refuse(state, &fault, err);
             Reply {
                 status: refusal.status,
                 is_told: is_noted && refusal.is_told,
@@ -108,7 +107,7 @@ fn answer<O: Write, E: Write>(state: &str, run: &DryRun, out: &mut O, err: &mut 
             status: question_status(run),
             is_told: true,
         },
-        Err(fault) => refuse(state, fault, err),
+        Err(fault) => refuse(state, &fault, err),
     }
 }
 
@@ -143,32 +142,43 @@ fn answer_or_list<O: Write, E: Write>(
 fn say<O: Write, E: Write>(
     asks: bool,
     state: &str,
-    found: Result<DryRun, Fault>,
+    found: &Result<DryRun, Fault>,
     out: &mut O,
     err: &mut E,
 ) -> Reply
-    ensures whole { result.status ≢ 2 → IfOk found (λ run. Appends (O.contents out.old) (O.contents out.new) run.text.items) }
+    ensures whole { result.status ≢ 2 → IfOk found.now (λ run. Appends (O.contents out.old) (O.contents out.new) run.text.items) }
     ensures noted { asks ≡ false → result.status ≡ 0
-        → IfOk found (λ run. SaysNote (E.contents err.old) (E.contents err.new) result.is_told run.soft_dropped) }
-    ensures found { result.status ≢ 2 → IsOk found }
-    ensures asked { asks ≡ true → result.status ≢ 2 → IfOk found (λ run. (plan : List Passage)
+        → IfOk found.now (λ run. SaysNote (E.contents err.old) (E.contents err.new) result.is_told run.soft_dropped) }
+    ensures found { result.status ≢ 2 → IsOk found.now }
+    ensures asked { asks ≡ true → result.status ≢ 2 → IfOk found.now (λ run. (plan : List Passage)
         → run.lists_any ≡ lists_any plan → result.status ≡ question_status plan) }
     ensures quiet { asks ≡ true → result.status ≢ 2 → err.new ≡ err.old }
-    ensures note { result.status ≡ 0 → IfOk found (λ run. run.soft_dropped ≡ false → err.new ≡ err.old) }
-    ensures refused { IsErr found → (result.status ≡ 2) × Keeps (O.contents out.old) (O.contents out.new) }
-    ensures told { IfErr found (λ fault. result.is_told ≡ true → SaysFault (E.contents err.old) (E.contents err.new) fault) }
-    ensures part { result.status ≡ 2 → IfOk found (λ run. AppendsPart (O.contents out.old) (O.contents out.new) run.text.items) }
+    ensures note { result.status ≡ 0 → IfOk found.now (λ run. run.soft_dropped ≡ false → err.new ≡ err.old) }
+    ensures refused { IsErr found.now → (result.status ≡ 2) × Keeps (O.contents out.old) (O.contents out.new) }
+    ensures told { IfErr found.now (λ fault. result.is_told ≡ true → SaysFault (E.contents err.old) (E.contents err.new) fault) }
+    ensures part { result.status ≡ 2 → IfOk found.now (λ run. AppendsPart (O.contents out.old) (O.contents out.new) run.text.items) }
     ensures cut { result.status ≡ 2
-        → IfOk found (λ run. SaysCut (E.contents err.old) (E.contents err.new) result.is_told (run.soft_dropped && not asks)) }
+        → IfOk found.now (λ run. SaysCut (E.contents err.old) (E.contents err.new) result.is_told (run.soft_dropped && not asks)) }
     ensures status { (result.status ≡ 0) ⊎ (((result.status ≡ 1) × (asks ≡ true)) ⊎ (result.status ≡ 2)) }
 {
     match found {
-        Ok(run) => answer_or_list(asks, state, &run, out, err),
+        Ok(run) => answer_or_list(asks, state, run, out, err),
         Err(fault) => refuse(state, fault, err),
     }
 }
 
-/// Runs the program: answers, and hands the disk back, which was only read.
+/// The lines that are run in a dry run too: none where it is refused.
+fn always_told(alloc: Global, reply: Reply, found: Result<DryRun, Fault>) -> Vec<AlwaysRun>
+    ensures told { reply.status ≢ 2 → IfOk found (λ run. result.items ≡ run.always.items) }
+    ensures refused { reply.status ≡ 2 → result.items ≡ [] }
+{
+    match found {
+        Ok(run) if reply.status != 2 => run.always,
+        _ => Vec::new(alloc),
+    }
+}
+
+/// Runs the program: answers, and hands the disk back, which was only read, with the lines that are to be run all the same.
 ///
 /// `-n` prints the lines of all recipes that a run would come to, in an order in which it might. `-q` prints none and
 /// answers 1 where there are any. Both tell of each target why it is made, as much as is wanted.
@@ -182,7 +192,7 @@ pub fn drive<T: Tree, I: Includes, D: Disk, O: Write, E: Write>(
     disk: D,
     out: &mut O,
     err: &mut E,
-) -> (Reply, D)
+) -> (Reply, D, Vec<AlwaysRun>)
     // It lists or answers: a run of recipes isn't asked for.
     requires { AsksToLook options (value_in environment.now (codes "MAKEFLAGS")) }
 
@@ -193,14 +203,16 @@ pub fn drive<T: Tree, I: Includes, D: Disk, O: Write, E: Write>(
         → (plan : List Passage) × (dropped : Bool)
         × Plans files times options.makefiles options.profile options.definitions.items environment.now options.targets options.makes_all D.honest (D.seen disk) plan dropped
         × Appends (O.contents out.old) (O.contents out.new) (listing_text options.telling true plan) × (dropped ≡ false → err.new ≡ err.old)
-        × SaysNote (E.contents err.old) (E.contents err.new) result.0.is_told dropped }
+        × SaysNote (E.contents err.old) (E.contents err.new) result.0.is_told dropped
+        × (result.2.items ≡ lines_run_always options.telling true plan) }
     // The question is answered by the plan, and no recipe is printed: nothing is, unless it is asked why targets are made.
     ensures asked { options.asks ≡ true → result.0.status ≢ 2
         → (files : List ℕ → Option (List ℕ)) (times : List ℕ → Option ℤ) → I.allows includes.new files → T.allows tree.new times
         → (plan : List Passage) × (dropped : Bool)
         × Plans files times options.makefiles options.profile options.definitions.items environment.now options.targets options.makes_all D.honest (D.seen disk) plan dropped
         × (result.0.status ≡ question_status plan)
-        × Appends (O.contents out.old) (O.contents out.new) (listing_text options.telling false plan) }
+        × Appends (O.contents out.old) (O.contents out.new) (listing_text options.telling false plan)
+        × (result.2.items ≡ lines_run_always options.telling false plan) }
     ensures silent { options.asks ≡ true → options.telling ≡ tellings.Nothing → Keeps (O.contents out.old) (O.contents out.new) }
     ensures quiet { options.asks ≡ true → result.0.status ≢ 2 → err.new ≡ err.old }
 
@@ -214,6 +226,7 @@ pub fn drive<T: Tree, I: Includes, D: Disk, O: Write, E: Write>(
         ⊎ CutsListing (Plans files times options.makefiles options.profile options.definitions.items environment.now options.targets options.makes_all D.honest (D.seen disk))
         options.telling options.asks result.0.is_told (O.contents out.old) (O.contents out.new) (E.contents err.old) (E.contents err.new) }
     ensures status { (result.0.status ≡ 0) ⊎ (((result.0.status ≡ 1) × (options.asks ≡ true)) ⊎ (result.0.status ≡ 2)) }
+    ensures none_run { result.0.status ≡ 2 → result.2.items ≡ [] }
 
     // What reads give and what a crash may leave is what it was.
     ensures seen { D.honest → D.seen result.1 ≡ D.seen disk }
@@ -243,6 +256,7 @@ pub fn drive<T: Tree, I: Includes, D: Disk, O: Write, E: Write>(
         },
     };
     let found = dry_run(alloc, key, given, targets, tree, includes, &mut disk);
-    let reply = say(asks, state.as_str(), found, out, err);
-    (reply, disk)
+    let reply = say(asks, state.as_str(), &found, out, err);
+    let always = always_told(alloc, reply, found);
+    (reply, disk, always)
 }

@@ -119,7 +119,7 @@ impl<C: FileCalls + Drop> FileTexts<C> {
 
 impl<C: FileCalls + Drop> Includes for FileTexts<C> {
     ghost use Rattle.std.specs.Prelude.{None, unwrap_or};
-    ghost use Rattle.mk_rules.proofs.StampLemmas.{some_fit};
+    ghost use Rattle.dmk_drive.specs.Fits.{some_fit};
 
     ghost allows = { λ source files. AgreeWith source.texts files };
 

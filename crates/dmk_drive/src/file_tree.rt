@@ -1,12 +1,13 @@
 //! The times of files by the system's calls, each looked at once.
-ghost use Rattle.std.specs.Prelude.{◌≡◌, ℕ, ℤ, true, false, List, Option, None, IfOk, IfErr, IsErr, IsSome};
+ghost use Rattle.std.specs.Prelude.{◌≡◌, ℕ, ℤ, true, false, List, Option, None, IfOk, IfErr, IsOk, IsErr, IsSome};
 ghost use Rattle.std.specs.IoError.{error_kind};
-ghost use Rattle.mk_rules.specs.Stamps.{known_stamp, AgreesWith};
+ghost use Rattle.dmk_drive.specs.Stamps.{known_stamp, AgreesWith};
 ghost use Rattle.mk_rules.specs.Tree.{IsTreeFault};
 ghost use Rattle.dmk_drive.specs.Files.{IsMissing, nanoseconds_of};
 
 use crate::file_calls::{FileCalls, FileStatus};
-use mk_rules::{Stamps, Tree, TreeFault};
+use crate::stamps::Stamps;
+use mk_rules::{Tree, TreeFault};
 use std::alloc::Global;
 use std::io::{self, ErrorKind};
 
@@ -81,6 +82,7 @@ impl<C: FileCalls + Drop> FileTree<C> {
         ensures stamp { IfOk result (λ stamp. (times : List ℕ → Option ℤ) → AgreesWith self.new.stamps times → stamp ≡ times name.now) }
         ensures grows { (times : List ℕ → Option ℤ) → AgreesWith self.new.stamps times → AgreesWith self.old.stamps times }
         ensures known { IsSome (known_stamp self.old.stamps name.now) → self.new ≡ self.old }
+        ensures found { IsSome (known_stamp self.old.stamps name.now) → IsOk result }
         ensures fault { IfErr result (IsTreeFault (Unit {0})) }
     {
         if let Some(known) = self.stamps.get(name) {
@@ -95,7 +97,8 @@ impl<C: FileCalls + Drop> FileTree<C> {
 }
 
 impl<C: FileCalls + Drop> Tree for FileTree<C> {
-    ghost use Rattle.mk_rules.specs.LooksLaws.{known_times, known_agrees};
+    ghost use Rattle.std.specs.Prelude.{unwrap_or};
+    ghost use Rattle.dmk_drive.specs.Fits.{some_fit};
 
     ghost allows = { λ tree times. AgreesWith tree.stamps times };
 
@@ -105,5 +108,8 @@ impl<C: FileCalls + Drop> Tree for FileTree<C> {
         self.look(alloc, name)
     }
 
-    ghost possible = { λ tree. (known_times tree.stamps, known_agrees tree.stamps) };
+    ghost possible = { λ tree. (
+      λ name. unwrap_or (known_stamp tree.stamps name) None,
+      some_fit (known_stamp tree.stamps) None,
+    ) };
 }

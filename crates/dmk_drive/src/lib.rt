@@ -1,8 +1,10 @@
 //! dmk over handed-in parts: from options, environment, files and a state's disk to what is printed and answered.
 //!
-//! It runs no recipe: `-n` lists the recipes of the targets that are out of date, `-q` asks whether there are any.
+//! It runs no recipe: `-n` lists the recipes of the targets that are out of date, `-q` asks whether there are any. Lines that are
+//! run all the same it tells, and runs none of them.
 #![tactic(auto)]
 
+mod always_run;
 mod base;
 mod built_in;
 mod definitions;
@@ -21,9 +23,11 @@ mod output;
 mod passing;
 mod planning;
 mod recovered;
+mod stamps;
 mod state_name;
 mod texts;
 
+pub use always_run::AlwaysRun;
 pub use base::base_of;
 pub use definitions::first_macros;
 pub use driver::{Reply, drive};

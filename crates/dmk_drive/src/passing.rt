@@ -3,11 +3,14 @@ ghost use Rattle.std.specs.Prelude.{◌≡◌, ◌<◌, ◌||◌, true, List, le
 ghost use Rattle.std.specs.List.{list_all};
 ghost use Rattle.mk_plan.specs.Passage.{Passage};
 ghost use Rattle.mk_plan.specs.Passing.{told_in};
-ghost use Rattle.dmk_drive.specs.Passing.{IsListing, IsListingFault, ListsNone, lists_any, printed, recipe_in, text_of, listing_text};
+ghost use Rattle.mk_graph.specs.Numbering.{name_at};
+ghost use Rattle.dmk_drive.specs.AlwaysRun.{always_behind, always_passed, always_from, lines_run_always};
+ghost use Rattle.dmk_drive.specs.Passing.{IsListing, IsListingFault, ListsNone, lists_any, printed_line, printed, recipe_in, text_of, listing_text};
 
+use crate::always_run::{AlwaysRun, add_line, add_lines};
 use byte_strings::ByteStrings;
 use mk_macros::MacroFault;
-use mk_plan::{Passed, Telling, pass, told_lines};
+use mk_plan::{Passed, Telling, name_of, pass, told_lines};
 use mk_recipe::Line;
 use mk_rules::Graph;
 use std::alloc::{AllocError, Global};
@@ -28,29 +31,19 @@ pub struct Listing {
     pub text: Vec<u8>,
     /// Some recipe is listed, if only one of blank lines.
     pub lists_any: bool,
+    /// The lines that are run in a dry run too, in the listing's order.
+    pub always: Vec<AlwaysRun>,
 }
 
-/// Appends the lines as they are printed: without prefixes, and no blank one.
-fn append_lines(text: &mut Vec<u8>, lines: &[Line]) -> Result<(), AllocError>
-    ensures { OnOk result (text.new.items ≡ text.old.items ++ printed lines.now) }
+/// Appends a line as it is printed: without prefixes, and no blank one.
+fn append_line(text: &mut Vec<u8>, line: &Line) -> Result<(), AllocError>
+    ensures { OnOk result (text.new.items ≡ text.old.items ++ printed_line line.now) }
 {
-    for line in lines {
-        if !line.is_blank() {
-            text.extend_from_slice(line.text.as_slice())?;
-            text.push(b'\n')?;
-        }
+    if !line.is_blank() {
+        text.extend_from_slice(line.text.as_slice())?;
+        text.push(b'\n')?;
     }
     Ok(())
-}
-
-/// Appends the recipe of a listed node, where recipes are printed.
-fn append_recipe(text: &mut Vec<u8>, recipes: bool, passed: &Passed) -> Result<(), AllocError>
-    ensures { OnOk result (text.new.items ≡ text.old.items ++ recipe_in recipes passed.now) }
-{
-    match passed {
-        Passed::Listed(_, lines) if recipes => append_lines(text, lines),
-        _ => Ok(()),
-    }
 }
 
 /// Appends what is told, each line with a newline.
@@ -65,6 +58,48 @@ fn append_told(text: &mut Vec<u8>, told: &ByteStrings) -> Result<(), AllocError>
 }
 
 impl Listing {
+    /// Takes in the lines of a recipe that is printed.
+    #[tactic(auto, unfolding(crate::specs::AlwaysRun::always_behind))]
+    fn add_printed(
+        &mut self,
+        alloc: Global,
+        target: &[u8],
+        lines: &[Line],
+    ) -> Result<(), AllocError>
+        ensures text { OnOk result (self.new.text.items ≡ self.old.text.items ++ printed lines.now) }
+        ensures always { OnOk result (self.new.always.items
+            ≡ self.old.always.items ++ always_behind target.now (length self.old.text.items) lines.now) }
+        ensures any { self.new.lists_any ≡ self.old.lists_any }
+    {
+        for line in lines {
+            append_line(&mut self.text, line)?;
+            add_line(alloc, &mut self.always, target, self.text.len(), line)?;
+        }
+        Ok(())
+    }
+
+    /// Takes in the recipe of a listed node.
+    fn add_recipe(
+        &mut self,
+        alloc: Global,
+        recipes: bool,
+        target: &[u8],
+        passed: &Passed,
+    ) -> Result<(), AllocError>
+        ensures text { OnOk result (self.new.text.items ≡ self.old.text.items ++ recipe_in recipes passed.now) }
+        ensures always { OnOk result (self.new.always.items
+            ≡ self.old.always.items ++ always_passed recipes target.now (length self.old.text.items) passed.now) }
+        ensures any { self.new.lists_any ≡ self.old.lists_any }
+    {
+        match passed {
+            Passed::Listed(_, lines) if recipes => self.add_printed(alloc, target, lines),
+            Passed::Listed(_, lines) => {
+                add_lines(alloc, &mut self.always, target, self.text.len(), lines)
+            }
+            _ => Ok(()),
+        }
+    }
+
     /// Takes in what passing a node came to.
     fn add(
         &mut self,
@@ -77,16 +112,19 @@ impl Listing {
         ensures text { OnOk result (self.new.text.items
             ≡ self.old.text.items ++ listing_text shows.telling shows.recipes (told_in graph.now node passed.now)) }
         ensures any { OnOk result (self.new.lists_any ≡ (self.old.lists_any || lists_any (told_in graph.now node passed.now))) }
+        ensures always { OnOk result (self.new.always.items ≡ self.old.always.items
+            ++ always_from shows.telling shows.recipes (length self.old.text.items) (told_in graph.now node passed.now)) }
     {
         let told = told_lines(alloc, shows.telling, graph, node, passed)?;
         append_told(&mut self.text, &told)?;
-        append_recipe(&mut self.text, shows.recipes, passed)?;
+        self.add_recipe(alloc, shows.recipes, name_of(graph, node), passed)?;
         self.lists_any = self.lists_any || passed.is_listed();
         Ok(())
     }
 }
 
 /// What there is to tell of all nodes, in the graph's order: the recipes of those that are out of date, and why they are.
+#[tactic(auto, unfolding(crate::specs::AlwaysRun::always_from))]
 pub fn listing_of(
     alloc: Global,
     keeping: bool,
@@ -95,13 +133,15 @@ pub fn listing_of(
 ) -> Result<Listing, MacroFault>
     requires { list_all (λ n. nat_lt n (length graph.now.nodes.items)) graph.now.order.items ≡ true }
     ensures listing { IfOk result (λ found. (plan : List Passage) × IsListing keeping graph.now plan
-        × (found.text.items ≡ listing_text shows.telling shows.recipes plan) × (found.lists_any ≡ lists_any plan)) }
+        × (found.text.items ≡ listing_text shows.telling shows.recipes plan) × (found.lists_any ≡ lists_any plan)
+        × (found.always.items ≡ lines_run_always shows.telling shows.recipes plan)) }
     ensures fault { IfErr result (IsListingFault keeping graph.now) }
 {
     let mut marks = vec![in alloc; false; graph.len()]?;
     let mut listing = Listing {
         text: Vec::new(alloc),
         lists_any: false,
+        always: Vec::new(alloc),
     };
     for node in graph.order.as_slice() {
         let passed = pass(alloc, keeping, graph, &marks, *node)?;

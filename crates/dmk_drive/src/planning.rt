@@ -14,11 +14,13 @@ ghost use Rattle.st_disk.specs.Faults.{Rises};
 ghost use Rattle.st_state.specs.State.{StateMap};
 ghost use Rattle.st_file.specs.declared.fault.OpenFault.{OpenFault as StateFault};
 ghost use Rattle.st_file.specs.declared.fault.OpenFault.TheVariants as open_faults;
+ghost use Rattle.dmk_drive.specs.AlwaysRun.{lines_run_always};
 ghost use Rattle.dmk_drive.specs.Passing.{IsListing, IsListingFault, listing_text, lists_any};
 ghost use Rattle.dmk_drive.specs.Planned.{AreItems, IsStateOn, IsGraphOf, Tells, judged_graph};
 ghost use Rattle.dmk_drive.specs.Faults.{IsOpenFault, IsTextFault, IsPlanFault, IsRunFault};
 ghost use Rattle.dmk_drive.specs.declared.fault.Fault.TheVariants as faults;
 
+use crate::always_run::AlwaysRun;
 use crate::definitions::first_macros;
 use crate::fault::Fault;
 use crate::keeping::keeps_state;
@@ -59,6 +61,8 @@ pub struct DryRun {
     pub text: Vec<u8>,
     /// Some recipe is listed, if only one of blank lines.
     pub lists_any: bool,
+    /// The lines that are run in a dry run too, in the listing's order.
+    pub always: Vec<AlwaysRun>,
     /// Soft edges make a cycle and don't order nodes.
     pub soft_dropped: bool,
 }
@@ -111,14 +115,22 @@ fn counts_records(all: bool, keeping: bool) -> bool
 fn listed(alloc: Global, keeping: bool, shows: Shows, graph: Graph) -> Result<DryRun, Fault>
     requires { list_all (λ n. nat_lt n (length graph.nodes.items)) graph.order.items ≡ true }
     ensures listing { IfOk result (λ run. (plan : List Passage) × IsListing keeping graph plan
-        × (run.text.items ≡ listing_text shows.telling shows.recipes plan) × (run.lists_any ≡ lists_any plan)) }
+        × (run.text.items ≡ listing_text shows.telling shows.recipes plan) × (run.lists_any ≡ lists_any plan)
+        × (run.always.items ≡ lines_run_always shows.telling shows.recipes plan)) }
     ensures dropped { IfOk result (λ run. run.soft_dropped ≡ graph.soft_dropped) }
     ensures fault { IfErr result (λ fault. (f : ExpansionFault) × (fault ≡ faults.Recipe f) × IsListingFault keeping graph f) }
 {
     match listing_of(alloc, keeping, shows, &graph) {
-        Ok(Listing { text, lists_any }) => Ok(DryRun {
+        Ok(
+            Listing {
+                text,
+                lists_any,
+                always,
+            },
+        ) => Ok(DryRun {
             text,
             lists_any,
+            always,
             soft_dropped: graph.soft_dropped,
         }),
         Err(fault) => Err(Fault::Recipe(fault)),

@@ -114,8 +114,8 @@ impl Handed {
         Ok(value)
     }
 
-    /// The variables of a recipe with what is handed on.
-    fn environment(&self, alloc: Global, env: &[Variable]) -> Result<Vec<Variable>, AllocError>
+    /// The variables of a recipe, or of a line that is run in a dry run, with what is handed on.
+    pub fn environment(&self, alloc: Global, env: &[Variable]) -> Result<Vec<Variable>, AllocError>
         ensures { IfOk result (λ all. all.items ≡ with_handed (Some self.now) env.now) }
     {
         let mut all = Vec::new(alloc);

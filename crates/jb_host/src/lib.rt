@@ -1,8 +1,10 @@
 //! The shell and the files of this machine.
 #![tactic(auto)]
 
+mod dry_shell;
 mod host_place;
 mod shell;
 
+pub use dry_shell::DryShell;
 pub use host_place::HostPlace;
 pub use shell::{HOLDS, HeldLock, Shell};

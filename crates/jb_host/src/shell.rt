@@ -34,7 +34,7 @@ pub struct Shell<'a> {
 
 /// A line's command can't be made: memory or a descriptor was refused, or a text isn't UTF-8.
 #[derive(Drop)]
-struct NoCommand;
+pub(crate) struct NoCommand;
 
 impl From<AllocError> for NoCommand {
     ghost from_gives = { λ _ _. Unit {0} };
@@ -68,28 +68,29 @@ fn set_variable(command: &mut Command, variable: &Variable) -> Result<(), NoComm
     Ok(())
 }
 
+/// The shell that runs a text, with these variables beside those of dmk's own environment.
+pub(crate) fn shell_command(
+    alloc: Global,
+    text: &[u8],
+    env: &[Variable],
+) -> Result<Command, NoCommand> {
+    let mut command = Command::new(alloc, "/bin/sh")?;
+    command.arg("-c")?.arg(text_of(text)?)?;
+    for variable in env {
+        set_variable(&mut command, variable)?;
+    }
+    Ok(command)
+}
+
 impl<'a> Shell<'a> {
     pub fn new(rt: HostRuntime, alloc: Global, held: &'a OnceLock<HeldLock>) -> Shell<'a> {
         Shell { rt, alloc, held }
     }
 
     fn command(&self, line: &Line, env: &[Variable]) -> Result<Command, NoCommand> {
-        let mut command = Command::new(self.alloc, "/bin/sh")?;
-        self.prepare(&mut command, line, env)?;
+        let mut command = shell_command(self.alloc, line.text.as_slice(), env)?;
+        self.hand_on(&mut command)?;
         Ok(command)
-    }
-
-    fn prepare(
-        &self,
-        command: &mut Command,
-        line: &Line,
-        env: &[Variable],
-    ) -> Result<(), NoCommand> {
-        command.arg("-c")?.arg(text_of(line.text.as_slice())?)?;
-        for variable in env {
-            set_variable(command, variable)?;
-        }
-        self.hand_on(command)
     }
 
     // A line that goes on behind a killed run keeps the lock by its standard input, so that the next run waits for it.
@@ -108,7 +109,7 @@ impl<'a> Shell<'a> {
 }
 
 // The status of a process as a state knows it: 256 where a signal ended it.
-fn status_of(code: Option<i32>) -> u32
+pub(crate) fn status_of(code: Option<i32>) -> u32
     ensures { result ≤ 256 }
 {
     match code {

@@ -29,7 +29,13 @@ same_language : (given : Defined) (items : List Item) → (with_items given item
 same_language given [] = refl
 same_language given (one ∷ more) = same_language (with_item given one) more ∙ item_language given one
 
-items-append : (given : Defined) (xs ys : List Item) → with_items (with_items given xs) ys ≡ with_items given (xs ++ ys)
+pub behind_language : (given : Defined) (items : List Item) → (behind given items).language ≡ given.language
+behind_language given items =
+    either _ (is_wide given.language)
+    (λ e. ap (λ g. g.language) (behind_wide given items e) ∙ same_language given items)
+    (λ e. ap (λ g. g.language) (behind_strict given items e))
+
+pub items-append : (given : Defined) (xs ys : List Item) → with_items (with_items given xs) ys ≡ with_items given (xs ++ ys)
 items-append given [] ys = refl
 items-append given (x ∷ xs) ys = items-append (with_item given x) xs ys
 
@@ -44,6 +50,10 @@ behind-append given xs ys =
 -- behind what was gathered and more of it
 pub behind_more : (start now next : Defined) (items new front : List Item) → now ≡ behind start items → next ≡ behind now front → new ≡ items ++ front → next ≡ behind start new
 behind_more start now next items new front is e n = e ∙ ap (λ g. behind g front) is ∙ behind-append start items front ∙ ap (behind start) (sym n)
+
+-- one more item that defines nothing
+pub loose_more : (given : Defined) (items new : List Item) (one : Item) → ((start : Defined) → with_item start one ≡ start) → with_items given items ≡ given → new ≡ items ++ one ∷ [] → with_items given new ≡ given
+loose_more given items new one last loose e = ap (with_items given) e ∙ sym (items-append given items (one ∷ [])) ∙ last (with_items given items) ∙ loose
 
 -- Names that have a text can be listed.
 

@@ -12,7 +12,7 @@ use Rattle.mk_macros.specs.Expansion.{Meaning, Meanings, gives, limit, Expands, 
 use Rattle.mk_macros.proofs.PatternLemmas.{place_of-at}
 use Rattle.mk_reader.specs.Text.{is_dollar}
 use Rattle.mk_reader.proofs.ReferenceLemmas.{either, or_false}
-use Rattle.mk_eval.specs.Makefile.{doubled}
+use Rattle.mk_eval.specs.Static.{doubled}
 
 -- no `$` stands in it
 abbrev IsPlain : List ℕ → Type 0

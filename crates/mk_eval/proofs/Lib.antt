@@ -1,4 +1,7 @@
 pub mod BehindLemmas
 pub mod DoubledLemmas
 pub mod MakefileLemmas
+pub mod OrderLemmas
 pub mod OutcomeLemmas
+pub mod RuleLemmas
+pub mod StemLemmas

@@ -16,7 +16,7 @@ use Rattle.mk_reader.specs.Form.{refusal, Refuses}
 use Rattle.mk_reader.specs.declared.fault.Cause.TheVariants.{Macro}
 use Rattle.mk_reader.specs.declared.item.IncludeLine.{IncludeLine}
 use Rattle.mk_reader.specs.declared.item.Statement.TheVariants as statement
-use Rattle.mk_eval.specs.Makefile.{Outcome, GivesItems, with_front, InOrder, behind, NamesIn, LineNames, cause_of, StatementItems, AnswerItems, IncludedItems, fault_told, IsNamesFault}
+use Rattle.mk_eval.specs.Makefile.{Outcome, GivesItem, GivesItems, with_front, InOrder, behind, NamesIn, LineNames, cause_of, StatementItems, AnswerItems, IncludedItems, fault_told, IsNamesFault}
 use Rattle.mk_eval.proofs.BehindLemmas.{behind_nothing}
 
 with_front-append : (xs ys : List Item) (o : Outcome) → with_front xs (with_front ys o) ≡ with_front (xs ++ ys) o
@@ -86,6 +86,10 @@ module _ {W A : Type 0} (after : W → List Item → W) (One : W → A → Outco
 pub fault_passed_on : (r : ReadFault) (P Q : Outcome → Type 0) → GivesItems (Err r) P → ((fault : Refusal) → P (Err fault) → Q (Err fault)) → GivesItems (Err r) Q
 fault_passed_on OutOfMemory P Q h more = tt
 fault_passed_on (Refused fault) P Q h more = more fault h
+
+pub item_fault : (r : ReadFault) (P Q : Outcome → Type 0) → GivesItem (Err r) P → ((fault : Refusal) → P (Err fault) → Q (Err fault)) → GivesItems (Err r) Q
+item_fault OutOfMemory P Q h more = tt
+item_fault (Refused fault) P Q h more = more fault h
 
 pub items_passed_on : (r : Result (Vec Item Global) ReadFault) (P Q : Outcome → Type 0) → GivesItems r P → ((o : Outcome) → P o → Q o) → GivesItems r Q
 items_passed_on (Ok v) P Q h more = more (Ok v.items) h

@@ -1,9 +1,10 @@
 -- A text has one outcome.
-use Rattle.std.proofs.Common.{◌≡◌, ℕ, zero, suc, Bool, true, false, cond, ◌&&◌, bytes_eq, List, [], ◌∷◌, map, refl, sym, ap, subst, ◌∙◌, Option, Some, None, Result, Ok, Err, Vec}
+use Rattle.std.proofs.Common.{◌≡◌, ℕ, zero, suc, Bool, true, false, cond, ◌&&◌, bytes_eq, List, [], ◌∷◌, map, refl, inr, inl, sym, ap, subst, ◌∙◌, Option, Some, None, Result, Ok, Err, Vec}
 use Rattle.std.specs.declared.alloc.Global.{Global}
 use Rattle.std.specs.List.{list_any}
 use Rattle.byte_strings.specs.Blanks.{words}
 use Rattle.mk_profile.specs.Profile.{is_wide}
+use Rattle.mk_profile.specs.declared.profile.Profile.{Profile}
 use Rattle.mk_macros.specs.Expansion as expansion
 use Rattle.mk_macros.specs.Expansion.{gives, fails, ExpandsTo}
 use Rattle.mk_macros.specs.Ranks.{Ranks, Defined, redefined, with_definition, rule_meanings}
@@ -12,7 +13,7 @@ use Rattle.mk_macros.specs.declared.dynamic.Dynamic.TheVariants.{RuleLine}
 use Rattle.mk_macros.proofs.OutcomeLemmas.{expands_once}
 use Rattle.mk_macros.proofs.SomeOutcomeLemmas.{outcome_some}
 use Rattle.mk_reader.specs.Text.{is_dollar}
-use Rattle.mk_reader.specs.Grammar.{refusal}
+use Rattle.mk_reader.specs.Grammar.{Without, refusal}
 use Rattle.mk_reader.specs.Printed.{PlainItem, definition, rule, ArePlain, printed, next, after_recipe, items_on}
 use Rattle.mk_reader.specs.declared.fault.Cause.TheVariants.{IncludeDepth, IncludeMissing, Macro}
 use Rattle.mk_reader.specs.declared.fault.ReadFault.{ReadFault}
@@ -22,36 +23,23 @@ use Rattle.mk_reader.specs.declared.item.DefinitionKind.TheVariants.{IfUndefined
 use Rattle.mk_reader.specs.declared.item.Item.{Item}
 use Rattle.mk_reader.specs.declared.item.Item.TheVariants as item
 use Rattle.mk_reader.specs.declared.item.Rule.{Rule}
-use Rattle.mk_reader.specs.declared.special.SpecialName.{SpecialName}
 use Rattle.mk_reader.specs.declared.item.IncludeLine.{IncludeLine}
 use Rattle.mk_reader.specs.declared.item.Statement.{Statement}
 use Rattle.mk_reader.specs.declared.item.Statement.TheVariants as statement
-use Rattle.mk_reader.specs.Statements.{item_of}
 use Rattle.mk_reader.proofs.ReferenceLemmas.{either}
 use Rattle.mk_reader.proofs.StatementLemmas as reading
 use Rattle.mk_reader.proofs.PrintedItemsLemmas.{printed_read}
-use Rattle.mk_eval.specs.Makefile.{Outcome, GivesItems, with_front, Then, InOrder, behind, NamesIn, LineNames, cause_of, NamedItems, fixed_as, FixedItems, KindItems, DefinitionItems, appends_fixed, ItemItems, StatementItems, FileItems, NoneFixed, with_item, AnswersOf, missing_items, AnswerItems, IncludedItems, TextItems}
-use Rattle.mk_eval.proofs.BehindLemmas.{IsListed, behind_listed, behind_wide, behind_strict}
+use Rattle.mk_eval.specs.Static.{DefinesMacro}
+use Rattle.mk_eval.specs.PlainRules.{IsPlainRule, ArePlainRules}
+use Rattle.mk_eval.specs.Makefile.{Outcome, GivesItems, InOrder, behind, NamesIn, LineNames, cause_of, NamedItems, fixed_as, FixedItems, KindItems, DefinitionItems, appends_fixed, ItemItems, StatementItems, FileItems, NoneFixed, RuleItems, with_item, AnswersOf, missing_items, AnswerItems, IncludedItems, TextItems}
+use Rattle.mk_eval.proofs.BehindLemmas.{IsListed, behind_listed, behind_language, behind_wide, behind_strict}
 use Rattle.mk_eval.proofs.MakefileLemmas.{items_passed_on}
+use Rattle.mk_eval.proofs.OrderLemmas.{IsOne, order_one, Some_of, order_some}
+use Rattle.mk_eval.proofs.RuleLemmas.{rule_one, rule_some}
 
 and_false : (t : Bool) → (t && false) ≡ false
 and_false true = refl
 and_false false = refl
-
--- at most one outcome is of this kind
-abbrev pub IsOne : (Outcome → Type 0) → Type 0
-IsOne P = (one other : Outcome) → P one → P other → one ≡ other
-
-module _ {W : Type 0} (after : W → List Item → W) where
-  then_one : (world : W) (front : Outcome) (Rest : W → Outcome → Type 0) → ((now : W) → IsOne (Rest now)) → IsOne (Then after world front Rest)
-  then_one world (Err fault) Rest h one other a b = a ∙ sym b
-  then_one world (Ok items) Rest h one other a b = a.2 ∙ ap (with_front items) (h (after world items) a.0 b.0 a.1 b.1) ∙ sym b.2
-
-  pub order_one : {A : Type 0} (One : W → A → Outcome → Type 0) → ((world : W) (thing : A) → IsOne (One world thing)) → (world : W) (things : List A) → IsOne (InOrder after One world things)
-  order_one One h world [] one other a b = a ∙ sym b
-  order_one One h world (thing ∷ more) one other a b =
-      let Rest : W → Outcome → Type 0 = λ now. InOrder after One now more in
-      then_one world b.0 Rest (λ now. order_one One h now more) one other (subst (λ front. Then after world front Rest one) (h world thing a.0 b.0 a.1 b.1) a.2) b.2
 
 abbrev Including : Type 1
 Including = IncludeLine → Defined → List ℕ → Outcome → Type 0
@@ -79,7 +67,7 @@ definition_one true d given one other a b = fixed_one d true given one other a b
 
 item_one : (said : Item) (given : Defined) → IsOne (ItemItems said given)
 item_one (item.Definition d) given one other a b = definition_one (appends_fixed d given) d given one other a b
-item_one (item.Rule lines) given one other a b = a ∙ sym b
+item_one (item.Rule lines) given one other a b = rule_one lines (is_wide given.language) given one other a b
 item_one (item.Special special) given one other a b = a ∙ sym b
 
 kind_one : (kind : DefinitionKind) (d : Definition) (given : Defined) → IsOne (KindItems kind d given)
@@ -122,22 +110,6 @@ module _ (files : List ℕ → Option (List ℕ)) where
 
 -- There is an outcome.
 
-abbrev Some_of : (Outcome → Type 0) → Type 0
-Some_of P = (o : Outcome) × P o
-
--- worlds of this kind, which items leave so
-module _ {W : Type 0} (after : W → List Item → W) (Fine : W → Type 0) (stays : (world : W) (items : List Item) → Fine world → Fine (after world items)) where
-  then_some : (world : W) → Fine world → (front : Outcome) (Rest : W → Outcome → Type 0) → ((now : W) → Fine now → Some_of (Rest now)) → Some_of (Then after world front Rest)
-  then_some world fine (Err fault) Rest h = (Err fault, refl)
-  then_some world fine (Ok items) Rest h = let rest = h (after world items) (stays world items fine) in (with_front items rest.0, (rest.0, rest.1, refl))
-
-  order_some : {A : Type 0} (One : W → A → Outcome → Type 0) → ((world : W) → Fine world → (thing : A) → Some_of (One world thing)) → (world : W) → Fine world → (things : List A) → Some_of (InOrder after One world things)
-  order_some One h world fine [] = (Ok [], refl)
-  order_some One h world fine (thing ∷ more) =
-      let front = h world fine thing in
-      let whole = then_some world fine front.0 (λ now. InOrder after One now more) (λ now well. order_some One h now well more) in
-      (whole.0, (front.0, front.1, whole.1))
-
 abbrev AreSome : Including → Type 0
 AreSome Included = (include : IncludeLine) (given : Defined) → IsListed given → (name : List ℕ) → Some_of (Included include given name)
 
@@ -165,7 +137,7 @@ definition_some true d given is = fixed_some d true given is
 
 item_some : (said : Item) (given : Defined) → IsListed given → Some_of (ItemItems said given)
 item_some (item.Definition d) given is = definition_some (appends_fixed d given) d given is
-item_some (item.Rule lines) given is = (_, refl)
+item_some (item.Rule lines) given is = rule_some lines given (text_expands given is) (is_wide given.language)
 item_some (item.Special special) given is = (_, refl)
 
 kind_some : (kind : DefinitionKind) (d : Definition) (given : Defined) → IsListed given → Some_of (KindItems kind d given)
@@ -205,13 +177,13 @@ module _ (files : List ℕ → Option (List ℕ)) where
 
 -- Statements that are items give these.
 
--- the item fixes no text
-abbrev IsLoose : Item → Type 0
-IsLoose (item.Definition d) = d.is_fixed ≡ false
-IsLoose (item.Rule lines) = Unit {0}
-IsLoose (item.Special special) = Unit {0}
+-- the item fixes no text, and gives itself
+abbrev IsLoose : Profile → Item → Type 0
+IsLoose language (item.Definition d) = d.is_fixed ≡ false
+IsLoose language (item.Rule lines) = IsPlainRule language lines.prerequisites
+IsLoose language (item.Special special) = Unit {0}
 
-loose_item : (given : Defined) (one : Item) → IsLoose one → (name : List ℕ) → (given.ranks name).is_fixed ≡ false → ((with_item given one).ranks name).is_fixed ≡ false
+loose_item : (given : Defined) (one : Item) → IsLoose given.language one → (name : List ℕ) → (given.ranks name).is_fixed ≡ false → ((with_item given one).ranks name).is_fixed ≡ false
 loose_item given (item.Rule lines) loose name h = h
 loose_item given (item.Special special) loose name h = h
 loose_item given (item.Definition d) loose name h = at (bytes_eq name d.name) refl
@@ -228,40 +200,42 @@ loose_item given (item.Definition d) loose name h = at (bytes_eq name d.name) re
         ap (λ t. (cond t (marked (later.ranks d.name)) (later.ranks name)).is_fixed) e
         ∙ ap (λ t. (cond t (redefined given.language (given.ranks d.name) Makefile d.value d.append) (given.ranks name)).is_fixed) e ∙ h
 
-none_behind : (given : Defined) (one : Item) → IsLoose one → NoneFixed given → NoneFixed (behind given (one ∷ []))
+none_behind : (given : Defined) (one : Item) → IsLoose given.language one → NoneFixed given → NoneFixed (behind given (one ∷ []))
 none_behind given one loose h =
     either _ (is_wide given.language)
     (λ wide. subst NoneFixed (sym (behind_wide given (one ∷ []) wide))
     (λ name. ap (λ t. is_wide (with_item given one).language && t) (loose_item given one loose name (ap (λ w. w && (given.ranks name).is_fixed) (sym wide) ∙ h name)) ∙ and_false (is_wide (with_item given one).language)))
     (λ strict. subst NoneFixed (sym (behind_strict given (one ∷ []) strict)) h)
 
-item_given : (Included : Including) (file : List ℕ) (given : Defined) → NoneFixed given → (one : Item) → StatementItems Included file given (statement.Item one) (Ok (one ∷ []))
-item_given Included file given h (item.Definition d) =
+rule_given : (wide : Bool) (lines : Rule) (given : Defined) → (wide ≡ true → (DefinesMacro lines.prerequisites → ⊥) × Without 58 58 lines.prerequisites) → RuleItems wide lines given (Ok (item.Rule lines ∷ []))
+rule_given true lines given plain = let here = plain refl in inr (inl (here.0, here.1, refl))
+rule_given false lines given plain = refl
+
+item_given : (Included : Including) (file : List ℕ) (given : Defined) → NoneFixed given → (one : Item) → IsLoose given.language one → StatementItems Included file given (statement.Item one) (Ok (one ∷ []))
+item_given Included file given h (item.Definition d) loose =
     subst (λ t. DefinitionItems t d given (Ok (item.Definition d ∷ []))) (sym (ap (λ t. d.append && t) (h d.name) ∙ and_false d.append)) refl
-item_given Included file given h (item.Rule lines) = refl
-item_given Included file given h (item.Special special) = refl
+item_given Included file given h (item.Rule lines) loose = rule_given (is_wide given.language) lines given loose
+item_given Included file given h (item.Special special) loose = refl
 
-abbrev AreLoose : List Item → Type 0
-AreLoose [] = Unit {0}
-AreLoose (one ∷ more) = IsLoose one × AreLoose more
+abbrev AreLoose : Profile → List Item → Type 0
+AreLoose language [] = Unit {0}
+AreLoose language (one ∷ more) = IsLoose language one × AreLoose language more
 
-items_given : (Included : Including) (file : List ℕ) (given : Defined) (items : List Item) → AreLoose items → NoneFixed given → InOrder behind (StatementItems Included file) given (map statement.Item items) (Ok items)
+items_given : (Included : Including) (file : List ℕ) (given : Defined) (items : List Item) → AreLoose given.language items → NoneFixed given → InOrder behind (StatementItems Included file) given (map statement.Item items) (Ok items)
 items_given Included file given [] loose h = refl
 items_given Included file given (one ∷ more) (here, later) h =
-    (Ok (one ∷ []), item_given Included file given h one, (Ok more, items_given Included file (behind given (one ∷ [])) more later (none_behind given one here h), refl))
+    let still = subst (λ language. AreLoose language more) (sym (behind_language given (one ∷ []))) later in
+    (Ok (one ∷ []), item_given Included file given h one here, (Ok more, items_given Included file (behind given (one ∷ [])) more still (none_behind given one here h), refl))
 
-rule_loose : (special : Option SpecialName) (lines : Rule) → IsLoose (item_of special lines)
-rule_loose None lines = tt
-rule_loose (Some name) lines = tt
+plain_loose : (language : Profile) (file : List ℕ) (number : ℕ) (items : List PlainItem) → ArePlainRules language items → AreLoose language (items_on file number items)
+plain_loose language file number [] plain = tt
+plain_loose language file number (definition name append value ∷ more) plain = (refl, plain_loose language file (next number) more plain)
+plain_loose language file number (rule None targets prerequisites recipe ∷ more) (here, later) = (here, plain_loose language file (after_recipe (next number) recipe) more later)
+plain_loose language file number (rule (Some name) targets prerequisites recipe ∷ more) plain = (tt, plain_loose language file (after_recipe (next number) recipe) more plain)
 
-plain_loose : (file : List ℕ) (number : ℕ) (items : List PlainItem) → AreLoose (items_on file number items)
-plain_loose file number [] = tt
-plain_loose file number (definition name append value ∷ more) = (refl, plain_loose file (next number) more)
-plain_loose file number (rule special targets prerequisites recipe ∷ more) = (rule_loose special _, plain_loose file (after_recipe (next number) recipe) more)
-
-pub printed_given : (files : List ℕ → Option (List ℕ)) (levels : ℕ) (given : Defined) (file : List ℕ) (items : List PlainItem) → NoneFixed given → ArePlain given.language items → TextItems (AnswersOf files) levels given file (printed items) (Ok (items_on file 1 items))
-printed_given files levels given file items none plain = (
+pub printed_given : (files : List ℕ → Option (List ℕ)) (levels : ℕ) (given : Defined) (file : List ℕ) (items : List PlainItem) → NoneFixed given → ArePlain given.language items → ArePlainRules given.language items → TextItems (AnswersOf files) levels given file (printed items) (Ok (items_on file 1 items))
+printed_given files levels given file items none plain rules = (
   map statement.Item (items_on file 1 items),
   printed_read given.language file items plain,
-  items_given (IncludedItems (AnswersOf files) levels file) file given (items_on file 1 items) (plain_loose file 1 items) none,
+  items_given (IncludedItems (AnswersOf files) levels file) file given (items_on file 1 items) (plain_loose given.language file 1 items rules) none,
 )

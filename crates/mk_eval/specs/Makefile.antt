@@ -1,5 +1,5 @@
 -- The items of a text, or its first fault in the order of reading; included files are read in place.
-use Rattle.std.specs.Prelude.{◌≡◌, ℕ, zero, suc, Bool, true, false, ◌&&◌, flat_map, List, [], ◌∷◌, ◌++◌, Option, Some, None, is_some, Result, Ok, Err, Vec, if◌then◌else◌}
+use Rattle.std.specs.Prelude.{◌≡◌, ℕ, zero, suc, Bool, true, false, ◌&&◌, ◌⊎◌, List, [], ◌∷◌, ◌++◌, Option, Some, None, is_some, Result, Ok, Err, Vec, if◌then◌else◌}
 use Rattle.std.specs.declared.alloc.Global.{Global}
 use Rattle.std.specs.List.{list_any}
 use Rattle.byte_strings.specs.Blanks.{words}
@@ -11,7 +11,7 @@ use Rattle.mk_macros.specs.declared.definitions.Rank.TheVariants.{Makefile}
 use Rattle.mk_macros.specs.declared.fault.MacroFault.{MacroFault}
 use Rattle.mk_macros.specs.declared.fault.MacroFault.TheVariants as macro_fault
 use Rattle.mk_reader.specs.Text.{is_dollar}
-use Rattle.mk_reader.specs.Grammar.{refusal}
+use Rattle.mk_reader.specs.Grammar.{Without, refusal}
 use Rattle.mk_reader.specs.Statements.{AreStatements}
 use Rattle.mk_reader.specs.declared.item.Definition.{Definition}
 use Rattle.mk_reader.specs.declared.item.DefinitionKind.{DefinitionKind}
@@ -21,12 +21,17 @@ use Rattle.mk_reader.specs.declared.item.Item.TheVariants as item
 use Rattle.mk_reader.specs.declared.item.IncludeLine.{IncludeLine}
 use Rattle.mk_reader.specs.declared.item.Statement.{Statement}
 use Rattle.mk_reader.specs.declared.item.Statement.TheVariants as statement
-use Rattle.mk_reader.specs.declared.fault.Cause.TheVariants.{IncludeDepth, IncludeMissing, Macro}
+use Rattle.mk_reader.specs.declared.item.Rule.{Rule}
+use Rattle.mk_reader.specs.declared.fault.Cause.{Cause}
+use Rattle.mk_reader.specs.declared.fault.Cause.TheVariants.{IncludeDepth, IncludeMissing, Macro, Static, Unsupported}
+use Rattle.mk_reader.specs.declared.fault.Feature.TheVariants.{TargetMacro}
+use Rattle.mk_reader.specs.declared.fault.StaticCause.TheVariants.{NoPattern, ManyPatterns, Mismatch}
 use Rattle.mk_reader.specs.declared.fault.MacroCause.{MacroCause}
 use Rattle.mk_reader.specs.declared.fault.MacroCause.TheVariants as macro_cause
 use Rattle.mk_reader.specs.declared.fault.Refusal.{Refusal}
 use Rattle.mk_reader.specs.declared.fault.ReadFault.{ReadFault}
 use Rattle.mk_reader.specs.declared.fault.ReadFault.TheVariants.{OutOfMemory, Refused}
+use Rattle.mk_eval.specs.Static.{doubled, IsCutAt, DefinesMacro, with_stem, pattern_fault, rule_for}
 
 -- the items of a text, or its first fault
 abbrev pub Outcome : Type 0
@@ -95,13 +100,6 @@ abbrev pub NamedItems : (Defined → List ℕ → Outcome → Type 0) → (file 
 NamedItems Included file include given (gives names) outcome = InOrder behind Included given (words names) outcome
 NamedItems Included file include given (fails fault) outcome = outcome ≡ Err (refusal file include.line (Macro (cause_of fault)))
 
--- the text with each `$` doubled, which expands to it
-abbrev pub doubled_byte : ℕ → List ℕ
-doubled_byte b = if is_dollar b then 36 ∷ b ∷ [] else b ∷ []
-
-abbrev pub doubled : List ℕ → List ℕ
-doubled text = flat_map doubled_byte text
-
 -- the definition with the text that its own came to, which is not expanded again, or the fault
 abbrev pub fixed_as : Definition → (is_fixed : Bool) → expansion.Outcome → Outcome
 fixed_as d is_fixed (gives text) = Ok (item.Definition (record d { value = doubled text; is_fixed = is_fixed }) ∷ [])
@@ -131,10 +129,67 @@ appends_fixed d given = d.append && (is_wide given.language && (given.ranks d.na
 abbrev pub NoneFixed : Defined → Type 0
 NoneFixed given = (name : List ℕ) → (is_wide given.language && (given.ranks name).is_fixed) ≡ false
 
+-- Rules
+
+-- the rule's line is refused
+abbrev pub refused_rule : Rule → Cause → Outcome
+refused_rule rule why = Err (refusal rule.file rule.line why)
+
+-- what a static pattern rule gives for one target: a rule of its own where the target is the pattern with a stem
+abbrev pub TargetItems : Rule → (pattern : List ℕ) (prerequisites : List (List ℕ)) → (target : List ℕ) → Outcome → Type 0
+TargetItems rule pattern prerequisites target outcome =
+    ((stem : List ℕ) × (target ≡ with_stem stem pattern) × (outcome ≡ Ok (item.Rule (rule_for rule target stem prerequisites) ∷ [])))
+    ⊎ (((stem : List ℕ) → target ≡ with_stem stem pattern → ⊥) × (outcome ≡ refused_rule rule (Static (Mismatch target))))
+
+-- rules define nothing
+abbrev pub unmoved : Unit {0} → List Item → Unit {0}
+unmoved world items = world
+
+-- what it gives for its targets, in their order
+abbrev pub EachTarget : Rule → (pattern : List ℕ) (prerequisites targets : List (List ℕ)) → Outcome → Type 0
+EachTarget rule pattern prerequisites targets outcome = InOrder unmoved (λ _. TargetItems rule pattern prerequisites) tt targets outcome
+
+abbrev pub JudgedItems : Option Cause → Rule → (pattern : List ℕ) (prerequisites targets : List (List ℕ)) → Outcome → Type 0
+JudgedItems (Some why) rule pattern prerequisites targets outcome = outcome ≡ refused_rule rule why
+JudgedItems None rule pattern prerequisites targets outcome = EachTarget rule pattern prerequisites targets outcome
+
+-- it has one target pattern
+abbrev pub PatternItems : Rule → (targets patterns prerequisites : List (List ℕ)) → Outcome → Type 0
+PatternItems rule targets [] prerequisites outcome = outcome ≡ refused_rule rule (Static NoPattern)
+PatternItems rule targets (pattern ∷ []) prerequisites outcome = JudgedItems (pattern_fault targets pattern prerequisites) rule pattern prerequisites targets outcome
+PatternItems rule targets (one ∷ other ∷ more) prerequisites outcome = outcome ≡ refused_rule rule (Static ManyPatterns)
+
+-- a fault of an expansion is told with the rule's line; behind a text comes what Rest allows
+abbrev pub Behind : Rule → expansion.Outcome → (List ℕ → Outcome → Type 0) → Outcome → Type 0
+Behind rule (gives text) Rest outcome = Rest text outcome
+Behind rule (fails fault) Rest outcome = outcome ≡ refused_rule rule (Macro (cause_of fault))
+
+-- a text of the rule's line is expanded with what is defined above it
+abbrev pub WithText : Rule → Defined → (text : List ℕ) → (List ℕ → Outcome → Type 0) → Outcome → Type 0
+WithText rule given text Rest outcome = (told : expansion.Outcome) × ExpandsTo (rule_meanings given) text told × Behind rule told Rest outcome
+
+-- what a static pattern rule gives whose second `:` stands between these texts
+abbrev pub StaticItems : Rule → (left right : List ℕ) → Defined → Outcome → Type 0
+StaticItems rule left right given outcome =
+    WithText rule given rule.targets (λ targets. WithText rule given left (λ patterns. WithText rule given right (λ prerequisites.
+    PatternItems rule (words targets) (words patterns) (words prerequisites)))) outcome
+
+-- what a rule of the wide profile gives: the rule, or what a static pattern rule gives. The second `:` is one that stands in the
+-- makefile outside references (own: GNU make sees also one that comes out of a macro)
+abbrev pub WideRuleItems : Rule → Defined → Outcome → Type 0
+WideRuleItems rule given outcome =
+    (DefinesMacro rule.prerequisites × (outcome ≡ refused_rule rule (Unsupported TargetMacro)))
+    ⊎ (((DefinesMacro rule.prerequisites → ⊥) × Without 58 58 rule.prerequisites × (outcome ≡ Ok (item.Rule rule ∷ [])))
+    ⊎ ((DefinesMacro rule.prerequisites → ⊥) × (left : List ℕ) × (right : List ℕ) × IsCutAt 58 rule.prerequisites left right × StaticItems rule left right given outcome))
+
+abbrev pub RuleItems : (wide : Bool) → Rule → Defined → Outcome → Type 0
+RuleItems true rule given outcome = WideRuleItems rule given outcome
+RuleItems false rule given outcome = outcome ≡ Ok (item.Rule rule ∷ [])
+
 -- what an item gives
 abbrev pub ItemItems : Item → Defined → Outcome → Type 0
 ItemItems (item.Definition d) given outcome = DefinitionItems (appends_fixed d given) d given outcome
-ItemItems (item.Rule rule) given outcome = outcome ≡ Ok (item.Rule rule ∷ [])
+ItemItems (item.Rule rule) given outcome = RuleItems (is_wide given.language) rule given outcome
 ItemItems (item.Special special) given outcome = outcome ≡ Ok (item.Special special ∷ [])
 
 -- what a statement of the file gives; Included says it of a name on an include line
@@ -196,3 +251,9 @@ abbrev pub IsNamesFault : Defined → (file : List ℕ) → IncludeLine → Read
 IsNamesFault given file include OutOfMemory = Unit {0}
 IsNamesFault given file include (Refused refused) =
     (fault : expansion.Fault) × LineNames given include.names (fails fault) × (refused ≡ refusal file include.line (Macro (cause_of fault)))
+
+-- the fault of a text of a rule's line
+abbrev pub IsTextFault : Defined → Rule → (text : List ℕ) → ReadFault → Type 0
+IsTextFault given rule text OutOfMemory = Unit {0}
+IsTextFault given rule text (Refused refused) =
+    (fault : expansion.Fault) × ExpandsTo (rule_meanings given) text (fails fault) × (refused ≡ refusal rule.file rule.line (Macro (cause_of fault)))

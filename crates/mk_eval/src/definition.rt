@@ -1,37 +1,16 @@
 //! Definitions that count by what stands above them.
-ghost use Rattle.std.specs.Prelude.{◌≡◌, [], ◌∷◌, ◌++◌, IfOk, OnOk};
+ghost use Rattle.std.specs.Prelude.{◌≡◌, [], ◌∷◌, IfOk};
 ghost use Rattle.mk_macros.specs.Ranks.{defined_by};
-ghost use Rattle.mk_eval.specs.Makefile.{behind, GivesItem, GivesItems, KindItems, ItemItems, FixedItems, doubled_byte, doubled};
+ghost use Rattle.mk_eval.specs.Makefile.{behind, GivesItem, GivesItems, KindItems, ItemItems, FixedItems};
 
+use crate::doubled::doubled;
 use crate::names::follow;
 use crate::refuse::refuse_text;
+use crate::rule::evaluate_rule;
 use byte_strings::ByteString;
 use mk_macros::{Dynamic, Macros};
 use mk_reader::{Definition, DefinitionKind, DefinitionLine, Item, ReadFault};
 use std::alloc::{AllocError, Global};
-
-fn push_doubled(out: &mut Vec<u8>, byte: u8) -> Result<(), AllocError>
-    ensures { OnOk result (out.new.items ≡ out.old.items ++ doubled_byte byte) }
-{
-    if byte == b'$' {
-        out.push(b'$')?;
-    }
-    out.push(byte)?;
-    Ok(())
-}
-
-/// The text with each `$` doubled, which expands to it.
-fn doubled(alloc: Global, text: &[u8]) -> Result<Vec<u8>, AllocError>
-    ensures { IfOk result (λ v. v.items ≡ doubled text.now) }
-{
-    let mut out = Vec::new(alloc);
-    let mut rest = text;
-    while let Some((byte, after)) = rest.split_first() {
-        push_doubled(&mut out, *byte)?;
-        rest = after;
-    }
-    Ok(out)
-}
 
 /// The definition with its text expanded where it stands.
 fn fixed(
@@ -59,7 +38,7 @@ fn fixed(
 }
 
 /// The item alone, which is taken into the macros.
-fn take(alloc: Global, item: Item, macros: &mut Macros) -> Result<Vec<Item>, AllocError>
+pub fn take(alloc: Global, item: Item, macros: &mut Macros) -> Result<Vec<Item>, AllocError>
     ensures items { IfOk result (λ items. items.items ≡ item ∷ []) }
     ensures defined { IfOk result (λ items. defined_by macros.new ≡ behind (defined_by macros.old) items.items) }
 {
@@ -118,7 +97,7 @@ pub fn evaluate_item(alloc: Global, item: Item, macros: &mut Macros) -> Result<V
             }
             Ok(take(alloc, Item::Definition(definition), macros)?)
         }
-        Item::Rule(rule) => Ok(take(alloc, Item::Rule(rule), macros)?),
+        Item::Rule(rule) => evaluate_rule(alloc, rule, macros),
         Item::Special(special) => Ok(take(alloc, Item::Special(special), macros)?),
     }
 }

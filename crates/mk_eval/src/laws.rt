@@ -6,7 +6,9 @@ ghost use Rattle.mk_macros.specs.Ranks.{Defined, Listed, defined_by};
 ghost use Rattle.mk_reader.specs.Printed.{PlainItem, ArePlain, printed, items_on};
 ghost use Rattle.mk_reader.specs.declared.fault.ReadFault.{ReadFault};
 ghost use Rattle.mk_reader.specs.declared.item.Item.{Item};
-ghost use Rattle.mk_eval.specs.Makefile.{Outcome, GivesItems, AnswersOf, NoneFixed, doubled, TextItems};
+ghost use Rattle.mk_eval.specs.Static.{doubled};
+ghost use Rattle.mk_eval.specs.Makefile.{Outcome, GivesItems, AnswersOf, NoneFixed, TextItems};
+ghost use Rattle.mk_eval.specs.PlainRules.{ArePlainRules};
 
 /// With the files' contents, and what is defined before it is read, a text has at most one outcome in its language.
 pub fn one_outcome()
@@ -37,9 +39,9 @@ pub fn the_outcome_is_given()
 {}
 
 /// A makefile that is printed from items that are plain in its language is read back as these, whatever other files hold
-/// and is defined, where no text is fixed.
+/// and is defined, where no text is fixed. In the wide profile no rule has a second `:` or defines a macro.
 pub fn printed_items_are_read_back()
     ensures { (files : List ℕ → Option (List ℕ)) (levels : ℕ) (given : Defined) (file : List ℕ) (items : List PlainItem)
-        → NoneFixed given → ArePlain given.language items
+        → NoneFixed given → ArePlain given.language items → ArePlainRules given.language items
         → TextItems (AnswersOf files) levels given file (printed items) (Ok (items_on file 1 items)) }
 {}

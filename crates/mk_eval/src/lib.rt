@@ -3,11 +3,15 @@
 #![tactic(auto)]
 
 mod definition;
+mod doubled;
 mod includes;
 pub mod laws;
 mod makefile;
 mod names;
 mod refuse;
+mod rule;
+mod static_rule;
+mod stem;
 
 pub use includes::Includes;
 pub use makefile::{MAX_INCLUDE_DEPTH, read_makefile};

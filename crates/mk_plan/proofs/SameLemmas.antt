@@ -16,7 +16,7 @@ use Rattle.mk_macros.specs.Ranks.{Defined, defined_by, in_force, meaning_from}
 use Rattle.mk_macros.specs.declared.dynamic.RecipeNames.{RecipeNames}
 use Rattle.mk_macros.proofs.OutcomeLemmas.{expands_once}
 use Rattle.mk_reader.specs.declared.item.RecipeLine.{RecipeLine}
-use Rattle.mk_recipe.specs.Line.{IsLine, IsExempt}
+use Rattle.mk_recipe.specs.Line.{IsLine, IsExempt, IsAlwaysRun}
 use Rattle.mk_recipe.specs.declared.line.Line.{Line}
 use Rattle.mk_recipe.proofs.RecordedLemmas.{same_records}
 use Rattle.mk_verdict.specs.Told.{name_in}
@@ -97,15 +97,19 @@ same_line profile raw expansion a b of_a of_b =
     let printed : a.is_printed ≡ b.is_printed = of_a.printed ∙ sym of_b.printed in
     let ignored : a.is_ignored ≡ b.is_ignored = of_a.ignored ∙ sym of_b.ignored in
     let exempt : a.is_exempt ≡ b.is_exempt = same_tests (IsExempt profile raw.text expansion) a.is_exempt b.is_exempt of_a.exempt of_b.exempt in
+    let always : a.is_always_run ≡ b.is_always_run = same_tests (IsAlwaysRun profile raw.text expansion) a.is_always_run b.is_always_run of_a.always of_b.always in
     let first : a ≡ record a { text = b.text } = ap (λ t. record a { text = t }) text in
     let second : record a { text = b.text } ≡ record a { text = b.text; is_printed = b.is_printed } =
     ap (λ p. record a { text = b.text; is_printed = p }) printed in
     let third : record a { text = b.text; is_printed = b.is_printed }
     ≡ record a { text = b.text; is_printed = b.is_printed; is_ignored = b.is_ignored } =
     ap (λ i. record a { text = b.text; is_printed = b.is_printed; is_ignored = i }) ignored in
-    let fourth : record a { text = b.text; is_printed = b.is_printed; is_ignored = b.is_ignored } ≡ b =
+    let fourth : record a { text = b.text; is_printed = b.is_printed; is_ignored = b.is_ignored }
+    ≡ record a { text = b.text; is_printed = b.is_printed; is_ignored = b.is_ignored; is_exempt = b.is_exempt } =
     ap (λ x. record a { text = b.text; is_printed = b.is_printed; is_ignored = b.is_ignored; is_exempt = x }) exempt in
-    first ∙ second ∙ third ∙ fourth
+    let fifth : record a { text = b.text; is_printed = b.is_printed; is_ignored = b.is_ignored; is_exempt = b.is_exempt } ≡ b =
+    ap (λ r. record a { text = b.text; is_printed = b.is_printed; is_ignored = b.is_ignored; is_exempt = b.is_exempt; is_always_run = r }) always in
+    first ∙ second ∙ third ∙ fourth ∙ fifth
 
 same_expanded : (meanings : Meanings) (raw : RecipeLine) (a b : Line) → IsExpandedLine meanings raw a → IsExpandedLine meanings raw b → a ≡ b
 same_expanded meanings raw a b of_a of_b =

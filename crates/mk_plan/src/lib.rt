@@ -13,7 +13,7 @@ mod why;
 mod words;
 
 pub use laws::{nodes_by_name, one_passing};
-pub use nodes::explicit_of;
+pub use nodes::{explicit_of, name_of};
 pub use passing::{Passed, pass};
 pub use telling::{Telling, told_lines, why_lines};
 pub use why::Why;

@@ -1,32 +1,25 @@
 -- The form of each line is what the grammar says, and nothing else is as the grammar says.
 use Rattle.std.proofs.Common.{◌≡◌, ℕ, suc, ◌+◌, Bool, true, false, cond, not, ◌&&◌, ◌||◌, List, [], ◌∷◌, length, drop, refl, sym, ap, subst, ◌∙◌, inl, inr, arith, Option, Some, None, Ok, Err}
-use Rattle.std.specs.List.{list_any, list_all, prefix_len, before_first}
+use Rattle.std.specs.List.{list_any, list_all, prefix_len}
 use Rattle.byte_strings.specs.Blanks.{is_blank, trimmed_start, trimmed, first_word}
 use Rattle.mk_profile.specs.Profile.{is_wide}
 use Rattle.mk_profile.specs.declared.profile.Profile.{Profile}
-use Rattle.mk_reader.specs.Text.{is_hash, is_dollar, is_empty, begins_with, is_text}
-use Rattle.mk_reader.specs.Grammar.{refusal, is_bad_include, IsIncludeForm, IsLine, HasContent, IsTextLine, IsRecipeLine, IsOfKind, IsForm}
+use Rattle.mk_reader.specs.Text.{is_dollar, is_empty, is_text}
+use Rattle.mk_reader.specs.Grammar.{refusal, is_bad_include, IsIncludeForm, IsLine, IsTextLine, IsRecipeLine, IsOfKind, IsForm}
 use Rattle.mk_reader.specs.Directive.{told_as}
-use Rattle.mk_reader.specs.Form.{include_kind, include_form, opened_form, decided_form, first_outside, line_form, statement_form, recipe_form, form_of}
+use Rattle.mk_reader.specs.Form.{include_kind, include_form, opened_form, decided_form, first_outside, line_form, content_in, content_form, statement_form, recipe_form, form_of}
 use Rattle.mk_reader.specs.declared.fault.Feature.TheVariants as feature
 use Rattle.mk_reader.specs.declared.fault.Cause.TheVariants as cause
 use Rattle.mk_reader.specs.declared.line.LogicalLine.{LogicalLine}
 use Rattle.mk_reader.specs.declared.form.Place.TheVariants.{Outside}
 use Rattle.mk_reader.specs.declared.form.Form.TheVariants as form
 use Rattle.mk_reader.proofs.ReferenceLemmas.{either, said}
-use Rattle.mk_reader.proofs.BlankLemmas.{starts, trimmed_is, trimmed_padded, before_first_is, before_first_cuts}
+use Rattle.mk_reader.proofs.BlankLemmas.{trimmed_is, trimmed_padded}
 use Rattle.mk_reader.proofs.CutLemmas.{Told, by_test, empty_is}
+use Rattle.mk_reader.proofs.ContentLemmas.{content_said, content_is}
 use Rattle.mk_reader.proofs.WordLemmas.{opens_kind, kind_opens, include_some}
 use Rattle.mk_reader.proofs.SaidLemmas.{decided_said}
 use Rattle.mk_reader.proofs.SpelledLemmas.{statement_back}
-
-hash_start : (rest : List ℕ) → (is_empty rest || starts is_hash rest) ≡ true → (is_empty rest || begins_with 35 rest) ≡ true
-hash_start [] h = h
-hash_start (b ∷ bs) h = h
-
-pub hash_start_back : (rest : List ℕ) → (is_empty rest || begins_with 35 rest) ≡ true → (is_empty rest || starts is_hash rest) ≡ true
-hash_start_back [] h = h
-hash_start_back (b ∷ bs) h = h
 
 blank_start : (names : List ℕ) → is_empty (trimmed_start names) ≡ list_all is_blank names
 unfolding trimmed_start
@@ -99,24 +92,21 @@ module _ (file : List ℕ) (number : ℕ) (profile : Profile) where
       no_word None e = e
 
   text_said : (text : List ℕ) → IsTextLine profile file number text (statement_form profile file number text)
-  unfolding statement_form
+  unfolding statement_form content_form
   text_said text =
-      let cut = before_first_cuts is_hash text in
-      let content = before_first is_hash text in
-      let has : HasContent text content = (cut.0, cut.1.0, cut.1.1, hash_start cut.0 cut.1.2) in
+      let content = content_in (is_wide profile) text in
+      let has = content_said profile text in
       by_test (IsTextLine profile file number text) (is_text content) _ _
       (λ t. (content, has, inr (t, (trimmed content, trimmed_padded content, line_said (trimmed content)))))
       (λ f. (content, has, inl (f, refl)))
 
   text_back : (text : List ℕ) (told : Told) → IsTextLine profile file number text told → statement_form profile file number text ≡ told
-  unfolding statement_form
+  unfolding statement_form content_form
   text_back text told (content, has, inl (bad, e)) =
-      let same : before_first is_hash text ≡ content = before_first_is is_hash text content has.0 (has.1, has.2, hash_start_back has.0 has.3) in
-      ap (λ c. cond (is_text c) (line_form profile file number (trimmed c)) (Err (refusal file number cause.NotText))) same
+      ap (λ c. cond (is_text c) (line_form profile file number (trimmed c)) (Err (refusal file number cause.NotText))) (content_is profile text content has)
       ∙ ap (λ t. cond t (line_form profile file number (trimmed content)) (Err (refusal file number cause.NotText))) bad ∙ sym e
   text_back text told (content, has, inr (good, (line, padded, h))) =
-      let same : before_first is_hash text ≡ content = before_first_is is_hash text content has.0 (has.1, has.2, hash_start_back has.0 has.3) in
-      ap (λ c. cond (is_text c) (line_form profile file number (trimmed c)) (Err (refusal file number cause.NotText))) same
+      ap (λ c. cond (is_text c) (line_form profile file number (trimmed c)) (Err (refusal file number cause.NotText))) (content_is profile text content has)
       ∙ ap (λ t. cond t (line_form profile file number (trimmed content)) (Err (refusal file number cause.NotText))) good
       ∙ ap (line_form profile file number) (trimmed_is content line padded) ∙ line_back line told h
 

@@ -1,5 +1,6 @@
 pub mod BlankLemmas
 pub mod ConditionalLemmas
+pub mod ContentLemmas
 pub mod CutLemmas
 pub mod FormLemmas
 pub mod GrammarLemmas

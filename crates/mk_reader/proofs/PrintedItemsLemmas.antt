@@ -1,11 +1,11 @@
 -- A makefile that is printed from plain items is read back as these.
-use Rattle.std.proofs.Common.{◌≡◌, ℕ, ◌+◌, ◌%◌, Bool, true, false, cond, ◌&&◌, ◌==◌, List, [], ◌∷◌, ◌++◌, drop, map, reverse, flat_map, refl, sym, ap, subst, ◌∙◌, inl, inr, append-nil, Option, Some, Ok}
+use Rattle.std.proofs.Common.{◌≡◌, ℕ, ◌+◌, ◌%◌, Bool, true, false, cond, ◌&&◌, ◌==◌, List, [], ◌∷◌, ◌++◌, drop, map, reverse, flat_map, refl, sym, ap, subst, ◌∙◌, inl, inr, append-nil, Some, Ok}
 use Rattle.std.specs.List.{prefix_len, onto_first}
 use Rattle.std.proofs.lemmas.Str.{is_utf8-from_IsUtf8, IsUtf8-nil}
 use Rattle.mk_profile.specs.declared.profile.Profile.{Profile}
 use Rattle.mk_reader.specs.Text.{is_backslash, begins_with, without_last, is_text}
 use Rattle.mk_reader.specs.Lines.{Physical, spelling, goes_on, body, opening, groups, logical_line, numbered, logical_lines}
-use Rattle.mk_reader.specs.Grammar.{begins_blank, IsForm}
+use Rattle.mk_reader.specs.Grammar.{begins_blank, HasContent, IsForm}
 use Rattle.mk_reader.specs.Spelling.{ArePhysical}
 use Rattle.mk_reader.specs.Printed.{line_of_text, definition_text, rule_text, definition_on, rule_on, sign, spaced, PlainItem, definition, rule, lines_of, printed, IsOwnLine, IsPlainRecipe, ArePlain, next, recipe_on, after_recipe, items_on}
 use Rattle.mk_reader.specs.Statements.{RecipeBelow, LineStatements, AreStatements}
@@ -19,6 +19,7 @@ use Rattle.mk_reader.proofs.LinesLemmas.{logical_line-is}
 use Rattle.mk_reader.proofs.SplitLemmas.{ended_before, last_ends, lines_are_back}
 use Rattle.mk_reader.proofs.PrintedLemmas.{begins_more, no_blank_first, definition_read, rule_read}
 use Rattle.mk_reader.proofs.StatementLemmas.{recipe_some}
+use Rattle.mk_reader.proofs.ContentLemmas.{alone, content_said}
 
 -- The physical lines of a printed text
 
@@ -139,7 +140,7 @@ unfolding is_text
 empty_text = ap (λ t. t && true) (is_utf8-from_IsUtf8 [] IsUtf8-nil)
 
 blank_read : (profile : Profile) (file : List ℕ) (number : ℕ) → IsForm profile file (line_of_text number []) (Ok form.Blank)
-blank_read profile file number = ([], ([], refl, refl, refl), inr (empty_text, ([], ([], [], refl, refl, refl, refl, refl), inl (refl, refl))))
+blank_read profile file number = ([], subst (HasContent profile []) (alone profile [] refl) (content_said profile []), inr (empty_text, ([], ([], [], refl, refl, refl, refl, refl), inl (refl, refl))))
 
 module _ (profile : Profile) (file : List ℕ) where
   none_below : (number : ℕ) (items : List PlainItem) → ArePlain profile items → RecipeBelow profile file (plain_lines number items) []

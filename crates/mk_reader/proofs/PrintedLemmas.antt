@@ -1,21 +1,22 @@
 -- Plain lines are read back as what they were printed of, and a comment changes nothing.
-use Rattle.std.proofs.Common.{◌≡◌, ℕ, Bool, true, false, ◌||◌, ◌==◌, List, [], ◌∷◌, ◌++◌, reverse, flat_map, refl, sym, ap, subst, ◌∙◌, inr, append_assoc, append-nil, Option, None, Result, Ok, codes}
+use Rattle.std.proofs.Common.{◌≡◌, ℕ, Bool, true, false, ◌&&◌, ◌||◌, ◌==◌, List, [], ◌∷◌, ◌++◌, reverse, flat_map, refl, sym, ap, subst, ◌∙◌, inr, append_assoc, append-nil, Option, None, Result, Ok}
 use Rattle.std.specs.List.{list_any}
 use Rattle.std.proofs.lemmas.List.{reverse-append}
 use Rattle.std.proofs.lemmas.List.Folds.{list_any-append}
 use Rattle.byte_strings.specs.Blanks.{is_blank, first_word}
+use Rattle.mk_profile.specs.Profile.{is_wide}
 use Rattle.mk_profile.specs.declared.profile.Profile.{Profile}
-use Rattle.mk_reader.specs.Text.{is_hash, is_empty, begins_with, is_text}
+use Rattle.mk_reader.specs.Text.{is_empty, begins_with, ends_with, is_text}
 use Rattle.mk_reader.specs.Grammar.{Piece, plain, piece_text, IsPiece, ArePieces, nothing, Lacks, Whole, Without, begins_blank, Padded, BeginsWithWord, BeginsInclude, IsNoInclude, SpellsName, SpellsAssignment, SpellsDefinition, SpellsColon, IsRuleEnd, SpellsEnd, SpellsRule, HasSpecial, is_refused_with, IsStatement, HasContent, IsTextLine, IsForm}
+use Rattle.mk_reader.specs.Form.{content_in}
 use Rattle.mk_reader.specs.Printed.{line_of_text, HasBareEnds, IsPlainName, IsPlainValue, ArePlainTargets, ArePlainPrerequisites, sign, spaced, definition_text, rule_text, definition_on, rule_on}
 use Rattle.mk_reader.specs.declared.special.SpecialName.{SpecialName}
 use Rattle.mk_reader.specs.declared.fault.Refusal.{Refusal}
 use Rattle.mk_reader.specs.declared.form.Form.{Form}
 use Rattle.mk_reader.specs.declared.form.Form.TheVariants as form
 use Rattle.mk_reader.proofs.ReferenceLemmas.{or_false}
-use Rattle.mk_reader.proofs.BlankLemmas.{starts, before_first_is}
 use Rattle.mk_reader.proofs.WordLemmas.{word_is, begins_with_first_word, include_bare}
-use Rattle.mk_reader.proofs.GrammarLemmas.{hash_start_back}
+use Rattle.mk_reader.proofs.ContentLemmas.{content_said, content_is, alone, commented}
 
 abbrev Told : Type 0
 Told = Result Form Refusal
@@ -97,7 +98,7 @@ without_spaced (b ∷ bs) w = (plain 32 ∷ w.0, w.1, ap (λ xs. 32 ∷ xs) w.2,
 itself_read : (profile : Profile) (file : List ℕ) (number : ℕ) (text : List ℕ) (f : Form) → Lacks 35 text → is_text text ≡ true → HasBareEnds text → is_empty text ≡ false → IsNoInclude profile text → IsStatement profile file number text (Ok f) →
     IsTextLine profile file number text (Ok f)
 itself_read profile file number text f hash good bare some none is =
-    (text, ([], sym (append-nil text), hash, refl), inr (good, (text, padded_itself text bare, inr (inr (some, none, (Ok f, is, refl))))))
+    (text, subst (HasContent profile text) (alone profile text hash) (content_said profile text), inr (good, (text, padded_itself text bare, inr (inr (some, none, (Ok f, is, refl))))))
 
 -- a line whose words before a space begin no include line is none
 no_include : (profile : Profile) (front rest : List ℕ) → ((word : List ℕ) (required : Bool) → BeginsInclude profile word required → BeginsWithWord front word → ⊥) → IsNoInclude profile (front ++ 32 ∷ rest)
@@ -136,9 +137,17 @@ whole_before : (name : List ℕ) (append : Bool) → Whole 61 58 name → Whole 
 whole_before name false w = whole_more 61 58 name 32 w refl refl
 whole_before name true w = whole_more 61 58 (name ++ 32 ∷ []) 43 (whole_more 61 58 name 32 w refl refl) refl refl
 
+never : (t : Bool) → (t && false) ≡ false
+never true = refl
+never false = refl
+
 no_question : (name : List ℕ) (append : Bool) → begins_with 63 (reverse (before_sign name append)) ≡ false
 no_question name false = last_is 63 name 32
 no_question name true = last_is 63 (name ++ 32 ∷ []) 43
+
+no_mark : (profile : Profile) (name : List ℕ) (append : Bool) → (is_wide profile && begins_with 33 (reverse (before_sign name append))) ≡ false
+no_mark profile name false = ap (λ t. is_wide profile && t) (last_is 33 name 32) ∙ never (is_wide profile)
+no_mark profile name true = ap (λ t. is_wide profile && t) (last_is 33 (name ++ 32 ∷ []) 43) ∙ never (is_wide profile)
 
 name_spelled : (name : List ℕ) (append : Bool) → HasBareEnds name → SpellsName (before_sign name append) name append
 name_spelled name false h = (last_is 43 name 32, padded_space name h)
@@ -175,8 +184,8 @@ definition_read profile file name value number append n v good =
       begins_more name (sign append ++ spaced value) n.0 bare.0,
       ends_more name (sign append ++ spaced value) (signed_some append value) (signed_end append value v.1.1),
     ) in
-    let assigns : SpellsAssignment text (before_sign name append) (spaced value) = (sign_cuts name value append, whole_before name append n.3, no_question name append) in
-    let spells : SpellsDefinition text name append value =
+    let assigns : SpellsAssignment profile text (before_sign name append) (spaced value) = (sign_cuts name value append, whole_before name append n.3, no_question name append, no_mark profile name append) in
+    let spells : SpellsDefinition profile text name append value =
     (before_sign name append, spaced value, assigns, name_spelled name append bare, n.0, n.1, padded_spaced value v.1) in
     let none : IsNoInclude profile text = subst (λ xs. IsNoInclude profile (name ++ xs)) (sym behind.1) (no_include profile name behind.0 (plain_no_include profile name n)) in
     itself_read profile file number text _ (lacks_both 35 name (sign append ++ spaced value) n.2 (signed_plain append value v.0)) good ends
@@ -215,24 +224,20 @@ rule_read profile file targets prerequisites number special t p has taken good =
 
 -- Comments
 
--- what stands before a comment is found, whatever the comment is
-content_is : (text content comment : List ℕ) → Lacks 35 text → (is_empty comment || begins_with 35 comment) ≡ true → HasContent (text ++ comment) content → text ≡ content
-content_is text content comment none starts has =
-    sym (before_first_is is_hash (text ++ comment) text comment (refl, none, hash_start_back comment starts))
-    ∙ before_first_is is_hash (text ++ comment) content has.0 (has.1, has.2, hash_start_back has.0 has.3)
+-- lines that hold the same are told the same
+same_content : (profile : Profile) (file : List ℕ) (number : ℕ) (one other : List ℕ) (told : Told) → content_in (is_wide profile) one ≡ content_in (is_wide profile) other →
+    IsTextLine profile file number one told → IsTextLine profile file number other told
+same_content profile file number one other told same (content, has, is) =
+    let at : content_in (is_wide profile) other ≡ content = sym same ∙ content_is profile one content has in
+    (content, subst (HasContent profile other) at (content_said profile other), is)
 
-other_comment : (profile : Profile) (file : List ℕ) (number : ℕ) (text one other : List ℕ) (told : Told) → Lacks 35 text → (is_empty one || begins_with 35 one) ≡ true → (is_empty other || begins_with 35 other) ≡ true →
-    IsTextLine profile file number (text ++ one) told → IsTextLine profile file number (text ++ other) told
-other_comment profile file number text one other told none starts also h =
-    let same : text ≡ h.0 = content_is text h.0 one none starts h.1 in
-    (h.0, (other, ap (λ xs. xs ++ other) same, ap (list_any (λ b. b == 35)) (sym same) ∙ none, also), h.2)
+comment_alike : (profile : Profile) (text comment : List ℕ) → Lacks 35 text → (is_wide profile && ends_with 92 text) ≡ false → content_in (is_wide profile) (text ++ 35 ∷ comment) ≡ content_in (is_wide profile) text
+comment_alike profile text comment none bare = commented profile text (35 ∷ comment) none refl bare ∙ sym (alone profile text none)
 
-pub comment_dropped : (profile : Profile) (file : List ℕ) (number : ℕ) (text comment : List ℕ) (told : Told) → Lacks 35 text →
+pub comment_dropped : (profile : Profile) (file : List ℕ) (number : ℕ) (text comment : List ℕ) (told : Told) → Lacks 35 text → (is_wide profile && ends_with 92 text) ≡ false →
     IsForm profile file (line_of_text number (text ++ 35 ∷ comment)) told → IsForm profile file (line_of_text number text) told
-comment_dropped profile file number text comment told none h =
-    subst (λ xs. IsTextLine profile file number xs told) (append-nil text) (other_comment profile file number text (35 ∷ comment) [] told none refl refl h)
+comment_dropped profile file number text comment told none bare h = same_content profile file number (text ++ 35 ∷ comment) text told (comment_alike profile text comment none bare) h
 
-pub comment_added : (profile : Profile) (file : List ℕ) (number : ℕ) (text comment : List ℕ) (told : Told) → Lacks 35 text →
+pub comment_added : (profile : Profile) (file : List ℕ) (number : ℕ) (text comment : List ℕ) (told : Told) → Lacks 35 text → (is_wide profile && ends_with 92 text) ≡ false →
     IsForm profile file (line_of_text number text) told → IsForm profile file (line_of_text number (text ++ 35 ∷ comment)) told
-comment_added profile file number text comment told none h =
-    other_comment profile file number text [] (35 ∷ comment) told none refl refl (subst (λ xs. IsTextLine profile file number xs told) (sym (append-nil text)) h)
+comment_added profile file number text comment told none bare h = same_content profile file number text (text ++ 35 ∷ comment) told (sym (comment_alike profile text comment none bare)) h

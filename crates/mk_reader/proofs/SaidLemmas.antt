@@ -11,7 +11,7 @@ use Rattle.mk_profile.specs.declared.profile.Profile.{Profile}
 use Rattle.mk_reader.specs.Text.{is_empty, begins_with, ends_with, without_last}
 use Rattle.mk_reader.specs.Special.{special_name}
 use Rattle.mk_reader.specs.Grammar.{Whole, Padded, AllBlank, SpellsName, SpellsAssignment, SpellsSign, SpellsColon, IsShell, IsRuleEnd, SpellsEnd, SpellsRule, HasSpecial, is_refused_with, refusal, first_line, IsStatement}
-use Rattle.mk_reader.specs.Form.{first_outside, defined_as, is_no_name, named_form, kind_form, optional_form, definition_form, prerequisites_of, recipe_of, judged_form, rule_form, begins_shell_definition, double_form, set_form, colon_form, decided_form}
+use Rattle.mk_reader.specs.Form.{first_outside, defined_as, is_no_name, named_form, kind_form, optional_form, assigned_form, definition_form, prerequisites_of, recipe_of, judged_form, rule_form, begins_shell_definition, double_form, set_form, colon_form, decided_form}
 use Rattle.mk_reader.specs.declared.special.SpecialName.{SpecialName}
 use Rattle.mk_reader.specs.declared.item.DefinitionKind.{DefinitionKind}
 use Rattle.mk_reader.specs.declared.item.DefinitionKind.TheVariants.{IfUndefined, AtOnce, AtOnceAlone}
@@ -49,10 +49,14 @@ shell_back right (blanks, rest, e, blank) =
     ap (λ xs. bytes_eq (take 2 xs) (codes "sh") && begins_with 61 (trimmed_start (drop 2 xs))) e
     ∙ ap (begins_with 61) (trimmed_start_of blanks (61 ∷ rest) blank refl)
 
+both : (a b : Bool) → (a && b) ≡ true → (a ≡ true) × (b ≡ true)
+both true b h = (refl, h)
+both false b h = absurd (cc h)
+
 module _ (file : List ℕ) (number : ℕ) (profile : Profile) where
   -- Definitions
 
-  named_said : (line left right name : List ℕ) (append : Bool) → SpellsAssignment line left right → SpellsName left name append →
+  named_said : (line left right name : List ℕ) (append : Bool) → SpellsAssignment profile line left right → SpellsName left name append →
       IsStatement profile file number line (named_form file number name append right)
   unfolding named_form is_no_name defined_as
   named_said line left right name append h spells =
@@ -82,15 +86,28 @@ module _ (file : List ℕ) (number : ℕ) (profile : Profile) where
       (λ strict. subst (IsStatement profile file number line) (ap (λ t. cond (not t) (Err (refusal file number (cause.Unsupported feature.OptionalDefinition))) (kind_form file number IfUndefined (trimmed front) right)) (sym strict))
       ((refl, refl), (strict, front, right, spells)))
 
+  assigned_said : (line left right : List ℕ) → SpellsAssignment profile line left right → IsStatement profile file number line (assigned_form file number left right)
+  unfolding assigned_form ends_with
+  assigned_said line left right h =
+      by_test (IsStatement profile file number line) (begins_with 43 (reverse left)) _ _
+      (λ t. named_said line left right (trimmed (without_last left)) true h (without_last left, ends_at 43 left (reverse left) refl t, trimmed_padded (without_last left)))
+      (λ t. named_said line left right (trimmed left) false h (t, trimmed_padded left))
+
+  output_said : (line left right : List ℕ) → line ≡ left ++ 61 ∷ right → Whole 61 58 left → (is_wide profile ≡ true) × (begins_with 33 (reverse left) ≡ true) →
+      IsStatement profile file number line (Err (refusal file number (cause.Unsupported feature.OutputDefinition)))
+  output_said line left right e whole (wide, mark) =
+      let is : left ≡ without_last left ++ 33 ∷ [] = ends_at 33 left (reverse left) refl mark in
+      ((refl, refl), (wide, without_last left, right, e ∙ ap (λ xs. xs ++ 61 ∷ right) is, subst (Whole 61 58) is whole))
+
   definition_said : (line left right : List ℕ) → line ≡ left ++ 61 ∷ right → Whole 61 58 left →
       IsStatement profile file number line (definition_form profile file number left right)
   unfolding definition_form ends_with
   definition_said line left right e whole =
       by_test (IsStatement profile file number line) (begins_with 63 (reverse left)) _ _
       (λ t. optional_said line left right e whole t)
-      (λ f. by_test (IsStatement profile file number line) (begins_with 43 (reverse left)) _ _
-      (λ t. named_said line left right (trimmed (without_last left)) true (e, whole, f) (without_last left, ends_at 43 left (reverse left) refl t, trimmed_padded (without_last left)))
-      (λ t. named_said line left right (trimmed left) false (e, whole, f) (t, trimmed_padded left)))
+      (λ f. by_test (IsStatement profile file number line) (is_wide profile && begins_with 33 (reverse left)) _ _
+      (λ t. output_said line left right e whole (both (is_wide profile) (begins_with 33 (reverse left)) t))
+      (λ g. assigned_said line left right (e, whole, f, g)))
 
   -- Rules
 

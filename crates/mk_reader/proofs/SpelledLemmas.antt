@@ -8,7 +8,7 @@ use Rattle.mk_profile.specs.declared.profile.Profile.{Profile}
 use Rattle.mk_reader.specs.Text.{begins_with, ends_with, without_last}
 use Rattle.mk_reader.specs.Special.{special_name}
 use Rattle.mk_reader.specs.Grammar.{Whole, SpellsName, SpellsAssignment, SpellsDefinition, SpellsSign, SpellsKind, SpellsColon, IsRuleEnd, SpellsEnd, SpellsRule, HasSpecial, is_refused_with, IsRefused, refusal, first_line, IsStatement}
-use Rattle.mk_reader.specs.Form.{first_outside, defined_as, is_no_name, named_form, kind_form, optional_form, definition_form, prerequisites_of, recipe_of, judged_form, rule_form, begins_shell_definition, double_form, set_form, colon_form, decided_form}
+use Rattle.mk_reader.specs.Form.{first_outside, defined_as, is_no_name, named_form, kind_form, optional_form, assigned_form, definition_form, prerequisites_of, recipe_of, judged_form, rule_form, begins_shell_definition, double_form, set_form, colon_form, decided_form}
 use Rattle.mk_reader.specs.declared.special.SpecialName.{SpecialName}
 use Rattle.mk_reader.specs.declared.item.Definition.{Definition}
 use Rattle.mk_reader.specs.declared.item.DefinitionKind.{DefinitionKind}
@@ -41,30 +41,39 @@ module _ (file : List ℕ) (number : ℕ) (profile : Profile) where
       ∙ ap (λ ys. form_at left ys (slice_index line (length left))) (cut_right line left c right (length left) e refl)
       ∙ ap (form_at left right) (cut_byte line left c right (length left) e refl)
 
-  definition_is : (left right name : List ℕ) (append : Bool) → begins_with 63 (reverse left) ≡ false → SpellsName left name append →
-      definition_form profile file number left right ≡ named_form file number name append right
-  unfolding definition_form ends_with
-  definition_is left right name true mark (rest, e, padded) =
+  assigned_is : (left right name : List ℕ) (append : Bool) → SpellsName left name append → assigned_form file number left right ≡ named_form file number name append right
+  unfolding assigned_form ends_with
+  assigned_is left right name true (rest, e, padded) =
       let plus : begins_with 43 (reverse left) ≡ true = ap (λ xs. begins_with 43 (reverse xs)) e ∙ ap (begins_with 43) (reverse-append rest (43 ∷ [])) in
       let front : without_last left ≡ rest = ap without_last e ∙ take_at rest (43 ∷ []) (length (rest ++ 43 ∷ []) - 1) (omega (arith, length-append rest (43 ∷ []))) in
-      ap (λ t. cond t (optional_form profile file number (without_last left) right) (cond (begins_with 43 (reverse left)) (named_form file number (trimmed (without_last left)) true right) (named_form file number (trimmed left) false right))) mark
-      ∙ ap (λ t. cond t (named_form file number (trimmed (without_last left)) true right) (named_form file number (trimmed left) false right)) plus
+      ap (λ t. cond t (named_form file number (trimmed (without_last left)) true right) (named_form file number (trimmed left) false right)) plus
       ∙ ap (λ xs. named_form file number (trimmed xs) true right) front
       ∙ ap (λ xs. named_form file number xs true right) (trimmed_is rest name padded)
-  definition_is left right name false mark (plus, padded) =
-      ap (λ t. cond t (optional_form profile file number (without_last left) right) (cond (begins_with 43 (reverse left)) (named_form file number (trimmed (without_last left)) true right) (named_form file number (trimmed left) false right))) mark
-      ∙ ap (λ t. cond t (named_form file number (trimmed (without_last left)) true right) (named_form file number (trimmed left) false right)) plus
+  assigned_is left right name false (plus, padded) =
+      ap (λ t. cond t (named_form file number (trimmed (without_last left)) true right) (named_form file number (trimmed left) false right)) plus
       ∙ ap (λ xs. named_form file number xs false right) (trimmed_is left name padded)
 
-  assigned : (line left right : List ℕ) → SpellsAssignment line left right → decided_form profile file number line (first_outside 61 58 Outside line) ≡ definition_form profile file number left right
-  assigned line left right (e, whole, mark) = at_cut line left 61 right e whole refl
+  -- what stands around a `=`, where `?` and `!` do or don't stand before it
+  abbrev at_equals : (optional output : Bool) (left right : List ℕ) → Told
+  at_equals optional output left right =
+      cond optional (optional_form profile file number (without_last left) right) (cond output (Err (refusal file number (cause.Unsupported feature.OutputDefinition))) (assigned_form file number left right))
 
-  defined_back : (line : List ℕ) (d : Definition) → d.file ≡ file → d.line ≡ number → d.is_fixed ≡ false → SpellsDefinition line d.name d.append d.value →
+  definition_is : (left right name : List ℕ) (append : Bool) → begins_with 63 (reverse left) ≡ false → (is_wide profile && begins_with 33 (reverse left)) ≡ false → SpellsName left name append →
+      definition_form profile file number left right ≡ named_form file number name append right
+  unfolding definition_form ends_with
+  definition_is left right name append mark other spells =
+      ap (λ t. at_equals t (is_wide profile && begins_with 33 (reverse left)) left right) mark
+      ∙ ap (λ t. at_equals false t left right) other ∙ assigned_is left right name append spells
+
+  assigned : (line left right : List ℕ) → SpellsAssignment profile line left right → decided_form profile file number line (first_outside 61 58 Outside line) ≡ definition_form profile file number left right
+  assigned line left right (e, whole, mark, other) = at_cut line left 61 right e whole refl
+
+  defined_back : (line : List ℕ) (d : Definition) → d.file ≡ file → d.line ≡ number → d.is_fixed ≡ false → SpellsDefinition profile line d.name d.append d.value →
       decided_form profile file number line (first_outside 61 58 Outside line) ≡ Ok (form.Definition d)
   unfolding named_form is_no_name defined_as
   defined_back line d f n x (left, right, h, spells, some, one, padded) =
       assigned line left right h
-      ∙ definition_is left right d.name d.append h.2 spells
+      ∙ definition_is left right d.name d.append h.2 h.3 spells
       ∙ ap (λ t. cond (t || list_any is_blank d.name) (Err (refusal file number cause.MissingSeparator)) (made file number (trimmed right) false)) some
       ∙ ap (λ t. cond t (Err (refusal file number cause.MissingSeparator)) (made file number (trimmed right) false)) one
       ∙ ap (λ v. made file number v false) (trimmed_is right d.value padded)
@@ -80,8 +89,20 @@ module _ (file : List ℕ) (number : ℕ) (profile : Profile) where
       let mark : begins_with 63 (reverse signed) ≡ true = ap (begins_with 63) (reverse-append left (63 ∷ [])) in
       let front : without_last signed ≡ left = take_at left (63 ∷ []) (length signed - 1) (omega (arith, length-append left (63 ∷ []))) in
       at_cut line signed 61 right e whole refl
-      ∙ ap (λ t. cond t (optional_form profile file number (without_last signed) right) (cond (begins_with 43 (reverse signed)) (named_form file number (trimmed (without_last signed)) true right) (named_form file number (trimmed signed) false right))) mark
+      ∙ ap (λ t. at_equals t (is_wide profile && begins_with 33 (reverse signed)) signed right) mark
       ∙ ap (λ xs. optional_form profile file number xs right) front
+
+  output_cut : (line left right : List ℕ) → is_wide profile ≡ true → line ≡ (left ++ 33 ∷ []) ++ 61 ∷ right → Whole 61 58 (left ++ 33 ∷ []) →
+      decided_form profile file number line (first_outside 61 58 Outside line) ≡ Err (refusal file number (cause.Unsupported feature.OutputDefinition))
+  unfolding definition_form ends_with
+  output_cut line left right wide e whole =
+      let signed = left ++ 33 ∷ [] in
+      let mark : begins_with 63 (reverse signed) ≡ false = ap (begins_with 63) (reverse-append left (33 ∷ [])) in
+      let output : (is_wide profile && begins_with 33 (reverse signed)) ≡ true =
+      ap (λ t. t && begins_with 33 (reverse signed)) wide ∙ ap (begins_with 33) (reverse-append left (33 ∷ [])) in
+      at_cut line signed 61 right e whole refl
+      ∙ ap (λ t. at_equals t (is_wide profile && begins_with 33 (reverse signed)) signed right) mark
+      ∙ ap (λ t. at_equals false t signed right) output
 
   colon_is : (left right : List ℕ) → IsRuleEnd right → colon_form profile file number left right ≡ rule_form profile file number (trimmed left) right
   unfolding colon_form
@@ -183,7 +204,7 @@ module _ (file : List ℕ) (number : ℕ) (profile : Profile) where
   unfolding decided_form named_form is_no_name defined_as kind_form optional_form rule_form colon_form double_form set_form definition_form ends_with judged_form
   refused_back line cause.MissingSeparator (inl without) = ap (decided_form profile file number line) (none_found 61 58 refl line without)
   refused_back line cause.MissingSeparator (inr (inl (left, right, h, name, append, spells, bad))) =
-      assigned line left right h ∙ definition_is left right name append h.2 spells
+      assigned line left right h ∙ definition_is left right name append h.2 h.3 spells
       ∙ ap (λ t. cond t (Err (refusal file number cause.MissingSeparator)) (Ok (form.Definition (record { file = file; line = number; name = name; append = append; value = trimmed right; is_fixed = false })))) bad
   refused_back line cause.MissingSeparator (inr (inr (inl (wide, kind, left, right, spells, name, padded, bad)))) =
       sign_cut kind line left right wide spells ∙ ap (λ xs. kind_form file number kind xs right) (trimmed_is left name padded)
@@ -194,6 +215,7 @@ module _ (file : List ℕ) (number : ℕ) (profile : Profile) where
   refused_back line (cause.Unsupported feature.OptionalDefinition) (strict, left, right, spells) =
       optional_cut line left right spells
       ∙ ap (λ t. cond (not t) (Err (refusal file number (cause.Unsupported feature.OptionalDefinition))) (kind_form file number IfUndefined (trimmed left) right)) strict
+  refused_back line (cause.Unsupported feature.OutputDefinition) (wide, left, right, e, whole) = output_cut line left right wide e whole
   refused_back line (cause.Unsupported feature.DoubleColon) (left, right, colon, none) =
       colon_back line left (58 ∷ right) colon
       ∙ third (is_wide profile) (begins_with 61 right) (begins_with 58 right && begins_with 61 (drop 1 right)) (kind_form file number AtOnce (trimmed left) (drop 1 right))
@@ -210,11 +232,14 @@ module _ (file : List ℕ) (number : ℕ) (profile : Profile) where
       ∙ ap (λ t. cond t (Err (refusal file number (cause.Unsupported (feature.SpecialName name)))) (Ok (form.Rule (record { special = Some name; rule = record { file = file; line = number; targets = targets; prerequisites = prerequisites; recipe = first_line number recipe } })))) bad
   refused_back line (cause.Unsupported feature.Include) h = absurd h
   refused_back line (cause.Unsupported (feature.Directive directive)) h = absurd h
+  refused_back line (cause.Unsupported feature.TargetMacro) h = absurd h
+  refused_back line (cause.Unsupported feature.QuotedPercent) h = absurd h
   refused_back line cause.NotText h = absurd h
   refused_back line cause.TabFirst h = absurd h
   refused_back line cause.IncludeDepth h = absurd h
   refused_back line (cause.IncludeMissing name) h = absurd h
   refused_back line (cause.Macro why) h = absurd h
+  refused_back line (cause.Static why) h = absurd h
 
   refusal_back : (r : Refusal) → r.file ≡ file → r.line ≡ number → (told : Told) → told ≡ Err (refusal file number r.cause) → told ≡ Err r
   refusal_back r f n told e = e ∙ ap (λ x. Err (refusal x number r.cause)) (sym f) ∙ ap (λ x. Err (refusal r.file x r.cause)) (sym n)

@@ -1,5 +1,5 @@
 -- How faults name what isn't supported.
-use Rattle.std.specs.Prelude.{ℕ, List, codes}
+use Rattle.std.specs.Prelude.{ℕ, List, [], ◌∷◌, codes}
 use Rattle.mk_reader.specs.Directive.{directive_text}
 use Rattle.mk_reader.specs.Special.{name_text}
 use Rattle.mk_reader.specs.declared.fault.Feature.{Feature}
@@ -9,8 +9,11 @@ use Rattle.mk_reader.specs.declared.fault.Feature.TheVariants as feature
 abbrev pub feature_text : Feature → List ℕ
 feature_text feature.Include = codes "include"
 feature_text feature.OptionalDefinition = codes "?="
+feature_text feature.OutputDefinition = codes "!="
 feature_text feature.DoubleColon = codes "::"
 feature_text feature.ColonDefinition = codes ":="
 feature_text feature.ShellDefinition = codes ":sh"
 feature_text (feature.SpecialName name) = name_text name
 feature_text (feature.Directive directive) = directive_text directive
+feature_text feature.TargetMacro = codes "target-specific macro"
+feature_text feature.QuotedPercent = 92 ∷ 37 ∷ []

@@ -95,12 +95,17 @@ unfoldable pub optional_form : Profile → List ℕ → ℕ → List ℕ → Lis
 optional_form profile file number left right =
     if not (is_wide profile) then Err (refusal file number (Unsupported feature.OptionalDefinition)) else kind_form file number IfUndefined (trimmed left) right
 
--- what stands around the `=` of a definition: `+` directly before it appends, `?` directly before it is another sign
+-- what stands around a `=` that is no part of another sign: `+` directly before it appends
+unfoldable pub assigned_form : List ℕ → ℕ → List ℕ → List ℕ → Result Form Refusal
+assigned_form file number left right =
+    if ends_with 43 left then named_form file number (trimmed (without_last left)) true right else named_form file number (trimmed left) false right
+
+-- what stands around the `=` of a definition: `?` directly before it is another sign, and in the wide profile `!`, which is refused
 unfoldable pub definition_form : Profile → List ℕ → ℕ → List ℕ → List ℕ → Result Form Refusal
 definition_form profile file number left right =
     if ends_with 63 left then optional_form profile file number (without_last left) right
-    else (if ends_with 43 left then named_form file number (trimmed (without_last left)) true right
-    else named_form file number (trimmed left) false right)
+    else (if is_wide profile && ends_with 33 left then Err (refusal file number (Unsupported feature.OutputDefinition))
+    else assigned_form file number left right)
 
 -- the prerequisites end before the first `;` outside references
 unfoldable pub prerequisites_of : List ℕ → Option ℕ → List ℕ
@@ -186,10 +191,26 @@ unfoldable pub line_form : Profile → List ℕ → ℕ → List ℕ → Result 
 line_form profile file number line =
     if is_empty line then Ok form.Blank else opened_form profile file number line (include_kind profile (first_word line))
 
--- a line that is no recipe line: from the first `#` on it is a comment, which may hold any bytes
+-- what stands before the comment of a line of the wide profile, where `\#` is a `#`; behind a backslash that isn't written yet, or not
+abbrev pub unescaped_from : (behind : Bool) → List ℕ → List ℕ
+unescaped_from false [] = []
+unescaped_from false (b ∷ bs) = if b == 35 then [] else (if b == 92 then unescaped_from true bs else b ∷ unescaped_from false bs)
+unescaped_from true [] = 92 ∷ []
+unescaped_from true (b ∷ bs) = if b == 35 then 35 ∷ unescaped_from false bs else 92 ∷ b ∷ unescaped_from false bs
+
+-- what stands before the comment, which may hold any bytes
+abbrev pub content_in : (wide : Bool) → List ℕ → List ℕ
+content_in false text = before_first is_hash text
+content_in true text = unescaped_from false text
+
+-- a line without its comment
+unfoldable pub content_form : Profile → List ℕ → ℕ → List ℕ → Result Form Refusal
+content_form profile file number content =
+    if is_text content then line_form profile file number (trimmed content) else Err (refusal file number NotText)
+
+-- a line that is no recipe line
 unfoldable pub statement_form : Profile → List ℕ → ℕ → List ℕ → Result Form Refusal
-statement_form profile file number text =
-    if is_text (before_first is_hash text) then line_form profile file number (trimmed (before_first is_hash text)) else Err (refusal file number NotText)
+statement_form profile file number text = content_form profile file number (content_in (is_wide profile) text)
 
 -- a recipe line has no comments; one of blanks alone is passed over
 unfoldable pub recipe_form : List ℕ → ℕ → List ℕ → Result Form Refusal

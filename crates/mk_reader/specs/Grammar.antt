@@ -123,13 +123,14 @@ abbrev pub SpellsName : (left name : List ℕ) (append : Bool) → Type 0
 SpellsName left name true = (rest : List ℕ) × (left ≡ rest ++ 43 ∷ []) × Padded rest name
 SpellsName left name false = (begins_with 43 (reverse left) ≡ false) × Padded left name
 
--- the first `=` outside references comes before any `:`; no `?` stands directly before it
-abbrev pub SpellsAssignment : (line left right : List ℕ) → Type 0
-SpellsAssignment line left right = (line ≡ left ++ 61 ∷ right) × Whole 61 58 left × (begins_with 63 (reverse left) ≡ false)
+-- the first `=` outside references comes before any `:`; no `?` stands directly before it, and in the wide profile no `!`
+abbrev pub SpellsAssignment : Profile → (line left right : List ℕ) → Type 0
+SpellsAssignment profile line left right =
+    (line ≡ left ++ 61 ∷ right) × Whole 61 58 left × (begins_with 63 (reverse left) ≡ false) × ((is_wide profile && begins_with 33 (reverse left)) ≡ false)
 
-abbrev pub SpellsDefinition : (line name : List ℕ) (append : Bool) (value : List ℕ) → Type 0
-SpellsDefinition line name append value =
-    (left : List ℕ) × (right : List ℕ) × SpellsAssignment line left right
+abbrev pub SpellsDefinition : Profile → (line name : List ℕ) (append : Bool) (value : List ℕ) → Type 0
+SpellsDefinition profile line name append value =
+    (left : List ℕ) × (right : List ℕ) × SpellsAssignment profile line left right
     × SpellsName left name append × (is_empty name ≡ false) × (list_any is_blank name ≡ false) × Padded right value
 
 -- the name is one word
@@ -200,9 +201,9 @@ is_refused_with profile prerequisites (Some name) = is_refused profile name || (
 -- Refusals
 
 -- a definition whose name isn't one word
-abbrev pub NamesNoWord : (line : List ℕ) → Type 0
-NamesNoWord line =
-    (left : List ℕ) × (right : List ℕ) × SpellsAssignment line left right
+abbrev pub NamesNoWord : Profile → (line : List ℕ) → Type 0
+NamesNoWord profile line =
+    (left : List ℕ) × (right : List ℕ) × SpellsAssignment profile line left right
     × (name : List ℕ) × (append : Bool) × SpellsName left name append × ((is_empty name || list_any is_blank name) ≡ true)
 
 -- one of the wide profile whose name isn't one word
@@ -221,9 +222,11 @@ ends_sign right = begins_with 61 right || (begins_with 58 right && begins_with 6
 
 -- why a line is refused that isn't empty and is no include line
 abbrev pub IsRefused : Profile → (line : List ℕ) → Cause → Type 0
-IsRefused profile line cause.MissingSeparator = Without 61 58 line ⊎ (NamesNoWord line ⊎ (NamesNoWordOfKind profile line ⊎ HasNoTarget line))
+IsRefused profile line cause.MissingSeparator = Without 61 58 line ⊎ (NamesNoWord profile line ⊎ (NamesNoWordOfKind profile line ⊎ HasNoTarget line))
 IsRefused profile line (cause.Unsupported feature.OptionalDefinition) =
     (is_wide profile ≡ false) × (left : List ℕ) × (right : List ℕ) × SpellsSign IfUndefined line left right
+IsRefused profile line (cause.Unsupported feature.OutputDefinition) =
+    (is_wide profile ≡ true) × (left : List ℕ) × (right : List ℕ) × (line ≡ (left ++ 33 ∷ []) ++ 61 ∷ right) × Whole 61 58 (left ++ 33 ∷ [])
 IsRefused profile line (cause.Unsupported feature.DoubleColon) =
     (left : List ℕ) × (right : List ℕ) × SpellsColon line left (58 ∷ right) × ((is_wide profile && ends_sign right) ≡ false)
 IsRefused profile line (cause.Unsupported feature.ColonDefinition) =
@@ -234,11 +237,14 @@ IsRefused profile line (cause.Unsupported (feature.SpecialName name)) =
     × HasSpecial targets (Some name) × (is_refused_with profile prerequisites (Some name) ≡ true)
 IsRefused profile line (cause.Unsupported feature.Include) = ⊥
 IsRefused profile line (cause.Unsupported (feature.Directive directive)) = ⊥
+IsRefused profile line (cause.Unsupported feature.TargetMacro) = ⊥
+IsRefused profile line (cause.Unsupported feature.QuotedPercent) = ⊥
 IsRefused profile line cause.NotText = ⊥
 IsRefused profile line cause.TabFirst = ⊥
 IsRefused profile line cause.IncludeDepth = ⊥
 IsRefused profile line (cause.IncludeMissing name) = ⊥
 IsRefused profile line (cause.Macro why) = ⊥
+IsRefused profile line (cause.Static why) = ⊥
 
 -- Lines
 
@@ -256,7 +262,7 @@ first_line number (Some text) = record { text = text; line = number } ∷ []
 
 -- what a line is that isn't empty and is no include line: a definition, a rule, or refused
 abbrev pub IsStatement : Profile → (file : List ℕ) (number : ℕ) (line : List ℕ) → Result Form Refusal → Type 0
-IsStatement profile file number line (Ok (form.Definition d)) = (d.file ≡ file) × (d.line ≡ number) × (d.is_fixed ≡ false) × SpellsDefinition line d.name d.append d.value
+IsStatement profile file number line (Ok (form.Definition d)) = (d.file ≡ file) × (d.line ≡ number) × (d.is_fixed ≡ false) × SpellsDefinition profile line d.name d.append d.value
 IsStatement profile file number line (Ok (form.DefinitionLine l)) =
     (is_wide profile ≡ true) × (l.definition.file ≡ file) × (l.definition.line ≡ number) × SpellsKind line l.kind l.definition
 IsStatement profile file number line (Ok (form.Rule u)) =
@@ -286,14 +292,53 @@ IsLine profile file number line told =
     ⊎ ((is_empty line ≡ false) × IsNoInclude profile line
     × ((plain : Result Form Refusal) × IsStatement profile file number line plain × (told ≡ told_as profile line plain))))
 
--- a comment reaches from the first `#` to the end, and may hold any bytes
-abbrev pub HasContent : (text content : List ℕ) → Type 0
-HasContent text content =
-    (comment : List ℕ) × (text ≡ content ++ comment) × Lacks 35 content × ((is_empty comment || begins_with 35 comment) ≡ true)
+-- a comment reaches from its `#` to the end, and may hold any bytes
+abbrev pub IsComment : (comment : List ℕ) → Type 0
+IsComment comment = (is_empty comment || begins_with 35 comment) ≡ true
+
+-- what a line of the wide profile is made of before its comment: bytes, backslashes with the byte that follows, and `\#`,
+-- which stands for `#` (GNU make, "What Makefiles Contain"; that two backslashes stay two: bmake)
+pub data Written : Type 0 where
+  byte : ℕ → Written
+  backslash_and : ℕ → Written
+  hash : Written
+
+abbrev pub written_as : Written → List ℕ
+written_as (byte b) = b ∷ []
+written_as (backslash_and b) = 92 ∷ b ∷ []
+written_as hash = 92 ∷ 35 ∷ []
+
+abbrev pub stands_for : Written → List ℕ
+stands_for (byte b) = b ∷ []
+stands_for (backslash_and b) = 92 ∷ b ∷ []
+stands_for hash = 35 ∷ []
+
+abbrev pub IsWritten : Written → Type 0
+IsWritten (byte b) = (b == 35 || b == 92) ≡ false
+IsWritten (backslash_and b) = (b == 35) ≡ false
+IsWritten hash = Unit {0}
+
+abbrev pub AreWritten : List Written → Type 0
+AreWritten [] = Unit {0}
+AreWritten (one ∷ more) = IsWritten one × AreWritten more
+
+-- at the end of the text a backslash may stand alone
+abbrev pub IsLastOf : (last comment : List ℕ) → Type 0
+IsLastOf last comment = (last ≡ []) ⊎ ((last ≡ 92 ∷ []) × (comment ≡ []))
+
+-- what a line holds without its comment; in the strict profile the first `#` begins that
+abbrev pub ContentIn : (wide : Bool) → (text content : List ℕ) → Type 0
+ContentIn false text content = (comment : List ℕ) × (text ≡ content ++ comment) × Lacks 35 content × IsComment comment
+ContentIn true text content =
+    (parts : List Written) × (last : List ℕ) × (comment : List ℕ) × (text ≡ flat_map written_as parts ++ (last ++ comment))
+    × (content ≡ flat_map stands_for parts ++ last) × AreWritten parts × IsLastOf last comment × IsComment comment
+
+abbrev pub HasContent : Profile → (text content : List ℕ) → Type 0
+HasContent profile text content = ContentIn (is_wide profile) text content
 
 abbrev pub IsTextLine : Profile → (file : List ℕ) (number : ℕ) (text : List ℕ) → Result Form Refusal → Type 0
 IsTextLine profile file number text told =
-    (content : List ℕ) × HasContent text content
+    (content : List ℕ) × HasContent profile text content
     × (((is_text content ≡ false) × (told ≡ Err (refusal file number cause.NotText)))
     ⊎ ((is_text content ≡ true) × ((line : List ℕ) × Padded content line × IsLine profile file number line told)))
 

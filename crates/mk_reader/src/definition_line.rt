@@ -1,8 +1,8 @@
 //! Definition lines: a name, a sign and a text.
-ghost use Rattle.std.specs.Prelude.{◌≡◌, IfOk};
+ghost use Rattle.std.specs.Prelude.{◌≡◌, ◌&&◌, IfOk};
 ghost use Rattle.std.specs.List.{list_any, list_all};
 ghost use Rattle.byte_strings.specs.Blanks.{is_blank};
-ghost use Rattle.mk_reader.specs.Form.{Gives, defined_as, is_no_name, named_form, kind_form, optional_form, definition_form, is_macro_name, without_plus, conditional_at, double_form, set_form, first_outside};
+ghost use Rattle.mk_reader.specs.Form.{Gives, defined_as, is_no_name, named_form, kind_form, optional_form, assigned_form, definition_form, is_macro_name, without_plus, conditional_at, double_form, set_form, first_outside};
 ghost use Rattle.mk_reader.specs.Grammar.{is_name_byte};
 ghost use Rattle.mk_reader.specs.declared.form.Place.TheVariants.{Outside};
 
@@ -92,6 +92,16 @@ fn optional_form(place: LinePlace<'_>, left: &[u8], right: &[u8]) -> Result<Form
     kind_form(place, DefinitionKind::IfUndefined, trim(left), right)
 }
 
+#[tactic(auto, unfolding(crate::specs::Form::assigned_form))]
+fn assigned_form(place: LinePlace<'_>, left: &[u8], right: &[u8]) -> Result<Form, ReadFault>
+    ensures { Gives result (assigned_form place.entry.file.now place.entry.number left.now right.now) }
+{
+    if ends_with(left, b'+') {
+        return named_form(place, trim(without_last(left)), true, right);
+    }
+    named_form(place, trim(left), false, right)
+}
+
 #[tactic(auto, unfolding(crate::specs::Form::definition_form))]
 pub fn definition_form(place: LinePlace<'_>, left: &[u8], right: &[u8]) -> Result<Form, ReadFault>
     ensures { Gives result (definition_form place.entry.profile place.entry.file.now place.entry.number left.now right.now) }
@@ -99,10 +109,11 @@ pub fn definition_form(place: LinePlace<'_>, left: &[u8], right: &[u8]) -> Resul
     if ends_with(left, b'?') {
         return optional_form(place, without_last(left), right);
     }
-    if ends_with(left, b'+') {
-        return named_form(place, trim(without_last(left)), true, right);
+    if place.profile.is_wide() && ends_with(left, b'!') {
+        let cause = Cause::Unsupported(Feature::OutputDefinition);
+        return Err(refuse(place, cause));
     }
-    named_form(place, trim(left), false, right)
+    assigned_form(place, left, right)
 }
 
 fn is_name_byte(byte: u8) -> bool

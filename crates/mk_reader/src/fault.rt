@@ -13,6 +13,8 @@ pub enum Feature {
     Include,
     /// `?=` in the strict profile.
     OptionalDefinition,
+    /// `!=` in the wide profile.
+    OutputDefinition,
     /// `::`, and in the strict profile so `::=`.
     DoubleColon,
     /// `:=` in the strict profile, and where it would be a conditional macro.
@@ -23,6 +25,10 @@ pub enum Feature {
     SpecialName(SpecialName),
     /// A line of GNU make's, in the wide profile.
     Directive(Directive),
+    /// A macro defined behind the `:` of a rule line, in the wide profile.
+    TargetMacro,
+    /// `\%` in a static pattern rule.
+    QuotedPercent,
 }
 
 impl fmt::Display for Feature {
@@ -35,16 +41,19 @@ impl fmt::Display for Feature {
         match self {
             Feature::Include => f.write_str("include"),
             Feature::OptionalDefinition => f.write_str("?="),
+            Feature::OutputDefinition => f.write_str("!="),
             Feature::DoubleColon => f.write_str("::"),
             Feature::ColonDefinition => f.write_str(":="),
             Feature::ShellDefinition => f.write_str(":sh"),
             Feature::SpecialName(name) => f.write_str(name.as_str()),
             Feature::Directive(directive) => f.write_str(directive.as_str()),
+            Feature::TargetMacro => f.write_str("target-specific macro"),
+            Feature::QuotedPercent => f.write_str("\\%"),
         }
     }
 }
 
-/// Why the text of an include line has no expansion.
+/// Why a text has no expansion that is expanded where it stands.
 #[derive(Debug, Drop, Error)]
 pub enum MacroCause {
     #[error("macro {0} refers to itself")]
@@ -55,6 +64,22 @@ pub enum MacroCause {
     NestedReference,
     #[error("expansion too long")]
     TooLong,
+}
+
+/// Why a static pattern rule is refused.
+#[derive(Debug, Drop, Error)]
+pub enum StaticCause {
+    #[error("missing target pattern")]
+    NoPattern,
+    #[error("multiple target patterns")]
+    ManyPatterns,
+    #[error("target pattern contains no %")]
+    NoPercent,
+    /// A target that holds a `%`.
+    #[error("mixed implicit and static pattern rules")]
+    Mixed,
+    #[error("target {0} doesn't match the target pattern")]
+    Mismatch(ByteString),
 }
 
 /// Why a line is refused.
@@ -75,9 +100,12 @@ pub enum Cause {
     /// The file of this name can't be read.
     #[error("cannot read include file {0}")]
     IncludeMissing(ByteString),
-    /// An include line that is expanded, and can't be.
+    /// A text of the line that is expanded where it stands, and can't be.
     #[error("{0}")]
     Macro(MacroCause),
+    /// A static pattern rule whose words don't fit.
+    #[error("{0}")]
+    Static(StaticCause),
     #[error("not supported: {0}")]
     Unsupported(Feature),
 }

@@ -73,8 +73,8 @@ impl Recipe {
     }
 }
 
-/// `TARGETS : PREREQUISITES`, with a recipe below it or behind a `;`. The texts aren't expanded, and have no
-/// blanks at their ends.
+/// `TARGETS : PREREQUISITES`, with a recipe below it or behind a `;`. The texts aren't expanded, and as they are
+/// read they have no blanks at their ends.
 #[derive(Drop)]
 pub struct Rule {
     pub file: ByteString,

@@ -1,10 +1,11 @@
 //! Laws of the definitions that `statements_of` meets. The functions do nothing: what they ensure is the law.
-ghost use Rattle.std.specs.Prelude.{◌≡◌, ◌↔◌, ℕ, Bool, true, false, List, ◌∷◌, ◌++◌, Option, Some, Result, Ok, map, flat_map};
+ghost use Rattle.std.specs.Prelude.{◌≡◌, ◌↔◌, ◌&&◌, ℕ, Bool, true, false, List, ◌∷◌, ◌++◌, Option, Some, Result, Ok, map, flat_map};
+ghost use Rattle.mk_profile.specs.Profile.{is_wide};
 ghost use Rattle.mk_profile.specs.declared.profile.Profile.{Profile};
 ghost use Rattle.mk_reader.specs.Lines.{Physical, spelling, groups, lines_left};
 ghost use Rattle.mk_reader.specs.Spelling.{AreLines, AreGroups};
 ghost use Rattle.mk_reader.specs.Form.{form_of};
-ghost use Rattle.mk_reader.specs.Text.{is_text};
+ghost use Rattle.mk_reader.specs.Text.{ends_with, is_text};
 ghost use Rattle.mk_reader.specs.Grammar.{Lacks, HasSpecial, is_refused_with, IsForm};
 ghost use Rattle.mk_reader.specs.Printed.{line_of_text, IsPlainName, IsPlainValue, ArePlainTargets, ArePlainPrerequisites, definition_text, definition_on, rule_text, rule_on, PlainItem, ArePlain, printed, items_on};
 ghost use Rattle.mk_reader.specs.Statements.{AreStatements};
@@ -59,8 +60,10 @@ pub fn printed_items_are_read_back()
         → AreStatements profile file (printed items) (map statement.Item (items_on file 1 items)) }
 {}
 
-/// A `#` and what follows it in its line change nothing. The byte 35 is `#`.
+/// A `#` and what follows it in its line change nothing, but for one behind a backslash in the wide profile. The byte 35 is
+/// `#`, and 92 a backslash.
 pub fn comments_change_nothing()
     ensures { (profile : Profile) (file text comment : List ℕ) (number : ℕ) (told : Result Form Refusal) → Lacks 35 text
+        → (is_wide profile && ends_with 92 text) ≡ false
         → (IsForm profile file (line_of_text number (text ++ 35 ∷ comment)) told ↔ IsForm profile file (line_of_text number text) told) }
 {}

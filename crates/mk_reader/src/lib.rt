@@ -2,6 +2,7 @@
 //! `statements_of` is the one call; `laws` says in which sense the definition of a text's lines is right.
 #![tactic(auto)]
 
+mod comment;
 mod definition_line;
 mod directive;
 mod fault;
@@ -19,12 +20,13 @@ mod statements;
 mod text;
 
 pub use directive::Directive;
-pub use fault::{Cause, Feature, MacroCause, ReadFault, Refusal};
+pub use fault::{Cause, Feature, MacroCause, ReadFault, Refusal, StaticCause};
 pub use item::{
     Definition, DefinitionKind, DefinitionLine, IncludeLine, Item, Recipe, RecipeLine, Rule,
     Special, Statement,
 };
 pub use lines::next_joined_line;
+pub use reference::split_outside;
 pub use special::SpecialName;
 pub use statements::statements_of;
 pub use text::{is_text, is_utf8};

@@ -1,5 +1,5 @@
 //! Reads a text line by line from its front: physical lines, and the logical lines that they are joined to.
-ghost use Rattle.std.specs.Prelude.{◌≡◌, ◌+◌, ◌<◌, ◌≤◌, ◌==◌, ◌∷◌, ◌++◌, [], length, drop, flat_map, IfOk, IfSome, OnOk, Some, option_copied};
+ghost use Rattle.std.specs.Prelude.{◌≡◌, ◌+◌, ◌<◌, ◌≤◌, ◌==◌, ◌∷◌, ◌++◌, [], length, take, drop, flat_map, IfOk, IfSome, OnOk, Some, option_copied};
 ghost use Rattle.std.specs.List.{suffix_len, position_or_len};
 ghost use Rattle.mk_reader.specs.Text.{is_newline, is_backslash, begins_with, ends_with, without_last, without_tab};
 ghost use Rattle.mk_reader.specs.Lines.{ended_line, goes_on, body, opening, joint, groups, lines_left, rest_of_group, after_group, logical_line, is_recipe, logical_lines, joined_lines, numbered, number_after, physical, size_left};
@@ -53,6 +53,16 @@ pub fn without_first(bytes: &[u8]) -> &[u8]
         Some((_, rest)) => rest,
         None => bytes,
     }
+}
+
+/// What stands before the byte at this place, and what stands behind it.
+pub fn around(bytes: &[u8], at: usize) -> (&[u8], &[u8])
+    requires { at < length bytes.now }
+    ensures left { result.0.now ≡ take at bytes.now }
+    ensures right { result.1.now ≡ drop (at + 1) bytes.now }
+{
+    let (left, rest) = bytes.split_at(at);
+    (left, without_first(rest))
 }
 
 /// How many backslashes stand at the end.

@@ -1,9 +1,11 @@
 //! Finds bytes that stand outside references.
-ghost use Rattle.std.specs.Prelude.{◌≡◌, ◌+◌, ◌<◌, ◌==◌, ◌&&◌, ◌||◌, length, IfSome};
+ghost use Rattle.std.specs.Prelude.{◌≡◌, ◌+◌, ◌<◌, ◌==◌, ◌&&◌, ◌||◌, ◌∷◌, ◌++◌, false, length, IfSome, MatchOption};
 ghost use Rattle.mk_reader.specs.Form.{next_place, is_outside, first_outside};
+ghost use Rattle.mk_reader.specs.Grammar.{Whole, Without};
 ghost use Rattle.mk_reader.specs.declared.form.Place.TheVariants.{Outside};
 
 use crate::form::Place;
+use crate::lines::around;
 
 #[tactic(auto, unfolding(crate::specs::Form::next_place))]
 fn next_place(place: Place, byte: u8) -> Place
@@ -57,4 +59,16 @@ pub fn first_outside(bytes: &[u8], one: u8, other: u8) -> Option<usize>
         at += 1;
     }
     None
+}
+
+/// What stands before the first such byte outside references, and what stands behind it. References begin with `$`.
+pub fn split_outside(text: &[u8], byte: u8) -> Option<(&[u8], &[u8])>
+    requires { (36 == byte) ≡ false }
+    ensures { MatchOption result (Without byte byte text.now)
+        (λ parts. (text.now ≡ parts.0.now ++ byte ∷ parts.1.now) × Whole byte byte parts.0.now) }
+{
+    match first_outside(text, byte, byte) {
+        Some(at) => Some(around(text, at)),
+        None => None,
+    }
 }

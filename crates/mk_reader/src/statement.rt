@@ -1,19 +1,20 @@
 //! From one logical line to its form. Each function answers the form, or the line's fault.
 ghost use Rattle.std.specs.Prelude.{◌≡◌, ◌+◌, ◌<◌, ◌==◌, ◌&&◌, IfOk, IfSome, length, take, drop, codes, bytes_eq};
-ghost use Rattle.std.specs.List.{before_first, list_any};
+ghost use Rattle.std.specs.List.{list_any};
 ghost use Rattle.byte_strings.specs.Blanks.{trimmed_start};
-ghost use Rattle.mk_reader.specs.Text.{is_hash, is_dollar, is_empty, is_text};
+ghost use Rattle.mk_reader.specs.Text.{is_dollar, is_empty, is_text};
 ghost use Rattle.mk_reader.specs.Directive.{told_as};
-ghost use Rattle.mk_reader.specs.Form.{Gives, include_kind, include_form, prerequisites_of, recipe_of, judged_form, rule_form, begins_shell_definition, colon_form, decided_form, line_form, statement_form, recipe_form, form_of, first_outside};
+ghost use Rattle.mk_reader.specs.Form.{Gives, include_kind, include_form, prerequisites_of, recipe_of, judged_form, rule_form, begins_shell_definition, colon_form, decided_form, line_form, content_form, statement_form, recipe_form, form_of, first_outside};
 ghost use Rattle.mk_reader.specs.declared.form.Place.TheVariants.{Outside};
 
+use crate::comment::{before_comment, unescaped};
 use crate::definition_line::{definition_form, double_form, set_form};
 use crate::directive::told_refusal;
 use crate::fault::{Cause, Feature, ReadFault};
 use crate::form::{Form, UnfinishedRule};
 use crate::item::{IncludeLine, Recipe, RecipeLine, Rule};
 use crate::line::{LinePlace, LogicalLine};
-use crate::lines::{begins_with, without_first};
+use crate::lines::{around, begins_with, ends_with, without_first};
 use crate::reference::first_outside;
 use crate::refuse::refuse;
 use crate::special::{SpecialName, is_refused, special_name, takes_no_prerequisites};
@@ -26,27 +27,6 @@ fn has_dollar(bytes: &[u8]) -> bool
     ensures { result ≡ list_any is_dollar bytes.now }
 {
     bytes.contains(&b'$')
-}
-
-/// What stands before the byte at this place, and what stands behind it.
-fn around(bytes: &[u8], at: usize) -> (&[u8], &[u8])
-    requires { at < length bytes.now }
-    ensures left { result.0.now ≡ take at bytes.now }
-    ensures right { result.1.now ≡ drop (at + 1) bytes.now }
-{
-    let (left, rest) = bytes.split_at(at);
-    (left, without_first(rest))
-}
-
-/// What stands before the first `#`.
-fn before_comment(text: &[u8]) -> &[u8]
-    ensures { result.now ≡ before_first is_hash text.now }
-{
-    let mut count = 0;
-    while count < text.len() && text[count] != b'#' {
-        count += 1;
-    }
-    text.split_at(count).0
 }
 
 /// Whether the files of an include line have to be there, by the word that begins it. Other words begin none.
@@ -226,15 +206,26 @@ fn line_form(place: LinePlace<'_>, line: &[u8]) -> Result<Form, ReadFault>
     }
 }
 
-#[tactic(auto, unfolding(crate::specs::Form::statement_form))]
+#[tactic(auto, unfolding(crate::specs::Form::content_form))]
+fn content_form(place: LinePlace<'_>, content: &[u8]) -> Result<Form, ReadFault>
+    ensures { Gives result (content_form place.entry.profile place.entry.file.now place.entry.number content.now) }
+{
+    if !is_text(content) {
+        return Err(refuse(place, Cause::NotText));
+    }
+    line_form(place, trim(content))
+}
+
+#[tactic(auto, using(crate::proofs::ContentLemmas::cut_is), unfolding(crate::specs::Form::statement_form))]
 fn statement_form(place: LinePlace<'_>, text: &[u8]) -> Result<Form, ReadFault>
     ensures { Gives result (statement_form place.entry.profile place.entry.file.now place.entry.number text.now) }
 {
-    let text = before_comment(text);
-    if !is_text(text) {
-        return Err(refuse(place, Cause::NotText));
+    let front = before_comment(text);
+    if place.profile.is_wide() && ends_with(front, b'\\') {
+        let content = unescaped(place.alloc, text)?;
+        return content_form(place, content.as_slice());
     }
-    line_form(place, trim(text))
+    content_form(place, front)
 }
 
 #[tactic(auto, unfolding(crate::specs::Form::recipe_form))]

@@ -1,4 +1,5 @@
 pub mod AnswerLemmas
+pub mod CallsLemmas
 pub mod HiddenLemmas
 pub mod OutcomeLemmas
 pub mod NameLemmas

@@ -1,5 +1,5 @@
 -- The parts of a recipe line (make(1S), "Command Lines": `+`, `-`, `@`, `?`, `!` in front, in any order and between blanks).
-use Rattle.std.specs.Prelude.{◌≡◌, ◌⊎◌, ◌↔◌, ℕ, Bool, false, not, ◌&&◌, ◌||◌, ◌==◌, IsTrue, List, [], ◌∷◌, take, drop}
+use Rattle.std.specs.Prelude.{◌≡◌, ◌⊎◌, ◌↔◌, ℕ, Bool, false, not, ◌&&◌, ◌||◌, ◌==◌, IsTrue, List, [], ◌∷◌, ◌++◌, codes, take, drop}
 use Rattle.std.specs.List.{list_all, list_any, prefix_len}
 use Rattle.byte_strings.specs.Blanks.{is_blank}
 use Rattle.mk_profile.specs.Profile.{is_wide}
@@ -32,12 +32,27 @@ abbrev pub IsExempt : Profile → (unexpanded expanded : List ℕ) → Type 0
 IsExempt profile unexpanded expanded =
     (has 33 (front expanded) ≡ false) × (IsTrue (has 63 (front expanded)) ⊎ RefersToNewer (is_wide profile) unexpanded)
 
+-- these bytes stand in the text, one behind the other, whatever is before and behind them
+abbrev pub StandsIn : (bytes text : List ℕ) → Type 0
+StandsIn bytes text = (before : List ℕ) × (behind : List ℕ) × (text ≡ before ++ (bytes ++ behind))
+
+-- the unexpanded line calls make by its macro (GNU make manual, "How the MAKE Variable Works"): it is looked for as a text, so
+-- also behind a second dollar
+abbrev pub CallsMake : (unexpanded : List ℕ) → Type 0
+CallsMake unexpanded = StandsIn (codes "$(MAKE)") unexpanded ⊎ StandsIn (codes "${MAKE}") unexpanded
+
+-- the line is run in a dry run too: `+` says so (POSIX make), or it calls make. In the strict profile none is
+abbrev pub IsAlwaysRun : Profile → (unexpanded expanded : List ℕ) → Type 0
+IsAlwaysRun profile unexpanded expanded =
+    IsTrue (is_wide profile) × (IsTrue (has 43 (front expanded)) ⊎ CallsMake unexpanded)
+
 -- the line that these texts give: `@` doesn't print it, nor is a blank line printed; `-` ignores its status
 pub record IsLine (profile : Profile) (unexpanded expanded : List ℕ) (line : Line) : Type 0 where
   pub text : line.text ≡ text_of expanded
   pub printed : line.is_printed ≡ (not (has 64 (front expanded)) && not (is_blank_text (text_of expanded)))
   pub ignored : line.is_ignored ≡ has 45 (front expanded)
   pub exempt : IsTrue line.is_exempt ↔ IsExempt profile unexpanded expanded
+  pub always : IsTrue line.is_always_run ↔ IsAlwaysRun profile unexpanded expanded
 
 -- the state keeps the line's text: the line isn't exempt, and the text isn't blank
 abbrev pub IsRecorded : Line → Type 0

@@ -1,9 +1,11 @@
 //! The lines of a recipe, and those that the state keeps.
-ghost use Rattle.std.specs.Prelude.{◌≡◌, ◌≤◌, length, IfOk};
+ghost use Rattle.std.specs.Prelude.{◌≡◌, ◌⊎◌, ◌↔◌, ◌≤◌, length, IfOk, IsTrue};
 ghost use Rattle.std.specs.List.{prefix_len};
-ghost use Rattle.mk_recipe.specs.Line.{is_front, is_blank_text, has, IsLine, Records};
+ghost use Rattle.mk_profile.specs.Profile.{is_wide};
+ghost use Rattle.mk_recipe.specs.Line.{is_front, is_blank_text, has, StandsIn, CallsMake, IsLine, Records};
 ghost use Rattle.mk_recipe.specs.Tests.{is_recorded};
 
+use bstr::ByteSlice;
 use byte_strings::{ByteString, ByteStrings, is_blank};
 use mk_macros::refers_to_newer;
 use mk_profile::Profile;
@@ -20,6 +22,8 @@ pub struct Line {
     pub is_ignored: bool,
     /// A change of the line doesn't make the target out of date.
     pub is_exempt: bool,
+    /// The line is run in a dry run too.
+    pub is_always_run: bool,
 }
 
 /// What may stand in front of a line's text.
@@ -52,6 +56,27 @@ fn is_blank_text(bytes: &[u8]) -> bool
     bytes.iter().all(|byte| is_blank(*byte))
 }
 
+/// These bytes stand somewhere in the text.
+fn stands_in(bytes: &[u8], text: &[u8]) -> bool
+    ensures { IsTrue result ↔ StandsIn bytes.now text.now }
+{
+    text.contains_str(bytes)
+}
+
+/// The line calls make by its macro, in either spelling.
+fn calls_make(unexpanded: &[u8]) -> bool
+    ensures { IsTrue result ↔ CallsMake unexpanded.now }
+{
+    stands_in(b"$(MAKE)".as_slice(), unexpanded) || stands_in(b"${MAKE}".as_slice(), unexpanded)
+}
+
+/// The line is run in a dry run too, with these prefixes.
+fn is_always_run(profile: Profile, unexpanded: &[u8], front: &[u8]) -> bool
+    ensures { IsTrue result ↔ (IsTrue (is_wide profile) × (IsTrue (has 43 front.now) ⊎ CallsMake unexpanded.now)) }
+{
+    profile.is_wide() && (has(front, b'+') || calls_make(unexpanded))
+}
+
 /// The line that an unexpanded and an expanded text give, in this language: its prefixes are those of the expanded one, and a
 /// reference to `$?` in the unexpanded one exempts it too.
 #[tactic(auto, unfolding(crate::specs::Line::front, crate::specs::Line::text_of))]
@@ -70,6 +95,7 @@ pub fn split_line(
         is_printed: !has(front, b'@') && !is_blank_text(text),
         is_ignored: has(front, b'-'),
         is_exempt,
+        is_always_run: is_always_run(profile, unexpanded, front),
     })
 }
 

@@ -1,5 +1,5 @@
 -- What is looked up of a name, put together.
-use Rattle.std.proofs.Common.{◌≡◌, ◌⊎◌, ℕ, Bool, true, false, List, [], ◌++◌, length, filter, map, drop, inl, inr, Option, sym, ap, ◌∙◌}
+use Rattle.std.proofs.Common.{◌≡◌, ◌⊎◌, ℕ, ℤ, Bool, true, false, List, [], ◌++◌, length, filter, map, drop, inl, inr, Option, sym, ap, ◌∙◌}
 use Rattle.std.specs.Prelude.{option_map, option_to_list}
 use Rattle.mk_graph.specs.Numbering.{all_added}
 use Rattle.st_records.specs.declared.record.Entry.{Entry}
@@ -8,14 +8,13 @@ use Rattle.mk_rules.specs.Hidden.{HasHidden, IsNamesFault}
 use Rattle.mk_rules.specs.Known.{IsKnown, IsLookUpFault}
 use Rattle.mk_rules.specs.Prerequisites.{Inputs, distinct, source_names, implicit_source, hard_of, hidden_in, is_node, prerequisites_of, judged_of, own_recipes, first_or}
 use Rattle.mk_rules.specs.Source.{IsSourceFault}
-use Rattle.mk_rules.specs.Stamps.{IsLookFault}
+use Rattle.mk_rules.specs.Looks.{IsLookFault}
 use Rattle.mk_rule_lines.specs.declared.fault.RuleFault.{RuleFault}
 use Rattle.mk_rule_lines.specs.declared.fault.RuleFault.TheVariants as fault
 use Rattle.mk_rule_lines.specs.declared.form.Form.{Form}
 use Rattle.mk_rule_lines.specs.declared.form.Source.{Source}
 use Rattle.mk_rules.specs.declared.known.Known.{Known}
 use Rattle.mk_rules.specs.declared.mentioned.Mentioned.{Mentioned}
-use Rattle.mk_rules.specs.declared.stamps.Stamps.{Stamps}
 use Rattle.mk_rule_lines.specs.declared.table.TargetTable.{TargetTable}
 
 module _ (inputs : Inputs) (name : List ℕ) (source : Option Source) (explicit : List (List ℕ)) (entry : Option Entry) (hard : List (List ℕ)) (m : Mentioned)
@@ -55,22 +54,22 @@ module _ (inputs : Inputs) (name : List ℕ) (source : Option Source) (explicit 
 no_value : false ≡ true → ⊥
 no_value is = cc
 
-module _ (targets : TargetTable) (stamps : Stamps) (refuses : List ℕ → Type 0) (forms : List Form) (phony : Bool) (own : List ℕ) (hidden : List (List ℕ)) (name : List ℕ) where
+module _ (targets : TargetTable) (allowed : (List ℕ → Option ℤ) → Type 0) (refuses : List ℕ → Type 0) (forms : List Form) (phony : Bool) (own : List ℕ) (hidden : List (List ℕ)) (name : List ℕ) where
   -- each look that fails is one of looking up the name
-  pub own_look : phony ≡ false → (f : RuleFault) → IsLookFault refuses name f → IsLookUpFault targets stamps refuses forms phony own hidden name f
+  pub own_look : phony ≡ false → (f : RuleFault) → IsLookFault refuses name f → IsLookUpFault targets allowed refuses forms phony own hidden name f
   own_look no_phony fault.OutOfMemory meets = tt
   own_look no_phony (fault.Tree n) meets = (inl (no_phony, meets.0), meets.1)
   own_look no_phony _ meets = meets
 
   -- a source is looked for only where the name isn't phony, and no line has a recipe for it
-  pub source_look : {A : Type 0} → ((phony ≡ false) × (own ≡ [])) ⊎ A → (A → false ≡ true) → (f : RuleFault) → IsSourceFault targets stamps refuses forms name f →
-      IsLookUpFault targets stamps refuses forms phony own hidden name f
+  pub source_look : {A : Type 0} → ((phony ≡ false) × (own ≡ [])) ⊎ A → (A → false ≡ true) → (f : RuleFault) → IsSourceFault targets allowed refuses forms name f →
+      IsLookUpFault targets allowed refuses forms phony own hidden name f
   source_look (inl none) never fault.OutOfMemory meets = tt
   source_look (inl none) never (fault.Tree n) meets = (inr (inr (none.0, none.1, meets.0)), meets.1)
   source_look (inl none) never _ meets = meets
   source_look (inr beside) never f meets = absurd (no_value (never beside))
 
-  pub hidden_look : (f : RuleFault) → IsNamesFault refuses hidden f → IsLookUpFault targets stamps refuses forms phony own hidden name f
+  pub hidden_look : (f : RuleFault) → IsNamesFault refuses hidden f → IsLookUpFault targets allowed refuses forms phony own hidden name f
   hidden_look fault.OutOfMemory meets = tt
   hidden_look (fault.Tree n) meets = (inr (inl meets.0), meets.1)
   hidden_look _ meets = meets

@@ -1,6 +1,6 @@
 -- What is found of all names, in terms of the inputs.
-use Rattle.std.proofs.Common.{◌≡◌, ℕ, ℤ, ◌<◌, Bool, true, false, not, List, [], length, inl, inr, Option, Some, None, sym, ap, subst, ◌∙◌}
-use Rattle.std.specs.Prelude.{◌⊎◌, IfSome, take, slice_get}
+use Rattle.std.proofs.Common.{◌≡◌, ℕ, ℤ, ◌<◌, Bool, true, false, not, List, [], length, inl, inr, Option, Some, sym, ap, subst, ◌∙◌}
+use Rattle.std.specs.Prelude.{◌⊎◌, take, slice_get}
 use Rattle.mk_graph.specs.Numbering.{IsNumbering, AreDescribed, has_name}
 use Rattle.mk_graph.specs.NumberingFault.{IsNumberingFault}
 use Rattle.mk_graph.specs.declared.numbering.NumberingFault.{NumberingFault}
@@ -16,27 +16,14 @@ use Rattle.mk_rules.specs.Prerequisites.{IsTextAmong, inputs_of, own_recipes, is
 use Rattle.mk_rule_lines.specs.Rules.{has, places, targets_by, suffixes_of}
 use Rattle.mk_rules.specs.Source.{IsReached}
 use Rattle.mk_rule_lines.specs.Source.{source_of}
-use Rattle.mk_rules.specs.Stamps.{AgreesWith, Looks, known_stamp}
 use Rattle.mk_rule_lines.specs.Table as table
 use Rattle.mk_rule_lines.specs.declared.fault.RuleFault.{RuleFault}
 use Rattle.mk_rule_lines.specs.declared.fault.RuleFault.TheVariants as fault
 use Rattle.mk_rule_lines.specs.declared.form.Form.{Form}
 use Rattle.mk_rule_lines.specs.declared.rule_line.RuleLine.{RuleLine}
-use Rattle.mk_rules.specs.declared.stamps.Stamps.{Stamps}
 use Rattle.mk_rule_lines.specs.declared.table.TargetTable.{TargetTable}
 use Rattle.mk_rules.proofs.LookupLemmas.{same_there}
 use Rattle.mk_rules.proofs.RuleLemmas.{any_place}
-
-nothing_known : (known : Option (Option ℤ)) (t : Option ℤ) → known ≡ None → IfSome known (λ s. t ≡ s)
-nothing_known None t none = tt
-nothing_known (Some s) t none = cc
-
--- where nothing was known before, what is known is what the tree answered
-pub all_answered : (a b : Stamps) (possible possible_b : (List ℕ → Option ℤ) → Type 0) (refuses refuses_b : List ℕ → Type 0) →
-    Looks a b possible possible_b refuses refuses_b → ((name : List ℕ) → known_stamp a name ≡ None) →
-    (times : List ℕ → Option ℤ) → possible_b times → AgreesWith b times
-all_answered a b possible possible_b refuses refuses_b looks none times now =
-    looks.answers times now (λ name. nothing_known (known_stamp a name) (times name) (none name))
 
 module _ (lines : List RuleLine) (targets : TargetTable)
     (named : (name : List ℕ) → (table.named_at targets name).lines ≡ places (λ l. has name (targets_by false (suffixes_of lines) l)) 0 lines) where
@@ -48,8 +35,8 @@ module _ (lines : List RuleLine) (targets : TargetTable)
 module _ (lines : List RuleLine) (targets : TargetTable)
     (named : (name : List ℕ) → (table.named_at targets name).lines ≡ places (λ l. has name (targets_by false (suffixes_of lines) l)) 0 lines)
     (forms : List Form) (all_forms : forms ≡ forms_of (suffixes_of lines) lines) (entries : (name : List ℕ) → Option Entry)
-    (stamps : Stamps) (times : List ℕ → Option ℤ) (agrees : AgreesWith stamps times) where
-  reached : (node name : List ℕ) → is_phony lines node ≡ false → own_recipes lines node ≡ [] → IsReached targets stamps forms node name →
+    (allowed : (List ℕ → Option ℤ) → Type 0) (times : List ℕ → Option ℤ) (now : allowed times) where
+  reached : (node name : List ℕ) → is_phony lines node ≡ false → own_recipes lines node ≡ [] → IsReached targets allowed forms node name →
       IsReachedFrom (inputs_of lines entries times) node name
   reached node name no_phony none r = record {
     no_phony = no_phony;
@@ -63,10 +50,10 @@ module _ (lines : List RuleLine) (targets : TargetTable)
     no_target = sym (target_is lines targets named name) ∙ r.no_target;
     earlier =
         ap (λ (there : List ℕ → Bool). source_of there (take r.place (forms_of (suffixes_of lines) lines)) node) (sym (same_there lines targets named entries times))
-        ∙ ap (λ (fs : List Form). source_of (table.is_there targets times) (take r.place fs) node) (sym all_forms) ∙ r.earlier times agrees;
+        ∙ ap (λ (fs : List Form). source_of (table.is_there targets times) (take r.place fs) node) (sym all_forms) ∙ r.earlier times now;
   }
 
-  asked : (node name : List ℕ) → IsAsked targets stamps forms (is_phony lines node) (own_recipes lines node) (hidden_in (entries node)) node name →
+  asked : (node name : List ℕ) → IsAsked targets allowed forms (is_phony lines node) (own_recipes lines node) (hidden_in (entries node)) node name →
       IsItself lines node name ⊎ (IsTextAmong (hidden_of (inputs_of lines entries times) node) name ⊎ IsReachedFrom (inputs_of lines entries times) node name)
   asked node name (inl own) = inl own
   asked node name (inr (inl hidden)) = inr (inl hidden)
@@ -74,7 +61,7 @@ module _ (lines : List RuleLine) (targets : TargetTable)
 
   -- a name that can't be looked up is one that the goals lead to
   pub finding_fault : (refuses : List ℕ → Type 0) (goals : List (List ℕ)) (limit : ℕ) (node : List ℕ) (f : RuleFault) →
-      IsLookUpFault targets stamps refuses forms (is_phony lines node) (own_recipes lines node) (hidden_in (entries node)) node f →
+      IsLookUpFault targets allowed refuses forms (is_phony lines node) (own_recipes lines node) (hidden_in (entries node)) node f →
       ((names : List (List ℕ)) → IsNumbering (prerequisites_of (inputs_of lines entries times)) goals names → has_name names node ≡ true) →
       IsFindingFault (inputs_of lines entries times) refuses goals limit f
   finding_fault refuses goals limit node fault.OutOfMemory meets is = tt

@@ -6,7 +6,7 @@ use Rattle.std.proofs.lemmas.List.{drop-append-le, map-append}
 use Rattle.std.proofs.lemmas.List.Folds.{list_any-append}
 use Rattle.mk_graph.specs.Numbering.{has_name, added, all_added}
 use Rattle.mk_rule_lines.specs.Rules.{has}
-use Rattle.mk_rules.specs.Stamps.{IsLookFault}
+use Rattle.mk_rules.specs.Looks.{IsLookFault}
 use Rattle.mk_rules.specs.Hidden.{HasHidden, IsNamesFault}
 use Rattle.mk_rules.specs.Prerequisites.{IsTextAmong}
 use Rattle.mk_rules.specs.declared.mentioned.Mentioned.{Mentioned}

@@ -1,4 +1,3 @@
-pub mod AskedLemmas
 pub mod AssemblyLemmas
 pub mod BuildLemmas
 pub mod DistinctLemmas
@@ -8,6 +7,7 @@ pub mod FoundLemmas
 pub mod FreshLemmas
 pub mod HiddenLemmas
 pub mod InputLemmas
+pub mod LookLemmas
 pub mod LookupLemmas
 pub mod MadeLemmas
 pub mod NeededLemmas
@@ -21,5 +21,4 @@ pub mod RowsLemmas
 pub mod RuleLemmas
 pub mod SetLemmas
 pub mod SourceLemmas
-pub mod StampLemmas
 pub mod WaitLemmas

@@ -8,9 +8,8 @@ use Rattle.std.proofs.lemmas.List.Folds.{find-append}
 use Rattle.mk_rule_lines.specs.Source.{stem_of, source_at, candidates, source_of}
 use Rattle.mk_rules.specs.Source.{IsReached, IsSourceFault}
 use Rattle.std.proofs.lemmas.Option.{slice_get_read}
-use Rattle.mk_rules.specs.Stamps.{AgreesWith, IsLookFault}
+use Rattle.mk_rules.specs.Looks.{IsLookFault}
 use Rattle.mk_rule_lines.specs.Table.{is_named, is_there, named_at}
-use Rattle.mk_rules.specs.declared.stamps.Stamps.{Stamps}
 use Rattle.mk_rule_lines.specs.declared.table.TargetTable.{TargetTable}
 use Rattle.mk_rule_lines.specs.declared.fault.RuleFault.{RuleFault}
 use Rattle.mk_rule_lines.specs.declared.fault.RuleFault.TheVariants as fault
@@ -59,11 +58,11 @@ module _ (is_there : List ℕ → Bool) (form : Form) (forms : List Form) (name 
 pub unfit : (is_there : List ℕ → Bool) (form : Form) (forms : List Form) (name : List ℕ) → stem_of form name ≡ None → source_of is_there (form ∷ forms) name ≡ source_of is_there forms name
 unfit is_there form forms name e = ap (λ found. find (λ source. is_there source.name) (option_to_list (option_map (source_at form) found) ++ candidates forms name)) e
 
-module _ (targets : TargetTable) (stamps : Stamps) (refuses : List ℕ → Type 0) (forms : List Form) (name n : List ℕ) (k : ℕ) (form : Form) (stem : List ℕ)
+module _ (targets : TargetTable) (allowed : (List ℕ → Option ℤ) → Type 0) (refuses : List ℕ → Type 0) (forms : List Form) (name n : List ℕ) (k : ℕ) (form : Form) (stem : List ℕ)
     (within : k < length forms) (is : form ≡ get_or forms k form) (fits : stem_of form name ≡ Some stem) (named : n ≡ (source_at form stem).name)
     (no_target : is_named (named_at targets n) ≡ false)
-    (earlier : (times : List ℕ → Option ℤ) → AgreesWith stamps times → source_of (is_there targets times) (take k forms) name ≡ None) where
-  reached : IsReached targets stamps forms name n
+    (earlier : (times : List ℕ → Option ℤ) → allowed times → source_of (is_there targets times) (take k forms) name ≡ None) where
+  reached : IsReached targets allowed forms name n
   reached = record {
     place = k;
     form = form;
@@ -76,7 +75,7 @@ module _ (targets : TargetTable) (stamps : Stamps) (refuses : List ℕ → Type 
   }
 
   -- what can't be looked at is the name of the candidate that the search has reached
-  pub reached_fault : (f : RuleFault) → IsLookFault refuses n f → IsSourceFault targets stamps refuses forms name f
+  pub reached_fault : (f : RuleFault) → IsLookFault refuses n f → IsSourceFault targets allowed refuses forms name f
   reached_fault fault.OutOfMemory meets = tt
   reached_fault (fault.Tree m) meets = (rw meets.0 reached, meets.1)
   reached_fault _ meets = meets

@@ -3,9 +3,7 @@ use Rattle.std.specs.Prelude.{◌≡◌, ◌⊎◌, ℕ, ℤ, Bool, false, List,
 use Rattle.st_records.specs.declared.record.Entry.{Entry}
 use Rattle.mk_rules.specs.Prerequisites.{Inputs, IsTextAmong, inputs_of, implicit_source, recipe_of, hard_of, judged_of, is_node, prerequisites_of}
 use Rattle.mk_rules.specs.Source.{IsReached}
-use Rattle.mk_rules.specs.Stamps.{AgreesWith}
 use Rattle.mk_rule_lines.specs.declared.rule_line.RuleLine.{RuleLine}
-use Rattle.mk_rules.specs.declared.stamps.Stamps.{Stamps}
 use Rattle.mk_rules.specs.declared.known.Known.{Known}
 use Rattle.mk_rule_lines.specs.declared.form.Form.{Form}
 use Rattle.mk_rule_lines.specs.declared.table.TargetTable.{TargetTable}
@@ -26,19 +24,19 @@ pub record IsKnown (inputs : Inputs) (name : List ℕ) (known : Known) : Type 0 
 
 -- a name that can't be looked at while another is looked up: a hidden prerequisite that is text, or, where the other isn't phony,
 -- that name itself, and where no line has a recipe for it, the candidate for its source that the search has reached
-abbrev pub IsAsked : TargetTable → Stamps → List Form → (phony : Bool) → (own : List ℕ) → (hidden : List (List ℕ)) → (name n : List ℕ) → Type 0
-IsAsked targets stamps forms phony own hidden name n =
-    ((phony ≡ false) × (n ≡ name)) ⊎ (IsTextAmong hidden n ⊎ ((phony ≡ false) × (own ≡ []) × IsReached targets stamps forms name n))
+abbrev pub IsAsked : TargetTable → (allowed : (List ℕ → Option ℤ) → Type 0) → List Form → (phony : Bool) → (own : List ℕ) → (hidden : List (List ℕ)) → (name n : List ℕ) → Type 0
+IsAsked targets allowed forms phony own hidden name n =
+    ((phony ≡ false) × (n ≡ name)) ⊎ (IsTextAmong hidden n ⊎ ((phony ≡ false) × (own ≡ []) × IsReached targets allowed forms name n))
 
 -- the fault of looking up a name
-abbrev pub IsLookUpFault : TargetTable → Stamps → (refuses : List ℕ → Type 0) → List Form → (phony : Bool) → (own : List ℕ) → (hidden : List (List ℕ)) →
+abbrev pub IsLookUpFault : TargetTable → (allowed : (List ℕ → Option ℤ) → Type 0) → (refuses : List ℕ → Type 0) → List Form → (phony : Bool) → (own : List ℕ) → (hidden : List (List ℕ)) →
     (name : List ℕ) → RuleFault → Type 0
-IsLookUpFault targets stamps refuses forms phony own hidden name fault.OutOfMemory = Unit {0}
-IsLookUpFault targets stamps refuses forms phony own hidden name (fault.Tree n) = IsAsked targets stamps forms phony own hidden name n × refuses n
-IsLookUpFault targets stamps refuses forms phony own hidden name _ = ⊥
+IsLookUpFault targets allowed refuses forms phony own hidden name fault.OutOfMemory = Unit {0}
+IsLookUpFault targets allowed refuses forms phony own hidden name (fault.Tree n) = IsAsked targets allowed forms phony own hidden name n × refuses n
+IsLookUpFault targets allowed refuses forms phony own hidden name _ = ⊥
 
--- the prerequisites are those that the inputs give, for some times that agree with what is known
-pub record IsAllowed (stamps : Stamps) (lines : List RuleLine) (entries : (name : List ℕ) → Option Entry) (of : List ℕ → List (List ℕ)) : Type 0 where
+-- the prerequisites are those that the inputs give, for some times that are still possible
+pub record IsAllowed (allowed : (List ℕ → Option ℤ) → Type 0) (lines : List RuleLine) (entries : (name : List ℕ) → Option Entry) (of : List ℕ → List (List ℕ)) : Type 0 where
   pub times : List ℕ → Option ℤ
-  pub agrees : AgreesWith stamps times
+  pub now : allowed times
   pub is : of ≡ prerequisites_of (inputs_of lines entries times)

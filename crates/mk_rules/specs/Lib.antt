@@ -6,6 +6,7 @@ pub mod Graph
 pub mod Hidden
 pub mod Known
 pub mod Limit
+pub mod Looks
 pub mod LooksLaws
 pub mod Node
 pub mod Nodes
@@ -13,6 +14,5 @@ pub mod Ordering
 pub mod Prerequisites
 pub mod Rows
 pub mod Source
-pub mod Stamps
 pub mod Tree
 pub mod Waits

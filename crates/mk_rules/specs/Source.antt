@@ -1,17 +1,15 @@
 -- The search for the file that an implicit rule makes a name from.
 use Rattle.std.specs.Prelude.{◌≡◌, ℕ, ℤ, slice_get, take, false, List, Option, Some, None}
 use Rattle.mk_rule_lines.specs.Source.{stem_of, source_at, source_of}
-use Rattle.mk_rules.specs.Stamps.{AgreesWith}
 use Rattle.mk_rule_lines.specs.Table.{is_named, is_there, named_at}
 use Rattle.mk_rule_lines.specs.declared.form.Form.{Form}
-use Rattle.mk_rules.specs.declared.stamps.Stamps.{Stamps}
 use Rattle.mk_rule_lines.specs.declared.table.TargetTable.{TargetTable}
 use Rattle.mk_rule_lines.specs.declared.fault.RuleFault.{RuleFault}
 use Rattle.mk_rule_lines.specs.declared.fault.RuleFault.TheVariants as fault
 
--- the search for a source reaches the name n: it is that of a candidate and no target, and for any times that agree with
--- what is known no candidate of an earlier form is there
-pub record IsReached (targets : TargetTable) (stamps : Stamps) (forms : List Form) (name n : List ℕ) : Type 0 where
+-- the search for a source reaches the name n: it is that of a candidate and no target, and for any times that are
+-- still possible no candidate of an earlier form is there
+pub record IsReached (targets : TargetTable) (allowed : (List ℕ → Option ℤ) → Type 0) (forms : List Form) (name n : List ℕ) : Type 0 where
   pub place : ℕ
   pub form : Form
   pub stem : List ℕ
@@ -19,10 +17,10 @@ pub record IsReached (targets : TargetTable) (stamps : Stamps) (forms : List For
   pub fits : stem_of form name ≡ Some stem
   pub is : n ≡ (source_at form stem).name
   pub no_target : is_named (named_at targets n) ≡ false
-  pub earlier : (times : List ℕ → Option ℤ) → AgreesWith stamps times → source_of (is_there targets times) (take place forms) name ≡ None
+  pub earlier : (times : List ℕ → Option ℤ) → allowed times → source_of (is_there targets times) (take place forms) name ≡ None
 
 -- the fault of looking for the source of a name
-abbrev pub IsSourceFault : TargetTable → Stamps → (refuses : List ℕ → Type 0) → List Form → (name : List ℕ) → RuleFault → Type 0
-IsSourceFault targets stamps refuses forms name fault.OutOfMemory = Unit {0}
-IsSourceFault targets stamps refuses forms name (fault.Tree n) = IsReached targets stamps forms name n × refuses n
-IsSourceFault targets stamps refuses forms name _ = ⊥
+abbrev pub IsSourceFault : TargetTable → (allowed : (List ℕ → Option ℤ) → Type 0) → (refuses : List ℕ → Type 0) → List Form → (name : List ℕ) → RuleFault → Type 0
+IsSourceFault targets allowed refuses forms name fault.OutOfMemory = Unit {0}
+IsSourceFault targets allowed refuses forms name (fault.Tree n) = IsReached targets allowed forms name n × refuses n
+IsSourceFault targets allowed refuses forms name _ = ⊥

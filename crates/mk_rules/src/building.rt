@@ -11,7 +11,7 @@ ghost use Rattle.mk_rules.specs.Known.{IsKnown};
 ghost use Rattle.mk_rules.specs.Node.{EachHasOneNumber};
 ghost use Rattle.mk_rules.specs.Nodes.{AreMadeOf};
 ghost use Rattle.mk_rules.specs.Assembly.{IsPutTogether};
-ghost use Rattle.mk_rules.specs.Stamps.{AgreesWith, Asks, Looks};
+ghost use Rattle.mk_rules.specs.Looks.{Looks};
 ghost use Rattle.mk_rule_lines.specs.Table.{is_named, named_at};
 ghost use Rattle.mk_rules.specs.Tree.{AskedOnce};
 ghost use Rattle.mk_macros.specs.Ranks.{defined_by};
@@ -32,7 +32,6 @@ use crate::nodes::nodes_of;
 use crate::ordering::{Ordered, hard_edges, ordered_by};
 use crate::rules::Rules;
 use crate::soft::soft_edges;
-use crate::stamps::Stamps;
 use crate::tree::Tree;
 use crate::unmade::check_made;
 use byte_strings::ByteStrings;
@@ -51,20 +50,19 @@ fn found_names<T: Tree>(
     goals: &ByteStrings,
     limit: usize,
 ) -> Result<Numbered<Known>, RuleFault>
-    ensures found { IfOk result (λ n. (times : List ℕ → Option ℤ) → AgreesWith finder.new.stamps.now times
+    ensures found { IfOk result (λ n. (times : List ℕ → Option ℤ) → T.allows finder.new.tree.now times
         → AreFound (inputs_of finder.old.rules.lines.now (finmap.get finder.old.rules.state.now) times) goals.now n) }
     ensures row_count { IfOk result (λ n. length n.rows ≡ length n.names) }
     ensures node_count { IfOk result (λ n. length n.nodes.items ≡ length n.names) }
     ensures closed { IfOk result (λ n. IsTrue (is_closed n.rows)) }
     ensures few { IfOk result (λ n. length n.names ≤ limit) }
     ensures goals { IfOk result (λ n. map (name_at n.names) n.goals.items ≡ goals.now) }
-    ensures fault { IfErr result (λ fault. (times : List ℕ → Option ℤ) → AgreesWith finder.new.stamps.now times
+    ensures fault { IfErr result (λ fault. (times : List ℕ → Option ℤ) → T.allows finder.new.tree.now times
         → IsFindingFault (inputs_of finder.old.rules.lines.now (finmap.get finder.old.rules.state.now) times) (T.refuses finder.new.tree.now)
         goals.now limit fault) }
     ensures same { finder.new.tree.ghost_name ≡ finder.old.tree.ghost_name }
-    ensures looks { Looks finder.old.stamps.now finder.new.stamps.now (T.allows finder.old.tree.now) (T.allows finder.new.tree.now)
-        (T.refuses finder.old.tree.now) (T.refuses finder.new.tree.now) }
-    ensures asks { Asks (is_ok result) finder.old.stamps.now finder.new.stamps.now (T.asked finder.old.tree.now) (T.asked finder.new.tree.now) }
+    ensures looks { Looks (T.allows finder.old.tree.now) (T.allows finder.new.tree.now) (T.refuses finder.old.tree.now) (T.refuses finder.new.tree.now)
+        (T.asked finder.old.tree.now) (T.asked finder.new.tree.now) }
 {
     match number(alloc, finder, goals, limit) {
         Ok(numbered) => Ok(numbered),
@@ -95,12 +93,7 @@ fn numbered_names<T: Tree>(
     ensures narrows { (times : List ℕ → Option ℤ) → T.allows tree.new times → T.allows tree.old times }
     ensures asked { AskedOnce (T.asked tree.old) (λ _. true) (T.asked tree.new) }
 {
-    let mut stamps = Stamps::new(alloc);
-    let mut finder = Finder {
-        rules,
-        tree,
-        stamps: &mut stamps,
-    };
+    let mut finder = Finder { rules, tree };
     found_names(alloc, &mut finder, goals, limit)
 }
 
@@ -294,7 +287,7 @@ fn reached<T: Tree>(
 /// The graph of a makefile's items for these goals, or for the makefile's first target where none is named. It holds no more
 /// names than the limit.
 ///
-/// It is the graph for any times that agree with what the tree answered. The tree is asked for a name once at most. The
+/// It is the graph for any times that agree with what the tree answered. The tree looks at a name once at most. The
 /// macros take in the definitions of the makefile, and the graph keeps the state.
 pub fn build<T: Tree>(
     alloc: Global,

@@ -1,9 +1,9 @@
 //! Names looked up one by one while they are numbered.
-ghost use Rattle.std.specs.Prelude.{◌≡◌, ◌++◌, ℕ, ℤ, List, Option, [], length, option_map, option_to_list, IfOk, IfErr, OnOk, is_ok};
+ghost use Rattle.std.specs.Prelude.{◌≡◌, ◌++◌, ℕ, ℤ, List, Option, [], length, option_map, option_to_list, IfOk, IfErr, OnOk};
 ghost use Rattle.std.specs.FinMap as map;
 ghost use Rattle.mk_rule_lines.specs.Explicit.{numbers_of, explicit_of, is_phony};
 ghost use Rattle.mk_rules.specs.Prerequisites.{inputs_of, is_node, first_or, hidden_in, own_recipes, prerequisites_of, source_names, distinct};
-ghost use Rattle.mk_rules.specs.Stamps.{AgreesWith, Asks, Looks};
+ghost use Rattle.mk_rules.specs.Looks.{Looks};
 ghost use Rattle.mk_rules.specs.Hidden.{HasHidden, IsNamesFault};
 ghost use Rattle.mk_rules.specs.Known.{IsKnown, IsLookUpFault};
 
@@ -11,7 +11,6 @@ use crate::known::Known;
 use crate::lookup::{add_hidden, implicit_source, seen_stamp};
 use crate::mentioned::Mentioned;
 use crate::rules::Rules;
-use crate::stamps::Stamps;
 use crate::tree::Tree;
 use byte_strings::ByteString;
 use mk_graph::{Dependencies, Found};
@@ -43,20 +42,18 @@ fn add_hidden_of<T: Tree>(
     alloc: Global,
     rules: &Rules,
     tree: &mut T,
-    stamps: &mut Stamps,
     mentioned: &mut Mentioned,
     name: &[u8],
 ) -> Result<(), RuleFault>
     requires nodes { mentioned.old.nodes ≡ mentioned.old.judged }
     requires none { mentioned.old.hidden.items ≡ [] }
-    ensures hidden { OnOk result ((times : List ℕ → Option ℤ) → AgreesWith stamps.new times
+    ensures hidden { OnOk result ((times : List ℕ → Option ℤ) → T.allows tree.new times
         → HasHidden (is_node (inputs_of rules.now.lines.now (map.get rules.now.state.now) times)) mentioned.old.judged (hidden_in (map.get rules.now.state.now name.now)) mentioned.new) }
-    ensures looks { Looks stamps.old stamps.new (T.allows tree.old) (T.allows tree.new) (T.refuses tree.old) (T.refuses tree.new) }
-    ensures asks { Asks (is_ok result) stamps.old stamps.new (T.asked tree.old) (T.asked tree.new) }
+    ensures looks { Looks (T.allows tree.old) (T.allows tree.new) (T.refuses tree.old) (T.refuses tree.new) (T.asked tree.old) (T.asked tree.new) }
     ensures fault { IfErr result (IsNamesFault (T.refuses tree.new) (hidden_in (map.get rules.now.state.now name.now))) }
 {
     match rules.entry(name) {
-        Some(entry) => add_hidden(alloc, rules, tree, stamps, mentioned, &entry.hidden),
+        Some(entry) => add_hidden(alloc, rules, tree, mentioned, &entry.hidden),
         None => Ok(()),
     }
 }
@@ -66,25 +63,23 @@ fn mentioned_of<T: Tree>(
     alloc: Global,
     rules: &Rules,
     tree: &mut T,
-    stamps: &mut Stamps,
     name: &[u8],
     numbers: &[usize],
     source: &Option<Source>,
 ) -> Result<(Mentioned, usize), RuleFault>
     requires lines { numbers.now ≡ numbers_of rules.now.lines.now name.now }
-    ensures mentioned { IfOk result (λ of. (times : List ℕ → Option ℤ) → AgreesWith stamps.new times
+    ensures mentioned { IfOk result (λ of. (times : List ℕ → Option ℤ) → T.allows tree.new times
         → HasHidden (is_node (inputs_of rules.now.lines.now (map.get rules.now.state.now) times))
         (distinct (source_names source.now ++ explicit_of rules.now.lines.now name.now))
         (hidden_in (map.get rules.now.state.now name.now)) of.0) }
     ensures hard { IfOk result (λ of. of.1 ≡ length (distinct (source_names source.now ++ explicit_of rules.now.lines.now name.now))) }
-    ensures looks { Looks stamps.old stamps.new (T.allows tree.old) (T.allows tree.new) (T.refuses tree.old) (T.refuses tree.new) }
-    ensures asks { Asks (is_ok result) stamps.old stamps.new (T.asked tree.old) (T.asked tree.new) }
+    ensures looks { Looks (T.allows tree.old) (T.allows tree.new) (T.refuses tree.old) (T.refuses tree.new) (T.asked tree.old) (T.asked tree.new) }
     ensures fault { IfErr result (IsNamesFault (T.refuses tree.new) (hidden_in (map.get rules.now.state.now name.now))) }
 {
     let explicit = rules.explicit(alloc, numbers)?;
     let mut mentioned = Mentioned::hard(alloc, source, &explicit)?;
     let hard = mentioned.judged.len();
-    add_hidden_of(alloc, rules, tree, stamps, &mut mentioned, name)?;
+    add_hidden_of(alloc, rules, tree, &mut mentioned, name)?;
     Ok((mentioned, hard))
 }
 
@@ -122,82 +117,71 @@ fn look_up<T: Tree>(
     alloc: Global,
     rules: &Rules,
     tree: &mut T,
-    stamps: &mut Stamps,
     name: &[u8],
 ) -> Result<Found<Known>, RuleFault>
-    ensures prerequisites { IfOk result (λ found. (times : List ℕ → Option ℤ) → AgreesWith stamps.new times
+    ensures prerequisites { IfOk result (λ found. (times : List ℕ → Option ℤ) → T.allows tree.new times
         → found.prerequisites ≡ prerequisites_of (inputs_of rules.now.lines.now (map.get rules.now.state.now) times) name.now) }
-    ensures node { IfOk result (λ found. (times : List ℕ → Option ℤ) → AgreesWith stamps.new times
+    ensures node { IfOk result (λ found. (times : List ℕ → Option ℤ) → T.allows tree.new times
         → IsKnown (inputs_of rules.now.lines.now (map.get rules.now.state.now) times) name.now found.node) }
-    ensures looks { Looks stamps.old stamps.new (T.allows tree.old) (T.allows tree.new) (T.refuses tree.old) (T.refuses tree.new) }
-    ensures asks { Asks (is_ok result) stamps.old stamps.new (T.asked tree.old) (T.asked tree.new) }
-    ensures fault { IfErr result (IsLookUpFault rules.now.targets.now stamps.new (T.refuses tree.new) rules.now.forms.now
+    ensures looks { Looks (T.allows tree.old) (T.allows tree.new) (T.refuses tree.old) (T.refuses tree.new) (T.asked tree.old) (T.asked tree.new) }
+    ensures fault { IfErr result (IsLookUpFault rules.now.targets.now (T.allows tree.new) (T.refuses tree.new) rules.now.forms.now
         (is_phony rules.now.lines.now name.now) (own_recipes rules.now.lines.now name.now) (hidden_in (map.get rules.now.state.now name.now)) name.now) }
 {
     let (numbers, own) = rules.named(name);
     let phony = rules.is_phony(numbers);
-    let stamp = seen_stamp(alloc, tree, stamps, name, phony)?;
-    let source = implicit_source(alloc, rules, tree, stamps, name, own, phony)?;
-    let (mentioned, hard) = mentioned_of(alloc, rules, tree, stamps, name, numbers, &source)?;
+    let stamp = seen_stamp(alloc, tree, name, phony)?;
+    let source = implicit_source(alloc, rules, tree, name, own, phony)?;
+    let (mentioned, hard) = mentioned_of(alloc, rules, tree, name, numbers, &source)?;
     Ok(gathered(stamp, source, own, mentioned, hard))
 }
 
 /// Looks names up in the rules, the state and a tree.
 #[derive(Drop)]
-pub(crate) struct Finder<'m, 't, 's, T: Tree> {
+pub(crate) struct Finder<'m, 't, T: Tree> {
     pub rules: Rules<'m>,
     pub tree: &'t mut T,
-    pub stamps: &'s mut Stamps,
 }
 
-impl<'m, 't, 's, T: Tree> Dependencies for Finder<'m, 't, 's, T> {
+impl<'m, 't, T: Tree> Dependencies for Finder<'m, 't, T> {
     ghost use Rattle.std.specs.Prelude.{refl};
     ghost use Rattle.std.proofs.Common.{◌∙◌};
     ghost use Rattle.mk_rules.specs.Known.{IsAllowed};
-    ghost use Rattle.mk_rules.specs.Stamps.{is_known};
-    ghost use Rattle.mk_rules.specs.LooksLaws.{looks_none, looks_on, asks_on, known_times, allowed_by_known};
+    ghost use Rattle.mk_rules.specs.LooksLaws.{looks_none, looks_on, allowed_by};
 
     type Fault = RuleFault;
 
     type Node = Known;
 
-    ghost allows = { λ f of. IsAllowed f.stamps.now f.rules.lines.now (map.get f.rules.state.now) of };
+    ghost allows = { λ f of. IsAllowed (T.allows f.tree.now) f.rules.lines.now (map.get f.rules.state.now) of };
 
     // Each name is looked up where it is asked for.
     ghost asked = { λ _ _. ⊥ };
 
-    ghost describes = { λ f name known. (times : List ℕ → Option ℤ) → AgreesWith f.stamps.now times
+    ghost describes = { λ f name known. (times : List ℕ → Option ℤ) → T.allows f.tree.now times
         → IsKnown (inputs_of f.rules.lines.now (map.get f.rules.state.now) times) name known };
 
-    ghost refuses = { λ f name fault. IsLookUpFault f.rules.targets.now f.stamps.now (T.refuses f.tree.now) f.rules.forms.now
+    ghost refuses = { λ f name fault. IsLookUpFault f.rules.targets.now (T.allows f.tree.now) (T.refuses f.tree.now) f.rules.forms.now
         (is_phony f.rules.lines.now name) (own_recipes f.rules.lines.now name) (hidden_in (map.get f.rules.state.now name)) name fault };
 
-    ghost follows = { λ f answers g. (g.rules ≡ f.rules) × (g.tree.ghost_name ≡ f.tree.ghost_name)
-        × Looks f.stamps.now g.stamps.now (T.allows f.tree.now) (T.allows g.tree.now) (T.refuses f.tree.now) (T.refuses g.tree.now)
-        × Asks answers f.stamps.now g.stamps.now (T.asked f.tree.now) (T.asked g.tree.now) };
+    ghost follows = { λ f _ g. (g.rules ≡ f.rules) × (g.tree.ghost_name ≡ f.tree.ghost_name)
+        × Looks (T.allows f.tree.now) (T.allows g.tree.now) (T.refuses f.tree.now) (T.refuses g.tree.now) (T.asked f.tree.now) (T.asked g.tree.now) };
 
     fn prerequisites(&mut self, alloc: Global, name: &[u8]) -> Result<Found<Known>, RuleFault> {
-        look_up(alloc, &self.rules, self.tree, self.stamps, name)
+        look_up(alloc, &self.rules, self.tree, name)
     }
 
     ghost possible = { λ f. (
-      prerequisites_of (inputs_of f.rules.lines.now (map.get f.rules.state.now) (known_times f.stamps.now)),
-      allowed_by_known f.stamps.now f.rules.lines.now (map.get f.rules.state.now),
+      prerequisites_of (inputs_of f.rules.lines.now (map.get f.rules.state.now) (T.possible f.tree.now).0),
+      allowed_by (T.allows f.tree.now) f.rules.lines.now (map.get f.rules.state.now) (T.possible f.tree.now).0 (T.possible f.tree.now).1,
     ) };
 
-    ghost stays = { λ f. (refl, refl, looks_none _ _ _, λ earlier once. once) };
+    ghost stays = { λ f. (refl, refl, looks_none _ _ _) };
 
     ghost through = { λ a b c answers first next. (
       next.0 ∙ first.0,
       next.1 ∙ first.1,
       looks_on _ _ _ _ _ _ _ _ _ first.2 next.2,
-      asks_on answers _ _ _ _ _ _ first.3 next.3,
     ) };
 
-    ghost ended = { λ a b first. (
-      first.0,
-      first.1,
-      first.2,
-      λ earlier once. (is_known b.stamps.now, first.3 earlier once),
-    ) };
+    ghost ended = { λ a b first. first };
 }

@@ -1,17 +1,17 @@
 //! What is found of a name: what makes it, and what it is made from.
-ghost use Rattle.std.specs.Prelude.{◌≡◌, ◌⊎◌, ℕ, ℤ, List, Option, None, [], false, option_to_list, IfOk, IfErr, OnOk, IsOk, IsErr, is_ok, if◌then◌else◌};
+ghost use Rattle.std.specs.Prelude.{◌≡◌, ◌⊎◌, ℕ, ℤ, List, Option, None, [], false, option_to_list, IfOk, IfErr, OnOk, IsOk, IsErr, if◌then◌else◌};
 ghost use Rattle.std.specs.FinMap as map;
 ghost use Rattle.std.specs.Str.{is_utf8};
 ghost use Rattle.mk_rule_lines.specs.Explicit.{is_phony};
 ghost use Rattle.mk_rules.specs.Prerequisites.{inputs_of, is_node, implicit_source, own_recipes, prerequisites_of};
-ghost use Rattle.mk_rules.specs.Stamps.{AgreesWith, Asks, Looks, IsLookFault};
+ghost use Rattle.mk_rules.specs.Looks.{IsLookFault, Looks};
 ghost use Rattle.mk_rules.specs.Source.{IsSourceFault};
 ghost use Rattle.mk_rules.specs.Hidden.{HasHidden, IsNamesFault};
 
+use crate::look::stamp_of;
 use crate::mentioned::Mentioned;
 use crate::rules::Rules;
 use crate::source::is_there;
-use crate::stamps::Stamps;
 use crate::tree::Tree;
 use byte_strings::ByteStrings;
 use mk_rule_lines::{RuleFault, Source};
@@ -32,42 +32,38 @@ fn is_node<T: Tree>(
     alloc: Global,
     rules: &Rules,
     tree: &mut T,
-    stamps: &mut Stamps,
     name: &[u8],
 ) -> Result<bool, RuleFault>
-    ensures node { IfOk result (λ node. (times : List ℕ → Option ℤ) → AgreesWith stamps.new times
+    ensures node { IfOk result (λ node. (times : List ℕ → Option ℤ) → T.allows tree.new times
         → node ≡ is_node (inputs_of rules.now.lines.now (map.get rules.now.state.now) times) name.now) }
-    ensures looks { Looks stamps.old stamps.new (T.allows tree.old) (T.allows tree.new) (T.refuses tree.old) (T.refuses tree.new) }
-    ensures asks { Asks (is_ok result) stamps.old stamps.new (T.asked tree.old) (T.asked tree.new) }
+    ensures looks { Looks (T.allows tree.old) (T.allows tree.new) (T.refuses tree.old) (T.refuses tree.new) (T.asked tree.old) (T.asked tree.new) }
     ensures fault { IfErr result (IsLookFault (T.refuses tree.new) name.now) }
     // A name that isn't text is neither asked for nor looked at.
-    ensures unasked { is_utf8 name.now ≡ false → (tree.new ≡ tree.old) × ((stamps.new ≡ stamps.old) × IsOk result) }
+    ensures unasked { is_utf8 name.now ≡ false → (tree.new ≡ tree.old) × IsOk result }
 {
     if !is_utf8(name) {
         return Ok(false);
     }
-    is_there(alloc, rules.targets, tree, stamps, name)
+    is_there(alloc, rules.targets, tree, name)
 }
 
 /// The time of a name, which isn't asked for where the name is phony: such a one has none.
 pub(crate) fn seen_stamp<T: Tree>(
     alloc: Global,
     tree: &mut T,
-    stamps: &mut Stamps,
     name: &[u8],
     is_phony: bool,
 ) -> Result<Option<i128>, RuleFault>
     ensures stamp { IfOk result (λ stamp. (times : List ℕ → Option ℤ)
-        → AgreesWith stamps.new times → stamp ≡ (if is_phony then None else times name.now)) }
-    ensures looks { Looks stamps.old stamps.new (T.allows tree.old) (T.allows tree.new) (T.refuses tree.old) (T.refuses tree.new) }
-    ensures asks { Asks (is_ok result) stamps.old stamps.new (T.asked tree.old) (T.asked tree.new) }
+        → T.allows tree.new times → stamp ≡ (if is_phony then None else times name.now)) }
+    ensures looks { Looks (T.allows tree.old) (T.allows tree.new) (T.refuses tree.old) (T.refuses tree.new) (T.asked tree.old) (T.asked tree.new) }
     ensures fault { IfErr result (IsLookFault (T.refuses tree.new) name.now) }
     ensures asked { IsErr result → is_phony ≡ false }
 {
     if is_phony {
         return Ok(None);
     }
-    stamps.stamp(alloc, tree, name)
+    stamp_of(alloc, tree, name)
 }
 
 /// What an implicit rule makes the name from, where it isn't phony and no line has a recipe for it: `own` is the number of the
@@ -76,21 +72,19 @@ pub(crate) fn implicit_source<T: Tree>(
     alloc: Global,
     rules: &Rules,
     tree: &mut T,
-    stamps: &mut Stamps,
     name: &[u8],
     own: Option<usize>,
     phony: bool,
 ) -> Result<Option<Source>, RuleFault>
     requires own { option_to_list own ≡ own_recipes rules.now.lines.now name.now }
     requires phony { phony ≡ is_phony rules.now.lines.now name.now }
-    ensures source { IfOk result (λ found. (times : List ℕ → Option ℤ) → AgreesWith stamps.new times
+    ensures source { IfOk result (λ found. (times : List ℕ → Option ℤ) → T.allows tree.new times
         → found ≡ implicit_source (inputs_of rules.now.lines.now (map.get rules.now.state.now) times) name.now) }
-    ensures looks { Looks stamps.old stamps.new (T.allows tree.old) (T.allows tree.new) (T.refuses tree.old) (T.refuses tree.new) }
-    ensures asks { Asks (is_ok result) stamps.old stamps.new (T.asked tree.old) (T.asked tree.new) }
-    ensures fault { IfErr result (IsSourceFault rules.now.targets.now stamps.new (T.refuses tree.new) rules.now.forms.now name.now) }
+    ensures looks { Looks (T.allows tree.old) (T.allows tree.new) (T.refuses tree.old) (T.refuses tree.new) (T.asked tree.old) (T.asked tree.new) }
+    ensures fault { IfErr result (IsSourceFault rules.now.targets.now (T.allows tree.new) (T.refuses tree.new) rules.now.forms.now name.now) }
     // Of a phony name, and beside a recipe of its own, no source is looked for.
     ensures unasked { ((is_phony rules.now.lines.now name.now ≡ false) × (own_recipes rules.now.lines.now name.now ≡ []))
-        ⊎ ((tree.new ≡ tree.old) × ((stamps.new ≡ stamps.old) × IsOk result)) }
+        ⊎ ((tree.new ≡ tree.old) × IsOk result) }
 {
     if phony {
         return Ok(None);
@@ -98,7 +92,7 @@ pub(crate) fn implicit_source<T: Tree>(
     if own.is_some() {
         return Ok(None);
     }
-    rules.source(alloc, tree, stamps, name)
+    rules.source(alloc, tree, name)
 }
 
 /// Takes in hidden prerequisites behind the hard ones.
@@ -106,20 +100,18 @@ pub(crate) fn add_hidden<T: Tree>(
     alloc: Global,
     rules: &Rules,
     tree: &mut T,
-    stamps: &mut Stamps,
     mentioned: &mut Mentioned,
     hidden: &ByteStrings,
 ) -> Result<(), RuleFault>
     requires nodes { mentioned.old.nodes ≡ mentioned.old.judged }
     requires none { mentioned.old.hidden.items ≡ [] }
-    ensures hidden { OnOk result ((times : List ℕ → Option ℤ) → AgreesWith stamps.new times
+    ensures hidden { OnOk result ((times : List ℕ → Option ℤ) → T.allows tree.new times
         → HasHidden (is_node (inputs_of rules.now.lines.now (map.get rules.now.state.now) times)) mentioned.old.judged hidden.now mentioned.new) }
-    ensures looks { Looks stamps.old stamps.new (T.allows tree.old) (T.allows tree.new) (T.refuses tree.old) (T.refuses tree.new) }
-    ensures asks { Asks (is_ok result) stamps.old stamps.new (T.asked tree.old) (T.asked tree.new) }
+    ensures looks { Looks (T.allows tree.old) (T.allows tree.new) (T.refuses tree.old) (T.refuses tree.new) (T.asked tree.old) (T.asked tree.new) }
     ensures fault { IfErr result (IsNamesFault (T.refuses tree.new) hidden.now) }
 {
     for name in hidden.iter() {
-        let node = is_node(alloc, rules, tree, stamps, name)?;
+        let node = is_node(alloc, rules, tree, name)?;
         mentioned.add_hidden(alloc, name, node)?;
     }
     Ok(())

@@ -1,15 +1,14 @@
 //! What a makefile's rules and the state say of a name.
-ghost use Rattle.std.specs.Prelude.{◌≡◌, ℕ, ℤ, List, Option, false, option_to_list, is_ok, IfOk, IfErr};
+ghost use Rattle.std.specs.Prelude.{◌≡◌, ℕ, ℤ, List, Option, false, option_to_list, IfOk, IfErr};
 ghost use Rattle.std.specs.FinMap as map;
 ghost use Rattle.std.specs.Option.{option_copied};
 ghost use Rattle.mk_rule_lines.specs.Rules.{has, suffixes_of, targets_by, places, recipe_places};
 ghost use Rattle.mk_rules.specs.Source.{IsSourceFault};
-ghost use Rattle.mk_rules.specs.Stamps.{AgreesWith, Asks};
+ghost use Rattle.mk_rules.specs.Looks.{Looks};
 ghost use Rattle.mk_rule_lines.specs.Table.{is_there, named_at};
 ghost use Rattle.mk_rule_lines.specs.Forms.{forms_of};
 
 use crate::source::source_of;
-use crate::stamps::Stamps;
 use crate::tree::Tree;
 use byte_strings::ByteStrings;
 use mk_rule_lines::{Form, RuleFault, RuleLine, Source, TargetTable, explicit_of, is_phony};
@@ -71,19 +70,14 @@ impl<'m> Rules<'m> {
         &self,
         alloc: Global,
         tree: &mut T,
-        stamps: &mut Stamps,
         name: &[u8],
     ) -> Result<Option<Source>, RuleFault>
-        ensures source { IfOk result (λ found. (times : List ℕ → Option ℤ) → AgreesWith stamps.new times
+        ensures source { IfOk result (λ found. (times : List ℕ → Option ℤ) → T.allows tree.new times
             → found ≡ source_of (is_there self.now.targets.now times) self.now.forms.now name.now) }
-        ensures grows { (times : List ℕ → Option ℤ) → AgreesWith stamps.new times → AgreesWith stamps.old times }
-        ensures answers { (times : List ℕ → Option ℤ) → T.allows tree.new times → AgreesWith stamps.old times → AgreesWith stamps.new times }
-        ensures narrows { (times : List ℕ → Option ℤ) → T.allows tree.new times → T.allows tree.old times }
-        ensures kept { (n : List ℕ) → T.refuses tree.old n → T.refuses tree.new n }
-        ensures asks { Asks (is_ok result) stamps.old stamps.new (T.asked tree.old) (T.asked tree.new) }
-        ensures fault { IfErr result (IsSourceFault self.now.targets.now stamps.new (T.refuses tree.new) self.now.forms.now name.now) }
+        ensures looks { Looks (T.allows tree.old) (T.allows tree.new) (T.refuses tree.old) (T.refuses tree.new) (T.asked tree.old) (T.asked tree.new) }
+        ensures fault { IfErr result (IsSourceFault self.now.targets.now (T.allows tree.new) (T.refuses tree.new) self.now.forms.now name.now) }
     {
-        source_of(alloc, self.targets, tree, stamps, self.forms, name)
+        source_of(alloc, self.targets, tree, self.forms, name)
     }
 
     /// What the state has of the name.

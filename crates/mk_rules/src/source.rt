@@ -1,11 +1,11 @@
 //! The implicit source of a name.
-ghost use Rattle.std.specs.Prelude.{◌≡◌, ℕ, ℤ, List, Option, false, IfOk, IfErr, IsErr, is_ok};
+ghost use Rattle.std.specs.Prelude.{◌≡◌, ℕ, ℤ, List, Option, false, IfOk, IfErr, IsErr};
 ghost use Rattle.mk_rule_lines.specs.Source.{source_of};
 ghost use Rattle.mk_rules.specs.Source.{IsSourceFault};
-ghost use Rattle.mk_rules.specs.Stamps.{AgreesWith, Asks, IsLookFault};
+ghost use Rattle.mk_rules.specs.Looks.{IsLookFault, Looks};
 ghost use Rattle.mk_rule_lines.specs.Table.{is_named, is_there, named_at};
 
-use crate::stamps::Stamps;
+use crate::look::stamp_of;
 use crate::tree::Tree;
 use mk_rule_lines::{Form, RuleFault, Source, TargetTable};
 use std::alloc::Global;
@@ -15,53 +15,43 @@ pub(crate) fn is_there<T: Tree>(
     alloc: Global,
     targets: &TargetTable,
     tree: &mut T,
-    stamps: &mut Stamps,
     name: &[u8],
 ) -> Result<bool, RuleFault>
     ensures there { IfOk result (λ there. (times : List ℕ → Option ℤ)
-        → AgreesWith stamps.new times → there ≡ is_there targets.now times name.now) }
-    ensures grows { (times : List ℕ → Option ℤ) → AgreesWith stamps.new times → AgreesWith stamps.old times }
-    ensures answers { (times : List ℕ → Option ℤ) → T.allows tree.new times → AgreesWith stamps.old times → AgreesWith stamps.new times }
-    ensures narrows { (times : List ℕ → Option ℤ) → T.allows tree.new times → T.allows tree.old times }
-    ensures kept { (n : List ℕ) → T.refuses tree.old n → T.refuses tree.new n }
-    ensures asks { Asks (is_ok result) stamps.old stamps.new (T.asked tree.old) (T.asked tree.new) }
+        → T.allows tree.new times → there ≡ is_there targets.now times name.now) }
+    ensures looks { Looks (T.allows tree.old) (T.allows tree.new) (T.refuses tree.old) (T.refuses tree.new) (T.asked tree.old) (T.asked tree.new) }
     ensures fault { IfErr result (IsLookFault (T.refuses tree.new) name.now) }
     ensures asked { IsErr result → is_named (named_at targets.now name.now) ≡ false }
 {
     if targets.is_target(name) {
         return Ok(true);
     }
-    let stamp = stamps.stamp(alloc, tree, name)?;
+    let stamp = stamp_of(alloc, tree, name)?;
     Ok(stamp.is_some())
 }
 
 /// What an implicit rule makes the name from: the first of all candidates, in the order of the forms, that some line
 /// makes or that has a file.
 ///
-/// What the tree answered stands in `stamps`, and the answer is right for any times that agree with them.
+/// The answer is right for any times that agree with what the tree answered.
 pub fn source_of<T: Tree>(
     alloc: Global,
     targets: &TargetTable,
     tree: &mut T,
-    stamps: &mut Stamps,
     forms: &[Form],
     name: &[u8],
 ) -> Result<Option<Source>, RuleFault>
     ensures source { IfOk result (λ found. (times : List ℕ → Option ℤ)
-        → AgreesWith stamps.new times → found ≡ source_of (is_there targets.now times) forms.now name.now) }
-    ensures grows { (times : List ℕ → Option ℤ) → AgreesWith stamps.new times → AgreesWith stamps.old times }
-    ensures answers { (times : List ℕ → Option ℤ) → T.allows tree.new times → AgreesWith stamps.old times → AgreesWith stamps.new times }
-    ensures narrows { (times : List ℕ → Option ℤ) → T.allows tree.new times → T.allows tree.old times }
-    ensures kept { (n : List ℕ) → T.refuses tree.old n → T.refuses tree.new n }
-    ensures asks { Asks (is_ok result) stamps.old stamps.new (T.asked tree.old) (T.asked tree.new) }
-    ensures fault { IfErr result (IsSourceFault targets.now stamps.new (T.refuses tree.new) forms.now name.now) }
+        → T.allows tree.new times → found ≡ source_of (is_there targets.now times) forms.now name.now) }
+    ensures looks { Looks (T.allows tree.old) (T.allows tree.new) (T.refuses tree.old) (T.refuses tree.new) (T.asked tree.old) (T.asked tree.new) }
+    ensures fault { IfErr result (IsSourceFault targets.now (T.allows tree.new) (T.refuses tree.new) forms.now name.now) }
 {
     for form in forms {
         let Some(stem) = form.stem(name) else {
             continue;
         };
         let source = form.source(alloc, stem)?;
-        if is_there(alloc, targets, tree, stamps, source.name.as_slice())? {
+        if is_there(alloc, targets, tree, source.name.as_slice())? {
             return Ok(Some(source));
         }
     }

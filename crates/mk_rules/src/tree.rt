@@ -17,7 +17,7 @@ pub enum TreeFault {
 
 /// The times of the files that a makefile's names stand for.
 pub trait Tree {
-    ghost use Rattle.mk_rules.specs.Tree.{IsTreeFault, AskedOnce};
+    ghost use Rattle.mk_rules.specs.Tree.{IsTreeFault, AskedOnce, LooksOnce};
 
     /// Which times, one of each name that has a file, agree with all that was answered so far.
     ghost allows: { Self → (List ℕ → Option ℤ) → Type 0 };
@@ -25,18 +25,19 @@ pub trait Tree {
     /// That it can't be told whether the name has a file. Of the files of a disk this stays open.
     ghost refuses: { Self → List ℕ → Type 0 };
 
-    /// How often each name was asked for. A tree that doesn't count its calls leaves it out.
+    /// How often it looked at each name. A tree that doesn't count its looks leaves it out.
     ghost asked: { Self → List ℕ → ℕ } = { λ _ _. 0 };
 
     /// When the file of this name was last changed, in nanoseconds since 1970, or `None` where there is no file.
     /// Links are followed. A name that no file can have has none. An answer narrows what is still possible and never widens
-    /// it.
+    /// it, so a name has one time. Who asks keeps no answers: a name that was looked at isn't looked at again.
     fn stamp(&mut self, alloc: Global, name: &[u8]) -> Result<Option<i128>, TreeFault>
         ensures stamp { IfOk result (λ answer. (times : List ℕ → Option ℤ) → allows self.new times → answer ≡ times name.now) }
         ensures grows { (times : List ℕ → Option ℤ) → allows self.new times → allows self.old times }
         ensures refused { IfErr result (IsTreeFault (refuses self.new name.now)) }
         ensures kept { (n : List ℕ) → refuses self.old n → refuses self.new n }
-        ensures asked { AskedOnce (asked self.old) (λ other. bytes_eq other name.now) (asked self.new) };
+        ensures asked { AskedOnce (asked self.old) (λ other. bytes_eq other name.now) (asked self.new) }
+        ensures once { LooksOnce (asked self.old) (asked self.new) };
 
     // Something is always possible.
     ghost possible: { (tree : Self) → (times : List ℕ → Option ℤ) × allows tree times };

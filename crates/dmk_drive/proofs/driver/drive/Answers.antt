@@ -17,7 +17,8 @@ returns-clause-listed g c = λ asks zero files times text now.
     (g.O.Write.contents c.say-reply.new.out) c.dry_run-found.result told (c.say-reply.ensures.found (not_two c.say-reply.result.status zero))
     (ap not asks.0) (c.say-reply.ensures.whole (not_two c.say-reply.result.status zero)) _ (c.say-reply.ensures.note zero)
     (SaysNote (g.E.Write.contents c.args.err.now) (g.E.Write.contents c.say-reply.new.err) c.say-reply.result.is_told)
-    (c.say-reply.ensures.noted asks.0 zero)
+    (c.say-reply.ensures.noted asks.0 zero) c.always_told-always.result.items
+    (c.always_told-always.ensures.told (not_two c.say-reply.result.status zero))
 
 pub returns-clause-asked : goal.returns-clause-asked
 returns-clause-asked g c = λ asks other files times text now.
@@ -29,6 +30,7 @@ returns-clause-asked g c = λ asks other files times text now.
     g.D.Disk.honest seen c.args.options.telling (not c.args.options.asks) (g.O.Write.contents c.args.out.now)
     (g.O.Write.contents c.say-reply.new.out) c.say-reply.result.status c.dry_run-found.result told
     (c.say-reply.ensures.found other) (ap not asks) (c.say-reply.ensures.whole other) (c.say-reply.ensures.asked asks other)
+    c.always_told-always.result.items (c.always_told-always.ensures.told other)
 
 pub returns-clause-silent : goal.returns-clause-silent
 returns-clause-silent g c = λ asks nothing.

@@ -1,9 +1,11 @@
-use Rattle.std.proofs.Common.{◌≡◌, ◌+◌, ◌||◌, ℕ, Bool, List, [], ◌∷◌, ◌++◌, drop, get_or, add-one, refl, sym, ap, subst, ◌∙◌}
+use Rattle.std.proofs.Common.{◌≡◌, ◌+◌, ◌||◌, ℕ, Bool, List, [], ◌∷◌, ◌++◌, drop, get_or, length, add-one, refl, sym, ap, subst, ◌∙◌}
 use Rattle.std.proofs.Math.Seq.{drop-cons}
 use Rattle.std.proofs.lemmas.List.{append-nil, drop_all, length-set}
 use Rattle.std.proofs.lemmas.Result.{err_from_is_err_and}
 use Rattle.mk_plan.specs.Passing.{Passes, IsFaultAt, is_remade, told_in}
+use Rattle.dmk_drive.specs.AlwaysRun.{always_from, lines_run_always}
 use Rattle.dmk_drive.specs.Passing.{listing_text, lists_any}
+use Rattle.dmk_drive.proofs.AlwaysLemmas.{lines_more}
 use Rattle.dmk_drive.proofs.PassingLemmas.{listed_more, no_fault_more, fault_next, listed_all, text_more, any_more}
 use Rattle.dmk_drive.proofs.passing.listing_of.Goals as goal
 
@@ -25,7 +27,7 @@ loop-node-preserved c =
     let telling = c.args.shows.telling in
     let recipes = c.args.shows.recipes in
     let front = told_in graph n passed in
-    let (listed, text, any, before) = c.loop-node.invariant.so_far in
+    let (listed, text, any, always, before) = c.loop-node.invariant.so_far in
     let at : drop i read ≡ n ∷ drop (i + 1) read = drop-cons read i 0 c.loop-node-test.true ∙ rw add-one refl in
     let here : drop i graph.order.items ≡ n ∷ drop (i + 1) graph.order.items =
     subst (λ (nodes : List ℕ). drop i nodes ≡ n ∷ drop (i + 1) nodes) c.as_slice-node-items.ensures.value at in
@@ -39,6 +41,10 @@ loop-node-preserved c =
         listed ++ front,
         c.in_ok-add.ensures.text ∙ ap (λ t. t ++ listing_text telling recipes front) text ∙ sym (text_more telling recipes listed front),
         c.in_ok-add.ensures.any ∙ ap (λ b. b || lists_any front) any ∙ sym (any_more listed front),
+        c.in_ok-add.ensures.always
+            ∙ ap (λ l. l ++ always_from telling recipes (length c.loop-node.listing.text.items) front) always
+            ∙ ap (λ t. lines_run_always telling recipes listed ++ always_from telling recipes (length t) front) text
+            ∙ lines_more telling recipes listed front,
         listed_more keeping graph marks i n c.is_remade.result front listed here passes before,
       );
       no_fault = no_fault_more keeping graph marks i n c.is_remade.result front here passes c.loop-node.invariant.no_fault;
@@ -48,10 +54,10 @@ pub returns-clause-listing : goal.returns-clause-listing
 returns-clause-listing c =
     let graph = c.args.graph.now in
     let i = c.loop-node.node-index in
-    let (listed, text, any, before) = c.loop-node.invariant.so_far in
+    let (listed, text, any, always, before) = c.loop-node.invariant.so_far in
     let over : drop i graph.order.items ≡ [] =
     subst (λ (nodes : List ℕ). drop i nodes ≡ []) c.as_slice-node-items.ensures.value (drop_all i c.as_slice-node-items.result.now c.loop-node-test.false) in
-    (listed, listed_all c.args.keeping graph c.loop-node.marks.items i listed over (append-nil listed) before, text, any)
+    (listed, listed_all c.args.keeping graph c.loop-node.marks.items i listed over (append-nil listed) before, text, any, always)
 
 pub returns-in_err-passed-clause-fault : goal.returns-in_err-passed-clause-fault
 returns-in_err-passed-clause-fault c =

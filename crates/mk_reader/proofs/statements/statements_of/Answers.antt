@@ -1,4 +1,4 @@
-use Rattle.std.proofs.Common.{◌≡◌, false, true, List, ◌∷◌, option_copied, sym, ap, subst, ◌∙◌}
+use Rattle.std.proofs.Common.{◌≡◌, ◌∷◌, option_copied, sym, ap, subst, ◌∙◌}
 use Rattle.mk_reader.specs.Lines.{logical_lines}
 use Rattle.mk_reader.specs.Statements.{ComesTo}
 use Rattle.mk_reader.proofs.LinesLemmas.{no_lines_left}

@@ -1,4 +1,4 @@
-use Rattle.std.proofs.Common.{ℕ, List, option_copied}
+use Rattle.std.proofs.Common.{List, option_copied}
 use Rattle.mk_reader.specs.Lines.{logical_lines, size_left}
 use Rattle.mk_reader.specs.Statements.{AreStatements, ComesTo}
 use Rattle.mk_reader.specs.declared.item.Statement.{Statement}

@@ -3,7 +3,7 @@ use Rattle.std.specs.FinMap as map
 use Rattle.mk_macros.specs.Ranks.{defined_by}
 use Rattle.mk_rule_lines.specs.declared.fault.RuleFault.{RuleFault}
 use Rattle.mk_rules.specs.Faults.{IsRuleFault}
-use Rattle.mk_rules.proofs.AskedLemmas.{asked_none}
+use Rattle.mk_rules.proofs.LookLemmas.{asked_none}
 use Rattle.mk_rules.proofs.BuildLemmas.{built, graph_refused, makefile_refused, names_refused}
 use Rattle.mk_rule_lines.proofs.LineLemmas.{handed_on}
 use Rattle.mk_rule_lines.proofs.ResultLemmas.{if_ok, if_err}

@@ -1,7 +1,6 @@
 use Rattle.std.proofs.Common.{◌<◌, ℕ, ℤ, List, Option, length, ap, subst, refl}
 use Rattle.std.specs.FinMap as map
 use Rattle.mk_graph.specs.Numbering.{IsNumbering}
-use Rattle.mk_rules.specs.Stamps.{AgreesWith}
 use Rattle.mk_rules.specs.declared.known.Known.{Known}
 use Rattle.mk_rules.specs.Found.{AreFound, IsFindingFault}
 use Rattle.mk_rule_lines.specs.Explicit.{is_phony}
@@ -12,48 +11,48 @@ use Rattle.mk_rules.proofs.FoundLemmas.{described_at, finding_fault, too_many, o
 use Rattle.mk_rules.proofs.building.found_names.Goals as goal
 
 pub returns-in-Ok-clause-found : goal.returns-in-Ok-clause-found
-returns-in-Ok-clause-found g c = λ times agrees.
+returns-in-Ok-clause-found g c = λ times now.
     let ends = c.number.new.source.rules in
     let inputs = inputs_of ends.lines.now (map.get ends.state.now) times in
     let of = prerequisites_of inputs in
     let e = c.in-Ok.ensures in
     subst (λ (i : Inputs). AreFound i c.args.goals.now c.in-Ok.numbered) (ap (λ (r : Rules). inputs_of r.lines.now (map.get r.state.now) times) (e.follows).0)
     (record {
-      names_are = e.names of (record { times = times; agrees = agrees; is = refl });
-      rows_are = e.rows of (record { times = times; agrees = agrees; is = refl });
+      names_are = e.names of (record { times = times; now = now; is = refl });
+      rows_are = e.rows of (record { times = times; now = now; is = refl });
       goals_are = e.goals;
-      known = described_at (λ name (known : Known). (any : List ℕ → Option ℤ) → AgreesWith c.number.new.source.stamps.now any → IsKnown (inputs_of ends.lines.now (map.get ends.state.now) any) name known)
-          (IsKnown inputs) _ _ (λ name node is. is times agrees) e.described;
+      known = described_at (λ name (known : Known). (any : List ℕ → Option ℤ) → g.T.Tree.allows c.number.new.source.tree.now any → IsKnown (inputs_of ends.lines.now (map.get ends.state.now) any) name known)
+          (IsKnown inputs) _ _ (λ name node is. is times now) e.described;
     })
 
 pub returns-in-Err-TooMany-clause-fault : goal.returns-in-Err-TooMany-clause-fault
-returns-in-Err-TooMany-clause-fault g c = λ times agrees.
+returns-in-Err-TooMany-clause-fault g c = λ times now.
     let ends = c.number.new.source.rules in
     let inputs = inputs_of ends.lines.now (map.get ends.state.now) times in
     let e = c.in-Err-TooMany.ensures in
     subst (λ (i : Inputs). (names : List (List ℕ)) → IsNumbering (prerequisites_of i) c.args.goals.now names → c.args.limit < length names)
     (ap (λ (r : Rules). inputs_of r.lines.now (map.get r.state.now) times) (e.follows).0)
-    (too_many (IsAllowed c.number.new.source.stamps.now ends.lines.now (map.get ends.state.now)) _ _ _ _ c.in-Err-TooMany.field-0-is e.fault (prerequisites_of inputs) (record { times = times; agrees = agrees; is = refl }))
+    (too_many (IsAllowed (g.T.Tree.allows c.number.new.source.tree.now) ends.lines.now (map.get ends.state.now)) _ _ _ _ c.in-Err-TooMany.field-0-is e.fault (prerequisites_of inputs) (record { times = times; now = now; is = refl }))
 
 pub returns-in-Err-Source-clause-fault : goal.returns-in-Err-Source-clause-fault
-returns-in-Err-Source-clause-fault g c = λ times agrees.
+returns-in-Err-Source-clause-fault g c = λ times now.
     let ends = c.number.new.source.rules in
     let inputs = inputs_of ends.lines.now (map.get ends.state.now) times in
     let e = c.in-Err-Source.ensures in
-    let meets = of_source (IsAllowed c.number.new.source.stamps.now ends.lines.now (map.get ends.state.now))
-    (λ name f. IsLookUpFault ends.targets.now c.number.new.source.stamps.now (g.T.Tree.refuses c.number.new.source.tree.now) ends.forms.now (is_phony ends.lines.now name) (own_recipes ends.lines.now name) (hidden_in (map.get ends.state.now name)) name f)
+    let meets = of_source (IsAllowed (g.T.Tree.allows c.number.new.source.tree.now) ends.lines.now (map.get ends.state.now))
+    (λ name f. IsLookUpFault ends.targets.now (g.T.Tree.allows c.number.new.source.tree.now) (g.T.Tree.refuses c.number.new.source.tree.now) ends.forms.now (is_phony ends.lines.now name) (own_recipes ends.lines.now name) (hidden_in (map.get ends.state.now name)) name f)
     c.args.goals.now c.args.limit _ c.in-Err-Source.cause c.in-Err-Source.field-0-is e.fault in
     subst (λ (i : Inputs). IsFindingFault i (g.T.Tree.refuses c.number.new.source.tree.now) c.args.goals.now c.args.limit c.in-Err-Source.cause)
     (ap (λ (r : Rules). inputs_of r.lines.now (map.get r.state.now) times) (e.follows).0)
-    (finding_fault ends.lines.now ends.targets.now ends.named ends.forms.now ends.all_forms (map.get ends.state.now) c.number.new.source.stamps.now times agrees
+    (finding_fault ends.lines.now ends.targets.now ends.named ends.forms.now ends.all_forms (map.get ends.state.now) (g.T.Tree.allows c.number.new.source.tree.now) times now
     (g.T.Tree.refuses c.number.new.source.tree.now) c.args.goals.now c.args.limit meets.0 c.in-Err-Source.cause meets.1
-    (λ names are. meets.2 (prerequisites_of inputs) (record { times = times; agrees = agrees; is = refl }) names are))
+    (λ names are. meets.2 (prerequisites_of inputs) (record { times = times; now = now; is = refl }) names are))
 
-pub returns-in-Ok-clause-asks : goal.returns-in-Ok-clause-asks
-returns-in-Ok-clause-asks g c = (c.in-Ok.ensures.follows).3
+pub returns-in-Ok-clause-looks : goal.returns-in-Ok-clause-looks
+returns-in-Ok-clause-looks g c = (c.in-Ok.ensures.follows).2
 
-pub returns-in-Err-TooMany-clause-asks : goal.returns-in-Err-TooMany-clause-asks
-returns-in-Err-TooMany-clause-asks g c = (c.in-Err-TooMany.ensures.follows).3
+pub returns-in-Err-TooMany-clause-looks : goal.returns-in-Err-TooMany-clause-looks
+returns-in-Err-TooMany-clause-looks g c = (c.in-Err-TooMany.ensures.follows).2
 
-pub returns-in-Err-Source-clause-asks : goal.returns-in-Err-Source-clause-asks
-returns-in-Err-Source-clause-asks g c = (c.in-Err-Source.ensures.follows).3
+pub returns-in-Err-Source-clause-looks : goal.returns-in-Err-Source-clause-looks
+returns-in-Err-Source-clause-looks g c = (c.in-Err-Source.ensures.follows).2

@@ -1,11 +1,9 @@
 use Rattle.std.proofs.Common.{true, sym, subst}
 use Rattle.std.specs.FinMap as map
 use Rattle.mk_rules.specs.Found.{IsFindingFault}
-use Rattle.mk_rules.specs.LooksLaws.{known_times, known_agrees}
+use Rattle.mk_rules.proofs.LookLemmas.{looked_once}
 use Rattle.mk_rules.specs.Prerequisites.{inputs_of, prerequisites_of}
 use Rattle.mk_rules.specs.Tree.{AskedOnce}
-use Rattle.mk_rules.proofs.AskedLemmas.{asked_each_once}
-use Rattle.mk_rules.proofs.FoundLemmas.{all_answered}
 use Rattle.mk_rules.proofs.RowLaws.{distinct_names}
 use Rattle.mk_rule_lines.proofs.ResultLemmas.{if_ok, if_err}
 use Rattle.mk_rules.proofs.building.numbered_names.Goals as goal
@@ -13,10 +11,7 @@ use Rattle.mk_rules.proofs.building.numbered_names.Goals as goal
 pub returns-clause-found : goal.returns-clause-found
 returns-clause-found g c =
     let ended = c.tree-1.given.1 (sym c.found_names.ensures.same) in
-    if_ok c.found_names.result _ _
-    (λ n are times now. are times
-    (all_answered _ _ _ _ _ _ c.found_names.ensures.looks c.new-stamps.ensures times (subst (λ t. g.T.Tree.allows t times) ended now)))
-    c.found_names.ensures.found
+    if_ok c.found_names.result _ _ (λ n are times now. are times (subst (λ t. g.T.Tree.allows t times) ended now)) c.found_names.ensures.found
 
 pub returns-clause-fault : goal.returns-clause-fault
 returns-clause-fault g c =
@@ -25,16 +20,15 @@ returns-clause-fault g c =
     if_err c.found_names.result _ _
     (λ f meets times now.
     subst (λ t. IsFindingFault (inputs_of rules.lines.now (map.get rules.state.now) times) (g.T.Tree.refuses t) c.args.goals.now c.args.limit f) (sym ended)
-    (meets times (all_answered _ _ _ _ _ _ c.found_names.ensures.looks c.new-stamps.ensures times (subst (λ t. g.T.Tree.allows t times) ended now))))
+    (meets times (subst (λ t. g.T.Tree.allows t times) ended now)))
     c.found_names.ensures.fault
 
 pub returns-clause-names : goal.returns-clause-names
 returns-clause-names g c =
-    let stamps = c.found_names.new.finder.stamps.now in
     let rules = c.args.rules in
+    let some = g.met.T.Tree.possible c.found_names.new.finder.tree.now in
     if_ok c.found_names.result _ _
-    (λ n are. distinct_names (prerequisites_of (inputs_of rules.lines.now (map.get rules.state.now) (known_times stamps))) c.args.goals.now n.names
-    (are (known_times stamps) (known_agrees stamps)).names_are)
+    (λ n are. distinct_names (prerequisites_of (inputs_of rules.lines.now (map.get rules.state.now) some.0)) c.args.goals.now n.names (are some.0 some.1).names_are)
     c.found_names.ensures.found
 
 pub returns-clause-narrows : goal.returns-clause-narrows
@@ -45,4 +39,4 @@ returns-clause-narrows g c = λ times now.
 pub returns-clause-asked : goal.returns-clause-asked
 returns-clause-asked g c =
     let ended = c.tree-1.given.1 (sym c.found_names.ensures.same) in
-    subst (λ t. AskedOnce (g.T.Tree.asked c.args.tree.now) (λ _. true) (g.T.Tree.asked t)) (sym ended) (asked_each_once _ _ _ _ _ c.found_names.ensures.asks)
+    subst (λ t. AskedOnce (g.T.Tree.asked c.args.tree.now) (λ _. true) (g.T.Tree.asked t)) (sym ended) (looked_once _ _ c.found_names.ensures.looks.once)

@@ -10,7 +10,7 @@ use Rattle.mk_rule_lines.specs.Rules.{has, places, recipe_places, targets_by, su
 use Rattle.mk_rule_lines.specs.Table.{named_at}
 use Rattle.mk_rule_lines.specs.declared.fault.RuleFault.{RuleFault}
 use Rattle.mk_rule_lines.specs.declared.rule_line.RuleLine.{RuleLine}
-use Rattle.mk_rules.proofs.AskedLemmas.{asked_none}
+use Rattle.mk_rules.proofs.LookLemmas.{asked_none}
 use Rattle.mk_rules.proofs.FaultLemmas.{no_goal, not_found}
 use Rattle.mk_rule_lines.proofs.LineLemmas.{handed_on}
 use Rattle.mk_rule_lines.proofs.ResultLemmas.{if_ok, if_err}

@@ -6,11 +6,10 @@ use Rattle.mk_rules.specs.LooksLaws.{looks_on}
 use Rattle.mk_rule_lines.proofs.LineLemmas.{handed_on}
 use Rattle.mk_rules.specs.Known.{IsLookUpFault}
 use Rattle.mk_rules.specs.Prerequisites.{inputs_of, source_names, distinct, hidden_in, own_recipes}
-use Rattle.mk_rules.proofs.AskedLemmas.{in_vain}
 use Rattle.mk_rules.proofs.finder.look_up.Goals as goal
 
 pub returns-clause-prerequisites : goal.returns-clause-prerequisites
-returns-clause-prerequisites g c = λ times agrees.
+returns-clause-prerequisites g c = λ times now.
     let rules = c.args.rules.now in
     let inputs = inputs_of rules.lines.now (map.get rules.state.now) times in
     let name = c.args.name.now in
@@ -19,10 +18,10 @@ returns-clause-prerequisites g c = λ times agrees.
     let of = c.in_ok-mentioned.ensures in
     c.gathered.ensures.prerequisites
     ∙ nodes_are inputs name source explicit (map.get rules.state.now name) (distinct (source_names source ++ explicit)) _
-    (c.in_ok-source.ensures.source times (of.looks.grows times agrees)) refl refl refl (of.mentioned times agrees)
+    (c.in_ok-source.ensures.source times (of.looks.narrows times now)) refl refl refl (of.mentioned times now)
 
 pub returns-clause-node : goal.returns-clause-node
-returns-clause-node g c = λ times agrees.
+returns-clause-node g c = λ times now.
     let rules = c.args.rules.now in
     let inputs = inputs_of rules.lines.now (map.get rules.state.now) times in
     let name = c.args.name.now in
@@ -30,10 +29,10 @@ returns-clause-node g c = λ times agrees.
     let explicit = explicit_of rules.lines.now name in
     let of = c.in_ok-mentioned.ensures in
     let is = c.gathered.ensures in
-    let looked = of.looks.grows times agrees in
+    let looked = of.looks.narrows times now in
     known_is inputs name source explicit (map.get rules.state.now name) (distinct (source_names source ++ explicit)) _
-    (c.in_ok-source.ensures.source times looked) refl refl refl (of.mentioned times agrees)
-    _ c.named-own.result.1 (is.stamp ∙ c.in_ok-stamp.ensures.stamp times (c.in_ok-source.ensures.looks.grows times looked)
+    (c.in_ok-source.ensures.source times looked) refl refl refl (of.mentioned times now)
+    _ c.named-own.result.1 (is.stamp ∙ c.in_ok-stamp.ensures.stamp times (c.in_ok-source.ensures.looks.narrows times looked)
     ∙ ap (λ (t : Bool). cond t None (times name)) (c.is_phony-phony.ensures name c.named-own.ensures.lines)) is.stem is.recipe c.named-own.ensures.recipe
     (is.hard ∙ of.hard) is.hidden
 
@@ -49,18 +48,6 @@ returns-in_err-mentioned-clause-looks g c =
     (looks_on _ _ _ _ _ _ _ _ _ c.in_ok-stamp.ensures.looks c.in_ok-source.ensures.looks)
     c.in_err-mentioned.ensures.looks
 
-pub returns-clause-asks : goal.returns-clause-asks
-returns-clause-asks g c = λ earlier once.
-    c.in_ok-mentioned.ensures.asks earlier (c.in_ok-source.ensures.asks earlier (c.in_ok-stamp.ensures.asks earlier once))
-
-pub returns-in_err-mentioned-clause-asks : goal.returns-in_err-mentioned-clause-asks
-returns-in_err-mentioned-clause-asks g c = in_vain _ _ _ _ _ _ (c.from_residual-in_err-mentioned.ensures).1
-    (λ earlier once. c.in_err-mentioned.ensures.asks earlier (c.in_ok-source.ensures.asks earlier (c.in_ok-stamp.ensures.asks earlier once)))
-
-pub returns-in_err-source-clause-asks : goal.returns-in_err-source-clause-asks
-returns-in_err-source-clause-asks g c = in_vain _ _ _ _ _ _ (c.from_residual-in_err-source.ensures).1
-    (λ earlier once. c.in_err-source.ensures.asks earlier (c.in_ok-stamp.ensures.asks earlier once))
-
 pub returns-in_err-source-clause-fault : goal.returns-in_err-source-clause-fault
 returns-in_err-source-clause-fault g c =
     let rules = c.args.rules.now in
@@ -68,9 +55,12 @@ returns-in_err-source-clause-fault g c =
     let phony = is_phony rules.lines.now name in
     let own = own_recipes rules.lines.now name in
     let hidden = hidden_in (map.get rules.state.now name) in
-    let stamps = c.implicit_source.new.stamps in
+    let allowed = g.T.Tree.allows c.implicit_source.new.tree in
     let refuses = g.T.Tree.refuses c.implicit_source.new.tree in
     let met = c.in_err-source.ensures in
-    handed_on _ (IsLookUpFault rules.targets.now stamps refuses rules.forms.now phony own hidden name) c.in_err-source.field-0.0
+    handed_on _ (IsLookUpFault rules.targets.now allowed refuses rules.forms.now phony own hidden name) c.in_err-source.field-0.0
     (c.from_residual-in_err-source.ensures).1
-    (source_look rules.targets.now stamps refuses rules.forms.now phony own hidden name met.unasked (λ beside. (beside.1).1) c.in_err-source.field-0.0 met.fault)
+    (source_look rules.targets.now allowed refuses rules.forms.now phony own hidden name met.unasked (λ beside. beside.1) c.in_err-source.field-0.0 met.fault)
+
+pub returns-in_err-source-clause-looks : goal.returns-in_err-source-clause-looks
+returns-in_err-source-clause-looks g c = looks_on _ _ _ _ _ _ _ _ _ c.in_ok-stamp.ensures.looks c.in_err-source.ensures.looks

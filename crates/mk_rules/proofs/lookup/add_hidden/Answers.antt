@@ -6,8 +6,6 @@ use Rattle.mk_rules.specs.Hidden.{IsNamesFault}
 use Rattle.mk_rules.proofs.HiddenLemmas.{HiddenSoFar, hidden_step, hidden_start, hidden_end, names_fault, text_where_refused, has_first, has_later}
 use Rattle.mk_rule_lines.proofs.LineLemmas.{handed_on}
 use Rattle.mk_rules.specs.LooksLaws.{looks_none, looks_on}
-use Rattle.mk_rules.specs.Stamps.{is_known}
-use Rattle.mk_rules.proofs.AskedLemmas.{in_vain}
 use Rattle.mk_rules.proofs.lookup.add_hidden.Goals as goal
 
 pub loop-name-preserved : goal.loop-name-preserved
@@ -23,15 +21,14 @@ loop-name-preserved g c =
     let tells = c.in_ok-node.ensures in
     let puts = c.in_ok-add_hidden.ensures in
     record {
-      so = λ times agrees.
+      so = λ times now.
           let p = is_node (inputs_of rules.lines.now (map.get rules.state.now) times) in
           let here = subst (λ (ls : List (List ℕ)). HiddenSoFar p hard hidden ls before.judged before.nodes before.hidden.items) c.in-Some.ensures.steps
-          (inv.so times (tells.looks.grows times agrees)) in
+          (inv.so times (tells.looks.narrows times now)) in
           hidden_step p hard hidden name left before.judged before.nodes before.hidden.items here after.judged after.nodes after.hidden.items c.in_ok-node.node
-          (tells.node times agrees) puts.judged puts.nodes puts.hidden;
+          (tells.node times now) puts.judged puts.nodes puts.hidden;
       within = λ n is. inv.within n (subst (λ (ls : List (List ℕ)). has n ls ≡ true) (sym c.in-Some.ensures.steps) (has_later n name left is));
       looks = looks_on _ _ _ _ _ _ _ _ _ inv.looks tells.looks;
-      asks = λ earlier once. tells.asks earlier (inv.asks earlier once);
     }
 
 pub returns-in_err-node-clause-fault : goal.returns-in_err-node-clause-fault
@@ -40,7 +37,7 @@ returns-in_err-node-clause-fault g c =
     let refuses = g.T.Tree.refuses c.is_node.new.tree in
     let within = c.loop-name.invariant.within name
     (subst (λ (ls : List (List ℕ)). has name ls ≡ true) (sym c.in-Some.ensures.steps) (has_first name c.next.new.self)) in
-    let text = text_where_refused name (λ e. ((c.in_err-node.ensures.unasked e).1).1) in
+    let text = text_where_refused name (λ e. (c.in_err-node.ensures.unasked e).1) in
     handed_on _ (IsNamesFault refuses c.args.hidden.now) c.in_err-node.field-0.0 (c.from_residual.ensures).1
     (names_fault refuses c.args.hidden.now name (within, text) c.in_err-node.field-0.0 c.in_err-node.ensures.fault)
 
@@ -56,13 +53,12 @@ loop-name-init g c =
     let m = c.args.mentioned.now in
     let start : c.args.hidden.now ≡ c.into_iter-name-iterator.result = cc in
     record {
-      so = λ times agrees.
+      so = λ times now.
           let p = is_node (inputs_of rules.lines.now (map.get rules.state.now) times) in
           subst (λ (ls : List (List ℕ)). HiddenSoFar p m.judged c.args.hidden.now ls m.judged m.nodes m.hidden.items) start
           (hidden_start p m.judged m.nodes c.args.hidden.now m.hidden.items c.requires.nodes c.requires.none);
       within = λ n is. subst (λ (ls : List (List ℕ)). has n ls ≡ true) (sym start) is;
       looks = looks_none _ _ _;
-      asks = λ earlier once. once;
     }
 
 pub returns-clause-hidden : goal.returns-clause-hidden
@@ -71,15 +67,7 @@ returns-clause-hidden g c =
     let hard = c.args.mentioned.now.judged in
     let m = c.loop-name.mentioned in
     let ended : c.loop-name.name-iterator ≡ [] = (c.in-None.ensures.steps).0 in
-    λ times agrees.
+    λ times now.
     let p = is_node (inputs_of rules.lines.now (map.get rules.state.now) times) in
     hidden_end p hard c.args.hidden.now m
-    (subst (λ (ls : List (List ℕ)). HiddenSoFar p hard c.args.hidden.now ls m.judged m.nodes m.hidden.items) ended (c.loop-name.invariant.so times agrees))
-
-pub returns-in_err-node-clause-asks : goal.returns-in_err-node-clause-asks
-returns-in_err-node-clause-asks g c = in_vain _ _ _ _ _ _ (c.from_residual.ensures).1
-    (λ earlier once. c.in_err-node.ensures.asks earlier (c.loop-name.invariant.asks earlier once))
-
-pub returns-in_err-add_hidden-clause-asks : goal.returns-in_err-add_hidden-clause-asks
-returns-in_err-add_hidden-clause-asks g c = in_vain _ _ _ _ _ _ (c.from_residual-in_err-add_hidden.ensures).1
-    (λ earlier once. (is_known c.is_node.new.stamps, c.in_ok-node.ensures.asks earlier (c.loop-name.invariant.asks earlier once)))
+    (subst (λ (ls : List (List ℕ)). HiddenSoFar p hard c.args.hidden.now ls m.judged m.nodes m.hidden.items) ended (c.loop-name.invariant.so times now))

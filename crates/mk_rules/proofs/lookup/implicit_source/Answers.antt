@@ -13,14 +13,9 @@ returns-clause-source g c =
     let none : is_some c.args.own ≡ false = cc in
     let no_phony : is_phony rules.lines.now name ≡ false = sym c.requires.phony ∙ cc in
     if_ok c.source.result _ _
-    (λ found is. λ times agrees.
-    implicit_is rules.lines.now rules.targets.now rules.named (map.get rules.state.now) times rules.forms.now name c.args.own found rules.all_forms c.requires.own none no_phony (is times agrees))
+    (λ found is. λ times now.
+    implicit_is rules.lines.now rules.targets.now rules.named (map.get rules.state.now) times rules.forms.now name c.args.own found rules.all_forms c.requires.own none no_phony (is times now))
     c.source.ensures.source
-
-pub returns-clause-looks : goal.returns-clause-looks
-returns-clause-looks g c =
-    let tells = c.source.ensures in
-    record { grows = tells.grows; answers = tells.answers; narrows = tells.narrows; kept = tells.kept }
 
 pub returns-clause-unasked : goal.returns-clause-unasked
 returns-clause-unasked g c =

@@ -10,13 +10,8 @@ returns-clause-node g c =
     let rules = c.args.rules.now in
     let name = c.args.name.now in
     let text : is_utf8 name ≡ true = cc in
-    if_ok c.is_there.result _ _ (λ there is. λ times agrees. is times agrees ∙ node_there rules.lines.now rules.targets.now rules.named (map.get rules.state.now) times name text)
+    if_ok c.is_there.result _ _ (λ there is. λ times now. is times now ∙ node_there rules.lines.now rules.targets.now rules.named (map.get rules.state.now) times name text)
     c.is_there.ensures.there
-
-pub returns-clause-looks : goal.returns-clause-looks
-returns-clause-looks g c =
-    let tells = c.is_there.ensures in
-    record { grows = tells.grows; answers = tells.answers; narrows = tells.narrows; kept = tells.kept }
 
 pub returns-clause-unasked : goal.returns-clause-unasked
 returns-clause-unasked g c = λ no_text.

@@ -1,6 +1,6 @@
 use Rattle.std.proofs.Common.{sym, ap, ◌∙◌, option_map}
 use Rattle.mk_rule_lines.proofs.ResultLemmas.{if_ok}
-use Rattle.mk_rules.proofs.StampLemmas.{found_is, stamp_is, before}
+use Rattle.dmk_drive.proofs.StampLemmas.{found_is, stamp_is, before}
 use Rattle.dmk_drive.specs.Files.{known_text}
 use Rattle.dmk_drive.proofs.file_texts.FileTexts.text.Goals as goal
 

@@ -1,6 +1,6 @@
 use Rattle.std.proofs.Common.{sym, ◌∙◌}
-use Rattle.mk_rules.specs.Stamps.{known_stamp}
-use Rattle.mk_rules.proofs.StampLemmas.{found_is, stamp_is, before}
+use Rattle.dmk_drive.specs.Stamps.{known_stamp}
+use Rattle.dmk_drive.proofs.StampLemmas.{found_is, stamp_is, before}
 use Rattle.dmk_drive.proofs.file_tree.FileTree.look.Goals as goal
 
 pub returns-in-Some-clause-stamp : goal.returns-in-Some-clause-stamp

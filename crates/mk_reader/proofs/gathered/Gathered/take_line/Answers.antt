@@ -1,8 +1,6 @@
-use Rattle.std.proofs.Common.{◌≡◌, true, false, Bool, List, ◌∷◌, Ok, Err, refl, ap, ◌∙◌}
+use Rattle.std.proofs.Common.{Ok, Err, refl, ap, ◌∙◌}
 use Rattle.mk_reader.specs.Form.{form_of}
-use Rattle.mk_reader.specs.Statements.{RecipeLineTaken, ComesTo}
-use Rattle.mk_reader.specs.declared.item.Statement.{Statement}
-use Rattle.mk_reader.specs.declared.line.LogicalLine.{LogicalLine}
+use Rattle.mk_reader.specs.Statements.{RecipeLineTaken}
 use Rattle.mk_reader.proofs.StatementLemmas.{is_form, told_refused, if_ok, blank_more, recipe_more, recipe_ends, include_more, definition_line_more, definition_more, rule_more, refused_ends}
 use Rattle.mk_reader.proofs.gathered.Gathered.take_line.Goals as goal
 

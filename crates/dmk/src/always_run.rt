@@ -1,0 +1,101 @@
+//! The lines that are run in a dry run too, between the parts of its listing.
+use crate::command_line::Later;
+use crate::flags::handed_on;
+use crate::standard_streams::with_patience;
+use bd_lists::Variable;
+use dmk_drive::{AlwaysRun, Options, value_of};
+use jb_host::DryShell;
+use jb_recipe::{Makeflags, environment};
+use std::alloc::AllocError;
+use std::io::{self, Write};
+
+/// The status of a line that a signal ended, or that couldn't be started.
+const NONE: u32 = 256;
+
+/// How such lines are run.
+#[derive(Drop)]
+pub struct AlwaysLines {
+    host: HostRuntime,
+    /// Their environment, beside dmk's own.
+    env: Vec<Variable>,
+    /// The statuses of all lines are ignored, as those of makes below that answer a question.
+    ignores_statuses: bool,
+    /// A line that fails ends nothing.
+    goes_on: bool,
+}
+
+impl AlwaysLines {
+    /// As these options have it. Their environment is that of recipes where no job slots are served.
+    pub fn new(
+        host: HostRuntime,
+        options: &Options,
+        later: Later,
+        given: &[Variable],
+    ) -> Result<AlwaysLines, AllocError> {
+        let alloc = host.alloc();
+        let before = later.definitions_before(given);
+        let flags = value_of(given, b"MAKEFLAGS");
+        let definitions = options.definitions.as_slice();
+        let env = environment(alloc, definitions, &Makeflags::Removed, None, b"")?;
+        let handed = handed_on(alloc, options, later.environment_counts, before, flags)?;
+        Ok(AlwaysLines {
+            host,
+            env: match handed {
+                Some(handed) => handed.environment(alloc, &env)?,
+                None => env,
+            },
+            ignores_statuses: options.ignores_statuses || options.asks,
+            goes_on: options.goes_on,
+        })
+    }
+
+    /// Runs a line. Whether its status counts as a failure, which is told.
+    fn fails(&self, line: &AlwaysRun) -> bool {
+        let shell = DryShell::new(self.host, self.host.alloc(), &self.env);
+        let status = shell.run(line.text.as_slice()).unwrap_or(NONE);
+        if status == 0 || line.is_ignored || self.ignores_statuses {
+            return false;
+        }
+        self.tell_failed(line, status);
+        true
+    }
+
+    // The target stands in the line as it is: it may be no text.
+    fn tell_failed(&self, line: &AlwaysRun, status: u32) {
+        let mut err = with_patience(self.host, self.host.stderr());
+        let _ = err.write_all(b"dmk: target ");
+        let _ = err.write_all(line.target.as_slice());
+        let _ = if status < NONE {
+            writeln!(err, " failed with status {status}")
+        } else {
+            writeln!(err, " was stopped or not started")
+        };
+    }
+
+    /// Prints a listing, behind what stands before it, and runs each of these lines where it stands. Whether none failed: where one
+    /// does, the listing ends there, or, where a run goes on, no further line of its recipe is run.
+    pub fn print(&self, text: &[u8], before: usize, lines: &[AlwaysRun]) -> io::Result<bool> {
+        let mut out = with_patience(self.host, self.host.stdout());
+        let mut failed = None;
+        let mut printed = 0;
+        for line in lines {
+            let target = line.target.as_slice();
+            if failed == Some(target) {
+                continue;
+            }
+            let place = before.saturating_add(line.place);
+            out.write_all(text.get(printed..place).unwrap_or(&[]))?;
+            out.flush()?;
+            printed = place;
+            if self.fails(line) {
+                if !self.goes_on {
+                    return Ok(false);
+                }
+                failed = Some(target);
+            }
+        }
+        out.write_all(text.get(printed..).unwrap_or(&[]))?;
+        out.flush()?;
+        Ok(failed.is_none())
+    }
+}

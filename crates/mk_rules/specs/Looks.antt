@@ -1,0 +1,17 @@
+-- What looking at names leaves true of a tree.
+use Rattle.std.specs.Prelude.{◌≡◌, ℕ, ℤ, List, Option}
+use Rattle.mk_rules.specs.Tree.{LooksOnce}
+use Rattle.mk_rule_lines.specs.declared.fault.RuleFault.{RuleFault}
+use Rattle.mk_rule_lines.specs.declared.fault.RuleFault.TheVariants as fault
+
+-- the fault of looking at a name: it is one that the tree refuses
+abbrev pub IsLookFault : (refuses : List ℕ → Type 0) → (name : List ℕ) → RuleFault → Type 0
+IsLookFault refuses name fault.OutOfMemory = Unit {0}
+IsLookFault refuses name (fault.Tree n) = (n ≡ name) × refuses n
+IsLookFault refuses name _ = ⊥
+
+-- what is still possible of the tree narrows, what it refuses stays refused, and it looks at no name again
+pub record Looks (allowed allowed_after : (List ℕ → Option ℤ) → Type 0) (refuses refuses_after : List ℕ → Type 0) (looked looked_after : List ℕ → ℕ) : Type 0 where
+  pub narrows : (times : List ℕ → Option ℤ) → allowed_after times → allowed times
+  pub kept : (n : List ℕ) → refuses n → refuses_after n
+  pub once : LooksOnce looked looked_after

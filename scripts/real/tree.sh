@@ -1,0 +1,3 @@
+package=tree
+header=tree.h
+flags=CFLAGS=-O1
