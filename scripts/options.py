@@ -1,4 +1,4 @@
-"""Whether the help of dmk, its man page and the completions for bash and zsh have the same options.
+"""Whether the help of dmk, its man page, docs/COMMANDS.md and the completions for bash and zsh have the same options.
 
 `python3 scripts/options.py [DMK]` runs the built program's --help; DMK is the path of another one. Help and man page group
 them alike: the groups of the one are the headings of the other. The last line is 'N passed, M failed'.
@@ -41,6 +41,14 @@ def groups_of_page():
     return groups
 
 
+def options_of_commands():
+    """The options of the table of dmk in COMMANDS.md."""
+    section = re.search(r"^## dmk\n(.*?)^## ", text_of("docs/COMMANDS.md"), re.M | re.S)[1]
+    cells = re.findall(r"^\| (`-[^|]*) \|", section, re.M)
+    # -dd is -d twice.
+    return set(re.findall(OPTION, " ".join(cells))) - {"-dd"}
+
+
 def options_of_bash():
     words = re.search(r"compgen -W '(-[^']*)'", text_of("completions/dmk.bash"))[1]
     return set(words.split())
@@ -67,7 +75,8 @@ def main():
     everything = set().union(*helped.values())
     rows = [("the headings of help and man page", set(helped), set(paged))]
     rows += [("the options under '%s' in help and man page" % name, helped[name], paged.get(name, set())) for name in helped]
-    rows += [("the options of help and bash", everything, options_of_bash()),
+    rows += [("the options of help and COMMANDS.md", everything, options_of_commands()),
+             ("the options of help and bash", everything, options_of_bash()),
              ("the options of help and zsh", everything, options_of_zsh())]
     failed = 0
     for name, one, other in rows:
