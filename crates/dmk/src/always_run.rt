@@ -1,4 +1,4 @@
-//! The lines that are run in a dry run too, between the parts of its listing.
+//! The lines that are run in a dry run too, between the parts of its listing, and the environment of what is run beside recipes.
 use crate::command_line::Later;
 use crate::flags::handed_on;
 use crate::standard_streams::with_patience;
@@ -10,48 +10,52 @@ use std::alloc::AllocError;
 use std::io::{self, Write};
 
 /// The status of a line that a signal ended, or that couldn't be started.
-const NONE: u32 = 256;
+pub const NONE: u32 = 256;
 
 /// How such lines are run.
 #[derive(Drop)]
-pub struct AlwaysLines {
+pub struct AlwaysLines<'a> {
     host: HostRuntime,
     /// Their environment, beside dmk's own.
-    env: Vec<Variable>,
+    env: &'a [Variable],
     /// The statuses of all lines are ignored, as those of makes below that answer a question.
     ignores_statuses: bool,
     /// A line that fails ends nothing.
     goes_on: bool,
 }
 
-impl AlwaysLines {
-    /// As these options have it. Their environment is that of recipes where no job slots are served.
-    pub fn new(
-        host: HostRuntime,
-        options: &Options,
-        later: Later,
-        given: &[Variable],
-    ) -> Result<AlwaysLines, AllocError> {
-        let alloc = host.alloc();
-        let before = later.definitions_before(given);
-        let flags = value_of(given, b"MAKEFLAGS");
-        let definitions = options.definitions.as_slice();
-        let env = environment(alloc, definitions, &Makeflags::Removed, None, b"")?;
-        let handed = handed_on(alloc, options, later.environment_counts, before, flags)?;
-        Ok(AlwaysLines {
+/// What is run beside recipes has this in its environment, beside dmk's own: what recipes have where no job slots are served.
+pub fn beside_recipes(
+    host: HostRuntime,
+    options: &Options,
+    later: Later,
+    given: &[Variable],
+) -> Result<Vec<Variable>, AllocError> {
+    let alloc = host.alloc();
+    let before = later.definitions_before(given);
+    let flags = value_of(given, b"MAKEFLAGS");
+    let definitions = options.definitions.as_slice();
+    let env = environment(alloc, definitions, &Makeflags::Removed, None, b"")?;
+    match handed_on(alloc, options, later.environment_counts, before, flags)? {
+        Some(handed) => handed.environment(alloc, &env),
+        None => Ok(env),
+    }
+}
+
+impl<'a> AlwaysLines<'a> {
+    /// As these options have it, in this environment.
+    pub fn new(host: HostRuntime, options: &Options, env: &'a [Variable]) -> AlwaysLines<'a> {
+        AlwaysLines {
             host,
-            env: match handed {
-                Some(handed) => handed.environment(alloc, &env)?,
-                None => env,
-            },
+            env,
             ignores_statuses: options.ignores_statuses || options.asks,
             goes_on: options.goes_on,
-        })
+        }
     }
 
     /// Runs a line. Whether its status counts as a failure, which is told.
     fn fails(&self, line: &AlwaysRun) -> bool {
-        let shell = DryShell::new(self.host, self.host.alloc(), &self.env);
+        let shell = DryShell::new(self.host, self.host.alloc(), self.env);
         let status = shell.run(line.text.as_slice()).unwrap_or(NONE);
         if status == 0 || line.is_ignored || self.ignores_statuses {
             return false;

@@ -3,15 +3,17 @@ ghost use Rattle.std.specs.Prelude.{codes};
 ghost use Rattle.dmk_drive.specs.Keeping.{value_in};
 ghost use Rattle.dmk_drive.specs.Output.{AsksToLook};
 
-use crate::always_run::AlwaysLines;
+use crate::always_run::{AlwaysLines, beside_recipes};
 use crate::base::base_asked;
 use crate::command_line::{Later, Request, read_words};
 use crate::environment::with_environment;
 use crate::host_files::HostFiles;
-use crate::reasons::{needs_usual_makefile, print_gnu_makefile, print_reasons};
+use crate::reasons::{needs_usual_makefile, print_gnu_makefile, print_notes, print_reasons};
 use crate::standard_streams::with_patience;
 use bd_lists::Variable;
-use dmk_drive::{AlwaysRun, Fault, Message, Mode, Options, drive, print_fault, value_of};
+use dmk_drive::{
+    AlwaysRun, Fault, FileTexts, Message, Mode, Options, drive, print_fault, value_of,
+};
 use st_disk::{FileDisk, SystemFolder};
 use st_records::HashKey;
 use std::alloc::AllocError;
@@ -46,15 +48,14 @@ impl Look {
         host: HostRuntime,
         options: Options,
         environment: &[Variable],
-        input: Option<&[u8]>,
+        makefiles: &mut FileTexts<HostFiles<'_>>,
     ) -> Result<Look, AllocError>
         requires { AsksToLook options (value_in environment.now (codes "MAKEFLAGS")) }
     {
         let alloc = host.alloc();
         let folder = SystemFolder::new(host, alloc, options.state.as_str())?;
         let mut err = Vec::with_capacity(alloc, FAULT_BYTES)?;
-        let mut makefiles = HostFiles::texts(host, input);
-        let mut out = base_asked(host, &options, environment, &mut makefiles)?;
+        let mut out = base_asked(host, &options, environment, makefiles)?;
         let before = out.len();
         let is_usual = needs_usual_makefile(&options);
         let (reply, disk, always) = drive(
@@ -63,7 +64,7 @@ impl Look {
             options,
             environment,
             &mut HostFiles::tree(host),
-            &mut makefiles,
+            makefiles,
             FileDisk::new(folder),
             &mut out,
             &mut err,
@@ -72,7 +73,8 @@ impl Look {
         if !reply.is_told {
             return Err(AllocError);
         }
-        print_reasons(&mut err, &makefiles, &disk);
+        print_notes(&mut err, makefiles);
+        print_reasons(&mut err, makefiles, &disk);
         print_gnu_makefile(host, &mut err, is_usual && reply.status == 2);
         Ok(Look {
             status: reply.status,
@@ -88,22 +90,23 @@ impl Look {
         host: HostRuntime,
         options: Options,
         environment: &[Variable],
-        input: Option<&[u8]>,
+        makefiles: &mut FileTexts<HostFiles<'_>>,
     ) -> Result<Option<Look>, AllocError> {
         match options.mode(value_of(environment, b"MAKEFLAGS")) {
             Mode::Run => Ok(None),
             Mode::DryRun | Mode::Question => {
-                Ok(Some(Look::of(host, options, environment, input)?))
+                Ok(Some(Look::of(host, options, environment, makefiles)?))
             }
         }
     }
 
-    /// Looks once more, for what the words ask.
+    /// Looks once more, for what the words ask. Files are read anew, and no command is run that was run.
     fn again(
         host: HostRuntime,
         environment: &[Variable],
-        input: Option<&[u8]>,
+        makefiles: &mut FileTexts<HostFiles<'_>>,
     ) -> Result<Option<Look>, AllocError> {
+        makefiles.forget_texts(host.alloc());
         match read_words(host, 1) {
             Ok(Request::Make(asked)) => {
                 let options = with_environment(
@@ -112,7 +115,7 @@ impl Look {
                     asked.options,
                     environment,
                 )?;
-                Look::if_asked(host, options, environment, input)
+                Look::if_asked(host, options, environment, makefiles)
             }
             _ => Ok(None),
         }
@@ -129,13 +132,13 @@ impl Look {
     }
 
     // What standard error doesn't take is lost: there is nobody left to tell.
-    fn print(&self, host: HostRuntime, lines: &AlwaysLines) -> io::Result<bool> {
+    fn print(&self, host: HostRuntime, lines: &AlwaysLines<'_>) -> io::Result<bool> {
         let _ = with_patience(host, host.stderr()).write_all(&self.err);
         lines.print(&self.out, self.before, &self.always)
     }
 
     /// Prints it, runs its lines, and answers the status: 2 where one of them failed.
-    fn tell(self, host: HostRuntime, lines: &AlwaysLines) -> u8 {
+    fn tell(self, host: HostRuntime, lines: &AlwaysLines<'_>) -> u8 {
         match self.print(host, lines) {
             Ok(true) => return self.status,
             Ok(false) => return 2,
@@ -163,14 +166,18 @@ pub fn ask(
 ) -> Result<u8, AllocError>
     requires { AsksToLook options (value_in environment.now (codes "MAKEFLAGS")) }
 {
-    let lines = AlwaysLines::new(host, &options, later, environment)?;
-    let mut look = Look::of(host, options, environment, input)?;
+    let env = beside_recipes(host, &options, later, environment)?;
+    let lines = AlwaysLines::new(host, &options, &env);
+    let mut makefiles = HostFiles::texts(host, input, &env);
+    makefiles.define(options.profile, &options.definitions);
+    makefiles.define(options.profile, environment);
+    let mut look = Look::of(host, options, environment, &mut makefiles)?;
     for _ in 1..MAX_LOOKS {
         if !look.is_fault() {
             break;
         }
         thread::sleep(&host, Duration::from_millis(PAUSE_MILLISECONDS));
-        let Some(again) = Look::again(host, environment, input)? else {
+        let Some(again) = Look::again(host, environment, &mut makefiles)? else {
             break;
         };
         let is_same = look.is_same(&again);

@@ -1,8 +1,12 @@
-//! Files by the system's own calls.
+//! Files by the system's own calls, and the commands of definitions by its shell.
+use crate::always_run::NONE;
+use crate::standard_streams::with_patience;
+use bd_lists::Variable;
 use dmk_drive::{FileCalls, FileStatus, FileTexts, FileTree};
-use std::alloc::Global;
+use jb_host::{DryShell, Written};
+use std::alloc::{AllocError, Global};
 use std::fs;
-use std::io::{self, Read};
+use std::io::{self, Read, Write};
 use std::os::unix::fs::MetadataExt;
 
 /// The name under which standard input is read as a makefile.
@@ -14,6 +18,8 @@ pub struct HostFiles<'a> {
     rt: HostRuntime,
     /// What standard input held, which then is the text of the name `-`.
     input: Option<&'a [u8]>,
+    /// What the environment of commands has beside dmk's own.
+    env: &'a [Variable],
 }
 
 /// Reads standard input to its end.
@@ -26,12 +32,38 @@ pub fn read_input(rt: HostRuntime) -> io::Result<Vec<u8>> {
 impl<'a> HostFiles<'a> {
     /// The files as they are judged.
     pub fn tree(rt: HostRuntime) -> FileTree<HostFiles<'a>> {
-        FileTree::new(rt.alloc(), HostFiles { rt, input: None })
+        FileTree::new(
+            rt.alloc(),
+            HostFiles {
+                rt,
+                input: None,
+                env: &[],
+            },
+        )
     }
 
     /// The files as makefiles are read from them, and from standard input where that was read.
-    pub fn texts(rt: HostRuntime, input: Option<&'a [u8]>) -> FileTexts<HostFiles<'a>> {
-        FileTexts::new(rt.alloc(), HostFiles { rt, input })
+    pub fn texts(
+        rt: HostRuntime,
+        input: Option<&'a [u8]>,
+        env: &'a [Variable],
+    ) -> FileTexts<HostFiles<'a>> {
+        FileTexts::new(rt.alloc(), HostFiles { rt, input, env })
+    }
+
+    // The file's name stands in the note as it is: it may be no text.
+    fn tell_failed(&self, file: &[u8], line: usize, status: u32) {
+        let mut err = with_patience(self.rt, self.rt.stderr());
+        let _ = err.write_all(b"dmk: ");
+        let _ = err.write_all(file);
+        let _ = if status < NONE {
+            writeln!(
+                err,
+                ":{line}: note: the command failed with status {status}"
+            )
+        } else {
+            writeln!(err, ":{line}: note: the command was stopped or not started")
+        };
     }
 
     fn input_named(&self, name: &str) -> Option<&'a [u8]> {
@@ -65,5 +97,25 @@ impl FileCalls for HostFiles<'_> {
             return Ok(Vec::from_slice(alloc, input)?);
         }
         fs::read(&self.rt, name)
+    }
+
+    fn output(
+        &mut self,
+        alloc: Global,
+        file: &[u8],
+        line: usize,
+        command: &[u8],
+    ) -> Result<Vec<u8>, AllocError> {
+        let written = match DryShell::new(self.rt, alloc, self.env).output(command) {
+            Ok(written) => written,
+            Err(_) => Written {
+                status: NONE,
+                out: Vec::new(alloc),
+            },
+        };
+        if written.status != 0 {
+            self.tell_failed(file, line, written.status);
+        }
+        Ok(written.out)
     }
 }

@@ -3,12 +3,13 @@ ghost use Rattle.std.specs.Prelude.{codes};
 ghost use Rattle.dmk_drive.specs.Keeping.{value_in};
 ghost use Rattle.dmk_drive.specs.Output.{AsksToRun};
 
+use crate::always_run::beside_recipes;
 use crate::base::base_asked;
 use crate::command_line::Later;
 use crate::flags::handed_on;
 use crate::host_files::HostFiles;
 use crate::pool_path::PoolPath;
-use crate::reasons::{needs_usual_makefile, print_gnu_makefile, print_reasons};
+use crate::reasons::{needs_usual_makefile, print_gnu_makefile, print_notes, print_reasons};
 use crate::standard_streams::{Patient, buffered, with_patience};
 use crate::state_lock::StateLock;
 use crate::terminal::status_columns;
@@ -91,7 +92,10 @@ pub fn make<R: Threads + Wait + Sync>(
     requires { AsksToRun options (value_in environment.now (codes "MAKEFLAGS")) }
 {
     let alloc = host.alloc();
-    let mut makefiles = HostFiles::texts(host, input);
+    let env = beside_recipes(host, &options, later, environment)?;
+    let mut makefiles = HostFiles::texts(host, input, &env);
+    makefiles.define(options.profile, &options.definitions);
+    makefiles.define(options.profile, environment);
     let base = base_asked(host, &options, environment, &mut makefiles)?;
     let is_usual = needs_usual_makefile(&options);
     let folder = SystemFolder::new(host, alloc, options.state.as_str())?;
@@ -131,6 +135,7 @@ pub fn make<R: Threads + Wait + Sync>(
     );
     pool.release();
     let (_out, mut err) = printer.into_streams();
+    print_notes(&mut err, &makefiles);
     print_reasons(&mut err, &makefiles, &disk);
     print_gnu_makefile(host, &mut err, is_usual && status == 2);
     Ok(status)

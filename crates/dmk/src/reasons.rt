@@ -26,6 +26,17 @@ pub fn print_reasons<W: Write>(
     let _ = err.flush();
 }
 
+/// Says what the makefiles ask for that has no meaning here, in the order of reading. A line that can't be printed changes nothing.
+pub fn print_notes<W: Write>(err: &mut W, makefiles: &FileTexts<HostFiles<'_>>) {
+    let notes = makefiles.notes();
+    for note in notes.found.iter() {
+        if notes.counts(note) {
+            let _ = writeln!(err, "dmk: {note}");
+        }
+    }
+    let _ = err.flush();
+}
+
 /// Whether the makefile is one that other makes look for under one name more.
 pub fn needs_usual_makefile(options: &Options) -> bool {
     options.profile.is_wide() && options.makefiles.named.is_empty()

@@ -22,6 +22,7 @@ use Rattle.dmk_drive.specs.declared.fault.Fault.TheVariants.{State}
 use Rattle.dmk_drive.specs.declared.planning.DryRun.{DryRun}
 use Rattle.dmk_drive.proofs.PassingLemmas.{no_text}
 use Rattle.bd_lists.specs.declared.recipe.Variable.{Variable}
+use Rattle.mk_eval.specs.Output.{World}
 
 no_value : false ≡ true → ⊥
 no_value is = cc
@@ -42,12 +43,12 @@ no_rest (x ∷ front) rest parts missing = absurd cc
 no_part : (old new : Option (List ℕ)) (text : List ℕ) → text ≡ [] → AppendsPart old new text → ⊥
 no_part old new text none part = no_rest part.front part.rest (sym none ∙ part.parts) part.missing
 
-module _ (files : List ℕ → Option (List ℕ)) (times : List ℕ → Option ℤ) (makefiles : Makefiles)
+module _ (world : World) (times : List ℕ → Option ℤ) (makefiles : Makefiles)
     (profile : Profile) (definitions environment : List Variable) (targets : List (List ℕ)) (all : Bool) (disk_honest : Type 0) (seen : Which → List ℕ)
     (telling : Telling) (recipes : Bool) where
   -- what is told of a run for the makefile that is found
   abbrev pub Told : DryRun → Type 0
-  Told run = (items : List Item) × AreItems files times makefiles (first_defined profile definitions environment) items
+  Told run = (items : List Item) × AreItems world times makefiles (first_defined profile definitions environment) items
       × Tells profile definitions environment targets all times disk_honest seen items telling recipes run
 
   pub listed_plan : (old new : Option (List ℕ)) (got : Result DryRun Fault) → IfOk got Told → IsOk got → recipes ≡ true →
@@ -55,7 +56,7 @@ module _ (files : List ℕ → Option (List ℕ)) (times : List ℕ → Option �
       (Says : Bool → Type 0) → IfOk got (λ run. Says run.soft_dropped) →
       (always : List AlwaysRun) → IfOk got (λ run. always ≡ run.always.items) →
       (plan : List Passage) × (dropped : Bool)
-      × Plans files times makefiles profile definitions environment targets all disk_honest seen plan dropped
+      × Plans world times makefiles profile definitions environment targets all disk_honest seen plan dropped
       × Appends old new (listing_text telling true plan) × (dropped ≡ false → Quiet) × Says dropped
       × (always ≡ lines_run_always telling true plan)
   listed_plan old new (Ok run) (items, are, tells) found lists appended Quiet quiet Says says always those = (
@@ -74,7 +75,7 @@ module _ (files : List ℕ → Option (List ℕ)) (times : List ℕ → Option �
       IfOk got (λ run. (plan : List Passage) → run.lists_any ≡ lists_any plan → status ≡ question_status plan) →
       (always : List AlwaysRun) → IfOk got (λ run. always ≡ run.always.items) →
       (plan : List Passage) × (dropped : Bool)
-      × Plans files times makefiles profile definitions environment targets all disk_honest seen plan dropped × (status ≡ question_status plan)
+      × Plans world times makefiles profile definitions environment targets all disk_honest seen plan dropped × (status ≡ question_status plan)
       × Appends old new (listing_text telling false plan) × (always ≡ lines_run_always telling false plan)
   asked_plan old new status (Ok run) (items, are, tells) found lists appended answered always those = (
     tells.plan,
@@ -92,7 +93,7 @@ module _ (files : List ℕ → Option (List ℕ)) (times : List ℕ → Option �
       IfErr got (λ f. told ≡ true → SaysFault err err_after f) →
       IfOk got (λ run. AppendsPart old new run.text.items) → IfOk got (λ run. SaysCut err err_after told (run.soft_dropped && not asks)) →
       TellsFault (λ f. Meets f × (f ≡ State open_fault.Device → Failed)) told old new err err_after
-      ⊎ CutsListing (Plans files times makefiles profile definitions environment targets all disk_honest seen) telling asks told old new err err_after
+      ⊎ CutsListing (Plans world times makefiles profile definitions environment targets all disk_honest seen) telling asks told old new err err_after
   refused_plan asks Meets Failed told old new err err_after (Ok run) lists (items, are, tells) meets failed kept line part cut =
       inr (record {
         plan = tells.plan;
@@ -123,18 +124,18 @@ module _ (files : List ℕ → Option (List ℕ)) (times : List ℕ → Option �
       absurd (no_part old new run.text.items (nothing_shown run told nothing none) (part two))
   silent_plan old new status One (Err f) told nothing none of whole part refused = refused refl
 
-pub told_of : (files : List ℕ → Option (List ℕ)) (times : List ℕ → Option ℤ) (makefiles : Makefiles)
+pub told_of : (world : World) (times : List ℕ → Option ℤ) (makefiles : Makefiles)
     (profile : Profile) (definitions defined environment : List Variable) (targets : List (List ℕ)) (all : Bool) (disk_honest : Type 0) (seen : Which → List ℕ)
     (telling : Telling) (recipes : Bool) (got : Result DryRun Fault) → defined ≡ definitions →
-    IfOk got (Told files times makefiles profile defined environment targets all disk_honest seen telling recipes) →
-    IfOk got (Told files times makefiles profile definitions environment targets all disk_honest seen telling recipes)
-told_of files times makefiles profile definitions defined environment targets all disk_honest seen telling recipes got is_defined told =
-    subst (λ d. IfOk got (Told files times makefiles profile d environment targets all disk_honest seen telling recipes)) is_defined told
+    IfOk got (Told world times makefiles profile defined environment targets all disk_honest seen telling recipes) →
+    IfOk got (Told world times makefiles profile definitions environment targets all disk_honest seen telling recipes)
+told_of world times makefiles profile definitions defined environment targets all disk_honest seen telling recipes got is_defined told =
+    subst (λ d. IfOk got (Told world times makefiles profile d environment targets all disk_honest seen telling recipes)) is_defined told
 
-pub fault_of : (files : List ℕ → Option (List ℕ)) (times : List ℕ → Option ℤ) (makefiles : Makefiles)
+pub fault_of : (world : World) (times : List ℕ → Option ℤ) (makefiles : Makefiles)
     (profile : Profile) (definitions defined environment : List Variable) (targets : List (List ℕ)) (all : Bool) (refuses : List ℕ → Type 0) (disk_honest : Type 0)
     (seen : Which → List ℕ) (got : Result DryRun Fault) → defined ≡ definitions →
-    IfErr got (IsFaultOf files times makefiles profile defined environment targets all refuses disk_honest seen) →
-    IfErr got (IsFaultOf files times makefiles profile definitions environment targets all refuses disk_honest seen)
-fault_of files times makefiles profile definitions defined environment targets all refuses disk_honest seen got is_defined meets =
-    subst (λ d. IfErr got (IsFaultOf files times makefiles profile d environment targets all refuses disk_honest seen)) is_defined meets
+    IfErr got (IsFaultOf world times makefiles profile defined environment targets all refuses disk_honest seen) →
+    IfErr got (IsFaultOf world times makefiles profile definitions environment targets all refuses disk_honest seen)
+fault_of world times makefiles profile definitions defined environment targets all refuses disk_honest seen got is_defined meets =
+    subst (λ d. IfErr got (IsFaultOf world times makefiles profile d environment targets all refuses disk_honest seen)) is_defined meets

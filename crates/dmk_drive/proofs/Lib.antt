@@ -1,6 +1,7 @@
 pub mod KeepingLemmas
 pub mod PassingLemmas
 pub mod FaultLemmas
+pub mod CommandLemmas
 pub mod FileLemmas
 pub mod OutputLemmas
 pub mod MakefileLemmas

@@ -25,6 +25,7 @@ use Rattle.dmk_drive.specs.Passing.{Lists, at_end, behind, no_marks, IsListing}
 use Rattle.dmk_drive.specs.Planned.{IsStateOn, IsGraphOf, IsPlanned, Plans, judged_graph}
 use Rattle.dmk_drive.proofs.ListingLemmas.{lists_once}
 use Rattle.dmk_drive.proofs.MakefileLemmas.{items_once}
+use Rattle.mk_eval.specs.Output.{World}
 
 -- ---- graphs that are alike have one listing
 
@@ -108,12 +109,12 @@ module _ (profile : Profile) (definitions environment : List Variable) (targets 
         of_x.soft ∙ dropped_once profile definitions environment targets times items of_x.state of_x.graph of_y.graph of_x.is_graph of_b ∙ sym of_y.soft,
       )
 
-pub plan_once : (files : List ℕ → Option (List ℕ)) (times : List ℕ → Option ℤ) (makefiles : Makefiles) (profile : Profile) (definitions environment : List Variable)
+pub plan_once : (world : World) (times : List ℕ → Option ℤ) (makefiles : Makefiles) (profile : Profile) (definitions environment : List Variable)
     (targets : List (List ℕ)) (all : Bool) (honest : Type 0) (seen : Which → List ℕ) (x y : List Passage) (d e : Bool) → honest →
-    Plans files times makefiles profile definitions environment targets all honest seen x d → Plans files times makefiles profile definitions environment targets all honest seen y e →
+    Plans world times makefiles profile definitions environment targets all honest seen x d → Plans world times makefiles profile definitions environment targets all honest seen y e →
     (x ≡ y) × (d ≡ e)
-plan_once files times makefiles profile definitions environment targets all honest seen x y d e works of_x of_y =
+plan_once world times makefiles profile definitions environment targets all honest seen x y d e works of_x of_y =
     planned_once profile definitions environment targets all times honest works seen of_y.items x y d e
     (subst (λ items. IsPlanned profile definitions environment targets all times honest seen items x d)
-    (items_once files times makefiles _ of_x.items of_y.items of_x.are_items of_y.are_items) of_x.planned)
+    (items_once world times makefiles _ of_x.items of_y.items of_x.are_items of_y.are_items) of_x.planned)
     of_y.planned

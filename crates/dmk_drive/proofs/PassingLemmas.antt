@@ -11,9 +11,9 @@ use Rattle.mk_graph.specs.Edges.{row, has, times}
 use Rattle.mk_graph.specs.Plan.{IsPlanAfter}
 use Rattle.mk_graph.proofs.CountedLemmas.{cycle_in}
 use Rattle.mk_graph.proofs.WholeLemmas.{whole_plan}
-use Rattle.mk_macros.specs.declared.fault.MacroFault.{MacroFault}
-use Rattle.mk_macros.specs.declared.fault.MacroFault.TheVariants as fault
-use Rattle.mk_rules.specs.Graph.{IsGraph}
+use Rattle.mk_plan.specs.declared.fault.RecipeFault.{RecipeFault}
+use Rattle.mk_plan.specs.declared.fault.RecipeFault.TheVariants as fault
+use Rattle.mk_rules.specs.Graph.{IsGraph, required_in}
 use Rattle.mk_rules.specs.Prerequisites.{Inputs}
 use Rattle.mk_rules.specs.declared.graph.Graph.{Graph}
 use Rattle.mk_graph.specs.Numbering.{name_at}
@@ -32,6 +32,7 @@ use Rattle.dmk_drive.specs.Planned.{Plans, judged_graph}
 use Rattle.dmk_drive.specs.declared.makefiles.Makefiles.{Makefiles}
 use Rattle.dmk_drive.specs.Passing.{Lists, at_end, behind, ListsFault, here, later, IsListing, IsListingFault, no_marks, printed, text_of, recipe_in, passage_text, listing_text, lists_any, PassesEach}
 use Rattle.mk_profile.specs.declared.profile.Profile.{Profile}
+use Rattle.mk_eval.specs.Output.{World}
 
 -- what was listed so far: with what is listed of the nodes that are left it is what all list
 abbrev pub ListedSoFar : (keeping : Bool) (graph : Graph) (marks : List Bool) (i : ℕ) (listed : List Passage) → Type 0
@@ -52,7 +53,7 @@ listed_more keeping graph marks i n remade front listed next passes before = λ 
 -- the fault that is met among the nodes that are left is that of all
 abbrev pub NoFaultSoFar : (keeping : Bool) (graph : Graph) (marks : List Bool) (i : ℕ) → Type 0
 NoFaultSoFar keeping graph marks i =
-    (f : MacroFault) → ListsFault keeping graph marks (drop i graph.order.items) f → ListsFault keeping graph (no_marks graph) graph.order.items f
+    (f : RecipeFault) → ListsFault keeping graph marks (drop i graph.order.items) f → ListsFault keeping graph (no_marks graph) graph.order.items f
 
 pub no_fault_start : (keeping : Bool) (graph : Graph) → NoFaultSoFar keeping graph (no_marks graph) 0
 no_fault_start keeping graph = λ f meets. meets
@@ -64,7 +65,7 @@ no_fault_more keeping graph marks i n remade front next passes before = λ f mee
     before f (subst (λ left. ListsFault keeping graph marks left f) (sym next) (later passes meets))
 
 -- the node that is next has a fault
-pub fault_next : (keeping : Bool) (graph : Graph) (marks : List Bool) (i n : ℕ) (f : MacroFault) →
+pub fault_next : (keeping : Bool) (graph : Graph) (marks : List Bool) (i n : ℕ) (f : RecipeFault) →
     drop i graph.order.items ≡ n ∷ drop (i + 1) graph.order.items → IsFaultAt graph marks n f →
     NoFaultSoFar keeping graph marks i → IsListingFault keeping graph f
 fault_next keeping graph marks i n fault.OutOfMemory next is before = tt
@@ -153,7 +154,7 @@ pub passes_each : (inputs : Inputs) (named : List (List ℕ)) (graph : Graph) �
 passes_each inputs named graph is = record {
   order = is.order;
   once = λ n. subst (λ count. times n graph.order.items ≡ (if nat_lt n count then 1 else 0)) graph.counted_rows
-      (whole_plan graph.counted graph.order.items graph.counted_closed (uncycled graph.hard graph.soft graph.counted graph.soft_dropped is.counted is.acyclic) is.order n);
+      (whole_plan graph.counted graph.order.items graph.counted_closed (uncycled (required_in graph) graph.soft graph.counted graph.soft_dropped is.counted is.acyclic) is.order n);
 }
 
 -- ---- where all targets are to be made
@@ -167,8 +168,8 @@ all_listed graph marks _ _ (behind (is_up_to_date recipe lines target is_recipe 
 all_listed graph marks _ _ (behind (has_no_recipe none remade) rest) = all_listed graph _ _ _ rest
 all_listed graph marks _ _ (behind (is_left none left) rest) = all_listed graph _ _ _ rest
 
-pub each_made : (files : List ℕ → Option (List ℕ)) (times : List ℕ → Option ℤ) (makefiles : Makefiles) (profile : Profile) (definitions environment : List Variable)
+pub each_made : (world : World) (times : List ℕ → Option ℤ) (makefiles : Makefiles) (profile : Profile) (definitions environment : List Variable)
     (targets : List (List ℕ)) (honest : Type 0) (seen : Which → List ℕ) (plan : List Passage) (dropped : Bool) →
-    Plans files times makefiles profile definitions environment targets true honest seen plan dropped → list_all is_listed plan ≡ true
-each_made files times makefiles profile definitions environment targets honest seen plan dropped is =
+    Plans world times makefiles profile definitions environment targets true honest seen plan dropped → list_all is_listed plan ≡ true
+each_made world times makefiles profile definitions environment targets honest seen plan dropped is =
     all_listed is.planned.graph _ _ plan is.planned.lists

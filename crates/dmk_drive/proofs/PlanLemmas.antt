@@ -1,5 +1,6 @@
 -- The stages of a plan put together.
 use Rattle.std.proofs.Common.{◌≡◌, ◌⊎◌, ◌||◌, inl, inr, ℕ, ℤ, Bool, List, length, Option, Result, Ok, Err, IfOk, IfErr, IfSome, is_some, IsTrue, refl, sym, ap, subst, ◌∙◌, true, false}
+use Rattle.std.specs.Prelude.{unwrap_or}
 use Rattle.std.proofs.Props.{props}
 use Rattle.std.specs.List.Sorted.{IsStrictlyIncreasing}
 use Rattle.mk_graph.specs.Edges.{row, is_closed}
@@ -12,7 +13,7 @@ use Rattle.mk_rule_lines.specs.declared.rule_line.RuleLine.{RuleLine}
 use Rattle.mk_rule_lines.specs.declared.table.TargetTable.{TargetTable}
 use Rattle.mk_rules.specs.Node.{EachHasOneNumber}
 use Rattle.std.specs.FinMap as map
-use Rattle.mk_macros.specs.declared.fault.MacroFault.{MacroFault}
+use Rattle.mk_plan.specs.declared.fault.RecipeFault.{RecipeFault}
 use Rattle.mk_reader.specs.declared.item.Item.{Item}
 use Rattle.mk_profile.specs.declared.profile.Profile.{Profile}
 use Rattle.mk_plan.specs.Passage.{Passage}
@@ -59,7 +60,8 @@ same_table targets lines = hlevel props
 
 -- whichever proofs go with its fields, a graph with this state in place of its own is one
 pub with_state : (g : Graph) (state : StateMap) (named : length g.names ≡ length g.nodes.items) (distinct : EachHasOneNumber g.names)
-    (hard_rows : length g.hard ≡ length g.nodes.items) (soft_rows : length g.soft ≡ length g.nodes.items) (counted_rows : length g.counted ≡ length g.nodes.items)
+    (hard_rows : length g.hard ≡ length g.nodes.items) (required_rows : length (unwrap_or g.required g.hard) ≡ length g.nodes.items)
+    (required_closed : IsTrue (is_closed (unwrap_or g.required g.hard))) (soft_rows : length g.soft ≡ length g.nodes.items) (counted_rows : length g.counted ≡ length g.nodes.items)
     (hard_closed : IsTrue (is_closed g.hard)) (soft_closed : IsTrue (is_closed g.soft)) (counted_closed : IsTrue (is_closed g.counted))
     (counted_ascending : (n : ℕ) → IsStrictlyIncreasing (row g.counted n)) (suffixes_are : g.suffixes ≡ suffixes_of g.lines.items)
     (kept : is_some g.targets ≡ is_wide (defined_by g.macros).language)
@@ -69,6 +71,8 @@ pub with_state : (g : Graph) (state : StateMap) (named : length g.names ≡ leng
       named = named;
       distinct = distinct;
       hard_rows = hard_rows;
+      required_rows = required_rows;
+      required_closed = required_closed;
       soft_rows = soft_rows;
       counted_rows = counted_rows;
       hard_closed = hard_closed;
@@ -80,11 +84,13 @@ pub with_state : (g : Graph) (state : StateMap) (named : length g.names ≡ leng
       table = table;
     }
     ≡ record g { state = state }
-with_state g state named distinct hard_rows soft_rows counted_rows hard_closed soft_closed counted_closed counted_ascending suffixes_are kept table = λ i. record g {
+with_state g state named distinct hard_rows required_rows required_closed soft_rows counted_rows hard_closed soft_closed counted_closed counted_ascending suffixes_are kept table = λ i. record g {
   state = state;
   named = same_count (length g.names) (length g.nodes.items) named g.named i;
   distinct = one_number g.names distinct g.distinct i;
   hard_rows = same_count (length g.hard) (length g.nodes.items) hard_rows g.hard_rows i;
+  required_rows = same_count (length (unwrap_or g.required g.hard)) (length g.nodes.items) required_rows g.required_rows i;
+  required_closed = is_true (is_closed (unwrap_or g.required g.hard)) required_closed g.required_closed i;
   soft_rows = same_count (length g.soft) (length g.nodes.items) soft_rows g.soft_rows i;
   counted_rows = same_count (length g.counted) (length g.nodes.items) counted_rows g.counted_rows i;
   hard_closed = is_true (is_closed g.hard) hard_closed g.hard_closed i;
@@ -120,7 +126,7 @@ module _ (profile : Profile) (definitions environment : List Variable) (targets 
     counted : counting ≡ all || keeps environment items
     counted = counts ∙ ap (λ k. all || k) is_keeping
 
-    pub recipes_fault : (refuses : List ℕ → Type 0) (got : Fault) → ((f : MacroFault) × (got ≡ fault.Recipe f) × IsListingFault counting judged f) →
+    pub recipes_fault : (refuses : List ℕ → Type 0) (got : Fault) → ((f : RecipeFault) × (got ≡ fault.Recipe f) × IsListingFault counting judged f) →
         IsPlanFault profile definitions environment targets all times refuses disk_honest seen items got
     recipes_fault refuses got (f, is, meets) =
         subst (IsPlanFault profile definitions environment targets all times refuses disk_honest seen items) (sym is) (
@@ -153,7 +159,7 @@ module _ (profile : Profile) (definitions environment : List Variable) (targets 
     }
 
     pub recipes_result : (refuses : List ℕ → Type 0) (got : Result DryRun Fault) →
-        IfErr got (λ g. (f : MacroFault) × (g ≡ fault.Recipe f) × IsListingFault counting judged f) →
+        IfErr got (λ g. (f : RecipeFault) × (g ≡ fault.Recipe f) × IsListingFault counting judged f) →
         IfErr got (IsPlanFault profile definitions environment targets all times refuses disk_honest seen items)
     recipes_result refuses (Ok run) is = tt
     recipes_result refuses (Err f) is = recipes_fault refuses f is

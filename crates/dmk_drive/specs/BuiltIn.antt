@@ -1,11 +1,12 @@
 -- The rules that are built in, and whether they are read.
-use Rattle.std.specs.Prelude.{ℕ, Bool, false, not, ◌&&◌, List, [], ◌∷◌, ◌++◌, Option, flat_map, codes, if◌then◌else◌}
+use Rattle.std.specs.Prelude.{ℕ, Bool, false, not, ◌&&◌, List, [], ◌∷◌, ◌++◌, flat_map, codes, if◌then◌else◌}
 use Rattle.std.specs.List.{list_any}
 use Rattle.byte_strings.specs.Blanks.{words}
 use Rattle.mk_profile.specs.declared.profile.Profile.{Profile}
 use Rattle.mk_profile.specs.Profile.{is_wide}
 use Rattle.mk_macros.specs.Ranks.{Defined}
-use Rattle.mk_eval.specs.Makefile.{AnswersOf, Outcome, TextItems, depth}
+use Rattle.mk_eval.specs.Output.{World}
+use Rattle.mk_eval.specs.Makefile.{Outcome, TextItems, depth}
 use Rattle.mk_reader.specs.declared.item.Item.{Item}
 use Rattle.mk_reader.specs.declared.item.Item.TheVariants as item
 use Rattle.mk_rule_lines.specs.Rules.{has}
@@ -44,5 +45,5 @@ abbrev pub rules_name : List ℕ
 rules_name = codes "(built-in)"
 
 -- what the tool's rules give in front of these items
-abbrev pub AreRules : (files : List ℕ → Option (List ℕ)) → Defined → (own : List Item) → Outcome → Type 0
-AreRules files given own outcome = TextItems (AnswersOf files) depth given rules_name (rules_text own) outcome
+abbrev pub AreRules : (world : World) → Defined → (own : List Item) → Outcome → Type 0
+AreRules world given own outcome = TextItems world depth given rules_name (rules_text own) outcome

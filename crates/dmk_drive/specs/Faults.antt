@@ -2,7 +2,8 @@
 -- that of the cases here.
 use Rattle.std.specs.Prelude.{◌≡◌, ◌⊎◌, ◌||◌, ℕ, ℤ, Bool, true, false, List, [], ◌∷◌, Option, None, Err}
 use Rattle.std.specs.FinMap as map
-use Rattle.mk_eval.specs.Makefile.{AnswersOf, TextItems, depth}
+use Rattle.mk_eval.specs.Output.{World}
+use Rattle.mk_eval.specs.Makefile.{TextItems, depth}
 use Rattle.mk_macros.specs.Ranks.{Defined}
 use Rattle.mk_reader.specs.declared.item.Item.{Item}
 use Rattle.mk_reader.specs.declared.fault.ReadFault.{ReadFault}
@@ -30,28 +31,28 @@ use Rattle.bd_lists.specs.declared.recipe.Variable.{Variable}
 
 -- the makefiles have a first line that is refused: the usual one, where none is named, or one of those that are, with all before
 -- it read; want of memory says nothing of it
-abbrev pub IsReadFault : (files : List ℕ → Option (List ℕ)) (times : List ℕ → Option ℤ) (named : List (List ℕ)) → Defined →
+abbrev pub IsReadFault : (world : World) (times : List ℕ → Option ℤ) (named : List (List ℕ)) → Defined →
     ReadFault → Type 0
-IsReadFault files times named given read_fault.OutOfMemory = Unit {0}
-IsReadFault files times [] given (read_fault.Refused refusal) =
-    (file : List ℕ) × (text : List ℕ) × IsUsualMakefile files times file text × TextItems (AnswersOf files) depth given file text (Err refusal)
-IsReadFault files times (name ∷ names) given (read_fault.Refused refusal) = AllItems files given (name ∷ names) (Err refusal)
+IsReadFault world times named given read_fault.OutOfMemory = Unit {0}
+IsReadFault world times [] given (read_fault.Refused refusal) =
+    (file : List ℕ) × (text : List ℕ) × IsUsualMakefile world times file text × TextItems world depth given file text (Err refusal)
+IsReadFault world times (name ∷ names) given (read_fault.Refused refusal) = AllItems world given (name ∷ names) (Err refusal)
 
 -- the fault of the makefile of this name
-abbrev pub IsFaultOfOne : (files : List ℕ → Option (List ℕ)) → Defined → (name : List ℕ) → Fault → Type 0
-IsFaultOfOne files given name fault.OutOfMemory = Unit {0}
-IsFaultOfOne files given name fault.NoMakefile = files name ≡ None
-IsFaultOfOne files given name (fault.Read read_fault.OutOfMemory) = Unit {0}
-IsFaultOfOne files given name (fault.Read (read_fault.Refused refusal)) = NamedItems files given name (Err refusal)
-IsFaultOfOne files given name _ = ⊥
+abbrev pub IsFaultOfOne : (world : World) → Defined → (name : List ℕ) → Fault → Type 0
+IsFaultOfOne world given name fault.OutOfMemory = Unit {0}
+IsFaultOfOne world given name fault.NoMakefile = world.files name ≡ None
+IsFaultOfOne world given name (fault.Read read_fault.OutOfMemory) = Unit {0}
+IsFaultOfOne world given name (fault.Read (read_fault.Refused refusal)) = NamedItems world given name (Err refusal)
+IsFaultOfOne world given name _ = ⊥
 
 -- the first fault of the makefiles of these names
-abbrev pub IsFaultAmong : (files : List ℕ → Option (List ℕ)) → Defined → (names : List (List ℕ)) → Fault → Type 0
-IsFaultAmong files given names fault.OutOfMemory = Unit {0}
-IsFaultAmong files given names fault.NoMakefile = LacksOne files given names
-IsFaultAmong files given names (fault.Read read_fault.OutOfMemory) = Unit {0}
-IsFaultAmong files given names (fault.Read (read_fault.Refused refusal)) = AllItems files given names (Err refusal)
-IsFaultAmong files given names _ = ⊥
+abbrev pub IsFaultAmong : (world : World) → Defined → (names : List (List ℕ)) → Fault → Type 0
+IsFaultAmong world given names fault.OutOfMemory = Unit {0}
+IsFaultAmong world given names fault.NoMakefile = LacksOne world given names
+IsFaultAmong world given names (fault.Read read_fault.OutOfMemory) = Unit {0}
+IsFaultAmong world given names (fault.Read (read_fault.Refused refusal)) = AllItems world given names (Err refusal)
+IsFaultAmong world given names _ = ⊥
 
 -- the fault of the two sides; a device and want of memory say nothing of their bytes
 abbrev pub IsOpenFault : (seen : Which → List ℕ) → OpenFault → Type 0
@@ -60,32 +61,32 @@ IsOpenFault seen open_fault.OutOfMemory = Unit {0}
 IsOpenFault seen f = RefusesWith (seen sides.A) (seen sides.B) f
 
 -- the fault that looking for the makefile and reading it gives
-abbrev pub IsOwnFault : (files : List ℕ → Option (List ℕ)) (times : List ℕ → Option ℤ)
+abbrev pub IsOwnFault : (world : World) (times : List ℕ → Option ℤ)
     (refuses : List ℕ → Type 0) (named : List (List ℕ)) → Defined → Fault → Type 0
-IsOwnFault files times refuses named given fault.OutOfMemory = Unit {0}
-IsOwnFault files times refuses named given fault.NoMakefile = HasNoMakefile files times refuses named given
-IsOwnFault files times refuses named given (fault.Read f) = IsReadFault files times named given f
-IsOwnFault files times refuses named given _ = ⊥
+IsOwnFault world times refuses named given fault.OutOfMemory = Unit {0}
+IsOwnFault world times refuses named given fault.NoMakefile = HasNoMakefile world times refuses named given
+IsOwnFault world times refuses named given (fault.Read f) = IsReadFault world times named given f
+IsOwnFault world times refuses named given _ = ⊥
 
 -- the fault of the tool's rules, which are read in front of these items; want of memory says nothing of them
-abbrev pub IsFaultOfRules : (files : List ℕ → Option (List ℕ)) → Defined → (own : List Item) → Fault → Type 0
-IsFaultOfRules files given own fault.OutOfMemory = Unit {0}
-IsFaultOfRules files given own (fault.Read read_fault.OutOfMemory) = Unit {0}
-IsFaultOfRules files given own (fault.Read (read_fault.Refused refusal)) = AreRules files given own (Err refusal)
-IsFaultOfRules files given own _ = ⊥
+abbrev pub IsFaultOfRules : (world : World) → Defined → (own : List Item) → Fault → Type 0
+IsFaultOfRules world given own fault.OutOfMemory = Unit {0}
+IsFaultOfRules world given own (fault.Read read_fault.OutOfMemory) = Unit {0}
+IsFaultOfRules world given own (fault.Read (read_fault.Refused refusal)) = AreRules world given own (Err refusal)
+IsFaultOfRules world given own _ = ⊥
 
 -- they are read, and have this fault
-abbrev pub IsRulesFault : (reads : Bool) (files : List ℕ → Option (List ℕ)) (Own : List Item → Type 0) → Defined → ReadFault → Type 0
-IsRulesFault false files Own given f = ⊥
-IsRulesFault true files Own given f = (own : List Item) × Own own × IsFaultOfRules files given own (fault.Read f)
+abbrev pub IsRulesFault : (reads : Bool) (world : World) (Own : List Item → Type 0) → Defined → ReadFault → Type 0
+IsRulesFault false world Own given f = ⊥
+IsRulesFault true world Own given f = (own : List Item) × Own own × IsFaultOfRules world given own (fault.Read f)
 
 -- the fault of all that is read: the makefile's own, or else the rules'
-abbrev pub IsTextFault : (files : List ℕ → Option (List ℕ)) (times : List ℕ → Option ℤ)
+abbrev pub IsTextFault : (world : World) (times : List ℕ → Option ℤ)
     (refuses : List ℕ → Type 0) → Makefiles → Defined → Fault → Type 0
-IsTextFault files times refuses makefiles given (fault.Read f) =
-    IsReadFault files times makefiles.named given f
-    ⊎ IsRulesFault (reads_rules makefiles given.language) files (AreOwnItems files times makefiles.named given) given f
-IsTextFault files times refuses makefiles given f = IsOwnFault files times refuses makefiles.named given f
+IsTextFault world times refuses makefiles given (fault.Read f) =
+    IsReadFault world times makefiles.named given f
+    ⊎ IsRulesFault (reads_rules makefiles given.language) world (AreOwnItems world times makefiles.named given) given f
+IsTextFault world times refuses makefiles given f = IsOwnFault world times refuses makefiles.named given f
 
 -- the fault of a plan for items that were read
 abbrev pub IsPlanFault : (profile : Profile) (definitions environment : List Variable) (targets : List (List ℕ)) (all : Bool) (times : List ℕ → Option ℤ)
@@ -113,10 +114,10 @@ IsRunFault Text Items Plan (fault.Recipe f) = (items : List Item) × Items items
 IsRunFault Text Items Plan fault.Write = ⊥
 
 -- so it is of the makefile that is named, or the usual one, for these targets
-abbrev pub IsFaultOf : (files : List ℕ → Option (List ℕ)) (times : List ℕ → Option ℤ) (makefiles : Makefiles)
+abbrev pub IsFaultOf : (world : World) (times : List ℕ → Option ℤ) (makefiles : Makefiles)
     (profile : Profile) (definitions environment : List Variable) (targets : List (List ℕ)) (all : Bool) (refuses : List ℕ → Type 0) (disk_honest : Type 0)
     (seen : Which → List ℕ) → Fault → Type 0
-IsFaultOf files times makefiles profile definitions environment targets all refuses disk_honest seen =
-    IsRunFault (IsTextFault files times refuses makefiles (first_defined profile definitions environment))
-    (AreItems files times makefiles (first_defined profile definitions environment))
+IsFaultOf world times makefiles profile definitions environment targets all refuses disk_honest seen =
+    IsRunFault (IsTextFault world times refuses makefiles (first_defined profile definitions environment))
+    (AreItems world times makefiles (first_defined profile definitions environment))
     (IsPlanFault profile definitions environment targets all times refuses disk_honest seen)

@@ -5,7 +5,8 @@ use Rattle.std.specs.Prelude.{◌≡◌, ℕ, List, Option, Some, None, IfSome, 
 abbrev pub Fits : {V : Type 0} (known : List ℕ → Option V) (of : List ℕ → V) → Type 0
 Fits known of = (n : List ℕ) → IfSome (known n) (λ v. of n ≡ v)
 
-some_fit_at : {V : Type 0} (found : Option V) (other : V) → IfSome found (λ v. unwrap_or found other ≡ v)
+-- what is known fits, and else this one
+pub some_fit_at : {V : Type 0} (found : Option V) (other : V) → IfSome found (λ v. unwrap_or found other ≡ v)
 some_fit_at None other = tt
 some_fit_at (Some v) other = refl
 

@@ -24,6 +24,8 @@ pub mod Base
 pub mod StateName
 -- Files: what the system says of a file.
 pub mod Files
+-- Commands: what is known of commands that definitions ran.
+pub mod Commands
 -- Stamps: the times of files that are known so far.
 pub mod Stamps
 -- Fits: what is known of names, and what it may come from.

@@ -1,6 +1,7 @@
 -- Which files are the makefile (make(1S), -f and the names makefile and Makefile), and what those that are named give.
 use Rattle.std.specs.Prelude.{◌≡◌, ◌⊎◌, ℕ, ℤ, true, List, [], ◌∷◌, ◌++◌, Option, Some, None, Ok, is_some, codes}
-use Rattle.mk_eval.specs.Makefile.{AnswersOf, InOrder, Outcome, TextItems, behind, depth}
+use Rattle.mk_eval.specs.Output.{World}
+use Rattle.mk_eval.specs.Makefile.{InOrder, Outcome, TextItems, behind, depth}
 use Rattle.mk_macros.specs.Ranks.{Defined}
 use Rattle.mk_reader.specs.declared.item.Item.{Item}
 
@@ -16,34 +17,34 @@ abbrev pub MayBeThere : (times : List ℕ → Option ℤ) (refuses : List ℕ �
 MayBeThere times refuses name = (is_some (times name) ≡ true) ⊎ refuses name
 
 -- where none is named, the makefile is this file with this text: `makefile`, or else, where there is no such file, `Makefile`
-abbrev pub IsUsualMakefile : (files : List ℕ → Option (List ℕ)) (times : List ℕ → Option ℤ) (file text : List ℕ) → Type 0
-IsUsualMakefile files times file text =
-    ((file ≡ first_name) × (files first_name ≡ Some text))
-    ⊎ ((file ≡ second_name) × ((files first_name ≡ None) × ((times first_name ≡ None) × (files second_name ≡ Some text))))
+abbrev pub IsUsualMakefile : (world : World) (times : List ℕ → Option ℤ) (file text : List ℕ) → Type 0
+IsUsualMakefile world times file text =
+    ((file ≡ first_name) × (world.files first_name ≡ Some text))
+    ⊎ ((file ≡ second_name) × ((world.files first_name ≡ None) × ((times first_name ≡ None) × (world.files second_name ≡ Some text))))
 
 -- what the makefile of this name gives with what is defined before it: its items, or its first fault
-abbrev pub NamedItems : (files : List ℕ → Option (List ℕ)) → Defined → (name : List ℕ) → Outcome → Type 0
-NamedItems files given name outcome =
-    (text : List ℕ) × (files name ≡ Some text) × TextItems (AnswersOf files) depth given name text outcome
+abbrev pub NamedItems : (world : World) → Defined → (name : List ℕ) → Outcome → Type 0
+NamedItems world given name outcome =
+    (text : List ℕ) × (world.files name ≡ Some text) × TextItems world depth given name text outcome
 
 -- what the makefiles of these names give, one behind the other as one makefile
-abbrev pub AllItems : (files : List ℕ → Option (List ℕ)) → Defined → (names : List (List ℕ)) → Outcome → Type 0
-AllItems files given names outcome = InOrder behind (NamedItems files) given names outcome
+abbrev pub AllItems : (world : World) → Defined → (names : List (List ℕ)) → Outcome → Type 0
+AllItems world given names outcome = InOrder behind (NamedItems world) given names outcome
 
 -- one of these makefiles can't be read, and all before it give items
-pub record LacksOne (files : List ℕ → Option (List ℕ)) (given : Defined) (names : List (List ℕ)) : Type 0 where
+pub record LacksOne (world : World) (given : Defined) (names : List (List ℕ)) : Type 0 where
   pub before : List (List ℕ)
   pub lacking : List ℕ
   pub behind : List (List ℕ)
   pub are_names : names ≡ before ++ lacking ∷ behind
   pub items : List Item
-  pub are_items : AllItems files given before (Ok items)
-  pub is_lacking : files lacking ≡ None
+  pub are_items : AllItems world given before (Ok items)
+  pub is_lacking : world.files lacking ≡ None
 
 -- there is no makefile: one of those that are named can't be read; or none is named, `makefile` can't be read, and it is there
 -- or `Makefile` can't be read either (own: a makefile that is there and can't be read isn't passed over)
-abbrev pub HasNoMakefile : (files : List ℕ → Option (List ℕ)) (times : List ℕ → Option ℤ) (refuses : List ℕ → Type 0)
+abbrev pub HasNoMakefile : (world : World) (times : List ℕ → Option ℤ) (refuses : List ℕ → Type 0)
     (named : List (List ℕ)) → Defined → Type 0
-HasNoMakefile files times refuses [] given =
-    (files first_name ≡ None) × (MayBeThere times refuses first_name ⊎ ((times first_name ≡ None) × (files second_name ≡ None)))
-HasNoMakefile files times refuses (name ∷ names) given = LacksOne files given (name ∷ names)
+HasNoMakefile world times refuses [] given =
+    (world.files first_name ≡ None) × (MayBeThere times refuses first_name ⊎ ((times first_name ≡ None) × (world.files second_name ≡ None)))
+HasNoMakefile world times refuses (name ∷ names) given = LacksOne world given (name ∷ names)

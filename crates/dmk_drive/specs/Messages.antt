@@ -1,7 +1,7 @@
 -- What is said on standard error.
 use Rattle.std.specs.Prelude.{◌≡◌, ℕ, Bool, true, false, List, [], ◌∷◌, ◌++◌, Option, None, Some, IfSome, codes, if◌then◌else◌}
 use Rattle.std.specs.Io.KnownBytes.{Appends}
-use Rattle.mk_macros.specs.declared.fault.MacroFault.TheVariants as macro_fault
+use Rattle.mk_plan.specs.declared.fault.RecipeFault.TheVariants as recipe_fault
 use Rattle.mk_reader.specs.declared.fault.ReadFault.TheVariants as read_fault
 use Rattle.mk_rule_lines.specs.declared.fault.RuleFault.TheVariants as rule_fault
 use Rattle.st_file.specs.declared.fault.OpenFault.TheVariants as open_fault
@@ -15,7 +15,7 @@ is_of_memory fault.OutOfMemory = true
 is_of_memory (fault.Read read_fault.OutOfMemory) = true
 is_of_memory (fault.State open_fault.OutOfMemory) = true
 is_of_memory (fault.Rules rule_fault.OutOfMemory) = true
-is_of_memory (fault.Recipe macro_fault.OutOfMemory) = true
+is_of_memory (fault.Recipe recipe_fault.OutOfMemory) = true
 is_of_memory _ = false
 
 -- the text of a fault that isn't for want of memory. That of a fault of a crate below stands there, and nothing is said of it

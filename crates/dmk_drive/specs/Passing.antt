@@ -3,8 +3,8 @@ use Rattle.std.specs.Prelude.{◌≡◌, ℕ, Bool, true, false, nat_lt, List, [
 use Rattle.std.specs.List.{flat_map, list_any}
 use Rattle.mk_graph.specs.Edges.{times}
 use Rattle.mk_graph.specs.Plan.{IsPlan}
-use Rattle.mk_macros.specs.declared.fault.MacroFault.{MacroFault}
-use Rattle.mk_macros.specs.declared.fault.MacroFault.TheVariants.{OutOfMemory}
+use Rattle.mk_plan.specs.declared.fault.RecipeFault.{RecipeFault}
+use Rattle.mk_plan.specs.declared.fault.RecipeFault.TheVariants.{OutOfMemory}
 use Rattle.mk_plan.specs.Passage.{Passage, to_make, finished, is_listed}
 use Rattle.mk_plan.specs.Passing.{Passes, IsFaultAt}
 use Rattle.mk_plan.specs.Telling.{lines_about}
@@ -24,10 +24,10 @@ pub data Lists (keeping : Bool) (graph : Graph) : (marks : List Bool) → (order
       Lists keeping graph marks (n ∷ order) (front ++ listed)
 
 -- passing them in this order meets the fault: it is that of the recipe of a node, and all before it are passed
-pub data ListsFault (keeping : Bool) (graph : Graph) : (marks : List Bool) → (order : List ℕ) → (fault : MacroFault) → Type 0 where
-  here : {marks : List Bool} {n : ℕ} {order : List ℕ} {fault : MacroFault} →
+pub data ListsFault (keeping : Bool) (graph : Graph) : (marks : List Bool) → (order : List ℕ) → (fault : RecipeFault) → Type 0 where
+  here : {marks : List Bool} {n : ℕ} {order : List ℕ} {fault : RecipeFault} →
       IsFaultAt graph marks n fault → ListsFault keeping graph marks (n ∷ order) fault
-  later : {marks : List Bool} {n : ℕ} {order : List ℕ} {fault : MacroFault} {remade : Bool} {front : List Passage} →
+  later : {marks : List Bool} {n : ℕ} {order : List ℕ} {fault : RecipeFault} {remade : Bool} {front : List Passage} →
       Passes keeping graph marks n remade front → ListsFault keeping graph (slice_set marks n remade) order fault →
       ListsFault keeping graph marks (n ∷ order) fault
 
@@ -49,7 +49,7 @@ abbrev pub ListsNone : (keeping : Bool) (graph : Graph) → Type 0
 ListsNone keeping graph = (listed : List Passage) × IsListing keeping graph listed × (lists_any listed ≡ false)
 
 -- the fault that ends the listing: that of the first node with one in this order; want of memory says nothing of the nodes
-abbrev pub IsListingFault : (keeping : Bool) (graph : Graph) → MacroFault → Type 0
+abbrev pub IsListingFault : (keeping : Bool) (graph : Graph) → RecipeFault → Type 0
 IsListingFault keeping graph OutOfMemory = Unit {0}
 IsListingFault keeping graph fault = ListsFault keeping graph (no_marks graph) graph.order.items fault
 

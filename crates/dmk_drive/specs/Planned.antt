@@ -3,7 +3,8 @@ use Rattle.std.specs.Prelude.{◌≡◌, ◌||◌, ℕ, ℤ, Bool, true, false, 
 use Rattle.std.specs.FinMap as map
 use Rattle.mk_profile.specs.declared.profile.Profile.{Profile}
 use Rattle.mk_macros.specs.Ranks.{Defined, defined_by}
-use Rattle.mk_eval.specs.Makefile.{AnswersOf, TextItems, depth}
+use Rattle.mk_eval.specs.Output.{World}
+use Rattle.mk_eval.specs.Makefile.{TextItems, depth}
 use Rattle.mk_reader.specs.declared.item.Item.{Item}
 use Rattle.mk_plan.specs.Passage.{Passage}
 use Rattle.mk_plan.specs.declared.telling.Telling.{Telling}
@@ -38,33 +39,33 @@ IsStateOn false disk_honest seen m = IsStateOf false seen m
 
 -- the items are those of the makefile where none is named, by what the files hold and whether there is a file of a name, in
 -- its language and with what is defined before it
-pub record AreUsualItems (files : List ℕ → Option (List ℕ)) (times : List ℕ → Option ℤ) (given : Defined) (items : List Item) : Type 0 where
+pub record AreUsualItems (world : World) (times : List ℕ → Option ℤ) (given : Defined) (items : List Item) : Type 0 where
   pub file : List ℕ
   pub text : List ℕ
-  pub is_makefile : IsUsualMakefile files times file text
-  pub read : TextItems (AnswersOf files) depth given file text (Ok items)
+  pub is_makefile : IsUsualMakefile world times file text
+  pub read : TextItems world depth given file text (Ok items)
 
 -- the items are those of the makefiles that are named, one behind the other, or else of the usual one
-abbrev pub AreOwnItems : (files : List ℕ → Option (List ℕ)) (times : List ℕ → Option ℤ) (named : List (List ℕ)) → Defined → (items : List Item) → Type 0
-AreOwnItems files times [] given items = AreUsualItems files times given items
-AreOwnItems files times (name ∷ names) given items = AllItems files given (name ∷ names) (Ok items)
+abbrev pub AreOwnItems : (world : World) (times : List ℕ → Option ℤ) (named : List (List ℕ)) → Defined → (items : List Item) → Type 0
+AreOwnItems world times [] given items = AreUsualItems world times given items
+AreOwnItems world times (name ∷ names) given items = AllItems world given (name ∷ names) (Ok items)
 
 -- the tool's rules stand in front of these items
-pub record AreBehindRules (files : List ℕ → Option (List ℕ)) (Own : List Item → Type 0) (given : Defined) (items : List Item) : Type 0 where
+pub record AreBehindRules (world : World) (Own : List Item → Type 0) (given : Defined) (items : List Item) : Type 0 where
   pub rules : List Item
   pub own : List Item
   pub whole : items ≡ rules ++ own
-  pub are_rules : AreRules files given own (Ok rules)
+  pub are_rules : AreRules world given own (Ok rules)
   pub are_own : Own own
 
-abbrev pub WithRules : (reads : Bool) (files : List ℕ → Option (List ℕ)) (Own : List Item → Type 0) → Defined → (items : List Item) → Type 0
-WithRules false files Own given items = Own items
-WithRules true files Own given items = AreBehindRules files Own given items
+abbrev pub WithRules : (reads : Bool) (world : World) (Own : List Item → Type 0) → Defined → (items : List Item) → Type 0
+WithRules false world Own given items = Own items
+WithRules true world Own given items = AreBehindRules world Own given items
 
 -- all items: those of the makefiles, behind the tool's rules where these are read
-abbrev pub AreItems : (files : List ℕ → Option (List ℕ)) (times : List ℕ → Option ℤ) → Makefiles → Defined → (items : List Item) → Type 0
-AreItems files times makefiles given =
-    WithRules (reads_rules makefiles given.language) files (AreOwnItems files times makefiles.named given) given
+abbrev pub AreItems : (world : World) (times : List ℕ → Option ℤ) → Makefiles → Defined → (items : List Item) → Type 0
+AreItems world times makefiles given =
+    WithRules (reads_rules makefiles given.language) world (AreOwnItems world times makefiles.named given) given
 
 -- the graph of these items for the targets that are named, with this state, in the language of the profile
 pub record IsGraphOf (profile : Profile) (definitions environment : List Variable) (targets : List (List ℕ)) (times : List ℕ → Option ℤ)
@@ -104,8 +105,8 @@ pub record Tells (profile : Profile) (definitions environment : List Variable) (
 
 -- what a dry run has to tell, for the makefile that is found by these files and times, and whether soft edges make a
 -- cycle
-pub record Plans (files : List ℕ → Option (List ℕ)) (times : List ℕ → Option ℤ) (makefiles : Makefiles)
+pub record Plans (world : World) (times : List ℕ → Option ℤ) (makefiles : Makefiles)
     (profile : Profile) (definitions environment : List Variable) (targets : List (List ℕ)) (all : Bool) (disk_honest : Type 0) (seen : Which → List ℕ) (plan : List Passage) (dropped : Bool) : Type 0 where
   pub items : List Item
-  pub are_items : AreItems files times makefiles (first_defined profile definitions environment) items
+  pub are_items : AreItems world times makefiles (first_defined profile definitions environment) items
   pub planned : IsPlanned profile definitions environment targets all times disk_honest seen items plan dropped

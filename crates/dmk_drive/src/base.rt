@@ -5,6 +5,7 @@ ghost use Rattle.mk_reader.specs.declared.item.Item.{Item as MakefileItem};
 ghost use Rattle.dmk_drive.specs.Base.{origin_line, place_line, equals, macro_line, definition_text, target_line, recipe_line, rule_text, item_text, variable_text, base_text};
 ghost use Rattle.dmk_drive.specs.Definitions.{first_defined, variable, tool_macros, environment_macros};
 ghost use Rattle.dmk_drive.specs.Planned.{AreItems};
+ghost use Rattle.mk_eval.specs.Output.{World};
 
 use crate::definitions::table;
 use crate::fault::Fault;
@@ -217,8 +218,8 @@ pub fn base_of<T: Tree, I: Includes>(
     tree: &mut T,
     includes: &mut I,
 ) -> Result<Vec<u8>, Fault>
-    ensures { IfOk result (λ text. (files : List ℕ → Option (List ℕ)) (times : List ℕ → Option ℤ) → I.allows includes.new files → T.allows tree.new times
-        → (items : List MakefileItem) × AreItems files times makefiles.now (first_defined profile definitions.now environment.now) items
+    ensures { IfOk result (λ text. (world : World) (times : List ℕ → Option ℤ) → I.allows includes.new world → T.allows tree.new times
+        → (items : List MakefileItem) × AreItems world times makefiles.now (first_defined profile definitions.now environment.now) items
         × (text.items ≡ base_text profile definitions.now environment.now items)) }
 {
     let items = items_of(

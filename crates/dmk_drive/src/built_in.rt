@@ -1,7 +1,8 @@
 //! The rules that are built in.
-ghost use Rattle.std.specs.Prelude.{◌≡◌, ◌++◌, ℕ, List, Option, flat_map, IfOk, OnOk};
+ghost use Rattle.std.specs.Prelude.{◌≡◌, ◌++◌, flat_map, IfOk, OnOk};
 ghost use Rattle.dmk_drive.specs.BuiltIn.{spells, has_own, rule_text, rules_text, reads_rules, AreRules};
 ghost use Rattle.mk_macros.specs.Ranks.{defined_by};
+ghost use Rattle.mk_eval.specs.Output.{World};
 ghost use Rattle.mk_eval.specs.Makefile.{GivesItems};
 ghost use Rattle.mk_rule_lines.specs.Rules.{has};
 ghost use Rattle.byte_strings.specs.Blanks.{words};
@@ -146,9 +147,9 @@ pub fn rules_before<I: Includes>(
     own: &[Item],
     includes: &mut I,
 ) -> Result<Vec<Item>, ReadFault>
-    ensures items { (files : List ℕ → Option (List ℕ)) → I.allows includes.new files
-        → GivesItems result (AreRules files (defined_by macros.old) own.now) }
-    ensures grows { (files : List ℕ → Option (List ℕ)) → I.allows includes.new files → I.allows includes.old files }
+    ensures items { (world : World) → I.allows includes.new world
+        → GivesItems result (AreRules world (defined_by macros.old) own.now) }
+    ensures grows { (world : World) → I.allows includes.new world → I.allows includes.old world }
 {
     let text = rules_text(alloc, own)?;
     read_makefile(alloc, macros, NAME, text.as_slice(), includes)

@@ -13,6 +13,7 @@ ghost use Rattle.dmk_drive.specs.Output.{AppendsPart, AsksForListing, AsksToLook
 ghost use Rattle.dmk_drive.specs.Passing.{listing_text, lists_any};
 ghost use Rattle.dmk_drive.specs.Planned.{Plans};
 ghost use Rattle.dmk_drive.specs.declared.fault.Fault.TheVariants as faults;
+ghost use Rattle.mk_eval.specs.Output.{World};
 
 use crate::always_run::AlwaysRun;
 use crate::fault::Fault;
@@ -199,17 +200,17 @@ pub fn drive<T: Tree, I: Includes, D: Disk, O: Write, E: Write>(
     // A listing is that of the plan, for all texts and times that agree with what was answered. Beside it only the note is
     // said, and that where soft edges are dropped.
     ensures listed { AsksForListing options environment.now → result.0.status ≡ 0
-        → (files : List ℕ → Option (List ℕ)) (times : List ℕ → Option ℤ) → I.allows includes.new files → T.allows tree.new times
+        → (world : World) (times : List ℕ → Option ℤ) → I.allows includes.new world → T.allows tree.new times
         → (plan : List Passage) × (dropped : Bool)
-        × Plans files times options.makefiles options.profile options.definitions.items environment.now options.targets options.makes_all D.honest (D.seen disk) plan dropped
+        × Plans world times options.makefiles options.profile options.definitions.items environment.now options.targets options.makes_all D.honest (D.seen disk) plan dropped
         × Appends (O.contents out.old) (O.contents out.new) (listing_text options.telling true plan) × (dropped ≡ false → err.new ≡ err.old)
         × SaysNote (E.contents err.old) (E.contents err.new) result.0.is_told dropped
         × (result.2.items ≡ lines_run_always options.telling true plan) }
     // The question is answered by the plan, and no recipe is printed: nothing is, unless it is asked why targets are made.
     ensures asked { options.asks ≡ true → result.0.status ≢ 2
-        → (files : List ℕ → Option (List ℕ)) (times : List ℕ → Option ℤ) → I.allows includes.new files → T.allows tree.new times
+        → (world : World) (times : List ℕ → Option ℤ) → I.allows includes.new world → T.allows tree.new times
         → (plan : List Passage) × (dropped : Bool)
-        × Plans files times options.makefiles options.profile options.definitions.items environment.now options.targets options.makes_all D.honest (D.seen disk) plan dropped
+        × Plans world times options.makefiles options.profile options.definitions.items environment.now options.targets options.makes_all D.honest (D.seen disk) plan dropped
         × (result.0.status ≡ question_status plan)
         × Appends (O.contents out.old) (O.contents out.new) (listing_text options.telling false plan)
         × (result.2.items ≡ lines_run_always options.telling false plan) }
@@ -218,12 +219,12 @@ pub fn drive<T: Tree, I: Includes, D: Disk, O: Write, E: Write>(
 
     // At status 2 a fault of the run is told, of which a device's is a call of the disk that failed; or a listing is cut short.
     ensures refused { result.0.status ≡ 2
-        → (files : List ℕ → Option (List ℕ)) (times : List ℕ → Option ℤ) → I.allows includes.new files → T.allows tree.new times
-        → TellsFault (λ fault. IsFaultOf files times options.makefiles options.profile options.definitions.items environment.now
+        → (world : World) (times : List ℕ → Option ℤ) → I.allows includes.new world → T.allows tree.new times
+        → TellsFault (λ fault. IsFaultOf world times options.makefiles options.profile options.definitions.items environment.now
         options.targets options.makes_all (T.refuses tree.new) D.honest (D.seen disk) fault
         × (fault ≡ faults.State open_faults.Device → Rises (D.faults disk) (D.faults result.1)))
         result.0.is_told (O.contents out.old) (O.contents out.new) (E.contents err.old) (E.contents err.new)
-        ⊎ CutsListing (Plans files times options.makefiles options.profile options.definitions.items environment.now options.targets options.makes_all D.honest (D.seen disk))
+        ⊎ CutsListing (Plans world times options.makefiles options.profile options.definitions.items environment.now options.targets options.makes_all D.honest (D.seen disk))
         options.telling options.asks result.0.is_told (O.contents out.old) (O.contents out.new) (E.contents err.old) (E.contents err.new) }
     ensures status { (result.0.status ≡ 0) ⊎ (((result.0.status ≡ 1) × (options.asks ≡ true)) ⊎ (result.0.status ≡ 2)) }
     ensures none_run { result.0.status ≡ 2 → result.2.items ≡ [] }

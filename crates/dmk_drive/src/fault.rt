@@ -3,7 +3,7 @@ ghost use Rattle.std.specs.Prelude.{◌≡◌};
 ghost use Rattle.dmk_drive.specs.Messages.{is_of_memory};
 ghost use Rattle.dmk_drive.specs.declared.fault.Fault.TheVariants.{OutOfMemory, State};
 
-use mk_macros::MacroFault;
+use mk_plan::RecipeFault;
 use mk_reader::ReadFault;
 use mk_rule_lines::RuleFault;
 use st_file::OpenFault;
@@ -21,7 +21,7 @@ pub enum Fault {
     State(OpenFault),
     Rules(RuleFault),
     /// In a line of a recipe.
-    Recipe(MacroFault),
+    Recipe(RecipeFault),
     /// The listing couldn't be written, or not all of it.
     Write,
 }
@@ -37,7 +37,7 @@ impl Fault {
             Fault::Read(fault) => matches!(fault, ReadFault::OutOfMemory),
             Fault::State(fault) => matches!(fault, OpenFault::OutOfMemory),
             Fault::Rules(fault) => matches!(fault, RuleFault::OutOfMemory),
-            Fault::Recipe(fault) => matches!(fault, MacroFault::OutOfMemory),
+            Fault::Recipe(fault) => matches!(fault, RecipeFault::OutOfMemory),
             Fault::Write => false,
         }
     }

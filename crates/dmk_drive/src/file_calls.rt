@@ -1,8 +1,8 @@
-//! What is asked of the system about files, one call at a time. Nothing is claimed of the answers.
+//! What is asked of the system, one call at a time. Nothing is claimed of the answers.
 ghost use Rattle.std.specs.Prelude.{◌≡◌};
 ghost use Rattle.dmk_drive.specs.Files.{nanoseconds_of};
 
-use std::alloc::Global;
+use std::alloc::{AllocError, Global};
 use std::io;
 
 /// What is known of a file.
@@ -32,4 +32,14 @@ pub trait FileCalls {
 
     /// All bytes of the file of this name, which is an ordinary one.
     fn contents(&mut self, alloc: Global, name: &str) -> io::Result<Vec<u8>>;
+
+    /// What this command writes, which a definition in this line of this file runs. That it fails is told by whoever runs it, and changes
+    /// nothing.
+    fn output(
+        &mut self,
+        alloc: Global,
+        file: &[u8],
+        line: usize,
+        command: &[u8],
+    ) -> Result<Vec<u8>, AllocError>;
 }

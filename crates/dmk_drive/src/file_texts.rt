@@ -1,10 +1,17 @@
-//! The texts of files by the system's calls, each read once.
-ghost use Rattle.std.specs.Prelude.{◌≡◌, ℕ, List, Option, None, option_map, IfOk, IfErr, IsSome};
-ghost use Rattle.dmk_drive.specs.Files.{known_text, AgreeWith};
+//! The texts of files and what commands write, by the system's calls, each read and run once.
+ghost use Rattle.std.specs.Prelude.{◌≡◌, None, option_map, IfOk, IfErr, IsSome};
+ghost use Rattle.mk_eval.specs.Output.{World};
+ghost use Rattle.dmk_drive.specs.Commands.{Agree};
+ghost use Rattle.dmk_drive.specs.Files.{known_text};
 
+use crate::commands::Commands;
 use crate::file_calls::FileCalls;
 use crate::texts::Texts;
+use bd_lists::Variable;
 use mk_eval::Includes;
+use mk_notes::Notes;
+use mk_profile::Profile;
+use mk_reader::Statement;
 use std::alloc::{AllocError, Global};
 use std::fmt;
 use std::io::{self, ErrorKind};
@@ -24,12 +31,15 @@ impl fmt::Display for Unread {
     }
 }
 
-/// The files of the current folder that are read. What was read of a name holds from then on.
+/// The files of the current folder that are read, and the commands that are run. What was read of a name, and what a command wrote, holds
+/// from then on.
 #[derive(Drop)]
 pub struct FileTexts<C: FileCalls + Drop> {
     calls: C,
     texts: Texts,
+    commands: Commands,
     unread: Option<Unread>,
+    notes: Notes,
 }
 
 /// The bytes of a file. Only an ordinary one is opened: a pipe would be waited for, and a device may never end.
@@ -91,8 +101,16 @@ impl<C: FileCalls + Drop> FileTexts<C> {
         FileTexts {
             calls,
             texts: Texts::new(alloc),
+            commands: Commands::new(alloc),
             unread: None,
+            notes: Notes::new(alloc),
         }
+    }
+
+    /// Files are read anew from here on, and no command is run that was run.
+    pub fn forget_texts(&mut self, alloc: Global) {
+        self.texts = Texts::new(alloc);
+        self.unread = None;
     }
 
     /// The last file that is there and couldn't be read as a makefile.
@@ -100,11 +118,23 @@ impl<C: FileCalls + Drop> FileTexts<C> {
         self.unread.as_ref()
     }
 
+    /// What there is to note of the makefiles that were read.
+    pub fn notes(&self) -> &Notes {
+        &self.notes
+    }
+
+    /// Takes in that these are defined before a makefile is read: what refers to them isn't noted.
+    pub fn define(&mut self, profile: Profile, definitions: &[Variable]) {
+        for definition in definitions {
+            let _ = self.notes.define(profile, definition.name.as_slice());
+        }
+    }
+
     /// The text of this name. The file is read where the name isn't known.
     fn text(&mut self, alloc: Global, name: &[u8]) -> Result<Option<Vec<u8>>, AllocError>
-        ensures text { IfOk result (λ answer. (files : List ℕ → Option (List ℕ)) → AgreeWith self.new.texts files
-            → option_map (λ text. text.items) answer ≡ files name.now) }
-        ensures grows { (files : List ℕ → Option (List ℕ)) → AgreeWith self.new.texts files → AgreeWith self.old.texts files }
+        ensures text { IfOk result (λ answer. (world : World) → Agree self.new.texts self.new.commands world
+            → option_map (λ text. text.items) answer ≡ world.files name.now) }
+        ensures grows { (world : World) → Agree self.new.texts self.new.commands world → Agree self.old.texts self.old.commands world }
         ensures known { IsSome (known_text self.old.texts name.now) → self.new ≡ self.old }
     {
         if let Some(known) = self.texts.get(name) {
@@ -115,20 +145,61 @@ impl<C: FileCalls + Drop> FileTexts<C> {
         self.texts.add(alloc, name, text)?;
         Ok(copy)
     }
+
+    /// What the command writes. It is run where that isn't known.
+    fn written(
+        &mut self,
+        alloc: Global,
+        file: &[u8],
+        line: usize,
+        command: &[u8],
+    ) -> Result<Vec<u8>, AllocError>
+        ensures output { IfOk result (λ output. (world : World) → Agree self.new.texts self.new.commands world
+            → output.items ≡ world.outputs file.now line command.now) }
+        ensures grows { (world : World) → Agree self.new.texts self.new.commands world → Agree self.old.texts self.old.commands world }
+    {
+        if let Some(known) = self.commands.get(file, line, command) {
+            let copy = Vec::from_slice(alloc, known)?;
+            return Ok(copy);
+        }
+        let output = self.calls.output(alloc, file, line, command)?;
+        self.commands
+            .add(alloc, file, line, command, output.as_slice())?;
+        Ok(output)
+    }
 }
 
 impl<C: FileCalls + Drop> Includes for FileTexts<C> {
-    ghost use Rattle.std.specs.Prelude.{None, unwrap_or};
-    ghost use Rattle.dmk_drive.specs.Fits.{some_fit};
+    ghost use Rattle.std.specs.Prelude.{None, [], unwrap_or};
+    ghost use Rattle.dmk_drive.specs.Commands.{known_output};
+    ghost use Rattle.dmk_drive.specs.Fits.{some_fit, some_fit_at};
 
-    ghost allows = { λ source files. AgreeWith source.texts files };
+    ghost allows = { λ source world. Agree source.texts source.commands world };
 
     fn read(&mut self, alloc: Global, name: &[u8]) -> Result<Option<Vec<u8>>, AllocError> {
         self.text(alloc, name)
     }
 
+    fn output(
+        &mut self,
+        alloc: Global,
+        file: &[u8],
+        line: usize,
+        command: &[u8],
+    ) -> Result<Vec<u8>, AllocError> {
+        self.written(alloc, file, line, command)
+    }
+
+    // A note that there is no memory for isn't said.
+    fn see(&mut self, alloc: Global, profile: Profile, file: &[u8], statements: &[Statement]) {
+        let _ = self.notes.see(alloc, profile, file, statements);
+    }
+
     ghost possible = { λ source. (
-      λ name. unwrap_or (known_text source.texts name) None,
-      some_fit (known_text source.texts) None,
+      record {
+        files = λ name. unwrap_or (known_text source.texts name) None;
+        outputs = λ file line text. unwrap_or (known_output source.commands.run.items file line text) [];
+      },
+      (some_fit (known_text source.texts) None, λ file line text. some_fit_at (known_output source.commands.run.items file line text) []),
     ) };
 }

@@ -17,6 +17,7 @@ ghost use Rattle.dmk_drive.specs.Planned.{AreItems, Plans};
 ghost use Rattle.dmk_drive.specs.declared.makefiles.Makefiles.{Makefiles};
 ghost use Rattle.st_disk.specs.declared.which.Which.{Which};
 ghost use Rattle.bd_lists.specs.declared.recipe.Variable.{Variable};
+ghost use Rattle.mk_eval.specs.Output.{World};
 
 use st_disk::Disk;
 
@@ -28,8 +29,8 @@ pub fn one_reading_of_the_settings()
 
 /// By the same files and times there are the same makefiles, with one list of items.
 pub fn one_makefile()
-    ensures { (files : List ℕ → Option (List ℕ)) (times : List ℕ → Option ℤ) (makefiles : Makefiles) (given : Defined) (a b : List Item)
-        → AreItems files times makefiles given a → AreItems files times makefiles given b → a ≡ b }
+    ensures { (world : World) (times : List ℕ → Option ℤ) (makefiles : Makefiles) (given : Defined) (a b : List Item)
+        → AreItems world times makefiles given a → AreItems world times makefiles given b → a ≡ b }
 {}
 
 /// A plan passes each node of its graph just once, behind all that it counts.
@@ -45,17 +46,17 @@ pub fn one_listing()
 
 /// Where all targets are to be made, a plan has none that is up to date: it lists the recipe of each that has one.
 pub fn each_made<D: Disk>()
-    ensures { (files : List ℕ → Option (List ℕ)) (times : List ℕ → Option ℤ) (makefiles : Makefiles) (profile : Profile) (definitions environment : List Variable)
+    ensures { (world : World) (times : List ℕ → Option ℤ) (makefiles : Makefiles) (profile : Profile) (definitions environment : List Variable)
         (targets : List (List ℕ)) (seen : Which → List ℕ) (plan : List Passage) (dropped : Bool)
-        → Plans files times makefiles profile definitions environment targets true D.honest seen plan dropped → list_all is_listed plan ≡ true }
+        → Plans world times makefiles profile definitions environment targets true D.honest seen plan dropped → list_all is_listed plan ≡ true }
 {}
 
 /// By the same files, times and state there is one plan: two plans list the same, and soft edges make a cycle in both or in none.
 /// Where state is kept, that is where the disk keeps its model.
 pub fn one_plan<D: Disk>()
-    ensures { (files : List ℕ → Option (List ℕ)) (times : List ℕ → Option ℤ) (makefiles : Makefiles) (profile : Profile) (definitions environment : List Variable)
+    ensures { (world : World) (times : List ℕ → Option ℤ) (makefiles : Makefiles) (profile : Profile) (definitions environment : List Variable)
         (targets : List (List ℕ)) (all : Bool) (seen : Which → List ℕ) (a b : List Passage) (d e : Bool) → D.honest
-        → Plans files times makefiles profile definitions environment targets all D.honest seen a d
-        → Plans files times makefiles profile definitions environment targets all D.honest seen b e
+        → Plans world times makefiles profile definitions environment targets all D.honest seen a d
+        → Plans world times makefiles profile definitions environment targets all D.honest seen b e
         → (a ≡ b) × (d ≡ e) }
 {}

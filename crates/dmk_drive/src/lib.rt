@@ -1,12 +1,13 @@
 //! dmk over handed-in parts: from options, environment, files and a state's disk to what is printed and answered.
 //!
 //! It runs no recipe: `-n` lists the recipes of the targets that are out of date, `-q` asks whether there are any. Lines that are
-//! run all the same it tells, and runs none of them.
+//! run all the same it tells, and runs none of them. Commands of definitions are run, in a dry run too.
 #![tactic(auto)]
 
 mod always_run;
 mod base;
 mod built_in;
+mod commands;
 mod definitions;
 mod driver;
 mod fault;

@@ -1,6 +1,7 @@
 //! The makefiles: which files they are, and their items.
 ghost use Rattle.std.specs.Prelude.{◌≡◌, ◌++◌, ℕ, ℤ, List, Option, None, [], Ok, IfOk, IfErr, IfSome, IsTrue, option_map, false};
 ghost use Rattle.mk_macros.specs.Ranks.{Defined, defined_by};
+ghost use Rattle.mk_eval.specs.Output.{World};
 ghost use Rattle.mk_eval.specs.Makefile.{behind};
 ghost use Rattle.dmk_drive.specs.Definitions.{first_defined};
 ghost use Rattle.dmk_drive.specs.Makefile.{MayBeThere, IsUsualMakefile, NamedItems, AllItems};
@@ -39,10 +40,10 @@ fn file_named<I: Includes>(
     name: &[u8],
     includes: &mut I,
 ) -> Result<Option<Makefile>, Fault>
-    ensures read { IfOk result (λ found. (files : List ℕ → Option (List ℕ)) → I.allows includes.new files
-        → files name.now ≡ option_map (λ m. m.text.items) found) }
+    ensures read { IfOk result (λ found. (world : World) → I.allows includes.new world
+        → world.files name.now ≡ option_map (λ m. m.text.items) found) }
     ensures name { IfOk result (λ found. IfSome found (λ m. m.file ≡ name.now)) }
-    ensures files { (files : List ℕ → Option (List ℕ)) → I.allows includes.new files → I.allows includes.old files }
+    ensures files { (world : World) → I.allows includes.new world → I.allows includes.old world }
     ensures fault { IfErr result (λ fault. fault ≡ OutOfMemory) }
 {
     match includes.read(alloc, name)? {
@@ -76,11 +77,11 @@ fn usual_makefile<T: Tree, I: Includes>(
     tree: &mut T,
     includes: &mut I,
 ) -> Result<Makefile, Fault>
-    ensures makefile { IfOk result (λ m. (files : List ℕ → Option (List ℕ)) (times : List ℕ → Option ℤ) → I.allows includes.new files → T.allows tree.new times
-        → IsUsualMakefile files times m.file m.text.items) }
-    ensures fault { IfErr result (λ fault. (files : List ℕ → Option (List ℕ)) (times : List ℕ → Option ℤ) (given : Defined) → I.allows includes.new files → T.allows tree.new times
-        → IsOwnFault files times (T.refuses tree.new) [] given fault) }
-    ensures files { (files : List ℕ → Option (List ℕ)) → I.allows includes.new files → I.allows includes.old files }
+    ensures makefile { IfOk result (λ m. (world : World) (times : List ℕ → Option ℤ) → I.allows includes.new world → T.allows tree.new times
+        → IsUsualMakefile world times m.file m.text.items) }
+    ensures fault { IfErr result (λ fault. (world : World) (times : List ℕ → Option ℤ) (given : Defined) → I.allows includes.new world → T.allows tree.new times
+        → IsOwnFault world times (T.refuses tree.new) [] given fault) }
+    ensures files { (world : World) → I.allows includes.new world → I.allows includes.old world }
     ensures times { (times : List ℕ → Option ℤ) → T.allows tree.new times → T.allows tree.old times }
     ensures kept { (n : List ℕ) → T.refuses tree.old n → T.refuses tree.new n }
 {
@@ -103,10 +104,10 @@ fn usual_items<T: Tree, I: Includes>(
     tree: &mut T,
     includes: &mut I,
 ) -> Result<Vec<Item>, Fault>
-    ensures items { IfOk result (λ items. (files : List ℕ → Option (List ℕ)) (times : List ℕ → Option ℤ) → I.allows includes.new files → T.allows tree.new times
-        → AreOwnItems files times [] (defined_by macros.old) items.items) }
-    ensures fault { IfErr result (λ fault. (files : List ℕ → Option (List ℕ)) (times : List ℕ → Option ℤ) → I.allows includes.new files → T.allows tree.new times
-        → IsOwnFault files times (T.refuses tree.new) [] (defined_by macros.old) fault) }
+    ensures items { IfOk result (λ items. (world : World) (times : List ℕ → Option ℤ) → I.allows includes.new world → T.allows tree.new times
+        → AreOwnItems world times [] (defined_by macros.old) items.items) }
+    ensures fault { IfErr result (λ fault. (world : World) (times : List ℕ → Option ℤ) → I.allows includes.new world → T.allows tree.new times
+        → IsOwnFault world times (T.refuses tree.new) [] (defined_by macros.old) fault) }
     ensures times { (times : List ℕ → Option ℤ) → T.allows tree.new times → T.allows tree.old times }
     ensures kept { (n : List ℕ) → T.refuses tree.old n → T.refuses tree.new n }
 {
@@ -125,12 +126,12 @@ fn items_named<I: Includes>(
     name: &[u8],
     includes: &mut I,
 ) -> Result<Vec<Item>, Fault>
-    ensures items { IfOk result (λ items. (files : List ℕ → Option (List ℕ)) → I.allows includes.new files
-        → NamedItems files (defined_by macros.old) name.now (Ok items.items)) }
+    ensures items { IfOk result (λ items. (world : World) → I.allows includes.new world
+        → NamedItems world (defined_by macros.old) name.now (Ok items.items)) }
     ensures defined { IfOk result (λ items. defined_by macros.new ≡ behind (defined_by macros.old) items.items) }
-    ensures fault { IfErr result (λ fault. (files : List ℕ → Option (List ℕ)) → I.allows includes.new files
-        → IsFaultOfOne files (defined_by macros.old) name.now fault) }
-    ensures grows { (files : List ℕ → Option (List ℕ)) → I.allows includes.new files → I.allows includes.old files }
+    ensures fault { IfErr result (λ fault. (world : World) → I.allows includes.new world
+        → IsFaultOfOne world (defined_by macros.old) name.now fault) }
+    ensures grows { (world : World) → I.allows includes.new world → I.allows includes.old world }
 {
     let Some(text) = includes.read(alloc, name)? else {
         return Err(Fault::NoMakefile);
@@ -148,10 +149,10 @@ fn all_items<I: Includes>(
     names: &ByteStrings,
     includes: &mut I,
 ) -> Result<Vec<Item>, Fault>
-    ensures items { IfOk result (λ items. (files : List ℕ → Option (List ℕ)) → I.allows includes.new files
-        → AllItems files (defined_by macros.old) names.now (Ok items.items)) }
-    ensures fault { IfErr result (λ fault. (files : List ℕ → Option (List ℕ)) → I.allows includes.new files
-        → IsFaultAmong files (defined_by macros.old) names.now fault) }
+    ensures items { IfOk result (λ items. (world : World) → I.allows includes.new world
+        → AllItems world (defined_by macros.old) names.now (Ok items.items)) }
+    ensures fault { IfErr result (λ fault. (world : World) → I.allows includes.new world
+        → IsFaultAmong world (defined_by macros.old) names.now fault) }
 {
     let mut items = Vec::new(alloc);
     for name in names.iter() {
@@ -172,10 +173,10 @@ fn own_items<T: Tree, I: Includes>(
     tree: &mut T,
     includes: &mut I,
 ) -> Result<Vec<Item>, Fault>
-    ensures items { IfOk result (λ items. (files : List ℕ → Option (List ℕ)) (times : List ℕ → Option ℤ) → I.allows includes.new files → T.allows tree.new times
-        → AreOwnItems files times named.now (first_defined profile definitions.now environment.now) items.items) }
-    ensures fault { IfErr result (λ fault. (files : List ℕ → Option (List ℕ)) (times : List ℕ → Option ℤ) → I.allows includes.new files → T.allows tree.new times
-        → IsOwnFault files times (T.refuses tree.new) named.now (first_defined profile definitions.now environment.now) fault) }
+    ensures items { IfOk result (λ items. (world : World) (times : List ℕ → Option ℤ) → I.allows includes.new world → T.allows tree.new times
+        → AreOwnItems world times named.now (first_defined profile definitions.now environment.now) items.items) }
+    ensures fault { IfErr result (λ fault. (world : World) (times : List ℕ → Option ℤ) → I.allows includes.new world → T.allows tree.new times
+        → IsOwnFault world times (T.refuses tree.new) named.now (first_defined profile definitions.now environment.now) fault) }
     ensures times { (times : List ℕ → Option ℤ) → T.allows tree.new times → T.allows tree.old times }
     ensures kept { (n : List ℕ) → T.refuses tree.old n → T.refuses tree.new n }
 {
@@ -196,12 +197,12 @@ fn behind_rules<I: Includes>(
     own: Vec<Item>,
     includes: &mut I,
 ) -> Result<Vec<Item>, Fault>
-    ensures items { IfOk result (λ items. (files : List ℕ → Option (List ℕ)) → I.allows includes.new files
-        → (rules : List Item) × AreRules files (first_defined profile definitions.now environment.now) own.items (Ok rules)
+    ensures items { IfOk result (λ items. (world : World) → I.allows includes.new world
+        → (rules : List Item) × AreRules world (first_defined profile definitions.now environment.now) own.items (Ok rules)
         × (items.items ≡ rules ++ own.items)) }
-    ensures fault { IfErr result (λ fault. (files : List ℕ → Option (List ℕ)) → I.allows includes.new files
-        → IsFaultOfRules files (first_defined profile definitions.now environment.now) own.items fault) }
-    ensures grows { (files : List ℕ → Option (List ℕ)) → I.allows includes.new files → I.allows includes.old files }
+    ensures fault { IfErr result (λ fault. (world : World) → I.allows includes.new world
+        → IsFaultOfRules world (first_defined profile definitions.now environment.now) own.items fault) }
+    ensures grows { (world : World) → I.allows includes.new world → I.allows includes.old world }
 {
     let mut macros = first_macros(alloc, profile, definitions, environment)?;
     let mut own = own;
@@ -225,10 +226,10 @@ pub fn items_of<T: Tree, I: Includes>(
     tree: &mut T,
     includes: &mut I,
 ) -> Result<Vec<Item>, Fault>
-    ensures items { IfOk result (λ items. (files : List ℕ → Option (List ℕ)) (times : List ℕ → Option ℤ) → I.allows includes.new files → T.allows tree.new times
-        → AreItems files times makefiles.now (first_defined profile definitions.now environment.now) items.items) }
-    ensures fault { IfErr result (λ fault. (files : List ℕ → Option (List ℕ)) (times : List ℕ → Option ℤ) → I.allows includes.new files → T.allows tree.new times
-        → IsTextFault files times (T.refuses tree.new) makefiles.now (first_defined profile definitions.now environment.now) fault) }
+    ensures items { IfOk result (λ items. (world : World) (times : List ℕ → Option ℤ) → I.allows includes.new world → T.allows tree.new times
+        → AreItems world times makefiles.now (first_defined profile definitions.now environment.now) items.items) }
+    ensures fault { IfErr result (λ fault. (world : World) (times : List ℕ → Option ℤ) → I.allows includes.new world → T.allows tree.new times
+        → IsTextFault world times (T.refuses tree.new) makefiles.now (first_defined profile definitions.now environment.now) fault) }
     ensures times { (times : List ℕ → Option ℤ) → T.allows tree.new times → T.allows tree.old times }
     ensures kept { (n : List ℕ) → T.refuses tree.old n → T.refuses tree.new n }
 {

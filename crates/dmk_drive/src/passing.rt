@@ -9,8 +9,7 @@ ghost use Rattle.dmk_drive.specs.Passing.{IsListing, IsListingFault, ListsNone, 
 
 use crate::always_run::{AlwaysRun, add_line, add_lines};
 use byte_strings::ByteStrings;
-use mk_macros::MacroFault;
-use mk_plan::{Passed, Telling, name_of, pass, told_lines};
+use mk_plan::{Passed, RecipeFault, Telling, name_of, pass, told_lines};
 use mk_recipe::Line;
 use mk_rules::Graph;
 use std::alloc::{AllocError, Global};
@@ -130,7 +129,7 @@ pub fn listing_of(
     keeping: bool,
     shows: Shows,
     graph: &Graph,
-) -> Result<Listing, MacroFault>
+) -> Result<Listing, RecipeFault>
     requires { list_all (λ n. nat_lt n (length graph.now.nodes.items)) graph.now.order.items ≡ true }
     ensures listing { IfOk result (λ found. (plan : List Passage) × IsListing keeping graph.now plan
         × (found.text.items ≡ listing_text shows.telling shows.recipes plan) × (found.lists_any ≡ lists_any plan)

@@ -2,7 +2,7 @@
 ghost use Rattle.std.specs.Prelude.{◌≡◌, ◌⊎◌, ◌||◌, ℕ, ℤ, true, List, Option, length, nat_lt, IfOk, IfErr, IsErrOf};
 ghost use Rattle.std.specs.FinMap as finmap;
 ghost use Rattle.std.specs.List.{list_all};
-ghost use Rattle.mk_macros.specs.declared.fault.MacroFault.{MacroFault as ExpansionFault};
+ghost use Rattle.mk_plan.specs.declared.fault.RecipeFault.{RecipeFault as LineFault};
 ghost use Rattle.mk_reader.specs.declared.item.Item.{Item as MakefileItem};
 ghost use Rattle.mk_plan.specs.Passage.{Passage};
 ghost use Rattle.mk_rules.specs.Faults.{IsRuleFault};
@@ -19,6 +19,7 @@ ghost use Rattle.dmk_drive.specs.Passing.{IsListing, IsListingFault, listing_tex
 ghost use Rattle.dmk_drive.specs.Planned.{AreItems, IsStateOn, IsGraphOf, Tells, judged_graph};
 ghost use Rattle.dmk_drive.specs.Faults.{IsOpenFault, IsTextFault, IsPlanFault, IsRunFault};
 ghost use Rattle.dmk_drive.specs.declared.fault.Fault.TheVariants as faults;
+ghost use Rattle.mk_eval.specs.Output.{World};
 
 use crate::always_run::AlwaysRun;
 use crate::definitions::first_macros;
@@ -118,7 +119,7 @@ fn listed(alloc: Global, keeping: bool, shows: Shows, graph: Graph) -> Result<Dr
         × (run.text.items ≡ listing_text shows.telling shows.recipes plan) × (run.lists_any ≡ lists_any plan)
         × (run.always.items ≡ lines_run_always shows.telling shows.recipes plan)) }
     ensures dropped { IfOk result (λ run. run.soft_dropped ≡ graph.soft_dropped) }
-    ensures fault { IfErr result (λ fault. (f : ExpansionFault) × (fault ≡ faults.Recipe f) × IsListingFault keeping graph f) }
+    ensures fault { IfErr result (λ fault. (f : LineFault) × (fault ≡ faults.Recipe f) × IsListingFault keeping graph f) }
 {
     match listing_of(alloc, keeping, shows, &graph) {
         Ok(
@@ -224,13 +225,13 @@ pub fn dry_run<T: Tree, I: Includes, D: Disk>(
     includes: &mut I,
     disk: &mut D,
 ) -> Result<DryRun, Fault>
-    ensures tells { IfOk result (λ run. (files : List ℕ → Option (List ℕ)) (times : List ℕ → Option ℤ) → I.allows includes.new files → T.allows tree.new times
-        → (items : List MakefileItem) × AreItems files times given.entry.makefiles.now (first_defined given.entry.profile given.entry.definitions.now given.entry.environment.now) items
+    ensures tells { IfOk result (λ run. (world : World) (times : List ℕ → Option ℤ) → I.allows includes.new world → T.allows tree.new times
+        → (items : List MakefileItem) × AreItems world times given.entry.makefiles.now (first_defined given.entry.profile given.entry.definitions.now given.entry.environment.now) items
         × Tells given.entry.profile given.entry.definitions.now given.entry.environment.now targets given.entry.makes_all times D.honest (D.seen disk.old) items
         given.entry.shows.telling given.entry.shows.recipes run) }
-    ensures fault { IfErr result (λ fault. (files : List ℕ → Option (List ℕ)) (times : List ℕ → Option ℤ) → I.allows includes.new files → T.allows tree.new times
-        → IsRunFault (IsTextFault files times (T.refuses tree.new) given.entry.makefiles.now (first_defined given.entry.profile given.entry.definitions.now given.entry.environment.now))
-        (AreItems files times given.entry.makefiles.now (first_defined given.entry.profile given.entry.definitions.now given.entry.environment.now))
+    ensures fault { IfErr result (λ fault. (world : World) (times : List ℕ → Option ℤ) → I.allows includes.new world → T.allows tree.new times
+        → IsRunFault (IsTextFault world times (T.refuses tree.new) given.entry.makefiles.now (first_defined given.entry.profile given.entry.definitions.now given.entry.environment.now))
+        (AreItems world times given.entry.makefiles.now (first_defined given.entry.profile given.entry.definitions.now given.entry.environment.now))
         (IsPlanFault given.entry.profile given.entry.definitions.now given.entry.environment.now targets given.entry.makes_all times (T.refuses tree.new) D.honest (D.seen disk.old))
         fault) }
     ensures seen { D.honest → D.seen disk.new ≡ D.seen disk.old }

@@ -21,6 +21,7 @@ use Rattle.dmk_drive.specs.Planned.{AreItems, IsGraphOf, IsStateOn, judged_graph
 use Rattle.dmk_drive.specs.Keeping.{keeps}
 use Rattle.dmk_run.specs.Judged.{IsBorneOut}
 use Rattle.dmk_run.specs.Known.{AreKnownDone}
+use Rattle.mk_eval.specs.Output.{World}
 
 -- how the nodes of a graph ended, which is true of what the disk holds: workers gathered the receipts of all that was told, each
 -- once, among them that of the 'done' of each node that ended as built, and where the disk keeps its model every pair of crash
@@ -55,9 +56,9 @@ pub record MakesItems (profile : Profile) (definitions environment : List Variab
   pub ended : HasEnded (judged_graph all graph) (all || keeping) keeping disk_honest sides status
 
 -- so it is for the items of the makefile that is found by these files and times
-pub record Makes (files : List ℕ → Option (List ℕ)) (times : List ℕ → Option ℤ) (makefiles : Makefiles)
+pub record Makes (world : World) (times : List ℕ → Option ℤ) (makefiles : Makefiles)
     (profile : Profile) (definitions environment : List Variable) (targets : List (List ℕ)) (all : Bool) (disk_honest : Type 0) (seen : Which → List ℕ) (status : ℕ) (sides : Sides) : Type 0 where
   pub items : List Item
-  pub are_items : AreItems files times makefiles (first_defined profile definitions environment) items
+  pub are_items : AreItems world times makefiles (first_defined profile definitions environment) items
   pub made : MakesItems profile definitions environment targets all times items (keeps environment items) (keeps environment items)
       disk_honest seen status sides

@@ -41,15 +41,14 @@ impl Wishes {
     pub(crate) fn conduct(
         &self,
         alloc: Global,
-        settings: &Settings,
         keeps_state: bool,
         definitions: Vec<Variable>,
     ) -> Result<Conduct, AllocError>
         ensures state { IfOk result (λ c. (c.keeps_state ≡ keeps_state) × (c.state_name ≡ string_bytes self.now.state)) }
         ensures records { IfOk result (λ c. c.counts_records ≡ self.now.makes_all || keeps_state) }
         ensures goes_on { IfOk result (λ c. c.goes_on ≡ self.now.goes_on) }
-        ensures ignores { IfOk result (λ c. c.ignores_statuses ≡ self.now.ignores_statuses || settings.now.ignores_statuses) }
-        ensures silent { IfOk result (λ c. c.prints_no_lines ≡ self.now.is_silent || settings.now.prints_no_lines) }
+        ensures ignores { IfOk result (λ c. c.ignores_statuses ≡ self.now.ignores_statuses) }
+        ensures silent { IfOk result (λ c. c.prints_no_lines ≡ self.now.is_silent) }
         ensures telling { IfOk result (λ c. c.telling ≡ self.now.telling) }
         ensures definitions { IfOk result (λ c. c.definitions ≡ definitions) }
         ensures flags { IfOk result (λ c. c.makeflags ≡ flags.Removed) }
@@ -58,8 +57,8 @@ impl Wishes {
             keeps_state,
             counts_records: self.makes_all || keeps_state,
             goes_on: self.goes_on,
-            ignores_statuses: self.ignores_statuses || settings.ignores_statuses,
-            prints_no_lines: self.is_silent || settings.prints_no_lines,
+            ignores_statuses: self.ignores_statuses,
+            prints_no_lines: self.is_silent,
             telling: self.telling,
             definitions,
             makeflags: Makeflags::Removed,

@@ -7,6 +7,7 @@ ghost use Rattle.dmk_drive.specs.Output.{AsksToRun};
 ghost use Rattle.dmk_drive.specs.Definitions.{first_defined};
 ghost use Rattle.dmk_drive.specs.Planned.{AreItems};
 ghost use Rattle.dmk_run.specs.Made.{HasEnded, Makes, MakesItems};
+ghost use Rattle.mk_eval.specs.Output.{World};
 
 use crate::building::{Built, build, reported};
 use crate::conducting::Wishes;
@@ -201,11 +202,11 @@ where
     K::End: Drop + Send,
     D: Disk + Drop + Send,
     ensures status { IfOk result.0 (λ s. s ≤ 2) }
-    ensures makes { IfOk result.0 (λ s. (files : List ℕ → Option (List ℕ)) (times : List ℕ → Option ℤ) → I.allows includes.new files → T.allows tree.new times
-        → Makes files times makefiles.now goals.profile goals.definitions.items means.now.environment.now goals.targets wishes.now.makes_all
+    ensures makes { IfOk result.0 (λ s. (world : World) (times : List ℕ → Option ℤ) → I.allows includes.new world → T.allows tree.new times
+        → Makes world times makefiles.now goals.profile goals.definitions.items means.now.environment.now goals.targets wishes.now.makes_all
         D.honest (D.seen disk) s (now (D.moments result.1))) }
-    ensures untouched { (files : List ℕ → Option (List ℕ)) (times : List ℕ → Option ℤ) → I.allows includes.new files → T.allows tree.new times
-        → (result.1 ≡ disk) ⊎ ((items : List MakefileItem) × AreItems files times makefiles.now (first_defined goals.profile goals.definitions.items means.now.environment.now) items
+    ensures untouched { (world : World) (times : List ℕ → Option ℤ) → I.allows includes.new world → T.allows tree.new times
+        → (result.1 ≡ disk) ⊎ ((items : List MakefileItem) × AreItems world times makefiles.now (first_defined goals.profile goals.definitions.items means.now.environment.now) items
         × (keeps means.now.environment.now items ≡ true)) }
     ensures let_go { K.serves banks.old ≡ false → K.serves banks.new ≡ false }
 {
@@ -313,12 +314,12 @@ where
     // At another status than 2 each target that was built is done in every pair of crash images, with the commands of the
     // 'done' whose receipt its worker gathered: so for all texts and times that agree with what was answered.
     ensures makes { result.0 ≢ 2
-        → (files : List ℕ → Option (List ℕ)) (times : List ℕ → Option ℤ) → I.allows includes.new files → T.allows tree.new times
-        → Makes files times options.makefiles options.profile options.definitions.items means.now.environment.now options.targets options.makes_all
+        → (world : World) (times : List ℕ → Option ℤ) → I.allows includes.new world → T.allows tree.new times
+        → Makes world times options.makefiles options.profile options.definitions.items means.now.environment.now options.targets options.makes_all
         D.honest (D.seen disk) result.0 (now (D.moments result.1)) }
     // Unless a makefile that was read keeps state, the disk is handed back as it came.
-    ensures untouched { (files : List ℕ → Option (List ℕ)) (times : List ℕ → Option ℤ) → I.allows includes.new files → T.allows tree.new times
-        → (result.1 ≡ disk) ⊎ ((items : List MakefileItem) × AreItems files times options.makefiles (first_defined options.profile options.definitions.items means.now.environment.now) items
+    ensures untouched { (world : World) (times : List ℕ → Option ℤ) → I.allows includes.new world → T.allows tree.new times
+        → (result.1 ≡ disk) ⊎ ((items : List MakefileItem) × AreItems world times options.makefiles (first_defined options.profile options.definitions.items means.now.environment.now) items
         × (keeps means.now.environment.now items ≡ true)) }
     // A pool that is served for the run is let go at its end.
     ensures let_go { K.serves banks.old ≡ false → K.serves banks.new ≡ false }

@@ -4,8 +4,7 @@ ghost use Rattle.mk_plan.specs.Passing.{PassesUnlisted};
 ghost use Rattle.dmk_run.specs.Judged.{counts_as_remade, IsJudged, AreJudged};
 
 use bd_places::End;
-use mk_macros::MacroFault;
-use mk_plan::pass;
+use mk_plan::{RecipeFault, pass};
 use mk_rules::Graph;
 use std::alloc::{AllocError, Global};
 
@@ -39,7 +38,7 @@ fn passes_so(
 {
     match pass(alloc, keeping, graph, marks, node) {
         Ok(passed) => Ok(!passed.is_listed() && passed.is_remade() == remade),
-        Err(MacroFault::OutOfMemory) => Err(AllocError),
+        Err(RecipeFault::OutOfMemory) => Err(AllocError),
         Err(_) => Ok(false),
     }
 }

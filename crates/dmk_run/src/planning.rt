@@ -108,7 +108,7 @@ pub(crate) fn planned<R: Wait, T: Tree, O: Write + Drop, W: Write + Drop>(
     if graph.soft_dropped {
         printer.soft_edges_dropped();
     }
-    let conduct = wishes.conduct(alloc, &graph.settings, keeping, definitions)?;
+    let conduct = wishes.conduct(alloc, keeping, definitions)?;
     let graph = judged_graph(alloc, key, wishes.makes_all, graph);
     Ok(Plan { graph, conduct })
 }

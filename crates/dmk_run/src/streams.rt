@@ -3,6 +3,7 @@
 use crate::status_line::StatusLine;
 use bd_lists::Ended;
 use jb_recipe::{News, NotDone, Step};
+use mk_plan::LinePlace;
 use std::alloc::Global;
 use std::io::{self, Write};
 
@@ -71,14 +72,22 @@ fn write_not_done<E: Write>(err: &mut E, target: &[u8], not_done: &NotDone) {
     let _ = writeln!(err, ": {not_done}");
 }
 
+fn write_not_recorded<E: Write>(err: &mut E, target: &[u8], long: Option<LinePlace<'_>>) {
+    write_of_target(err, target);
+    let _ = err.write_all(b" cannot be recorded");
+    if let Some(LinePlace { file, line }) = long {
+        let _ = err.write_all(b": ");
+        let _ = err.write_all(file);
+        let _ = write!(err, ":{line}: line too long");
+    }
+    let _ = err.write_all(b"\n");
+}
+
 // The line that says that a target isn't made, if this is such news.
 fn write_failure<E: Write>(err: &mut E, news: News<'_>) {
     match news {
         News::Failed { target, status, .. } => write_failed(err, target, status),
-        News::NotRecorded { target } => {
-            write_of_target(err, target);
-            let _ = writeln!(err, " cannot be recorded");
-        }
+        News::NotRecorded { target, long } => write_not_recorded(err, target, long),
         News::NotExpanded { fault } => {
             let _ = writeln!(err, "dmk: {fault}");
         }

@@ -4,6 +4,7 @@ use jb_recipe::{Place, PlaceFault};
 use std::alloc::Global;
 use std::fs::{self, File, OpenOptions};
 use std::io::{self, ErrorKind};
+use std::os::unix::fs::MetadataExt;
 use std::process::{Command, Stdio};
 
 /// The system's number of 'no such device or address'.
@@ -139,6 +140,16 @@ impl Place for HostPlace {
             Err(error) if error.kind() == ErrorKind::NotFound => Ok(None),
             Err(error) => Err(fault_of(error)),
         }
+    }
+
+    // A link is no ordinary file, whatever it leads to.
+    fn stamp(&self, target: &[u8]) -> Option<i128> {
+        let name = std::str::from_utf8(target).ok()?;
+        let found = fs::symlink_metadata(&self.rt, name).ok()?;
+        if !found.is_file() {
+            return None;
+        }
+        Some(i128::from(found.mtime()) * 1_000_000_000 + i128::from(found.mtime_nsec()))
     }
 
     fn sync(&self, target: &[u8]) -> Result<(), PlaceFault> {

@@ -5,6 +5,6 @@ mod dry_shell;
 mod host_place;
 mod shell;
 
-pub use dry_shell::DryShell;
+pub use dry_shell::{DryShell, Written};
 pub use host_place::HostPlace;
 pub use shell::{HOLDS, HeldLock, Shell};

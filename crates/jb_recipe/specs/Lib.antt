@@ -1,4 +1,5 @@
 pub mod Environment
+pub mod LongLine
 pub mod Noting
 pub mod Running
 pub mod Silence

@@ -1,7 +1,9 @@
 -- What is noted of a recipe. Own.
-use Rattle.std.specs.Prelude.{◌≡◌, ◌⊎◌, ℕ, List, map}
+use Rattle.std.specs.Prelude.{◌≡◌, ◌⊎◌, ℕ, Bool, ◌&&◌, not, is_some, List, map}
 use Rattle.mk_graph.specs.Edges.{row}
 use Rattle.mk_graph.specs.Numbering.{name_at}
+use Rattle.mk_rule_lines.specs.Explicit.{is_phony}
+use Rattle.mk_rule_lines.specs.Marks.{has_mark}
 use Rattle.mk_rules.specs.declared.graph.Graph.{Graph}
 use Rattle.mk_recipe.specs.declared.line_status.Outcome.{Outcome}
 use Rattle.mk_recipe.specs.declared.line_status.Outcome.TheVariants as outcomes
@@ -12,6 +14,13 @@ use Rattle.st_records.specs.declared.record.Explicit.TheVariants.{Known}
 -- the names of its source and of its explicit prerequisites
 abbrev pub known_of : Graph → (n : ℕ) → List (List ℕ)
 known_of graph n = map (name_at graph.names) (row graph.hard n)
+
+-- the file of a target is removed where its recipe fails and has changed it: in the wide profile, which keeps the table of targets,
+-- under `.DELETE_ON_ERROR`, but no target of `.PRECIOUS` and no phony one (GNU make manual, "Errors in Recipes")
+abbrev pub removes : Graph → (n : ℕ) → Bool
+removes graph n =
+    is_some graph.targets && (graph.settings.deletes_on_error
+    && (not (has_mark graph.settings.precious (name_at graph.names n)) && not (is_phony graph.lines.items (name_at graph.names n))))
 
 -- the record of a recipe's end, by what came of it. A recipe that failed is 'failed' with its status. One that passed is 'done' with
 -- these commands and explicit names, or 'failed' with status 256 where its report or its target's file can't be taken

@@ -8,7 +8,7 @@ use byte_strings::ByteString;
 use mk_plan::Telling;
 use std::alloc::{AllocError, Global};
 
-/// What the words of the command line, the makefile and the environment say of a whole run.
+/// What the words of the command line and the environment say of a whole run.
 #[derive(Drop)]
 pub struct Conduct {
     /// State is kept from run to run, and recipes write reports.

@@ -1,11 +1,11 @@
-//! Why a target isn't done though its recipe passed.
+//! What there is to say of a target that isn't done.
 
 use mk_recipe::ReportFault;
 use st_records::{MAX_HIDDEN_NAMES, MAX_NAME_BYTES, MAX_RECORD_BYTES};
 use std::io;
 use thiserror::Error;
 
-/// Why a target isn't done though its recipe passed. Its status is 256.
+/// Why a target isn't done though its recipe passed, with the status 256; or what became of one whose recipe failed.
 #[derive(Clone, Copy, Debug, Error)]
 pub enum NotDone {
     #[error("its report cannot be read: {0}")]
@@ -21,6 +21,9 @@ pub enum NotDone {
     LongRecord,
     #[error("its file cannot be put on the disk: {0}")]
     NotSynced(io::Error),
+    /// Its recipe failed and had changed its file.
+    #[error("its file was removed")]
+    Removed,
 }
 
 impl NotDone {

@@ -1,7 +1,8 @@
 //! What a target writes into the state, checked before anything of it is.
-ghost use Rattle.std.specs.Prelude.{◌≡◌, ◌≤◌, ◌<◌, ◌↔◌, length, IfOk, IfSome, IsTrue};
+ghost use Rattle.std.specs.Prelude.{◌≡◌, ◌≤◌, ◌<◌, ◌↔◌, ◌||◌, length, IfOk, IfSome, IsTrue};
 ghost use Rattle.mk_graph.specs.Numbering.{name_at};
 ghost use Rattle.mk_recipe.specs.Line.{Records};
+ghost use Rattle.mk_rule_lines.specs.Marks.{has_mark};
 ghost use Rattle.mk_plan.specs.Nodes.{explicit_of};
 ghost use Rattle.mk_plan.specs.Passage.{to_make, commands_of};
 ghost use Rattle.mk_plan.specs.Telling.{lines_about};
@@ -10,7 +11,7 @@ ghost use Rattle.st_records.specs.Parts.{status_of};
 ghost use Rattle.st_records.specs.declared.version.Version.TheVariants.{Two};
 ghost use Rattle.st_records.specs.declared.record.Record.TheVariants as records;
 ghost use Rattle.jb_recipe.specs.Environment.{environment, report_path};
-ghost use Rattle.jb_recipe.specs.Noting.{known_of};
+ghost use Rattle.jb_recipe.specs.Noting.{known_of, removes};
 ghost use Rattle.jb_recipe.specs.Silence.{as_run};
 
 use crate::silence::as_run;
@@ -55,6 +56,8 @@ pub struct Plan {
     /// The names of its source and its explicit prerequisites: a report that names them says nothing new.
     pub known: ByteStrings,
     pub report: Option<ByteString>,
+    /// The target's file is removed where the recipe fails and has changed it.
+    pub removes: bool,
     ghost within: { IsWithin Two begun },
     ghost own: { begun ≡ records.Begun recipe.target },
 }
@@ -173,7 +176,7 @@ impl Plan {
             (to_make (name_at graph.now.names number) why.now (commands_of graph.now number) lines.items))) }
         ensures target { IfOk result (λ plan. IfSome plan (λ p. p.recipe.target ≡ name_at graph.now.names number)) }
         ensures lines { IfOk result (λ plan. IfSome plan (λ p. p.recipe.lines.items
-            ≡ as_run conduct.now.prints_no_lines lines.items)) }
+            ≡ as_run (conduct.now.prints_no_lines || has_mark graph.now.settings.silent (name_at graph.now.names number)) lines.items)) }
         ensures commands { IfOk result (λ plan. IfSome plan (λ p. Records lines.items p.commands)) }
         ensures explicit { IfOk result (λ plan. IfSome plan (λ p. p.explicit ≡ explicit_of graph.now number)) }
         ensures known { IfOk result (λ plan. IfSome plan (λ p. p.known ≡ known_of graph.now number)) }
@@ -181,19 +184,25 @@ impl Plan {
             ≡ report_path conduct.now.keeps_state conduct.now.state_name number)) }
         ensures env { IfOk result (λ plan. IfSome plan (λ p. p.recipe.env.items ≡ environment conduct.now.definitions.items
             conduct.now.makeflags p.report (name_at graph.now.names number))) }
-        ensures ignore { IfOk result (λ plan. IfSome plan (λ p. p.recipe.ignore ≡ conduct.now.ignores_statuses)) }
+        ensures ignore { IfOk result (λ plan. IfSome plan (λ p. p.recipe.ignore
+            ≡ conduct.now.ignores_statuses || has_mark graph.now.settings.ignored (name_at graph.now.names number))) }
+        ensures removes { IfOk result (λ plan. IfSome plan (λ p. p.removes ≡ removes graph.now number)) }
     {
         let told = why_lines(alloc, conduct.telling, graph, number, why, &lines)?;
         let noted = Noted::of(alloc, graph, number, &lines)?;
         let Some(begun) = noted.begun(alloc)? else {
             return Ok(None);
         };
-        let (report, env) = surroundings(alloc, conduct, number, noted.target.as_slice())?;
+        let target = noted.target.as_slice();
+        let (report, env) = surroundings(alloc, conduct, number, target)?;
+        let is_silent = conduct.prints_no_lines || graph.settings.silent.has(target);
+        let ignore = conduct.ignores_statuses || graph.settings.ignored.has(target);
+        let removes = graph.removes(target);
         let recipe = Recipe {
             target: noted.target,
-            lines: as_run(lines, conduct.prints_no_lines),
+            lines: as_run(lines, is_silent),
             env,
-            ignore: conduct.ignores_statuses,
+            ignore,
         };
         Ok(Some(Plan {
             told,
@@ -203,6 +212,7 @@ impl Plan {
             explicit: noted.explicit,
             known: noted.known,
             report,
+            removes,
         }))
     }
 }

@@ -27,11 +27,14 @@ impl From<AllocError> for PlaceFault {
 
 /// Where reports are written and targets are made. Nothing is claimed of it: what files hold is outside every proof.
 pub trait Place {
-    /// Removes a report. One that isn't there, or can't be removed, is passed over.
+    /// Removes a report, or a target's file. One that isn't there, or can't be removed, is passed over.
     fn remove(&self, path: &[u8]);
 
     /// The bytes of a report; None where there is no report.
     fn report(&self, alloc: Global, path: &[u8]) -> Result<Option<Vec<u8>>, PlaceFault>;
+
+    /// When a target's file was last changed, in nanoseconds since 1970; None where there is no ordinary file.
+    fn stamp(&self, target: &[u8]) -> Option<i128>;
 
     /// Puts a target's file on the disk, and its folder, before its 'done' is written. What isn't there or can't be opened is
     /// passed over: many targets are no files.

@@ -1,5 +1,5 @@
 //! How a target's recipe ended, as it is written.
-ghost use Rattle.std.specs.Prelude.{◌≡◌, ◌≤◌, IfOk, IfSome};
+ghost use Rattle.std.specs.Prelude.{◌≡◌, ◌≤◌, None, IfOk, IfSome};
 ghost use Rattle.st_records.specs.Limits.{IsGood};
 ghost use Rattle.st_records.specs.declared.version.Version.TheVariants.{Two};
 ghost use Rattle.st_records.specs.declared.record.Record.TheVariants as records;
@@ -27,9 +27,12 @@ pub struct EndNote {
     explicit: ByteStrings,
     known: ByteStrings,
     report: Option<ByteString>,
+    removes: bool,
+    /// The time of the target's file before the recipe, where that may be removed.
+    before: Option<i128>,
 }
 
-/// The last record of a target, and why it isn't a 'done' where the recipe passed.
+/// The last record of a target, and what there is to say where it isn't a 'done'.
 #[derive(Drop)]
 pub struct Last {
     /// None where not even a 'failed' may stand in the state.
@@ -49,6 +52,8 @@ impl Plan {
           explicit = self.explicit;
           known = self.known;
           report = self.report;
+          removes = self.removes;
+          before = None;
         }) }
         ensures told { IfOk result (λ p. p.3 ≡ self.told) }
     {
@@ -59,6 +64,8 @@ impl Plan {
             explicit: self.explicit,
             known: self.known,
             report: self.report,
+            removes: self.removes,
+            before: None,
         };
         Ok((self.begun, self.recipe, note, self.told))
     }
@@ -110,10 +117,36 @@ fn taken<P: Place>(
 }
 
 impl EndNote {
-    /// A report of an earlier run must not be taken for this one's; nor is one of a failed recipe left behind.
-    pub fn remove_report<P: Place>(&self, place: &P) {
+    /// Before the recipe is run: a report of an earlier run must not be taken for this one's, and what the recipe changes is told
+    /// by the time of the file as it was.
+    pub fn before_run<P: Place>(&mut self, place: &P) {
+        self.remove_report(place);
+        if self.removes {
+            self.before = place.stamp(self.target.as_slice());
+        }
+    }
+
+    // The report of a failed recipe isn't left behind.
+    fn remove_report<P: Place>(&self, place: &P) {
         if let Some(path) = &self.report {
             place.remove(path.as_slice());
+        }
+    }
+
+    // Removes the file of a failed recipe's target, where that is to be and the recipe changed it. Says so where it is gone.
+    fn remove_target<P: Place>(&self, place: &P) -> Option<NotDone> {
+        let target = self.target.as_slice();
+        if !self.removes {
+            return None;
+        }
+        let after = place.stamp(target);
+        if after.is_none() || after == self.before {
+            return None;
+        }
+        place.remove(target);
+        match place.stamp(target) {
+            None => Some(NotDone::Removed),
+            Some(_) => None,
         }
     }
 
@@ -139,6 +172,8 @@ impl EndNote {
             explicit,
             known: _,
             report: _,
+            removes: _,
+            before: _,
         } = self;
         Record::Done {
             target,
@@ -221,7 +256,8 @@ impl EndNote {
     {
         if let Outcome::Failed(status) = outcome {
             self.remove_report(place);
-            return Ok(self.into_failed(status, None));
+            let removed = self.remove_target(place);
+            return Ok(self.into_failed(status, removed));
         }
         match self.hidden_once_synced(alloc, key, place)? {
             Ok(hidden) => self.into_done(alloc, hidden),

@@ -2,7 +2,7 @@
 
 use crate::NotDone;
 use bd_lists::Ended;
-use mk_macros::MacroFault;
+use mk_plan::{LinePlace, RecipeFault};
 
 /// What a run has to tell about its targets, on standard error.
 #[derive(Clone, Copy)]
@@ -16,10 +16,12 @@ pub enum News<'a> {
     /// A record of it may not stand in the state.
     NotRecorded {
         target: &'a [u8],
+        /// The line of its recipe that is too long for one, if that is why, and its place is told.
+        long: Option<LinePlace<'a>>,
     },
     /// A line of its recipe can't be expanded.
     NotExpanded {
-        fault: &'a MacroFault,
+        fault: &'a RecipeFault,
     },
     /// What MAKEFLAGS names isn't used: recipes run one by one.
     SlotsUnused,

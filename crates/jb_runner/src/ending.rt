@@ -142,10 +142,10 @@ impl<D: Disk + Drop, E: Exec<Receipt>, S: Say, P: Place> Shop<'_, D, E, S, P> {
         bank: &mut B,
         shift: &mut Shift,
     ) -> Result<(), RunFault> {
-        let (begun, recipe, note, told) = plan.apart(alloc)?;
+        let (begun, recipe, mut note, told) = plan.apart(alloc)?;
         match self.begin(rt, alloc, node, begun, shift) {
             Ok(Begun::Cleared(clearance)) => {
-                note.remove_report(self.place);
+                note.before_run(self.place);
                 self.say_lines(&told);
                 let ran = self.run_with_slot(rt, alloc, clearance, recipe, bank);
                 if self.complain(rt, bank) {
@@ -156,7 +156,7 @@ impl<D: Disk + Drop, E: Exec<Receipt>, S: Say, P: Place> Shop<'_, D, E, S, P> {
             Ok(Begun::Refused) => {
                 drop(recipe);
                 drop(note);
-                self.not_recorded(rt, node, shift);
+                self.not_recorded(rt, node, None, shift);
                 Ok(())
             }
             Err(fault) => {
@@ -218,7 +218,7 @@ impl<D: Disk + Drop, E: Exec<Receipt>, S: Say, P: Place> Shop<'_, D, E, S, P> {
                 Some(last) => self.submit_end(rt, alloc, node, last, not_done, spent, shift),
                 None => {
                     shift.keep(spent.give_up());
-                    self.not_recorded(rt, node, shift);
+                    self.not_recorded(rt, node, None, shift);
                     Ok(())
                 }
             },
@@ -260,7 +260,7 @@ impl<D: Disk + Drop, E: Exec<Receipt>, S: Say, P: Place> Shop<'_, D, E, S, P> {
             }
             None => {
                 drop(copy);
-                self.not_recorded(rt, node, shift);
+                self.not_recorded(rt, node, None, shift);
                 Ok(())
             }
         }

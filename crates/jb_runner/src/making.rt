@@ -9,10 +9,9 @@ use bd_lists::{Board, Exec};
 use bd_places::End;
 use byte_strings::ByteStrings;
 use jb_closing::RunFault;
-use jb_recipe::{News, Place, Plan, Say};
+use jb_recipe::{News, Place, Plan, Say, long_line};
 use jb_slots::Bank;
-use mk_macros::MacroFault;
-use mk_plan::{Passed, Why, pass, told_lines};
+use mk_plan::{Passed, RecipeFault, Why, line_place, pass, told_lines};
 use mk_recipe::Line;
 use st_disk::Disk;
 use std::alloc::Global;
@@ -138,10 +137,10 @@ impl<D: Disk + Drop, E: Exec<Receipt>, S: Say, P: Place> Shop<'_, D, E, S, P> {
         &self,
         rt: &R,
         node: Node,
-        fault: &MacroFault,
+        fault: &RecipeFault,
         shift: &mut Shift,
     ) -> Result<(), RunFault> {
-        if matches!(fault, MacroFault::OutOfMemory) {
+        if matches!(fault, RecipeFault::OutOfMemory) {
             return Err(RunFault::OutOfMemory);
         }
         self.say.tell(News::NotExpanded { fault });
@@ -164,20 +163,31 @@ impl<D: Disk + Drop, E: Exec<Receipt>, S: Say, P: Place> Shop<'_, D, E, S, P> {
         requires { node < length self.now.graph.now.nodes.items }
     {
         shift.make_room()?;
+        let long = long_line(&lines);
         let Some(plan) = Plan::of(alloc, self.graph, self.conduct, node.number(), why, lines)?
         else {
-            self.not_recorded(rt, node, shift);
+            self.not_recorded(rt, node, long, shift);
             return Ok(());
         };
         self.build_planned(rt, alloc, node, plan, bank, shift)
     }
 
-    /// A record of the node may not stand in the state: the node is lost.
-    pub(crate) fn not_recorded<R: Wait>(&self, rt: &R, node: Node, shift: &mut Shift) {
+    /// A record of the node may not stand in the state, for want of room where a line of its recipe is too long: the node is lost.
+    pub(crate) fn not_recorded<R: Wait>(
+        &self,
+        rt: &R,
+        node: Node,
+        long: Option<usize>,
+        shift: &mut Shift,
+    ) {
         let number = node.number();
         if number < self.graph.names.len() {
             let target = self.graph.names.name(number);
-            self.say.tell(News::NotRecorded { target });
+            let long = match long {
+                Some(line) => line_place(self.graph, number, line),
+                None => None,
+            };
+            self.say.tell(News::NotRecorded { target, long });
         }
         shift.worsen(1);
         self.lose(rt, node);

@@ -1,6 +1,6 @@
 -- A text with each dollar doubled expands to it, whatever is defined.
-use Rattle.std.proofs.Common.{◌≡◌, ℕ, suc, ◌≤◌, Bool, false, cond, not, nat_lt, ◌==◌, List, [], ◌∷◌, ◌++◌, length, drop, Some, None, refl, sym, ap, subst, ◌∙◌, arith, one-add, append_assoc, append-nil, length-append}
-use Rattle.std.specs.List.{list_any, prefix_len}
+use Rattle.std.proofs.Common.{◌≡◌, ℕ, suc, ◌+◌, ◌≤◌, Bool, true, false, cond, not, nat_lt, ◌==◌, List, [], ◌∷◌, ◌++◌, length, take, drop, Some, None, refl, sym, ap, subst, ◌∙◌, arith, one-add, append_assoc, append-nil, length-append}
+use Rattle.std.specs.List.{list_any, prefix_len, position_or_len}
 use Rattle.std.proofs.lemmas.Bool.Decides.{nat_tests, Decides-eqb}
 use Rattle.std.proofs.lemmas.List.{take_at}
 use Rattle.std.proofs.lemmas.List.Folds.{list_any-append}
@@ -13,6 +13,31 @@ use Rattle.mk_macros.proofs.PatternLemmas.{place_of-at}
 use Rattle.mk_reader.specs.Text.{is_dollar}
 use Rattle.mk_reader.proofs.ReferenceLemmas.{either, or_false}
 use Rattle.mk_eval.specs.Static.{doubled}
+
+-- the text is what stands before its first `$`, and the rest
+abbrev IsRun : List ℕ → Type 0
+IsRun text = doubled text ≡ take (position_or_len is_dollar text) text ++ doubled (drop (position_or_len is_dollar text) text)
+
+run_more : (b : ℕ) (bs : List ℕ) → IsRun bs → IsRun (b ∷ bs)
+run_more b bs more = either _ (is_dollar b) stops further
+  where
+    at : (n : ℕ) → Type 0
+    at n = doubled (b ∷ bs) ≡ take n (b ∷ bs) ++ doubled (drop n (b ∷ bs))
+
+    stops : is_dollar b ≡ true → at (position_or_len is_dollar (b ∷ bs))
+    stops e =
+        let none : position_or_len is_dollar (b ∷ bs) ≡ 0 = ap (λ t. cond (not t) (1 + position_or_len is_dollar bs) 0) e in
+        subst at (sym none) refl
+
+    further : is_dollar b ≡ false → at (position_or_len is_dollar (b ∷ bs))
+    further e =
+        let one : position_or_len is_dollar (b ∷ bs) ≡ suc (position_or_len is_dollar bs) =
+        ap (λ t. cond (not t) (1 + position_or_len is_dollar bs) 0) e ∙ one-add (position_or_len is_dollar bs) in
+        subst at (sym one) (ap (λ t. cond t (36 ∷ b ∷ []) (b ∷ []) ++ doubled bs) e ∙ ap (λ xs. b ∷ xs) more)
+
+pub doubled_run : (text : List ℕ) → IsRun text
+doubled_run [] = refl
+doubled_run (b ∷ bs) = run_more b bs (doubled_run bs)
 
 -- no `$` stands in it
 abbrev IsPlain : List ℕ → Type 0

@@ -1,5 +1,5 @@
 -- What is gathered thing by thing is what all things give in order; a fault is passed on. What include lines name.
-use Rattle.std.proofs.Common.{◌≡◌, ◌+◌, arith, ℕ, suc, true, false, length, List, [], ◌∷◌, ◌++◌, refl, sym, ap, subst, ◌∙◌, Option, Result, Ok, Err, IfOk, IfSome, append_assoc, append-nil, Vec}
+use Rattle.std.proofs.Common.{◌≡◌, ◌+◌, arith, ℕ, suc, true, false, length, List, [], ◌∷◌, ◌++◌, refl, sym, ap, subst, ◌∙◌, Option, is_none, Result, Ok, Err, IfOk, IfSome, append_assoc, append-nil, Vec}
 use Rattle.std.specs.declared.alloc.Global.{Global}
 use Rattle.mk_reader.specs.declared.item.Item.{Item}
 use Rattle.mk_reader.specs.declared.fault.Refusal.{Refusal}
@@ -8,7 +8,7 @@ use Rattle.mk_reader.specs.declared.fault.ReadFault.TheVariants.{OutOfMemory, Re
 use Rattle.std.specs.List.{list_any}
 use Rattle.mk_reader.specs.Text.{is_dollar}
 use Rattle.mk_macros.specs.Expansion as expansion
-use Rattle.mk_macros.specs.Expansion.{gives, fails, ExpandsTo, ExpandsToFault}
+use Rattle.mk_macros.specs.Expansion.{Meanings, gives, fails, ExpandsTo, ExpandsToFault}
 use Rattle.mk_macros.specs.Ranks.{Defined, rule_meanings}
 use Rattle.mk_macros.specs.declared.fault.MacroFault.{MacroFault}
 use Rattle.mk_macros.specs.declared.fault.MacroFault.TheVariants as macro_fault
@@ -16,6 +16,7 @@ use Rattle.mk_reader.specs.Form.{refusal, Refuses}
 use Rattle.mk_reader.specs.declared.fault.Cause.TheVariants.{Macro}
 use Rattle.mk_reader.specs.declared.item.IncludeLine.{IncludeLine}
 use Rattle.mk_reader.specs.declared.item.Statement.TheVariants as statement
+use Rattle.mk_eval.specs.Output.{World}
 use Rattle.mk_eval.specs.Makefile.{Outcome, GivesItem, GivesItems, with_front, InOrder, behind, NamesIn, LineNames, cause_of, StatementItems, AnswerItems, IncludedItems, fault_told, IsNamesFault}
 use Rattle.mk_eval.proofs.BehindLemmas.{behind_nothing}
 
@@ -24,9 +25,9 @@ with_front-append xs ys (Ok items) = ap Ok (sym (append_assoc xs ys items))
 with_front-append xs ys (Err fault) = refl
 
 -- a file one level deeper
-pub included_deeper : (Answers : List ℕ → Option (List ℕ) → Type 0) (levels deeper : ℕ) (file : List ℕ) (include : IncludeLine) (given : Defined) (name : List ℕ) (answer : Option (List ℕ)) (o : Outcome) → levels ≡ suc deeper → Answers name answer → AnswerItems (IncludedItems Answers deeper) file include given name answer o → IncludedItems Answers levels file include given name o
-included_deeper Answers levels deeper file include given name answer o e a h =
-    subst (λ n. IncludedItems Answers n file include given name o) (sym e) (answer, a, h)
+pub included_deeper : (world : World) (levels deeper : ℕ) (file : List ℕ) (include : IncludeLine) (given : Defined) (name : List ℕ) (answer : Option (List ℕ)) (o : Outcome) → levels ≡ suc deeper → answer ≡ world.files name → AnswerItems world (IncludedItems world deeper) file include given name answer o → IncludedItems world levels file include given name o
+included_deeper world levels deeper file include given name answer o e a h =
+    subst (λ n. IncludedItems world n file include given name o) (sym e) (subst (λ content. AnswerItems world (IncludedItems world deeper) file include given name content o) a h)
 
 -- the names on a line whose text is, or isn't, expanded
 pub names_stand : (given : Defined) (text names : List ℕ) → list_any is_dollar text ≡ false → names ≡ text → LineNames given text (gives names)
@@ -49,11 +50,20 @@ names_fault given file include macro_fault.NestedReference (Refused r) some expa
 names_fault given file include macro_fault.TooLong (Refused r) some expands refused memory =
     (expansion.too_long, names_expanded given include.names (fails expansion.too_long) some expands, sym refused)
 
+-- a fault that isn't want of memory is one of the text
+pub fault_some : (names : Meanings) (text : List ℕ) (fault : MacroFault) → is_none (fault_told fault) ≡ false → ExpandsToFault names text fault →
+    (found : expansion.Fault) × ExpandsTo names text (fails found)
+fault_some names text macro_fault.OutOfMemory some meets = absurd (cc some)
+fault_some names text (macro_fault.Loop name) some meets = (expansion.refers_to_itself name, meets)
+fault_some names text macro_fault.Unclosed some meets = (expansion.not_closed, meets)
+fault_some names text macro_fault.NestedReference some meets = (expansion.dollar_in_brackets, meets)
+fault_some names text macro_fault.TooLong some meets = (expansion.too_long, meets)
+
 -- what an include line gives whose names have a fault
-pub line_fault : (Included : IncludeLine → Defined → List ℕ → Outcome → Type 0) (given : Defined) (file : List ℕ) (include : IncludeLine) (told : ReadFault) → IsNamesFault given file include told →
-    GivesItems (Err told) (StatementItems Included file given (statement.Include include))
-line_fault Included given file include OutOfMemory h = tt
-line_fault Included given file include (Refused r) (fault, names, e) = (fails fault, names, ap Err e)
+pub line_fault : (world : World) (Included : IncludeLine → Defined → List ℕ → Outcome → Type 0) (given : Defined) (file : List ℕ) (include : IncludeLine) (told : ReadFault) → IsNamesFault given file include told →
+    GivesItems (Err told) (StatementItems world Included file given (statement.Include include))
+line_fault world Included given file include OutOfMemory h = tt
+line_fault world Included given file include (Refused r) (fault, names, e) = (fails fault, names, ap Err e)
 
 -- what the things left give in the world as it is now, behind what is gathered, is what all give
 abbrev pub Reaches : {W A : Type 0} → (W → List Item → W) → (W → A → Outcome → Type 0) → W → List A → W → List Item → List A → Type 0

@@ -2,7 +2,7 @@
 use Rattle.std.proofs.Common.{◌≡◌, ℕ, zero, suc, Bool, true, false, cond, ◌&&◌, bytes_eq, List, [], ◌∷◌, map, refl, inr, inl, sym, ap, subst, ◌∙◌, Option, Some, None, Result, Ok, Err, Vec}
 use Rattle.std.specs.declared.alloc.Global.{Global}
 use Rattle.std.specs.List.{list_any}
-use Rattle.byte_strings.specs.Blanks.{words}
+use Rattle.byte_strings.specs.Blanks.{first_word, words}
 use Rattle.mk_profile.specs.Profile.{is_wide}
 use Rattle.mk_profile.specs.declared.profile.Profile.{Profile}
 use Rattle.mk_macros.specs.Expansion as expansion
@@ -12,6 +12,7 @@ use Rattle.mk_macros.specs.declared.definitions.Rank.TheVariants.{Makefile}
 use Rattle.mk_macros.specs.declared.dynamic.Dynamic.TheVariants.{RuleLine}
 use Rattle.mk_macros.proofs.OutcomeLemmas.{expands_once}
 use Rattle.mk_macros.proofs.SomeOutcomeLemmas.{outcome_some}
+use Rattle.mk_reader.specs.Special.{special_name}
 use Rattle.mk_reader.specs.Text.{is_dollar}
 use Rattle.mk_reader.specs.Grammar.{Without, refusal}
 use Rattle.mk_reader.specs.Printed.{PlainItem, definition, rule, ArePlain, printed, next, after_recipe, items_on}
@@ -19,7 +20,7 @@ use Rattle.mk_reader.specs.declared.fault.Cause.TheVariants.{IncludeDepth, Inclu
 use Rattle.mk_reader.specs.declared.fault.ReadFault.{ReadFault}
 use Rattle.mk_reader.specs.declared.item.Definition.{Definition}
 use Rattle.mk_reader.specs.declared.item.DefinitionKind.{DefinitionKind}
-use Rattle.mk_reader.specs.declared.item.DefinitionKind.TheVariants.{IfUndefined, AtOnce, AtOnceAlone}
+use Rattle.mk_reader.specs.declared.item.DefinitionKind.TheVariants.{IfUndefined, AtOnce, AtOnceAlone, Output}
 use Rattle.mk_reader.specs.declared.item.Item.{Item}
 use Rattle.mk_reader.specs.declared.item.Item.TheVariants as item
 use Rattle.mk_reader.specs.declared.item.Rule.{Rule}
@@ -28,14 +29,17 @@ use Rattle.mk_reader.specs.declared.item.Statement.{Statement}
 use Rattle.mk_reader.specs.declared.item.Statement.TheVariants as statement
 use Rattle.mk_reader.proofs.ReferenceLemmas.{either}
 use Rattle.mk_reader.proofs.StatementLemmas as reading
+use Rattle.mk_reader.proofs.WordLemmas.{special_is}
 use Rattle.mk_reader.proofs.PrintedItemsLemmas.{printed_read}
 use Rattle.mk_eval.specs.Static.{DefinesMacro}
+use Rattle.mk_eval.specs.Output.{World}
+use Rattle.mk_eval.specs.Unmade.{outcome_beside}
 use Rattle.mk_eval.specs.PlainRules.{IsPlainRule, ArePlainRules}
-use Rattle.mk_eval.specs.Makefile.{Outcome, GivesItems, InOrder, behind, NamesIn, LineNames, cause_of, NamedItems, fixed_as, FixedItems, KindItems, DefinitionItems, appends_fixed, ItemItems, StatementItems, FileItems, NoneFixed, RuleItems, with_item, AnswersOf, missing_items, AnswerItems, IncludedItems, TextItems}
+use Rattle.mk_eval.specs.Makefile.{Outcome, GivesItems, InOrder, behind, NamesIn, LineNames, cause_of, NamedItems, fixed_as, FixedItems, run_as, OutputItems, KindItems, DefinitionItems, appends_fixed, ItemItems, StatementItems, FileItems, NoneFixed, RuleItems, named_rule, with_item, missing_items, AnswerItems, IncludedItems, TextItems}
 use Rattle.mk_eval.proofs.BehindLemmas.{IsListed, behind_listed, behind_language, behind_wide, behind_strict}
 use Rattle.mk_eval.proofs.MakefileLemmas.{items_passed_on}
 use Rattle.mk_eval.proofs.OrderLemmas.{IsOne, order_one, Some_of, order_some}
-use Rattle.mk_eval.proofs.RuleLemmas.{rule_one, rule_some}
+use Rattle.mk_eval.proofs.RuleLemmas.{names_one, rule_one, rule_some}
 
 and_false : (t : Bool) → (t && false) ≡ false
 and_false true = refl
@@ -46,13 +50,6 @@ Including = IncludeLine → Defined → List ℕ → Outcome → Type 0
 
 abbrev AreOne : Including → Type 0
 AreOne Included = (include : IncludeLine) (given : Defined) (name : List ℕ) → IsOne (Included include given name)
-
-names_one : (given : Defined) (text : List ℕ) (one other : expansion.Outcome) → LineNames given text one → LineNames given text other → one ≡ other
-names_one given text one other = either_way (list_any is_dollar text)
-  where
-    either_way : (refers : Bool) → NamesIn refers given text one → NamesIn refers given text other → one ≡ other
-    either_way true a b = expands_once (rule_meanings given) a b
-    either_way false a b = a ∙ sym b
 
 named_one : (Included : Including) → AreOne Included → (file : List ℕ) (include : IncludeLine) (given : Defined) (names : expansion.Outcome) → IsOne (NamedItems (Included include) file include given names)
 named_one Included i file include given (gives names) one other a b = order_one behind (Included include) (i include) given (words names) one other a b
@@ -70,43 +67,47 @@ item_one (item.Definition d) given one other a b = definition_one (appends_fixed
 item_one (item.Rule lines) given one other a b = rule_one lines (is_wide given.language) given one other a b
 item_one (item.Special special) given one other a b = a ∙ sym b
 
-kind_one : (kind : DefinitionKind) (d : Definition) (given : Defined) → IsOne (KindItems kind d given)
-kind_one IfUndefined d given one other a b = a ∙ sym b
-kind_one AtOnce d given one other a b = fixed_one d true given one other a b
-kind_one AtOnceAlone d given one other a b = fixed_one d false given one other a b
+output_one : (world : World) (d : Definition) (given : Defined) → IsOne (OutputItems world d given)
+output_one world d given one other (command, is, a) (also, was, b) = a ∙ ap (run_as world d) (expands_once (rule_meanings given) is was) ∙ sym b
 
-statement_one : (Included : Including) → AreOne Included → (file : List ℕ) (given : Defined) (said : Statement) → IsOne (StatementItems Included file given said)
-statement_one Included i file given (statement.Item said) one other a b = item_one said given one other a b
-statement_one Included i file given (statement.Definition line) one other a b = kind_one line.kind line.definition given one other a b
-statement_one Included i file given (statement.Include include) one other (names, are, a) (also, were, b) =
+kind_one : (world : World) (kind : DefinitionKind) (d : Definition) (given : Defined) → IsOne (KindItems world kind d given)
+kind_one world IfUndefined d given one other a b = a ∙ sym b
+kind_one world AtOnce d given one other a b = fixed_one d true given one other a b
+kind_one world AtOnceAlone d given one other a b = fixed_one d false given one other a b
+kind_one world Output d given one other a b = output_one world d given one other a b
+
+statement_one : (world : World) (Included : Including) → AreOne Included → (file : List ℕ) (given : Defined) (said : Statement) → IsOne (StatementItems world Included file given said)
+statement_one world Included i file given (statement.Item said) one other a b = item_one said given one other a b
+statement_one world Included i file given (statement.Definition line) one other a b = kind_one world line.kind line.definition given one other a b
+statement_one world Included i file given (statement.Include include) one other (names, are, a) (also, were, b) =
     named_one Included i file include given also one other
     (subst (λ n. NamedItems (Included include) file include given n one) (names_one given include.names names also are were) a) b
-statement_one Included i file given (statement.Refused fault) one other a b = a ∙ sym b
+statement_one world Included i file given (statement.Refused fault) one other a b = a ∙ sym b
 
-file_one : (Included : Including) → AreOne Included → (given : Defined) (file text : List ℕ) → IsOne (FileItems Included given file text)
-file_one Included i given file text one other (statements, are, a) (also, were, b) =
-    order_one behind (StatementItems Included file) (statement_one Included i file) given also one other
-    (subst (λ s. InOrder behind (StatementItems Included file) given s one) (reading.text_one given.language file text statements also are were) a) b
+file_one : (world : World) (Included : Including) → AreOne Included → (given : Defined) (file text : List ℕ) → IsOne (FileItems world Included given file text)
+file_one world Included i given file text one other (statements, are, told, a, is) (also, were, said, b, was) =
+    let same = reading.text_one given.language file text statements also are were in
+    let alike = order_one behind (StatementItems world Included file) (statement_one world Included i file) given also told said
+    (subst (λ s. InOrder behind (StatementItems world Included file) given s told) same a) b in
+    is ∙ ap (λ s. outcome_beside (is_wide given.language) s told) same ∙ ap (outcome_beside (is_wide given.language) also) alike ∙ sym was
 
-module _ (files : List ℕ → Option (List ℕ)) where
-  answer_one : (Included : List ℕ → Including) → ((file : List ℕ) → AreOne (Included file)) → (file : List ℕ) (include : IncludeLine) (given : Defined) (name : List ℕ) (answer : Option (List ℕ)) → IsOne (AnswerItems Included file include given name answer)
+module _ (world : World) where
+  answer_one : (Included : List ℕ → Including) → ((file : List ℕ) → AreOne (Included file)) → (file : List ℕ) (include : IncludeLine) (given : Defined) (name : List ℕ) (answer : Option (List ℕ)) → IsOne (AnswerItems world Included file include given name answer)
   answer_one Included i file include given name None one other a b = a ∙ sym b
-  answer_one Included i file include given name (Some text) one other a b = file_one (Included name) (i name) given name text one other a b
+  answer_one Included i file include given name (Some text) one other a b = file_one world (Included name) (i name) given name text one other a b
 
-  included_one : (levels : ℕ) (file : List ℕ) → AreOne (IncludedItems (AnswersOf files) levels file)
+  included_one : (levels : ℕ) (file : List ℕ) → AreOne (IncludedItems world levels file)
   included_one zero file include given name one other a b = a ∙ sym b
   included_one (suc levels) file include given name one other a b =
-      let deeper = IncludedItems (AnswersOf files) levels in
-      answer_one deeper (included_one levels) file include given name (files name) one other
-      (subst (λ answer. AnswerItems deeper file include given name answer one) a.1 a.2)
-      (subst (λ answer. AnswerItems deeper file include given name answer other) b.1 b.2)
+      let deeper = IncludedItems world levels in
+      answer_one deeper (included_one levels) file include given name (world.files name) one other a b
 
-  pub text_one : (levels : ℕ) (given : Defined) (file text : List ℕ) (one other : Outcome) → TextItems (AnswersOf files) levels given file text one → TextItems (AnswersOf files) levels given file text other → one ≡ other
-  text_one levels given file text one other a b = file_one (IncludedItems (AnswersOf files) levels file) (included_one levels file) given file text one other a b
+  pub text_one : (levels : ℕ) (given : Defined) (file text : List ℕ) (one other : Outcome) → TextItems world levels given file text one → TextItems world levels given file text other → one ≡ other
+  text_one levels given file text one other a b = file_one world (IncludedItems world levels file) (included_one levels file) given file text one other a b
 
   -- so what is an outcome of the text is this one
-  pub one_given : (levels : ℕ) (given : Defined) (file text : List ℕ) (result : Result (Vec Item Global) ReadFault) (outcome : Outcome) → GivesItems result (TextItems (AnswersOf files) levels given file text) → TextItems (AnswersOf files) levels given file text outcome → GivesItems result (λ told. told ≡ outcome)
-  one_given levels given file text result outcome told is = items_passed_on result (TextItems (AnswersOf files) levels given file text) (λ o. o ≡ outcome) told (λ o h. text_one levels given file text o outcome h is)
+  pub one_given : (levels : ℕ) (given : Defined) (file text : List ℕ) (result : Result (Vec Item Global) ReadFault) (outcome : Outcome) → GivesItems result (TextItems world levels given file text) → TextItems world levels given file text outcome → GivesItems result (λ told. told ≡ outcome)
+  one_given levels given file text result outcome told is = items_passed_on result (TextItems world levels given file text) (λ o. o ≡ outcome) told (λ o h. text_one levels given file text o outcome h is)
 
 -- There is an outcome.
 
@@ -140,47 +141,50 @@ item_some (item.Definition d) given is = definition_some (appends_fixed d given)
 item_some (item.Rule lines) given is = rule_some lines given (text_expands given is) (is_wide given.language)
 item_some (item.Special special) given is = (_, refl)
 
-kind_some : (kind : DefinitionKind) (d : Definition) (given : Defined) → IsListed given → Some_of (KindItems kind d given)
-kind_some IfUndefined d given is = (_, refl)
-kind_some AtOnce d given is = fixed_some d true given is
-kind_some AtOnceAlone d given is = fixed_some d false given is
+output_some : (world : World) (d : Definition) (given : Defined) → IsListed given → Some_of (OutputItems world d given)
+output_some world d given is = let command = text_expands given is d.value in (run_as world d command.0, (command.0, command.1, refl))
 
-statement_some : (Included : Including) → AreSome Included → (file : List ℕ) (given : Defined) → IsListed given → (said : Statement) → Some_of (StatementItems Included file given said)
-statement_some Included i file given is (statement.Item said) = item_some said given is
-statement_some Included i file given is (statement.Definition line) = kind_some line.kind line.definition given is
-statement_some Included i file given is (statement.Include include) =
+kind_some : (world : World) (kind : DefinitionKind) (d : Definition) (given : Defined) → IsListed given → Some_of (KindItems world kind d given)
+kind_some world IfUndefined d given is = (_, refl)
+kind_some world AtOnce d given is = fixed_some d true given is
+kind_some world AtOnceAlone d given is = fixed_some d false given is
+kind_some world Output d given is = output_some world d given is
+
+statement_some : (world : World) (Included : Including) → AreSome Included → (file : List ℕ) (given : Defined) → IsListed given → (said : Statement) → Some_of (StatementItems world Included file given said)
+statement_some world Included i file given is (statement.Item said) = item_some said given is
+statement_some world Included i file given is (statement.Definition line) = kind_some world line.kind line.definition given is
+statement_some world Included i file given is (statement.Include include) =
     let names = names_some given is include.names in
     let whole = named_some Included i file include given is names.0 in
     (whole.0, (names.0, names.1, whole.1))
-statement_some Included i file given is (statement.Refused fault) = (Err fault, refl)
+statement_some world Included i file given is (statement.Refused fault) = (Err fault, refl)
 
-file_some : (Included : Including) → AreSome Included → (given : Defined) → IsListed given → (file text : List ℕ) → Some_of (FileItems Included given file text)
-file_some Included i given is file text =
+file_some : (world : World) (Included : Including) → AreSome Included → (given : Defined) → IsListed given → (file text : List ℕ) → Some_of (FileItems world Included given file text)
+file_some world Included i given is file text =
     let statements = reading.text_some given.language file text in
-    let whole = order_some behind IsListed behind_listed (StatementItems Included file) (statement_some Included i file) given is statements.0 in
-    (whole.0, (statements.0, statements.1, whole.1))
+    let whole = order_some behind IsListed behind_listed (StatementItems world Included file) (statement_some world Included i file) given is statements.0 in
+    (outcome_beside (is_wide given.language) statements.0 whole.0, (statements.0, statements.1, whole.0, whole.1, refl))
 
-module _ (files : List ℕ → Option (List ℕ)) where
-  answer_some : (Included : List ℕ → Including) → ((file : List ℕ) → AreSome (Included file)) → (file : List ℕ) (include : IncludeLine) (given : Defined) → IsListed given → (name : List ℕ) (answer : Option (List ℕ)) → Some_of (AnswerItems Included file include given name answer)
+module _ (world : World) where
+  answer_some : (Included : List ℕ → Including) → ((file : List ℕ) → AreSome (Included file)) → (file : List ℕ) (include : IncludeLine) (given : Defined) → IsListed given → (name : List ℕ) (answer : Option (List ℕ)) → Some_of (AnswerItems world Included file include given name answer)
   answer_some Included i file include given is name None = (missing_items include.is_required (refusal file include.line (IncludeMissing name)), refl)
-  answer_some Included i file include given is name (Some text) = file_some (Included name) (i name) given is name text
+  answer_some Included i file include given is name (Some text) = file_some world (Included name) (i name) given is name text
 
-  included_some : (levels : ℕ) (file : List ℕ) → AreSome (IncludedItems (AnswersOf files) levels file)
+  included_some : (levels : ℕ) (file : List ℕ) → AreSome (IncludedItems world levels file)
   included_some zero file include given is name = (Err (refusal file include.line IncludeDepth), refl)
   included_some (suc levels) file include given is name =
-      let deeper = IncludedItems (AnswersOf files) levels in
-      let found = answer_some deeper (included_some levels) file include given is name (files name) in
-      (found.0, (files name, refl, found.1))
+      let deeper = IncludedItems world levels in
+      answer_some deeper (included_some levels) file include given is name (world.files name)
 
-  pub text_some : (levels : ℕ) (given : Defined) → IsListed given → (file text : List ℕ) → Some_of (TextItems (AnswersOf files) levels given file text)
-  text_some levels given is file text = file_some (IncludedItems (AnswersOf files) levels file) (included_some levels file) given is file text
+  pub text_some : (levels : ℕ) (given : Defined) → IsListed given → (file text : List ℕ) → Some_of (TextItems world levels given file text)
+  text_some levels given is file text = file_some world (IncludedItems world levels file) (included_some levels file) given is file text
 
 -- Statements that are items give these.
 
 -- the item fixes no text, and gives itself
 abbrev IsLoose : Profile → Item → Type 0
 IsLoose language (item.Definition d) = d.is_fixed ≡ false
-IsLoose language (item.Rule lines) = IsPlainRule language lines.prerequisites
+IsLoose language (item.Rule lines) = IsPlainRule language lines.targets lines.prerequisites × (special_name language (first_word lines.targets) ≡ None)
 IsLoose language (item.Special special) = Unit {0}
 
 loose_item : (given : Defined) (one : Item) → IsLoose given.language one → (name : List ℕ) → (given.ranks name).is_fixed ≡ false → ((with_item given one).ranks name).is_fixed ≡ false
@@ -207,35 +211,47 @@ none_behind given one loose h =
     (λ name. ap (λ t. is_wide (with_item given one).language && t) (loose_item given one loose name (ap (λ w. w && (given.ranks name).is_fixed) (sym wide) ∙ h name)) ∙ and_false (is_wide (with_item given one).language)))
     (λ strict. subst NoneFixed (sym (behind_strict given (one ∷ []) strict)) h)
 
-rule_given : (wide : Bool) (lines : Rule) (given : Defined) → (wide ≡ true → (DefinesMacro lines.prerequisites → ⊥) × Without 58 58 lines.prerequisites) → RuleItems wide lines given (Ok (item.Rule lines ∷ []))
-rule_given true lines given plain = let here = plain refl in inr (inl (here.0, here.1, refl))
-rule_given false lines given plain = refl
+targets_stand : (given : Defined) (text : List ℕ) → list_any is_dollar text ≡ false → LineNames given text (gives text)
+targets_stand given text none = subst (λ refers. NamesIn refers given text (gives text)) (sym none) refl
 
-item_given : (Included : Including) (file : List ℕ) (given : Defined) → NoneFixed given → (one : Item) → IsLoose given.language one → StatementItems Included file given (statement.Item one) (Ok (one ∷ []))
-item_given Included file given h (item.Definition d) loose =
+rule_given : (wide : Bool) (lines : Rule) (given : Defined) → special_name given.language (first_word lines.targets) ≡ None →
+    (wide ≡ true → (DefinesMacro lines.prerequisites → ⊥) × Without 58 58 lines.prerequisites × (list_any is_dollar lines.targets ≡ false)) →
+    RuleItems wide lines given (Ok (item.Rule lines ∷ []))
+rule_given true lines given none plain =
+    let here = plain refl in
+    inr (inl (here.0, here.1, (gives lines.targets, targets_stand given lines.targets here.2, sym (ap (named_rule given.language lines) none))))
+rule_given false lines given none plain = refl
+
+item_given : (world : World) (Included : Including) (file : List ℕ) (given : Defined) → NoneFixed given → (one : Item) → IsLoose given.language one → StatementItems world Included file given (statement.Item one) (Ok (one ∷ []))
+item_given world Included file given h (item.Definition d) loose =
     subst (λ t. DefinitionItems t d given (Ok (item.Definition d ∷ []))) (sym (ap (λ t. d.append && t) (h d.name) ∙ and_false d.append)) refl
-item_given Included file given h (item.Rule lines) loose = rule_given (is_wide given.language) lines given loose
-item_given Included file given h (item.Special special) loose = refl
+item_given world Included file given h (item.Rule lines) loose = rule_given (is_wide given.language) lines given loose.1 loose.0
+item_given world Included file given h (item.Special special) loose = refl
 
 abbrev AreLoose : Profile → List Item → Type 0
 AreLoose language [] = Unit {0}
 AreLoose language (one ∷ more) = IsLoose language one × AreLoose language more
 
-items_given : (Included : Including) (file : List ℕ) (given : Defined) (items : List Item) → AreLoose given.language items → NoneFixed given → InOrder behind (StatementItems Included file) given (map statement.Item items) (Ok items)
-items_given Included file given [] loose h = refl
-items_given Included file given (one ∷ more) (here, later) h =
+items_given : (world : World) (Included : Including) (file : List ℕ) (given : Defined) (items : List Item) → AreLoose given.language items → NoneFixed given → InOrder behind (StatementItems world Included file) given (map statement.Item items) (Ok items)
+items_given world Included file given [] loose h = refl
+items_given world Included file given (one ∷ more) (here, later) h =
     let still = subst (λ language. AreLoose language more) (sym (behind_language given (one ∷ []))) later in
-    (Ok (one ∷ []), item_given Included file given h one here, (Ok more, items_given Included file (behind given (one ∷ [])) more still (none_behind given one here h), refl))
+    (Ok (one ∷ []), item_given world Included file given h one here, (Ok more, items_given world Included file (behind given (one ∷ [])) more still (none_behind given one here h), refl))
 
-plain_loose : (language : Profile) (file : List ℕ) (number : ℕ) (items : List PlainItem) → ArePlainRules language items → AreLoose language (items_on file number items)
-plain_loose language file number [] plain = tt
-plain_loose language file number (definition name append value ∷ more) plain = (refl, plain_loose language file (next number) more plain)
-plain_loose language file number (rule None targets prerequisites recipe ∷ more) (here, later) = (here, plain_loose language file (after_recipe (next number) recipe) more later)
-plain_loose language file number (rule (Some name) targets prerequisites recipe ∷ more) plain = (tt, plain_loose language file (after_recipe (next number) recipe) more plain)
+plain_loose : (language : Profile) (file : List ℕ) (number : ℕ) (items : List PlainItem) → ArePlain language items → ArePlainRules language items →
+    AreLoose language (items_on file number items)
+plain_loose language file number [] plain rules = tt
+plain_loose language file number (definition name append value ∷ more) (is, plain) rules = (refl, plain_loose language file (next number) more plain rules)
+plain_loose language file number (rule None targets prerequisites recipe ∷ more) (is, plain) (here, later) =
+    ((here, special_is language targets None is.2), plain_loose language file (after_recipe (next number) recipe) more plain later)
+plain_loose language file number (rule (Some name) targets prerequisites recipe ∷ more) (is, plain) rules =
+    (tt, plain_loose language file (after_recipe (next number) recipe) more plain rules)
 
-pub printed_given : (files : List ℕ → Option (List ℕ)) (levels : ℕ) (given : Defined) (file : List ℕ) (items : List PlainItem) → NoneFixed given → ArePlain given.language items → ArePlainRules given.language items → TextItems (AnswersOf files) levels given file (printed items) (Ok (items_on file 1 items))
-printed_given files levels given file items none plain rules = (
+pub printed_given : (world : World) (levels : ℕ) (given : Defined) (file : List ℕ) (items : List PlainItem) → NoneFixed given → ArePlain given.language items → ArePlainRules given.language items → TextItems world levels given file (printed items) (Ok (items_on file 1 items))
+printed_given world levels given file items none plain rules = (
   map statement.Item (items_on file 1 items),
   printed_read given.language file items plain,
-  items_given (IncludedItems (AnswersOf files) levels file) file given (items_on file 1 items) (plain_loose given.language file 1 items rules) none,
+  Ok (items_on file 1 items),
+  items_given world (IncludedItems world levels file) file given (items_on file 1 items) (plain_loose given.language file 1 items plain rules) none,
+  refl,
 )

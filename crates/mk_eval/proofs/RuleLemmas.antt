@@ -1,6 +1,7 @@
 -- What a rule gives is one outcome, and there is one.
 use Rattle.std.proofs.Common.{◌≡◌, ℕ, Bool, true, false, ◌||◌, ◌==◌, List, [], ◌∷◌, ◌++◌, length, inl, inr, ◌⊎◌, refl, sym, ap, subst, ◌∙◌, Option, Some, None, Result, Ok, Vec}
 use Rattle.std.specs.Bool.{Decides}
+use Rattle.std.specs.List.{list_any}
 use Rattle.std.specs.declared.alloc.Global.{Global}
 use Rattle.mk_reader.specs.declared.fault.ReadFault.{ReadFault}
 use Rattle.byte_strings.specs.Blanks.{words}
@@ -10,6 +11,7 @@ use Rattle.mk_macros.specs.Expansion.{gives, fails, ExpandsTo}
 use Rattle.mk_macros.specs.Ranks.{Defined, rule_meanings}
 use Rattle.mk_macros.proofs.OutcomeLemmas.{expands_once}
 use Rattle.mk_reader.specs.Grammar.{Without}
+use Rattle.mk_reader.specs.Text.{is_dollar}
 use Rattle.mk_reader.specs.Form.{first_outside}
 use Rattle.mk_reader.specs.declared.form.Place.TheVariants.{Outside}
 use Rattle.mk_reader.specs.declared.item.Item.{Item}
@@ -22,7 +24,7 @@ use Rattle.mk_reader.specs.declared.fault.StaticCause.TheVariants.{NoPercent}
 use Rattle.mk_reader.proofs.ReferenceLemmas.{either, cut_found, none_found, Said, said}
 use Rattle.mk_reader.proofs.CutLemmas.{one_of, cut_left, cut_right}
 use Rattle.mk_eval.specs.Static.{IsCutAt, name_macro, DefinesMacro, has_percent, pattern_fault, rule_for}
-use Rattle.mk_eval.specs.Makefile.{Outcome, GivesItems, refused_rule, TargetItems, unmoved, JudgedItems, PatternItems, Behind, WithText, StaticItems, WideRuleItems, RuleItems}
+use Rattle.mk_eval.specs.Makefile.{Outcome, GivesItems, refused_rule, TargetItems, unmoved, JudgedItems, PatternItems, Behind, WithText, StaticItems, NamesIn, LineNames, special_in, named_rule, PlainItems, WideRuleItems, RuleItems}
 use Rattle.mk_eval.proofs.MakefileLemmas.{items_passed_on}
 use Rattle.mk_eval.proofs.OrderLemmas.{IsOne, order_one, Some_of, order_some}
 use Rattle.mk_eval.proofs.StemLemmas.{stem_one, Found, stem_found}
@@ -80,6 +82,13 @@ macro_found text = at (cut_some 61 refl refl text)
 
 -- One outcome
 
+pub names_one : (given : Defined) (text : List ℕ) (one other : expansion.Outcome) → LineNames given text one → LineNames given text other → one ≡ other
+names_one given text one other = either_way (list_any is_dollar text)
+  where
+    either_way : (refers : Bool) → NamesIn refers given text one → NamesIn refers given text other → one ≡ other
+    either_way true a b = expands_once (rule_meanings given) a b
+    either_way false a b = a ∙ sym b
+
 module _ (rule : Rule) where
   target_one : (pattern : List ℕ) (prerequisites : List (List ℕ)) → has_percent pattern ≡ true → (target : List ℕ) → IsOne (TargetItems rule pattern prerequisites target)
   target_one pattern prerequisites h target one other (inl (s, is, a)) (inl (t, was, b)) =
@@ -128,13 +137,17 @@ module _ (rule : Rule) where
   static_one left right given =
       with_text_one given rule.targets _ (λ targets. with_text_one given left _ (λ patterns. with_text_one given right _ (λ prerequisites. pattern_one (words targets) (words patterns) (words prerequisites))))
 
+  plain_one : (given : Defined) → IsOne (PlainItems rule given)
+  plain_one given one other (targets, is, a) (also, was, b) =
+      a ∙ ap (λ t. named_rule given.language rule (special_in given.language t)) (names_one given rule.targets targets also is was) ∙ sym b
+
   wide_one : (given : Defined) → IsOne (WideRuleItems rule given)
   wide_one given one other (inl (defines, a)) (inl (also, b)) = a ∙ sym b
   wide_one given one other (inl (defines, a)) (inr (inl h)) = absurd (h.0 defines)
   wide_one given one other (inl (defines, a)) (inr (inr h)) = absurd (h.0 defines)
   wide_one given one other (inr (inl h)) (inl (defines, b)) = absurd (h.0 defines)
   wide_one given one other (inr (inr h)) (inl (defines, b)) = absurd (h.0 defines)
-  wide_one given one other (inr (inl (never, without, a))) (inr (inl (also, lacks, b))) = a ∙ sym b
+  wide_one given one other (inr (inl (never, without, a))) (inr (inl (also, lacks, b))) = plain_one given one other a b
   wide_one given one other (inr (inl (never, without, a))) (inr (inr (also, left, right, cut, b))) = absurd (cut_none 58 refl refl rule.prerequisites left right cut without)
   wide_one given one other (inr (inr (never, left, right, cut, a))) (inr (inl (also, without, b))) = absurd (cut_none 58 refl refl rule.prerequisites left right cut without)
   wide_one given one other (inr (inr (never, left, right, cut, a))) (inr (inr (also, l, r, is, b))) =
@@ -173,12 +186,22 @@ module _ (rule : Rule) where
     static_some left right =
         with_text_some rule.targets _ (λ targets. with_text_some left _ (λ patterns. with_text_some right _ (λ prerequisites. pattern_some (words targets) (words patterns) (words prerequisites))))
 
+    names_told : (text : List ℕ) → (names : expansion.Outcome) × LineNames given text names
+    names_told text = either_way (list_any is_dollar text)
+      where
+        either_way : (refers : Bool) → (names : expansion.Outcome) × NamesIn refers given text names
+        either_way true = expands text
+        either_way false = (gives text, refl)
+
+    plain_some : Some_of (PlainItems rule given)
+    plain_some = let targets = names_told rule.targets in (_, (targets.0, targets.1, refl))
+
     wide_some : Some_of (WideRuleItems rule given)
     wide_some = at (macro_found rule.prerequisites) (cut_some 58 refl refl rule.prerequisites)
       where
         at : DefinesMacro rule.prerequisites ⊎ (DefinesMacro rule.prerequisites → ⊥) → Without 58 58 rule.prerequisites ⊎ ((left : List ℕ) × (right : List ℕ) × IsCutAt 58 rule.prerequisites left right) → Some_of (WideRuleItems rule given)
         at (inl defines) cut = (refused_rule rule (Unsupported TargetMacro), inl (defines, refl))
-        at (inr never) (inl without) = (Ok (item.Rule rule ∷ []), inr (inl (never, without, refl)))
+        at (inr never) (inl without) = let whole = plain_some in (whole.0, inr (inl (never, without, whole.1)))
         at (inr never) (inr (left, right, cut)) = let whole = static_some left right in (whole.0, inr (inr (never, left, right, cut, whole.1)))
 
     pub rule_some : (wide : Bool) → Some_of (RuleItems wide rule given)
@@ -190,3 +213,9 @@ pub static_given : (rule : Rule) (given : Defined) (left right : List ℕ) (r : 
     GivesItems r (StaticItems rule left right given) → GivesItems r (RuleItems (is_wide given.language) rule given)
 static_given rule given left right r wide never cut h =
     items_passed_on r (StaticItems rule left right given) (RuleItems (is_wide given.language) rule given) h (λ o s. subst (λ w. RuleItems w rule given o) (sym wide) (inr (inr (never, left, right, cut, s))))
+
+-- so is what a plain rule gives
+pub plain_given : (rule : Rule) (given : Defined) (r : Result (Vec Item Global) ReadFault) → is_wide given.language ≡ true → (DefinesMacro rule.prerequisites → ⊥) → Without 58 58 rule.prerequisites →
+    GivesItems r (PlainItems rule given) → GivesItems r (RuleItems (is_wide given.language) rule given)
+plain_given rule given r wide never without h =
+    items_passed_on r (PlainItems rule given) (RuleItems (is_wide given.language) rule given) h (λ o s. subst (λ w. RuleItems w rule given o) (sym wide) (inr (inl (never, without, s))))

@@ -2,20 +2,23 @@
 use Rattle.std.specs.Prelude.{◌≡◌, ℕ, zero, suc, Bool, true, false, ◌&&◌, ◌⊎◌, List, [], ◌∷◌, ◌++◌, Option, Some, None, is_some, Result, Ok, Err, Vec, if◌then◌else◌}
 use Rattle.std.specs.declared.alloc.Global.{Global}
 use Rattle.std.specs.List.{list_any}
-use Rattle.byte_strings.specs.Blanks.{words}
+use Rattle.byte_strings.specs.Blanks.{first_word, words}
 use Rattle.mk_profile.specs.Profile.{is_wide}
+use Rattle.mk_profile.specs.declared.profile.Profile.{Profile}
 use Rattle.mk_macros.specs.Expansion as expansion
 use Rattle.mk_macros.specs.Expansion.{gives, fails, ExpandsTo}
 use Rattle.mk_macros.specs.Ranks.{Defined, in_force, with_definition, with_mark, rule_meanings}
 use Rattle.mk_macros.specs.declared.definitions.Rank.TheVariants.{Makefile}
 use Rattle.mk_macros.specs.declared.fault.MacroFault.{MacroFault}
 use Rattle.mk_macros.specs.declared.fault.MacroFault.TheVariants as macro_fault
-use Rattle.mk_reader.specs.Text.{is_dollar}
+use Rattle.mk_reader.specs.Text.{is_dollar, is_text}
 use Rattle.mk_reader.specs.Grammar.{Without, refusal}
+use Rattle.mk_reader.specs.Special.{special_name, is_refused}
+use Rattle.mk_reader.specs.declared.special.SpecialName.{SpecialName}
 use Rattle.mk_reader.specs.Statements.{AreStatements}
 use Rattle.mk_reader.specs.declared.item.Definition.{Definition}
 use Rattle.mk_reader.specs.declared.item.DefinitionKind.{DefinitionKind}
-use Rattle.mk_reader.specs.declared.item.DefinitionKind.TheVariants.{IfUndefined, AtOnce, AtOnceAlone}
+use Rattle.mk_reader.specs.declared.item.DefinitionKind.TheVariants.{IfUndefined, AtOnce, AtOnceAlone, Output}
 use Rattle.mk_reader.specs.declared.item.Item.{Item}
 use Rattle.mk_reader.specs.declared.item.Item.TheVariants as item
 use Rattle.mk_reader.specs.declared.item.IncludeLine.{IncludeLine}
@@ -23,15 +26,17 @@ use Rattle.mk_reader.specs.declared.item.Statement.{Statement}
 use Rattle.mk_reader.specs.declared.item.Statement.TheVariants as statement
 use Rattle.mk_reader.specs.declared.item.Rule.{Rule}
 use Rattle.mk_reader.specs.declared.fault.Cause.{Cause}
-use Rattle.mk_reader.specs.declared.fault.Cause.TheVariants.{IncludeDepth, IncludeMissing, Macro, Static, Unsupported}
-use Rattle.mk_reader.specs.declared.fault.Feature.TheVariants.{TargetMacro}
+use Rattle.mk_reader.specs.declared.fault.Cause.TheVariants.{NotText, IncludeDepth, IncludeMissing, Macro, Static, Unsupported}
+use Rattle.mk_reader.specs.declared.fault.Feature.TheVariants.{TargetMacro, SpecialName as SpecialRule}
 use Rattle.mk_reader.specs.declared.fault.StaticCause.TheVariants.{NoPattern, ManyPatterns, Mismatch}
 use Rattle.mk_reader.specs.declared.fault.MacroCause.{MacroCause}
 use Rattle.mk_reader.specs.declared.fault.MacroCause.TheVariants as macro_cause
 use Rattle.mk_reader.specs.declared.fault.Refusal.{Refusal}
 use Rattle.mk_reader.specs.declared.fault.ReadFault.{ReadFault}
 use Rattle.mk_reader.specs.declared.fault.ReadFault.TheVariants.{OutOfMemory, Refused}
+use Rattle.mk_eval.specs.Output.{World, output_text}
 use Rattle.mk_eval.specs.Static.{doubled, IsCutAt, DefinesMacro, with_stem, pattern_fault, rule_for}
+use Rattle.mk_eval.specs.Unmade.{outcome_beside}
 
 -- the items of a text, or its first fault
 abbrev pub Outcome : Type 0
@@ -79,7 +84,7 @@ with_items given (one ∷ more) = with_items (with_item given one) more
 abbrev pub behind : Defined → List Item → Defined
 behind given items = if is_wide given.language then with_items given items else given
 
--- the names on an include line: without a reference they stand there, with one its text is expanded with what is defined above
+-- the names on an include line, and the targets of a rule line: without a reference they stand there, with one its text is expanded with what is defined above
 -- the line
 abbrev pub NamesIn : (refers : Bool) → Defined → (text : List ℕ) → expansion.Outcome → Type 0
 NamesIn false given text names = names ≡ gives text
@@ -109,12 +114,28 @@ fixed_as d is_fixed (fails fault) = Err (refusal d.file d.line (Macro (cause_of 
 abbrev pub FixedItems : Definition → (is_fixed : Bool) → Defined → Outcome → Type 0
 FixedItems d is_fixed given outcome = (text : expansion.Outcome) × ExpandsTo (rule_meanings given) d.value text × (outcome ≡ fixed_as d is_fixed text)
 
+-- the definition with what its command wrote, which is expanded where it is used; what is no text is refused (own)
+abbrev pub written_as : Definition → (output : List ℕ) → Outcome
+written_as d output =
+    if is_text output then Ok (item.Definition (record d { value = output_text output; is_fixed = false }) ∷ []) else Err (refusal d.file d.line NotText)
+
+-- the same by the command that its text came to, or the fault
+abbrev pub run_as : World → Definition → expansion.Outcome → Outcome
+run_as world d (gives command) = written_as d (world.outputs d.file d.line command)
+run_as world d (fails fault) = Err (refusal d.file d.line (Macro (cause_of fault)))
+
+-- what a definition gives whose text is a command, which is expanded with what is defined above it
+abbrev pub OutputItems : World → Definition → Defined → Outcome → Type 0
+OutputItems world d given outcome = (command : expansion.Outcome) × ExpandsTo (rule_meanings given) d.value command × (outcome ≡ run_as world d command)
+
 -- what a definition gives that counts by what stands above it (POSIX make, "Macros"): `?=` gives it where its name has no text at
--- any rank; `::=` and `:=` with its text expanded, as are texts that are appended to it; `:::=` with its text expanded alone
-abbrev pub KindItems : DefinitionKind → Definition → Defined → Outcome → Type 0
-KindItems IfUndefined d given outcome = outcome ≡ Ok (if is_some (in_force (given.ranks d.name)) then [] else item.Definition d ∷ [])
-KindItems AtOnce d given outcome = FixedItems d true given outcome
-KindItems AtOnceAlone d given outcome = FixedItems d false given outcome
+-- any rank; `::=` and `:=` with its text expanded, as are texts that are appended to it; `:::=` with its text expanded alone; `!=` with
+-- what its command writes
+abbrev pub KindItems : World → DefinitionKind → Definition → Defined → Outcome → Type 0
+KindItems world IfUndefined d given outcome = outcome ≡ Ok (if is_some (in_force (given.ranks d.name)) then [] else item.Definition d ∷ [])
+KindItems world AtOnce d given outcome = FixedItems d true given outcome
+KindItems world AtOnceAlone d given outcome = FixedItems d false given outcome
+KindItems world Output d given outcome = OutputItems world d given outcome
 
 -- what is appended to a fixed text is expanded where it stands (POSIX make, `+=`)
 abbrev pub DefinitionItems : (expanded : Bool) → Definition → Defined → Outcome → Type 0
@@ -174,12 +195,30 @@ StaticItems rule left right given outcome =
     WithText rule given rule.targets (λ targets. WithText rule given left (λ patterns. WithText rule given right (λ prerequisites.
     PatternItems rule (words targets) (words patterns) (words prerequisites)))) outcome
 
--- what a rule of the wide profile gives: the rule, or what a static pattern rule gives. The second `:` is one that stands in the
+-- the special name that stands first among the targets of a rule line, which came to this; targets without an expansion name none, which
+-- is told with the line
+abbrev pub special_in : Profile → expansion.Outcome → Option SpecialName
+special_in profile (gives text) = special_name profile (first_word text)
+special_in profile (fails fault) = None
+
+-- what a rule gives that names this one
+abbrev pub named_rule : Profile → Rule → Option SpecialName → Outcome
+named_rule profile rule None = Ok (item.Rule rule ∷ [])
+named_rule profile rule (Some name) =
+    if is_refused profile name then refused_rule rule (Unsupported (SpecialRule name)) else Ok (item.Special (record { name = name; rule = rule }) ∷ [])
+
+-- what a rule gives that is no static pattern rule: itself, or a special rule, told by what its targets come to with what is defined
+-- above the line (own: POSIX make has macros in targets, and special targets by name)
+abbrev pub PlainItems : Rule → Defined → Outcome → Type 0
+PlainItems rule given outcome =
+    (targets : expansion.Outcome) × LineNames given rule.targets targets × (outcome ≡ named_rule given.language rule (special_in given.language targets))
+
+-- what a rule of the wide profile gives: what a plain rule gives, or what a static pattern rule gives. The second `:` is one that stands in the
 -- makefile outside references (own: GNU make sees also one that comes out of a macro)
 abbrev pub WideRuleItems : Rule → Defined → Outcome → Type 0
 WideRuleItems rule given outcome =
     (DefinesMacro rule.prerequisites × (outcome ≡ refused_rule rule (Unsupported TargetMacro)))
-    ⊎ (((DefinesMacro rule.prerequisites → ⊥) × Without 58 58 rule.prerequisites × (outcome ≡ Ok (item.Rule rule ∷ [])))
+    ⊎ (((DefinesMacro rule.prerequisites → ⊥) × Without 58 58 rule.prerequisites × PlainItems rule given outcome)
     ⊎ ((DefinesMacro rule.prerequisites → ⊥) × (left : List ℕ) × (right : List ℕ) × IsCutAt 58 rule.prerequisites left right × StaticItems rule left right given outcome))
 
 abbrev pub RuleItems : (wide : Bool) → Rule → Defined → Outcome → Type 0
@@ -193,22 +232,19 @@ ItemItems (item.Rule rule) given outcome = RuleItems (is_wide given.language) ru
 ItemItems (item.Special special) given outcome = outcome ≡ Ok (item.Special special ∷ [])
 
 -- what a statement of the file gives; Included says it of a name on an include line
-abbrev pub StatementItems : (IncludeLine → Defined → List ℕ → Outcome → Type 0) → (file : List ℕ) → Defined → Statement → Outcome → Type 0
-StatementItems Included file given (statement.Item one) outcome = ItemItems one given outcome
-StatementItems Included file given (statement.Definition line) outcome = KindItems line.kind line.definition given outcome
-StatementItems Included file given (statement.Include include) outcome =
+abbrev pub StatementItems : World → (IncludeLine → Defined → List ℕ → Outcome → Type 0) → (file : List ℕ) → Defined → Statement → Outcome → Type 0
+StatementItems world Included file given (statement.Item one) outcome = ItemItems one given outcome
+StatementItems world Included file given (statement.Definition line) outcome = KindItems world line.kind line.definition given outcome
+StatementItems world Included file given (statement.Include include) outcome =
     (names : expansion.Outcome) × LineNames given include.names names × NamedItems (Included include) file include given names outcome
-StatementItems Included file given (statement.Refused refused) outcome = outcome ≡ Err refused
+StatementItems world Included file given (statement.Refused refused) outcome = outcome ≡ Err refused
 
--- what the text of a file gives, read under this name
-abbrev pub FileItems : (IncludeLine → Defined → List ℕ → Outcome → Type 0) → Defined → (file text : List ℕ) → Outcome → Type 0
-FileItems Included given file text outcome =
+-- what the text of a file gives, read under this name; the fault of a missing file is told beside the statements of the text
+abbrev pub FileItems : World → (IncludeLine → Defined → List ℕ → Outcome → Type 0) → Defined → (file text : List ℕ) → Outcome → Type 0
+FileItems world Included given file text outcome =
     (statements : List Statement) × AreStatements given.language file text statements
-    × InOrder behind (StatementItems Included file) given statements outcome
-
--- how files answer: with their content
-abbrev pub AnswersOf : (files : List ℕ → Option (List ℕ)) → List ℕ → Option (List ℕ) → Type 0
-AnswersOf files name answer = answer ≡ files name
+    × (told : Outcome) × InOrder behind (StatementItems world Included file) given statements told
+    × (outcome ≡ outcome_beside (is_wide given.language) statements told)
 
 -- what a file gives that can't be read: nothing, where the line says that it may be missing
 abbrev pub missing_items : (required : Bool) → Refusal → Outcome
@@ -217,20 +253,20 @@ missing_items false fault = Ok []
 
 -- what a file gives that an include line of another one names, and that has this content, or can't be read; Included says
 -- it of the names in it
-abbrev pub AnswerItems : (List ℕ → IncludeLine → Defined → List ℕ → Outcome → Type 0) → List ℕ → IncludeLine → Defined → List ℕ → Option (List ℕ) → Outcome → Type 0
-AnswerItems Included file include given name None outcome = outcome ≡ missing_items include.is_required (refusal file include.line (IncludeMissing name))
-AnswerItems Included file include given name (Some text) outcome = FileItems (Included name) given name text outcome
+abbrev pub AnswerItems : World → (List ℕ → IncludeLine → Defined → List ℕ → Outcome → Type 0) → List ℕ → IncludeLine → Defined → List ℕ → Option (List ℕ) → Outcome → Type 0
+AnswerItems world Included file include given name None outcome = outcome ≡ missing_items include.is_required (refusal file include.line (IncludeMissing name))
+AnswerItems world Included file include given name (Some text) outcome = FileItems world (Included name) given name text outcome
 
--- what an include line gives for a name, where so many more levels are allowed and files answer so
-abbrev pub IncludedItems : (List ℕ → Option (List ℕ) → Type 0) → ℕ → List ℕ → IncludeLine → Defined → List ℕ → Outcome → Type 0
-IncludedItems Answers zero file include given name outcome = outcome ≡ Err (refusal file include.line IncludeDepth)
-IncludedItems Answers (suc levels) file include given name outcome =
-    (answer : Option (List ℕ)) × Answers name answer × AnswerItems (IncludedItems Answers levels) file include given name answer outcome
+-- what an include line gives for a name, where so many more levels are allowed
+abbrev pub IncludedItems : World → ℕ → List ℕ → IncludeLine → Defined → List ℕ → Outcome → Type 0
+IncludedItems world zero file include given name outcome = outcome ≡ Err (refusal file include.line IncludeDepth)
+IncludedItems world (suc levels) file include given name outcome =
+    AnswerItems world (IncludedItems world levels) file include given name (world.files name) outcome
 
 -- what a text gives, read under this file name with these definitions above it, where so many levels of includes are
--- allowed and files answer so
-abbrev pub TextItems : (List ℕ → Option (List ℕ) → Type 0) → ℕ → Defined → List ℕ → List ℕ → Outcome → Type 0
-TextItems Answers levels given file text outcome = FileItems (IncludedItems Answers levels file) given file text outcome
+-- allowed
+abbrev pub TextItems : World → ℕ → Defined → List ℕ → List ℕ → Outcome → Type 0
+TextItems world levels given file text outcome = FileItems world (IncludedItems world levels file) given file text outcome
 
 -- how deep includes may be nested (own)
 abbrev pub depth : ℕ
@@ -251,6 +287,12 @@ abbrev pub IsNamesFault : Defined → (file : List ℕ) → IncludeLine → Read
 IsNamesFault given file include OutOfMemory = Unit {0}
 IsNamesFault given file include (Refused refused) =
     (fault : expansion.Fault) × LineNames given include.names (fails fault) × (refused ≡ refusal file include.line (Macro (cause_of fault)))
+
+-- the fault of a definition's command
+abbrev pub IsCommandFault : Defined → Definition → ReadFault → Type 0
+IsCommandFault given d OutOfMemory = Unit {0}
+IsCommandFault given d (Refused refused) =
+    (fault : expansion.Fault) × ExpandsTo (rule_meanings given) d.value (fails fault) × (refused ≡ refusal d.file d.line (Macro (cause_of fault)))
 
 -- the fault of a text of a rule's line
 abbrev pub IsTextFault : Defined → Rule → (text : List ℕ) → ReadFault → Type 0

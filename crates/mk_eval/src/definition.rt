@@ -1,10 +1,13 @@
 //! Definitions that count by what stands above them.
 ghost use Rattle.std.specs.Prelude.{◌≡◌, [], ◌∷◌, IfOk};
 ghost use Rattle.mk_macros.specs.Ranks.{defined_by};
-ghost use Rattle.mk_eval.specs.Makefile.{behind, GivesItem, GivesItems, KindItems, ItemItems, FixedItems};
+ghost use Rattle.mk_eval.specs.Output.{World};
+ghost use Rattle.mk_eval.specs.Makefile.{behind, GivesItem, GivesItems, KindItems, ItemItems, FixedItems, OutputItems};
 
 use crate::doubled::doubled;
+use crate::includes::Includes;
 use crate::names::follow;
+use crate::output::run_definition;
 use crate::refuse::refuse_text;
 use crate::rule::evaluate_rule;
 use byte_strings::ByteString;
@@ -62,14 +65,33 @@ fn take_fixed(
     Ok(take(alloc, item, macros)?)
 }
 
+/// As `take`, with what the definition's command writes.
+fn take_output<I: Includes>(
+    alloc: Global,
+    definition: Definition,
+    macros: &mut Macros,
+    includes: &mut I,
+) -> Result<Vec<Item>, ReadFault>
+    ensures items { (world : World) → I.allows includes.new world
+        → GivesItems result (OutputItems world definition (defined_by macros.old)) }
+    ensures defined { IfOk result (λ items. defined_by macros.new ≡ behind (defined_by macros.old) items.items) }
+    ensures grows { (world : World) → I.allows includes.new world → I.allows includes.old world }
+{
+    let item = run_definition(alloc, definition, macros, includes)?;
+    Ok(take(alloc, item, macros)?)
+}
+
 /// What a definition gives that counts by what stands above it: an item, which is taken into the macros, or nothing.
-pub fn evaluate_definition(
+pub fn evaluate_definition<I: Includes>(
     alloc: Global,
     line: DefinitionLine,
     macros: &mut Macros,
+    includes: &mut I,
 ) -> Result<Vec<Item>, ReadFault>
-    ensures items { GivesItems result (KindItems line.kind line.definition (defined_by macros.old)) }
+    ensures items { (world : World) → I.allows includes.new world
+        → GivesItems result (KindItems world line.kind line.definition (defined_by macros.old)) }
     ensures defined { IfOk result (λ items. defined_by macros.new ≡ behind (defined_by macros.old) items.items) }
+    ensures grows { (world : World) → I.allows includes.new world → I.allows includes.old world }
 {
     let DefinitionLine { kind, definition } = line;
     match kind {
@@ -81,6 +103,7 @@ pub fn evaluate_definition(
         }
         DefinitionKind::AtOnce => take_fixed(alloc, definition, true, macros),
         DefinitionKind::AtOnceAlone => take_fixed(alloc, definition, false, macros),
+        DefinitionKind::Output => take_output(alloc, definition, macros, includes),
     }
 }
 

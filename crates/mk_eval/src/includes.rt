@@ -1,20 +1,39 @@
-//! Where included files come from.
-ghost use Rattle.std.specs.Prelude.{◌≡◌, ℕ, List, Option, option_map, IfOk};
+//! What the outside is asked while makefiles are evaluated: the files that they include, and what commands write.
+ghost use Rattle.std.specs.Prelude.{◌≡◌, option_map, IfOk};
+ghost use Rattle.mk_eval.specs.Output.{World};
 
+use mk_profile::Profile;
+use mk_reader::Statement;
 use std::alloc::{AllocError, Global};
 
-/// Gives the files that a makefile includes.
+/// Gives the files that a makefile includes, and runs the commands of its definitions. An answer narrows what is still possible and
+/// never widens it.
 pub trait Includes {
-    /// Which contents, one of each name whose file can be read, agree with all that was answered so far.
-    ghost allows: { Self → (List ℕ → Option (List ℕ)) → Type 0 };
+    /// Which worlds agree with all that was answered so far.
+    ghost allows: { Self → World → Type 0 };
 
-    /// The content of the file, or `None` where it can't be read. Names are as they stand in the makefile. An answer narrows
-    /// what is still possible and never widens it.
+    /// The content of the file, or `None` where it can't be read. Names are as they stand in the makefile.
     fn read(&mut self, alloc: Global, name: &[u8]) -> Result<Option<Vec<u8>>, AllocError>
-        ensures content { IfOk result (λ answer. (files : List ℕ → Option (List ℕ)) → allows self.new files
-            → option_map (λ text. text.items) answer ≡ files name.now) }
-        ensures grows { (files : List ℕ → Option (List ℕ)) → allows self.new files → allows self.old files };
+        ensures content { IfOk result (λ answer. (world : World) → allows self.new world
+            → option_map (λ text. text.items) answer ≡ world.files name.now) }
+        ensures grows { (world : World) → allows self.new world → allows self.old world };
+
+    /// What the command writes that the definition in this line of this file runs.
+    fn output(
+        &mut self,
+        alloc: Global,
+        file: &[u8],
+        line: usize,
+        command: &[u8],
+    ) -> Result<Vec<u8>, AllocError>
+        ensures output { IfOk result (λ output. (world : World) → allows self.new world
+            → output.items ≡ world.outputs file.now line command.now) }
+        ensures grows { (world : World) → allows self.new world → allows self.old world };
+
+    /// The statements of a file, before any of them is evaluated: for notes. It answers nothing.
+    fn see(&mut self, alloc: Global, profile: Profile, file: &[u8], statements: &[Statement])
+        ensures { (world : World) → allows self.new world → allows self.old world };
 
     // Something is always possible.
-    ghost possible: { (source : Self) → (files : List ℕ → Option (List ℕ)) × allows source files };
+    ghost possible: { (source : Self) → (world : World) × allows source world };
 }

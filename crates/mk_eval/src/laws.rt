@@ -1,5 +1,5 @@
 //! Laws of the definitions that `read_makefile` meets. The functions do nothing: what they ensure is the law.
-ghost use Rattle.std.specs.Prelude.{◌≡◌, ◌≤◌, ℕ, length, List, Option, Result, Ok, Vec};
+ghost use Rattle.std.specs.Prelude.{◌≡◌, ◌≤◌, ℕ, length, List, Result, Ok, Vec};
 ghost use Rattle.std.specs.declared.alloc.Global.{Global};
 ghost use Rattle.mk_macros.specs.Expansion.{Meanings, gives, limit, ExpandsTo};
 ghost use Rattle.mk_macros.specs.Ranks.{Defined, Listed, defined_by};
@@ -7,21 +7,22 @@ ghost use Rattle.mk_reader.specs.Printed.{PlainItem, ArePlain, printed, items_on
 ghost use Rattle.mk_reader.specs.declared.fault.ReadFault.{ReadFault};
 ghost use Rattle.mk_reader.specs.declared.item.Item.{Item};
 ghost use Rattle.mk_eval.specs.Static.{doubled};
-ghost use Rattle.mk_eval.specs.Makefile.{Outcome, GivesItems, AnswersOf, NoneFixed, TextItems};
+ghost use Rattle.mk_eval.specs.Output.{World};
+ghost use Rattle.mk_eval.specs.Makefile.{Outcome, GivesItems, NoneFixed, TextItems};
 ghost use Rattle.mk_eval.specs.PlainRules.{ArePlainRules};
 
-/// With the files' contents, and what is defined before it is read, a text has at most one outcome in its language.
+/// In a world, with what is defined before it is read, a text has at most one outcome in its language.
 pub fn one_outcome()
-    ensures { (files : List ℕ → Option (List ℕ)) (levels : ℕ) (given : Defined) (file text : List ℕ) (one other : Outcome)
-        → TextItems (AnswersOf files) levels given file text one
-        → TextItems (AnswersOf files) levels given file text other
+    ensures { (world : World) (levels : ℕ) (given : Defined) (file text : List ℕ) (one other : Outcome)
+        → TextItems world levels given file text one
+        → TextItems world levels given file text other
         → one ≡ other }
 {}
 
-/// With the files' contents a text has an outcome, whatever is defined before it is read.
+/// In a world a text has an outcome, whatever is defined before it is read.
 pub fn an_outcome()
-    ensures { (files : List ℕ → Option (List ℕ)) (levels : ℕ) (listed : Listed) (file text : List ℕ)
-        → (outcome : Outcome) × TextItems (AnswersOf files) levels (defined_by listed) file text outcome }
+    ensures { (world : World) (levels : ℕ) (listed : Listed) (file text : List ℕ)
+        → (outcome : Outcome) × TextItems world levels (defined_by listed) file text outcome }
 {}
 
 /// A text that isn't expanded again is one whose dollars are doubled: whatever names stand for, it expands to what it came to.
@@ -31,17 +32,18 @@ pub fn doubled_texts_expand_to_themselves()
 
 /// What `read_makefile` says that it answers is that one outcome, unless memory ran out.
 pub fn the_outcome_is_given()
-    ensures { (files : List ℕ → Option (List ℕ)) (levels : ℕ) (given : Defined) (file text : List ℕ)
+    ensures { (world : World) (levels : ℕ) (given : Defined) (file text : List ℕ)
         (result : Result (Vec Item Global) ReadFault) (outcome : Outcome)
-        → GivesItems result (TextItems (AnswersOf files) levels given file text)
-        → TextItems (AnswersOf files) levels given file text outcome
+        → GivesItems result (TextItems world levels given file text)
+        → TextItems world levels given file text outcome
         → GivesItems result (λ told. told ≡ outcome) }
 {}
 
 /// A makefile that is printed from items that are plain in its language is read back as these, whatever other files hold
-/// and is defined, where no text is fixed. In the wide profile no rule has a second `:` or defines a macro.
+/// and is defined, where no text is fixed. In the wide profile no rule has a second `:`, defines a macro,
+/// or has a reference among its targets.
 pub fn printed_items_are_read_back()
-    ensures { (files : List ℕ → Option (List ℕ)) (levels : ℕ) (given : Defined) (file : List ℕ) (items : List PlainItem)
+    ensures { (world : World) (levels : ℕ) (given : Defined) (file : List ℕ) (items : List PlainItem)
         → NoneFixed given → ArePlain given.language items → ArePlainRules given.language items
-        → TextItems (AnswersOf files) levels given file (printed items) (Ok (items_on file 1 items)) }
+        → TextItems world levels given file (printed items) (Ok (items_on file 1 items)) }
 {}

@@ -8,10 +8,13 @@ mod includes;
 pub mod laws;
 mod makefile;
 mod names;
+mod output;
 mod refuse;
 mod rule;
+mod special_rule;
 mod static_rule;
 mod stem;
+mod unmade;
 
 pub use includes::Includes;
 pub use makefile::{MAX_INCLUDE_DEPTH, read_makefile};

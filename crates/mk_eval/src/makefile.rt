@@ -1,16 +1,18 @@
 //! Evaluates a whole makefile, with the files that it includes, in one pass.
-ghost use Rattle.std.specs.Prelude.{◌≡◌, ℕ, List, [], Option, IfOk};
+ghost use Rattle.std.specs.Prelude.{◌≡◌, [], IfOk};
 ghost use Rattle.byte_strings.specs.Blanks.{words};
 ghost use Rattle.mk_macros.specs.Ranks.{defined_by};
 ghost use Rattle.mk_reader.specs.Form.{refusal};
 ghost use Rattle.mk_reader.specs.declared.fault.Cause.TheVariants.{IncludeMissing};
 ghost use Rattle.mk_reader.specs.declared.item.Statement.TheVariants as statement;
-ghost use Rattle.mk_eval.specs.Makefile.{depth, behind, AnswersOf, GivesItems, InOrder, StatementItems, IncludedItems, TextItems, missing_items};
+ghost use Rattle.mk_eval.specs.Output.{World};
+ghost use Rattle.mk_eval.specs.Makefile.{depth, behind, GivesItems, InOrder, StatementItems, IncludedItems, TextItems, missing_items};
 
 use crate::definition::{evaluate_definition, evaluate_item};
 use crate::includes::Includes;
 use crate::names::names_on;
 use crate::refuse::refuse;
+use crate::unmade::told_in;
 use byte_strings::{ByteString, next_word};
 use mk_macros::Macros;
 use mk_reader::{Cause, IncludeLine, Item, ReadFault, Statement, statements_of};
@@ -47,13 +49,18 @@ fn evaluate_text<I: Includes>(
     macros: &mut Macros,
     includes: &mut I,
 ) -> Result<Vec<Item>, ReadFault>
-    ensures items { (files : List ℕ → Option (List ℕ)) → I.allows includes.new files
-        → GivesItems result (TextItems (AnswersOf files) levels (defined_by macros.old) file.now text.now) }
+    ensures items { (world : World) → I.allows includes.new world
+        → GivesItems result (TextItems world levels (defined_by macros.old) file.now text.now) }
     ensures defined { IfOk result (λ items. defined_by macros.new ≡ behind (defined_by macros.old) items.items) }
-    ensures grows { (files : List ℕ → Option (List ℕ)) → I.allows includes.new files → I.allows includes.old files }
+    ensures grows { (world : World) → I.allows includes.new world → I.allows includes.old world }
 {
-    let statements = statements_of(alloc, macros.profile(), file, text)?;
-    evaluate_all(alloc, levels, file, statements, macros, includes)
+    let profile = macros.profile();
+    let statements = statements_of(alloc, profile, file, text)?;
+    includes.see(alloc, profile, file, &statements);
+    match evaluate_all(alloc, levels, file, statements, macros, includes) {
+        Ok(items) => Ok(items),
+        Err(fault) => Err(told_in(alloc, profile, file, text, fault)),
+    }
 }
 
 /// Evaluates the statements of a file, one after the other.
@@ -66,11 +73,11 @@ fn evaluate_all<I: Includes>(
     macros: &mut Macros,
     includes: &mut I,
 ) -> Result<Vec<Item>, ReadFault>
-    ensures items { (files : List ℕ → Option (List ℕ)) → I.allows includes.new files
-        → GivesItems result (InOrder behind (StatementItems (IncludedItems (AnswersOf files) levels file.now) file.now)
+    ensures items { (world : World) → I.allows includes.new world
+        → GivesItems result (InOrder behind (StatementItems world (IncludedItems world levels file.now) file.now)
         (defined_by macros.old) statements.items) }
     ensures defined { IfOk result (λ items. defined_by macros.new ≡ behind (defined_by macros.old) items.items) }
-    ensures grows { (files : List ℕ → Option (List ℕ)) → I.allows includes.new files → I.allows includes.old files }
+    ensures grows { (world : World) → I.allows includes.new world → I.allows includes.old world }
 {
     let mut items = Vec::new(alloc);
     for statement in statements {
@@ -80,7 +87,7 @@ fn evaluate_all<I: Includes>(
                 items.append(&mut given)?;
             }
             Statement::Definition(line) => {
-                let mut defined = evaluate_definition(alloc, line, macros)?;
+                let mut defined = evaluate_definition(alloc, line, macros, includes)?;
                 items.append(&mut defined)?;
             }
             Statement::Include(include) => {
@@ -103,11 +110,11 @@ fn evaluate_line<I: Includes>(
     macros: &mut Macros,
     includes: &mut I,
 ) -> Result<Vec<Item>, ReadFault>
-    ensures items { (files : List ℕ → Option (List ℕ)) → I.allows includes.new files
-        → GivesItems result (StatementItems (IncludedItems (AnswersOf files) levels file.now) file.now
+    ensures items { (world : World) → I.allows includes.new world
+        → GivesItems result (StatementItems world (IncludedItems world levels file.now) file.now
         (defined_by macros.old) (statement.Include include.now)) }
     ensures defined { IfOk result (λ items. defined_by macros.new ≡ behind (defined_by macros.old) items.items) }
-    ensures grows { (files : List ℕ → Option (List ℕ)) → I.allows includes.new files → I.allows includes.old files }
+    ensures grows { (world : World) → I.allows includes.new world → I.allows includes.old world }
 {
     let names = names_on(alloc, file, include, macros)?;
     evaluate_each(
@@ -132,11 +139,11 @@ fn evaluate_each<I: Includes>(
     macros: &mut Macros,
     includes: &mut I,
 ) -> Result<Vec<Item>, ReadFault>
-    ensures items { (files : List ℕ → Option (List ℕ)) → I.allows includes.new files
-        → GivesItems result (InOrder behind (IncludedItems (AnswersOf files) levels file.now include.now)
+    ensures items { (world : World) → I.allows includes.new world
+        → GivesItems result (InOrder behind (IncludedItems world levels file.now include.now)
         (defined_by macros.old) (words names.now)) }
     ensures defined { IfOk result (λ items. defined_by macros.new ≡ behind (defined_by macros.old) items.items) }
-    ensures grows { (files : List ℕ → Option (List ℕ)) → I.allows includes.new files → I.allows includes.old files }
+    ensures grows { (world : World) → I.allows includes.new world → I.allows includes.old world }
 {
     let mut items = Vec::new(alloc);
     let mut rest = names;
@@ -159,10 +166,10 @@ fn evaluate_included<I: Includes>(
     macros: &mut Macros,
     includes: &mut I,
 ) -> Result<Vec<Item>, ReadFault>
-    ensures items { (files : List ℕ → Option (List ℕ)) → I.allows includes.new files
-        → GivesItems result (IncludedItems (AnswersOf files) levels file.now include.now (defined_by macros.old) name.now) }
+    ensures items { (world : World) → I.allows includes.new world
+        → GivesItems result (IncludedItems world levels file.now include.now (defined_by macros.old) name.now) }
     ensures defined { IfOk result (λ items. defined_by macros.new ≡ behind (defined_by macros.old) items.items) }
-    ensures grows { (files : List ℕ → Option (List ℕ)) → I.allows includes.new files → I.allows includes.old files }
+    ensures grows { (world : World) → I.allows includes.new world → I.allows includes.old world }
 {
     if levels == 0 {
         return Err(refuse(alloc, file, include.line, Cause::IncludeDepth));
@@ -177,7 +184,7 @@ fn evaluate_included<I: Includes>(
 ///
 /// `file` is the name that items and faults give for the text itself, and `macros` has what is defined before it is read,
 /// and its language; afterwards it has what counts for a text behind it. Of several faults the first in the order of reading
-/// is answered, and an `Err` gives no items. So it is for any contents that agree with what was answered.
+/// is answered, and an `Err` gives no items. So it is in any world that agrees with what was answered.
 pub fn read_makefile<I: Includes>(
     alloc: Global,
     macros: &mut Macros,
@@ -185,10 +192,10 @@ pub fn read_makefile<I: Includes>(
     bytes: &[u8],
     includes: &mut I,
 ) -> Result<Vec<Item>, ReadFault>
-    ensures items { (files : List ℕ → Option (List ℕ)) → I.allows includes.new files
-        → GivesItems result (TextItems (AnswersOf files) depth (defined_by macros.old) file.now bytes.now) }
+    ensures items { (world : World) → I.allows includes.new world
+        → GivesItems result (TextItems world depth (defined_by macros.old) file.now bytes.now) }
     ensures defined { IfOk result (λ items. defined_by macros.new ≡ behind (defined_by macros.old) items.items) }
-    ensures grows { (files : List ℕ → Option (List ℕ)) → I.allows includes.new files → I.allows includes.old files }
+    ensures grows { (world : World) → I.allows includes.new world → I.allows includes.old world }
 {
     evaluate_text(alloc, MAX_INCLUDE_DEPTH, file, bytes, macros, includes)
 }

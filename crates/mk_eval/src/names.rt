@@ -11,7 +11,7 @@ use mk_macros::{Dynamic, Macros, Rank};
 use mk_reader::{IncludeLine, Item, ReadFault};
 use std::alloc::{AllocError, Global};
 
-fn has_dollar(text: &[u8]) -> bool
+pub fn has_dollar(text: &[u8]) -> bool
     ensures { result ≡ list_any is_dollar text.now }
 {
     text.contains(&b'$')

@@ -10,6 +10,7 @@ ghost use Rattle.mk_reader.specs.declared.item.Item.TheVariants as item;
 
 use crate::definition::take;
 use crate::refuse::refuse;
+use crate::special_rule::plain_items;
 use crate::static_rule::static_items;
 use byte_strings::next_word;
 use mk_macros::Macros;
@@ -61,5 +62,5 @@ pub fn evaluate_rule(alloc: Global, rule: Rule, macros: &mut Macros) -> Result<V
     if let Some((left, right)) = split_outside(rule.prerequisites.as_slice(), b':') {
         return static_items(alloc, &rule, left, right, macros);
     }
-    Ok(take(alloc, Item::Rule(rule), macros)?)
+    plain_items(alloc, rule, macros)
 }

@@ -17,6 +17,7 @@ use Rattle.mk_verdict.specs.declared.verdict.Reason.{Reason}
 use Rattle.mk_verdict.specs.declared.verdict.Target.{Target}
 use Rattle.mk_profile.specs.Profile.{is_wide}
 use Rattle.mk_profile.specs.declared.profile.Profile.{Profile}
+use Rattle.mk_reader.specs.Text.{is_empty}
 use Rattle.mk_rule_lines.specs.Explicit.{explicit_of as explicit_names}
 use Rattle.mk_rule_lines.specs.Rules.{suffixes_of}
 use Rattle.mk_rule_lines.specs.declared.rule_line.RuleLine.{RuleLine}
@@ -29,7 +30,7 @@ use Rattle.mk_plan.specs.Recipe.{AreExpanded, AreNames, AreLinesOf}
 use Rattle.mk_plan.specs.Target.{Seen, seen_at, seen_hard, seen_of, IsTargetOf}
 use Rattle.mk_plan.specs.Passage.{Passage, to_make, finished, commands_of}
 use Rattle.mk_plan.specs.Passing.{Passes, is_to_be_run, is_up_to_date, has_no_recipe, is_left}
-use Rattle.mk_plan.specs.Words.{in_wide, source_names, written_of}
+use Rattle.mk_plan.specs.Words.{in_wide, implied_names, written_of}
 use Rattle.mk_plan.specs.Why.{IsWhy, judged_names, words_by, gone_number}
 use Rattle.mk_plan.specs.declared.why.Why.{Why}
 
@@ -43,7 +44,7 @@ pub record AreAlike (a b : Graph) : Type 0 where
   pub stem : (n : ℕ) → stem_of a n ≡ stem_of b n
   pub source : (n : ℕ) → source_of a n ≡ source_of b n
   pub explicit : (n : ℕ) → explicit_of a n ≡ explicit_of b n
-  pub sources : (n : ℕ) → source_names a n ≡ source_names b n
+  pub sources : (n : ℕ) → implied_names a n ≡ implied_names b n
   pub implicit : (n : ℕ) → is_implicit a n ≡ is_implicit b n
   pub recipe : (n : ℕ) → recipe_of a n ≡ recipe_of b n
   pub beside : (n : ℕ) → recipe_names a n ≡ recipe_names b n
@@ -104,23 +105,23 @@ module _ (a b : Graph) (same : AreAlike a b) (marks : List Bool) (n : ℕ) where
   written_in : written_of a n ≡ written_of b n
   written_in =
       ap (λ s. s ++ explicit_names a.lines.items (name_at a.names n)) (same.sources n)
-      ∙ ap (λ lines. source_names b n ++ explicit_names lines (name_at a.names n)) same.lines
-      ∙ ap (λ ns. source_names b n ++ explicit_names b.lines.items (name_at ns n)) same.names
+      ∙ ap (λ lines. implied_names b n ++ explicit_names lines (name_at a.names n)) same.lines
+      ∙ ap (λ ns. implied_names b n ++ explicit_names b.lines.items (name_at ns n)) same.names
 
   wide_in : {A : Type 0} (v w : A) → v ≡ w → in_wide (language_of a) v ≡ in_wide (language_of b) w
   wide_in v w e = ap (λ (d : Defined). in_wide d.language v) same.defined ∙ ap (in_wide (language_of b)) e
 
   -- what `$<` and `$*` stand for is the same choice of the same values
-  abbrev source_from : Profile → (implicit : Bool) (beside once : List (List ℕ)) (source : List ℕ) → List ℕ
-  source_from profile implicit beside once source = if is_wide profile && not implicit then first_of (beside ++ once) else source
+  abbrev source_from : Profile → (sources beside once : List (List ℕ)) (source : List ℕ) → List ℕ
+  source_from profile sources beside once source = if is_wide profile && is_empty sources then first_of (beside ++ once) else source
 
   source_alike : source_word a n ≡ source_word b n
   source_alike =
-      ap (λ (d : Defined). source_from d.language (is_implicit a n) (recipe_names a n) (once_of a n) (source_of a n)) same.defined
-      ∙ ap (λ i. source_from (language_of b) i (recipe_names a n) (once_of a n) (source_of a n)) (same.implicit n)
-      ∙ ap (λ ns. source_from (language_of b) (is_implicit b n) ns (once_of a n) (source_of a n)) (same.beside n)
-      ∙ ap (λ ns. source_from (language_of b) (is_implicit b n) (recipe_names b n) ns (source_of a n)) once_in
-      ∙ ap (source_from (language_of b) (is_implicit b n) (recipe_names b n) (once_of b n)) (same.source n)
+      ap (λ (d : Defined). source_from d.language (implied_names a n) (recipe_names a n) (once_of a n) (source_of a n)) same.defined
+      ∙ ap (λ ns. source_from (language_of b) ns (recipe_names a n) (once_of a n) (source_of a n)) (same.sources n)
+      ∙ ap (λ ns. source_from (language_of b) (implied_names b n) ns (once_of a n) (source_of a n)) (same.beside n)
+      ∙ ap (λ ns. source_from (language_of b) (implied_names b n) (recipe_names b n) ns (source_of a n)) once_in
+      ∙ ap (source_from (language_of b) (implied_names b n) (recipe_names b n) (once_of b n)) (same.source n)
 
   abbrev stem_from : Profile → (implicit : Bool) (lines : List RuleLine) (name stem : List ℕ) → List ℕ
   stem_from profile implicit lines name stem = if is_wide profile && not implicit then stem_left (suffixes_of lines) name else stem

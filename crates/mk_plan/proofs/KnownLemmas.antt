@@ -1,20 +1,23 @@
 -- The node of a name has what is known of the name.
 use Rattle.std.specs.Prelude.{◌++◌, slice_get, option_map, option_and_then, option_to_list, is_some, unwrap_or}
 use Rattle.std.specs.Option.{option_map_or}
-use Rattle.std.proofs.Common.{◌≡◌, ◌∙◌, ◌<◌, ℕ, List, [], length, map, Option, Some, None, inl, inr, refl, sym, ap, arith}
+use Rattle.std.proofs.Common.{◌≡◌, ◌∙◌, ◌<◌, ℕ, List, [], length, map, take, Option, Some, None, inl, inr, refl, sym, ap, arith}
+use Rattle.std.proofs.lemmas.List.{take-map}
 use Rattle.std.proofs.lemmas.Option.{slice_get_cases}
 use Rattle.mk_graph.specs.Edges.{row}
 use Rattle.mk_graph.specs.Numbering.{all_added, name_at}
 use Rattle.mk_rule_lines.specs.Explicit.{names_in, explicit_of as names_written}
 use Rattle.mk_rules.specs.Graph.{IsNode, IsGraph, judged}
-use Rattle.mk_rules.specs.Node.{source_by, source_in, explicit_in}
-use Rattle.mk_rules.specs.Prerequisites.{Inputs, implicit_source, source_names as names_of_source, recipe_of as rule_of, hard_of, hidden_in, distinct}
+use Rattle.mk_rules.specs.Node.{source_by, source_in, explicit_in, implied_in}
+use Rattle.mk_rules.specs.Prerequisites.{Inputs, implicit_source, made_from, recipe_of as rule_of, hard_of, hidden_in, distinct}
 use Rattle.mk_rules.specs.declared.graph.Node.{Node}
 use Rattle.mk_rules.specs.declared.graph.Graph.{Graph}
 use Rattle.mk_plan.specs.Known.{IsNodeOf}
 use Rattle.st_records.specs.declared.record.Entry.{Entry}
 use Rattle.mk_plan.specs.Nodes.{entry_of}
-use Rattle.mk_plan.specs.Words.{source_names}
+use Rattle.mk_plan.specs.Words.{implied_names}
+use Rattle.mk_graph.proofs.NameLemmas.{all_added-append}
+use Rattle.mk_rules.proofs.FreshLemmas.{front_added}
 
 or_map : {A B : Type 0} (f : A → B) (o : Option A) (d : B) → unwrap_or (option_map f o) d ≡ option_map_or f o d
 or_map f None d = refl
@@ -31,8 +34,12 @@ module _ (inputs : Inputs) (named : List (List ℕ)) (graph : Graph) (is : IsGra
       let hard : List ℕ = row graph.hard n in
       let known : IsNode inputs graph.names hard name node = is.node n node at in
       let hard_is : map (name_at graph.names) hard ≡ hard_of inputs name = is.hard.1 n (omega (arith, is.nodes)) in
-      let sources_are : source_names graph n ≡ names_of_source (implicit_source inputs name)
-      = ap (λ o. option_to_list (option_map (name_at graph.names) (source_in o hard))) at ∙ ap option_to_list known.source in
+      let made : List (List ℕ) = made_from (implicit_source inputs name) in
+      let front : take (length (distinct made)) (hard_of inputs name) ≡ distinct made
+      = ap (take (length (distinct made))) (all_added-append [] made (names_written inputs.lines name)) ∙ front_added (distinct made) (names_written inputs.lines name) in
+      let implied_are : implied_names graph n ≡ distinct made
+      = ap (λ o. map (name_at graph.names) (implied_in o hard)) at ∙ sym (take-map (name_at graph.names) node.implied hard)
+      ∙ ap (take node.implied) hard_is ∙ ap (λ k. take k (hard_of inputs name)) known.implied ∙ front in
       let entry_is : entry_of graph n ≡ inputs.entries name = ap (λ (f : List ℕ → Option Entry). f name) is.entries in
       record {
         stamp = ap (option_and_then (λ (m : Node). m.stamp)) at ∙ known.stamp;
@@ -49,8 +56,7 @@ module _ (inputs : Inputs) (named : List (List ℕ)) (graph : Graph) (is : IsGra
             ∙ ap (λ lines. option_map_or names_in (option_and_then (slice_get lines) (rule_of inputs name)) []) is.lines;
         source =
             ap (λ o. option_map_or (name_at graph.names) (source_in o hard) []) at
-            ∙ sym (or_map (name_at graph.names) (source_by node.stem hard) []) ∙ ap (λ o. unwrap_or o []) known.source
-            ∙ or_map (λ s. s.name) (implicit_source inputs name) [];
+            ∙ sym (or_map (name_at graph.names) (source_by node.implied hard) []) ∙ ap (λ o. unwrap_or o []) known.source;
         recipe =
             ap (λ o. option_map (λ l. l.recipe) (option_and_then (slice_get graph.lines.items) (option_and_then (λ (m : Node). m.recipe) o))) at
             ∙ ap (λ o. option_map (λ l. l.recipe) (option_and_then (slice_get graph.lines.items) o)) known.recipe
@@ -60,10 +66,10 @@ module _ (inputs : Inputs) (named : List (List ℕ)) (graph : Graph) (is : IsGra
             ap (λ hs. all_added (distinct hs) (hidden_in (entry_of graph n))) hard_is
             ∙ ap (λ e. all_added (distinct (hard_of inputs name)) (hidden_in e)) entry_is;
         explicit = ap (λ o. map (name_at graph.names) (explicit_in o hard)) at ∙ known.explicit;
-        sources = sources_are;
+        sources = implied_are;
         written =
-            ap (λ s. s ++ names_written graph.lines.items name) sources_are
-            ∙ ap (λ lines. names_of_source (implicit_source inputs name) ++ names_written lines name) is.lines;
+            ap (λ s. s ++ names_written graph.lines.items name) implied_are
+            ∙ ap (λ lines. distinct made ++ names_written lines name) is.lines;
         prerequisites =
             ap (λ o. map (option_map (name_at graph.names)) (judged hard (option_map_or (λ (m : Node). m.hidden.items) o []))) at
             ∙ known.prerequisites;

@@ -14,15 +14,15 @@ use Rattle.mk_graph.proofs.CycleLemmas.{closed_row}
 use Rattle.mk_macros.specs.Ranks.{defined_by}
 use Rattle.mk_rule_lines.specs.Explicit.{names_in}
 use Rattle.mk_rules.specs.Graph.{IsGraph, is_numbered, judged, judged_name}
-use Rattle.mk_rules.specs.Node.{source_in, explicit_in}
-use Rattle.mk_rules.specs.Prerequisites.{Inputs, hard_of, judged_of, implicit_source, source_names as names_of_source, recipe_of as rule_of, explicit_names}
+use Rattle.mk_rules.specs.Node.{source_in, explicit_in, implied_in}
+use Rattle.mk_rules.specs.Prerequisites.{Inputs, hard_of, judged_of, distinct, implicit_source, made_from, source_name, recipe_of as rule_of, explicit_names}
 use Rattle.mk_rules.specs.declared.graph.Node.{Node}
 use Rattle.mk_rules.specs.declared.graph.Graph.{Graph}
 use Rattle.mk_rules.proofs.OneGraphLemmas.{one_names, one_count, one_hard, one_dropped, same_hidden}
 use Rattle.mk_plan.specs.Nodes.{node_at, stamp_of, hidden_of, stem_of, source_of, explicit_of, recipe_of}
 use Rattle.mk_plan.specs.ExplicitWords.{is_implicit, recipe_names}
 use Rattle.mk_plan.specs.Known.{IsNodeOf}
-use Rattle.mk_plan.specs.Words.{source_names}
+use Rattle.mk_plan.specs.Words.{implied_names}
 use Rattle.mk_plan.proofs.KnownLemmas.{node_of_name}
 use Rattle.mk_plan.proofs.AlikeLemmas.{AreAlike}
 use Rattle.st_records.specs.declared.record.Entry.{Entry}
@@ -63,8 +63,8 @@ module _ (graph : Graph) (n : ℕ) (past : length graph.nodes.items ≤ n) where
       ap (λ o. map (name_at graph.names) (explicit_in o (row graph.hard n))) none
       ∙ ap (map (name_at graph.names)) (get_or_past graph.hard n [] (omega (arith, graph.hard_rows)))
 
-  no_sources : source_names graph n ≡ []
-  no_sources = ap (λ o. option_to_list (option_map (name_at graph.names) (source_in o (row graph.hard n)))) none
+  none_implied : implied_names graph n ≡ []
+  none_implied = ap (λ o. map (name_at graph.names) (implied_in o (row graph.hard n))) none
 
   no_recipe : recipe_of graph n ≡ None
   no_recipe = ap (λ o. option_map (λ l. l.recipe) (option_and_then (slice_get graph.lines.items) (option_and_then (λ (node : Node). node.recipe) o))) none
@@ -166,14 +166,14 @@ module _ (inputs : Inputs) (named : List (List ℕ)) (a b : Graph) (is_a : IsGra
         view_once (length a.nodes.items) (stem_of a) (stem_of b) (λ n. option_map_or (λ s. s.stem) (implicit_source inputs (name_at a.names n)) []) []
         (λ n inside. (known_a n inside).stem) (λ n inside. (known_b n inside).stem) (no_stem a) (λ n past. no_stem b n (past_b n past));
     source =
-        view_once (length a.nodes.items) (source_of a) (source_of b) (λ n. option_map_or (λ s. s.name) (implicit_source inputs (name_at a.names n)) []) []
+        view_once (length a.nodes.items) (source_of a) (source_of b) (λ n. unwrap_or (source_name (implicit_source inputs (name_at a.names n))) []) []
         (λ n inside. (known_a n inside).source) (λ n inside. (known_b n inside).source) (no_source a) (λ n past. no_source b n (past_b n past));
     explicit =
         view_once (length a.nodes.items) (explicit_of a) (explicit_of b) (λ n. explicit_names inputs (name_at a.names n)) []
         (λ n inside. (known_a n inside).explicit) (λ n inside. (known_b n inside).explicit) (no_explicit a) (λ n past. no_explicit b n (past_b n past));
     sources =
-        view_once (length a.nodes.items) (source_names a) (source_names b) (λ n. names_of_source (implicit_source inputs (name_at a.names n))) []
-        (λ n inside. (known_a n inside).sources) (λ n inside. (known_b n inside).sources) (no_sources a) (λ n past. no_sources b n (past_b n past));
+        view_once (length a.nodes.items) (implied_names a) (implied_names b) (λ n. distinct (made_from (implicit_source inputs (name_at a.names n)))) []
+        (λ n inside. (known_a n inside).sources) (λ n inside. (known_b n inside).sources) (none_implied a) (λ n past. none_implied b n (past_b n past));
     implicit =
         view_once (length a.nodes.items) (is_implicit a) (is_implicit b) (λ n. is_some (implicit_source inputs (name_at a.names n))) false
         (λ n inside. (known_a n inside).implicit) (λ n inside. (known_b n inside).implicit) (not_implicit a) (λ n past. not_implicit b n (past_b n past));

@@ -1,12 +1,16 @@
 -- The lines of a recipe that were expanded so far.
-use Rattle.std.proofs.Common.{◌≡◌, ◌+◌, ℕ, List, [], ◌∷◌, ◌++◌, drop, inl, inr, sym, subst}
+use Rattle.std.proofs.Common.{◌≡◌, ◌+◌, ℕ, List, [], ◌∷◌, ◌++◌, drop, Option, inl, inr, sym, subst}
 use Rattle.std.proofs.lemmas.List.{append-nil}
 use Rattle.mk_macros.specs.Expansion.{Meanings, ExpandsToFault}
 use Rattle.mk_macros.specs.declared.fault.MacroFault.{MacroFault}
 use Rattle.mk_macros.specs.declared.fault.MacroFault.TheVariants as faults
 use Rattle.mk_reader.specs.declared.item.RecipeLine.{RecipeLine}
 use Rattle.mk_recipe.specs.declared.line.Line.{Line}
-use Rattle.mk_plan.specs.Recipe.{IsExpandedLine, AreExpanded, HasFirstFault, IsRecipeFault}
+use Rattle.mk_rule_lines.specs.declared.fault.TextFault.{TextFault}
+use Rattle.mk_rule_lines.specs.declared.fault.TextPlace.{TextPlace}
+use Rattle.mk_plan.specs.Recipe.{IsExpandedLine, AreExpanded, IsLineFault, HasFirstFault, IsRecipeFault, IsToldAt, place_in}
+use Rattle.mk_plan.specs.declared.fault.RecipeFault.{RecipeFault}
+use Rattle.mk_plan.specs.declared.fault.RecipeFault.TheVariants as fault
 
 -- these lines are what the first ones give: with what the others give they are what all give
 abbrev pub ExpandedSoFar : (meanings : Meanings) (recipe : List RecipeLine) (i : ℕ) (lines : List Line) → Type 0
@@ -18,21 +22,30 @@ pub expanded_all : (meanings : Meanings) (recipe : List RecipeLine) (i : ℕ) (l
 expanded_all meanings recipe i lines none before =
     subst (AreExpanded meanings recipe) (append-nil lines) (before [] (subst (λ left. AreExpanded meanings left []) (sym none) tt))
 
+-- the fault of a line's expansion, told of the place of the line, is one of the line
+pub told_at : (meanings : Meanings) (file : Option (List ℕ)) (raw : RecipeLine) (place : Option TextPlace) (f : MacroFault) (told : RecipeFault) →
+    place ≡ place_in file raw.line → IsToldAt place f told → ExpandsToFault meanings raw.text f → IsLineFault meanings file raw told
+told_at meanings file raw place faults.OutOfMemory told here is meets = subst (IsLineFault meanings file raw) (sym is) tt
+told_at meanings file raw place (faults.Loop name) told here is meets = subst (IsLineFault meanings file raw) (sym is) (record { cause = meets; place = here })
+told_at meanings file raw place faults.Unclosed told here is meets = subst (IsLineFault meanings file raw) (sym is) (record { cause = meets; place = here })
+told_at meanings file raw place faults.NestedReference told here is meets = subst (IsLineFault meanings file raw) (sym is) (record { cause = meets; place = here })
+told_at meanings file raw place faults.TooLong told here is meets = subst (IsLineFault meanings file raw) (sym is) (record { cause = meets; place = here })
+
 -- the first fault of the lines that are left is that of all
-abbrev pub NoFaultSoFar : (meanings : Meanings) (recipe : List RecipeLine) (i : ℕ) → Type 0
-NoFaultSoFar meanings recipe i = (f : MacroFault) → HasFirstFault meanings (drop i recipe) f → HasFirstFault meanings recipe f
+abbrev pub NoFaultSoFar : (meanings : Meanings) (file : Option (List ℕ)) (recipe : List RecipeLine) (i : ℕ) → Type 0
+NoFaultSoFar meanings file recipe i = (f : TextFault) → HasFirstFault meanings file (drop i recipe) f → HasFirstFault meanings file recipe f
 
 -- a line more gives one
-pub no_fault_more : (meanings : Meanings) (recipe : List RecipeLine) (i : ℕ) (raw : RecipeLine) (line : Line) →
-    drop i recipe ≡ raw ∷ drop (i + 1) recipe → IsExpandedLine meanings raw line → NoFaultSoFar meanings recipe i →
-    NoFaultSoFar meanings recipe (i + 1)
-no_fault_more meanings recipe i raw line here is before = λ f behind.
-    before f (subst (λ left. HasFirstFault meanings left f) (sym here) (inr (line, is, behind)))
+pub no_fault_more : (meanings : Meanings) (file : Option (List ℕ)) (recipe : List RecipeLine) (i : ℕ) (raw : RecipeLine) (line : Line) →
+    drop i recipe ≡ raw ∷ drop (i + 1) recipe → IsExpandedLine meanings raw line → NoFaultSoFar meanings file recipe i →
+    NoFaultSoFar meanings file recipe (i + 1)
+no_fault_more meanings file recipe i raw line here is before = λ f behind.
+    before f (subst (λ left. HasFirstFault meanings file left f) (sym here) (inr (line, is, behind)))
 
 -- the line that is next has a fault
-pub fault_here : (meanings : Meanings) (recipe : List RecipeLine) (i : ℕ) (raw : RecipeLine) (f : MacroFault) →
-    drop i recipe ≡ raw ∷ drop (i + 1) recipe → ExpandsToFault meanings raw.text f → NoFaultSoFar meanings recipe i →
-    IsRecipeFault meanings recipe f
-fault_here meanings recipe i raw faults.OutOfMemory here has before = tt
-fault_here meanings recipe i raw f here has before =
-    before f (subst (λ left. HasFirstFault meanings left f) (sym here) (inl has))
+pub fault_here : (meanings : Meanings) (file : Option (List ℕ)) (recipe : List RecipeLine) (i : ℕ) (raw : RecipeLine) (f : RecipeFault) →
+    drop i recipe ≡ raw ∷ drop (i + 1) recipe → IsLineFault meanings file raw f → NoFaultSoFar meanings file recipe i →
+    IsRecipeFault meanings file recipe f
+fault_here meanings file recipe i raw fault.OutOfMemory here has before = tt
+fault_here meanings file recipe i raw (fault.Macro f) here has before =
+    before f (subst (λ left. HasFirstFault meanings file left f) (sym here) (inl has))

@@ -11,7 +11,9 @@ use Rattle.mk_profile.specs.declared.profile.Profile.{Profile}
 use Rattle.mk_rule_lines.specs.Explicit.{names_in}
 use Rattle.mk_rule_lines.specs.Rules.{suffixes_of}
 use Rattle.mk_rules.specs.declared.graph.Graph.{Graph}
+use Rattle.mk_reader.specs.Text.{is_empty}
 use Rattle.mk_plan.specs.Nodes.{node_at, source_of, stem_of}
+use Rattle.mk_plan.specs.Words.{implied_names}
 
 -- the language of the makefile
 abbrev pub language_of : Graph → Profile
@@ -41,9 +43,13 @@ recipe_names graph n = option_map_or names_in (option_and_then (slice_get graph.
 abbrev pub first_prerequisite : Graph → (n : ℕ) → List ℕ
 first_prerequisite graph n = first_of (recipe_names graph n ++ once_of graph n)
 
+-- no implicit rule gives it a source, in the wide profile
+abbrev pub lacks_source : Graph → (n : ℕ) → Bool
+lacks_source graph n = is_wide (language_of graph) && is_empty (implied_names graph n)
+
 -- what `$<` stands for in its recipe
 abbrev pub source_word : Graph → (n : ℕ) → List ℕ
-source_word graph n = if has_words graph n then first_prerequisite graph n else source_of graph n
+source_word graph n = if lacks_source graph n then first_prerequisite graph n else source_of graph n
 
 abbrev pub unless_empty : List ℕ → Option (List ℕ)
 unless_empty [] = None

@@ -1,16 +1,16 @@
 -- What a graph has under a number, by what the rule lines, the files and the state say of the name with this number.
-use Rattle.std.specs.Prelude.{◌≡◌, ℕ, List, [], ◌++◌, map, is_some, option_map, option_and_then, slice_get}
+use Rattle.std.specs.Prelude.{◌≡◌, ℕ, List, [], ◌++◌, map, is_some, option_map, option_and_then, unwrap_or, slice_get}
 use Rattle.std.specs.Option.{option_map_or}
 use Rattle.mk_graph.specs.Edges.{row}
 use Rattle.mk_graph.specs.Numbering.{all_added, name_at}
 use Rattle.mk_rule_lines.specs.Explicit.{names_in, explicit_of as names_written}
 use Rattle.mk_rules.specs.Graph.{judged, judged_name}
-use Rattle.mk_rules.specs.Prerequisites.{Inputs, implicit_source, source_names as names_of_source, recipe_of as rule_of, distinct, hard_of, hidden_of as hidden_names, judged_of, explicit_names}
+use Rattle.mk_rules.specs.Prerequisites.{Inputs, implicit_source, made_from, source_name, recipe_of as rule_of, distinct, hard_of, hidden_of as hidden_names, judged_of, explicit_names}
 use Rattle.mk_rules.specs.declared.graph.Graph.{Graph}
 use Rattle.mk_plan.specs.ExplicitWords.{is_implicit, recipe_names}
 use Rattle.mk_plan.specs.Nodes.{stamp_of, entry_of, hidden_of, stem_of, source_of, explicit_of, recipe_of}
 use Rattle.mk_plan.specs.Why.{judged_names}
-use Rattle.mk_plan.specs.Words.{source_names, written_of}
+use Rattle.mk_plan.specs.Words.{implied_names, written_of}
 
 -- node n is the name's: its file's time, its entry, the stem and the source of the implicit rule that makes it, if one does, the
 -- recipe of the rule that does, and the prerequisites beside it, and its prerequisites, by name as they are recorded, as they are
@@ -20,14 +20,14 @@ pub record IsNodeOf (inputs : Inputs) (graph : Graph) (n : ℕ) (name : List ℕ
   pub entry : entry_of graph n ≡ inputs.entries name
   pub stem : stem_of graph n ≡ option_map_or (λ s. s.stem) (implicit_source inputs name) []
   pub implicit : is_implicit graph n ≡ is_some (implicit_source inputs name)
-  pub source : source_of graph n ≡ option_map_or (λ s. s.name) (implicit_source inputs name) []
+  pub source : source_of graph n ≡ unwrap_or (source_name (implicit_source inputs name)) []
   pub recipe : recipe_of graph n ≡ option_map (λ l. l.recipe) (option_and_then (slice_get inputs.lines) (rule_of inputs name))
   pub beside : recipe_names graph n ≡ option_map_or names_in (option_and_then (slice_get inputs.lines) (rule_of inputs name)) []
   pub hard : map (name_at graph.names) (row graph.hard n) ≡ hard_of inputs name
   pub names : judged_names graph n ≡ all_added (distinct (hard_of inputs name)) (hidden_names inputs name)
   pub explicit : explicit_of graph n ≡ explicit_names inputs name
-  pub sources : source_names graph n ≡ names_of_source (implicit_source inputs name)
-  pub written : written_of graph n ≡ names_of_source (implicit_source inputs name) ++ names_written inputs.lines name
+  pub sources : implied_names graph n ≡ distinct (made_from (implicit_source inputs name))
+  pub written : written_of graph n ≡ distinct (made_from (implicit_source inputs name)) ++ names_written inputs.lines name
   pub prerequisites :
       map (option_map (name_at graph.names)) (judged (row graph.hard n) (hidden_of graph n))
       ≡ map (judged_name inputs (hard_of inputs name)) (judged_of inputs name)

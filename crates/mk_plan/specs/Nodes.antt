@@ -44,6 +44,16 @@ abbrev pub recipe_of : Graph → (n : ℕ) → Option (List RecipeLine)
 recipe_of graph n =
     option_map (λ l. l.recipe) (option_and_then (slice_get graph.lines.items) (option_and_then (λ node. node.recipe) (node_at graph n)))
 
+-- the file that holds that recipe, as it is told
+abbrev pub file_of : Graph → (n : ℕ) → Option (List ℕ)
+file_of graph n =
+    option_and_then (λ l. l.file) (option_and_then (slice_get graph.lines.items) (option_and_then (λ node. node.recipe) (node_at graph n)))
+
+-- the file and the number of the line at this place of that recipe, where the file is told
+abbrev pub line_place : Graph → (n place : ℕ) → Option (List ℕ × ℕ)
+line_place graph n place =
+    option_and_then (λ file. option_map (λ raw. (file, raw.line)) (option_and_then (λ raws. slice_get raws place) (recipe_of graph n))) (file_of graph n)
+
 -- the mark of a node
 abbrev pub is_marked : (marks : List Bool) (n : ℕ) → Bool
 is_marked marks n = slice_index_or marks n false

@@ -3,8 +3,6 @@
 use Rattle.std.specs.Prelude.{◌≡◌, ℕ, Bool, true, false, List, [], ◌∷◌, Some, None}
 use Rattle.std.specs.List.{list_any}
 use Rattle.mk_graph.specs.Numbering.{name_at}
-use Rattle.mk_macros.specs.declared.fault.MacroFault.{MacroFault}
-use Rattle.mk_macros.specs.declared.fault.MacroFault.TheVariants.{OutOfMemory}
 use Rattle.mk_reader.specs.declared.item.RecipeLine.{RecipeLine}
 use Rattle.mk_recipe.specs.declared.line.Line.{Line}
 use Rattle.mk_verdict.specs.Verdict.{IsOutOfDate}
@@ -15,6 +13,8 @@ use Rattle.mk_plan.specs.Passage.{Passage, to_make, finished, is_listed, command
 use Rattle.mk_plan.specs.Recipe.{AreLinesOf, IsFaultOf}
 use Rattle.mk_plan.specs.Target.{IsTargetOf}
 use Rattle.mk_plan.specs.Why.{IsWhy}
+use Rattle.mk_plan.specs.declared.fault.RecipeFault.{RecipeFault}
+use Rattle.mk_plan.specs.declared.fault.RecipeFault.TheVariants as fault
 use Rattle.mk_plan.specs.declared.why.Why.{Why}
 use Rattle.mk_plan.specs.declared.passing.Passed.{Passed}
 use Rattle.mk_plan.specs.declared.passing.Passed.TheVariants as passed
@@ -53,6 +53,7 @@ told_in graph n passed.Left = []
 
 -- the fault is that of the recipe of node n, where the marks are those of the nodes that were remade before it; want of
 -- memory says nothing of them
-abbrev pub IsFaultAt : Graph → (marks : List Bool) → (n : ℕ) → MacroFault → Type 0
-IsFaultAt graph marks n OutOfMemory = Unit {0}
-IsFaultAt graph marks n fault = (recipe : List RecipeLine) × (recipe_of graph n ≡ Some recipe) × IsFaultOf graph marks n recipe fault
+abbrev pub IsFaultAt : Graph → (marks : List Bool) → (n : ℕ) → RecipeFault → Type 0
+IsFaultAt graph marks n fault.OutOfMemory = Unit {0}
+IsFaultAt graph marks n (fault.Macro f) =
+    (recipe : List RecipeLine) × (recipe_of graph n ≡ Some recipe) × IsFaultOf graph marks n recipe (fault.Macro f)

@@ -1,5 +1,5 @@
 -- The lines of a recipe, expanded (make(1S), "Command Lines" and "Dynamic Macros").
-use Rattle.std.specs.Prelude.{◌≡◌, ◌⊎◌, ℕ, Bool, List, [], ◌∷◌, map, option_map}
+use Rattle.std.specs.Prelude.{◌≡◌, ◌⊎◌, ℕ, Bool, List, [], ◌∷◌, Option, None, Some, map, option_map}
 use Rattle.mk_macros.specs.Dynamic.{words_in}
 use Rattle.mk_macros.specs.Expansion.{Meanings, gives, ExpandsTo, ExpandsToFault}
 use Rattle.mk_macros.specs.Ranks.{defined_by, meanings_of}
@@ -8,13 +8,17 @@ use Rattle.mk_macros.specs.declared.dynamic.Dynamic.TheVariants as dynamic
 use Rattle.mk_macros.specs.declared.fault.MacroFault.{MacroFault}
 use Rattle.mk_macros.specs.declared.fault.MacroFault.TheVariants.{OutOfMemory}
 use Rattle.mk_reader.specs.declared.item.RecipeLine.{RecipeLine}
+use Rattle.mk_rule_lines.specs.declared.fault.TextFault.{TextFault}
+use Rattle.mk_rule_lines.specs.declared.fault.TextPlace.{TextPlace}
 use Rattle.mk_recipe.specs.Line.{IsLine}
 use Rattle.mk_recipe.specs.declared.line.Line.{Line}
 use Rattle.mk_rules.specs.declared.graph.Graph.{Graph}
 use Rattle.mk_graph.specs.Edges.{row}
 use Rattle.mk_graph.specs.Numbering.{name_at}
 use Rattle.mk_plan.specs.ExplicitWords.{language_of, once_of, source_word, stem_word}
-use Rattle.mk_plan.specs.Nodes.{AreNewer}
+use Rattle.mk_plan.specs.Nodes.{AreNewer, file_of}
+use Rattle.mk_plan.specs.declared.fault.RecipeFault.{RecipeFault}
+use Rattle.mk_plan.specs.declared.fault.RecipeFault.TheVariants as fault
 use Rattle.mk_plan.specs.declared.words.RecipeWords.{RecipeWords}
 use Rattle.mk_plan.specs.Words.{in_wide, written_of}
 
@@ -31,16 +35,36 @@ AreExpanded meanings [] (line ∷ lines) = ⊥
 AreExpanded meanings (raw ∷ raws) [] = ⊥
 AreExpanded meanings (raw ∷ raws) (line ∷ lines) = IsExpandedLine meanings raw line × AreExpanded meanings raws lines
 
+-- the fault is what the expansion of a text meets
+abbrev pub MeetsFault : (meanings : Meanings) → (text : List ℕ) → MacroFault → Type 0
+MeetsFault meanings text OutOfMemory = ⊥
+MeetsFault meanings text cause = ExpandsToFault meanings text cause
+
+-- the place of a line of this file, where the file is told
+abbrev pub place_in : (file : Option (List ℕ)) → (line : ℕ) → Option TextPlace
+place_in None line = None
+place_in (Some file) line = Some (record { file = file; line = line })
+
+-- the line has the fault, which is told of the line's place
+pub record IsFaultIn (meanings : Meanings) (file : Option (List ℕ)) (raw : RecipeLine) (f : TextFault) : Type 0 where
+  pub cause : MeetsFault meanings raw.text f.cause
+  pub place : f.place ≡ place_in file raw.line
+
+-- so it is of the line; want of memory says nothing of it
+abbrev pub IsLineFault : (meanings : Meanings) → (file : Option (List ℕ)) → RecipeLine → RecipeFault → Type 0
+IsLineFault meanings file raw fault.OutOfMemory = Unit {0}
+IsLineFault meanings file raw (fault.Macro f) = IsFaultIn meanings file raw f
+
 -- the fault is that of the first line that has one: each line before it gives one
-abbrev pub HasFirstFault : (meanings : Meanings) → List RecipeLine → MacroFault → Type 0
-HasFirstFault meanings [] fault = ⊥
-HasFirstFault meanings (raw ∷ raws) fault =
-    ExpandsToFault meanings raw.text fault ⊎ ((line : Line) × IsExpandedLine meanings raw line × HasFirstFault meanings raws fault)
+abbrev pub HasFirstFault : (meanings : Meanings) → (file : Option (List ℕ)) → List RecipeLine → TextFault → Type 0
+HasFirstFault meanings file [] f = ⊥
+HasFirstFault meanings file (raw ∷ raws) f =
+    IsFaultIn meanings file raw f ⊎ ((line : Line) × IsExpandedLine meanings raw line × HasFirstFault meanings file raws f)
 
 -- so it is of the recipe; want of memory says nothing of its lines
-abbrev pub IsRecipeFault : (meanings : Meanings) → List RecipeLine → MacroFault → Type 0
-IsRecipeFault meanings recipe OutOfMemory = Unit {0}
-IsRecipeFault meanings recipe fault = HasFirstFault meanings recipe fault
+abbrev pub IsRecipeFault : (meanings : Meanings) → (file : Option (List ℕ)) → List RecipeLine → RecipeFault → Type 0
+IsRecipeFault meanings file recipe fault.OutOfMemory = Unit {0}
+IsRecipeFault meanings file recipe (fault.Macro f) = HasFirstFault meanings file recipe f
 
 -- what the dynamic macros of node n stand for. The words of `$?` are of the source and the prerequisites by name; those of `$^` and
 -- `$+` are all of them, and the wide profile alone has them
@@ -69,6 +93,12 @@ pub record AreLinesOf (graph : Graph) (marks : List Bool) (n : ℕ) (recipe : Li
   pub expanded : AreExpanded (recipe_meaning graph names) recipe lines
 
 -- the fault is that of the first faulty line of the recipe of node n; want of memory says nothing of them
-abbrev pub IsFaultOf : Graph → (marks : List Bool) → (n : ℕ) → List RecipeLine → MacroFault → Type 0
-IsFaultOf graph marks n recipe OutOfMemory = Unit {0}
-IsFaultOf graph marks n recipe fault = (names : RecipeNames) × AreNames graph marks n names × IsRecipeFault (recipe_meaning graph names) recipe fault
+abbrev pub IsFaultOf : Graph → (marks : List Bool) → (n : ℕ) → List RecipeLine → RecipeFault → Type 0
+IsFaultOf graph marks n recipe fault.OutOfMemory = Unit {0}
+IsFaultOf graph marks n recipe (fault.Macro f) =
+    (names : RecipeNames) × AreNames graph marks n names × HasFirstFault (recipe_meaning graph names) (file_of graph n) recipe f
+
+-- how the fault of an expansion is told of a place
+abbrev pub IsToldAt : (place : Option TextPlace) → MacroFault → RecipeFault → Type 0
+IsToldAt place OutOfMemory told = told ≡ fault.OutOfMemory
+IsToldAt place cause told = told ≡ fault.Macro (record { place = place; cause = cause })

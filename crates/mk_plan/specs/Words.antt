@@ -1,11 +1,11 @@
 -- What `$^` and `$+` stand for in the wide profile (POSIX make, "Internal Macros"). The strict profile has no such macros.
-use Rattle.std.specs.Prelude.{ℕ, if◌then◌else◌, List, ◌++◌, Option, Some, None, option_map, option_to_list}
+use Rattle.std.specs.Prelude.{ℕ, if◌then◌else◌, List, ◌++◌, map, Option, Some, None}
 use Rattle.mk_graph.specs.Edges.{row}
 use Rattle.mk_graph.specs.Numbering.{name_at}
 use Rattle.mk_profile.specs.Profile.{is_wide}
 use Rattle.mk_profile.specs.declared.profile.Profile.{Profile}
 use Rattle.mk_rule_lines.specs.Explicit.{explicit_of}
-use Rattle.mk_rules.specs.Node.{source_in}
+use Rattle.mk_rules.specs.Node.{implied_in}
 use Rattle.mk_rules.specs.declared.graph.Graph.{Graph}
 use Rattle.mk_plan.specs.Nodes.{node_at}
 
@@ -13,10 +13,11 @@ use Rattle.mk_plan.specs.Nodes.{node_at}
 abbrev pub in_wide : {A : Type 0} → Profile → (value : A) → Option A
 in_wide profile value = if is_wide profile then Some value else None
 
--- the name of the implicit source of node n, if it has one
-abbrev pub source_names : Graph → (n : ℕ) → List (List ℕ)
-source_names graph n = option_to_list (option_map (name_at graph.names) (source_in (node_at graph n) (row graph.hard n)))
+-- what an implicit rule makes node n from, each once
+abbrev pub implied_names : Graph → (n : ℕ) → List (List ℕ)
+implied_names graph n = map (name_at graph.names) (implied_in (node_at graph n) (row graph.hard n))
 
--- what it is made from as it is written: the source, then the prerequisites of its lines in their order, without `.WAIT`
+-- what it is made from as it is written: what an implicit rule makes it from, then the prerequisites of its lines in their order,
+-- without `.WAIT`
 abbrev pub written_of : Graph → (n : ℕ) → List (List ℕ)
-written_of graph n = source_names graph n ++ explicit_of graph.lines.items (name_at graph.names n)
+written_of graph n = implied_names graph n ++ explicit_of graph.lines.items (name_at graph.names n)

@@ -2,11 +2,13 @@
 ghost use Rattle.std.specs.Prelude.{◌≡◌, ◌<◌, length, slice_get};
 ghost use Rattle.std.specs.Option.{option_copied};
 ghost use Rattle.mk_rule_lines.specs.Explicit.{names_in};
-ghost use Rattle.mk_plan.specs.ExplicitWords.{first_of, once_of, is_implicit, recipe_names, first_prerequisite, without_suffix, stem_left, has_words, source_word, stem_word};
+ghost use Rattle.mk_reader.specs.Text.{is_empty};
+ghost use Rattle.mk_plan.specs.Words.{implied_names};
+ghost use Rattle.mk_plan.specs.ExplicitWords.{first_of, once_of, is_implicit, recipe_names, first_prerequisite, without_suffix, stem_left, has_words, lacks_source, source_word, stem_word};
 
 use crate::nodes::{name_of, source_of, stem_of};
 use byte_strings::ByteStrings;
-use mk_rule_lines::{RuleLine, is_wait};
+use mk_rule_lines::{RuleLine, is_bar, is_wait};
 use mk_rules::Graph;
 
 /// Whether an implicit rule makes a node.
@@ -24,6 +26,9 @@ fn first_in(line: &RuleLine) -> Option<&[u8]>
     ensures { option_copied result ≡ slice_get (names_in line.now) 0 }
 {
     for word in line.prerequisites.iter() {
+        if is_bar(line.profile, word) {
+            return None;
+        }
         if !is_wait(word) {
             return Some(word);
         }
@@ -90,12 +95,31 @@ fn has_words(graph: &Graph, node: usize) -> bool
     graph.macros.profile().is_wide() && !is_implicit(graph, node)
 }
 
+/// Whether no implicit rule gives a node prerequisites.
+fn gives_none(graph: &Graph, node: usize) -> bool
+    requires { node < length graph.now.nodes.items }
+    ensures { result ≡ is_empty (implied_names graph.now node) }
+{
+    match graph.implied(node) {
+        [_, ..] => false,
+        [] => true,
+    }
+}
+
+/// Whether no implicit rule gives a node a source, in the wide profile.
+fn lacks_source(graph: &Graph, node: usize) -> bool
+    requires { node < length graph.now.nodes.items }
+    ensures { result ≡ lacks_source graph.now node }
+{
+    graph.macros.profile().is_wide() && gives_none(graph, node)
+}
+
 /// The value of `$<` in the recipe of a node.
 pub fn source_word(graph: &Graph, node: usize) -> &[u8]
     requires { node < length graph.now.nodes.items }
     ensures { result.now ≡ source_word graph.now node }
 {
-    if has_words(graph, node) {
+    if lacks_source(graph, node) {
         return first_prerequisite(graph, node);
     }
     source_of(graph, node)

@@ -3,6 +3,7 @@
 #![tactic(auto)]
 
 mod explicit_words;
+mod fault;
 mod laws;
 mod nodes;
 mod passing;
@@ -12,8 +13,9 @@ mod telling;
 mod why;
 mod words;
 
+pub use fault::RecipeFault;
 pub use laws::{nodes_by_name, one_passing};
-pub use nodes::{explicit_of, name_of};
+pub use nodes::{LinePlace, explicit_of, line_place, name_of};
 pub use passing::{Passed, pass};
 pub use telling::{Telling, told_lines, why_lines};
 pub use why::Why;

@@ -6,7 +6,7 @@ ghost use Rattle.mk_graph.specs.Edges.{row};
 ghost use Rattle.mk_graph.specs.Numbering.{name_at};
 ghost use Rattle.mk_verdict.specs.Tests.{is_later};
 ghost use Rattle.mk_rules.specs.Node.{source_in};
-ghost use Rattle.mk_plan.specs.Nodes.{node_at, stamp_of, entry_of, stem_of, source_of, explicit_of, recipe_of, is_marked};
+ghost use Rattle.mk_plan.specs.Nodes.{node_at, stamp_of, entry_of, stem_of, source_of, explicit_of, recipe_of, file_of, line_place, is_marked};
 ghost use Rattle.mk_plan.specs.Tests.{is_newer_word, newer_words, ends_remade};
 
 use byte_strings::ByteStrings;
@@ -85,6 +85,33 @@ pub fn recipe_of(graph: &Graph, node: usize) -> Option<&[RecipeLine]>
     let number = graph.nodes.get(node)?.recipe?;
     let line = graph.lines.get(number)?;
     Some(line.recipe.lines())
+}
+
+/// The file that holds that recipe, as it is told.
+pub fn file_of(graph: &Graph, node: usize) -> Option<&[u8]>
+    ensures { option_map (λ file. file.now) result ≡ file_of graph.now node }
+{
+    let number = graph.nodes.get(node)?.recipe?;
+    match &graph.lines.get(number)?.file {
+        Some(file) => Some(file.as_slice()),
+        None => None,
+    }
+}
+
+/// Where a line stands, as it is told.
+#[derive(Clone, Copy)]
+pub struct LinePlace<'a> {
+    pub file: &'a [u8],
+    pub line: usize,
+}
+
+/// Where the line of this number stands in a node's recipe, where its file is told.
+pub fn line_place(graph: &Graph, node: usize, number: usize) -> Option<LinePlace<'_>>
+    ensures { option_map (λ p. (p.file.now, p.line)) result ≡ line_place graph.now node number }
+{
+    let file = file_of(graph, node)?;
+    let line = recipe_of(graph, node)?.get(number)?.line;
+    Some(LinePlace { file, line })
 }
 
 /// The mark of a node.

@@ -6,11 +6,11 @@ ghost use Rattle.mk_plan.specs.Nodes.{recipe_of};
 ghost use Rattle.mk_plan.specs.Passage.{is_listed};
 ghost use Rattle.mk_plan.specs.Passing.{Passes, IsFaultAt, is_remade, told_in};
 
+use crate::fault::RecipeFault;
 use crate::nodes::{ends_remade, recipe_of};
 use crate::recipe::lines_of;
 use crate::target::judge_node;
 use crate::why::Why;
-use mk_macros::MacroFault;
 use mk_reader::RecipeLine;
 use mk_recipe::Line;
 use mk_rules::Graph;
@@ -63,7 +63,7 @@ fn pass_recipe(
     marks: &[bool],
     node: usize,
     recipe: &[RecipeLine],
-) -> Result<Passed, MacroFault>
+) -> Result<Passed, RecipeFault>
     requires node { node < length graph.now.nodes.items }
     requires recipe { recipe_of graph.now node ≡ Some recipe.now }
     ensures passes { IfOk result (λ p. Passes keeping graph.now marks.now node (is_remade p) (told_in graph.now node p)) }
@@ -83,7 +83,7 @@ pub fn pass(
     graph: &Graph,
     marks: &[bool],
     node: usize,
-) -> Result<Passed, MacroFault>
+) -> Result<Passed, RecipeFault>
     requires { node < length graph.now.nodes.items }
     ensures passes { IfOk result (λ p. Passes keeping graph.now marks.now node (is_remade p) (told_in graph.now node p)) }
     ensures fault { IfErr result (IsFaultAt graph.now marks.now node) }

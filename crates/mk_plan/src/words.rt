@@ -7,7 +7,7 @@ ghost use Rattle.mk_rule_lines.specs.Explicit.{numbers_of, explicit_of};
 ghost use Rattle.mk_rule_lines.specs.Table.{named_at};
 ghost use Rattle.mk_plan.specs.ExplicitWords.{language_of, once_of};
 ghost use Rattle.mk_plan.specs.Recipe.{AreRecipeWords};
-ghost use Rattle.mk_plan.specs.Words.{in_wide, source_names, written_of};
+ghost use Rattle.mk_plan.specs.Words.{in_wide, implied_names, written_of};
 
 use crate::nodes::{name_of, newer_words};
 use byte_strings::ByteStrings;
@@ -103,17 +103,17 @@ pub fn explicit_names(
     }
 }
 
-fn source_words<'g>(
+fn implied_words<'g>(
     alloc: Global,
     graph: &'g Graph,
     node: usize,
 ) -> Result<Vec<&'g [u8]>, AllocError>
     requires { node < length graph.now.nodes.items }
-    ensures { IfOk result (λ words. map (λ word. word.now) words.items ≡ source_names graph.now node) }
+    ensures { IfOk result (λ words. map (λ word. word.now) words.items ≡ implied_names graph.now node) }
 {
     let mut words = Vec::new(alloc);
-    if let Some(source) = graph.source(node) {
-        words.push(name_of(graph, source))?;
+    for prerequisite in graph.implied(node) {
+        words.push(name_of(graph, *prerequisite))?;
     }
     Ok(words)
 }
@@ -125,17 +125,17 @@ fn written_words<'g>(
     explicit: &'g ByteStrings,
 ) -> Result<Vec<&'g [u8]>, AllocError>
     requires { node < length graph.now.nodes.items }
-    ensures { IfOk result (λ words. map (λ word. word.now) words.items ≡ source_names graph.now node ++ explicit.now) }
+    ensures { IfOk result (λ words. map (λ word. word.now) words.items ≡ implied_names graph.now node ++ explicit.now) }
 {
-    let mut words = source_words(alloc, graph, node)?;
+    let mut words = implied_words(alloc, graph, node)?;
     for name in explicit.iter() {
         words.push(name)?;
     }
     Ok(words)
 }
 
-/// The source and these names, if there are any.
-fn behind_source<'g>(
+/// What an implicit rule gives and these names, if there are any.
+fn behind_implied<'g>(
     alloc: Global,
     graph: &'g Graph,
     node: usize,
@@ -143,7 +143,7 @@ fn behind_source<'g>(
 ) -> Result<Option<Vec<&'g [u8]>>, AllocError>
     requires { node < length graph.now.nodes.items }
     ensures { IfOk result (λ found. option_map (λ words. map (λ word. word.now) words.items) found
-        ≡ option_map (λ names. source_names graph.now node ++ names) explicit.now) }
+        ≡ option_map (λ names. implied_names graph.now node ++ names) explicit.now) }
 {
     match explicit {
         Some(names) => Ok(Some(written_words(alloc, graph, node, names)?)),
@@ -164,7 +164,7 @@ pub fn repeated_words<'g>(
     ensures { IfOk result (λ found. option_map (λ words. map (λ word. word.now) words.items) found
         ≡ in_wide (language_of graph.now) (written_of graph.now node)) }
 {
-    behind_source(alloc, graph, node, explicit)
+    behind_implied(alloc, graph, node, explicit)
 }
 
 /// The words of the dynamic macros in the recipe of a node, where the marks are those of the nodes that were remade before it.

@@ -205,7 +205,7 @@ colon_plain : (prerequisites : List ℕ) → Lacks 35 prerequisites → Lacks 35
 colon_plain [] h = refl
 colon_plain (b ∷ bs) h = h
 
-pub rule_read : (profile : Profile) (file targets prerequisites : List ℕ) (number : ℕ) (special : Option SpecialName) → ArePlainTargets profile targets → ArePlainPrerequisites prerequisites → HasSpecial targets special → is_refused_with profile prerequisites special ≡ false → is_text (rule_text targets prerequisites) ≡ true →
+pub rule_read : (profile : Profile) (file targets prerequisites : List ℕ) (number : ℕ) (special : Option SpecialName) → ArePlainTargets profile targets → ArePlainPrerequisites prerequisites → HasSpecial profile targets special → is_refused_with profile prerequisites special ≡ false → is_text (rule_text targets prerequisites) ≡ true →
     IsForm profile file (line_of_text number (rule_text targets prerequisites)) (Ok (form.Rule (rule_on file number special targets prerequisites)))
 rule_read profile file targets prerequisites number special t p has taken good =
     let text = rule_text targets prerequisites in

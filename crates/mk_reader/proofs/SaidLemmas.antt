@@ -14,7 +14,7 @@ use Rattle.mk_reader.specs.Grammar.{Whole, Padded, AllBlank, SpellsName, SpellsA
 use Rattle.mk_reader.specs.Form.{first_outside, defined_as, is_no_name, named_form, kind_form, optional_form, assigned_form, definition_form, prerequisites_of, recipe_of, judged_form, rule_form, begins_shell_definition, double_form, set_form, colon_form, decided_form}
 use Rattle.mk_reader.specs.declared.special.SpecialName.{SpecialName}
 use Rattle.mk_reader.specs.declared.item.DefinitionKind.{DefinitionKind}
-use Rattle.mk_reader.specs.declared.item.DefinitionKind.TheVariants.{IfUndefined, AtOnce, AtOnceAlone}
+use Rattle.mk_reader.specs.declared.item.DefinitionKind.TheVariants.{IfUndefined, AtOnce, AtOnceAlone, Output}
 use Rattle.mk_reader.specs.declared.item.Rule.{Rule}
 use Rattle.mk_reader.specs.declared.fault.Feature.TheVariants as feature
 use Rattle.mk_reader.specs.declared.fault.Cause.TheVariants as cause
@@ -94,10 +94,10 @@ module _ (file : List ℕ) (number : ℕ) (profile : Profile) where
       (λ t. named_said line left right (trimmed left) false h (t, trimmed_padded left))
 
   output_said : (line left right : List ℕ) → line ≡ left ++ 61 ∷ right → Whole 61 58 left → (is_wide profile ≡ true) × (begins_with 33 (reverse left) ≡ true) →
-      IsStatement profile file number line (Err (refusal file number (cause.Unsupported feature.OutputDefinition)))
+      IsStatement profile file number line (kind_form file number Output (trimmed (without_last left)) right)
   output_said line left right e whole (wide, mark) =
       let is : left ≡ without_last left ++ 33 ∷ [] = ends_at 33 left (reverse left) refl mark in
-      ((refl, refl), (wide, without_last left, right, e ∙ ap (λ xs. xs ++ 61 ∷ right) is, subst (Whole 61 58) is whole))
+      signed_said line Output (without_last left) right wide (e ∙ ap (λ xs. xs ++ 61 ∷ right) is, subst (Whole 61 58) is whole)
 
   definition_said : (line left right : List ℕ) → line ≡ left ++ 61 ∷ right → Whole 61 58 left →
       IsStatement profile file number line (definition_form profile file number left right)
@@ -125,7 +125,7 @@ module _ (file : List ℕ) (number : ℕ) (profile : Profile) where
 
   judged_said : (line targets prerequisites : List ℕ) (recipe : Option (List ℕ)) (special : Option SpecialName) (rule : Rule) →
       rule.file ≡ file → rule.line ≡ number → rule.targets ≡ targets → rule.prerequisites ≡ prerequisites → rule.recipe ≡ first_line number recipe →
-      SpellsRule line targets prerequisites recipe → HasSpecial targets special → IsStatement profile file number line (judged_form profile special rule)
+      SpellsRule line targets prerequisites recipe → HasSpecial profile targets special → IsStatement profile file number line (judged_form profile special rule)
   unfolding judged_form
   judged_said line targets prerequisites recipe None rule f n t p r spells has = (
     f,
@@ -133,7 +133,7 @@ module _ (file : List ℕ) (number : ℕ) (profile : Profile) where
     recipe,
     r,
     subst (λ xs. SpellsRule line xs rule.prerequisites recipe) (sym t) (subst (λ xs. SpellsRule line targets xs recipe) (sym p) spells),
-    subst (λ xs. HasSpecial xs None) (sym t) has,
+    subst (λ xs. HasSpecial profile xs None) (sym t) has,
     refl,
   )
   judged_said line targets prerequisites recipe (Some name) rule f n t p r spells has =
@@ -145,7 +145,7 @@ module _ (file : List ℕ) (number : ℕ) (profile : Profile) where
         recipe,
         r,
         subst (λ xs. SpellsRule line xs rule.prerequisites recipe) (sym t) (subst (λ xs. SpellsRule line targets xs recipe) (sym p) spells),
-        subst (λ xs. HasSpecial xs (Some name)) (sym t) has,
+        subst (λ xs. HasSpecial profile xs (Some name)) (sym t) has,
         e,
       ))
 
@@ -155,8 +155,8 @@ module _ (file : List ℕ) (number : ℕ) (profile : Profile) where
       let end = end_said right (first_outside 59 59 Outside right) (said 59 59 refl right) in
       by_test (IsStatement profile file number line) (is_empty (trimmed left)) _ _
       (λ e. ((refl, refl), inr (inr (inr (left, right, colon, ends, core_blank left (subst (Padded left) (empty_is (trimmed left) e) (trimmed_padded left)))))))
-      (λ e. judged_said line (trimmed left) (prerequisites_of right (first_outside 59 59 Outside right)) end.0 (special_name (first_word (trimmed left))) _
-      refl refl refl refl end.2 (left, right, colon, ends, trimmed_padded left, e, end.1) (has_special (trimmed left) (special_name (first_word (trimmed left))) refl))
+      (λ e. judged_said line (trimmed left) (prerequisites_of right (first_outside 59 59 Outside right)) end.0 (special_name profile (first_word (trimmed left))) _
+      refl refl refl refl end.2 (left, right, colon, ends, trimmed_padded left, e, end.1) (has_special profile (trimmed left) (special_name profile (first_word (trimmed left))) refl))
 
   double_said : (line left right : List ℕ) → SpellsColon line left (58 ∷ right) → IsStatement profile file number line (double_form profile file number left right)
   unfolding double_form

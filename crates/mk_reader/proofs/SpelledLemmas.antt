@@ -12,7 +12,7 @@ use Rattle.mk_reader.specs.Form.{first_outside, defined_as, is_no_name, named_fo
 use Rattle.mk_reader.specs.declared.special.SpecialName.{SpecialName}
 use Rattle.mk_reader.specs.declared.item.Definition.{Definition}
 use Rattle.mk_reader.specs.declared.item.DefinitionKind.{DefinitionKind}
-use Rattle.mk_reader.specs.declared.item.DefinitionKind.TheVariants.{IfUndefined, AtOnce, AtOnceAlone}
+use Rattle.mk_reader.specs.declared.item.DefinitionKind.TheVariants.{IfUndefined, AtOnce, AtOnceAlone, Output}
 use Rattle.mk_reader.specs.declared.item.DefinitionLine.{DefinitionLine}
 use Rattle.mk_reader.specs.declared.item.RecipeLine.{RecipeLine}
 use Rattle.mk_reader.specs.declared.item.Rule.{Rule}
@@ -56,7 +56,7 @@ module _ (file : List ℕ) (number : ℕ) (profile : Profile) where
   -- what stands around a `=`, where `?` and `!` do or don't stand before it
   abbrev at_equals : (optional output : Bool) (left right : List ℕ) → Told
   at_equals optional output left right =
-      cond optional (optional_form profile file number (without_last left) right) (cond output (Err (refusal file number (cause.Unsupported feature.OutputDefinition))) (assigned_form file number left right))
+      cond optional (optional_form profile file number (without_last left) right) (cond output (kind_form file number Output (trimmed (without_last left)) right) (assigned_form file number left right))
 
   definition_is : (left right name : List ℕ) (append : Bool) → begins_with 63 (reverse left) ≡ false → (is_wide profile && begins_with 33 (reverse left)) ≡ false → SpellsName left name append →
       definition_form profile file number left right ≡ named_form file number name append right
@@ -93,16 +93,18 @@ module _ (file : List ℕ) (number : ℕ) (profile : Profile) where
       ∙ ap (λ xs. optional_form profile file number xs right) front
 
   output_cut : (line left right : List ℕ) → is_wide profile ≡ true → line ≡ (left ++ 33 ∷ []) ++ 61 ∷ right → Whole 61 58 (left ++ 33 ∷ []) →
-      decided_form profile file number line (first_outside 61 58 Outside line) ≡ Err (refusal file number (cause.Unsupported feature.OutputDefinition))
+      decided_form profile file number line (first_outside 61 58 Outside line) ≡ kind_form file number Output (trimmed left) right
   unfolding definition_form ends_with
   output_cut line left right wide e whole =
       let signed = left ++ 33 ∷ [] in
       let mark : begins_with 63 (reverse signed) ≡ false = ap (begins_with 63) (reverse-append left (33 ∷ [])) in
       let output : (is_wide profile && begins_with 33 (reverse signed)) ≡ true =
       ap (λ t. t && begins_with 33 (reverse signed)) wide ∙ ap (begins_with 33) (reverse-append left (33 ∷ [])) in
+      let front : without_last signed ≡ left = take_at left (33 ∷ []) (length signed - 1) (omega (arith, length-append left (33 ∷ []))) in
       at_cut line signed 61 right e whole refl
       ∙ ap (λ t. at_equals t (is_wide profile && begins_with 33 (reverse signed)) signed right) mark
       ∙ ap (λ t. at_equals false t signed right) output
+      ∙ ap (λ xs. kind_form file number Output (trimmed xs) right) front
 
   colon_is : (left right : List ℕ) → IsRuleEnd right → colon_form profile file number left right ≡ rule_form profile file number (trimmed left) right
   unfolding colon_form
@@ -138,6 +140,7 @@ module _ (file : List ℕ) (number : ℕ) (profile : Profile) where
   sign_cut AtOnce line left right wide (inl colon) = colon_back line left (58 ∷ 61 ∷ right) colon ∙ ap (λ w. at_double w left (61 ∷ right)) wide
   sign_cut AtOnce line left right wide (inr (colon, set)) =
       colon_back line left (61 ∷ right) colon ∙ ap (λ t. at_set t left right) (set_taken profile left right wide set)
+  sign_cut Output line left right wide (e, whole) = output_cut line left right wide e whole
   sign_cut AtOnceAlone line left right wide colon = colon_back line left (58 ∷ 58 ∷ 61 ∷ right) colon ∙ ap (λ w. at_double w left (58 ∷ 61 ∷ right)) wide
 
   signed_back : (line : List ℕ) (l : DefinitionLine) → is_wide profile ≡ true → l.definition.file ≡ file → l.definition.line ≡ number → SpellsKind line l.kind l.definition →
@@ -168,7 +171,7 @@ module _ (file : List ℕ) (number : ℕ) (profile : Profile) where
         ap (recipe_of number right) o ∙ ap (λ xs. first_line number (Some xs)) (cut_right right before 59 text (length before) e refl),
       )
 
-  ruled : (line targets prerequisites : List ℕ) (recipe : Option (List ℕ)) (o : Option SpecialName) → SpellsRule line targets prerequisites recipe → HasSpecial targets o →
+  ruled : (line targets prerequisites : List ℕ) (recipe : Option (List ℕ)) (o : Option SpecialName) → SpellsRule line targets prerequisites recipe → HasSpecial profile targets o →
       decided_form profile file number line (first_outside 61 58 Outside line)
       ≡ judged_form profile o (record { file = file; line = number; targets = targets; prerequisites = prerequisites; recipe = first_line number recipe })
   unfolding rule_form
@@ -177,8 +180,8 @@ module _ (file : List ℕ) (number : ℕ) (profile : Profile) where
       let at = first_outside 59 59 Outside right in
       colon_back line left right colon ∙ colon_is left right ends
       ∙ ap (λ xs. rule_form profile file number xs right) (trimmed_is left targets padded)
-      ∙ ap (λ t. cond t (Err (refusal file number cause.MissingSeparator)) (judged_form profile (special_name (first_word targets)) (made targets (prerequisites_of right at) (recipe_of number right at)))) some
-      ∙ ap (λ s. judged_form profile s (made targets (prerequisites_of right at) (recipe_of number right at))) (special_is targets o has)
+      ∙ ap (λ t. cond t (Err (refusal file number cause.MissingSeparator)) (judged_form profile (special_name profile (first_word targets)) (made targets (prerequisites_of right at) (recipe_of number right at)))) some
+      ∙ ap (λ s. judged_form profile s (made targets (prerequisites_of right at) (recipe_of number right at))) (special_is profile targets o has)
       ∙ ap (λ p. judged_form profile o (made targets p (recipe_of number right at))) parts.0
       ∙ ap (λ r. judged_form profile o (made targets prerequisites r)) parts.1
     where
@@ -215,7 +218,6 @@ module _ (file : List ℕ) (number : ℕ) (profile : Profile) where
   refused_back line (cause.Unsupported feature.OptionalDefinition) (strict, left, right, spells) =
       optional_cut line left right spells
       ∙ ap (λ t. cond (not t) (Err (refusal file number (cause.Unsupported feature.OptionalDefinition))) (kind_form file number IfUndefined (trimmed left) right)) strict
-  refused_back line (cause.Unsupported feature.OutputDefinition) (wide, left, right, e, whole) = output_cut line left right wide e whole
   refused_back line (cause.Unsupported feature.DoubleColon) (left, right, colon, none) =
       colon_back line left (58 ∷ right) colon
       ∙ third (is_wide profile) (begins_with 61 right) (begins_with 58 right && begins_with 61 (drop 1 right)) (kind_form file number AtOnce (trimmed left) (drop 1 right))
@@ -238,6 +240,7 @@ module _ (file : List ℕ) (number : ℕ) (profile : Profile) where
   refused_back line cause.TabFirst h = absurd h
   refused_back line cause.IncludeDepth h = absurd h
   refused_back line (cause.IncludeMissing name) h = absurd h
+  refused_back line (cause.IncludeUnmade name) h = absurd h
   refused_back line (cause.Macro why) h = absurd h
   refused_back line (cause.Static why) h = absurd h
 

@@ -6,8 +6,9 @@ use Rattle.std.proofs.Math.Seq.{drop-append_seam}
 use Rattle.byte_strings.specs.Blanks.{is_blank, first_word}
 use Rattle.mk_profile.specs.Profile.{is_wide}
 use Rattle.mk_profile.specs.declared.profile.Profile.{Profile}
+use Rattle.mk_profile.specs.declared.profile.Profile.TheVariants as profiles
 use Rattle.mk_reader.specs.Text.{is_empty}
-use Rattle.mk_reader.specs.Special.{all_names, special_name, name_text}
+use Rattle.mk_reader.specs.Special.{all_names, is_known, special_name, name_text}
 use Rattle.mk_reader.specs.Grammar.{begins_blank, BeginsWithWord, BeginsInclude, IsInclude, HasSpecial}
 use Rattle.mk_reader.specs.Form.{include_kind}
 use Rattle.mk_reader.specs.declared.special.SpecialName.{SpecialName}
@@ -17,10 +18,13 @@ use Rattle.mk_reader.proofs.BlankLemmas.{starts, and_true, before_first_is, befo
 
 -- Special names
 
-names_found : (name : SpecialName) → special_name (name_text name) ≡ Some name
+names_found : (profile : Profile) (name : SpecialName) → is_known profile name ≡ true → special_name profile (name_text name) ≡ Some name
 unfolding special_name
-names_found special.KeepState = refl
-names_found other = refl
+names_found profiles.Strict special.NotParallel e = absurd (cc e)
+names_found profiles.Strict special.DeleteOnError e = absurd (cc e)
+names_found profiles.Strict other e = refl
+names_found profiles.Posix special.KeepState e = refl
+names_found profiles.Posix other e = refl
 
 found_passes : (test : SpecialName → Bool) (names : List SpecialName) (name : SpecialName) → find test names ≡ Some name → test name ≡ true
 found_passes test [] name h = absurd (cc h)
@@ -48,21 +52,23 @@ pub begins_with_first_word : (text : List ℕ) → BeginsWithWord text (first_wo
 unfolding first_word
 begins_with_first_word text = let cut = before_first_cuts is_blank text in (cut.0, cut.1.0, cut.1.1, ends_blank cut.0 cut.1.2)
 
-pub has_special : (targets : List ℕ) (o : Option SpecialName) → special_name (first_word targets) ≡ o → HasSpecial targets o
+pub has_special : (profile : Profile) (targets : List ℕ) (o : Option SpecialName) → special_name profile (first_word targets) ≡ o → HasSpecial profile targets o
 unfolding special_name
-has_special targets None e = λ name h. absurd (cc (ap special_name (word_is targets (name_text name) h) ∙ names_found name, e))
-has_special targets (Some name) e =
-    let same : name_text name ≡ first_word targets =
-    (bytes_eq-Decides (name_text name) (first_word targets)).0 (found_passes (λ n. bytes_eq (name_text n) (first_word targets)) all_names name e) in
-    subst (BeginsWithWord targets) (sym same) (begins_with_first_word targets)
+has_special profile targets None e =
+    λ name known h. absurd (cc (ap (special_name profile) (word_is targets (name_text name) h) ∙ names_found profile name known, e))
+has_special profile targets (Some name) e =
+    let parts = and_true (bytes_eq (name_text name) (first_word targets)) (is_known profile name)
+    (found_passes (λ n. bytes_eq (name_text n) (first_word targets) && is_known profile n) all_names name e) in
+    let same : name_text name ≡ first_word targets = (bytes_eq-Decides (name_text name) (first_word targets)).0 parts.0 in
+    (parts.1, subst (BeginsWithWord targets) (sym same) (begins_with_first_word targets))
 
-pub special_is : (targets : List ℕ) (o : Option SpecialName) → HasSpecial targets o → special_name (first_word targets) ≡ o
-special_is targets (Some name) h = ap special_name (word_is targets (name_text name) h) ∙ names_found name
-special_is targets None h = none_left (special_name (first_word targets)) refl
+pub special_is : (profile : Profile) (targets : List ℕ) (o : Option SpecialName) → HasSpecial profile targets o → special_name profile (first_word targets) ≡ o
+special_is profile targets (Some name) (known, h) = ap (special_name profile) (word_is targets (name_text name) h) ∙ names_found profile name known
+special_is profile targets None h = none_left (special_name profile (first_word targets)) refl
   where
-    none_left : (o : Option SpecialName) → special_name (first_word targets) ≡ o → special_name (first_word targets) ≡ None
+    none_left : (o : Option SpecialName) → special_name profile (first_word targets) ≡ o → special_name profile (first_word targets) ≡ None
     none_left None e = e
-    none_left (Some name) e = absurd (h name (has_special targets (Some name) e))
+    none_left (Some name) e = let is = has_special profile targets (Some name) e in absurd (h name is.0 is.1)
 
 -- Words that begin include lines
 

@@ -9,7 +9,6 @@ use Rattle.mk_reader.specs.declared.fault.Feature.TheVariants as feature
 abbrev pub feature_text : Feature → List ℕ
 feature_text feature.Include = codes "include"
 feature_text feature.OptionalDefinition = codes "?="
-feature_text feature.OutputDefinition = codes "!="
 feature_text feature.DoubleColon = codes "::"
 feature_text feature.ColonDefinition = codes ":="
 feature_text feature.ShellDefinition = codes ":sh"

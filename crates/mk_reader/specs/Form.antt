@@ -11,7 +11,7 @@ use Rattle.mk_reader.specs.Special.{special_name, is_refused, takes_no_prerequis
 use Rattle.mk_reader.specs.declared.special.SpecialName.{SpecialName}
 use Rattle.mk_reader.specs.declared.item.Definition.{Definition}
 use Rattle.mk_reader.specs.declared.item.DefinitionKind.{DefinitionKind}
-use Rattle.mk_reader.specs.declared.item.DefinitionKind.TheVariants.{IfUndefined, AtOnce, AtOnceAlone}
+use Rattle.mk_reader.specs.declared.item.DefinitionKind.TheVariants.{IfUndefined, AtOnce, AtOnceAlone, Output}
 use Rattle.mk_reader.specs.declared.item.RecipeLine.{RecipeLine}
 use Rattle.mk_reader.specs.declared.item.Rule.{Rule}
 use Rattle.mk_reader.specs.declared.fault.Feature.TheVariants as feature
@@ -100,11 +100,11 @@ unfoldable pub assigned_form : List ℕ → ℕ → List ℕ → List ℕ → Re
 assigned_form file number left right =
     if ends_with 43 left then named_form file number (trimmed (without_last left)) true right else named_form file number (trimmed left) false right
 
--- what stands around the `=` of a definition: `?` directly before it is another sign, and in the wide profile `!`, which is refused
+-- what stands around the `=` of a definition: `?` directly before it is another sign, and in the wide profile `!`
 unfoldable pub definition_form : Profile → List ℕ → ℕ → List ℕ → List ℕ → Result Form Refusal
 definition_form profile file number left right =
     if ends_with 63 left then optional_form profile file number (without_last left) right
-    else (if is_wide profile && ends_with 33 left then Err (refusal file number (Unsupported feature.OutputDefinition))
+    else (if is_wide profile && ends_with 33 left then kind_form file number Output (trimmed (without_last left)) right
     else assigned_form file number left right)
 
 -- the prerequisites end before the first `;` outside references
@@ -121,14 +121,14 @@ recipe_of number right (Some semicolon) = record { text = drop (semicolon + 1) r
 unfoldable pub judged_form : Profile → Option SpecialName → Rule → Result Form Refusal
 judged_form profile None rule = Ok (form.Rule (record { special = None; rule = rule }))
 judged_form profile (Some name) rule =
-    if is_refused profile name || (takes_no_prerequisites name && not (is_empty rule.prerequisites)) then Err (refusal rule.file rule.line (Unsupported (feature.SpecialName name)))
+    if is_refused profile name || (takes_no_prerequisites profile name && not (is_empty rule.prerequisites)) then Err (refusal rule.file rule.line (Unsupported (feature.SpecialName name)))
     else Ok (form.Rule (record { special = Some name; rule = rule }))
 
 -- a rule: it has a target
 unfoldable pub rule_form : Profile → List ℕ → ℕ → List ℕ → List ℕ → Result Form Refusal
 rule_form profile file number targets right =
     if is_empty targets then Err (refusal file number MissingSeparator)
-    else judged_form profile (special_name (first_word targets)) (record {
+    else judged_form profile (special_name profile (first_word targets)) (record {
       file = file;
       line = number;
       targets = targets;

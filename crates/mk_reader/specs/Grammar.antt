@@ -8,11 +8,11 @@ use Rattle.mk_profile.specs.Profile.{is_wide}
 use Rattle.mk_profile.specs.declared.profile.Profile.{Profile}
 use Rattle.mk_reader.specs.Text.{is_dollar, is_empty, begins_with, is_text}
 use Rattle.mk_reader.specs.Directive.{told_as}
-use Rattle.mk_reader.specs.Special.{name_text, is_refused, takes_no_prerequisites}
+use Rattle.mk_reader.specs.Special.{name_text, is_known, is_refused, takes_no_prerequisites}
 use Rattle.mk_reader.specs.declared.special.SpecialName.{SpecialName}
 use Rattle.mk_reader.specs.declared.item.Definition.{Definition}
 use Rattle.mk_reader.specs.declared.item.DefinitionKind.{DefinitionKind}
-use Rattle.mk_reader.specs.declared.item.DefinitionKind.TheVariants.{IfUndefined, AtOnce, AtOnceAlone}
+use Rattle.mk_reader.specs.declared.item.DefinitionKind.TheVariants.{IfUndefined, AtOnce, AtOnceAlone, Output}
 use Rattle.mk_reader.specs.declared.item.RecipeLine.{RecipeLine}
 use Rattle.mk_reader.specs.declared.fault.Feature.TheVariants as feature
 use Rattle.mk_reader.specs.declared.fault.Cause.{Cause}
@@ -160,6 +160,7 @@ abbrev pub SpellsSign : DefinitionKind → (line left right : List ℕ) → Type
 SpellsSign IfUndefined line left right = (line ≡ (left ++ 63 ∷ []) ++ 61 ∷ right) × Whole 61 58 (left ++ 63 ∷ [])
 SpellsSign AtOnce line left right = SpellsColon line left (58 ∷ 61 ∷ right) ⊎ (SpellsColon line left (61 ∷ right) × IsSet left right)
 SpellsSign AtOnceAlone line left right = SpellsColon line left (58 ∷ 58 ∷ 61 ∷ right)
+SpellsSign Output line left right = (line ≡ (left ++ 33 ∷ []) ++ 61 ∷ right) × Whole 61 58 (left ++ 33 ∷ [])
 
 -- a definition of the wide profile, which counts by what stands above it; it doesn't append
 abbrev pub SpellsKind : (line : List ℕ) → DefinitionKind → Definition → Type 0
@@ -188,15 +189,15 @@ SpellsRule line targets prerequisites recipe =
     (left : List ℕ) × (right : List ℕ) × SpellsColon line left right × IsRuleEnd right
     × Padded left targets × (is_empty targets ≡ false) × SpellsEnd right prerequisites recipe
 
--- the first target is this special name, or none
-abbrev pub HasSpecial : (targets : List ℕ) → Option SpecialName → Type 0
-HasSpecial targets None = (name : SpecialName) → BeginsWithWord targets (name_text name) → ⊥
-HasSpecial targets (Some name) = BeginsWithWord targets (name_text name)
+-- the first target is this special name of the profile, or none
+abbrev pub HasSpecial : Profile → (targets : List ℕ) → Option SpecialName → Type 0
+HasSpecial profile targets None = (name : SpecialName) → is_known profile name ≡ true → BeginsWithWord targets (name_text name) → ⊥
+HasSpecial profile targets (Some name) = (is_known profile name ≡ true) × BeginsWithWord targets (name_text name)
 
 -- such a rule is refused
 abbrev pub is_refused_with : Profile → (prerequisites : List ℕ) → Option SpecialName → Bool
 is_refused_with profile prerequisites None = false
-is_refused_with profile prerequisites (Some name) = is_refused profile name || (takes_no_prerequisites name && not (is_empty prerequisites))
+is_refused_with profile prerequisites (Some name) = is_refused profile name || (takes_no_prerequisites profile name && not (is_empty prerequisites))
 
 -- Refusals
 
@@ -225,8 +226,6 @@ abbrev pub IsRefused : Profile → (line : List ℕ) → Cause → Type 0
 IsRefused profile line cause.MissingSeparator = Without 61 58 line ⊎ (NamesNoWord profile line ⊎ (NamesNoWordOfKind profile line ⊎ HasNoTarget line))
 IsRefused profile line (cause.Unsupported feature.OptionalDefinition) =
     (is_wide profile ≡ false) × (left : List ℕ) × (right : List ℕ) × SpellsSign IfUndefined line left right
-IsRefused profile line (cause.Unsupported feature.OutputDefinition) =
-    (is_wide profile ≡ true) × (left : List ℕ) × (right : List ℕ) × (line ≡ (left ++ 33 ∷ []) ++ 61 ∷ right) × Whole 61 58 (left ++ 33 ∷ [])
 IsRefused profile line (cause.Unsupported feature.DoubleColon) =
     (left : List ℕ) × (right : List ℕ) × SpellsColon line left (58 ∷ right) × ((is_wide profile && ends_sign right) ≡ false)
 IsRefused profile line (cause.Unsupported feature.ColonDefinition) =
@@ -234,7 +233,7 @@ IsRefused profile line (cause.Unsupported feature.ColonDefinition) =
 IsRefused profile line (cause.Unsupported feature.ShellDefinition) = (left : List ℕ) × (right : List ℕ) × SpellsColon line left right × IsShell right
 IsRefused profile line (cause.Unsupported (feature.SpecialName name)) =
     (targets : List ℕ) × (prerequisites : List ℕ) × (recipe : Option (List ℕ)) × SpellsRule line targets prerequisites recipe
-    × HasSpecial targets (Some name) × (is_refused_with profile prerequisites (Some name) ≡ true)
+    × HasSpecial profile targets (Some name) × (is_refused_with profile prerequisites (Some name) ≡ true)
 IsRefused profile line (cause.Unsupported feature.Include) = ⊥
 IsRefused profile line (cause.Unsupported (feature.Directive directive)) = ⊥
 IsRefused profile line (cause.Unsupported feature.TargetMacro) = ⊥
@@ -243,6 +242,7 @@ IsRefused profile line cause.NotText = ⊥
 IsRefused profile line cause.TabFirst = ⊥
 IsRefused profile line cause.IncludeDepth = ⊥
 IsRefused profile line (cause.IncludeMissing name) = ⊥
+IsRefused profile line (cause.IncludeUnmade name) = ⊥
 IsRefused profile line (cause.Macro why) = ⊥
 IsRefused profile line (cause.Static why) = ⊥
 
@@ -268,7 +268,7 @@ IsStatement profile file number line (Ok (form.DefinitionLine l)) =
 IsStatement profile file number line (Ok (form.Rule u)) =
     (u.rule.file ≡ file) × (u.rule.line ≡ number) × (recipe : Option (List ℕ)) × (u.rule.recipe ≡ first_line number recipe)
     × SpellsRule line u.rule.targets u.rule.prerequisites recipe
-    × HasSpecial u.rule.targets u.special × (is_refused_with profile u.rule.prerequisites u.special ≡ false)
+    × HasSpecial profile u.rule.targets u.special × (is_refused_with profile u.rule.prerequisites u.special ≡ false)
 IsStatement profile file number line (Ok form.Blank) = ⊥
 IsStatement profile file number line (Ok (form.Recipe recipe)) = ⊥
 IsStatement profile file number line (Ok (form.Include include)) = ⊥

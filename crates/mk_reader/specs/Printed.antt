@@ -94,7 +94,7 @@ abbrev pub IsPlainItem : Profile → PlainItem → Type 0
 IsPlainItem profile (definition name append value) =
     IsPlainName profile name × IsPlainValue value × (is_text (definition_text name append value) ≡ true) × IsOwnLine (definition_text name append value)
 IsPlainItem profile (rule special targets prerequisites recipe) =
-    ArePlainTargets profile targets × ArePlainPrerequisites prerequisites × HasSpecial targets special × (is_refused_with profile prerequisites special ≡ false)
+    ArePlainTargets profile targets × ArePlainPrerequisites prerequisites × HasSpecial profile targets special × (is_refused_with profile prerequisites special ≡ false)
     × (is_text (rule_text targets prerequisites) ≡ true) × IsOwnLine (rule_text targets prerequisites) × IsPlainRecipe recipe
 
 abbrev pub ArePlain : Profile → List PlainItem → Type 0

@@ -1,11 +1,11 @@
 -- The special names of make and dmake: which are used, which have no effect, and which are refused.
-use Rattle.std.specs.Prelude.{ℕ, Bool, true, false, not, List, [], ◌∷◌, Option, bytes_eq, codes, find}
+use Rattle.std.specs.Prelude.{ℕ, Bool, true, false, not, ◌&&◌, List, [], ◌∷◌, Option, bytes_eq, codes, find}
 use Rattle.mk_profile.specs.Profile.{is_wide}
 use Rattle.mk_profile.specs.declared.profile.Profile.{Profile}
 use Rattle.mk_reader.specs.declared.special.SpecialName.{SpecialName}
-use Rattle.mk_reader.specs.declared.special.SpecialName.TheVariants.{KeepState, Suffixes, NoParallel, Ignore, Silent, Precious, Posix, Parallel, SccsGet, Local, Init, Done, Failed, Default, KeepStateFile, MakeVersion, GetPosix, SccsGetPosix, Phony}
+use Rattle.mk_reader.specs.declared.special.SpecialName.TheVariants.{KeepState, Suffixes, NoParallel, Ignore, Silent, Precious, Posix, Parallel, SccsGet, Local, Init, Done, Failed, Default, KeepStateFile, MakeVersion, GetPosix, SccsGetPosix, Phony, NotParallel, DeleteOnError}
 
--- how a special name is written (illumos make(1S); the two with PARALLEL: the dmake manual; PHONY: GNU make)
+-- how a special name is written (illumos make(1S); the two with PARALLEL: the dmake manual; the last three: GNU make)
 abbrev pub name_text : SpecialName → List ℕ
 name_text KeepState = codes ".KEEP_STATE"
 name_text Suffixes = codes ".SUFFIXES"
@@ -26,13 +26,21 @@ name_text MakeVersion = codes ".MAKE_VERSION"
 name_text GetPosix = codes ".GET_POSIX"
 name_text SccsGetPosix = codes ".SCCS_GET_POSIX"
 name_text Phony = codes ".PHONY"
+name_text NotParallel = codes ".NOTPARALLEL"
+name_text DeleteOnError = codes ".DELETE_ON_ERROR"
 
 abbrev pub all_names : List SpecialName
-all_names = KeepState ∷ Suffixes ∷ NoParallel ∷ Ignore ∷ Silent ∷ Precious ∷ Posix ∷ Parallel ∷ SccsGet ∷ Local ∷ Init ∷ Done ∷ Failed ∷ Default ∷ KeepStateFile ∷ MakeVersion ∷ GetPosix ∷ SccsGetPosix ∷ Phony ∷ []
+all_names = KeepState ∷ Suffixes ∷ NoParallel ∷ Ignore ∷ Silent ∷ Precious ∷ Posix ∷ Parallel ∷ SccsGet ∷ Local ∷ Init ∷ Done ∷ Failed ∷ Default ∷ KeepStateFile ∷ MakeVersion ∷ GetPosix ∷ SccsGetPosix ∷ Phony ∷ NotParallel ∷ DeleteOnError ∷ []
 
--- the special name that a word is; any other word is an ordinary name
-unfoldable pub special_name : List ℕ → Option SpecialName
-special_name word = find (λ name. bytes_eq (name_text name) word) all_names
+-- the profile has the name; one that it lacks is an ordinary name in it
+abbrev pub is_known : Profile → SpecialName → Bool
+is_known profile NotParallel = is_wide profile
+is_known profile DeleteOnError = is_wide profile
+is_known profile _ = true
+
+-- the special name that a word is in the profile; any other word is an ordinary name
+unfoldable pub special_name : Profile → List ℕ → Option SpecialName
+special_name profile word = find (λ name. bytes_eq (name_text name) word && is_known profile name) all_names
 
 -- a rule of this name is refused; that of PHONY in the strict profile alone
 unfoldable pub is_refused : Profile → SpecialName → Bool
@@ -55,9 +63,11 @@ is_refused profile Posix = false
 is_refused profile Parallel = false
 is_refused profile SccsGet = false
 is_refused profile Local = false
+is_refused profile NotParallel = false
+is_refused profile DeleteOnError = false
 
--- a rule of this name is refused where it has prerequisites, which would speak of single targets
-unfoldable pub takes_no_prerequisites : SpecialName → Bool
-takes_no_prerequisites Ignore = true
-takes_no_prerequisites Silent = true
-takes_no_prerequisites _ = false
+-- a rule of this name is refused where it has prerequisites, which would speak of single targets: in the strict profile
+unfoldable pub takes_no_prerequisites : Profile → SpecialName → Bool
+takes_no_prerequisites profile Ignore = not (is_wide profile)
+takes_no_prerequisites profile Silent = not (is_wide profile)
+takes_no_prerequisites profile _ = false

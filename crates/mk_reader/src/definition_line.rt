@@ -110,8 +110,8 @@ pub fn definition_form(place: LinePlace<'_>, left: &[u8], right: &[u8]) -> Resul
         return optional_form(place, without_last(left), right);
     }
     if place.profile.is_wide() && ends_with(left, b'!') {
-        let cause = Cause::Unsupported(Feature::OutputDefinition);
-        return Err(refuse(place, cause));
+        let name = trim(without_last(left));
+        return kind_form(place, DefinitionKind::Output, name, right);
     }
     assigned_form(place, left, right)
 }

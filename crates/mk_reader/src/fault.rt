@@ -13,8 +13,6 @@ pub enum Feature {
     Include,
     /// `?=` in the strict profile.
     OptionalDefinition,
-    /// `!=` in the wide profile.
-    OutputDefinition,
     /// `::`, and in the strict profile so `::=`.
     DoubleColon,
     /// `:=` in the strict profile, and where it would be a conditional macro.
@@ -41,7 +39,6 @@ impl fmt::Display for Feature {
         match self {
             Feature::Include => f.write_str("include"),
             Feature::OptionalDefinition => f.write_str("?="),
-            Feature::OutputDefinition => f.write_str("!="),
             Feature::DoubleColon => f.write_str("::"),
             Feature::ColonDefinition => f.write_str(":="),
             Feature::ShellDefinition => f.write_str(":sh"),
@@ -100,6 +97,9 @@ pub enum Cause {
     /// The file of this name can't be read.
     #[error("cannot read include file {0}")]
     IncludeMissing(ByteString),
+    /// The file of this name can't be read, and a rule would make it, in the wide profile.
+    #[error("cannot read include file {0}, which has a rule: included files aren't made")]
+    IncludeUnmade(ByteString),
     /// A text of the line that is expanded where it stands, and can't be.
     #[error("{0}")]
     Macro(MacroCause),

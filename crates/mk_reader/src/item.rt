@@ -101,6 +101,8 @@ pub enum DefinitionKind {
     AtOnce,
     /// `:::=`: with its text expanded where it stands, but not what is appended to it.
     AtOnceAlone,
+    /// `!=`: with what the command writes that its text is.
+    Output,
 }
 
 /// A definition of the wide profile, which counts by what stands above it. It doesn't append.

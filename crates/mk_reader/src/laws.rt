@@ -48,7 +48,7 @@ pub fn printed_lines_are_read_back()
         → IsForm profile file (line_of_text number (definition_text name append value))
         (Ok (form.Definition (definition_on file number name append value))) }
     ensures rule { (profile : Profile) (file targets prerequisites : List ℕ) (number : ℕ) (special : Option SpecialName)
-        → ArePlainTargets profile targets → ArePlainPrerequisites prerequisites → HasSpecial targets special
+        → ArePlainTargets profile targets → ArePlainPrerequisites prerequisites → HasSpecial profile targets special
         → is_refused_with profile prerequisites special ≡ false → is_text (rule_text targets prerequisites) ≡ true
         → IsForm profile file (line_of_text number (rule_text targets prerequisites))
         (Ok (form.Rule (rule_on file number special targets prerequisites))) }

@@ -27,6 +27,6 @@ pub use item::{
 };
 pub use lines::next_joined_line;
 pub use reference::split_outside;
-pub use special::SpecialName;
+pub use special::{SpecialName, is_refused, special_name};
 pub use statements::statements_of;
 pub use text::{is_text, is_utf8};

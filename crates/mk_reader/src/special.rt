@@ -1,6 +1,6 @@
 //! The special names: which a makefile may use, and which are refused.
 ghost use Rattle.std.specs.Prelude.{◌≡◌};
-ghost use Rattle.mk_reader.specs.Special.{name_text, special_name, is_refused, takes_no_prerequisites};
+ghost use Rattle.mk_reader.specs.Special.{name_text, is_known, special_name, is_refused, takes_no_prerequisites};
 
 use mk_profile::Profile;
 use std::fmt;
@@ -20,7 +20,7 @@ pub enum SpecialName {
     Parallel,
     SccsGet,
     Local,
-    // These are refused, the last one in the strict profile alone.
+    // These are refused, `.PHONY` in the strict profile alone.
     Init,
     Done,
     Failed,
@@ -30,9 +30,12 @@ pub enum SpecialName {
     GetPosix,
     SccsGetPosix,
     Phony,
+    // These are the wide profile's alone, and ordinary names in the strict one.
+    NotParallel,
+    DeleteOnError,
 }
 
-const ALL: [SpecialName; 19] = [
+const ALL: [SpecialName; 21] = [
     SpecialName::KeepState,
     SpecialName::Suffixes,
     SpecialName::NoParallel,
@@ -52,6 +55,8 @@ const ALL: [SpecialName; 19] = [
     SpecialName::GetPosix,
     SpecialName::SccsGetPosix,
     SpecialName::Phony,
+    SpecialName::NotParallel,
+    SpecialName::DeleteOnError,
 ];
 
 impl SpecialName {
@@ -79,6 +84,8 @@ impl SpecialName {
             SpecialName::GetPosix => ".GET_POSIX",
             SpecialName::SccsGetPosix => ".SCCS_GET_POSIX",
             SpecialName::Phony => ".PHONY",
+            SpecialName::NotParallel => ".NOTPARALLEL",
+            SpecialName::DeleteOnError => ".DELETE_ON_ERROR",
         }
     }
 }
@@ -93,14 +100,22 @@ impl fmt::Display for SpecialName {
     }
 }
 
+/// Whether this profile has the name.
+fn is_known(profile: Profile, name: SpecialName) -> bool
+    ensures { result ≡ is_known profile name }
+{
+    match name {
+        SpecialName::NotParallel | SpecialName::DeleteOnError => profile.is_wide(),
+        _ => true,
+    }
+}
+
 /// The special name that the word is, if it is one.
 #[tactic(auto, unfolding(crate::specs::Special::special_name))]
-pub fn special_name(word: &[u8]) -> Option<SpecialName>
-    ensures { result ≡ special_name word.now }
+pub fn special_name(profile: Profile, word: &[u8]) -> Option<SpecialName>
+    ensures { result ≡ special_name profile word.now }
 {
-    ALL.iter()
-        .copied()
-        .find(|name| name.as_str().as_bytes() == word)
+    ALL.iter().copied().find(|name| name.as_str().as_bytes() == word && is_known(profile, *name))
 }
 
 /// Whether passing over a rule of this name could change what is built. The wide profile takes `.PHONY`.
@@ -122,10 +137,14 @@ pub fn is_refused(profile: Profile, name: SpecialName) -> bool
     }
 }
 
-/// Whether the rule speaks of all targets, so that prerequisites would ask for something else.
+/// Whether the rule speaks of all targets, so that prerequisites would ask for something else. In the wide profile they name
+/// the targets.
 #[tactic(auto, unfolding(crate::specs::Special::takes_no_prerequisites))]
-pub fn takes_no_prerequisites(name: SpecialName) -> bool
-    ensures { result ≡ takes_no_prerequisites name }
+pub fn takes_no_prerequisites(profile: Profile, name: SpecialName) -> bool
+    ensures { result ≡ takes_no_prerequisites profile name }
 {
-    matches!(name, SpecialName::Ignore | SpecialName::Silent)
+    match name {
+        SpecialName::Ignore | SpecialName::Silent => !profile.is_wide(),
+        _ => false,
+    }
 }

@@ -69,7 +69,9 @@ fn judged_form(
 {
     if let Some(name) = special {
         let has_prerequisites = !rule.prerequisites.as_slice().is_empty();
-        if is_refused(profile, name) || (takes_no_prerequisites(name) && has_prerequisites) {
+        if is_refused(profile, name)
+            || (takes_no_prerequisites(profile, name) && has_prerequisites)
+        {
             let cause = Cause::Unsupported(Feature::SpecialName(name));
             let place = LinePlace {
                 alloc,
@@ -127,7 +129,7 @@ fn rule_form(place: LinePlace<'_>, targets: &[u8], right: &[u8]) -> Result<Form,
         prerequisites: ByteString::from_slice(place.alloc, prerequisites_of(right, semicolon))?,
         recipe: recipe_of(place.alloc, place.number, right, semicolon)?,
     };
-    let special = special_name(first_word(targets));
+    let special = special_name(place.profile, first_word(targets));
     judged_form(place.alloc, place.profile, special, rule)
 }
 

@@ -5,29 +5,28 @@ use Rattle.std.specs.List.{flat_map, list_any}
 use Rattle.std.specs.Option.{option_map_or}
 use Rattle.std.proofs.lemmas.List.{append_assoc, length-append}
 use Rattle.mk_rule_lines.specs.Rules.{places}
-use Rattle.mk_rule_lines.specs.Explicit.{names_in}
 use Rattle.mk_rule_lines.specs.declared.rule_line.RuleLine.{RuleLine}
 
--- the prerequisites of the line with a number
-abbrev pub names_at : List RuleLine → (k : ℕ) → List (List ℕ)
-names_at lines k = option_map_or names_in (slice_get lines k) []
+-- what the line with a number has of this
+abbrev pub names_at : (of : RuleLine → List (List ℕ)) → List RuleLine → (k : ℕ) → List (List ℕ)
+names_at of lines k = option_map_or of (slice_get lines k) []
 
 -- the line behind some others is read by their number
 read_behind : (done : List RuleLine) (l : RuleLine) (left : List RuleLine) → slice_get (done ++ l ∷ left) (length done) ≡ Some l
 read_behind [] l left = refl
 read_behind (d ∷ done) l left = read_behind done l left
 
-module _ (p : RuleLine → Bool) where
+module _ (of : RuleLine → List (List ℕ)) (p : RuleLine → Bool) where
   at_places : (done : List RuleLine) (l : RuleLine) (left : List RuleLine) (t : Bool) → p l ≡ t →
-      flat_map (names_at (done ++ l ∷ left)) (places p (length done + 1) left) ≡ flat_map names_in (filter p left) →
-      flat_map (names_at (done ++ l ∷ left)) (places p (length done) (l ∷ left)) ≡ flat_map names_in (filter p (l ∷ left))
+      flat_map (names_at of (done ++ l ∷ left)) (places p (length done + 1) left) ≡ flat_map of (filter p left) →
+      flat_map (names_at of (done ++ l ∷ left)) (places p (length done) (l ∷ left)) ≡ flat_map of (filter p (l ∷ left))
   at_places done l left true e more =
-      let here : names_at (done ++ l ∷ left) (length done) ≡ names_in l = ap (λ (o : Option RuleLine). option_map_or names_in o []) (read_behind done l left) in
+      let here : names_at of (done ++ l ∷ left) (length done) ≡ of l = ap (λ (o : Option RuleLine). option_map_or of o []) (read_behind done l left) in
       simp (e, here, more) refl
   at_places done l left false e more = simp (e, more) refl
 
   -- the lines that pass, and the numbers of these lines, have the same prerequisites
-  pub names-places : (done left : List RuleLine) → flat_map (names_at (done ++ left)) (places p (length done) left) ≡ flat_map names_in (filter p left)
+  pub names-places : (done left : List RuleLine) → flat_map (names_at of (done ++ left)) (places p (length done) left) ≡ flat_map of (filter p left)
   names-places done [] = refl
   names-places done (l ∷ left) =
       at_places done l left (p l) refl
@@ -59,18 +58,18 @@ module _ (p q : RuleLine → Bool) where
       rw whole at (rw count at more))
 
 -- once the prerequisites of the next line are added, what is left to add are those of the lines behind it
-pub names-next : (before after whole : List (List ℕ)) (lines : List RuleLine) (k : ℕ) (l : RuleLine) (more : List ℕ) → slice_get lines k ≡ Some l →
-    after ≡ before ++ names_in l → before ++ flat_map (names_at lines) (k ∷ more) ≡ whole → after ++ flat_map (names_at lines) more ≡ whole
-names-next before after whole lines k l more read adds so =
-    let here : names_at lines k ≡ names_in l = ap (λ (o : Option RuleLine). option_map_or names_in o []) read in
-    ap (λ ns. ns ++ flat_map (names_at lines) more) adds
-    ∙ append_assoc before (names_in l) (flat_map (names_at lines) more)
-    ∙ ap (λ ns. before ++ (ns ++ flat_map (names_at lines) more)) (sym here)
+pub names-next : (of : RuleLine → List (List ℕ)) (before after whole : List (List ℕ)) (lines : List RuleLine) (k : ℕ) (l : RuleLine) (more : List ℕ) → slice_get lines k ≡ Some l →
+    after ≡ before ++ of l → before ++ flat_map (names_at of lines) (k ∷ more) ≡ whole → after ++ flat_map (names_at of lines) more ≡ whole
+names-next of before after whole lines k l more read adds so =
+    let here : names_at of lines k ≡ of l = ap (λ (o : Option RuleLine). option_map_or of o []) read in
+    ap (λ ns. ns ++ flat_map (names_at of lines) more) adds
+    ∙ append_assoc before (of l) (flat_map (names_at of lines) more)
+    ∙ ap (λ ns. before ++ (ns ++ flat_map (names_at of lines) more)) (sym here)
     ∙ so
 
 -- a number past the lines has no prerequisites
-pub names-none : (before whole : List (List ℕ)) (lines : List RuleLine) (k : ℕ) (more : List ℕ) → slice_get lines k ≡ None →
-    before ++ flat_map (names_at lines) (k ∷ more) ≡ whole → before ++ flat_map (names_at lines) more ≡ whole
-names-none before whole lines k more read so =
-    let here : names_at lines k ≡ [] = ap (λ (o : Option RuleLine). option_map_or names_in o []) read in
-    ap (λ ns. before ++ (ns ++ flat_map (names_at lines) more)) (sym here) ∙ so
+pub names-none : (of : RuleLine → List (List ℕ)) (before whole : List (List ℕ)) (lines : List RuleLine) (k : ℕ) (more : List ℕ) → slice_get lines k ≡ None →
+    before ++ flat_map (names_at of lines) (k ∷ more) ≡ whole → before ++ flat_map (names_at of lines) more ≡ whole
+names-none of before whole lines k more read so =
+    let here : names_at of lines k ≡ [] = ap (λ (o : Option RuleLine). option_map_or of o []) read in
+    ap (λ ns. before ++ (ns ++ flat_map (names_at of lines) more)) (sym here) ∙ so

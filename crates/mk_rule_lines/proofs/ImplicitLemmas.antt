@@ -14,7 +14,7 @@ use Rattle.mk_macros.proofs.SpelledLemmas.{either, place_of-none}
 use Rattle.mk_rule_lines.specs.ByName.{HasRecipeAt}
 use Rattle.mk_rule_lines.specs.Forms.{before_percent, behind_percent, pattern_form, form_of_names, form_of_line, pattern_forms, suffix_rules as rules_of, pair_forms, single_forms, forms_from, suffix_forms, forms_of}
 use Rattle.mk_rule_lines.specs.Implicit.{IsPatternForm, ArePatternForms, past_lines, a_pattern, other_line, SuffixRule, of_two, of_one, name_of, form_of, in_order, AreSuffixForms, no_rules, a_rule, no_rule, AreForms}
-use Rattle.mk_rule_lines.specs.Kinds.{IsPatternRule, IsPatternRuleOf, IsSuffixRuleFor}
+use Rattle.mk_rule_lines.specs.Kinds.{leaves_folders, IsPatternRule, IsPatternRuleOf, IsSuffixRuleFor}
 use Rattle.mk_rule_lines.specs.Rules.{is_percent, has_percent, is_rule, is_pattern_rule, targets_by}
 use Rattle.mk_rule_lines.specs.Supported.{IsSupported}
 use Rattle.mk_rule_lines.specs.Tests.{is_whole_pattern_rule}
@@ -37,33 +37,34 @@ module _ (before after : List ℕ) (front : Lacks 37 before) where
   behind_is : behind_percent (before ++ 37 ∷ after) ≡ after
   behind_is = ap (λ o. option_map_or (λ i. drop (i + 1) (before ++ 37 ∷ after)) o []) place ∙ drop-behind before 37 after
 
-abbrev form_with : (before after front back : List ℕ) (stem : Bool) (k : ℕ) → Form
-form_with before after front back stem k =
-    record { before = before; after = after; front = front; back = back; takes_empty = stem; rule = k }
+abbrev form_with : (before after : List ℕ) (prerequisites : List (List ℕ)) (folders stem : Bool) (k : ℕ) → Form
+form_with before after prerequisites folders stem k =
+    record { before = before; after = after; prerequisites = prerequisites; leaves_folders = folders; takes_empty = stem; rule = k }
 
 module _ (k : ℕ) (l : RuleLine) where
-  form_is : (before after front back : List ℕ) → IsPatternRuleOf before after front back l → form_of_line k l ≡ form_with before after front back false k ∷ []
-  form_is before after front back is =
+  form_is : (before after : List ℕ) → IsPatternRuleOf before after l →
+      form_of_line k l ≡ form_with before after l.prerequisites (leaves_folders l.profile (before ++ 37 ∷ after)) false k ∷ []
+  form_is before after is =
       let target : List ℕ = before ++ 37 ∷ after in
-      let source : List ℕ = front ++ 37 ∷ back in
       let percent : has_percent target ≡ true = list_any-append is_percent before (37 ∷ after) ∙ or_right (list_any is_percent before) true refl in
       let yes : is_pattern_rule l ≡ true =
       and_from (is_rule l) (list_any has_percent l.targets) ((rule_decides l).1 is.rule) (ap (list_any has_percent) is.targets ∙ or_left (has_percent target) false percent) in
-      let made : pattern_form k target source ≡ form_with before after front back false k =
-      rw (before_is before after is.target_lacks.0, behind_is before after is.target_lacks.0, before_is front back is.source_lacks.0, behind_is front back is.source_lacks.0) refl in
-      ap (λ (b : Bool). cond b (form_of_names k l.targets l.prerequisites) []) yes
-      ∙ ap (λ (ts : List (List ℕ)). form_of_names k ts l.prerequisites) is.targets
-      ∙ ap (λ (ss : List (List ℕ)). form_of_names k (target ∷ []) ss) is.prerequisites
+      let made : pattern_form k l.profile target l.prerequisites ≡ form_with before after l.prerequisites (leaves_folders l.profile target) false k =
+      rw (before_is before after is.lacks.0, behind_is before after is.lacks.0) refl in
+      ap (λ (b : Bool). cond b (form_of_names k l.profile l.targets l.prerequisites) []) yes
+      ∙ ap (λ (ts : List (List ℕ)). form_of_names k l.profile ts l.prerequisites) is.targets
       ∙ ap (λ f. f ∷ []) made
 
   form_told : (form : Form) → IsPatternForm k l form → form_of_line k l ≡ form ∷ []
   form_told form is =
-      form_is form.before form.after form.front form.back is.is
-      ∙ ap (λ (b : Bool). form_with form.before form.after form.front form.back b k ∷ []) (sym is.stem)
-      ∙ ap (λ (n : ℕ). form_with form.before form.after form.front form.back form.takes_empty n ∷ []) (sym is.rule)
+      form_is form.before form.after is.is
+      ∙ ap (λ (ps : List (List ℕ)). form_with form.before form.after ps (leaves_folders l.profile (form.before ++ 37 ∷ form.after)) false k ∷ []) (sym is.prerequisites)
+      ∙ ap (λ (b : Bool). form_with form.before form.after form.prerequisites b false k ∷ []) (sym is.folders)
+      ∙ ap (λ (b : Bool). form_with form.before form.after form.prerequisites form.leaves_folders b k ∷ []) (sym is.stem)
+      ∙ ap (λ (n : ℕ). form_with form.before form.after form.prerequisites form.leaves_folders form.takes_empty n ∷ []) (sym is.rule)
 
   no_form : is_pattern_rule l ≡ false → form_of_line k l ≡ []
-  no_form e = ap (λ (b : Bool). cond b (form_of_names k l.targets l.prerequisites) []) e
+  no_form e = ap (λ (b : Bool). cond b (form_of_names k l.profile l.targets l.prerequisites) []) e
 
   whole_of : IsSupported l → is_pattern_rule l ≡ true → Whole l
   whole_of supported e =
@@ -71,8 +72,7 @@ module _ (k : ℕ) (l : RuleLine) where
       either (Whole l) (is_whole_pattern_rule l) (λ whole. whole_rule l is.0 whole)
       (λ other. absurd (supported.pattern (
         is,
-        λ before after front back rule.
-            both_ways (is_whole_pattern_rule l) other (whole_rule_is l before after front back rule),
+        λ before after rule. both_ways (is_whole_pattern_rule l) other (whole_rule_is l before after rule),
       )))
 
 are_patterns : (k : ℕ) (lines : List RuleLine) → All IsSupported lines → ArePatternForms k lines (pattern_forms k lines)
@@ -82,10 +82,10 @@ are_patterns k (l ∷ lines) all =
     let more : ArePatternForms (k + 1) lines rest = are_patterns (k + 1) lines (All-tail IsSupported l lines all) in
     either (ArePatternForms k (l ∷ lines) (pattern_forms k (l ∷ lines))) (is_pattern_rule l)
     (λ e.
-    let (before, after, front, back, is) = whole_of k l (All-head IsSupported l lines all) e in
-    let form : Form = form_with before after front back false k in
-    let first : IsPatternForm k l form = record { is = is; stem = refl; rule = refl } in
-    subst (λ (forms : List Form). ArePatternForms k (l ∷ lines) forms) (ap (λ fs. fs ++ rest) (sym (form_is k l before after front back is)))
+    let (before, after, is) = whole_of k l (All-head IsSupported l lines all) e in
+    let form : Form = form_with before after l.prerequisites (leaves_folders l.profile (before ++ 37 ∷ after)) false k in
+    let first : IsPatternForm k l form = record { is = is; prerequisites = refl; folders = refl; stem = refl; rule = refl } in
+    subst (λ (forms : List Form). ArePatternForms k (l ∷ lines) forms) (ap (λ fs. fs ++ rest) (sym (form_is k l before after is)))
     (a_pattern first more))
     (λ e. subst (λ (forms : List Form). ArePatternForms k (l ∷ lines) forms) (ap (λ fs. fs ++ rest) (sym (no_form k l e)))
     (other_line (λ is. both_ways (is_pattern_rule l) e ((pattern_rule_decides l).1 is)) more))

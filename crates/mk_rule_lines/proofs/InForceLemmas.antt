@@ -16,9 +16,9 @@ use Rattle.mk_reader.specs.Text.{is_empty}
 use Rattle.mk_reader.specs.declared.item.Item.{Item}
 use Rattle.mk_reader.specs.declared.special.SpecialName.{SpecialName}
 use Rattle.mk_rule_lines.specs.Goals.{has_special}
-use Rattle.mk_rule_lines.specs.InForce.{IsOnePattern, IsTaking, IsSamePattern, IsSuffixRuleOf, Takes, AreLeft, no_lines, counts, goes, AreInForce, AreLinesInForce}
+use Rattle.mk_rule_lines.specs.InForce.{IsTaking, IsSamePattern, IsSuffixRuleOf, Takes, AreLeft, no_lines, counts, goes, AreInForce, AreLinesInForce}
 use Rattle.mk_rule_lines.specs.Lines.{AreRuleLines}
-use Rattle.mk_rule_lines.specs.Kinds.{IsRule}
+use Rattle.mk_rule_lines.specs.Kinds.{IsRule, IsOnePattern}
 use Rattle.mk_rule_lines.specs.Rules.{has, is_rule, may_be_suffix_rule}
 use Rattle.mk_rule_lines.specs.Tests.{is_one_pattern, is_taking, same_word, is_same_pattern, is_joined, names_suffix_rule, names_form, one_names_form, is_suffix_rule_of, takes}
 use Rattle.mk_rule_lines.specs.declared.rule_line.RuleLine.{RuleLine}

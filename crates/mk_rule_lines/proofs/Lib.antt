@@ -1,3 +1,4 @@
+pub mod BarLemmas
 pub mod ExplicitLemmas
 pub mod FormLemmas
 pub mod GoalLemmas
@@ -5,6 +6,7 @@ pub mod ImplicitLemmas
 pub mod InForceLemmas
 pub mod KindLemmas
 pub mod LineLemmas
+pub mod MarkLemmas
 pub mod NameLemmas
 pub mod OwnGoalLemmas
 pub mod PlaceLemmas
@@ -14,3 +16,4 @@ pub mod SuffixLemmas
 pub mod SupportedLemmas
 pub mod TableLemmas
 pub mod TakenLemmas
+pub mod TargetLemmas

@@ -2,17 +2,19 @@
 use Rattle.std.specs.Prelude.{codes}
 use Rattle.std.specs.Bool.{Decides}
 use Rattle.std.specs.List.{list_any, count_by}
-use Rattle.std.proofs.Common.{arith, ◌≡◌, ◌∙◌, ℕ, ◌+◌, Bool, true, false, not, cond, ◌&&◌, ◌||◌, ◌==◌, List, [], ◌∷◌, ◌++◌, length, inl, inr, refl, sym, ap}
+use Rattle.std.proofs.Common.{arith, ◌≡◌, ◌≢◌, ◌∙◌, ℕ, ◌+◌, Bool, true, false, not, cond, ◌&&◌, ◌||◌, ◌==◌, List, [], ◌∷◌, ◌++◌, length, inl, inr, refl, sym, ap, bytes_eq}
 use Rattle.std.proofs.lemmas.Bool.{both_ways, not-true, not_from_false, false_from_ne_true, and_parts, and_from, or_parts, or_from, or_left, or_cases, eqb-true, eq-eqb}
-use Rattle.std.proofs.lemmas.Bool.Decides.{Decides-and, Decides-or, Decides-eqb}
+use Rattle.std.proofs.lemmas.Bool.Decides.{Decides-and, Decides-or, Decides-not, Decides-eqb}
 use Rattle.std.proofs.lemmas.List.Sums.{sum_by-cons, sum_by-append}
+use Rattle.std.proofs.lemmas.Slice.Eq.{bytes_eq-Decides}
 use Rattle.mk_macros.specs.Spelled.{Lacks}
+use Rattle.mk_profile.specs.declared.profile.Profile.{Profile}
+use Rattle.mk_profile.specs.declared.profile.Profile.TheVariants.{Strict, Posix}
 use Rattle.mk_reader.specs.Text.{is_empty}
-use Rattle.mk_rule_lines.specs.InForce.{IsOnePattern}
-use Rattle.mk_rule_lines.specs.Kinds.{IsRule, IsPatternRuleOf}
+use Rattle.mk_rule_lines.specs.Kinds.{IsRule, IsMark, IsOnePattern, BeginsWithPattern, MayMake, IsPatternRuleOf}
 use Rattle.mk_rule_lines.specs.Rules.{has, is_percent, is_rule, is_pattern_rule}
 use Rattle.mk_rule_lines.specs.Supported.{HasBracket, IsRefused, IsSupported}
-use Rattle.mk_rule_lines.specs.Tests.{is_pattern, is_one_pattern, is_whole_pattern_rule, has_bracket, is_refused}
+use Rattle.mk_rule_lines.specs.Tests.{is_pattern, is_one_pattern, is_mark, begins_with_pattern, is_bare, may_make, is_whole_pattern_rule, has_bracket, is_refused}
 use Rattle.mk_rule_lines.specs.declared.fault.Unsupported.{Unsupported}
 use Rattle.mk_rule_lines.specs.declared.fault.Unsupported.TheVariants.{TargetGroup, LibraryMember, PatternRule}
 use Rattle.mk_rule_lines.specs.declared.rule_line.RuleLine.{RuleLine}
@@ -90,40 +92,65 @@ one_pattern_decides names = (
   λ (before, after, is, b, a). ap is_one_pattern is ∙ one_name_is before after b a,
 )
 
+-- ---- the prerequisites of a pattern rule
+
+mark_decides : (word : List ℕ) → Decides (is_mark word) (IsMark word)
+mark_decides word =
+    Decides-or (bytes_eq word (codes ".WAIT")) (bytes_eq word (codes "|")) (bytes_eq-Decides word (codes ".WAIT")) (bytes_eq-Decides word (codes "|"))
+
+begins_decides : (names : List (List ℕ)) → Decides (begins_with_pattern names) (BeginsWithPattern names)
+begins_decides [] = (λ e. both_ways false refl e, λ none. absurd none)
+begins_decides (name ∷ names) = byte_decides 37 name
+
+-- the one target is `%` alone
+bare_decides : (target : List ℕ) → Decides (not (is_bare (target ∷ []))) (target ≢ 37 ∷ [])
+bare_decides target = Decides-not (is_bare (target ∷ [])) (
+  λ e.
+      elim (or_cases (bytes_eq (37 ∷ []) target) false e) [
+        | inl same ↦ sym ((bytes_eq-Decides (37 ∷ []) target).0 same)
+        | inr none ↦ absurd (both_ways false refl none)
+      ],
+  λ same. or_left (bytes_eq (37 ∷ []) target) false ((bytes_eq-Decides (37 ∷ []) target).1 (sym same)),
+)
+
+make_decides : (profile : Profile) (target : List ℕ) (names : List (List ℕ)) → Decides (may_make profile (target ∷ []) names) (MayMake profile target names)
+make_decides Strict target names = one_pattern_decides names
+make_decides Posix target names =
+    Decides-and (not (list_any is_mark names)) (not (is_bare (target ∷ [])) || begins_with_pattern names)
+    (Decides-not (list_any is_mark names) (any_decides is_mark IsMark mark_decides names))
+    (Decides-or (not (is_bare (target ∷ []))) (begins_with_pattern names) (bare_decides target) (begins_decides names))
+
 -- ---- pattern rules
 
 module _ (l : RuleLine) where
   abbrev pub Whole : Type 0
-  Whole = (before : List ℕ) × (after : List ℕ) × (front : List ℕ) × (back : List ℕ) × IsPatternRuleOf before after front back l
+  Whole = (before : List ℕ) × (after : List ℕ) × IsPatternRuleOf before after l
 
   pub whole_rule : IsRule l → is_whole_pattern_rule l ≡ true → Whole
   whole_rule rule h =
-      let parts = and_parts (is_one_pattern l.targets) (is_one_pattern l.prerequisites && not (is_empty l.recipe)) h in
-      let more = and_parts (is_one_pattern l.prerequisites) (not (is_empty l.recipe)) parts.1 in
-      let (target, targets_are, t) = one_name l.targets parts.0 in
-      let (source, sources_are, s) = one_name l.prerequisites more.0 in
-      let (before, after, target_is, b, a) = parts_of target (eqb-true (count target) 1 t) in
-      let (front, back, source_is, f, k) = parts_of source (eqb-true (count source) 1 s) in (
+      let parts = and_parts (is_one_pattern l.targets) (may_make l.profile l.targets l.prerequisites && not (is_empty l.recipe)) h in
+      let more = and_parts (may_make l.profile l.targets l.prerequisites) (not (is_empty l.recipe)) parts.1 in
+      let (before, after, target, b, a) = (one_pattern_decides l.targets).0 parts.0 in (
         before,
         after,
-        front,
-        back,
         record {
           rule = rule;
-          targets = targets_are ∙ ap (λ n. n ∷ []) target_is;
-          prerequisites = sources_are ∙ ap (λ n. n ∷ []) source_is;
-          target_lacks = (b, a);
-          source_lacks = (f, k);
+          targets = target;
+          lacks = (b, a);
+          prerequisites =
+              (make_decides l.profile (before ++ 37 ∷ after) l.prerequisites).0
+              (ap (λ (ts : List (List ℕ)). may_make l.profile ts l.prerequisites) (sym target) ∙ more.0);
           recipe = (recipe_decides l).0 more.1;
         },
       )
 
-  pub whole_rule_is : (before after front back : List ℕ) → IsPatternRuleOf before after front back l → is_whole_pattern_rule l ≡ true
-  whole_rule_is before after front back is =
-      and_from (is_one_pattern l.targets) (is_one_pattern l.prerequisites && not (is_empty l.recipe))
-      (ap is_one_pattern is.targets ∙ one_name_is before after is.target_lacks.0 is.target_lacks.1)
-      (and_from (is_one_pattern l.prerequisites) (not (is_empty l.recipe))
-      (ap is_one_pattern is.prerequisites ∙ one_name_is front back is.source_lacks.0 is.source_lacks.1) ((recipe_decides l).1 is.recipe))
+  pub whole_rule_is : (before after : List ℕ) → IsPatternRuleOf before after l → is_whole_pattern_rule l ≡ true
+  whole_rule_is before after is =
+      and_from (is_one_pattern l.targets) (may_make l.profile l.targets l.prerequisites && not (is_empty l.recipe))
+      ((one_pattern_decides l.targets).1 (before, after, is.targets, is.lacks.0, is.lacks.1))
+      (and_from (may_make l.profile l.targets l.prerequisites) (not (is_empty l.recipe))
+      (ap (λ (ts : List (List ℕ)). may_make l.profile ts l.prerequisites) is.targets
+      ∙ (make_decides l.profile (before ++ 37 ∷ after) l.prerequisites).1 is.prerequisites) ((recipe_decides l).1 is.recipe))
 
 -- ---- refused lines
 
@@ -139,12 +166,11 @@ refused_decides LibraryMember l =
 refused_decides PatternRule l = (
   (λ e. let parts = and_parts (is_pattern_rule l) (not (is_whole_pattern_rule l)) e in (
     (pattern_rule_decides l).0 parts.0,
-    λ before after front back is.
-        both_ways (is_whole_pattern_rule l) (not-true (is_whole_pattern_rule l) parts.1) (whole_rule_is l before after front back is),
+    λ before after is. both_ways (is_whole_pattern_rule l) (not-true (is_whole_pattern_rule l) parts.1) (whole_rule_is l before after is),
   )),
   λ h. and_from (is_pattern_rule l) (not (is_whole_pattern_rule l)) ((pattern_rule_decides l).1 h.0)
       (not_from_false (is_whole_pattern_rule l) (false_from_ne_true (is_whole_pattern_rule l)
-      (λ e. let (before, after, front, back, is) = whole_rule l h.0.0 e in h.1 before after front back is))),
+      (λ e. let (before, after, is) = whole_rule l h.0.0 e in h.1 before after is))),
 )
 
 pub refused : (what : Unsupported) (l : RuleLine) → true ≡ is_refused what l → IsRefused what l

@@ -2,6 +2,8 @@
 use Rattle.std.specs.Prelude.{ℕ, ◌+◌, List, [], ◌∷◌, ◌++◌, take, drop, flat_map, Bool, true, false, map, if◌then◌else◌}
 use Rattle.std.specs.Option.{option_map_or}
 use Rattle.mk_macros.specs.Words.{place_of}
+use Rattle.mk_profile.specs.declared.profile.Profile.{Profile}
+use Rattle.mk_rule_lines.specs.Kinds.{leaves_folders}
 use Rattle.mk_rule_lines.specs.Rules.{is_pattern_rule, targets_by, recipe_places}
 use Rattle.mk_rule_lines.specs.declared.form.Form.{Form}
 use Rattle.mk_rule_lines.specs.declared.rule_line.RuleLine.{RuleLine}
@@ -13,25 +15,25 @@ before_percent name = option_map_or (λ i. take i name) (place_of 37 name) name
 abbrev pub behind_percent : (name : List ℕ) → List ℕ
 behind_percent name = option_map_or (λ i. drop (i + 1) name) (place_of 37 name) []
 
--- the form of the pattern rule `target : source` of this line
-abbrev pub pattern_form : (rule : ℕ) (target source : List ℕ) → Form
-pattern_form rule target source = record {
+-- the form of the pattern rule `target : prerequisites` of this line
+abbrev pub pattern_form : (rule : ℕ) → Profile → (target : List ℕ) (prerequisites : List (List ℕ)) → Form
+pattern_form rule profile target prerequisites = record {
   before = before_percent target;
   after = behind_percent target;
-  front = before_percent source;
-  back = behind_percent source;
+  prerequisites = prerequisites;
+  leaves_folders = leaves_folders profile target;
   takes_empty = false;
   rule = rule;
 }
 
--- the form of a rule of one target and one prerequisite
-abbrev pub form_of_names : (rule : ℕ) → (targets sources : List (List ℕ)) → List Form
-form_of_names rule (target ∷ []) (source ∷ []) = pattern_form rule target source ∷ []
-form_of_names rule _ _ = []
+-- the form of a rule of one target
+abbrev pub form_of_names : (rule : ℕ) → Profile → (targets prerequisites : List (List ℕ)) → List Form
+form_of_names rule profile (target ∷ []) prerequisites = pattern_form rule profile target prerequisites ∷ []
+form_of_names rule profile _ prerequisites = []
 
 -- the forms of a line, which has one where it is a pattern rule
 abbrev pub form_of_line : (rule : ℕ) → RuleLine → List Form
-form_of_line rule l = if is_pattern_rule l then form_of_names rule l.targets l.prerequisites else []
+form_of_line rule l = if is_pattern_rule l then form_of_names rule l.profile l.targets l.prerequisites else []
 
 -- the forms of the pattern rules in the order of their lines, the first of which has the number k
 -- (make(1S), "Pattern Matching Rules")
@@ -42,7 +44,7 @@ pattern_forms k (l ∷ lines) = form_of_line k l ++ pattern_forms (k + 1) lines
 -- a suffix rule's form: a name that ends in `after` comes from the same one with `back` in its place
 abbrev pub suffix_form : (after back : List ℕ) (takes_empty : Bool) (rule : ℕ) → Form
 suffix_form after back takes_empty rule =
-    record { before = []; after = after; front = []; back = back; takes_empty = takes_empty; rule = rule }
+    record { before = []; after = after; prerequisites = (37 ∷ back) ∷ []; leaves_folders = false; takes_empty = takes_empty; rule = rule }
 
 -- the lines that have the recipe of a suffix rule
 abbrev pub suffix_rules : (suffixes : List (List ℕ)) → List RuleLine → (name : List ℕ) → List ℕ

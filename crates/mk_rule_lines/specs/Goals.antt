@@ -3,11 +3,13 @@ use Rattle.std.specs.Prelude.{◌≡◌, ℕ, Bool, true, false, not, ◌&&◌, 
 use Rattle.std.specs.List.{All, list_any}
 use Rattle.mk_macros.specs.Spelled.{Lacks}
 use Rattle.mk_reader.specs.declared.special.SpecialName.{SpecialName}
-use Rattle.mk_reader.specs.declared.special.SpecialName.TheVariants.{KeepState, NoParallel, Ignore, Silent}
+use Rattle.mk_reader.specs.declared.special.SpecialName.TheVariants.{KeepState, NoParallel, NotParallel, DeleteOnError}
 use Rattle.mk_rule_lines.specs.Kinds.{IsRule, IsPatternRule, IsSuffixRule}
+use Rattle.mk_rule_lines.specs.Marks.{marked_by}
 use Rattle.mk_rule_lines.specs.Rules.{suffixes_of, is_rule, is_pattern_rule, is_suffix_target}
 use Rattle.mk_rule_lines.specs.declared.fault.RuleFault.{RuleFault}
 use Rattle.mk_rule_lines.specs.declared.fault.RuleFault.TheVariants as fault
+use Rattle.mk_rule_lines.specs.declared.marked.Mark.TheVariants.{Ignored, Silent, Precious}
 use Rattle.mk_rule_lines.specs.declared.rule_line.RuleLine.{RuleLine}
 use Rattle.mk_rule_lines.specs.declared.settings.Settings.{Settings}
 
@@ -91,25 +93,25 @@ is_keep_state _ = false
 
 abbrev pub is_no_parallel : Option SpecialName → Bool
 is_no_parallel (Some NoParallel) = true
+is_no_parallel (Some NotParallel) = true
 is_no_parallel _ = false
 
-abbrev pub is_ignore : Option SpecialName → Bool
-is_ignore (Some Ignore) = true
-is_ignore _ = false
-
-abbrev pub is_silent : Option SpecialName → Bool
-is_silent (Some Silent) = true
-is_silent _ = false
+abbrev pub is_delete_on_error : Option SpecialName → Bool
+is_delete_on_error (Some DeleteOnError) = true
+is_delete_on_error _ = false
 
 -- some line is of such a special rule
 abbrev pub has_special : (is_it : Option SpecialName → Bool) → List RuleLine → Bool
 has_special is_it lines = list_any (λ l. is_it l.special) lines
 
--- what the special targets of these lines set (make(1S), "Special-Function Targets"; `.NO_PARALLEL` is dmake's)
+-- what the special targets of these lines set (make(1S), "Special-Function Targets"; `.NO_PARALLEL`: the dmake manual; `.NOTPARALLEL` and
+-- `.DELETE_ON_ERROR`: GNU make manual, "Special Built-in Target Names")
 abbrev pub settings_of : List RuleLine → Settings
 settings_of lines = record {
   keeps_state = has_special is_keep_state lines;
   has_one_worker = has_special is_no_parallel lines;
-  ignores_statuses = has_special is_ignore lines;
-  prints_no_lines = has_special is_silent lines;
+  deletes_on_error = has_special is_delete_on_error lines;
+  ignored = marked_by Ignored lines;
+  silent = marked_by Silent lines;
+  precious = marked_by Precious lines;
 }

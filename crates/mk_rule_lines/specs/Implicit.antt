@@ -1,16 +1,18 @@
 -- Which implicit rules lines have, and in which order they are tried: told of the lines and of the list of suffixes. `Forms`
 -- computes them.
 use Rattle.std.specs.Prelude.{◌≡◌, ℕ, ◌+◌, true, false, List, [], ◌∷◌, ◌++◌, map, flat_map}
-use Rattle.mk_rule_lines.specs.Kinds.{IsPatternRule, IsPatternRuleOf, IsSuffixRuleFor}
+use Rattle.mk_rule_lines.specs.Kinds.{leaves_folders, IsPatternRule, IsPatternRuleOf, IsSuffixRuleFor}
 use Rattle.mk_rule_lines.specs.ByName.{HasRecipeAt}
 use Rattle.mk_rule_lines.specs.declared.form.Form.{Form}
 use Rattle.mk_rule_lines.specs.declared.rule_line.RuleLine.{RuleLine}
 
 -- Pattern rules
 
--- line k is the pattern rule `before%after : front%back` of this form (make(1S), "Pattern Matching Rules")
+-- line k is the pattern rule `before%after : prerequisites` of this form (make(1S), "Pattern Matching Rules")
 pub record IsPatternForm (k : ℕ) (l : RuleLine) (form : Form) : Type 0 where
-  pub is : IsPatternRuleOf form.before form.after form.front form.back l
+  pub is : IsPatternRuleOf form.before form.after l
+  pub prerequisites : form.prerequisites ≡ l.prerequisites
+  pub folders : form.leaves_folders ≡ leaves_folders l.profile (form.before ++ 37 ∷ form.after)
   pub stem : form.takes_empty ≡ false
   pub rule : form.rule ≡ k
 
@@ -36,8 +38,8 @@ name_of (of_one s) = s
 -- by the rule `st` of line k a name that ends in t, behind a stem, comes from the stem and s; by the rule `s` any name, also the
 -- empty one, comes from itself and s (make(1S), "Suffix Rules"; POSIX make, "Inference Rules")
 abbrev pub form_of : SuffixRule → (k : ℕ) → Form
-form_of (of_two s t) k = record { before = []; after = t; front = []; back = s; takes_empty = false; rule = k }
-form_of (of_one s) k = record { before = []; after = []; front = []; back = s; takes_empty = true; rule = k }
+form_of (of_two s t) k = record { before = []; after = t; prerequisites = (37 ∷ s) ∷ []; leaves_folders = false; takes_empty = false; rule = k }
+form_of (of_one s) k = record { before = []; after = []; prerequisites = (37 ∷ s) ∷ []; leaves_folders = false; takes_empty = true; rule = k }
 
 -- the rules in the order in which they are tried: for each suffix s in the order of the list, `st` for each suffix t in that
 -- order, and then `s` (own order)

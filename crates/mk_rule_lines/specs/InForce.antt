@@ -3,19 +3,13 @@
 use Rattle.std.specs.Prelude.{◌≡◌, ◌⊎◌, ℕ, List, [], ◌∷◌, ◌++◌, Contains}
 use Rattle.std.specs.List.{Any}
 use Rattle.mk_macros.specs.Ranks.{Defined}
-use Rattle.mk_macros.specs.Spelled.{Lacks}
 use Rattle.mk_profile.specs.declared.profile.Profile.{Profile}
 use Rattle.mk_profile.specs.declared.profile.Profile.TheVariants.{Strict, Posix}
 use Rattle.mk_reader.specs.declared.item.Item.{Item}
-use Rattle.mk_rule_lines.specs.Kinds.{IsRule, HasRecipe}
+use Rattle.mk_rule_lines.specs.Kinds.{IsRule, HasRecipe, IsOnePattern}
 use Rattle.mk_rule_lines.specs.Lines.{AreRuleLines}
 use Rattle.mk_rule_lines.specs.Rules.{suffixes_of}
 use Rattle.mk_rule_lines.specs.declared.rule_line.RuleLine.{RuleLine}
-
--- one name, with one `%`
-abbrev pub IsOnePattern : (names : List (List ℕ)) → Type 0
-IsOnePattern names =
-    (before : List ℕ) × (after : List ℕ) × (names ≡ (before ++ 37 ∷ after) ∷ []) × Lacks 37 before × Lacks 37 after
 
 -- a pattern rule of one target and one prerequisite, with one `%` in each, and without a recipe
 pub record IsTaking (l : RuleLine) : Type 0 where

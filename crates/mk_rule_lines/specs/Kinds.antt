@@ -1,7 +1,10 @@
 -- What kind a rule line is, and what its targets are: told of the line, whatever order it is looked at in.
-use Rattle.std.specs.Prelude.{◌≡◌, ◌≢◌, ◌⊎◌, ℕ, List, [], ◌∷◌, ◌++◌, Some, None, Contains}
-use Rattle.std.specs.List.{Any}
+use Rattle.std.specs.Prelude.{◌≡◌, ◌≢◌, ◌⊎◌, ℕ, Bool, false, not, List, [], ◌∷◌, ◌++◌, Some, None, Contains, codes}
+use Rattle.std.specs.List.{Any, list_any}
 use Rattle.mk_macros.specs.Spelled.{Lacks}
+use Rattle.mk_macros.specs.Words.{is_byte}
+use Rattle.mk_profile.specs.declared.profile.Profile.{Profile}
+use Rattle.mk_profile.specs.declared.profile.Profile.TheVariants.{Strict, Posix}
 use Rattle.mk_reader.specs.declared.special.SpecialName.TheVariants.{Phony}
 use Rattle.mk_rule_lines.specs.declared.rule_line.RuleLine.{RuleLine}
 
@@ -17,14 +20,39 @@ HasRecipe l = l.recipe ≢ []
 abbrev pub IsPatternRule : RuleLine → Type 0
 IsPatternRule l = IsRule l × Any (λ target. Contains target 37) l.targets
 
--- the pattern rule `before%after : front%back` with a recipe: one target and one prerequisite, and one `%` in each
--- (make(1S), "Pattern Matching Rules")
-pub record IsPatternRuleOf (before after front back : List ℕ) (l : RuleLine) : Type 0 where
+-- a pattern rule leaves the folders of names aside in the wide profile, where its target has no `/` (GNU make manual, "How Patterns
+-- Match")
+abbrev pub leaves_folders : Profile → (target : List ℕ) → Bool
+leaves_folders Strict target = false
+leaves_folders Posix target = not (list_any (is_byte 47) target)
+
+-- a word that stands for no prerequisite: `.WAIT` (dmake manual), and the bar before order-only ones (GNU make manual)
+abbrev pub IsMark : (word : List ℕ) → Type 0
+IsMark word = (word ≡ codes ".WAIT") ⊎ (word ≡ codes "|")
+
+-- one name, with one `%`
+abbrev pub IsOnePattern : (names : List (List ℕ)) → Type 0
+IsOnePattern names =
+    (before : List ℕ) × (after : List ℕ) × (names ≡ (before ++ 37 ∷ after) ∷ []) × Lacks 37 before × Lacks 37 after
+
+-- the first of these names has a `%`
+abbrev pub BeginsWithPattern : (names : List (List ℕ)) → Type 0
+BeginsWithPattern [] = ⊥
+BeginsWithPattern (name ∷ names) = Contains name 37
+
+-- what may be the prerequisites of a pattern rule: in the strict profile one name with one `%` (make(1S), "Pattern Matching Rules");
+-- in the wide one any names, also none (GNU make manual, "Pattern Rules"; without marks, and `%` alone only from a first one with a
+-- `%`: own)
+abbrev pub MayMake : Profile → (target : List ℕ) (prerequisites : List (List ℕ)) → Type 0
+MayMake Strict target prerequisites = IsOnePattern prerequisites
+MayMake Posix target prerequisites = (Any IsMark prerequisites → ⊥) × ((target ≢ 37 ∷ []) ⊎ BeginsWithPattern prerequisites)
+
+-- the pattern rule `before%after : prerequisites` with a recipe: one target, with one `%` (make(1S), "Pattern Matching Rules")
+pub record IsPatternRuleOf (before after : List ℕ) (l : RuleLine) : Type 0 where
   pub rule : IsRule l
   pub targets : l.targets ≡ (before ++ 37 ∷ after) ∷ []
-  pub prerequisites : l.prerequisites ≡ (front ++ 37 ∷ back) ∷ []
-  pub target_lacks : Lacks 37 before × Lacks 37 after
-  pub source_lacks : Lacks 37 front × Lacks 37 back
+  pub lacks : Lacks 37 before × Lacks 37 after
+  pub prerequisites : MayMake l.profile (before ++ 37 ∷ after) l.prerequisites
   pub recipe : HasRecipe l
 
 -- one suffix, or two joined

@@ -8,6 +8,7 @@ pub mod Implicit
 pub mod InForce
 pub mod Kinds
 pub mod Lines
+pub mod Marks
 pub mod Rules
 pub mod Source
 pub mod Suffixes

@@ -13,11 +13,11 @@ abbrev pub HasBracket : (name : List ℕ) → Type 0
 HasBracket name = Contains name 40
 
 -- a rule line is refused for this cause: a target `+`, a bracket in a target or a prerequisite, or a `%` in a target of a line
--- that isn't one target with one `%`, one prerequisite with one, and a recipe. Special rules are not
+-- that isn't one target with one `%`, what may make it, and a recipe. Special rules are not
 abbrev pub IsRefused : Unsupported → RuleLine → Type 0
 IsRefused TargetGroup l = IsRule l × Contains l.targets (codes "+")
 IsRefused LibraryMember l = IsRule l × (Any HasBracket l.targets ⊎ Any HasBracket l.prerequisites)
-IsRefused PatternRule l = IsPatternRule l × ((before after front back : List ℕ) → IsPatternRuleOf before after front back l → ⊥)
+IsRefused PatternRule l = IsPatternRule l × ((before after : List ℕ) → IsPatternRuleOf before after l → ⊥)
 
 -- a line is refused for no cause
 pub record IsSupported (l : RuleLine) : Type 0 where

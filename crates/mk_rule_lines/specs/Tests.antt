@@ -3,8 +3,10 @@ use Rattle.std.specs.Prelude.{ℕ, Bool, false, not, ◌&&◌, ◌||◌, ◌==�
 use Rattle.std.specs.List.{list_any}
 use Rattle.std.specs.Option.{option_map_or}
 use Rattle.mk_macros.specs.Words.{without_front}
+use Rattle.mk_profile.specs.declared.profile.Profile.{Profile}
+use Rattle.mk_profile.specs.declared.profile.Profile.TheVariants.{Strict, Posix}
 use Rattle.mk_reader.specs.Text.{is_empty}
-use Rattle.mk_rule_lines.specs.Rules.{has, is_percent, is_rule, is_pattern_rule, may_be_suffix_rule}
+use Rattle.mk_rule_lines.specs.Rules.{has, is_percent, has_percent, is_rule, is_pattern_rule, may_be_suffix_rule}
 use Rattle.mk_rule_lines.specs.declared.fault.Unsupported.{Unsupported}
 use Rattle.mk_rule_lines.specs.declared.fault.Unsupported.TheVariants.{TargetGroup, LibraryMember, PatternRule}
 use Rattle.mk_rule_lines.specs.declared.rule_line.RuleLine.{RuleLine}
@@ -17,9 +19,27 @@ is_pattern name = count_by is_percent name == 1
 abbrev pub is_one_pattern : List (List ℕ) → Bool
 is_one_pattern names = (length names == 1) && list_any is_pattern names
 
--- one target and one prerequisite, each with one `%`, and a recipe
+-- the word is `.WAIT` or the bar
+abbrev pub is_mark : (word : List ℕ) → Bool
+is_mark word = bytes_eq word (codes ".WAIT") || bytes_eq word (codes "|")
+
+-- the first of these names has a `%`
+abbrev pub begins_with_pattern : (names : List (List ℕ)) → Bool
+begins_with_pattern [] = false
+begins_with_pattern (name ∷ names) = has_percent name
+
+-- the targets are `%` alone
+abbrev pub is_bare : (targets : List (List ℕ)) → Bool
+is_bare targets = has (37 ∷ []) targets
+
+-- these may be the prerequisites of a pattern rule
+abbrev pub may_make : Profile → (targets prerequisites : List (List ℕ)) → Bool
+may_make Strict targets prerequisites = is_one_pattern prerequisites
+may_make Posix targets prerequisites = not (list_any is_mark prerequisites) && (not (is_bare targets) || begins_with_pattern prerequisites)
+
+-- one target with one `%`, such prerequisites, and a recipe
 abbrev pub is_whole_pattern_rule : RuleLine → Bool
-is_whole_pattern_rule l = is_one_pattern l.targets && (is_one_pattern l.prerequisites && not (is_empty l.recipe))
+is_whole_pattern_rule l = is_one_pattern l.targets && (may_make l.profile l.targets l.prerequisites && not (is_empty l.recipe))
 
 abbrev pub is_bracket : ℕ → Bool
 is_bracket b = b == 40

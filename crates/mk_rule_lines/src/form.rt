@@ -1,21 +1,24 @@
 //! Implicit rules: pattern rules and suffix rules in one shape.
-ghost use Rattle.std.specs.Prelude.{◌≡◌, IfOk};
-ghost use Rattle.std.specs.Option.{option_copied};
-ghost use Rattle.mk_rule_lines.specs.Source.{stem_of, source_at};
+ghost use Rattle.std.specs.Prelude.{◌≡◌, [], ◌∷◌, ◌++◌, map, option_map, IfOk, OnOk};
+ghost use Rattle.mk_rule_lines.specs.Source.{with_stem, seen_by, stem_of, source_at};
 
-use byte_strings::ByteString;
+use crate::folder::parted;
+use crate::forms::percent;
+use byte_strings::{ByteString, ByteStrings};
 use std::alloc::{AllocError, Global};
 
-/// A rule that makes any name of one form: `before`, a stem and `after`. Its source is `front`, the stem and `back`.
+/// A rule that makes any name of one form: `before`, a stem and `after`. In each of its prerequisites the stem stands for the first
+/// `%`. Where it leaves folders aside, the form is that of a name without its folder, which then stands before all that the stem is
+/// in.
 ///
-/// The pattern rule `x%y : a%b` has all four, the suffix rule `.c.o` has `after` and `back`, and the suffix rule `.c`
-/// has `back` alone.
+/// The suffix rule `.c.o` has `.o` behind the stem and is made from `%.c`; so is any name by the suffix rule `.c`.
 #[derive(Drop)]
 pub struct Form {
     pub before: ByteString,
     pub after: ByteString,
-    pub front: ByteString,
-    pub back: ByteString,
+    pub prerequisites: ByteStrings,
+    /// Whether the folder of a name is left aside: it stands before the sources, and is no part of what the form is told by.
+    pub leaves_folders: bool,
     /// Whether the stem may be empty: the suffix rule `.c` makes any name, also the empty one.
     pub takes_empty: bool,
     /// Which rule line has the recipe, from 0.
@@ -25,35 +28,83 @@ pub struct Form {
 /// What an implicit rule makes a name from.
 #[derive(Drop)]
 pub struct Source {
-    pub name: ByteString,
+    pub names: ByteStrings,
     pub stem: ByteString,
     /// Which rule line has the recipe, from 0.
     pub rule: usize,
 }
 
+/// Adds a pattern with the stem in the place of its first `%`, in the folder.
+fn push_with_stem(
+    alloc: Global,
+    names: &mut ByteStrings,
+    pattern: &[u8],
+    folder: &[u8],
+    stem: &[u8],
+) -> Result<(), AllocError>
+    ensures { OnOk result (names.new ≡ names.old ++ with_stem folder.now stem.now pattern.now ∷ []) }
+{
+    let Some(place) = percent(pattern) else {
+        return names.push(pattern);
+    };
+    let mut name = Vec::from_slice(alloc, folder)?;
+    name.extend_from_slice(&pattern[..place])?;
+    name.extend_from_slice(stem)?;
+    name.extend_from_slice(&pattern[place + 1..])?;
+    names.push(&name)
+}
+
+/// The patterns with the stem in the place of their first `%`, in the folder.
+fn with_stems(
+    alloc: Global,
+    patterns: &ByteStrings,
+    folder: &[u8],
+    stem: &[u8],
+) -> Result<ByteStrings, AllocError>
+    ensures { IfOk result (λ names. names ≡ map (with_stem folder.now stem.now) patterns.now) }
+{
+    let mut names = ByteStrings::empty(alloc);
+    for pattern in patterns.iter() {
+        push_with_stem(alloc, &mut names, pattern, folder, stem)?;
+    }
+    Ok(names)
+}
+
 impl Form {
-    /// The stem of a name of this form: at least one byte, unless it may be empty.
-    pub fn stem<'n>(&self, name: &'n [u8]) -> Option<&'n [u8]>
-        ensures { option_copied result ≡ stem_of self.now name.now }
+    /// The folder of a name that is left aside, if one is, and the rest.
+    fn seen<'n>(&self, name: &'n [u8]) -> (&'n [u8], &'n [u8])
+        ensures { (result.0.now, result.1.now) ≡ seen_by self.now name.now }
     {
-        let behind = name.strip_prefix(self.before.as_slice())?;
-        let stem = behind.strip_suffix(self.after.as_slice())?;
-        if stem.is_empty() && !self.takes_empty {
-            return None;
+        if self.leaves_folders {
+            parted(name)
+        } else {
+            (&[], name)
         }
-        Some(stem)
     }
 
-    /// The source of a name with this stem.
-    pub fn source(&self, alloc: Global, stem: &[u8]) -> Result<Source, AllocError>
-        ensures { IfOk result (λ source. source ≡ source_at self.now stem.now) }
+    /// The stem of a name of this form, behind the folder that is left aside: together at least one byte, unless they may be
+    /// empty.
+    pub fn stem<'n>(&self, name: &'n [u8]) -> Option<(&'n [u8], &'n [u8])>
+        ensures { option_map (λ s. (s.0.now, s.1.now)) result ≡ stem_of self.now name.now }
     {
-        let mut name = Vec::from_slice(alloc, self.front.as_slice())?;
-        name.extend_from_slice(stem)?;
-        name.extend_from_slice(self.back.as_slice())?;
+        let (folder, file) = self.seen(name);
+        let behind = file.strip_prefix(self.before.as_slice())?;
+        let stem = behind.strip_suffix(self.after.as_slice())?;
+        if folder.is_empty() && stem.is_empty() && !self.takes_empty {
+            return None;
+        }
+        Some((folder, stem))
+    }
+
+    /// What a name with this stem in this folder is made from.
+    pub fn source(&self, alloc: Global, folder: &[u8], stem: &[u8]) -> Result<Source, AllocError>
+        ensures { IfOk result (λ source. source ≡ source_at self.now (folder.now, stem.now)) }
+    {
+        let mut whole = Vec::from_slice(alloc, folder)?;
+        whole.extend_from_slice(stem)?;
         Ok(Source {
-            name: ByteString::new(name),
-            stem: ByteString::from_slice(alloc, stem)?,
+            names: with_stems(alloc, &self.prerequisites, folder, stem)?,
+            stem: ByteString::new(whole),
             rule: self.rule,
         })
     }

@@ -1,6 +1,8 @@
 //! All implicit rules of a makefile, made once.
-ghost use Rattle.std.specs.Prelude.{◌≡◌, ◌<◌, true, ◌++◌, length, option_to_list, IfOk, OnOk, IfSome};
-ghost use Rattle.mk_macros.specs.Words.{place_of};
+ghost use Rattle.std.specs.Prelude.{◌≡◌, ◌<◌, true, [], ◌∷◌, ◌++◌, length, option_to_list, IfOk, OnOk, IfSome};
+ghost use Rattle.std.specs.List.{list_any};
+ghost use Rattle.mk_macros.specs.Words.{is_byte, place_of};
+ghost use Rattle.mk_rule_lines.specs.Kinds.{leaves_folders};
 ghost use Rattle.mk_rule_lines.specs.Rules.{targets_by};
 ghost use Rattle.mk_rule_lines.specs.Table.{IsTable, recipes_in};
 ghost use Rattle.mk_rule_lines.specs.Forms.{before_percent, behind_percent, pattern_form, form_of_line, suffix_form, pair_forms, single_forms, forms_from, suffix_forms, pattern_forms, forms_of};
@@ -8,11 +10,12 @@ ghost use Rattle.mk_rule_lines.specs.Forms.{before_percent, behind_percent, patt
 use crate::form::Form;
 use crate::rule_line::RuleLine;
 use crate::table::TargetTable;
-use byte_strings::{ByteString, ByteStrings};
+use byte_strings::{ByteString, ByteStrings, Words};
+use mk_profile::Profile;
 use std::alloc::{AllocError, Global};
 
 /// The place of the first `%`.
-fn percent(name: &[u8]) -> Option<usize>
+pub(crate) fn percent(name: &[u8]) -> Option<usize>
     ensures place { result ≡ place_of 37 name.now }
     ensures within { IfSome result (λ place. place < length name.now) }
 {
@@ -37,22 +40,50 @@ fn behind_percent(name: &[u8]) -> &[u8]
     }
 }
 
+fn has_slash(name: &[u8]) -> bool
+    ensures { result ≡ list_any (is_byte 47) name.now }
+{
+    name.iter().any(|b| *b == b'/')
+}
+
+/// Whether a pattern rule with this target leaves the folders of names aside.
+fn leaves_folders(profile: Profile, target: &[u8]) -> bool
+    ensures { result ≡ leaves_folders profile target.now }
+{
+    match profile {
+        Profile::Strict => false,
+        Profile::Posix => !has_slash(target),
+    }
+}
+
 fn pattern_form(
     alloc: Global,
     rule: usize,
+    profile: Profile,
     target: &[u8],
-    source: &[u8],
+    prerequisites: ByteStrings,
 ) -> Result<Form, AllocError>
-    ensures { IfOk result (λ form. form ≡ pattern_form rule target.now source.now) }
+    ensures { IfOk result (λ form. form ≡ pattern_form rule profile target.now prerequisites) }
 {
     Ok(Form {
         before: ByteString::from_slice(alloc, before_percent(target))?,
         after: ByteString::from_slice(alloc, behind_percent(target))?,
-        front: ByteString::from_slice(alloc, before_percent(source))?,
-        back: ByteString::from_slice(alloc, behind_percent(source))?,
+        prerequisites,
+        leaves_folders: leaves_folders(profile, target),
         takes_empty: false,
         rule,
     })
+}
+
+/// The name `%` with this behind it, alone.
+fn pattern_to(alloc: Global, back: &[u8]) -> Result<ByteStrings, AllocError>
+    ensures { IfOk result (λ names. names ≡ (37 ∷ back.now) ∷ []) }
+{
+    let mut pattern = Vec::from_slice(alloc, b"%")?;
+    pattern.extend_from_slice(back)?;
+    let mut names = ByteStrings::empty(alloc);
+    names.push(&pattern)?;
+    Ok(names)
 }
 
 fn suffix_form(
@@ -67,11 +98,22 @@ fn suffix_form(
     Ok(Form {
         before: ByteString::new(Vec::new(alloc)),
         after: ByteString::from_slice(alloc, after)?,
-        front: ByteString::new(Vec::new(alloc)),
-        back: ByteString::from_slice(alloc, back)?,
+        prerequisites: pattern_to(alloc, back)?,
+        leaves_folders: false,
         takes_empty,
         rule,
     })
+}
+
+/// The words.
+fn listed(alloc: Global, words: Words) -> Result<ByteStrings, AllocError>
+    ensures { IfOk result (λ names. names ≡ words.entry) }
+{
+    let mut names = ByteStrings::empty(alloc);
+    for word in words {
+        names.push(word)?;
+    }
+    Ok(names)
 }
 
 /// Adds the form of a line, where it is a pattern rule.
@@ -83,11 +125,13 @@ fn add_form_of_line(
 ) -> Result<(), AllocError>
     ensures { OnOk result (forms.new.items ≡ forms.old.items ++ form_of_line rule line.now) }
 {
-    if !line.is_pattern_rule() || !line.targets.is_one() || !line.prerequisites.is_one() {
+    if !line.is_pattern_rule() || !line.targets.is_one() {
         return Ok(());
     }
-    if let (Some(target), Some(source)) = (line.targets.first(), line.prerequisites.first()) {
-        forms.push(pattern_form(alloc, rule, target, source)?)?;
+    if let Some(target) = line.targets.first() {
+        let prerequisites = listed(alloc, line.prerequisites.iter())?;
+        let form = pattern_form(alloc, rule, line.profile, target, prerequisites)?;
+        forms.push(form)?;
     }
     Ok(())
 }

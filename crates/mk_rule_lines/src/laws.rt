@@ -1,16 +1,19 @@
 //! What holds of the definitions alone: those by which the code is proved come to what is told of the lines. The functions do
 //! nothing: what they ensure is the law.
 ghost use Rattle.std.specs.Prelude.{◌≡◌, ◌↔◌, ℕ, List, [], ◌∷◌, true, false};
+ghost use Rattle.std.specs.Bool.{Decides};
 ghost use Rattle.mk_rule_lines.specs.ByName.{AreLines, HasRecipeAt};
 ghost use Rattle.mk_rule_lines.specs.Explicit.{lines_of};
 ghost use Rattle.mk_rule_lines.specs.Forms.{forms_of};
 ghost use Rattle.mk_rule_lines.specs.Goals.{AreGoals, goals_of};
 ghost use Rattle.mk_rule_lines.specs.Implicit.{AreForms};
 ghost use Rattle.mk_rule_lines.specs.Kinds.{IsRuleFor, IsSuffixRuleFor};
+ghost use Rattle.mk_rule_lines.specs.Marks.{HasMark, marked_by, has_mark};
 ghost use Rattle.mk_rule_lines.specs.Rules.{suffixes_of, targets_by, recipe_places};
 ghost use Rattle.mk_rule_lines.specs.Suffixes.{AreSuffixes};
 ghost use Rattle.mk_rule_lines.specs.Taken.{AreTaken};
 ghost use Rattle.mk_rule_lines.specs.declared.form.Form.{Form};
+ghost use Rattle.mk_rule_lines.specs.declared.marked.Mark.{Mark};
 ghost use Rattle.mk_rule_lines.specs.declared.rule_line.RuleLine.{RuleLine};
 
 /// The suffixes that the code computes of lines are those of the last list.
@@ -43,4 +46,9 @@ pub fn implicit_rules_in_order()
 /// What the code makes are the names that are given, or else the goal of the first line that gives one.
 pub fn goals_are_named_or_first()
     ensures { (lines : List RuleLine) (named goals : List (List ℕ)) → (goals_of lines named ≡ goals) ↔ AreGoals lines named goals }
+{}
+
+/// The targets that the code takes for marked are those of which some line of the mark speaks.
+pub fn marks_are_of_the_lines()
+    ensures { (mark : Mark) (lines : List RuleLine) (target : List ℕ) → Decides (has_mark (marked_by mark lines) target) (HasMark mark lines target) }
 {}

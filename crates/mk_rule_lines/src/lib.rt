@@ -4,6 +4,7 @@
 mod counting;
 mod explicit;
 mod fault;
+mod folder;
 mod form;
 mod forms;
 mod goals;
@@ -11,6 +12,7 @@ mod laws;
 mod line_words;
 mod lines;
 mod makefile;
+mod marked;
 mod rule_line;
 mod settings;
 mod suffixes;
@@ -18,17 +20,21 @@ mod supported;
 mod table;
 
 pub use counting::in_force;
-pub use explicit::{explicit_of, is_phony, is_wait};
+pub use explicit::{
+    explicit_of, is_bar, is_phony, is_wait, order_only_in, order_only_of, words_by,
+};
 pub use fault::{CycleNames, RuleFault, TextFault, TextPlace, Unmade, Unsupported};
 pub use form::{Form, Source};
 pub use forms::forms_of;
 pub use goals::goals_of;
 pub use laws::{
-    goals_are_named_or_first, implicit_rules_in_order, rules_by_name, suffixes_are_the_last_list,
+    goals_are_named_or_first, implicit_rules_in_order, marks_are_of_the_lines, rules_by_name,
+    suffixes_are_the_last_list,
 };
 pub use line_words::LineWords;
 pub use lines::rule_lines;
 pub use makefile::Makefile;
+pub use marked::{Mark, Marked};
 pub use rule_line::RuleLine;
 pub use settings::Settings;
 pub use suffixes::suffixes_of;

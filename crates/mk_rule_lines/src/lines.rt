@@ -2,7 +2,7 @@
 ghost use Rattle.std.specs.Prelude.{◌≡◌, ℕ, List, [], None, Some, IfOk, IfErr, OnOk};
 ghost use Rattle.mk_reader.specs.declared.special.SpecialName.TheVariants.{Phony};
 ghost use Rattle.mk_macros.specs.Ranks.{defined_by, rule_meanings};
-ghost use Rattle.mk_rule_lines.specs.Lines.{behind, behind_items, AreWordsOf, IsRuleLine, AreRuleLines, IsTextsFault, IsRuleLineFault, IsLinesFault, IsToldAt, told_place};
+ghost use Rattle.mk_rule_lines.specs.Lines.{behind, behind_items, AreWordsOf, IsRuleLine, AreRuleLines, IsTextsFault, IsRuleLineFault, IsLinesFault, IsToldAt, told_place, told_file};
 ghost use Rattle.mk_macros.specs.Expansion.{ExpandsToFault};
 
 use crate::fault::{RuleFault, TextFault, TextPlace};
@@ -24,6 +24,13 @@ fn told_place(profile: Profile, file: ByteString, line: usize) -> Option<TextPla
     } else {
         None
     }
+}
+
+/// The file of a line as it is told in this language.
+fn told_file(profile: Profile, file: ByteString) -> Option<ByteString>
+    ensures { result ≡ told_file profile file }
+{
+    if profile.is_wide() { Some(file) } else { None }
 }
 
 /// The fault of a rule's texts, told of this place.
@@ -61,15 +68,25 @@ fn both_words(
 }
 
 /// The line of `.PHONY` as a rule line for the names that it lists.
-fn phony_line(alloc: Global, line: usize, names: LineWords) -> RuleLine
+fn phony_line(
+    alloc: Global,
+    file: Option<ByteString>,
+    line: usize,
+    profile: Profile,
+    names: LineWords,
+) -> RuleLine
+    ensures file { result.file ≡ file }
     ensures line { result.line ≡ line }
+    ensures profile { result.profile ≡ profile }
     ensures special { result.special ≡ Some Phony }
     ensures targets { result.targets ≡ names }
     ensures prerequisites { result.prerequisites ≡ [] }
     ensures recipe { result.recipe ≡ [] }
 {
     RuleLine {
+        file,
         line,
+        profile,
         special: Some(SpecialName::Phony),
         targets: names,
         prerequisites: LineWords::new(Vec::new(alloc)),
@@ -101,11 +118,15 @@ fn rule_line(
             return Err(fault_at(place, cause));
         }
     };
+    let profile = macros.profile();
+    let file = told_file(profile, file);
     if is_phony_list(special) {
-        return Ok(phony_line(alloc, line, prerequisites));
+        return Ok(phony_line(alloc, file, line, profile, prerequisites));
     }
     Ok(RuleLine {
+        file,
         line,
+        profile,
         special,
         targets,
         prerequisites,

@@ -5,15 +5,20 @@ ghost use Rattle.mk_reader.specs.Text.{is_empty};
 ghost use Rattle.mk_rule_lines.specs.Rules.{has, has_percent, is_rule, is_pattern_rule, is_phony_list, makes_targets, is_suffix_list, joins, is_suffix_name, may_be_suffix_rule, is_suffix_target, comes_out, targets_by};
 
 use crate::line_words::LineWords;
-use byte_strings::ByteStrings;
+use byte_strings::{ByteString, ByteStrings};
+use mk_profile::Profile;
 use mk_reader::{Recipe, SpecialName};
 use std::alloc::{AllocError, Global};
 
 /// A rule line, or the line of a special rule. That of `.PHONY` has the names that it lists as its targets.
 #[derive(Drop)]
 pub struct RuleLine {
+    /// The file that holds it, in the wide profile: in the strict one no place of its recipe is told.
+    pub file: Option<ByteString>,
     /// The number of the line, from 1, in the file that holds it.
     pub line: usize,
+    /// The language that it is read in.
+    pub profile: Profile,
     /// The special name that stands first, if one does.
     pub special: Option<SpecialName>,
     pub targets: LineWords,
@@ -28,7 +33,7 @@ pub(crate) fn has(names: &ByteStrings, name: &[u8]) -> bool
     names.iter().any(|n| name == n)
 }
 
-fn has_percent(name: &[u8]) -> bool
+pub(crate) fn has_percent(name: &[u8]) -> bool
     ensures { result ≡ has_percent name.now }
 {
     name.iter().any(|b| *b == b'%')
@@ -118,6 +123,7 @@ impl RuleLine {
     }
 
     /// Its targets that are suffix rules, or those that are not.
+    #[tactic(auto, using(crate::proofs::TargetLemmas::none_made))]
     pub fn targets_by(
         &self,
         alloc: Global,
@@ -128,6 +134,9 @@ impl RuleLine {
     {
         let mut targets = ByteStrings::empty(alloc);
         if !self.makes_targets() {
+            return Ok(targets);
+        }
+        if suffix_rules && !self.may_be_suffix_rule() {
             return Ok(targets);
         }
         for target in self.targets.iter() {

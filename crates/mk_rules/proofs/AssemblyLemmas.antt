@@ -1,6 +1,7 @@
 -- A graph of its parts.
 use Rattle.std.proofs.Common.{◌≡◌, ℕ, true, List, length, map, sym, ap, subst, ◌∙◌}
 use Rattle.std.specs.FinMap as finmap
+use Rattle.std.specs.Prelude.{unwrap_or}
 use Rattle.st_state.specs.State.{StateMap}
 use Rattle.mk_graph.specs.Counted.{AreCounted}
 use Rattle.mk_graph.specs.Cycle.{HasCycle}
@@ -11,7 +12,7 @@ use Rattle.mk_graph.specs.declared.numbering.Numbered.{Numbered}
 use Rattle.mk_rules.specs.Assembly.{IsPutTogether}
 use Rattle.mk_rules.specs.Found.{AreFound, IsUnmadeFault, IsGraphlessFault}
 use Rattle.mk_rule_lines.specs.Goals.{goals_of, settings_of}
-use Rattle.mk_rules.specs.Graph.{IsGraph, IsNode, AreMade, AreHard, AreSoft}
+use Rattle.mk_rules.specs.Graph.{IsGraph, IsNode, AreMade, AreHard, AreRequired, AreSoft, required_in}
 use Rattle.mk_rules.specs.Ordering.{IsCycleFault}
 use Rattle.mk_rules.specs.Prerequisites.{Inputs, prerequisites_of, is_made}
 use Rattle.mk_rules.specs.Rows.{EachRow, IsHardRow}
@@ -29,18 +30,23 @@ use Rattle.mk_rules.proofs.RowLaws.{are_hard, nodes_are}
 module _ (inputs : Inputs) (named : List (List ℕ)) (lines : List RuleLine) (lines_are : inputs.lines ≡ lines) (n : Numbered Known)
     (found : AreFound inputs (goals_of inputs.lines named) n) (node_count : length n.nodes.items ≡ length n.names) where
   module _ (o : Ordered) (hard_count : length o.hard ≡ length n.names) (rows : EachRow (IsHardRow n.rows n.nodes.items) o.hard) (taken : AreTaken lines)
-      (made : AreMade inputs n.names) (soft : AreSoft inputs n.names o.soft) (counted : AreCounted o.hard o.soft o.counted o.soft_dropped)
-      (acyclic : HasCycle o.hard → ⊥) (order : IsPlan o.counted o.order.items) (closed : is_closed n.rows ≡ true) (state : StateMap)
+      (made : AreMade inputs n.names) (required : AreRequired inputs n.names (unwrap_or o.required o.hard)) (soft : AreSoft inputs n.names o.soft)
+      (counted : AreCounted (unwrap_or o.required o.hard) o.soft o.counted o.soft_dropped)
+      (acyclic : HasCycle (unwrap_or o.required o.hard) → ⊥) (order : IsPlan o.counted o.order.items) (closed : is_closed n.rows ≡ true) (state : StateMap)
       (entries : finmap.get state ≡ inputs.entries) (graph : Graph) (p : IsPutTogether lines n o state graph) where
     hard_is : AreHard inputs n.names o.hard
     hard_is = are_hard inputs n.names n.rows n.nodes.items found.rows_are found.known node_count o.hard (hard_count ∙ sym node_count) rows
 
-    counted_is : AreCounted graph.hard graph.soft graph.counted graph.soft_dropped
+    required_is : required_in graph ≡ unwrap_or o.required o.hard
+    required_is = ap (λ r. unwrap_or r graph.hard) p.required ∙ ap (unwrap_or o.required) p.hard
+
+    counted_is : AreCounted (required_in graph) graph.soft graph.counted graph.soft_dropped
     counted_is =
-        subst (λ h. AreCounted h graph.soft graph.counted graph.soft_dropped) (sym p.hard)
-        (subst (λ s. AreCounted o.hard s graph.counted graph.soft_dropped) (sym p.soft)
-        (subst (λ c. AreCounted o.hard o.soft c graph.soft_dropped) (sym p.counted)
-        (subst (λ d. AreCounted o.hard o.soft o.counted d) (sym p.dropped) counted)))
+        let edges : List (List ℕ) = unwrap_or o.required o.hard in
+        subst (λ h. AreCounted h graph.soft graph.counted graph.soft_dropped) (sym required_is)
+        (subst (λ s. AreCounted edges s graph.counted graph.soft_dropped) (sym p.soft)
+        (subst (λ c. AreCounted edges o.soft c graph.soft_dropped) (sym p.counted)
+        (subst (λ d. AreCounted edges o.soft o.counted d) (sym p.dropped) counted)))
 
     pub assembled : IsGraph inputs named graph
     assembled = record {
@@ -55,9 +61,10 @@ module _ (inputs : Inputs) (named : List (List ℕ)) (lines : List RuleLine) (li
           (subst (λ h. IsNode inputs n.names (row h k) (name_at n.names k) node) (sym p.hard)
           (nodes_are inputs n.names n.rows n.nodes.items found.rows_are found.known node_count closed o.hard (hard_count ∙ sym node_count) rows graph.nodes.items p.nodes k node at));
       hard = subst (λ ns. AreHard inputs ns graph.hard) (sym p.names) (subst (AreHard inputs n.names) (sym p.hard) hard_is);
+      required = subst (λ ns. AreRequired inputs ns (required_in graph)) (sym p.names) (subst (AreRequired inputs n.names) (sym required_is) required);
       soft = subst (λ ns. AreSoft inputs ns graph.soft) (sym p.names) (subst (AreSoft inputs n.names) (sym p.soft) soft);
       counted = counted_is;
-      acyclic = subst (λ h. HasCycle h → ⊥) (sym p.hard) acyclic;
+      acyclic = subst (λ h. HasCycle h → ⊥) (sym required_is) acyclic;
       order = subst (λ c. IsPlan c graph.order.items) (sym p.counted) (subst (IsPlan o.counted) (sym p.order) order);
       settings = p.settings ∙ ap settings_of (sym lines_are);
       entries = ap finmap.get p.recorded ∙ entries;
@@ -76,17 +83,16 @@ module _ (inputs : Inputs) (named : List (List ℕ)) (lines : List RuleLine) (li
   unmade_fault (fault.Cycle cycle) meets = absurd meets
   unmade_fault _ meets = absurd meets
 
-  pub cycle_fault : (hard : List (List ℕ)) → length hard ≡ length n.names → EachRow (IsHardRow n.rows n.nodes.items) hard → (f : RuleFault) →
-      IsCycleFault hard n.names f → IsGraphlessFault inputs named f
-  cycle_fault hard count rows fault.OutOfMemory meets = tt
-  cycle_fault hard count rows (fault.Cycle cycle) meets = record {
+  pub cycle_fault : (required : List (List ℕ)) → AreRequired inputs n.names required → (f : RuleFault) → IsCycleFault required n.names f → IsGraphlessFault inputs named f
+  cycle_fault required are fault.OutOfMemory meets = tt
+  cycle_fault required are (fault.Cycle cycle) meets = record {
     names = n.names;
     are_names = found.names_are;
-    hard = hard;
-    are_hard = are_hard inputs n.names n.rows n.nodes.items found.rows_are found.known node_count hard (count ∙ sym node_count) rows;
+    required = required;
+    are_required = are;
     numbers = meets.numbers;
     is_cycle = meets.is_cycle;
     told = meets.told;
   }
-  cycle_fault hard count rows (fault.NoRule name) meets = absurd meets
-  cycle_fault hard count rows _ meets = absurd meets
+  cycle_fault required are (fault.NoRule name) meets = absurd meets
+  cycle_fault required are _ meets = absurd meets

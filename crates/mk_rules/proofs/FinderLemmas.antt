@@ -2,11 +2,12 @@
 use Rattle.std.proofs.Common.{◌≡◌, ◌⊎◌, ℕ, ℤ, Bool, true, false, List, [], ◌++◌, length, filter, map, drop, inl, inr, Option, sym, ap, ◌∙◌}
 use Rattle.std.specs.Prelude.{option_map, option_to_list}
 use Rattle.mk_graph.specs.Numbering.{all_added}
+use Rattle.mk_graph.proofs.NameLemmas.{all_added-append}
 use Rattle.st_records.specs.declared.record.Entry.{Entry}
-use Rattle.mk_rule_lines.specs.Explicit.{explicit_of}
-use Rattle.mk_rules.specs.Hidden.{HasHidden, IsNamesFault}
+use Rattle.mk_rule_lines.specs.Explicit.{explicit_of, order_only_of}
+use Rattle.mk_rules.specs.Hidden.{HasHidden, IsNamesFault, nodes_in}
 use Rattle.mk_rules.specs.Known.{IsKnown, IsLookUpFault}
-use Rattle.mk_rules.specs.Prerequisites.{Inputs, distinct, source_names, implicit_source, hard_of, hidden_in, is_node, prerequisites_of, judged_of, own_recipes, first_or}
+use Rattle.mk_rules.specs.Prerequisites.{Inputs, distinct, made_from, implicit_source, hard_of, hidden_in, hidden_of, is_node, prerequisites_of, judged_of, own_recipes, first_or}
 use Rattle.mk_rules.specs.Source.{IsSourceFault}
 use Rattle.mk_rules.specs.Looks.{IsLookFault}
 use Rattle.mk_rule_lines.specs.declared.fault.RuleFault.{RuleFault}
@@ -19,16 +20,22 @@ use Rattle.mk_rule_lines.specs.declared.table.TargetTable.{TargetTable}
 
 module _ (inputs : Inputs) (name : List ℕ) (source : Option Source) (explicit : List (List ℕ)) (entry : Option Entry) (hard : List (List ℕ)) (m : Mentioned)
     (source_is : source ≡ implicit_source inputs name) (explicit_is : explicit ≡ explicit_of inputs.lines name) (entry_is : entry ≡ inputs.entries name)
-    (hard_is : hard ≡ distinct (source_names source ++ explicit)) (hidden : HasHidden (is_node inputs) hard (hidden_in entry) m) where
+    (hard_is : hard ≡ distinct (made_from source ++ explicit)) (hidden : HasHidden (is_node inputs) hard (hidden_in entry) m) where
   hard_are : hard ≡ hard_of inputs name
   hard_are =
-      hard_is ∙ ap (λ (s : Option Source). distinct (source_names s ++ explicit)) source_is
-      ∙ ap (λ (e : List (List ℕ)). distinct (source_names (implicit_source inputs name) ++ e)) explicit_is
+      hard_is ∙ ap (λ (s : Option Source). distinct (made_from s ++ explicit)) source_is
+      ∙ ap (λ (e : List (List ℕ)). distinct (made_from (implicit_source inputs name) ++ e)) explicit_is
 
-  pub nodes_are : m.nodes ≡ prerequisites_of inputs name
+  nodes_are : nodes_in m ≡ all_added (hard_of inputs name) (filter (is_node inputs) (hidden_of inputs name))
   nodes_are =
       hidden.nodes ∙ ap (λ (h : List (List ℕ)). all_added h (filter (is_node inputs) (hidden_in entry))) hard_are
       ∙ ap (λ (e : Option Entry). all_added (hard_of inputs name) (filter (is_node inputs) (hidden_in e))) entry_is
+
+  -- with the order-only ones they are all prerequisites
+  pub all_are : all_added (nodes_in m) (order_only_of inputs.lines name) ≡ prerequisites_of inputs name
+  all_are =
+      ap (λ (ns : List (List ℕ)). all_added ns (order_only_of inputs.lines name)) nodes_are
+      ∙ sym (all_added-append (hard_of inputs name) (filter (is_node inputs) (hidden_of inputs name)) (order_only_of inputs.lines name))
 
   judged_are : m.judged ≡ judged_of inputs name
   judged_are =
@@ -36,12 +43,13 @@ module _ (inputs : Inputs) (name : List ℕ) (source : Option Source) (explicit 
       ∙ ap (λ (e : Option Entry). all_added (hard_of inputs name) (hidden_in e)) entry_is
 
   -- what was found of the name is what the inputs say of it
-  pub known_is : (k : Known) (own : Option ℕ) → k.stamp ≡ inputs.times name → k.stem ≡ option_map (λ s. s.stem) source →
+  pub known_is : (k : Known) (own : Option ℕ) → k.stamp ≡ inputs.times name → k.stem ≡ option_map (λ s. s.stem) source → k.implied ≡ length (distinct (made_from source)) →
       k.recipe ≡ first_or (option_to_list own) (option_map (λ s. s.rule) source) → option_to_list own ≡ own_recipes inputs.lines name →
       k.hard ≡ length hard → k.hidden.items ≡ m.hidden.items → IsKnown inputs name k
-  known_is k own stamp stem recipe own_is count among = record {
+  known_is k own stamp stem given recipe own_is count among = record {
     stamp = stamp;
     stem = stem ∙ ap (option_map (λ (s : Source). s.stem)) source_is;
+    implied = given ∙ ap (λ (s : Option Source). length (distinct (made_from s))) source_is;
     recipe =
         recipe ∙ ap (λ (ns : List ℕ). first_or ns (option_map (λ (s : Source). s.rule) source)) own_is
         ∙ ap (λ (s : Option Source). first_or (own_recipes inputs.lines name) (option_map (λ (t : Source). t.rule) s)) source_is;

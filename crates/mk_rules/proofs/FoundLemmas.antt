@@ -1,6 +1,7 @@
 -- What is found of all names, in terms of the inputs.
 use Rattle.std.proofs.Common.{◌≡◌, ℕ, ℤ, ◌<◌, Bool, true, false, not, List, [], length, inl, inr, Option, Some, sym, ap, subst, ◌∙◌}
 use Rattle.std.specs.Prelude.{◌⊎◌, take, slice_get}
+use Rattle.std.specs.List.{list_all}
 use Rattle.mk_graph.specs.Numbering.{IsNumbering, AreDescribed, has_name}
 use Rattle.mk_graph.specs.NumberingFault.{IsNumberingFault}
 use Rattle.mk_graph.specs.declared.numbering.NumberingFault.{NumberingFault}
@@ -46,8 +47,12 @@ module _ (lines : List RuleLine) (targets : TargetTable)
     stem = r.stem;
     at = subst (λ (fs : List Form). slice_get fs r.place ≡ Some r.form) all_forms r.at;
     fits = r.fits;
-    is = r.is;
-    no_target = sym (target_is lines targets named name) ∙ r.no_target;
+    before = r.first.before;
+    behind = r.first.behind;
+    is = r.first.is;
+    there =
+        ap (λ (there : List ℕ → Bool). list_all there r.first.before) (sym (same_there lines targets named entries times)) ∙ r.first.there times now;
+    no_target = sym (target_is lines targets named name) ∙ r.first.no_target;
     earlier =
         ap (λ (there : List ℕ → Bool). source_of there (take r.place (forms_of (suffixes_of lines) lines)) node) (sym (same_there lines targets named entries times))
         ∙ ap (λ (fs : List Form). source_of (table.is_there targets times) (take r.place fs) node) (sym all_forms) ∙ r.earlier times now;

@@ -29,6 +29,18 @@ front_added names mentioned = ap (take (length names)) (added_fresh names mentio
 pub behind_added : (names mentioned : List (List ℕ)) → drop (length names) (all_added names mentioned) ≡ fresh names mentioned
 behind_added names mentioned = ap (drop (length names)) (added_fresh names mentioned) ∙ drop-append_seam names (fresh names mentioned)
 
+append_at : (names : List (List ℕ)) (x : List ℕ) (xs ys : List (List ℕ)) (b : Bool) → has_name names x ≡ b →
+    fresh names (xs ++ ys) ≡ fresh names xs ++ fresh (all_added names xs) ys →
+    fresh (names ++ x ∷ []) (xs ++ ys) ≡ fresh (names ++ x ∷ []) xs ++ fresh (all_added (names ++ x ∷ []) xs) ys →
+    fresh names (x ∷ (xs ++ ys)) ≡ fresh names (x ∷ xs) ++ fresh (all_added names (x ∷ xs)) ys
+append_at names x xs ys true e known new = simp e known
+append_at names x xs ys false e known new = simp e (ap (λ l. x ∷ l) new)
+
+-- of more names those are new that are so behind the others
+pub fresh-append : (names xs ys : List (List ℕ)) → fresh names (xs ++ ys) ≡ fresh names xs ++ fresh (all_added names xs) ys
+fresh-append names [] ys = refl
+fresh-append names (x ∷ xs) ys = append_at names x xs ys (has_name names x) refl (fresh-append names xs ys) (fresh-append (names ++ x ∷ []) xs ys)
+
 has_more : (names : List (List ℕ)) (x q : List ℕ) → has q (names ++ x ∷ []) ≡ (has q names || (bytes_eq q x || false))
 has_more names x q = list_any-append (bytes_eq q) names (x ∷ [])
 

@@ -7,7 +7,7 @@ use Rattle.std.proofs.lemmas.List.Folds.{list_any-append}
 use Rattle.mk_graph.specs.Numbering.{has_name, added, all_added}
 use Rattle.mk_rule_lines.specs.Rules.{has}
 use Rattle.mk_rules.specs.Looks.{IsLookFault}
-use Rattle.mk_rules.specs.Hidden.{HasHidden, IsNamesFault}
+use Rattle.mk_rules.specs.Hidden.{HasHidden, IsNamesFault, nodes_in}
 use Rattle.mk_rules.specs.Prerequisites.{IsTextAmong}
 use Rattle.mk_rules.specs.declared.mentioned.Mentioned.{Mentioned}
 use Rattle.mk_rule_lines.specs.declared.fault.RuleFault.{RuleFault}
@@ -141,7 +141,7 @@ hidden_start p judged nodes hidden among same none = rw (same, none) (record {
   among_are = sym (past_all p judged);
 })
 
-pub hidden_end : (p : List ℕ → Bool) (hard hidden : List (List ℕ)) (m : Mentioned) → HiddenSoFar p hard hidden [] m.judged m.nodes m.hidden.items → HasHidden p hard hidden m
+pub hidden_end : (p : List ℕ → Bool) (hard hidden : List (List ℕ)) (m : Mentioned) → HiddenSoFar p hard hidden [] m.judged (nodes_in m) m.hidden.items → HasHidden p hard hidden m
 hidden_end p hard hidden m so = record { judged = so.judged_go; nodes = so.nodes_go; among = so.among_are }
 
 -- a name that can't be looked at is one of those that are left, and so of all

@@ -1,5 +1,5 @@
 -- By the same makefile, times and entries the inputs are the same.
-use Rattle.std.proofs.Common.{◌≡◌, ◌∙◌, ℕ, ℤ, List, [], ◌∷◌, Option, Some, None, refl, sym, ap, subst}
+use Rattle.std.proofs.Common.{◌≡◌, ◌∙◌, ℕ, ℤ, List, ◌∷◌, Option, Some, None, refl, sym, ap, subst}
 use Rattle.byte_strings.specs.Blanks.{words}
 use Rattle.mk_macros.specs.Expansion.{gives}
 use Rattle.mk_macros.proofs.OutcomeLemmas.{expands_once}
@@ -36,18 +36,22 @@ line_once given special rule l m of_l of_m =
     let targets : l.targets ≡ m.targets = words_once given (targets_text special rule) l.targets m.targets of_l.targets of_m.targets in
     let prerequisites : l.prerequisites ≡ m.prerequisites
     = prerequisites_once given special rule l.prerequisites m.prerequisites of_l.prerequisites of_m.prerequisites in
-    let first : l ≡ record l { line = m.line } = ap (λ n. record l { line = n }) (of_l.number ∙ sym of_m.number) in
-    let second : record l { line = m.line } ≡ record l { line = m.line; special = m.special }
-    = ap (λ s. record l { line = m.line; special = s }) (of_l.name ∙ sym of_m.name) in
-    let third : record l { line = m.line; special = m.special } ≡ record l { line = m.line; special = m.special; targets = m.targets }
-    = ap (λ ts. record l { line = m.line; special = m.special; targets = ts }) targets in
-    let fourth : record l { line = m.line; special = m.special; targets = m.targets }
-    ≡ record l { line = m.line; special = m.special; targets = m.targets; prerequisites = m.prerequisites }
-    = ap (λ ps. record l { line = m.line; special = m.special; targets = m.targets; prerequisites = ps }) prerequisites in
-    let fifth : record l { line = m.line; special = m.special; targets = m.targets; prerequisites = m.prerequisites } ≡ m
-    = ap (λ r. record l { line = m.line; special = m.special; targets = m.targets; prerequisites = m.prerequisites; recipe = r })
+    let named : l ≡ record l { file = m.file } = ap (λ f. record l { file = f }) (of_l.file ∙ sym of_m.file) in
+    let first : record l { file = m.file } ≡ record l { file = m.file; line = m.line }
+    = ap (λ n. record l { file = m.file; line = n }) (of_l.number ∙ sym of_m.number) in
+    let read_in : record l { file = m.file; line = m.line } ≡ record l { file = m.file; line = m.line; profile = m.profile }
+    = ap (λ p. record l { file = m.file; line = m.line; profile = p }) (of_l.profile ∙ sym of_m.profile) in
+    let second : record l { file = m.file; line = m.line; profile = m.profile } ≡ record l { file = m.file; line = m.line; profile = m.profile; special = m.special }
+    = ap (λ s. record l { file = m.file; line = m.line; profile = m.profile; special = s }) (of_l.name ∙ sym of_m.name) in
+    let third : record l { file = m.file; line = m.line; profile = m.profile; special = m.special } ≡ record l { file = m.file; line = m.line; profile = m.profile; special = m.special; targets = m.targets }
+    = ap (λ ts. record l { file = m.file; line = m.line; profile = m.profile; special = m.special; targets = ts }) targets in
+    let fourth : record l { file = m.file; line = m.line; profile = m.profile; special = m.special; targets = m.targets }
+    ≡ record l { file = m.file; line = m.line; profile = m.profile; special = m.special; targets = m.targets; prerequisites = m.prerequisites }
+    = ap (λ ps. record l { file = m.file; line = m.line; profile = m.profile; special = m.special; targets = m.targets; prerequisites = ps }) prerequisites in
+    let fifth : record l { file = m.file; line = m.line; profile = m.profile; special = m.special; targets = m.targets; prerequisites = m.prerequisites } ≡ m
+    = ap (λ r. record l { file = m.file; line = m.line; profile = m.profile; special = m.special; targets = m.targets; prerequisites = m.prerequisites; recipe = r })
     (of_l.recipe ∙ sym of_m.recipe) in
-    first ∙ second ∙ third ∙ fourth ∙ fifth
+    named ∙ first ∙ read_in ∙ second ∙ third ∙ fourth ∙ fifth
 
 lines_once : (given : Defined) (items : List Item) (a b : List RuleLine) → AreRuleLines given items a → AreRuleLines given items b → a ≡ b
 lines_once given _ _ _ no_items no_items = refl

@@ -5,6 +5,7 @@ pub mod FaultLemmas
 pub mod FinderLemmas
 pub mod FoundLemmas
 pub mod FreshLemmas
+pub mod FewLemmas
 pub mod HiddenLemmas
 pub mod InputLemmas
 pub mod LookLemmas
@@ -16,6 +17,7 @@ pub mod OneGraphLemmas
 pub mod OneNumberingLemmas
 pub mod OrderLemmas
 pub mod PartsLaws
+pub mod RequiredLemmas
 pub mod RowLaws
 pub mod RowsLemmas
 pub mod RuleLemmas

@@ -1,6 +1,6 @@
 -- By the same inputs and goals there is one graph, as far as a plan reads it: its names, hard edges and order, and whether soft
 -- edges count.
-use Rattle.std.proofs.Common.{◌≡◌, ℕ, ◌<◌, ◌≤◌, Bool, true, false, not, ◌&&◌, ◌||◌, nat_eq, nat_lt, eq-eqb, List, [], ◌∷◌, ◌++◌, length, map, drop, get_or, Option, Some, None, inl, inr, suc, zero, refl, sym, ap, ◌∙◌, subst, ⊎_elim, arith, true≢false, ltb-true}
+use Rattle.std.proofs.Common.{◌≡◌, ℕ, ◌<◌, ◌≤◌, Bool, true, false, not, ◌&&◌, ◌||◌, nat_eq, nat_lt, eq-eqb, List, [], ◌∷◌, ◌++◌, length, map, drop, get_or, Option, Some, None, inl, inr, refl, sym, ap, ◌∙◌, subst, ⊎_elim, true≢false, ltb-true}
 use Rattle.std.specs.Prelude.{option_map, if◌then◌else◌}
 use Rattle.std.specs.List.{list_all}
 use Rattle.std.proofs.lemmas.Bool.{and_parts, and_from, cases_lt}
@@ -15,9 +15,9 @@ use Rattle.mk_graph.proofs.CycleLemmas.{closed_row}
 use Rattle.mk_graph.proofs.PlanLemmas.{one_plan_after}
 use Rattle.mk_graph.proofs.RowLemmas.{list_all-has}
 use Rattle.mk_rule_lines.specs.Goals.{goals_of}
-use Rattle.mk_rules.specs.Graph.{IsGraph, AreHard, AreSoft, is_numbered}
+use Rattle.mk_rules.specs.Graph.{IsGraph, AreEdges, AreHard, AreRequired, AreSoft, is_soft, required_in, is_numbered}
 use Rattle.mk_rules.specs.Node.{EachHasOneNumber}
-use Rattle.mk_rules.specs.Prerequisites.{Inputs, prerequisites_of}
+use Rattle.mk_rules.specs.Prerequisites.{Inputs, prerequisites_of, is_required}
 use Rattle.mk_rules.specs.declared.graph.Graph.{Graph}
 use Rattle.mk_rules.proofs.OneNumberingLemmas.{names_once}
 
@@ -102,23 +102,40 @@ module _ (names : List (List ℕ)) (one : EachHasOneNumber names) where
 
 -- ---- one graph
 
-or_wider : (x y z : Bool) → (y ≡ true → z ≡ true) → (x || y) ≡ true → (x || z) ≡ true
-or_wider true y z wider there = refl
-or_wider false y z wider there = wider there
+-- the same edges make the same choice
+module _ (g h s t : List (List ℕ)) (there : HasCycle g → HasCycle h) (back : HasCycle h → HasCycle g) (joined_there : HasCycle (joined g s) → HasCycle (joined h t))
+    (joined_back : HasCycle (joined h t) → HasCycle (joined g s)) where
+  one_choice : (d e : Bool) → IsDropped g s d → IsDropped h t e → d ≡ e
+  one_choice true true of_d of_e = refl
+  one_choice false false of_d of_e = refl
+  one_choice true false of_d (inl none) = absurd (none (joined_there of_d.0))
+  one_choice true false of_d (inr cycle) = absurd (of_d.1 (back cycle))
+  one_choice false true (inl none) of_e = absurd (none (joined_back of_e.0))
+  one_choice false true (inr cycle) of_e = absurd (of_e.1 (there cycle))
 
-one_choice : (hard s t : List (List ℕ)) (d e : Bool) → IsDropped hard s d → IsDropped hard t e → (HasCycle (joined hard s) → HasCycle (joined hard t)) →
-    (HasCycle (joined hard t) → HasCycle (joined hard s)) → d ≡ e
-one_choice hard s t true true of_d of_e there back = refl
-one_choice hard s t false false of_d of_e there back = refl
-one_choice hard s t true false of_d (inl none) there back = absurd (none (there of_d.0))
-one_choice hard s t true false of_d (inr cycle) there back = absurd (of_d.1 cycle)
-one_choice hard s t false true (inl none) of_e there back = absurd (none (back of_e.0))
-one_choice hard s t false true (inr cycle) of_e there back = absurd (of_e.1 cycle)
+same_edges : (d : Bool) (g h s t : List (List ℕ)) → ((n m : ℕ) → has (row g n) m ≡ has (row h n) m) →
+    ((n m : ℕ) → has (row (joined g s) n) m ≡ has (row (joined h t) n) m) →
+    (n m : ℕ) → has (row (if d then g else joined g s) n) m ≡ has (row (if d then h else joined h t) n) m
+same_edges true g h s t same same_joined = same
+same_edges false g h s t same same_joined = same_joined
 
-same_edges : (d : Bool) (hard s t : List (List ℕ)) → ((n m : ℕ) → has (row (joined hard s) n) m ≡ has (row (joined hard t) n) m) →
-    (n m : ℕ) → has (row (if d then hard else joined hard s) n) m ≡ has (row (if d then hard else joined hard t) n) m
-same_edges true hard s t same = λ n m. refl
-same_edges false hard s t same = same
+-- rows of the same edges have the same members
+module _ (names : List (List ℕ)) (is_edge : (q p : List ℕ) → Bool) where
+  wider : (a b : List (List ℕ)) → AreEdges names is_edge a → AreEdges names is_edge b → length a ≡ length names → is_closed a ≡ true →
+      (n m : ℕ) → has (row a n) m ≡ true → has (row b n) m ≡ true
+  wider a b of_a of_b count closed n m there =
+      ⊎_elim
+      (λ (inside : n < length a).
+      let n_in : n < length names = subst (λ l. n < l) count inside in
+      let m_in : m < length names = subst (λ l. m < l) count (below_from_closed a closed n m there) in
+      of_b n m n_in m_in ∙ sym (of_a n m n_in m_in) ∙ there)
+      (λ (past : length a ≤ n). absurd (true≢false (sym there ∙ ap (λ r. has r m) (get_or_past a n [] past))))
+      (cases_lt n (length a))
+
+  same_members : (a b : List (List ℕ)) → AreEdges names is_edge a → AreEdges names is_edge b → length a ≡ length names → length b ≡ length names →
+      is_closed a ≡ true → is_closed b ≡ true → (n m : ℕ) → has (row a n) m ≡ has (row b n) m
+  same_members a b of_a of_b count_a count_b closed_a closed_b n m =
+      both_ways (has (row a n) m) (has (row b n) m) (wider a b of_a of_b count_a closed_a n m) (wider b a of_b of_a count_b closed_b n m)
 
 module _ (inputs : Inputs) (names : List (List ℕ)) (one : EachHasOneNumber names) (a b : List (List ℕ)) where
   -- one list of hard rows
@@ -132,18 +149,6 @@ module _ (inputs : Inputs) (names : List (List ℕ)) (one : EachHasOneNumber nam
       (ap (λ l. list_all (λ m. nat_lt m l) (row b n)) (sym of_b.0) ∙ closed_row b closed_b n (subst (λ l. n < l) (sym of_b.0) n_in))
       (of_a.1 n n_in ∙ sym (of_b.1 n n_in)))
 
-  -- soft rows have the same members
-  wider_soft : AreSoft inputs names a → AreSoft inputs names b → length a ≡ length names → is_closed a ≡ true →
-      (n m : ℕ) → has (row a n) m ≡ true → has (row b n) m ≡ true
-  wider_soft of_a of_b count closed n m there =
-      ⊎_elim
-      (λ (inside : n < length a).
-      let n_in : n < length names = subst (λ l. n < l) count inside in
-      let m_in : m < length names = subst (λ l. m < l) count (below_from_closed a closed n m there) in
-      of_b n m n_in m_in ∙ sym (of_a n m n_in m_in) ∙ there)
-      (λ (past : length a ≤ n). absurd (true≢false (sym there ∙ ap (λ r. has r m) (get_or_past a n [] past))))
-      (cases_lt n (length a))
-
 module _ (inputs : Inputs) (named : List (List ℕ)) (a b : Graph) (is_a : IsGraph inputs named a) (is_b : IsGraph inputs named b) where
   pub one_names : a.names ≡ b.names
   one_names = names_once (prerequisites_of inputs) (goals_of inputs.lines named) a.names b.names is_a.names is_b.names
@@ -155,36 +160,45 @@ module _ (inputs : Inputs) (named : List (List ℕ)) (a b : Graph) (is_a : IsGra
   one_hard =
       same_hard inputs a.names a.distinct a.hard b.hard is_a.hard (subst (λ ns. AreHard inputs ns b.hard) (sym one_names) is_b.hard) a.hard_closed b.hard_closed
 
+  required_of_b : AreRequired inputs a.names (required_in b)
+  required_of_b = subst (λ ns. AreRequired inputs ns (required_in b)) (sym one_names) is_b.required
+
+  required_same : (n m : ℕ) → has (row (required_in a) n) m ≡ has (row (required_in b) n) m
+  required_same =
+      same_members a.names (is_required inputs) (required_in a) (required_in b) is_a.required.members required_of_b.members
+      is_a.required.nodes required_of_b.nodes is_a.required.closed required_of_b.closed
+
   soft_of_b : AreSoft inputs a.names b.soft
   soft_of_b = subst (λ ns. AreSoft inputs ns b.soft) (sym one_names) is_b.soft
 
-  joined_same : (n m : ℕ) → has (row (joined a.hard a.soft) n) m ≡ has (row (joined a.hard b.soft) n) m
+  soft_same : (n m : ℕ) → has (row a.soft n) m ≡ has (row b.soft n) m
+  soft_same =
+      same_members a.names (is_soft inputs a.names) a.soft b.soft is_a.soft soft_of_b
+      (a.soft_rows ∙ is_a.nodes) (b.soft_rows ∙ sym one_count ∙ is_a.nodes) a.soft_closed b.soft_closed
+
+  joined_same : (n m : ℕ) → has (row (joined (required_in a) a.soft) n) m ≡ has (row (joined (required_in b) b.soft) n) m
   joined_same n m =
-      let count_a : length a.soft ≡ length a.hard = a.soft_rows ∙ sym a.hard_rows in
-      let count_b : length b.soft ≡ length a.hard = b.soft_rows ∙ sym one_count ∙ sym a.hard_rows in
-      let there = wider_soft inputs a.names a.distinct a.soft b.soft is_a.soft soft_of_b (a.soft_rows ∙ is_a.nodes) a.soft_closed n m in
-      let back = wider_soft inputs a.names a.distinct b.soft a.soft soft_of_b is_a.soft (b.soft_rows ∙ sym one_count ∙ is_a.nodes) b.soft_closed n m in
-      both_ways (has (row (joined a.hard a.soft) n) m) (has (row (joined a.hard b.soft) n) m)
-      (λ h. has-joined a.hard b.soft count_b n m
-      ∙ or_wider (has (row a.hard n) m) (has (row a.soft n) m) (has (row b.soft n) m) there (sym (has-joined a.hard a.soft count_a n m) ∙ h))
-      (λ h. has-joined a.hard a.soft count_a n m
-      ∙ or_wider (has (row a.hard n) m) (has (row b.soft n) m) (has (row a.soft n) m) back (sym (has-joined a.hard b.soft count_b n m) ∙ h))
+      has-joined (required_in a) a.soft (a.soft_rows ∙ sym a.required_rows) n m
+      ∙ ap (λ t. t || has (row a.soft n) m) (required_same n m)
+      ∙ ap (λ t. has (row (required_in b) n) m || t) (soft_same n m)
+      ∙ sym (has-joined (required_in b) b.soft (b.soft_rows ∙ sym b.required_rows) n m)
 
   pub one_dropped : a.soft_dropped ≡ b.soft_dropped
   one_dropped =
-      one_choice a.hard a.soft b.soft a.soft_dropped b.soft_dropped is_a.counted.choice
-      (subst (λ h. IsDropped h b.soft b.soft_dropped) (sym one_hard) is_b.counted.choice)
-      (HasCycle-wider (joined a.hard a.soft) (joined a.hard b.soft) (λ n m there. sym (joined_same n m) ∙ there))
-      (HasCycle-wider (joined a.hard b.soft) (joined a.hard a.soft) (λ n m there. joined_same n m ∙ there))
+      one_choice (required_in a) (required_in b) a.soft b.soft
+      (HasCycle-wider (required_in a) (required_in b) (λ n m there. sym (required_same n m) ∙ there))
+      (HasCycle-wider (required_in b) (required_in a) (λ n m there. required_same n m ∙ there))
+      (HasCycle-wider (joined (required_in a) a.soft) (joined (required_in b) b.soft) (λ n m there. sym (joined_same n m) ∙ there))
+      (HasCycle-wider (joined (required_in b) b.soft) (joined (required_in a) a.soft) (λ n m there. joined_same n m ∙ there))
+      a.soft_dropped b.soft_dropped is_a.counted.choice is_b.counted.choice
 
-  edges_of_b : AreSets (if a.soft_dropped then a.hard else joined a.hard b.soft) b.counted
-  edges_of_b =
-      subst (λ h. AreSets (if a.soft_dropped then h else joined h b.soft) b.counted) (sym one_hard)
-      (subst (λ d. AreSets (if d then b.hard else joined b.hard b.soft) b.counted) (sym one_dropped) is_b.counted.edges)
+  edges_of_b : AreSets (if a.soft_dropped then required_in b else joined (required_in b) b.soft) b.counted
+  edges_of_b = subst (λ d. AreSets (if d then required_in b else joined (required_in b) b.soft) b.counted) (sym one_dropped) is_b.counted.edges
 
   counted_same : (n m : ℕ) → has (row a.counted n) m ≡ has (row b.counted n) m
   counted_same n m =
-      is_a.counted.edges.members n m ∙ same_edges a.soft_dropped a.hard a.soft b.soft joined_same n m ∙ sym (edges_of_b.members n m)
+      is_a.counted.edges.members n m
+      ∙ same_edges a.soft_dropped (required_in a) (required_in b) a.soft b.soft required_same joined_same n m ∙ sym (edges_of_b.members n m)
 
   pub one_order : a.order.items ≡ b.order.items
   one_order =

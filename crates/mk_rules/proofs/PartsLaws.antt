@@ -1,13 +1,13 @@
 -- The parts of a node's row of hard prerequisites.
-use Rattle.std.proofs.Common.{◌≡◌, ℕ, Bool, true, false, not, ◌||◌, List, [], ◌∷◌, ◌++◌, map, filter, Option, Some, None, refl, sym, ap, ◌∙◌}
-use Rattle.std.specs.Prelude.{bytes_eq, option_map}
+use Rattle.std.proofs.Common.{arith, ◌≡◌, ℕ, Bool, true, false, not, ◌||◌, ◌==◌, cond, List, [], ◌∷◌, ◌++◌, length, map, filter, drop, Some, None, refl, sym, ap, ◌∙◌}
+use Rattle.std.specs.Prelude.{bytes_eq, slice_get, option_map, option_to_list}
+use Rattle.std.proofs.lemmas.Bool.{false_from_ne_true, eqb-true}
 use Rattle.std.proofs.lemmas.List.Folds.{list_any-append}
 use Rattle.mk_graph.specs.Numbering.{has_name, name_at}
+use Rattle.mk_rules.specs.Node.{first_number, later_numbers, source_by, explicit_by}
+use Rattle.mk_rules.specs.Prerequisites.{Inputs, distinct, made_from, source_name, implicit_source, hard_of, explicit_names}
 use Rattle.mk_rule_lines.specs.Explicit.{explicit_of}
-use Rattle.mk_rules.specs.Node.{source_by, explicit_by}
-use Rattle.mk_rules.specs.Prerequisites.{Inputs, distinct, source_names, implicit_source, hard_of, explicit_names}
 use Rattle.mk_rule_lines.specs.Rules.{has}
-use Rattle.mk_rule_lines.specs.declared.form.Source.{Source}
 use Rattle.mk_rules.proofs.FreshLemmas.{fresh, added_fresh}
 use Rattle.mk_rule_lines.proofs.NameLemmas.{bytes_eq-same}
 
@@ -79,37 +79,51 @@ all_pass : (xs : List (List ℕ)) → filter (λ w. not (has w [])) xs ≡ xs
 all_pass [] = refl
 all_pass (x ∷ xs) = ap (λ l. x ∷ l) (all_pass xs)
 
-module _ {A : Type 0} (names : List (List ℕ)) (explicit : List (List ℕ)) where
-  source_at : (source : Option Source) (stem : Option A) (f : Source → A) (hard : List ℕ) → stem ≡ option_map f source →
-      map (name_at names) hard ≡ distinct (source_names source ++ explicit) →
-      option_map (name_at names) (source_by stem hard) ≡ option_map (λ (s : Source). s.name) source
-  source_at None None f hard is row = refl
-  source_at None (Some a) f hard is row = cc
-  source_at (Some s) None f hard is row = cc
-  source_at (Some s) (Some a) f [] is row = let whole = row ∙ added_fresh (s.name ∷ []) explicit in cc
-  source_at (Some s) (Some a) f (n ∷ ns) is row =
-      let whole : name_at names n ∷ map (name_at names) ns ≡ s.name ∷ fresh (s.name ∷ []) explicit = row ∙ added_fresh (s.name ∷ []) explicit in
-      let first : name_at names n ≡ s.name = cc in
+-- where a rule has a name, it gives some
+some_given : (m : List ℕ) (made : List (List ℕ)) (implied : ℕ) → implied ≡ length (distinct (m ∷ made)) → (implied == 0) ≡ false
+some_given m made implied is =
+    false_from_ne_true (implied == 0) (λ e.
+    let none : implied ≡ 0 = eqb-true implied 0 e in
+    let some : length (distinct (m ∷ made)) ≡ length (m ∷ fresh (m ∷ []) made) = ap length (added_fresh (m ∷ []) made) in
+    absurd (omega (arith, is)))
+
+module _ (names : List (List ℕ)) (explicit : List (List ℕ)) where
+  first_at : (m : List ℕ) (made : List (List ℕ)) (hard : List ℕ) → map (name_at names) hard ≡ distinct ((m ∷ made) ++ explicit) →
+      option_map (name_at names) (first_number hard) ≡ Some m
+  first_at m made [] row = let whole = row ∙ added_fresh (m ∷ []) (made ++ explicit) in cc
+  first_at m made (n ∷ ns) row =
+      let whole : name_at names n ∷ map (name_at names) ns ≡ m ∷ fresh (m ∷ []) (made ++ explicit) = row ∙ added_fresh (m ∷ []) (made ++ explicit) in
+      let first : name_at names n ≡ m = cc in
       ap Some first
 
-  explicit_at : (source : Option Source) (stem : Option A) (f : Source → A) (hard : List ℕ) → stem ≡ option_map f source →
-      map (name_at names) hard ≡ distinct (source_names source ++ explicit) →
-      map (name_at names) (explicit_by stem hard) ≡ filter (λ w. not (has w (source_names source))) (distinct explicit)
-  explicit_at None None f hard is row = row ∙ sym (all_pass (distinct explicit))
-  explicit_at None (Some a) f hard is row = cc
-  explicit_at (Some s) None f hard is row = cc
-  explicit_at (Some s) (Some a) f [] is row = let whole = row ∙ added_fresh (s.name ∷ []) explicit in cc
-  explicit_at (Some s) (Some a) f (n ∷ ns) is row =
-      let whole : name_at names n ∷ map (name_at names) ns ≡ s.name ∷ fresh (s.name ∷ []) explicit = row ∙ added_fresh (s.name ∷ []) explicit in
-      let rest : map (name_at names) ns ≡ fresh (s.name ∷ []) explicit = cc in
-      rest ∙ behind_source s.name explicit
+  source_at : (made : List (List ℕ)) (implied : ℕ) (hard : List ℕ) → implied ≡ length (distinct made) →
+      map (name_at names) hard ≡ distinct (made ++ explicit) → option_map (name_at names) (source_by implied hard) ≡ slice_get made 0
+  source_at [] implied hard is row = ap (λ n. option_map (name_at names) (source_by n hard)) is
+  source_at (m ∷ made) implied hard is row =
+      ap (λ (b : Bool). option_map (name_at names) (cond b None (first_number hard))) (some_given m made implied is) ∙ first_at m made hard row
 
-module _ (inputs : Inputs) (names : List (List ℕ)) (name : List ℕ) (stem : Option (List ℕ)) (stem_is : stem ≡ option_map (λ (s : Source). s.stem) (implicit_source inputs name))
+  later_at : (m : List ℕ) (made : List (List ℕ)) (hard : List ℕ) → map (name_at names) hard ≡ distinct ((m ∷ made) ++ explicit) →
+      map (name_at names) (later_numbers hard) ≡ filter (λ w. not (has w (m ∷ []))) (distinct (made ++ explicit))
+  later_at m made [] row = let whole = row ∙ added_fresh (m ∷ []) (made ++ explicit) in cc
+  later_at m made (n ∷ ns) row =
+      let whole : name_at names n ∷ map (name_at names) ns ≡ m ∷ fresh (m ∷ []) (made ++ explicit) = row ∙ added_fresh (m ∷ []) (made ++ explicit) in
+      let rest : map (name_at names) ns ≡ fresh (m ∷ []) (made ++ explicit) = cc in
+      rest ∙ behind_source m (made ++ explicit)
+
+  explicit_at : (made : List (List ℕ)) (implied : ℕ) (hard : List ℕ) → implied ≡ length (distinct made) →
+      map (name_at names) hard ≡ distinct (made ++ explicit) →
+      map (name_at names) (explicit_by implied hard)
+      ≡ filter (λ w. not (has w (option_to_list (slice_get made 0)))) (distinct (drop 1 made ++ explicit))
+  explicit_at [] implied hard is row = ap (λ n. map (name_at names) (explicit_by n hard)) is ∙ row ∙ sym (all_pass (distinct explicit))
+  explicit_at (m ∷ made) implied hard is row =
+      ap (λ (b : Bool). map (name_at names) (cond b hard (later_numbers hard))) (some_given m made implied is) ∙ later_at m made hard row
+
+module _ (inputs : Inputs) (names : List (List ℕ)) (name : List ℕ) (implied : ℕ) (implied_is : implied ≡ length (distinct (made_from (implicit_source inputs name))))
     (hard : List ℕ) (hard_is : map (name_at names) hard ≡ hard_of inputs name) where
   -- the source of a node is that of its name
-  pub source_is : option_map (name_at names) (source_by stem hard) ≡ option_map (λ (s : Source). s.name) (implicit_source inputs name)
-  source_is = source_at names (explicit_of inputs.lines name) (implicit_source inputs name) stem (λ (s : Source). s.stem) hard stem_is hard_is
+  pub source_is : option_map (name_at names) (source_by implied hard) ≡ source_name (implicit_source inputs name)
+  source_is = source_at names (explicit_of inputs.lines name) (made_from (implicit_source inputs name)) implied hard implied_is hard_is
 
   -- and what is left are the prerequisites by name
-  pub explicit_is : map (name_at names) (explicit_by stem hard) ≡ explicit_names inputs name
-  explicit_is = explicit_at names (explicit_of inputs.lines name) (implicit_source inputs name) stem (λ (s : Source). s.stem) hard stem_is hard_is
+  pub explicit_is : map (name_at names) (explicit_by implied hard) ≡ explicit_names inputs name
+  explicit_is = explicit_at names (explicit_of inputs.lines name) (made_from (implicit_source inputs name)) implied hard implied_is hard_is

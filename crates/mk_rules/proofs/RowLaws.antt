@@ -12,28 +12,20 @@ use Rattle.mk_graph.proofs.CycleLemmas.{closed_row}
 use Rattle.mk_graph.proofs.NameLemmas.{distinct_all_added, distinct_none}
 use Rattle.mk_graph.specs.Cycle.{IsChain, IsCycle}
 use Rattle.std.proofs.lemmas.List.Folds.{list_all-append}
-use Rattle.mk_graph.specs.Numbering.{name_at, AreDescribed, IsNumbering}
+use Rattle.mk_graph.specs.Numbering.{name_at, all_added, AreDescribed, IsNumbering}
 use Rattle.mk_rules.specs.Graph.{judged, judged_name, is_numbered, AreHard, IsNode}
 use Rattle.mk_rules.specs.Known.{IsKnown, nodes_among}
-use Rattle.mk_rules.specs.Prerequisites.{Inputs, prerequisites_of, judged_of, hard_of, hidden_of, hidden_nodes, is_node}
-use Rattle.mk_rules.specs.Rows.{EachRow, IsHardRow, IsHiddenRow, spread}
+use Rattle.mk_rules.specs.Prerequisites.{Inputs, prerequisites_of, waited_for, judged_of, hard_of, hidden_of, soft_names, is_node}
+use Rattle.mk_rules.specs.Rows.{EachRow, IsHardRow, IsWaitedRow, spread}
 use Rattle.mk_rules.specs.Nodes.{AreMadeOf}
+use Rattle.mk_rule_lines.specs.Explicit.{order_only_of}
 use Rattle.mk_rule_lines.specs.Rules.{has}
 use Rattle.mk_rules.specs.declared.graph.Node.{Node}
 use Rattle.mk_rules.specs.declared.known.Known.{Known}
 use Rattle.mk_rules.proofs.HiddenLemmas.{has_first, has_later}
 use Rattle.mk_rules.proofs.PartsLaws.{source_is, explicit_is}
 use Rattle.mk_rules.proofs.WaitLemmas.{are_below, has_named}
-use Rattle.mk_rules.proofs.FreshLemmas.{fresh, added_fresh, front_added, behind_added, has_fresh, has_filtered, filter_fresh}
-
--- the prerequisites that are nodes are the hard ones, and behind them the hidden ones that are judged and are nodes
-pub prerequisites_parted : (inputs : Inputs) (name : List ℕ) →
-    prerequisites_of inputs name ≡ hard_of inputs name ++ filter (is_node inputs) (drop (length (hard_of inputs name)) (judged_of inputs name))
-prerequisites_parted inputs name =
-    added_fresh (hard_of inputs name) (filter (is_node inputs) (hidden_of inputs name))
-    ∙ ap (λ l. hard_of inputs name ++ l)
-    (sym (filter_fresh (is_node inputs) (hard_of inputs name) (hidden_of inputs name))
-    ∙ ap (filter (is_node inputs)) (sym (behind_added (hard_of inputs name) (hidden_of inputs name))))
+use Rattle.mk_rules.proofs.FreshLemmas.{fresh, fresh-append, added_fresh, front_added, behind_added, has_fresh, has_filtered, filter_fresh}
 
 -- ---- a number for each that is a node
 
@@ -49,16 +41,17 @@ map-spread f (false ∷ bs) ns = ap (λ l. None ∷ l) (map-spread f bs ns)
 map-spread f (true ∷ bs) [] = ap (λ l. None ∷ l) (map-spread f bs [])
 map-spread f (true ∷ bs) (n ∷ ns) = ap (λ l. Some (f n) ∷ l) (map-spread f bs ns)
 
-module _ (p : List ℕ → Bool) where
-  abbrev if_node : List ℕ → Option (List ℕ)
-  if_node q = cond (p q) (Some q) None
+abbrev if_node : (p : List ℕ → Bool) → List ℕ → Option (List ℕ)
+if_node p q = cond (p q) (Some q) None
 
-  spread_at : (x : List ℕ) (xs : List (List ℕ)) (b : Bool) → p x ≡ b → spread_names (map p xs) (filter p xs) ≡ map if_node xs →
-      spread_names (map p (x ∷ xs)) (filter p (x ∷ xs)) ≡ map if_node (x ∷ xs)
+-- whatever stands behind them
+module _ (p : List ℕ → Bool) (rest : List (List ℕ)) where
+  spread_at : (x : List ℕ) (xs : List (List ℕ)) (b : Bool) → p x ≡ b → spread_names (map p xs) (filter p xs ++ rest) ≡ map (if_node p) xs →
+      spread_names (map p (x ∷ xs)) (filter p (x ∷ xs) ++ rest) ≡ map (if_node p) (x ∷ xs)
   spread_at x xs true e more = simp e (ap (λ l. Some x ∷ l) more)
   spread_at x xs false e more = simp e (ap (λ l. None ∷ l) more)
 
-  spread-filter : (xs : List (List ℕ)) → spread_names (map p xs) (filter p xs) ≡ map if_node xs
+  spread-filter : (xs : List (List ℕ)) → spread_names (map p xs) (filter p xs ++ rest) ≡ map (if_node p) xs
   spread-filter [] = refl
   spread-filter (x ∷ xs) = spread_at x xs (p x) refl (spread-filter xs)
 
@@ -94,7 +87,14 @@ and_second false b e = cc
 module _ (inputs : Inputs) (names : List (List ℕ)) (name : List ℕ) (k : Known) (is : IsKnown inputs name k) (r : List ℕ)
     (row_is : map (name_at names) r ≡ prerequisites_of inputs name) where
   abbrev passed : List (List ℕ)
-  passed = filter (is_node inputs) (hidden_of inputs name)
+  passed = waited_for inputs name
+
+  abbrev present : List (List ℕ)
+  present = filter (is_node inputs) (hidden_of inputs name)
+
+  -- the order-only ones that are new behind all others
+  abbrev rest : List (List ℕ)
+  rest = fresh (all_added (hard_of inputs name) present) (order_only_of inputs.lines name)
 
   -- its front is that of the hard prerequisites
   pub hard_names : map (name_at names) (take k.hard r) ≡ hard_of inputs name
@@ -103,14 +103,16 @@ module _ (inputs : Inputs) (names : List (List ℕ)) (name : List ℕ) (k : Know
   behind_names : map (name_at names) (drop k.hard r) ≡ fresh (hard_of inputs name) passed
   behind_names = sym (drop-map (name_at names) k.hard r) ∙ ap (drop k.hard) row_is ∙ ap (λ n. drop n (prerequisites_of inputs name)) is.hard ∙ behind_added (hard_of inputs name) passed
 
-  -- what is behind are the hidden prerequisites that are nodes
-  pub hidden_members : (q : List ℕ) → has q (map (name_at names) (drop k.hard r)) ≡ has q (hidden_nodes inputs name)
-  hidden_members q =
+  -- what is behind is what it waits for besides
+  pub soft_members : (q : List ℕ) → has q (map (name_at names) (drop k.hard r)) ≡ has q (soft_names inputs name)
+  soft_members q =
       ap (has q) behind_names ∙ has_fresh (hard_of inputs name) q passed
       ∙ sym (has_filtered (λ h. not (has h (hard_of inputs name))) q passed)
 
-  gone_or_not : map (name_at names) (drop k.hard r) ≡ filter (is_node inputs) (fresh (hard_of inputs name) (hidden_of inputs name))
-  gone_or_not = behind_names ∙ sym (filter_fresh (is_node inputs) (hard_of inputs name) (hidden_of inputs name))
+  gone_or_not : map (name_at names) (drop k.hard r) ≡ filter (is_node inputs) (fresh (hard_of inputs name) (hidden_of inputs name)) ++ rest
+  gone_or_not =
+      behind_names ∙ fresh-append (hard_of inputs name) present (order_only_of inputs.lines name)
+      ∙ ap (λ l. l ++ rest) (sym (filter_fresh (is_node inputs) (hard_of inputs name) (hidden_of inputs name)))
 
   known_nodes : k.hidden.items ≡ map (is_node inputs) (fresh (hard_of inputs name) (hidden_of inputs name))
   known_nodes =
@@ -127,8 +129,8 @@ module _ (inputs : Inputs) (names : List (List ℕ)) (name : List ℕ) (k : Know
       ∙ ap (λ l. map Some (hard_of inputs name) ++ l)
       (map-spread (name_at names) k.hidden.items (drop k.hard r)
       ∙ ap (λ l. spread_names k.hidden.items l) gone_or_not
-      ∙ ap (λ bs. spread_names bs (filter (is_node inputs) new)) known_nodes
-      ∙ spread-filter (is_node inputs) new
+      ∙ ap (λ bs. spread_names bs (filter (is_node inputs) new ++ rest)) known_nodes
+      ∙ spread-filter (is_node inputs) rest new
       ∙ sym (behind_judged inputs (hard_of inputs name) new (λ q there. and_second (has q (hidden_of inputs name)) (not (has q (hard_of inputs name))) (sym (has_fresh (hard_of inputs name) q (hidden_of inputs name)) ∙ there))))
       ∙ ap (λ l. l ++ map (judged_name inputs (hard_of inputs name)) new) (sym (hard_judged inputs (hard_of inputs name) (hard_of inputs name) (λ q there. there)))
       ∙ sym (map-append (judged_name inputs (hard_of inputs name)) (hard_of inputs name) new)
@@ -179,9 +181,9 @@ closed_hard g known hard rows count each closed =
     let k = known_at known n (subst (λ l. n < l) count inside) in
     has_take k.0.hard (row g n) m (subst (λ l. has_number l m ≡ true) (each n inside k.0 k.1) there)) closed
 
-pub closed_hidden : (g : List (List ℕ)) (known : List Known) (hidden : List (List ℕ)) → length g ≡ length known → length hidden ≡ length known →
-    EachRow (IsHiddenRow g known) hidden → is_closed g ≡ true → is_closed hidden ≡ true
-closed_hidden g known hidden rows count each closed =
+pub closed_waited : (g : List (List ℕ)) (known : List Known) (hidden : List (List ℕ)) → length g ≡ length known → length hidden ≡ length known →
+    EachRow (IsWaitedRow g known) hidden → is_closed g ≡ true → is_closed hidden ≡ true
+closed_waited g known hidden rows count each closed =
     closed_within g hidden (count ∙ sym rows) (λ n m inside there.
     let k = known_at known n (subst (λ l. n < l) count inside) in
     has_drop k.0.hard (row g n) m (subst (λ l. has_number l m ≡ true) (each n inside k.0 k.1) there)) closed
@@ -209,17 +211,17 @@ module _ (inputs : Inputs) (names : List (List ℕ)) (g : List (List ℕ)) (know
         ∙ hard_names inputs names (name_at names n) k.0 (described n k.0 k.1) (row g n) (row_at n within),
   )
 
-  -- the hidden rows
-  pub are_hidden : (hidden : List (List ℕ)) → length hidden ≡ length known → EachRow (IsHiddenRow g known) hidden → is_closed g ≡ true → IsDistinct bytes_eq names →
-      (n m : ℕ) → n < length names → m < length names → has_number (row hidden n) m ≡ has (name_at names m) (hidden_nodes inputs (name_at names n))
-  are_hidden hidden rows each closed distinct n m n_in m_in =
+  -- the rows of what is waited for besides
+  pub are_waited : (hidden : List (List ℕ)) → length hidden ≡ length known → EachRow (IsWaitedRow g known) hidden → is_closed g ≡ true → IsDistinct bytes_eq names →
+      (n m : ℕ) → n < length names → m < length names → has_number (row hidden n) m ≡ has (name_at names m) (soft_names inputs (name_at names n))
+  are_waited hidden rows each closed distinct n m n_in m_in =
       let k = known_at known n (subst (λ l. n < l) (sym count) n_in) in
       let inside : n < length hidden = subst (λ l. n < l) (sym (rows ∙ count)) n_in in
-      let all = closed_hidden g known hidden (rows_count ∙ sym count) rows each closed in
+      let all = closed_waited g known hidden (rows_count ∙ sym count) rows each closed in
       let below : are_below names (row hidden n) ≡ true = ap (λ l. list_all (λ x. nat_lt x l) (row hidden n)) (sym (rows ∙ count)) ∙ closed_row hidden all n inside in
       has_named names distinct (row hidden n) m m_in below
       ∙ ap (λ r. has (name_at names m) (map (name_at names) r)) (each n inside k.0 k.1)
-      ∙ hidden_members inputs names (name_at names n) k.0 (described n k.0 k.1) (row g n) (row_at n n_in) (name_at names m)
+      ∙ soft_members inputs names (name_at names n) k.0 (described n k.0 k.1) (row g n) (row_at n n_in) (name_at names m)
 
   -- the prerequisites of a node as they are judged
   pub node_judged : (n : ℕ) (k : Known) → n < length names → slice_get known n ≡ Some k →
@@ -285,8 +287,9 @@ module _ (inputs : Inputs) (names : List (List ℕ)) (g : List (List ℕ)) (know
       record {
         stamp = is.stamp ∙ known_is.stamp;
         stem = is.stem ∙ known_is.stem;
-        source = source_is inputs names (name_at names n) node.stem (is.stem ∙ known_is.stem) (row hard n) row_is;
-        explicit = explicit_is inputs names (name_at names n) node.stem (is.stem ∙ known_is.stem) (row hard n) row_is;
+        implied = is.implied ∙ known_is.implied;
+        source = source_is inputs names (name_at names n) node.implied (is.implied ∙ known_is.implied) (row hard n) row_is;
+        explicit = explicit_is inputs names (name_at names n) node.implied (is.implied ∙ known_is.implied) (row hard n) row_is;
         recipe = is.recipe ∙ known_is.recipe;
         prerequisites =
             ap (λ r. map (option_map (name_at names)) (judged r node.hidden.items)) hard_is

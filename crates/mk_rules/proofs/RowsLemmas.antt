@@ -6,7 +6,7 @@ use Rattle.std.proofs.lemmas.List.{map-append, length-map}
 use Rattle.std.proofs.Math.Seq.{get_or-append_seam}
 use Rattle.std.proofs.Math.ListN.{get_or-append}
 use Rattle.mk_graph.specs.Edges.{row}
-use Rattle.mk_rules.specs.Rows.{EachRow, IsHardRow, IsHiddenRow}
+use Rattle.mk_rules.specs.Rows.{EachRow, IsHardRow, IsWaitedRow}
 use Rattle.mk_rules.specs.declared.known.Known.{Known}
 
 at_end : (n : ℕ) (rows : List (List ℕ)) (r : List ℕ) → n < length (rows ++ r ∷ []) → length rows ≤ n → n ≡ length rows
@@ -35,8 +35,8 @@ hard_here g known n found r at is k read =
     let same : found ≡ k = cc in
     is ∙ ap (λ (f : Known). take f.hard (row g n)) same
 
-pub hidden_here : (g : List (List ℕ)) (known : List Known) (n : ℕ) (found : Known) (r : List ℕ) → slice_get known n ≡ Some found → r ≡ drop found.hard (row g n) → IsHiddenRow g known n r
-hidden_here g known n found r at is k read =
+pub waited_here : (g : List (List ℕ)) (known : List Known) (n : ℕ) (found : Known) (r : List ℕ) → slice_get known n ≡ Some found → r ≡ drop found.hard (row g n) → IsWaitedRow g known n r
+waited_here g known n found r at is k read =
     let same : found ≡ k = cc in
     is ∙ ap (λ (f : Known). drop f.hard (row g n)) same
 

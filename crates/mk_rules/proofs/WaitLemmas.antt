@@ -14,7 +14,9 @@ use Rattle.mk_graph.specs.Waits.{all_of, waits}
 use Rattle.mk_graph.proofs.CountedLemmas.{below_from_closed, closed_from_below}
 use Rattle.mk_graph.proofs.NameLemmas.{has_name_at}
 use Rattle.mk_graph.proofs.RowLemmas.{list_all-has}
-use Rattle.mk_rule_lines.specs.Explicit.{is_wait}
+use Rattle.mk_profile.specs.declared.profile.Profile.{Profile}
+use Rattle.mk_rule_lines.specs.Explicit.{is_wait, is_bar, before_bar, behind_bar, words_by}
+use Rattle.mk_rule_lines.specs.declared.rule_line.RuleLine.{RuleLine}
 use Rattle.mk_rule_lines.specs.Rules.{has}
 use Rattle.mk_rules.specs.Waits.{before_first, groups_of, orders}
 use Rattle.mk_rule_lines.proofs.NameLemmas.{bytes_eq-same}
@@ -159,14 +161,14 @@ module _ (names : List (List ℕ)) (distinct : IsDistinct bytes_eq names) where
       ∙ ap (λ l. (has (name_at names m) (map (name_at names) g) && has (name_at names n) l) || waits groups n m) (sym (flat_named groups))
       ∙ ap (λ b. (has (name_at names m) (map (name_at names) g) && has (name_at names n) (flat_map (λ g. g) (map (map (name_at names)) groups))) || b) (waits_named groups n m n_in m_in parts.1)
 
-  -- what a line's groups by number say is what its words say
-  pub line_waits : (groups : List (List ℕ)) (words : List (List ℕ)) → list_all (are_below names) groups ≡ true →
-      map (map (name_at names)) groups ≡ map (filter (has_name names)) (groups_of words) →
-      (n m : ℕ) → n < length names → m < length names → waits groups n m ≡ orders (groups_of words) (name_at names m) (name_at names n)
-  line_waits groups words all same n m n_in m_in =
+  -- what groups by number say is what those by name say
+  pub told_waits : (groups : List (List ℕ)) (told : List (List (List ℕ))) → list_all (are_below names) groups ≡ true →
+      map (map (name_at names)) groups ≡ map (filter (has_name names)) told →
+      (n m : ℕ) → n < length names → m < length names → waits groups n m ≡ orders told (name_at names m) (name_at names n)
+  told_waits groups told all same n m n_in m_in =
       waits_named groups n m n_in m_in all
       ∙ ap (λ gs. orders gs (name_at names m) (name_at names n)) same
-      ∙ orders_passed (has_name names) (groups_of words) (name_at names m) (name_at names n) (has_name_at names m m_in) (has_name_at names n n_in)
+      ∙ orders_passed (has_name names) told (name_at names m) (name_at names n) (has_name_at names m m_in) (has_name_at names n n_in)
 
 one_at : (w : List ℕ) (ws : List (List ℕ)) (t : Bool) → is_wait w ≡ t → (t || list_any is_wait ws) ≡ false → (list_any is_wait ws ≡ false → groups_of ws ≡ ws ∷ []) →
     groups_of (w ∷ ws) ≡ (w ∷ ws) ∷ []
@@ -186,6 +188,49 @@ off false = refl
 
 pub one_group : (words : List (List ℕ)) → list_any is_wait words ≡ false → (a b : List ℕ) → orders (groups_of words) a b ≡ false
 one_group words none a b = ap (λ gs. orders gs a b) (one words none) ∙ off (has a words)
+
+-- nor is there one on either side of a bar
+none_at : (profile : Profile) (w : List ℕ) (ws : List (List ℕ)) (b t : Bool) → is_bar profile w ≡ b → is_wait w ≡ t → (t || list_any is_wait ws) ≡ false →
+    (list_any is_wait ws ≡ false → list_any is_wait (before_bar profile ws) ≡ false) → list_any is_wait (before_bar profile (w ∷ ws)) ≡ false
+none_at profile w ws true t e is none more = simp e refl
+none_at profile w ws false true e is none more = cc
+none_at profile w ws false false e is none more = simp (e, is) (more none)
+
+none_before : (profile : Profile) (ws : List (List ℕ)) → list_any is_wait ws ≡ false → list_any is_wait (before_bar profile ws) ≡ false
+none_before profile [] none = refl
+none_before profile (w ∷ ws) none = none_at profile w ws (is_bar profile w) (is_wait w) refl refl none (λ rest. none_before profile ws rest)
+
+later_none : (t s : Bool) → (t || s) ≡ false → s ≡ false
+later_none true s e = cc
+later_none false s e = e
+
+none_past : (profile : Profile) (w : List ℕ) (ws : List (List ℕ)) (b : Bool) → is_bar profile w ≡ b → list_any is_wait ws ≡ false →
+    (list_any is_wait ws ≡ false → list_any is_wait (behind_bar profile ws) ≡ false) → list_any is_wait (behind_bar profile (w ∷ ws)) ≡ false
+none_past profile w ws true e none more = simp e none
+none_past profile w ws false e none more = simp e (more none)
+
+none_behind : (profile : Profile) (ws : List (List ℕ)) → list_any is_wait ws ≡ false → list_any is_wait (behind_bar profile ws) ≡ false
+none_behind profile [] none = refl
+none_behind profile (w ∷ ws) none =
+    none_past profile w ws (is_bar profile w) refl (later_none (is_wait w) (list_any is_wait ws) none) (λ rest. none_behind profile ws rest)
+
+-- a line without a `.WAIT` orders nothing
+pub no_orders : (l : RuleLine) → list_any is_wait l.prerequisites ≡ false → (a b : List ℕ) →
+    (orders (groups_of (words_by false l)) a b || orders (groups_of (words_by true l)) a b) ≡ false
+no_orders l none a b =
+    ap (λ c. c || orders (groups_of (words_by true l)) a b) (one_group (words_by false l) (none_before l.profile l.prerequisites none) a b)
+    ∙ one_group (words_by true l) (none_behind l.profile l.prerequisites none) a b
+
+-- two groups: the one stands before the other
+pub two_groups : (g h : List (List ℕ)) (a b : List ℕ) → orders (g ∷ h ∷ []) a b ≡ (has a g && has b h)
+two_groups g h a b =
+    ap (λ c. (has a g && has b (h ++ [])) || c) (off (has a h))
+    ∙ ap (λ l. (has a g && has b l) || false) (append-nil h)
+    ∙ or_off (has a g && has b h)
+  where
+    or_off : (c : Bool) → (c || false) ≡ c
+    or_off true = refl
+    or_off false = refl
 
 -- what is known of the groups so far, where some words are left
 pub record GroupsGo (names : List (List ℕ)) (left words : List (List ℕ)) (groups : List (List ℕ)) (begun : List ℕ) : Type 0 where

@@ -17,6 +17,7 @@ pub record IsPutTogether (lines : List RuleLine) (n : Numbered Known) (o : Order
   pub count : length graph.nodes.items ≡ length n.nodes.items
   pub nodes : AreMadeOf n.nodes.items n.rows graph.nodes.items
   pub hard : graph.hard ≡ o.hard
+  pub required : graph.required ≡ o.required
   pub soft : graph.soft ≡ o.soft
   pub counted : graph.counted ≡ o.counted
   pub dropped : graph.soft_dropped ≡ o.soft_dropped

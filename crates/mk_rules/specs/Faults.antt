@@ -1,5 +1,6 @@
 -- What each refusal says of a makefile, its files and its state.
-use Rattle.std.specs.Prelude.{◌≡◌, ℕ, ℤ, ◌<◌, ◌⊎◌, Bool, true, false, List, [], length, map, take, slice_get, Option, Some, None, IfSome}
+use Rattle.std.specs.Prelude.{◌≡◌, ℕ, ℤ, ◌<◌, ◌⊎◌, Bool, true, false, List, [], ◌∷◌, ◌++◌, length, map, take, slice_get, Option, Some, None, IfSome}
+use Rattle.std.specs.List.{list_all}
 use Rattle.mk_graph.specs.Cycle.{IsCycle}
 use Rattle.mk_graph.specs.Numbering.{IsNumbering, name_at, has_name}
 use Rattle.mk_reader.specs.declared.item.Item.{Item}
@@ -7,7 +8,7 @@ use Rattle.st_records.specs.declared.record.Entry.{Entry}
 use Rattle.mk_rule_lines.specs.Explicit.{is_phony}
 use Rattle.mk_rule_lines.specs.Forms.{forms_of}
 use Rattle.mk_rule_lines.specs.Goals.{goals_of}
-use Rattle.mk_rules.specs.Graph.{AreHard}
+use Rattle.mk_rules.specs.Graph.{AreRequired}
 use Rattle.mk_macros.specs.Ranks.{Defined}
 use Rattle.mk_rule_lines.specs.InForce.{AreLinesInForce}
 use Rattle.mk_rule_lines.specs.Lines.{IsLinesFault}
@@ -38,31 +39,34 @@ pub record HasUnmade (inputs : Inputs) (named : List (List ℕ)) (told : Unmade)
   pub unmade : is_made inputs told.name ≡ false
   pub needed : IfSome told.needed_by (IsNeededBy inputs names told.name)
 
--- these names are a cycle of hard prerequisites in the graph, from its name of least number on
+-- these names are a cycle of hard and order-only prerequisites in the graph, from its name of least number on
 pub record HasNamedCycle (inputs : Inputs) (named cycle : List (List ℕ)) : Type 0 where
   pub names : List (List ℕ)
   pub are_names : AreNames inputs named names
-  pub hard : List (List ℕ)
-  pub are_hard : AreHard inputs names hard
+  pub required : List (List ℕ)
+  pub are_required : AreRequired inputs names required
   pub numbers : List ℕ
-  pub is_cycle : IsCycle hard numbers
+  pub is_cycle : IsCycle required numbers
   pub told : cycle ≡ map (name_at names) numbers
 
 -- the name is the node's own, which isn't phony
 abbrev pub IsItself : List RuleLine → (node name : List ℕ) → Type 0
 IsItself lines node name = (is_phony lines node ≡ false) × (name ≡ node)
 
--- the search for a source of the node reaches the name: the node isn't phony, no line has a recipe for it, the name is that of a
--- candidate, no line makes it, and no candidate of an earlier form is there
+-- the search for a source of the node reaches the name: the node isn't phony, no line has a recipe for it, the name is among those of a
+-- candidate of which the ones before it are there, no line makes it, and no candidate of an earlier form is there
 pub record IsReachedFrom (inputs : Inputs) (node name : List ℕ) : Type 0 where
   pub no_phony : is_phony inputs.lines node ≡ false
   pub no_recipe : own_recipes inputs.lines node ≡ []
   pub place : ℕ
   pub form : Form
-  pub stem : List ℕ
+  pub stem : List ℕ × List ℕ
   pub at : slice_get (forms_of (suffixes_of inputs.lines) inputs.lines) place ≡ Some form
   pub fits : stem_of form node ≡ Some stem
-  pub is : name ≡ (source_at form stem).name
+  pub before : List (List ℕ)
+  pub behind : List (List ℕ)
+  pub is : (source_at form stem).names ≡ before ++ name ∷ behind
+  pub there : list_all (is_there inputs) before ≡ true
   pub no_target : is_target inputs.lines name ≡ false
   pub earlier : source_of (is_there inputs) (take place (forms_of (suffixes_of inputs.lines) inputs.lines)) node ≡ None
 

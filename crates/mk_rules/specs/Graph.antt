@@ -1,6 +1,6 @@
 -- The graph of the names that goals lead to.
-use Rattle.std.specs.Prelude.{◌≡◌, ℕ, ◌<◌, nat_lt, ◌||◌, Bool, true, List, ◌++◌, length, map, Option, Some, None, option_map, slice_get, if◌then◌else◌}
-use Rattle.mk_graph.specs.Edges.{row, has as has_number}
+use Rattle.std.specs.Prelude.{◌≡◌, ℕ, ◌<◌, nat_lt, ◌||◌, Bool, true, List, ◌++◌, length, map, Option, Some, None, option_map, slice_get, IsTrue, unwrap_or, if◌then◌else◌}
+use Rattle.mk_graph.specs.Edges.{row, is_closed, has as has_number}
 use Rattle.mk_graph.specs.Cycle.{HasCycle}
 use Rattle.mk_graph.specs.Counted.{AreCounted}
 use Rattle.mk_graph.specs.Numbering.{IsNumbering, name_at, has_name}
@@ -8,7 +8,7 @@ use Rattle.mk_rule_lines.specs.Rules.{suffixes_of, has}
 use Rattle.mk_rule_lines.specs.Taken.{AreTaken}
 use Rattle.mk_rule_lines.specs.Goals.{goals_of, settings_of}
 use Rattle.mk_rules.specs.Node.{source_by, explicit_by}
-use Rattle.mk_rules.specs.Prerequisites.{Inputs, implicit_source, explicit_names, recipe_of, hard_of, is_node, prerequisites_of, judged_of, hidden_nodes, is_made}
+use Rattle.mk_rules.specs.Prerequisites.{Inputs, implicit_source, made_from, source_name, distinct, explicit_names, recipe_of, hard_of, is_node, prerequisites_of, judged_of, is_made, is_required, soft_names}
 use Rattle.mk_rules.specs.Waits.{line_orders}
 use Rattle.mk_graph.specs.Plan.{IsPlan}
 use Rattle.std.specs.FinMap as finmap
@@ -34,22 +34,37 @@ is_numbered count hidden = option_map_or (λ n. nat_lt n count) hidden true
 pub record IsNode (inputs : Inputs) (names : List (List ℕ)) (hard : List ℕ) (name : List ℕ) (node : Node) : Type 0 where
   pub stamp : node.stamp ≡ inputs.times name
   pub stem : node.stem ≡ option_map (λ s. s.stem) (implicit_source inputs name)
-  pub source : option_map (name_at names) (source_by node.stem hard) ≡ option_map (λ s. s.name) (implicit_source inputs name)
-  pub explicit : map (name_at names) (explicit_by node.stem hard) ≡ explicit_names inputs name
+  pub implied : node.implied ≡ length (distinct (made_from (implicit_source inputs name)))
+  pub source : option_map (name_at names) (source_by node.implied hard) ≡ source_name (implicit_source inputs name)
+  pub explicit : map (name_at names) (explicit_by node.implied hard) ≡ explicit_names inputs name
   pub recipe : node.recipe ≡ recipe_of inputs name
   pub prerequisites :
       map (option_map (name_at names)) (judged hard node.hidden.items)
       ≡ map (judged_name inputs (hard_of inputs name)) (judged_of inputs name)
   pub numbered : list_all (is_numbered (length names)) node.hidden.items ≡ true
 
--- p comes before q where it may: it is a hidden prerequisite of q and no hard one, or some line's `.WAIT` says so
+-- p comes before q where it may: q waits for it and it is no hard prerequisite, or some line's `.WAIT` says so
 abbrev pub is_soft : Inputs → (names : List (List ℕ)) → (q p : List ℕ) → Bool
-is_soft inputs names q p = has p (hidden_nodes inputs q) || list_any (line_orders names (suffixes_of inputs.lines) p q) inputs.lines
+is_soft inputs names q p = has p (soft_names inputs q) || list_any (line_orders names (suffixes_of inputs.lines) p q) inputs.lines
+
+-- the row of q has the number of p just where this holds of them
+abbrev pub AreEdges : (names : List (List ℕ)) → (is_edge : (q p : List ℕ) → Bool) → (edges : List (List ℕ)) → Type 0
+AreEdges names is_edge edges = (n m : ℕ) → n < length names → m < length names →
+    has_number (row edges n) m ≡ is_edge (name_at names n) (name_at names m)
 
 -- the soft edges of a graph of these names
 abbrev pub AreSoft : Inputs → (names : List (List ℕ)) → (soft : List (List ℕ)) → Type 0
-AreSoft inputs names soft = (n m : ℕ) → n < length names → m < length names →
-    has_number (row soft n) m ≡ is_soft inputs names (name_at names n) (name_at names m)
+AreSoft inputs names soft = AreEdges names (is_soft inputs names) soft
+
+-- the rows hold, of each name, what it can't be made without
+pub record AreRequired (inputs : Inputs) (names : List (List ℕ)) (required : List (List ℕ)) : Type 0 where
+  pub nodes : length required ≡ length names
+  pub closed : IsTrue (is_closed required)
+  pub members : AreEdges names (is_required inputs) required
+
+-- what each node of the graph can't be made without: its hard prerequisites, where it is not said that there are others
+abbrev pub required_in : Graph → List (List ℕ)
+required_in graph = unwrap_or graph.required graph.hard
 
 -- each name with a number is made by something, or is there
 abbrev pub AreMade : Inputs → (names : List (List ℕ)) → Type 0
@@ -71,9 +86,10 @@ pub record IsGraph (inputs : Inputs) (named : List (List ℕ)) (graph : Graph) :
   pub node : (n : ℕ) (node : Node) → slice_get graph.nodes.items n ≡ Some node →
       IsNode inputs graph.names (row graph.hard n) (name_at graph.names n) node
   pub hard : AreHard inputs graph.names graph.hard
+  pub required : AreRequired inputs graph.names (required_in graph)
   pub soft : AreSoft inputs graph.names graph.soft
-  pub counted : AreCounted graph.hard graph.soft graph.counted graph.soft_dropped
-  pub acyclic : HasCycle graph.hard → ⊥
+  pub counted : AreCounted (required_in graph) graph.soft graph.counted graph.soft_dropped
+  pub acyclic : HasCycle (required_in graph) → ⊥
   pub order : IsPlan graph.counted graph.order.items
   pub settings : graph.settings ≡ settings_of inputs.lines
   pub entries : finmap.get graph.state ≡ inputs.entries

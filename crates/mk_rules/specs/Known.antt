@@ -1,7 +1,7 @@
 -- What is found of a name while names are numbered.
 use Rattle.std.specs.Prelude.{◌≡◌, ◌⊎◌, ℕ, ℤ, Bool, false, List, [], length, map, drop, Option, option_map}
 use Rattle.st_records.specs.declared.record.Entry.{Entry}
-use Rattle.mk_rules.specs.Prerequisites.{Inputs, IsTextAmong, inputs_of, implicit_source, recipe_of, hard_of, judged_of, is_node, prerequisites_of}
+use Rattle.mk_rules.specs.Prerequisites.{Inputs, IsTextAmong, inputs_of, implicit_source, made_from, distinct, recipe_of, hard_of, judged_of, is_node, prerequisites_of}
 use Rattle.mk_rules.specs.Source.{IsReached}
 use Rattle.mk_rule_lines.specs.declared.rule_line.RuleLine.{RuleLine}
 use Rattle.mk_rules.specs.declared.known.Known.{Known}
@@ -18,6 +18,7 @@ nodes_among inputs hard judged = map (is_node inputs) (drop hard judged)
 pub record IsKnown (inputs : Inputs) (name : List ℕ) (known : Known) : Type 0 where
   pub stamp : known.stamp ≡ inputs.times name
   pub stem : known.stem ≡ option_map (λ s. s.stem) (implicit_source inputs name)
+  pub implied : known.implied ≡ length (distinct (made_from (implicit_source inputs name)))
   pub recipe : known.recipe ≡ recipe_of inputs name
   pub hard : known.hard ≡ length (hard_of inputs name)
   pub hidden : known.hidden.items ≡ nodes_among inputs known.hard (judged_of inputs name)

@@ -12,6 +12,7 @@ pub mod Node
 pub mod Nodes
 pub mod Ordering
 pub mod Prerequisites
+pub mod Required
 pub mod Rows
 pub mod Source
 pub mod Tree

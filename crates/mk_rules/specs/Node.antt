@@ -1,5 +1,6 @@
 -- The numbers of names, and the parts of a node's row of hard prerequisites.
-use Rattle.std.specs.Prelude.{◌≡◌, ◌<◌, ℕ, length, List, [], ◌∷◌, Option, Some, None}
+use Rattle.std.specs.Option.{option_map_or}
+use Rattle.std.specs.Prelude.{◌≡◌, ◌<◌, ℕ, ◌==◌, if◌then◌else◌, length, take, List, [], ◌∷◌, Option, Some, None}
 use Rattle.mk_graph.specs.Numbering.{name_at}
 use Rattle.mk_rules.specs.declared.graph.Node.{Node}
 
@@ -15,20 +16,22 @@ abbrev pub later_numbers : List ℕ → List ℕ
 later_numbers [] = []
 later_numbers (n ∷ ns) = ns
 
-abbrev pub source_by : {A : Type 0} (stem : Option A) → (hard : List ℕ) → Option ℕ
-source_by None hard = None
-source_by (Some stem) hard = first_number hard
+abbrev pub source_by : (implied : ℕ) → (hard : List ℕ) → Option ℕ
+source_by implied hard = if implied == 0 then None else first_number hard
 
-abbrev pub explicit_by : {A : Type 0} (stem : Option A) → (hard : List ℕ) → List ℕ
-explicit_by None hard = hard
-explicit_by (Some stem) hard = later_numbers hard
+abbrev pub explicit_by : (implied : ℕ) → (hard : List ℕ) → List ℕ
+explicit_by implied hard = if implied == 0 then hard else later_numbers hard
 
--- the source of a node: the first of its hard prerequisites, where it has a stem
+-- the source of a node: the first of its hard prerequisites, where an implicit rule gives it some
 abbrev pub source_in : Option Node → (hard : List ℕ) → Option ℕ
 source_in None hard = None
-source_in (Some node) hard = source_by node.stem hard
+source_in (Some node) hard = source_by node.implied hard
 
 -- the prerequisites of a node by name: the hard ones without the source
 abbrev pub explicit_in : Option Node → (hard : List ℕ) → List ℕ
 explicit_in None hard = hard
-explicit_in (Some node) hard = explicit_by node.stem hard
+explicit_in (Some node) hard = explicit_by node.implied hard
+
+-- the prerequisites that an implicit rule gives a node: the first so many of the hard ones
+abbrev pub implied_in : Option Node → (hard : List ℕ) → List ℕ
+implied_in node hard = take (option_map_or (λ n. n.implied) node 0) hard

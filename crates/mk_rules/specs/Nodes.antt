@@ -5,11 +5,12 @@ use Rattle.mk_rules.specs.Rows.{spread}
 use Rattle.mk_rules.specs.declared.graph.Node.{Node}
 use Rattle.mk_rules.specs.declared.known.Known.{Known}
 
--- the node has what is known of a name, and its hidden prerequisites by number: those that are nodes have the numbers of the
--- row behind the hard ones
+-- the node has what is known of a name, and its hidden prerequisites by number: those that are nodes have the first
+-- numbers of the row behind the hard ones
 pub record IsMadeOf (known : Known) (r : List ℕ) (node : Node) : Type 0 where
   pub stamp : node.stamp ≡ known.stamp
   pub stem : node.stem ≡ known.stem
+  pub implied : node.implied ≡ known.implied
   pub recipe : node.recipe ≡ known.recipe
   pub hidden : node.hidden.items ≡ spread known.hidden.items (drop known.hard r)
 

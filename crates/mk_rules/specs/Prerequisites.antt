@@ -1,12 +1,12 @@
 -- What the rules, the files and the state say of a name: what makes it and what it is made from.
-use Rattle.std.specs.Prelude.{◌≡◌, ℕ, ℤ, Bool, true, not, ◌&&◌, ◌||◌, List, [], ◌∷◌, ◌++◌, filter, Option, Some, None, is_some, option_map, option_to_list, if◌then◌else◌}
+use Rattle.std.specs.Prelude.{◌≡◌, ℕ, ℤ, Bool, true, not, ◌&&◌, ◌||◌, List, [], ◌∷◌, ◌++◌, filter, drop, slice_get, Option, Some, None, is_some, option_map, option_to_list, if◌then◌else◌}
 use Rattle.std.specs.List.{list_any}
 use Rattle.std.specs.Option.{option_map_or}
 use Rattle.std.specs.Str.{is_utf8}
 use Rattle.mk_graph.specs.Numbering.{all_added}
 use Rattle.st_records.specs.declared.record.Entry.{Entry}
 use Rattle.mk_rule_lines.specs.Rules.{has, suffixes_of, recipe_places}
-use Rattle.mk_rule_lines.specs.Explicit.{explicit_targets, explicit_of, is_phony}
+use Rattle.mk_rule_lines.specs.Explicit.{explicit_targets, explicit_of, order_only_of, is_phony}
 use Rattle.mk_rule_lines.specs.Source.{source_of}
 use Rattle.mk_rule_lines.specs.Forms.{forms_of}
 use Rattle.mk_rule_lines.specs.declared.form.Source.{Source}
@@ -63,17 +63,29 @@ recipe_of inputs name = first_or (own_recipes inputs.lines name) (option_map (λ
 abbrev pub distinct : List (List ℕ) → List (List ℕ)
 distinct names = all_added [] names
 
--- the name of a source, if there is one
-abbrev pub source_names : Option Source → List (List ℕ)
-source_names source = option_to_list (option_map (λ s. s.name) source)
+-- what an implicit rule makes a name from, if one does
+abbrev pub made_from : Option Source → List (List ℕ)
+made_from source = option_map_or (λ s. s.names) source []
 
--- the hard prerequisites: the source first, then those by name
+-- the source: the first of these, where the rule has any
+abbrev pub source_name : Option Source → Option (List ℕ)
+source_name source = slice_get (made_from source) 0
+
+abbrev pub source_names : Option Source → List (List ℕ)
+source_names source = option_to_list (source_name source)
+
+-- the prerequisites by name: what the implicit rule has behind its source, then those of the lines (GNU make manual, "Implicit Rule
+-- Search Algorithm")
+abbrev pub named_of : Inputs → (name : List ℕ) → List (List ℕ)
+named_of inputs name = drop 1 (made_from (implicit_source inputs name)) ++ explicit_of inputs.lines name
+
+-- the hard prerequisites: what the implicit rule has, the source first, then those of the lines
 abbrev pub hard_of : Inputs → (name : List ℕ) → List (List ℕ)
-hard_of inputs name = distinct (source_names (implicit_source inputs name) ++ explicit_of inputs.lines name)
+hard_of inputs name = distinct (made_from (implicit_source inputs name) ++ explicit_of inputs.lines name)
 
 -- the prerequisites by name as they are recorded: each once and in order, without the source
 abbrev pub explicit_names : Inputs → (name : List ℕ) → List (List ℕ)
-explicit_names inputs name = filter (λ w. not (has w (source_names (implicit_source inputs name)))) (distinct (explicit_of inputs.lines name))
+explicit_names inputs name = filter (λ w. not (has w (source_names (implicit_source inputs name)))) (distinct (named_of inputs name))
 
 -- the hidden prerequisites as last recorded, whatever became of the target since
 abbrev pub hidden_in : Option Entry → List (List ℕ)
@@ -91,17 +103,25 @@ IsTextAmong names name = (has name names ≡ true) × (is_utf8 name ≡ true)
 abbrev pub is_node : Inputs → (hidden : List ℕ) → Bool
 is_node inputs hidden = is_utf8 hidden && is_there inputs hidden
 
--- the prerequisites of a name that are nodes: the hard ones, then the hidden ones that aren't gone
+-- what a name waits for beside its hard prerequisites: the hidden ones that are nodes, then the order-only ones
+abbrev pub waited_for : Inputs → (name : List ℕ) → List (List ℕ)
+waited_for inputs name = filter (is_node inputs) (hidden_of inputs name) ++ order_only_of inputs.lines name
+
+-- the prerequisites of a name that are nodes: the hard ones, the hidden ones that aren't gone, and the order-only ones
 abbrev pub prerequisites_of : Inputs → (name : List ℕ) → List (List ℕ)
-prerequisites_of inputs name = all_added (hard_of inputs name) (filter (is_node inputs) (hidden_of inputs name))
+prerequisites_of inputs name = all_added (hard_of inputs name) (waited_for inputs name)
+
+-- the one can't be made without the other, which is a hard or an order-only prerequisite of it (GNU make manual, "Types of Prerequisites")
+abbrev pub is_required : Inputs → (name prerequisite : List ℕ) → Bool
+is_required inputs name prerequisite = has prerequisite (hard_of inputs name) || has prerequisite (order_only_of inputs.lines name)
 
 -- the prerequisites as they are judged, numbered from 0: the hard ones, then the hidden ones, gone or not
 abbrev pub judged_of : Inputs → (name : List ℕ) → List (List ℕ)
 judged_of inputs name = all_added (hard_of inputs name) (hidden_of inputs name)
 
--- the hidden prerequisites that are nodes and no hard ones
-abbrev pub hidden_nodes : Inputs → (name : List ℕ) → List (List ℕ)
-hidden_nodes inputs name = filter (λ hidden. not (has hidden (hard_of inputs name))) (filter (is_node inputs) (hidden_of inputs name))
+-- what it waits for that is no hard prerequisite
+abbrev pub soft_names : Inputs → (name : List ℕ) → List (List ℕ)
+soft_names inputs name = filter (λ waited. not (has waited (hard_of inputs name))) (waited_for inputs name)
 
 -- there is a file of the name, a line that makes it, or an implicit rule
 abbrev pub is_made : Inputs → (name : List ℕ) → Bool

@@ -1,4 +1,4 @@
--- The rows of numbered names: their first numbers are those of hard prerequisites, the others those of hidden ones.
+-- The rows of numbered names: their first numbers are those of hard prerequisites, the others those of hidden and order-only ones.
 use Rattle.std.specs.Prelude.{◌≡◌, ℕ, ◌<◌, Bool, true, false, List, [], ◌∷◌, length, take, drop, Option, Some, None, slice_get}
 use Rattle.mk_graph.specs.Edges.{row}
 use Rattle.mk_rules.specs.declared.known.Known.{Known}
@@ -11,9 +11,9 @@ EachRow is rows = (n : ℕ) → n < length rows → is n (row rows n)
 abbrev pub IsHardRow : (g : List (List ℕ)) (known : List Known) (n : ℕ) (r : List ℕ) → Type 0
 IsHardRow g known n r = (k : Known) → slice_get known n ≡ Some k → r ≡ take k.hard (row g n)
 
--- the row holds the hidden prerequisites of node n that are nodes
-abbrev pub IsHiddenRow : (g : List (List ℕ)) (known : List Known) (n : ℕ) (r : List ℕ) → Type 0
-IsHiddenRow g known n r = (k : Known) → slice_get known n ≡ Some k → r ≡ drop k.hard (row g n)
+-- the row holds what node n waits for besides: hidden prerequisites that are nodes, and order-only ones
+abbrev pub IsWaitedRow : (g : List (List ℕ)) (known : List Known) (n : ℕ) (r : List ℕ) → Type 0
+IsWaitedRow g known n r = (k : Known) → slice_get known n ≡ Some k → r ≡ drop k.hard (row g n)
 
 -- a number for each that is a node, in order
 abbrev pub spread : (are_nodes : List Bool) (numbers : List ℕ) → List (Option ℕ)

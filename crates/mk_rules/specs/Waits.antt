@@ -1,8 +1,8 @@
 -- What `.WAIT` orders (dmake manual; own: what it orders).
-use Rattle.std.specs.Prelude.{ℕ, Bool, false, ◌&&◌, ◌||◌, List, [], ◌∷◌, flat_map, if◌then◌else◌}
+use Rattle.std.specs.Prelude.{ℕ, Bool, true, false, ◌&&◌, ◌||◌, List, [], ◌∷◌, flat_map, if◌then◌else◌}
 use Rattle.std.specs.List.{list_any}
 use Rattle.mk_graph.specs.Numbering.{has_name}
-use Rattle.mk_rule_lines.specs.Explicit.{is_wait}
+use Rattle.mk_rule_lines.specs.Explicit.{is_wait, words_by}
 use Rattle.mk_rule_lines.specs.Rules.{has, targets_by}
 use Rattle.mk_rule_lines.specs.declared.rule_line.RuleLine.{RuleLine}
 
@@ -21,6 +21,9 @@ abbrev pub orders : (groups : List (List (List ℕ))) → (p q : List ℕ) → B
 orders [] p q = false
 orders (group ∷ groups) p q = (has p group && has q (flat_map (λ g. g) groups)) || orders groups p q
 
--- in this line p stands before a `.WAIT` and q behind it, and the line makes one of these names
+-- in this line p stands before a `.WAIT` and q behind it, both among the prerequisites or both among the order-only ones, and the line
+-- makes one of these names
 abbrev pub line_orders : (names suffixes : List (List ℕ)) → (p q : List ℕ) → RuleLine → Bool
-line_orders names suffixes p q l = list_any (has_name names) (targets_by false suffixes l) && orders (groups_of l.prerequisites) p q
+line_orders names suffixes p q l =
+    list_any (has_name names) (targets_by false suffixes l)
+    && (orders (groups_of (words_by false l)) p q || orders (groups_of (words_by true l)) p q)

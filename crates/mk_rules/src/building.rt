@@ -2,7 +2,7 @@
 ghost use Rattle.std.specs.List.{IsDistinct};
 ghost use Rattle.std.specs.List.Sorted.{IsStrictlyIncreasing};
 ghost use Rattle.std.specs.Str.{bytes_eq};
-ghost use Rattle.std.specs.Prelude.{◌≡◌, ◌≤◌, ◌||◌, ℕ, ℤ, List, Option, length, map, is_ok, is_some, true, IsTrue, IfOk, IfErr, IfSome, OnOk};
+ghost use Rattle.std.specs.Prelude.{◌≡◌, ◌≤◌, ◌||◌, ℕ, ℤ, List, Option, length, map, is_ok, is_some, unwrap_or, true, IsTrue, IfOk, IfErr, IfSome, OnOk};
 ghost use Rattle.std.specs.FinMap as finmap;
 ghost use Rattle.mk_graph.specs.Edges.{row, is_closed};
 ghost use Rattle.mk_graph.specs.Numbering.{AreDescribed, name_at};
@@ -19,6 +19,7 @@ ghost use Rattle.mk_profile.specs.Profile.{is_wide};
 ghost use Rattle.mk_rule_lines.specs.Explicit.{numbers_of};
 ghost use Rattle.mk_rule_lines.specs.Lines.{behind_items};
 ghost use Rattle.mk_rule_lines.specs.Rules.{suffixes_of};
+ghost use Rattle.mk_rule_lines.specs.Taken.{AreTaken};
 ghost use Rattle.mk_rules.specs.Prerequisites.{Inputs, inputs_of, is_target, prerequisites_of};
 ghost use Rattle.mk_rule_lines.specs.Goals.{goals_of};
 ghost use Rattle.mk_rules.specs.Graph.{IsGraph, AreMade};
@@ -30,6 +31,7 @@ use crate::graph::{Graph, Node};
 use crate::known::Known;
 use crate::nodes::nodes_of;
 use crate::ordering::{Ordered, hard_edges, ordered_by};
+use crate::required::required_edges;
 use crate::rules::Rules;
 use crate::soft::soft_edges;
 use crate::tree::Tree;
@@ -136,6 +138,8 @@ fn put_together(
     requires soft_count { length ordered.soft ≡ length numbered.names }
     requires counted_count { length ordered.counted ≡ length numbered.names }
     requires hard_closed { IsTrue (is_closed ordered.hard) }
+    requires required_count { length (unwrap_or ordered.required ordered.hard) ≡ length numbered.names }
+    requires required_closed { IsTrue (is_closed (unwrap_or ordered.required ordered.hard)) }
     requires soft_closed { IsTrue (is_closed ordered.soft) }
     requires counted_closed { IsTrue (is_closed ordered.counted) }
     requires counted_ascending { (n : ℕ) → IsStrictlyIncreasing (row ordered.counted n) }
@@ -146,9 +150,11 @@ fn put_together(
     ensures count { IfOk result (λ graph. length graph.nodes.items ≡ length numbered.names) }
     ensures macros { IfOk result (λ graph. graph.macros ≡ macros) }
 {
+    let settings = Settings::of_lines(alloc, &lines)?;
     let (names, goals, nodes) = named_nodes(alloc, numbered)?;
     let Ordered {
         hard,
+        required,
         soft,
         counted,
         order,
@@ -159,11 +165,12 @@ fn put_together(
         goals,
         nodes,
         hard,
+        required,
         soft,
         counted,
         order,
         soft_dropped,
-        settings: Settings::of_lines(&lines),
+        settings,
         lines,
         targets,
         suffixes,
@@ -172,36 +179,42 @@ fn put_together(
     })
 }
 
-/// The edges of the names that were found, and the order that they make. Each name has to have something that makes it.
+/// The edges of the names that were found, each of which has something that makes it, and the order that they make.
 fn order_found(
     alloc: Global,
-    profile: Profile,
-    makefile: &Makefile,
+    lines: &[RuleLine],
+    suffixes: &ByteStrings,
     numbered: &Numbered<Known>,
 ) -> Result<Ordered, RuleFault>
     requires names { IsDistinct bytes_eq numbered.now.names }
     requires row_count { length numbered.now.rows ≡ length numbered.now.names }
     requires node_count { length numbered.now.nodes.items ≡ length numbered.now.names }
     requires closed { IsTrue (is_closed numbered.now.rows) }
+    requires suffixes { suffixes.now ≡ suffixes_of lines.now }
+    requires taken { AreTaken lines.now }
+    requires made { (inputs : Inputs) → inputs.lines ≡ lines.now
+        → AreDescribed (IsKnown inputs) numbered.now.names numbered.now.nodes.items → AreMade inputs numbered.now.names }
     ensures hard_count { IfOk result (λ ordered. length ordered.hard ≡ length numbered.now.names) }
     ensures soft_count { IfOk result (λ ordered. length ordered.soft ≡ length numbered.now.names) }
     ensures counted_count { IfOk result (λ ordered. length ordered.counted ≡ length numbered.now.names) }
     ensures hard_closed { IfOk result (λ ordered. IsTrue (is_closed ordered.hard)) }
+    ensures required_count { IfOk result (λ ordered. length (unwrap_or ordered.required ordered.hard) ≡ length numbered.now.names) }
+    ensures required_closed { IfOk result (λ ordered. IsTrue (is_closed (unwrap_or ordered.required ordered.hard))) }
     ensures soft_closed { IfOk result (λ ordered. IsTrue (is_closed ordered.soft)) }
     ensures counted_closed { IfOk result (λ ordered. IsTrue (is_closed ordered.counted)) }
     ensures counted_ascending { IfOk result (λ ordered. (n : ℕ) → IsStrictlyIncreasing (row ordered.counted n)) }
 
     // What is put together of them is the graph.
-    ensures graph { IfOk result (λ ordered. (inputs : Inputs) (named : List (List ℕ)) → inputs.lines ≡ makefile.now.lines.items
+    ensures graph { IfOk result (λ ordered. (inputs : Inputs) (named : List (List ℕ)) → inputs.lines ≡ lines.now
         → AreFound inputs (goals_of inputs.lines named) numbered.now → (state : StateMap) → finmap.get state ≡ inputs.entries
-        → (graph : Graph) → IsPutTogether makefile.now.lines.items numbered.now ordered state graph → IsGraph inputs named graph) }
-    ensures fault { IfErr result (λ fault. (inputs : Inputs) (named : List (List ℕ)) → inputs.lines ≡ makefile.now.lines.items
+        → (graph : Graph) → IsPutTogether lines.now numbered.now ordered state graph → IsGraph inputs named graph) }
+    ensures fault { IfErr result (λ fault. (inputs : Inputs) (named : List (List ℕ)) → inputs.lines ≡ lines.now
         → AreFound inputs (goals_of inputs.lines named) numbered.now → IsGraphlessFault inputs named fault) }
 {
-    check_made(alloc, profile, &makefile.lines, &makefile.targets, numbered)?;
     let hard = hard_edges(alloc, numbered)?;
-    let soft = soft_edges(alloc, numbered, &makefile.lines, &makefile.suffixes)?;
-    ordered_by(alloc, &numbered.names, hard, soft)
+    let required = required_edges(alloc, &hard, &numbered.names, suffixes, lines)?;
+    let soft = soft_edges(alloc, numbered, lines, suffixes)?;
+    ordered_by(alloc, &numbered.names, hard, required, soft)
 }
 
 /// The lines of a makefile, in the wide profile which of them make each name, and the suffixes.
@@ -246,8 +259,17 @@ fn graph_of(
     ensures fault { IfErr result (λ fault. (inputs : Inputs) (named : List (List ℕ)) → inputs.lines ≡ makefile.lines.items
         → AreFound inputs (goals_of inputs.lines named) numbered → IsGraphlessFault inputs named fault) }
 {
-    let ordered = order_found(alloc, macros.profile(), &makefile, &numbered)?;
-    let (lines, targets, suffixes) = parts_of(makefile, macros.profile());
+    let profile = macros.profile();
+    check_made(
+        alloc,
+        profile,
+        &makefile.lines,
+        &makefile.targets,
+        &numbered,
+    )?;
+    // The table is let go where nothing asks for it later, before the order takes memory.
+    let (lines, targets, suffixes) = parts_of(makefile, profile);
+    let ordered = order_found(alloc, &lines, &suffixes, &numbered)?;
     Ok(put_together(
         alloc, lines, targets, suffixes, macros, numbered, ordered, state,
     )?)

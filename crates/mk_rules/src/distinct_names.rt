@@ -53,6 +53,16 @@ impl DistinctNames {
         }
     }
 
+    /// The names of a list that has each once.
+    pub fn of_list(alloc: Global, list: ByteStrings) -> DistinctNames
+        ensures { result ≡ list }
+    {
+        DistinctNames {
+            list,
+            set: Names::new(alloc),
+        }
+    }
+
     /// How many names there are.
     pub fn len(&self) -> usize
         ensures { result ≡ length self.now }
@@ -65,6 +75,13 @@ impl DistinctNames {
         ensures { IfOk result (λ list. list ≡ self.now) }
     {
         self.list.copy(alloc)
+    }
+
+    pub fn into_list(self) -> ByteStrings
+        ensures { result ≡ self }
+    {
+        let DistinctNames { list, .. } = self;
+        list
     }
 
     /// Whether a name is there.

@@ -1,21 +1,23 @@
 //! Names looked up one by one while they are numbered.
 ghost use Rattle.std.specs.Prelude.{◌≡◌, ◌++◌, ℕ, ℤ, List, Option, [], length, option_map, option_to_list, IfOk, IfErr, OnOk};
 ghost use Rattle.std.specs.FinMap as map;
-ghost use Rattle.mk_rule_lines.specs.Explicit.{numbers_of, explicit_of, is_phony};
-ghost use Rattle.mk_rules.specs.Prerequisites.{inputs_of, is_node, first_or, hidden_in, own_recipes, prerequisites_of, source_names, distinct};
+ghost use Rattle.mk_rule_lines.specs.Explicit.{numbers_of, explicit_of, order_only_of, is_phony};
+ghost use Rattle.mk_rules.specs.Prerequisites.{inputs_of, is_node, first_or, hidden_in, own_recipes, prerequisites_of, made_from, distinct};
+ghost use Rattle.mk_graph.specs.Numbering.{all_added};
 ghost use Rattle.mk_rules.specs.Looks.{Looks};
-ghost use Rattle.mk_rules.specs.Hidden.{HasHidden, IsNamesFault};
+ghost use Rattle.mk_rules.specs.Hidden.{HasHidden, IsNamesFault, nodes_in};
 ghost use Rattle.mk_rules.specs.Known.{IsKnown, IsLookUpFault};
 
+use crate::distinct_names::DistinctNames;
 use crate::known::Known;
 use crate::lookup::{add_hidden, implicit_source, seen_stamp};
-use crate::mentioned::Mentioned;
+use crate::mentioned::{Mentioned, implied_count, listed_nodes, mention_all};
 use crate::rules::Rules;
 use crate::tree::Tree;
-use byte_strings::ByteString;
+use byte_strings::{ByteString, ByteStrings};
 use mk_graph::{Dependencies, Found};
 use mk_rule_lines::{RuleFault, Source};
-use std::alloc::Global;
+use std::alloc::{AllocError, Global};
 
 fn stem_and_rule(source: Option<Source>) -> (Option<ByteString>, Option<usize>)
     ensures stem { result.0 ≡ option_map (λ s. s.stem) source }
@@ -45,7 +47,7 @@ fn add_hidden_of<T: Tree>(
     mentioned: &mut Mentioned,
     name: &[u8],
 ) -> Result<(), RuleFault>
-    requires nodes { mentioned.old.nodes ≡ mentioned.old.judged }
+    requires nodes { nodes_in mentioned.old ≡ mentioned.old.judged }
     requires none { mentioned.old.hidden.items ≡ [] }
     ensures hidden { OnOk result ((times : List ℕ → Option ℤ) → T.allows tree.new times
         → HasHidden (is_node (inputs_of rules.now.lines.now (map.get rules.now.state.now) times)) mentioned.old.judged (hidden_in (map.get rules.now.state.now name.now)) mentioned.new) }
@@ -58,7 +60,8 @@ fn add_hidden_of<T: Tree>(
     }
 }
 
-/// The prerequisites of a name with this source, which the lines of these numbers make, and how many of them are hard.
+/// The prerequisites of a name with this source, which the lines of these numbers make, how many of them are hard, and how many
+/// the implicit rule gives.
 fn mentioned_of<T: Tree>(
     alloc: Global,
     rules: &Rules,
@@ -66,21 +69,23 @@ fn mentioned_of<T: Tree>(
     name: &[u8],
     numbers: &[usize],
     source: &Option<Source>,
-) -> Result<(Mentioned, usize), RuleFault>
+) -> Result<(Mentioned, usize, usize), RuleFault>
     requires lines { numbers.now ≡ numbers_of rules.now.lines.now name.now }
     ensures mentioned { IfOk result (λ of. (times : List ℕ → Option ℤ) → T.allows tree.new times
         → HasHidden (is_node (inputs_of rules.now.lines.now (map.get rules.now.state.now) times))
-        (distinct (source_names source.now ++ explicit_of rules.now.lines.now name.now))
+        (distinct (made_from source.now ++ explicit_of rules.now.lines.now name.now))
         (hidden_in (map.get rules.now.state.now name.now)) of.0) }
-    ensures hard { IfOk result (λ of. of.1 ≡ length (distinct (source_names source.now ++ explicit_of rules.now.lines.now name.now))) }
+    ensures hard { IfOk result (λ of. of.1 ≡ length (distinct (made_from source.now ++ explicit_of rules.now.lines.now name.now))) }
+    ensures implied { IfOk result (λ of. of.2 ≡ length (distinct (made_from source.now))) }
     ensures looks { Looks (T.allows tree.old) (T.allows tree.new) (T.refuses tree.old) (T.refuses tree.new) (T.asked tree.old) (T.asked tree.new) }
     ensures fault { IfErr result (IsNamesFault (T.refuses tree.new) (hidden_in (map.get rules.now.state.now name.now))) }
 {
+    let implied = implied_count(alloc, source)?;
     let explicit = rules.explicit(alloc, numbers)?;
-    let mut mentioned = Mentioned::hard(alloc, source, &explicit)?;
+    let mut mentioned = Mentioned::hard(alloc, source, explicit)?;
     let hard = mentioned.judged.len();
     add_hidden_of(alloc, rules, tree, &mut mentioned, name)?;
-    Ok((mentioned, hard))
+    Ok((mentioned, hard, implied))
 }
 
 /// What is found of a name, put together.
@@ -90,26 +95,71 @@ fn gathered(
     own: Option<usize>,
     mentioned: Mentioned,
     hard: usize,
+    implied: usize,
 ) -> Found<Known>
-    ensures prerequisites { result.prerequisites ≡ mentioned.nodes }
+    ensures prerequisites { result.prerequisites ≡ nodes_in mentioned }
     ensures stamp { result.node.stamp ≡ stamp }
     ensures stem { result.node.stem ≡ option_map (λ s. s.stem) source }
+    ensures implied { result.node.implied ≡ implied }
     ensures recipe { result.node.recipe ≡ first_or (option_to_list own) (option_map (λ s. s.rule) source) }
     ensures hard { result.node.hard ≡ hard }
     ensures hidden { result.node.hidden.items ≡ mentioned.hidden.items }
 {
-    let Mentioned { nodes, hidden, .. } = mentioned;
+    let Mentioned {
+        judged,
+        nodes,
+        hidden,
+    } = mentioned;
     let (stem, rule) = stem_and_rule(source);
     Found {
-        prerequisites: nodes,
+        prerequisites: listed_nodes(judged, nodes),
         node: Known {
             stamp,
             stem,
+            implied,
             recipe: own_or(own, rule),
             hard,
             hidden,
         },
     }
+}
+
+/// These prerequisites, and behind them the order-only ones that aren't among them.
+fn with_order_only(
+    alloc: Global,
+    prerequisites: ByteStrings,
+    order_only: &ByteStrings,
+) -> Result<ByteStrings, AllocError>
+    ensures { IfOk result (λ names. names ≡ all_added prerequisites order_only.now) }
+{
+    if order_only.is_empty() {
+        return Ok(prerequisites);
+    }
+    let mut names = DistinctNames::of_list(alloc, prerequisites);
+    mention_all(alloc, &mut names, order_only)?;
+    Ok(names.into_list())
+}
+
+/// What is found of a name, with its order-only prerequisites, which the lines of these numbers have.
+fn completed(
+    alloc: Global,
+    rules: &Rules,
+    numbers: &[usize],
+    found: Found<Known>,
+) -> Result<Found<Known>, AllocError>
+    ensures node { IfOk result (λ with. with.node ≡ found.node) }
+    ensures prerequisites { IfOk result (λ with. (name : List ℕ) → numbers.now ≡ numbers_of rules.now.lines.now name
+        → with.prerequisites ≡ all_added found.prerequisites (order_only_of rules.now.lines.now name)) }
+{
+    let order_only = rules.order_only(alloc, numbers)?;
+    let Found {
+        prerequisites,
+        node,
+    } = found;
+    Ok(Found {
+        prerequisites: with_order_only(alloc, prerequisites, &order_only)?,
+        node,
+    })
 }
 
 /// What the rules, the state and a tree say of a name.
@@ -131,8 +181,9 @@ fn look_up<T: Tree>(
     let phony = rules.is_phony(numbers);
     let stamp = seen_stamp(alloc, tree, name, phony)?;
     let source = implicit_source(alloc, rules, tree, name, own, phony)?;
-    let (mentioned, hard) = mentioned_of(alloc, rules, tree, name, numbers, &source)?;
-    Ok(gathered(stamp, source, own, mentioned, hard))
+    let (mentioned, hard, implied) = mentioned_of(alloc, rules, tree, name, numbers, &source)?;
+    let found = gathered(stamp, source, own, mentioned, hard, implied);
+    Ok(completed(alloc, rules, numbers, found)?)
 }
 
 /// Looks names up in the rules, the state and a tree.

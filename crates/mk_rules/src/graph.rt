@@ -1,6 +1,6 @@
 //! The graph of a makefile's names: what each is made from, and what the state and the files say of it.
 ghost use Rattle.std.proofs.Props.{props};
-ghost use Rattle.std.specs.Prelude.{◌≡◌, ℕ, List, ◌<◌, length, option_copied, slice_index, slice_get, is_some, IsTrue, IfSome};
+ghost use Rattle.std.specs.Prelude.{◌≡◌, ℕ, List, ◌<◌, length, option_copied, slice_index, slice_get, is_some, unwrap_or, IsTrue, IfSome};
 ghost use Rattle.std.specs.List.Sorted.{IsStrictlyIncreasing};
 ghost use Rattle.mk_graph.specs.Edges.{row, is_closed};
 ghost use Rattle.mk_macros.specs.Ranks.{defined_by};
@@ -8,8 +8,9 @@ ghost use Rattle.mk_profile.specs.Profile.{is_wide};
 ghost use Rattle.mk_rule_lines.specs.Explicit.{numbers_of};
 ghost use Rattle.mk_rule_lines.specs.Rules.{suffixes_of};
 ghost use Rattle.mk_rule_lines.specs.Table.{named_at};
-ghost use Rattle.mk_rules.specs.Node.{EachHasOneNumber, source_in, explicit_in};
+ghost use Rattle.mk_rules.specs.Node.{EachHasOneNumber, source_in, explicit_in, implied_in};
 
+use crate::rows::front;
 use byte_strings::{ByteString, ByteStrings};
 use mk_graph::{Edges, Names};
 use mk_macros::Macros;
@@ -21,8 +22,10 @@ use st_state::State;
 pub struct Node {
     /// When its file was last changed, in nanoseconds since 1970; None where there is no file.
     pub stamp: Option<i128>,
-    /// The stem, where an implicit rule makes it. The source is then the first of its hard prerequisites.
+    /// The stem, where an implicit rule makes it.
     pub stem: Option<ByteString>,
+    /// How many of the hard prerequisites that rule gives: those that come first, of which the first is the source.
+    pub implied: usize,
     /// The number of the rule line whose recipe makes it.
     pub recipe: Option<usize>,
     /// The hidden prerequisites that aren't hard ones, in the order in which they were recorded: the number of a node, or
@@ -40,7 +43,11 @@ pub struct Graph {
     pub nodes: Vec<Node>,
     /// The hard prerequisites of each node, each once: the implicit source first, then those by name in their order.
     pub hard: Edges,
-    /// What each node waits for besides: hidden prerequisites that are nodes, and what stands before a `.WAIT`.
+    /// The hard prerequisites of each node and its order-only ones, without which it isn't made; None where no line has an
+    /// order-only one.
+    pub required: Option<Edges>,
+    /// What each node waits for beside its hard prerequisites: hidden ones that are nodes, order-only ones, and what stands before a
+    /// `.WAIT`.
     pub soft: Edges,
     /// The edges that order the nodes. Each row has a number once, and the numbers in their order.
     pub counted: Edges,
@@ -66,6 +73,8 @@ pub struct Graph {
     pub ghost soft_rows: { length soft ≡ length nodes.items },
     pub ghost counted_rows: { length counted ≡ length nodes.items },
     pub ghost hard_closed: { IsTrue (is_closed hard) },
+    pub ghost required_rows: { length (unwrap_or required hard) ≡ length nodes.items },
+    pub ghost required_closed: { IsTrue (is_closed (unwrap_or required hard)) },
     pub ghost soft_closed: { IsTrue (is_closed soft) },
     pub ghost counted_closed: { IsTrue (is_closed counted) },
     pub ghost counted_ascending: { (n : ℕ) → IsStrictlyIncreasing (row counted n) },
@@ -83,15 +92,25 @@ impl Graph {
         self.nodes.len()
     }
 
-    /// The implicit source of a node; None where no implicit rule makes it.
+    /// The implicit source of a node; None where no implicit rule makes it, or one without prerequisites.
     pub fn source(&self, node: usize) -> Option<usize>
         requires { node < length self.now.nodes.items }
         ensures { result ≡ source_in (slice_get self.now.nodes.items node) (row self.now.hard node) }
     {
-        if self.nodes[node].stem.is_none() {
+        if self.nodes[node].implied == 0 {
             return None;
         }
         self.hard.row(node).first().copied()
+    }
+
+    /// What each node isn't made without: its hard prerequisites and its order-only ones.
+    pub fn required_edges(&self) -> &Edges
+        ensures { result.now ≡ unwrap_or self.now.required self.now.hard }
+    {
+        match &self.required {
+            Some(required) => required,
+            None => &self.hard,
+        }
     }
 
     /// The prerequisites of a node by name, each once, without its source: what is recorded of it.
@@ -100,12 +119,19 @@ impl Graph {
         ensures { result.now ≡ explicit_in (slice_get self.now.nodes.items node) (row self.now.hard node) }
     {
         let hard = self.hard.row(node);
-        if self.nodes[node].stem.is_none() {
+        if self.nodes[node].implied == 0 {
             return hard;
         }
         match hard {
             [_, explicit @ ..] => explicit,
             [] => hard,
         }
+    }
+    /// The prerequisites that an implicit rule gives a node, each once.
+    pub fn implied(&self, node: usize) -> &[usize]
+        requires { node < length self.now.nodes.items }
+        ensures { result.now ≡ implied_in (slice_get self.now.nodes.items node) (row self.now.hard node) }
+    {
+        front(self.hard.row(node), self.nodes[node].implied)
     }
 }

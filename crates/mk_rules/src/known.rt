@@ -6,6 +6,8 @@ use byte_strings::ByteString;
 pub(crate) struct Known {
     pub stamp: Option<i128>,
     pub stem: Option<ByteString>,
+    /// How many of the hard prerequisites an implicit rule gives: those that come first.
+    pub implied: usize,
     pub recipe: Option<usize>,
     /// How many of its prerequisites are hard: those that come first.
     pub hard: usize,

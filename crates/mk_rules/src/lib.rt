@@ -12,6 +12,8 @@ mod lookup;
 mod mentioned;
 mod nodes;
 mod ordering;
+mod removing;
+mod required;
 mod rows;
 mod rules;
 mod soft;

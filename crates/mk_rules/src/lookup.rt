@@ -6,7 +6,7 @@ ghost use Rattle.mk_rule_lines.specs.Explicit.{is_phony};
 ghost use Rattle.mk_rules.specs.Prerequisites.{inputs_of, is_node, implicit_source, own_recipes, prerequisites_of};
 ghost use Rattle.mk_rules.specs.Looks.{IsLookFault, Looks};
 ghost use Rattle.mk_rules.specs.Source.{IsSourceFault};
-ghost use Rattle.mk_rules.specs.Hidden.{HasHidden, IsNamesFault};
+ghost use Rattle.mk_rules.specs.Hidden.{HasHidden, IsNamesFault, nodes_in};
 
 use crate::look::stamp_of;
 use crate::mentioned::Mentioned;
@@ -103,7 +103,7 @@ pub(crate) fn add_hidden<T: Tree>(
     mentioned: &mut Mentioned,
     hidden: &ByteStrings,
 ) -> Result<(), RuleFault>
-    requires nodes { mentioned.old.nodes ≡ mentioned.old.judged }
+    requires nodes { nodes_in mentioned.old ≡ mentioned.old.judged }
     requires none { mentioned.old.hidden.items ≡ [] }
     ensures hidden { OnOk result ((times : List ℕ → Option ℤ) → T.allows tree.new times
         → HasHidden (is_node (inputs_of rules.now.lines.now (map.get rules.now.state.now) times)) mentioned.old.judged hidden.now mentioned.new) }

@@ -1,7 +1,8 @@
 //! The prerequisites of a name, each once.
-ghost use Rattle.std.specs.Prelude.{◌≡◌, ◌++◌, ◌∷◌, ◌||◌, [], length, not, IfOk, OnOk, if◌then◌else◌};
+ghost use Rattle.std.specs.Prelude.{◌≡◌, ◌++◌, ◌∷◌, ◌||◌, [], length, not, is_some, option_map, true, unwrap_or, IfOk, OnOk, if◌then◌else◌};
 ghost use Rattle.mk_graph.specs.Numbering.{has_name, added, all_added};
-ghost use Rattle.mk_rules.specs.Prerequisites.{source_names, distinct};
+ghost use Rattle.mk_rules.specs.Hidden.{nodes_in};
+ghost use Rattle.mk_rules.specs.Prerequisites.{made_from, distinct};
 
 use crate::distinct_names::DistinctNames;
 use byte_strings::ByteStrings;
@@ -13,13 +14,14 @@ use std::alloc::{AllocError, Global};
 pub(crate) struct Mentioned {
     /// As they are judged: hidden ones stand here too where they are gone.
     pub judged: DistinctNames,
-    /// Those that are nodes.
-    pub nodes: ByteStrings,
+    /// Those that are nodes; None where all of them are.
+    pub nodes: Option<ByteStrings>,
     /// Of each hidden one that wasn't mentioned before, whether it is a node.
     pub hidden: Vec<bool>,
 }
 
-fn mention_all(
+/// Mentions all of these.
+pub(crate) fn mention_all(
     alloc: Global,
     names: &mut DistinctNames,
     mentioned: &ByteStrings,
@@ -32,39 +34,100 @@ fn mention_all(
     Ok(())
 }
 
-/// The source and the prerequisites by name, each at its first mention.
+/// Mentions what an implicit rule makes a name from.
+fn mention_source(
+    alloc: Global,
+    names: &mut DistinctNames,
+    source: &Option<Source>,
+) -> Result<(), AllocError>
+    ensures { OnOk result (names.new ≡ all_added names.old (made_from source.now)) }
+{
+    match source {
+        Some(source) => mention_all(alloc, names, &source.names),
+        None => Ok(()),
+    }
+}
+
+/// What an implicit rule makes a name from and the prerequisites by name, each at its first mention.
 fn hard_names(
     alloc: Global,
     source: &Option<Source>,
-    explicit: &ByteStrings,
+    explicit: ByteStrings,
 ) -> Result<DistinctNames, AllocError>
-    ensures { IfOk result (λ names. names ≡ distinct (source_names (source.now) ++ explicit.now)) }
+    ensures { IfOk result (λ names. names ≡ distinct (made_from source.now ++ explicit)) }
 {
-    let mut names = DistinctNames::new(alloc);
-    if let Some(source) = source {
-        let _is_new = names.mention(alloc, source.name.as_slice())?;
+    // One name stands there once, so that its list is taken as it is.
+    if source.is_none() && explicit.len() < 2 {
+        return Ok(DistinctNames::of_list(alloc, explicit));
     }
-    mention_all(alloc, &mut names, explicit)?;
+    let mut names = DistinctNames::new(alloc);
+    mention_source(alloc, &mut names, source)?;
+    mention_all(alloc, &mut names, &explicit)?;
     Ok(names)
 }
 
+/// How many names these are, each once.
+fn distinct_count(alloc: Global, names: &ByteStrings) -> Result<usize, AllocError>
+    ensures { IfOk result (λ count. count ≡ length (distinct names.now)) }
+{
+    let count = names.len();
+    if count < 2 {
+        return Ok(count);
+    }
+    let mut mentioned = DistinctNames::new(alloc);
+    mention_all(alloc, &mut mentioned, names)?;
+    Ok(mentioned.len())
+}
+
+/// How many names an implicit rule gives.
+pub(crate) fn implied_count(alloc: Global, source: &Option<Source>) -> Result<usize, AllocError>
+    ensures { IfOk result (λ count. count ≡ length (distinct (made_from source.now))) }
+{
+    match source {
+        Some(source) => distinct_count(alloc, &source.names),
+        None => Ok(0),
+    }
+}
+
+/// The names that are nodes, of which these are listed where not all are.
+pub(crate) fn listed_nodes(judged: DistinctNames, nodes: Option<ByteStrings>) -> ByteStrings
+    ensures { result ≡ unwrap_or nodes judged }
+{
+    match nodes {
+        Some(nodes) => nodes,
+        None => judged.into_list(),
+    }
+}
+
 impl Mentioned {
-    /// The hard prerequisites: the source and those by name.
+    /// The hard prerequisites: those of an implicit rule and those by name.
     pub fn hard(
         alloc: Global,
         source: &Option<Source>,
-        explicit: &ByteStrings,
+        explicit: ByteStrings,
     ) -> Result<Mentioned, AllocError>
-        ensures judged { IfOk result (λ m. m.judged ≡ distinct (source_names (source.now) ++ explicit.now)) }
-        ensures nodes { IfOk result (λ m. m.nodes ≡ m.judged) }
+        ensures judged { IfOk result (λ m. m.judged ≡ distinct (made_from source.now ++ explicit)) }
+        ensures nodes { IfOk result (λ m. nodes_in m ≡ m.judged) }
         ensures hidden { IfOk result (λ m. m.hidden.items ≡ []) }
     {
-        let judged = hard_names(alloc, source, explicit)?;
         Ok(Mentioned {
-            nodes: judged.listed(alloc)?,
-            judged,
+            judged: hard_names(alloc, source, explicit)?,
+            nodes: None,
             hidden: Vec::new(alloc),
         })
+    }
+
+    /// Has the nodes listed, before one is mentioned that is none.
+    fn list_nodes(&mut self, alloc: Global) -> Result<(), AllocError>
+        ensures listed { OnOk result (is_some self.new.nodes ≡ true) }
+        ensures nodes { OnOk result (nodes_in self.new ≡ nodes_in self.old) }
+        ensures judged { self.new.judged ≡ self.old.judged }
+        ensures hidden { self.new.hidden.items ≡ self.old.hidden.items }
+    {
+        if self.nodes.is_none() {
+            self.nodes = Some(self.judged.listed(alloc)?);
+        }
+        Ok(())
     }
 
     /// Takes in a hidden prerequisite, which may be a node.
@@ -75,17 +138,32 @@ impl Mentioned {
         is_node: bool,
     ) -> Result<(), AllocError>
         ensures judged { OnOk result (self.new.judged ≡ added self.old.judged name.now) }
-        ensures nodes { OnOk result (self.new.nodes
-            ≡ (if has_name self.old.judged name.now || not is_node then self.old.nodes else self.old.nodes ++ name.now ∷ [])) }
+        ensures nodes { OnOk result (nodes_in self.new
+            ≡ (if has_name self.old.judged name.now || not is_node then nodes_in self.old else nodes_in self.old ++ name.now ∷ [])) }
         ensures hidden { OnOk result (self.new.hidden.items
             ≡ (if has_name self.old.judged name.now then self.old.hidden.items else self.old.hidden.items ++ is_node ∷ [])) }
     {
+        if !is_node {
+            self.list_nodes(alloc)?;
+        }
         if !self.judged.mention(alloc, name)? {
             return Ok(());
         }
         self.hidden.push(is_node)?;
         if is_node {
-            self.nodes.push(name)?;
+            self.push_node(name)?;
+        }
+        Ok(())
+    }
+
+    /// Lists one node more, where nodes are listed.
+    fn push_node(&mut self, name: &[u8]) -> Result<(), AllocError>
+        ensures nodes { OnOk result (self.new.nodes ≡ option_map (λ listed. listed ++ name.now ∷ []) self.old.nodes) }
+        ensures judged { self.new.judged ≡ self.old.judged }
+        ensures hidden { self.new.hidden.items ≡ self.old.hidden.items }
+    {
+        if let Some(listed) = &mut self.nodes {
+            listed.push(name)?;
         }
         Ok(())
     }

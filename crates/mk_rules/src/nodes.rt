@@ -15,6 +15,7 @@ fn node_of(alloc: Global, known: Known, row: &[usize]) -> Result<Node, AllocErro
     let Known {
         stamp,
         stem,
+        implied,
         recipe,
         hard,
         hidden,
@@ -22,6 +23,7 @@ fn node_of(alloc: Global, known: Known, row: &[usize]) -> Result<Node, AllocErro
     Ok(Node {
         stamp,
         stem,
+        implied,
         recipe,
         hidden: hidden_numbers(alloc, &hidden, behind(row, hard))?,
     })

@@ -1,5 +1,5 @@
 //! What orders the names of a graph.
-ghost use Rattle.std.specs.Prelude.{◌≡◌, ℕ, true, length, map, nat_lt, IfOk, IfErr, IsTrue};
+ghost use Rattle.std.specs.Prelude.{◌≡◌, ℕ, true, length, map, nat_lt, unwrap_or, IfOk, IfErr, IsTrue};
 ghost use Rattle.std.specs.List.{list_all};
 ghost use Rattle.std.specs.List.Sorted.{IsStrictlyIncreasing};
 ghost use Rattle.mk_graph.specs.Counted.{AreCounted};
@@ -21,6 +21,7 @@ use std::alloc::{AllocError, Global};
 #[derive(Drop)]
 pub(crate) struct Ordered {
     pub hard: Edges,
+    pub required: Option<Edges>,
     pub soft: Edges,
     pub counted: Edges,
     pub order: Vec<usize>,
@@ -51,36 +52,49 @@ fn cycle_names(alloc: Global, names: &Names, cycle: &[usize]) -> Result<CycleNam
     Ok(CycleNames { names: list })
 }
 
-/// The order by these edges, or the cycle of hard ones as a fault.
+/// These edges, or the hard ones where there are none.
+fn required_or<'e>(required: &'e Option<Edges>, hard: &'e Edges) -> &'e Edges
+    ensures { result.now ≡ unwrap_or required.now hard.now }
+{
+    match required {
+        Some(edges) => edges,
+        None => hard,
+    }
+}
+
+/// The order by these edges, or the cycle of hard and order-only ones as a fault.
 pub(crate) fn ordered_by(
     alloc: Global,
     names: &Names,
     hard: Edges,
+    required: Option<Edges>,
     soft: Edges,
 ) -> Result<Ordered, RuleFault>
-    requires hard_count { length hard ≡ length names.now }
+    requires required_count { length (unwrap_or required hard) ≡ length names.now }
     requires soft_count { length soft ≡ length names.now }
-    requires hard_closed { IsTrue (is_closed hard) }
+    requires required_closed { IsTrue (is_closed (unwrap_or required hard)) }
     requires soft_closed { IsTrue (is_closed soft) }
     ensures hard { IfOk result (λ ordered. ordered.hard ≡ hard) }
+    ensures required { IfOk result (λ ordered. ordered.required ≡ required) }
     ensures soft { IfOk result (λ ordered. ordered.soft ≡ soft) }
-    ensures counted { IfOk result (λ ordered. AreCounted hard soft ordered.counted ordered.soft_dropped) }
+    ensures counted { IfOk result (λ ordered. AreCounted (unwrap_or required hard) soft ordered.counted ordered.soft_dropped) }
     ensures count { IfOk result (λ ordered. length ordered.counted ≡ length names.now) }
     ensures closed { IfOk result (λ ordered. IsTrue (is_closed ordered.counted)) }
     ensures ascending { IfOk result (λ ordered. (n : ℕ) → IsStrictlyIncreasing (row ordered.counted n)) }
-    ensures acyclic { IfOk result (λ _. HasCycle hard → ⊥) }
+    ensures acyclic { IfOk result (λ _. HasCycle (unwrap_or required hard) → ⊥) }
     ensures order { IfOk result (λ ordered. IsPlan ordered.counted ordered.order.items) }
-    ensures fault { IfErr result (IsCycleFault hard names.now) }
+    ensures fault { IfErr result (IsCycleFault (unwrap_or required hard) names.now) }
 {
     let Counted {
         edges,
         dropped,
         order,
-    } = count_edges(alloc, &hard, &soft)?;
+    } = count_edges(alloc, required_or(&required, &hard), &soft)?;
     match order {
         Order::Cycle(cycle) => Err(RuleFault::Cycle(cycle_names(alloc, names, &cycle)?)),
         Order::Plan(order) => Ok(Ordered {
             hard,
+            required,
             soft,
             counted: edges,
             order,

@@ -1,14 +1,14 @@
-//! The rows of numbered names, parted into hard and hidden prerequisites.
+//! The rows of numbered names, parted into hard prerequisites and others.
 ghost use Rattle.std.specs.Prelude.{◌≡◌, true, take, drop, length, map, IfOk};
 ghost use Rattle.mk_graph.specs.Edges.{is_closed};
-ghost use Rattle.mk_rules.specs.Rows.{EachRow, IsHardRow, IsHiddenRow, spread};
+ghost use Rattle.mk_rules.specs.Rows.{EachRow, IsHardRow, IsWaitedRow, spread};
 
 use crate::known::Known;
 use mk_graph::Edges;
 use std::alloc::{AllocError, Global};
 
 /// The first so many numbers, or all where there are no more.
-fn front(row: &[usize], count: usize) -> &[usize]
+pub(crate) fn front(row: &[usize], count: usize) -> &[usize]
     ensures { result.now ≡ take count row.now }
 {
     if count >= row.len() {
@@ -41,22 +41,22 @@ pub(crate) fn hard_rows(alloc: Global, rows: &Edges, known: &[Known]) -> Result<
     Ok(hard)
 }
 
-/// The hidden prerequisites of each node that are nodes, without those that are hard ones.
-pub(crate) fn hidden_rows(
+/// What each node waits for beside its hard prerequisites: hidden ones that are nodes, and order-only ones.
+pub(crate) fn waited_rows(
     alloc: Global,
     rows: &Edges,
     known: &[Known],
 ) -> Result<Vec<Vec<usize>>, AllocError>
     requires { length rows.now ≡ length known.now }
-    ensures count { IfOk result (λ hidden. length hidden.items ≡ length known.now) }
-    ensures rows { IfOk result (λ hidden. EachRow (IsHiddenRow rows.now known.now) (map (λ r. r.items) hidden.items)) }
-    ensures closed { IfOk result (λ hidden. is_closed rows.now ≡ true → is_closed (map (λ r. r.items) hidden.items) ≡ true) }
+    ensures count { IfOk result (λ waited. length waited.items ≡ length known.now) }
+    ensures rows { IfOk result (λ waited. EachRow (IsWaitedRow rows.now known.now) (map (λ r. r.items) waited.items)) }
+    ensures closed { IfOk result (λ waited. is_closed rows.now ≡ true → is_closed (map (λ r. r.items) waited.items) ≡ true) }
 {
-    let mut hidden = Vec::with_capacity(alloc, known.len())?;
+    let mut waited = Vec::with_capacity(alloc, known.len())?;
     for (node, found) in known.iter().enumerate() {
-        hidden.push(Vec::from_slice(alloc, behind(rows.row(node), found.hard))?)?;
+        waited.push(Vec::from_slice(alloc, behind(rows.row(node), found.hard))?)?;
     }
-    Ok(hidden)
+    Ok(waited)
 }
 
 /// The hidden prerequisites as they are judged: the number of each that is a node.

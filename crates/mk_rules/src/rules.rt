@@ -11,7 +11,9 @@ ghost use Rattle.mk_rule_lines.specs.Forms.{forms_of};
 use crate::source::source_of;
 use crate::tree::Tree;
 use byte_strings::ByteStrings;
-use mk_rule_lines::{Form, RuleFault, RuleLine, Source, TargetTable, explicit_of, is_phony};
+use mk_rule_lines::{
+    Form, RuleFault, RuleLine, Source, TargetTable, explicit_of, is_phony, order_only_of,
+};
 use st_records::Entry;
 use st_state::State;
 use std::alloc::{AllocError, Global};
@@ -31,7 +33,7 @@ pub(crate) struct Rules<'m> {
 }
 
 impl<'m> Rules<'m> {
-    ghost use Rattle.mk_rule_lines.specs.Explicit.{numbers_of, explicit_of, is_phony};
+    ghost use Rattle.mk_rule_lines.specs.Explicit.{numbers_of, explicit_of, order_only_of, is_phony};
     ghost use Rattle.mk_rules.specs.Prerequisites.{own_recipes, is_target};
     ghost use Rattle.mk_rule_lines.specs.Source.{source_of};
 
@@ -56,6 +58,14 @@ impl<'m> Rules<'m> {
             → found ≡ explicit_of self.now.lines.now name) }
     {
         explicit_of(alloc, self.lines, numbers)
+    }
+
+    /// The order-only prerequisites of the name that the lines of these numbers make.
+    pub fn order_only(&self, alloc: Global, numbers: &[usize]) -> Result<ByteStrings, AllocError>
+        ensures { IfOk result (λ found. (name : List ℕ) → numbers.now ≡ numbers_of self.now.lines.now name
+            → found ≡ order_only_of self.now.lines.now name) }
+    {
+        order_only_of(alloc, self.lines, numbers)
     }
 
     /// Whether the name that the lines of these numbers make is phony.

@@ -1,12 +1,14 @@
 //! The implicit source of a name.
 ghost use Rattle.std.specs.Prelude.{◌≡◌, ℕ, ℤ, List, Option, false, IfOk, IfErr, IsErr};
+ghost use Rattle.std.specs.List.{list_all};
 ghost use Rattle.mk_rule_lines.specs.Source.{source_of};
-ghost use Rattle.mk_rules.specs.Source.{IsSourceFault};
+ghost use Rattle.mk_rules.specs.Source.{IsAllFault, IsSourceFault};
 ghost use Rattle.mk_rules.specs.Looks.{IsLookFault, Looks};
 ghost use Rattle.mk_rule_lines.specs.Table.{is_named, is_there, named_at};
 
 use crate::look::stamp_of;
 use crate::tree::Tree;
+use byte_strings::ByteStrings;
 use mk_rule_lines::{Form, RuleFault, Source, TargetTable};
 use std::alloc::Global;
 
@@ -30,8 +32,28 @@ pub(crate) fn is_there<T: Tree>(
     Ok(stamp.is_some())
 }
 
-/// What an implicit rule makes the name from: the first of all candidates, in the order of the forms, that some line
-/// makes or that has a file.
+/// Whether each of these names is there, up to the first that isn't.
+fn all_there<T: Tree>(
+    alloc: Global,
+    targets: &TargetTable,
+    tree: &mut T,
+    names: &ByteStrings,
+) -> Result<bool, RuleFault>
+    ensures there { IfOk result (λ there. (times : List ℕ → Option ℤ)
+        → T.allows tree.new times → there ≡ list_all (is_there targets.now times) names.now) }
+    ensures looks { Looks (T.allows tree.old) (T.allows tree.new) (T.refuses tree.old) (T.refuses tree.new) (T.asked tree.old) (T.asked tree.new) }
+    ensures fault { IfErr result (IsAllFault targets.now (T.allows tree.new) (T.refuses tree.new) names.now) }
+{
+    for name in names.iter() {
+        if !is_there(alloc, targets, tree, name)? {
+            return Ok(false);
+        }
+    }
+    Ok(true)
+}
+
+/// What an implicit rule makes the name from: the first of all candidates, in the order of the forms, of whose names each has a
+/// file or some line that makes it.
 ///
 /// The answer is right for any times that agree with what the tree answered.
 pub fn source_of<T: Tree>(
@@ -47,11 +69,11 @@ pub fn source_of<T: Tree>(
     ensures fault { IfErr result (IsSourceFault targets.now (T.allows tree.new) (T.refuses tree.new) forms.now name.now) }
 {
     for form in forms {
-        let Some(stem) = form.stem(name) else {
+        let Some((folder, stem)) = form.stem(name) else {
             continue;
         };
-        let source = form.source(alloc, stem)?;
-        if is_there(alloc, targets, tree, source.name.as_slice())? {
+        let source = form.source(alloc, folder, stem)?;
+        if all_there(alloc, targets, tree, &source.names)? {
             return Ok(Some(source));
         }
     }

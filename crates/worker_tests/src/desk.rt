@@ -16,6 +16,10 @@ impl<R: Wait + Clock + Copy> Place for Fake<R> {
         Ok(Some(Vec::new(alloc)))
     }
 
+    fn stamp(&self, _target: &[u8]) -> Option<i128> {
+        None
+    }
+
     fn sync(&self, target: &[u8]) -> Result<(), PlaceFault> {
         self.say(b"~sync ", target);
         self.sync

@@ -1,7 +1,9 @@
 //! A folder in memory, whose times and texts are told as they stand.
-ghost use Rattle.std.specs.Prelude.{◌≡◌, ℕ, List, find, bytes_eq, option_map, option_copied, refl};
+ghost use Rattle.std.specs.Prelude.{◌≡◌, ℕ, List, [], find, bytes_eq, option_map, option_copied, refl};
 
 use mk_eval::Includes;
+use mk_profile::Profile;
+use mk_reader::Statement;
 use mk_rules::{Tree, TreeFault};
 use std::alloc::{AllocError, Global};
 
@@ -58,8 +60,9 @@ impl Tree for Folder {
 }
 
 impl Includes for Folder {
-    ghost allows = { λ folder files. (name : List ℕ)
-        → files name ≡ option_map (λ file. file.2.now) (find (λ file. bytes_eq file.0.now name) folder.files.now) };
+    ghost allows = { λ folder world.
+        ((name : List ℕ) → world.files name ≡ option_map (λ file. file.2.now) (find (λ file. bytes_eq file.0.now name) folder.files.now))
+        × ((file : List ℕ) (line : ℕ) (command : List ℕ) → world.outputs file line command ≡ []) };
 
     fn read(&mut self, alloc: Global, name: &[u8]) -> Result<Option<Vec<u8>>, AllocError> {
         self.reads = self.reads.saturating_add(1);
@@ -69,8 +72,24 @@ impl Includes for Folder {
         }
     }
 
+    /// No command writes anything.
+    fn output(
+        &mut self,
+        alloc: Global,
+        _file: &[u8],
+        _line: usize,
+        _command: &[u8],
+    ) -> Result<Vec<u8>, AllocError> {
+        Ok(Vec::new(alloc))
+    }
+
+    fn see(&mut self, _alloc: Global, _profile: Profile, _file: &[u8], _statements: &[Statement]) {}
+
     ghost possible = { λ folder. (
-      λ name. option_map (λ file. file.2.now) (find (λ file. bytes_eq file.0.now name) folder.files.now),
-      λ name. refl,
+      record {
+        files = λ name. option_map (λ file. file.2.now) (find (λ file. bytes_eq file.0.now name) folder.files.now);
+        outputs = λ file line command. [];
+      },
+      (λ name. refl, λ file line command. refl),
     ) };
 }

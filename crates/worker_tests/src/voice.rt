@@ -37,7 +37,9 @@ impl<R: Wait + Clock + Copy> Say for Fake<R> {
 
     fn tell(&self, news: News<'_>) {
         match news {
-            News::Failed { target, .. } | News::NotRecorded { target } => self.say(b"!", target),
+            News::Failed { target, .. } | News::NotRecorded { target, .. } => self.say(
+                b"!", target,
+            ),
             News::JobserverFailed => self.say(b"!", b"jobserver"),
             _ => self.say(b"!", b"news"),
         }

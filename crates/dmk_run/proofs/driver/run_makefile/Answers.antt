@@ -8,16 +8,16 @@ use Rattle.dmk_run.proofs.driver.run_makefile.Goals as goal
 pub returns-in-Ok-clause-makes : goal.returns-in-Ok-clause-makes
 returns-in-Ok-clause-makes g c =
     if_ok c.run_items.result.0 _ _
-    (λ s made files times text may. record {
+    (λ s made world times text may. record {
       items = c.in-Ok.items.items;
-      are_items = subst (λ defined. AreItems files times c.args.makefiles.now (first_defined c.args.goals.profile defined c.args.means.now.environment.now) c.in-Ok.items.items) c.deref.ensures.value
-          (c.in-Ok.ensures.items files times text (c.run_items.ensures.times times may));
+      are_items = subst (λ defined. AreItems world times c.args.makefiles.now (first_defined c.args.goals.profile defined c.args.means.now.environment.now) c.in-Ok.items.items) c.deref.ensures.value
+          (c.in-Ok.ensures.items world times text (c.run_items.ensures.times times may));
       made = made times may;
     })
     c.run_items.ensures.makes
 
 pub returns-in-Ok-clause-untouched : goal.returns-in-Ok-clause-untouched
-returns-in-Ok-clause-untouched g c = λ files times text may.
-    untouched_unless_kept (AreItems files times c.args.makefiles.now (first_defined c.args.goals.profile c.args.goals.definitions.items c.args.means.now.environment.now)) c.args.means.now.environment.now c.in-Ok.items.items
-    (subst (λ defined. AreItems files times c.args.makefiles.now (first_defined c.args.goals.profile defined c.args.means.now.environment.now) c.in-Ok.items.items) c.deref.ensures.value
-    (c.in-Ok.ensures.items files times text (c.run_items.ensures.times times may))) c.args.disk c.run_items.result.1 c.run_items.ensures.untouched
+returns-in-Ok-clause-untouched g c = λ world times text may.
+    untouched_unless_kept (AreItems world times c.args.makefiles.now (first_defined c.args.goals.profile c.args.goals.definitions.items c.args.means.now.environment.now)) c.args.means.now.environment.now c.in-Ok.items.items
+    (subst (λ defined. AreItems world times c.args.makefiles.now (first_defined c.args.goals.profile defined c.args.means.now.environment.now) c.in-Ok.items.items) c.deref.ensures.value
+    (c.in-Ok.ensures.items world times text (c.run_items.ensures.times times may))) c.args.disk c.run_items.result.1 c.run_items.ensures.untouched

@@ -5,11 +5,10 @@ use Rattle.byte_strings.specs.Blanks.{words}
 use Rattle.mk_macros.specs.Expansion.{gives}
 use Rattle.mk_macros.specs.Ranks.{defined_by}
 use Rattle.mk_reader.specs.Grammar.{refusal}
-use Rattle.mk_reader.specs.Statements.{AreStatements}
 use Rattle.mk_reader.specs.declared.fault.Cause.TheVariants.{IncludeMissing}
 use Rattle.mk_reader.specs.declared.item.Statement.{Statement}
 use Rattle.mk_reader.specs.declared.item.Statement.TheVariants as statement
-use Rattle.mk_eval.specs.Makefile.{AnswersOf, behind, InOrder, missing_items, StatementItems, IncludedItems, TextItems}
+use Rattle.mk_eval.specs.Makefile.{behind, InOrder, missing_items, StatementItems, IncludedItems, TextItems}
 use Rattle.mk_eval.proofs.BehindLemmas.{behind_nothing, behind_more}
 use Rattle.mk_eval.proofs.MakefileLemmas.{Reaches, nothing_left, one_fewer, included_deeper, line_fault, none_gathered, reach_fault, reach_more, reach_end, fault_passed_on, items_passed_on, none_given}
 use Rattle.mk_eval.proofs.makefile.+evaluating.Goals as goal
@@ -18,25 +17,25 @@ pub evaluate_each-loop-name-init : goal.evaluate_each-loop-name-init
 evaluate_each-loop-name-init g t c =
     let start = defined_by c.args.macros.now in
     record {
-      gathered = λ files now. none_gathered behind (IncludedItems (AnswersOf files) c.args.levels c.args.file.now c.args.include.now) start (words c.args.names.now) c.new-items.result.items c.new-items.ensures.items;
+      gathered = λ world now. none_gathered behind (IncludedItems world c.args.levels c.args.file.now c.args.include.now) start (words c.args.names.now) c.new-items.result.items c.new-items.ensures.items;
       defined = sym (ap (behind start) c.new-items.ensures.items ∙ behind_nothing start);
-      grows = λ files now. now;
+      grows = λ world now. now;
     }
 
 pub evaluate_each-returns-in_err-included-clause-items : goal.evaluate_each-returns-in_err-included-clause-items
-evaluate_each-returns-in_err-included-clause-items g t c = λ files now.
+evaluate_each-returns-in_err-included-clause-items g t c = λ world now.
     let p = err_from_is_err_and c.from_residual.result c.from_residual.ensures.1 in
-    let included = IncludedItems (AnswersOf files) c.args.levels c.args.file.now c.args.include.now in
+    let included = IncludedItems world c.args.levels c.args.file.now c.args.include.now in
     let start = defined_by c.args.macros.now in
     let here = defined_by c.loop-name.macros in
-    let gathered = c.loop-name.invariant.gathered files (c.evaluate_included.ensures.grows files now) in
+    let gathered = c.loop-name.invariant.gathered world (c.evaluate_included.ensures.grows world now) in
     let told = fault_passed_on c.in_err-included.field-0.0 (included here c.in-Some.name.now) (InOrder behind included start (words c.args.names.now))
-    (c.in_err-included.ensures.items files now)
+    (c.in_err-included.ensures.items world now)
     (λ fault h. reach_fault behind included start (words c.args.names.now) here c.loop-name.items.items _ _ c.in-Some.name.now fault gathered c.in-Some.ensures.word h) in
     rw (p.1, p.2) told
 
 pub evaluate_each-returns-in_err-included-clause-grows : goal.evaluate_each-returns-in_err-included-clause-grows
-evaluate_each-returns-in_err-included-clause-grows g t c = λ files now. c.loop-name.invariant.grows files (c.evaluate_included.ensures.grows files now)
+evaluate_each-returns-in_err-included-clause-grows g t c = λ world now. c.loop-name.invariant.grows world (c.evaluate_included.ensures.grows world now)
 
 pub evaluate_each-loop-name-preserved : goal.evaluate_each-loop-name-preserved
 evaluate_each-loop-name-preserved g t c =
@@ -45,71 +44,60 @@ evaluate_each-loop-name-preserved g t c =
     let next = defined_by c.evaluate_included.new.macros in
     let front = c.in_ok-included.included.items in
     record {
-      gathered = λ files now.
-          let included = IncludedItems (AnswersOf files) c.args.levels c.args.file.now c.args.include.now in
-          let gathered = c.loop-name.invariant.gathered files (c.evaluate_included.ensures.grows files now) in
+      gathered = λ world now.
+          let included = IncludedItems world c.args.levels c.args.file.now c.args.include.now in
+          let gathered = c.loop-name.invariant.gathered world (c.evaluate_included.ensures.grows world now) in
           reach_more behind included start (words c.args.names.now) here next c.loop-name.items.items _ front _ _ c.in-Some.name.now gathered c.in-Some.ensures.word
-          (c.in_ok-included.ensures.items files now) c.in_ok-included.ensures.defined c.in_ok-append.ensures.items;
+          (c.in_ok-included.ensures.items world now) c.in_ok-included.ensures.defined c.in_ok-append.ensures.items;
       defined = behind_more start here next c.loop-name.items.items _ front c.loop-name.invariant.defined c.in_ok-included.ensures.defined c.in_ok-append.ensures.items;
-      grows = λ files now. c.loop-name.invariant.grows files (c.evaluate_included.ensures.grows files now);
+      grows = λ world now. c.loop-name.invariant.grows world (c.evaluate_included.ensures.grows world now);
     }
 
 pub evaluate_each-returns-clause-items : goal.evaluate_each-returns-clause-items
-evaluate_each-returns-clause-items g t c = λ files now.
-    reach_end behind (IncludedItems (AnswersOf files) c.args.levels c.args.file.now c.args.include.now) (defined_by c.args.macros.now) (words c.args.names.now)
-    (defined_by c.loop-name.macros) c.loop-name.items.items _ (c.loop-name.invariant.gathered files now) c.in_default.ensures.word
+evaluate_each-returns-clause-items g t c = λ world now.
+    reach_end behind (IncludedItems world c.args.levels c.args.file.now c.args.include.now) (defined_by c.args.macros.now) (words c.args.names.now)
+    (defined_by c.loop-name.macros) c.loop-name.items.items _ (c.loop-name.invariant.gathered world now) c.in_default.ensures.word
 
 pub evaluate_line-returns-in_err-names-clause-items : goal.evaluate_line-returns-in_err-names-clause-items
-evaluate_line-returns-in_err-names-clause-items g t c = λ files now.
+evaluate_line-returns-in_err-names-clause-items g t c = λ world now.
     let p = err_from_is_err_and c.from_residual.result c.from_residual.ensures.1 in
-    let told = line_fault (IncludedItems (AnswersOf files) c.args.levels c.args.file.now) (defined_by c.args.macros.now) c.args.file.now c.args.include.now c.in_err-names.field-0.0 c.in_err-names.ensures.fault in
+    let told = line_fault world (IncludedItems world c.args.levels c.args.file.now) (defined_by c.args.macros.now) c.args.file.now c.args.include.now c.in_err-names.field-0.0 c.in_err-names.ensures.fault in
     rw (p.1, p.2) told
 
 pub evaluate_line-returns-clause-items : goal.evaluate_line-returns-clause-items
-evaluate_line-returns-clause-items g t c = λ files now.
-    let included = IncludedItems (AnswersOf files) c.args.levels c.args.file.now in
+evaluate_line-returns-clause-items g t c = λ world now.
+    let included = IncludedItems world c.args.levels c.args.file.now in
     let start = defined_by c.args.macros.now in
     let names = c.in_ok-names.names.items in
-    items_passed_on c.evaluate_each.result (InOrder behind (included c.args.include.now) start (words c.as_slice.result.now)) (StatementItems included c.args.file.now start (statement.Include c.args.include.now))
-    (c.evaluate_each.ensures.items files now)
+    items_passed_on c.evaluate_each.result (InOrder behind (included c.args.include.now) start (words c.as_slice.result.now)) (StatementItems world included c.args.file.now start (statement.Include c.args.include.now))
+    (c.evaluate_each.ensures.items world now)
     (λ o h. (gives names, c.in_ok-names.ensures.names, subst (λ bytes. InOrder behind (included c.args.include.now) start (words bytes) o) c.as_slice.ensures.value h))
 
 pub evaluate_included-returns-in-None-clause-items : goal.evaluate_included-returns-in-None-clause-items
-evaluate_included-returns-in-None-clause-items g t c = λ files now.
-    let answers = AnswersOf files in
+evaluate_included-returns-in-None-clause-items g t c = λ world now.
     let deeper = c.args.levels - 1 in
     let start = defined_by c.args.macros.now in
-    let content = c.in_ok-read.ensures.content files now in
+    let content = c.in_ok-read.ensures.content world now in
     items_passed_on c.missing.result (λ o. o ≡ missing_items c.args.include.now.is_required (refusal c.args.file.now c.args.include.now.line (IncludeMissing c.args.name.now)))
-    (IncludedItems answers c.args.levels c.args.file.now c.args.include.now start c.args.name.now)
+    (IncludedItems world c.args.levels c.args.file.now c.args.include.now start c.args.name.now)
     c.missing.ensures.items
-    (λ o h. included_deeper answers c.args.levels deeper c.args.file.now c.args.include.now start c.args.name.now None o (omega arith)
+    (λ o h. included_deeper world c.args.levels deeper c.args.file.now c.args.include.now start c.args.name.now None o (omega arith)
     (sym (ap (option_map (λ v. v.items)) c.in-None.is) ∙ content) h)
 
 pub evaluate_included-returns-in-None-clause-defined : goal.evaluate_included-returns-in-None-clause-defined
 evaluate_included-returns-in-None-clause-defined g t c = none_given (defined_by c.args.macros.now) c.missing.result c.missing.ensures.none
 
 pub evaluate_included-returns-in-Some-clause-items : goal.evaluate_included-returns-in-Some-clause-items
-evaluate_included-returns-in-Some-clause-items g t c = λ files now.
-    let answers = AnswersOf files in
+evaluate_included-returns-in-Some-clause-items g t c = λ world now.
     let deeper = c.args.levels - 1 in
     let start = defined_by c.args.macros.now in
-    let content = c.in_ok-read.ensures.content files (c.evaluate_text.ensures.grows files now) in
-    items_passed_on c.evaluate_text.result (TextItems answers deeper start c.args.name.now c.as_slice.result.now) (IncludedItems answers c.args.levels c.args.file.now c.args.include.now start c.args.name.now)
-    (c.evaluate_text.ensures.items files now)
+    let content = c.in_ok-read.ensures.content world (c.evaluate_text.ensures.grows world now) in
+    items_passed_on c.evaluate_text.result (TextItems world deeper start c.args.name.now c.as_slice.result.now) (IncludedItems world c.args.levels c.args.file.now c.args.include.now start c.args.name.now)
+    (c.evaluate_text.ensures.items world now)
     (λ o h.
-    let items = subst (λ bytes. TextItems answers deeper start c.args.name.now bytes o) c.as_slice.ensures.value h in
-    included_deeper answers c.args.levels deeper c.args.file.now c.args.include.now start c.args.name.now (Some c.in-Some.text.items) o (omega arith)
+    let items = subst (λ bytes. TextItems world deeper start c.args.name.now bytes o) c.as_slice.ensures.value h in
+    included_deeper world c.args.levels deeper c.args.file.now c.args.include.now start c.args.name.now (Some c.in-Some.text.items) o (omega arith)
     (sym (ap (option_map (λ v. v.items)) c.in-Some.is) ∙ content) items)
-
-pub evaluate_text-returns-clause-items : goal.evaluate_text-returns-clause-items
-evaluate_text-returns-clause-items g t c = λ files now.
-    let included = IncludedItems (AnswersOf files) c.args.levels c.args.file.now in
-    let start = defined_by c.args.macros.now in
-    let statements = c.in_ok-statements.statements.items in
-    items_passed_on c.evaluate_all.result (InOrder behind (StatementItems included c.args.file.now) start statements) (TextItems (AnswersOf files) c.args.levels start c.args.file.now c.args.text.now)
-    (c.evaluate_all.ensures.items files now)
-    (λ o h. (statements, subst (λ language. AreStatements language c.args.file.now c.args.text.now statements) c.profile.ensures c.in_ok-statements.ensures, h))
 
 pub evaluate_all-loop-statement-init : goal.evaluate_all-loop-statement-init
 evaluate_all-loop-statement-init g t c =
@@ -119,15 +107,15 @@ evaluate_all-loop-statement-init g t c =
     let count : into_iter_len c.into_iter-statement-iterator.result ≡ length all = search rules in
     record {
       left = count ∙ sym (ap length gives.0);
-      gathered = λ files now.
-          let one = StatementItems (IncludedItems (AnswersOf files) c.args.levels c.args.file.now) c.args.file.now in
+      gathered = λ world now.
+          let one = StatementItems world (IncludedItems world c.args.levels c.args.file.now) c.args.file.now in
           subst (λ (left : List Statement). Reaches behind one start all start c.new-items.result.items left) (sym gives.0) (none_gathered behind one start all c.new-items.result.items c.new-items.ensures.items);
       defined = sym (ap (behind start) c.new-items.ensures.items ∙ behind_nothing start);
-      grows = λ files now. now;
+      grows = λ world now. now;
     }
 
 pub evaluate_all-returns-in_err-given-in-Item-clause-items : goal.evaluate_all-returns-in_err-given-in-Item-clause-items
-evaluate_all-returns-in_err-given-in-Item-clause-items g t c = λ files allowed.
+evaluate_all-returns-in_err-given-in-Item-clause-items g t c = λ world allowed.
     let now = c.loop-statement in
     let st = c.in-Some.ensures.steps in
     let more = into_iter_items c.next.new.self in
@@ -136,10 +124,10 @@ evaluate_all-returns-in_err-given-in-Item-clause-items g t c = λ files allowed.
     let said = statement.Item c.in-Item.item in
     let at : into_iter_items now.statement-iterator ≡ said ∷ more = st.0 ∙ ap (λ (s : Statement). s ∷ more) c.in-Item.is in
     let p = err_from_is_err_and c.from_residual.result c.from_residual.ensures.1 in
-    let one = StatementItems (IncludedItems (AnswersOf files) c.args.levels c.args.file.now) c.args.file.now in
+    let one = StatementItems world (IncludedItems world c.args.levels c.args.file.now) c.args.file.now in
     let told = fault_passed_on c.in_err-given-in-Item.field-0.0 (one here said) (InOrder behind one start c.args.statements.items)
     c.in_err-given-in-Item.ensures.items
-    (λ fault h. reach_fault behind one start c.args.statements.items here now.items.items _ more said fault (now.invariant.gathered files allowed) at h) in
+    (λ fault h. reach_fault behind one start c.args.statements.items here now.items.items _ more said fault (now.invariant.gathered world allowed) at h) in
     rw (p.1, p.2) told
 
 pub evaluate_all-loop-statement-preserved-in-Item : goal.evaluate_all-loop-statement-preserved-in-Item
@@ -155,17 +143,17 @@ evaluate_all-loop-statement-preserved-in-Item g t c =
     let front = c.in_ok-given-in-Item.given.items in
     record {
       left = one_fewer _ _ c.in-Some.statement (into_iter_len now.statement-iterator) (into_iter_len c.next.new.self) st.0 st.1 now.invariant.left;
-      gathered = λ files allowed.
-          let one = StatementItems (IncludedItems (AnswersOf files) c.args.levels c.args.file.now) c.args.file.now in
+      gathered = λ world allowed.
+          let one = StatementItems world (IncludedItems world c.args.levels c.args.file.now) c.args.file.now in
           reach_more behind one start c.args.statements.items here next now.items.items _ front _ more said
-          (now.invariant.gathered files allowed) at
+          (now.invariant.gathered world allowed) at
           c.in_ok-given-in-Item.ensures.items c.in_ok-given-in-Item.ensures.defined c.in_ok-append-in-Item.ensures.items;
       defined = behind_more start here next now.items.items _ front now.invariant.defined c.in_ok-given-in-Item.ensures.defined c.in_ok-append-in-Item.ensures.items;
       grows = now.invariant.grows;
     }
 
 pub evaluate_all-returns-in_err-defined-in-Definition-clause-items : goal.evaluate_all-returns-in_err-defined-in-Definition-clause-items
-evaluate_all-returns-in_err-defined-in-Definition-clause-items g t c = λ files allowed.
+evaluate_all-returns-in_err-defined-in-Definition-clause-items g t c = λ world allowed.
     let now = c.loop-statement in
     let st = c.in-Some.ensures.steps in
     let more = into_iter_items c.next.new.self in
@@ -174,11 +162,15 @@ evaluate_all-returns-in_err-defined-in-Definition-clause-items g t c = λ files 
     let said = statement.Definition c.in-Definition.line in
     let at : into_iter_items now.statement-iterator ≡ said ∷ more = st.0 ∙ ap (λ (s : Statement). s ∷ more) c.in-Definition.is in
     let p = err_from_is_err_and c.from_residual-in_err-defined-in-Definition.result c.from_residual-in_err-defined-in-Definition.ensures.1 in
-    let one = StatementItems (IncludedItems (AnswersOf files) c.args.levels c.args.file.now) c.args.file.now in
+    let one = StatementItems world (IncludedItems world c.args.levels c.args.file.now) c.args.file.now in
+    let gathered = now.invariant.gathered world (c.evaluate_definition.ensures.grows world allowed) in
     let told = fault_passed_on c.in_err-defined-in-Definition.field-0.0 (one here said) (InOrder behind one start c.args.statements.items)
-    c.in_err-defined-in-Definition.ensures.items
-    (λ fault h. reach_fault behind one start c.args.statements.items here now.items.items _ more said fault (now.invariant.gathered files allowed) at h) in
+    (c.in_err-defined-in-Definition.ensures.items world allowed)
+    (λ fault h. reach_fault behind one start c.args.statements.items here now.items.items _ more said fault gathered at h) in
     rw (p.1, p.2) told
+
+pub evaluate_all-returns-in_err-defined-in-Definition-clause-grows : goal.evaluate_all-returns-in_err-defined-in-Definition-clause-grows
+evaluate_all-returns-in_err-defined-in-Definition-clause-grows g t c = λ world allowed. c.loop-statement.invariant.grows world (c.evaluate_definition.ensures.grows world allowed)
 
 pub evaluate_all-loop-statement-preserved-in-Definition : goal.evaluate_all-loop-statement-preserved-in-Definition
 evaluate_all-loop-statement-preserved-in-Definition g t c =
@@ -193,17 +185,17 @@ evaluate_all-loop-statement-preserved-in-Definition g t c =
     let front = c.in_ok-defined-in-Definition.defined.items in
     record {
       left = one_fewer _ _ c.in-Some.statement (into_iter_len now.statement-iterator) (into_iter_len c.next.new.self) st.0 st.1 now.invariant.left;
-      gathered = λ files allowed.
-          let one = StatementItems (IncludedItems (AnswersOf files) c.args.levels c.args.file.now) c.args.file.now in
+      gathered = λ world allowed.
+          let one = StatementItems world (IncludedItems world c.args.levels c.args.file.now) c.args.file.now in
           reach_more behind one start c.args.statements.items here next now.items.items _ front _ more said
-          (now.invariant.gathered files allowed) at
-          c.in_ok-defined-in-Definition.ensures.items c.in_ok-defined-in-Definition.ensures.defined c.in_ok-append-in-Definition.ensures.items;
+          (now.invariant.gathered world (c.evaluate_definition.ensures.grows world allowed)) at
+          (c.in_ok-defined-in-Definition.ensures.items world allowed) c.in_ok-defined-in-Definition.ensures.defined c.in_ok-append-in-Definition.ensures.items;
       defined = behind_more start here next now.items.items _ front now.invariant.defined c.in_ok-defined-in-Definition.ensures.defined c.in_ok-append-in-Definition.ensures.items;
-      grows = now.invariant.grows;
+      grows = λ world allowed. now.invariant.grows world (c.evaluate_definition.ensures.grows world allowed);
     }
 
 pub evaluate_all-returns-in_err-included-in-Include-clause-items : goal.evaluate_all-returns-in_err-included-in-Include-clause-items
-evaluate_all-returns-in_err-included-in-Include-clause-items g t c = λ files allowed.
+evaluate_all-returns-in_err-included-in-Include-clause-items g t c = λ world allowed.
     let now = c.loop-statement in
     let st = c.in-Some.ensures.steps in
     let more = into_iter_items c.next.new.self in
@@ -212,15 +204,15 @@ evaluate_all-returns-in_err-included-in-Include-clause-items g t c = λ files al
     let said = statement.Include c.in-Include.include in
     let at : into_iter_items now.statement-iterator ≡ said ∷ more = st.0 ∙ ap (λ (s : Statement). s ∷ more) c.in-Include.is in
     let p = err_from_is_err_and c.from_residual-in_err-included-in-Include.result c.from_residual-in_err-included-in-Include.ensures.1 in
-    let one = StatementItems (IncludedItems (AnswersOf files) c.args.levels c.args.file.now) c.args.file.now in
-    let gathered = now.invariant.gathered files (c.evaluate_line.ensures.grows files allowed) in
+    let one = StatementItems world (IncludedItems world c.args.levels c.args.file.now) c.args.file.now in
+    let gathered = now.invariant.gathered world (c.evaluate_line.ensures.grows world allowed) in
     let told = fault_passed_on c.in_err-included-in-Include.field-0.0 (one here said) (InOrder behind one start c.args.statements.items)
-    (c.in_err-included-in-Include.ensures.items files allowed)
+    (c.in_err-included-in-Include.ensures.items world allowed)
     (λ fault h. reach_fault behind one start c.args.statements.items here now.items.items _ more said fault gathered at h) in
     rw (p.1, p.2) told
 
 pub evaluate_all-returns-in_err-included-in-Include-clause-grows : goal.evaluate_all-returns-in_err-included-in-Include-clause-grows
-evaluate_all-returns-in_err-included-in-Include-clause-grows g t c = λ files allowed. c.loop-statement.invariant.grows files (c.evaluate_line.ensures.grows files allowed)
+evaluate_all-returns-in_err-included-in-Include-clause-grows g t c = λ world allowed. c.loop-statement.invariant.grows world (c.evaluate_line.ensures.grows world allowed)
 
 pub evaluate_all-loop-statement-preserved : goal.evaluate_all-loop-statement-preserved
 evaluate_all-loop-statement-preserved g t c =
@@ -235,26 +227,26 @@ evaluate_all-loop-statement-preserved g t c =
     let front = c.in_ok-included-in-Include.included.items in
     record {
       left = one_fewer _ _ c.in-Some.statement (into_iter_len now.statement-iterator) (into_iter_len c.next.new.self) st.0 st.1 now.invariant.left;
-      gathered = λ files allowed.
-          let one = StatementItems (IncludedItems (AnswersOf files) c.args.levels c.args.file.now) c.args.file.now in
+      gathered = λ world allowed.
+          let one = StatementItems world (IncludedItems world c.args.levels c.args.file.now) c.args.file.now in
           reach_more behind one start c.args.statements.items here next now.items.items _ front _ more said
-          (now.invariant.gathered files (c.evaluate_line.ensures.grows files allowed)) at
-          (c.in_ok-included-in-Include.ensures.items files allowed) c.in_ok-included-in-Include.ensures.defined c.in_ok-append-in-Include.ensures.items;
+          (now.invariant.gathered world (c.evaluate_line.ensures.grows world allowed)) at
+          (c.in_ok-included-in-Include.ensures.items world allowed) c.in_ok-included-in-Include.ensures.defined c.in_ok-append-in-Include.ensures.items;
       defined = behind_more start here next now.items.items _ front now.invariant.defined c.in_ok-included-in-Include.ensures.defined c.in_ok-append-in-Include.ensures.items;
-      grows = λ files allowed. now.invariant.grows files (c.evaluate_line.ensures.grows files allowed);
+      grows = λ world allowed. now.invariant.grows world (c.evaluate_line.ensures.grows world allowed);
     }
 
 pub evaluate_all-returns-in-Refused-clause-items : goal.evaluate_all-returns-in-Refused-clause-items
-evaluate_all-returns-in-Refused-clause-items g t c = λ files allowed.
+evaluate_all-returns-in-Refused-clause-items g t c = λ world allowed.
     let now = c.loop-statement in
     let more = into_iter_items c.next.new.self in
     let said = statement.Refused c.in-Refused.refusal in
     let at : into_iter_items now.statement-iterator ≡ said ∷ more = c.in-Some.ensures.steps.0 ∙ ap (λ (s : Statement). s ∷ more) c.in-Refused.is in
-    reach_fault behind (StatementItems (IncludedItems (AnswersOf files) c.args.levels c.args.file.now) c.args.file.now) (defined_by c.args.macros.now) c.args.statements.items (defined_by now.macros) now.items.items _ more
-    said c.in-Refused.refusal (now.invariant.gathered files allowed) at refl
+    reach_fault behind (StatementItems world (IncludedItems world c.args.levels c.args.file.now) c.args.file.now) (defined_by c.args.macros.now) c.args.statements.items (defined_by now.macros) now.items.items _ more
+    said c.in-Refused.refusal (now.invariant.gathered world allowed) at refl
 
 pub evaluate_all-returns-clause-items : goal.evaluate_all-returns-clause-items
-evaluate_all-returns-clause-items g t c = λ files allowed.
+evaluate_all-returns-clause-items g t c = λ world allowed.
     let now = c.loop-statement in
     let none = nothing_left (into_iter_items now.statement-iterator) (sym now.invariant.left ∙ (c.in-None.ensures.steps).0) in
-    reach_end behind (StatementItems (IncludedItems (AnswersOf files) c.args.levels c.args.file.now) c.args.file.now) (defined_by c.args.macros.now) c.args.statements.items (defined_by now.macros) now.items.items _ (now.invariant.gathered files allowed) none
+    reach_end behind (StatementItems world (IncludedItems world c.args.levels c.args.file.now) c.args.file.now) (defined_by c.args.macros.now) c.args.statements.items (defined_by now.macros) now.items.items _ (now.invariant.gathered world allowed) none

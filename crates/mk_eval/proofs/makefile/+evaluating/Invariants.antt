@@ -1,8 +1,9 @@
-use Rattle.std.proofs.Common.{◌≡◌, ◌+◌, ◌*◌, ℕ, List, Option, length}
+use Rattle.std.proofs.Common.{◌≡◌, ◌+◌, ◌*◌, length}
 use Rattle.std.specs.Vec.Iter.{into_iter_items, into_iter_len}
 use Rattle.byte_strings.specs.Blanks.{words}
 use Rattle.mk_macros.specs.Ranks.{defined_by}
-use Rattle.mk_eval.specs.Makefile.{AnswersOf, behind, StatementItems, IncludedItems}
+use Rattle.mk_eval.specs.Output.{World}
+use Rattle.mk_eval.specs.Makefile.{behind, StatementItems, IncludedItems}
 use Rattle.mk_eval.proofs.MakefileLemmas.{Reaches}
 use Rattle.mk_eval.proofs.makefile.+evaluating.Given as goal
 
@@ -23,10 +24,10 @@ decreases-evaluate_included g l = 5 * l.levels
 
 abbrev pub invariant-evaluate_each-loop-name : goal.invariant-evaluate_each-loop-name
 invariant-evaluate_each-loop-name g l = record {
-  gathered : (files : List ℕ → Option (List ℕ)) → g.I.Includes.allows l.includes files
-      → Reaches behind (IncludedItems (AnswersOf files) l.levels l.file l.include) (defined_by l.initial.macros) (words l.names) (defined_by l.macros) l.items.items (words l.rest);
+  gathered : (world : World) → g.I.Includes.allows l.includes world
+      → Reaches behind (IncludedItems world l.levels l.file l.include) (defined_by l.initial.macros) (words l.names) (defined_by l.macros) l.items.items (words l.rest);
   defined : defined_by l.macros ≡ behind (defined_by l.initial.macros) l.items.items;
-  grows : (files : List ℕ → Option (List ℕ)) → g.I.Includes.allows l.includes files → g.I.Includes.allows l.initial.includes files;
+  grows : (world : World) → g.I.Includes.allows l.includes world → g.I.Includes.allows l.initial.includes world;
 }
 
 abbrev pub decreases-evaluate_each-loop-name : goal.decreases-evaluate_each-loop-name
@@ -35,8 +36,8 @@ decreases-evaluate_each-loop-name g l = length (words l.rest)
 abbrev pub invariant-evaluate_all-loop-statement : goal.invariant-evaluate_all-loop-statement
 invariant-evaluate_all-loop-statement g l = record {
   left : into_iter_len l.statement-iterator ≡ length (into_iter_items l.statement-iterator);
-  gathered : (files : List ℕ → Option (List ℕ)) → g.I.Includes.allows l.includes files
-      → Reaches behind (StatementItems (IncludedItems (AnswersOf files) l.levels l.file) l.file) (defined_by l.initial.macros) l.fn.statements.items (defined_by l.macros) l.items.items (into_iter_items l.statement-iterator);
+  gathered : (world : World) → g.I.Includes.allows l.includes world
+      → Reaches behind (StatementItems world (IncludedItems world l.levels l.file) l.file) (defined_by l.initial.macros) l.fn.statements.items (defined_by l.macros) l.items.items (into_iter_items l.statement-iterator);
   defined : defined_by l.macros ≡ behind (defined_by l.initial.macros) l.items.items;
-  grows : (files : List ℕ → Option (List ℕ)) → g.I.Includes.allows l.includes files → g.I.Includes.allows l.initial.includes files;
+  grows : (world : World) → g.I.Includes.allows l.includes world → g.I.Includes.allows l.initial.includes world;
 }

@@ -5,6 +5,6 @@ use Rattle.mk_plan.proofs.words.repeated_words.Goals as goal
 
 pub returns : goal.returns
 returns c =
-    if_ok c.behind_source.result _ _
+    if_ok c.behind_implied.result _ _
     (λ found are. written_words c.args.graph.now c.args.node c.args.explicit.now (option_map (λ words. map (λ word. word.now) words.items) found) are c.requires.wide c.requires.names)
-    c.behind_source.ensures
+    c.behind_implied.ensures

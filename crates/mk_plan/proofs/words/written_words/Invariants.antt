@@ -1,7 +1,7 @@
 use Rattle.std.proofs.Common.{◌≡◌, ◌++◌, map}
-use Rattle.mk_plan.specs.Words.{source_names}
+use Rattle.mk_plan.specs.Words.{implied_names}
 use Rattle.mk_plan.proofs.words.written_words.Given as goal
 
 abbrev pub invariant-loop-name : goal.invariant-loop-name
 invariant-loop-name l =
-    map (λ word. word.now) l.words.items ++ l.name-iterator ≡ source_names l.graph l.node ++ l.explicit
+    map (λ word. word.now) l.words.items ++ l.name-iterator ≡ implied_names l.graph l.node ++ l.explicit

@@ -1,11 +1,40 @@
-use Rattle.std.proofs.Common.{◌≡◌, ℕ, List}
+use Rattle.std.proofs.Common.{◌≡◌, ℕ, List, sym, ap, subst, ◌∙◌}
 use Rattle.mk_rules.specs.Found.{AreFound, IsGraphlessFault}
 use Rattle.mk_rule_lines.specs.Goals.{goals_of}
-use Rattle.mk_rules.specs.Prerequisites.{Inputs}
+use Rattle.mk_rule_lines.specs.Taken.{AreTaken}
+use Rattle.mk_rule_lines.specs.declared.rule_line.RuleLine.{RuleLine}
+use Rattle.mk_rules.specs.Prerequisites.{Inputs, is_target}
 use Rattle.mk_rule_lines.specs.declared.fault.RuleFault.TheVariants.{OutOfMemory}
+use Rattle.mk_rules.proofs.AssemblyLemmas.{unmade_fault}
 use Rattle.mk_rules.proofs.DistinctLemmas.{distinct_numbers}
+use Rattle.mk_rules.proofs.FoundLemmas.{target_is}
 use Rattle.mk_rule_lines.proofs.LineLemmas.{handed_on}
 use Rattle.mk_rules.proofs.building.graph_of.Goals as goal
+
+pub check_made-requires-clause-table : goal.check_made-requires-clause-table
+check_made-requires-clause-table c = λ name.
+    target_is c.args.makefile.lines.items c.args.makefile.targets c.args.makefile.table.named name
+    ∙ ap (λ (ls : List RuleLine). is_target ls name) (sym c.deref.ensures.value)
+
+pub returns-in_err-check_made-clause-fault : goal.returns-in_err-check_made-clause-fault
+returns-in_err-check_made-clause-fault c =
+    let lines = c.args.makefile.lines.items in
+    let n = c.args.numbered in
+    handed_on _
+    (λ f. (inputs : Inputs) → (named : List (List ℕ)) → inputs.lines ≡ lines → AreFound inputs (goals_of inputs.lines named) n → IsGraphlessFault inputs named f)
+    c.in_err-check_made.field-0.0 (c.from_residual.ensures).1
+    (λ inputs named are found. unmade_fault inputs named lines are n found c.requires.node_count c.in_err-check_made.field-0.0
+    (c.in_err-check_made.ensures.fault inputs (are ∙ sym c.deref.ensures.value) found.known))
+
+pub order_found-requires-clause-taken : goal.order_found-requires-clause-taken
+order_found-requires-clause-taken c =
+    let same : c.args.makefile.lines.items ≡ c.deref-2.result.now = cc in
+    subst AreTaken same c.args.makefile.taken
+
+pub order_found-requires-clause-made : goal.order_found-requires-clause-made
+order_found-requires-clause-made c = λ inputs are known.
+    let same : c.deref-2.result.now ≡ c.deref.result.now = cc in
+    c.in_ok-check_made.ensures.made inputs (are ∙ same) known
 
 pub returns-in_err-ordered-clause-fault : goal.returns-in_err-ordered-clause-fault
 returns-in_err-ordered-clause-fault c =
@@ -13,7 +42,8 @@ returns-in_err-ordered-clause-fault c =
     let n = c.args.numbered in
     handed_on _
     (λ f. (inputs : Inputs) → (named : List (List ℕ)) → inputs.lines ≡ lines → AreFound inputs (goals_of inputs.lines named) n → IsGraphlessFault inputs named f)
-    c.in_err-ordered.field-0.0 (c.from_residual.ensures).1 c.in_err-ordered.ensures.fault
+    c.in_err-ordered.field-0.0 (c.from_residual-in_err-ordered.ensures).1
+    (λ inputs named are found. let same : lines ≡ c.deref-2.result.now = cc in c.in_err-ordered.ensures.fault inputs named (are ∙ same) found)
 
 pub returns-in_err-put_together-clause-fault : goal.returns-in_err-put_together-clause-fault
 returns-in_err-put_together-clause-fault c =
@@ -25,7 +55,9 @@ returns-in_err-put_together-clause-fault c =
 
 pub returns-clause-graph : goal.returns-clause-graph
 returns-clause-graph c = λ inputs named are entries found.
-    c.in_ok-ordered.ensures.graph inputs named are found c.args.state entries c.in_ok-put_together.field-0 (rw c.parts_of-lines.ensures.lines at c.in_ok-put_together.ensures.graph)
+    let same : c.args.makefile.lines.items ≡ c.deref-2.result.now = cc in
+    c.in_ok-ordered.ensures.graph inputs named (are ∙ same) found c.args.state entries c.in_ok-put_together.field-0
+    (rw (sym c.deref-2.ensures.value) at c.in_ok-put_together.ensures.graph)
 
 pub put_together-requires-clause-names : goal.put_together-requires-clause-names
 put_together-requires-clause-names c = distinct_numbers c.args.numbered.names c.requires.names

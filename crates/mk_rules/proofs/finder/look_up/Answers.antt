@@ -1,11 +1,12 @@
-use Rattle.std.proofs.Common.{◌++◌, ◌∙◌, Bool, None, cond, ap, refl}
+use Rattle.std.proofs.Common.{◌++◌, ◌∙◌, Bool, None, cond, sym, ap, subst, refl}
 use Rattle.std.specs.FinMap as map
-use Rattle.mk_rules.proofs.FinderLemmas.{nodes_are, known_is, source_look}
-use Rattle.mk_rule_lines.specs.Explicit.{explicit_of, is_phony}
+use Rattle.mk_rules.proofs.FinderLemmas.{all_are, known_is, source_look}
+use Rattle.mk_rule_lines.specs.Explicit.{explicit_of, order_only_of, is_phony}
+use Rattle.mk_graph.specs.Numbering.{all_added}
 use Rattle.mk_rules.specs.LooksLaws.{looks_on}
 use Rattle.mk_rule_lines.proofs.LineLemmas.{handed_on}
-use Rattle.mk_rules.specs.Known.{IsLookUpFault}
-use Rattle.mk_rules.specs.Prerequisites.{inputs_of, source_names, distinct, hidden_in, own_recipes}
+use Rattle.mk_rules.specs.Known.{IsKnown, IsLookUpFault}
+use Rattle.mk_rules.specs.Prerequisites.{inputs_of, made_from, distinct, hidden_in, own_recipes}
 use Rattle.mk_rules.proofs.finder.look_up.Goals as goal
 
 pub returns-clause-prerequisites : goal.returns-clause-prerequisites
@@ -16,8 +17,10 @@ returns-clause-prerequisites g c = λ times now.
     let source = c.in_ok-source.source in
     let explicit = explicit_of rules.lines.now name in
     let of = c.in_ok-mentioned.ensures in
-    c.gathered.ensures.prerequisites
-    ∙ nodes_are inputs name source explicit (map.get rules.state.now name) (distinct (source_names source ++ explicit)) _
+    let order_only = order_only_of rules.lines.now name in
+    c.in_ok-completed.ensures.prerequisites name c.named-own.ensures.lines
+    ∙ ap (λ ns. all_added ns order_only) c.gathered-found.ensures.prerequisites
+    ∙ all_are inputs name source explicit (map.get rules.state.now name) (distinct (made_from source ++ explicit)) _
     (c.in_ok-source.ensures.source times (of.looks.narrows times now)) refl refl refl (of.mentioned times now)
 
 pub returns-clause-node : goal.returns-clause-node
@@ -28,13 +31,14 @@ returns-clause-node g c = λ times now.
     let source = c.in_ok-source.source in
     let explicit = explicit_of rules.lines.now name in
     let of = c.in_ok-mentioned.ensures in
-    let is = c.gathered.ensures in
+    let is = c.gathered-found.ensures in
     let looked = of.looks.narrows times now in
-    known_is inputs name source explicit (map.get rules.state.now name) (distinct (source_names source ++ explicit)) _
+    subst (IsKnown inputs name) (sym c.in_ok-completed.ensures.node)
+    (known_is inputs name source explicit (map.get rules.state.now name) (distinct (made_from source ++ explicit)) _
     (c.in_ok-source.ensures.source times looked) refl refl refl (of.mentioned times now)
     _ c.named-own.result.1 (is.stamp ∙ c.in_ok-stamp.ensures.stamp times (c.in_ok-source.ensures.looks.narrows times looked)
-    ∙ ap (λ (t : Bool). cond t None (times name)) (c.is_phony-phony.ensures name c.named-own.ensures.lines)) is.stem is.recipe c.named-own.ensures.recipe
-    (is.hard ∙ of.hard) is.hidden
+    ∙ ap (λ (t : Bool). cond t None (times name)) (c.is_phony-phony.ensures name c.named-own.ensures.lines)) is.stem (is.implied ∙ of.implied) is.recipe c.named-own.ensures.recipe
+    (is.hard ∙ of.hard) is.hidden)
 
 pub returns-clause-looks : goal.returns-clause-looks
 returns-clause-looks g c =

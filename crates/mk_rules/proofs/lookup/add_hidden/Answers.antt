@@ -2,7 +2,7 @@ use Rattle.std.proofs.Common.{◌≡◌, true, ℕ, List, [], sym, subst}
 use Rattle.std.specs.FinMap as map
 use Rattle.mk_rules.specs.Prerequisites.{inputs_of, is_node}
 use Rattle.mk_rule_lines.specs.Rules.{has}
-use Rattle.mk_rules.specs.Hidden.{IsNamesFault}
+use Rattle.mk_rules.specs.Hidden.{IsNamesFault, nodes_in}
 use Rattle.mk_rules.proofs.HiddenLemmas.{HiddenSoFar, hidden_step, hidden_start, hidden_end, names_fault, text_where_refused, has_first, has_later}
 use Rattle.mk_rule_lines.proofs.LineLemmas.{handed_on}
 use Rattle.mk_rules.specs.LooksLaws.{looks_none, looks_on}
@@ -23,9 +23,9 @@ loop-name-preserved g c =
     record {
       so = λ times now.
           let p = is_node (inputs_of rules.lines.now (map.get rules.state.now) times) in
-          let here = subst (λ (ls : List (List ℕ)). HiddenSoFar p hard hidden ls before.judged before.nodes before.hidden.items) c.in-Some.ensures.steps
+          let here = subst (λ (ls : List (List ℕ)). HiddenSoFar p hard hidden ls before.judged (nodes_in before) before.hidden.items) c.in-Some.ensures.steps
           (inv.so times (tells.looks.narrows times now)) in
-          hidden_step p hard hidden name left before.judged before.nodes before.hidden.items here after.judged after.nodes after.hidden.items c.in_ok-node.node
+          hidden_step p hard hidden name left before.judged (nodes_in before) before.hidden.items here after.judged (nodes_in after) after.hidden.items c.in_ok-node.node
           (tells.node times now) puts.judged puts.nodes puts.hidden;
       within = λ n is. inv.within n (subst (λ (ls : List (List ℕ)). has n ls ≡ true) (sym c.in-Some.ensures.steps) (has_later n name left is));
       looks = looks_on _ _ _ _ _ _ _ _ _ inv.looks tells.looks;
@@ -55,8 +55,8 @@ loop-name-init g c =
     record {
       so = λ times now.
           let p = is_node (inputs_of rules.lines.now (map.get rules.state.now) times) in
-          subst (λ (ls : List (List ℕ)). HiddenSoFar p m.judged c.args.hidden.now ls m.judged m.nodes m.hidden.items) start
-          (hidden_start p m.judged m.nodes c.args.hidden.now m.hidden.items c.requires.nodes c.requires.none);
+          subst (λ (ls : List (List ℕ)). HiddenSoFar p m.judged c.args.hidden.now ls m.judged (nodes_in m) m.hidden.items) start
+          (hidden_start p m.judged (nodes_in m) c.args.hidden.now m.hidden.items c.requires.nodes c.requires.none);
       within = λ n is. subst (λ (ls : List (List ℕ)). has n ls ≡ true) (sym start) is;
       looks = looks_none _ _ _;
     }
@@ -70,4 +70,4 @@ returns-clause-hidden g c =
     λ times now.
     let p = is_node (inputs_of rules.lines.now (map.get rules.state.now) times) in
     hidden_end p hard c.args.hidden.now m
-    (subst (λ (ls : List (List ℕ)). HiddenSoFar p hard c.args.hidden.now ls m.judged m.nodes m.hidden.items) ended (c.loop-name.invariant.so times now))
+    (subst (λ (ls : List (List ℕ)). HiddenSoFar p hard c.args.hidden.now ls m.judged (nodes_in m) m.hidden.items) ended (c.loop-name.invariant.so times now))

@@ -1,0 +1,34 @@
+-- The references of a text, one byte after the other.
+use Rattle.std.proofs.Common.{◌≡◌, ◌∙◌, ℕ, Bool, true, false, not, ◌&&◌, ◌||◌, List, [], ◌∷◌, ◌++◌, refl, sym, ap}
+use Rattle.std.specs.List.{list_any}
+use Rattle.mk_profile.specs.declared.profile.Profile.{Profile}
+use Rattle.mk_notes.specs.Notes.{all_noted, noted}
+use Rattle.mk_notes.specs.References.{is_dollar, subjects_in}
+use Rattle.mk_notes.specs.declared.note.Note.{Note}
+use Rattle.mk_notes.specs.declared.note.Subject.{Subject}
+
+-- subjects one behind the other are noted so
+pub all_noted-append : (file : List ℕ) (line : ℕ) (front more : List Subject) (notes : List Note) →
+    all_noted file line (front ++ more) notes ≡ all_noted file line more (all_noted file line front notes)
+all_noted-append file line [] more notes = refl
+all_noted-append file line (s ∷ front) more notes = all_noted-append file line front more (noted file line s notes)
+
+-- a test that fails for a list fails for its first element and for the others
+neither : (first others : Bool) → (first || others) ≡ false → (first ≡ false) × (others ≡ false)
+neither false others none = (refl, none)
+neither true others none = absurd cc
+
+-- a text without a dollar has no references
+no_subjects : (profile : Profile) (text : List ℕ) → list_any is_dollar text ≡ false → subjects_in profile false text ≡ []
+no_subjects profile [] none = refl
+no_subjects profile (b ∷ text) none =
+    let (plain, others) = neither (is_dollar b) (list_any is_dollar text) none in
+    ap (λ d. subjects_in profile (d && true) text) plain ∙ no_subjects profile text others
+
+refused : (b : Bool) → not b ≡ true → b ≡ false
+refused false is = refl
+refused true is = absurd cc
+
+pub none_noted : (profile : Profile) (file : List ℕ) (line : ℕ) (text : List ℕ) (notes : List Note) → not (list_any is_dollar text) ≡ true →
+    notes ≡ all_noted file line (subjects_in profile false text) notes
+none_noted profile file line text notes none = ap (λ ss. all_noted file line ss notes) (sym (no_subjects profile text (refused (list_any is_dollar text) none)))

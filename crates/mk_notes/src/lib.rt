@@ -1,0 +1,11 @@
+//! Notes on what a makefile asks for that has no meaning here, though another make gives it one: each is said once.
+#![tactic(auto)]
+
+mod names;
+mod note;
+mod notes;
+mod references;
+mod statements;
+
+pub use note::{Note, Subject};
+pub use notes::Notes;

@@ -1,0 +1,56 @@
+//! What there is to note of a makefile, and how it is told.
+use byte_strings::ByteString;
+use std::fmt;
+
+/// What has no meaning here.
+#[derive(Drop)]
+pub enum Subject {
+    /// A reference that looks like a function of GNU make, by its first word.
+    Function(ByteString),
+    /// An automatic macro, by the byte behind its dollar.
+    Automatic(u8),
+    /// A suffix rule whose suffixes don't count.
+    SuffixRule(ByteString),
+    /// A target that another make has a meaning for.
+    Target(ByteString),
+}
+
+impl fmt::Display for Subject {
+    fn fmt<W: fmt::Write>(&self, f: &mut fmt::Formatter<W>) -> fmt::Result {
+        match self {
+            Subject::Function(word) => { write!(f, "$({word} ..) is no function here, and empty") }
+            Subject::Automatic(byte) => {
+                let name = char::from(*byte);
+                write!(f, "${name} is no macro here, and empty")
+            }
+            Subject::SuffixRule(name) => {
+                write!(
+                    f,
+                    "{name} is no suffix rule here, since .SUFFIXES doesn't name its suffixes"
+                )
+            }
+            Subject::Target(name) => write!(f, "{name} means nothing here"),
+        }
+    }
+}
+
+/// A note, with the place that it is about.
+#[derive(Drop)]
+pub struct Note {
+    /// The file's name as it was given, or as it stands on the include line.
+    pub file: ByteString,
+    /// The number of the first physical line, from 1.
+    pub line: usize,
+    pub subject: Subject,
+}
+
+impl fmt::Display for Note {
+    fn fmt<W: fmt::Write>(&self, f: &mut fmt::Formatter<W>) -> fmt::Result {
+        let Note {
+            file,
+            line,
+            subject,
+        } = self;
+        write!(f, "{file}:{line}: note: {subject}")
+    }
+}

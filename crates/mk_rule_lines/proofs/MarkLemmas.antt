@@ -1,0 +1,99 @@
+-- The targets that lines mark are those of which some line of the mark speaks.
+use Rattle.std.specs.Bool.{Decides}
+use Rattle.std.specs.List.{list_any, flat_map}
+use Rattle.std.proofs.Common.{◌≡◌, ◌∙◌, ℕ, Bool, true, false, cond, ◌&&◌, ◌||◌, List, [], ◌∷◌, ◌++◌, Option, Some, None, refl, sym, ap, subst, bytes_eq}
+use Rattle.std.proofs.lemmas.Bool.Decides.{Decides-and, Decides-or}
+use Rattle.std.proofs.lemmas.List.Folds.{list_any-append}
+use Rattle.mk_graph.specs.Numbering.{has_name, added, all_added}
+use Rattle.mk_graph.proofs.NameLemmas.{same_bytes, all_added-append}
+use Rattle.mk_reader.specs.Text.{is_empty}
+use Rattle.mk_reader.specs.declared.special.SpecialName.{SpecialName}
+use Rattle.mk_reader.specs.declared.special.SpecialName.TheVariants as special
+use Rattle.mk_rule_lines.specs.Rules.{has}
+use Rattle.mk_rule_lines.specs.Marks.{name_of, SpeaksOf, HasMark, is_of, speaks_of_all, names_in, marked_by, has_mark}
+use Rattle.mk_rule_lines.specs.declared.marked.Mark.{Mark}
+use Rattle.mk_rule_lines.specs.declared.marked.Mark.TheVariants as mark
+use Rattle.mk_rule_lines.specs.declared.rule_line.RuleLine.{RuleLine}
+use Rattle.mk_rule_lines.proofs.KindLemmas.{any_decides, empty_decides, has_decides}
+
+-- ---- names that are taken in once
+
+or_none : (a : Bool) → (a || false) ≡ a
+or_none true = refl
+or_none false = refl
+
+or_both : (a b c : Bool) → ((a || b) || c) ≡ (a || (b || c))
+or_both true b c = refl
+or_both false b c = refl
+
+has_added : (names : List (List ℕ)) (name target : List ℕ) → has_name (added names name) target ≡ (has_name names target || bytes_eq target name)
+has_added names name target = by (has_name names name) refl (bytes_eq target name) refl
+  where
+    by : (b : Bool) → has_name names name ≡ b → (c : Bool) → bytes_eq target name ≡ c →
+        has_name (cond b (names) (names ++ name ∷ [])) target ≡ (has_name names target || c)
+    by true e true f = let there : has_name names target ≡ true = ap (has_name names) (same_bytes target name f) ∙ e in there ∙ sym (ap (λ b. b || true) there)
+    by true e false f = sym (or_none (has_name names target))
+    by false e c f = list_any-append (bytes_eq target) names (name ∷ []) ∙ ap (λ b. has_name names target || b) (or_none (bytes_eq target name) ∙ f)
+
+pub has_all_added : (names mentioned : List (List ℕ)) (target : List ℕ) → has_name (all_added names mentioned) target ≡ (has_name names target || has_name mentioned target)
+has_all_added names [] target = sym (or_none (has_name names target))
+has_all_added names (name ∷ more) target =
+    has_all_added (added names name) more target ∙ ap (λ b. b || has_name more target) (has_added names name target)
+    ∙ or_both (has_name names target) (bytes_eq target name) (has_name more target)
+
+-- ---- lines
+
+-- one more line is taken in
+pub lines_go_on : (m : Mark) (names next whole : List (List ℕ)) (l : RuleLine) (left rest : List RuleLine) → left ≡ l ∷ rest → next ≡ all_added names (names_in m l) →
+    all_added names (flat_map (names_in m) left) ≡ whole → all_added next (flat_map (names_in m) rest) ≡ whole
+lines_go_on m names next whole l left rest at e h =
+    ap (λ ns. all_added ns (flat_map (names_in m) rest)) e ∙ sym (all_added-append names (names_in m l) (flat_map (names_in m) rest))
+    ∙ ap (λ ls. all_added names (flat_map (names_in m) ls)) (sym at) ∙ h
+
+module _ (m : Mark) (target : List ℕ) where
+  -- a line of the mark speaks of the target
+  abbrev speaks : RuleLine → Bool
+  speaks l = is_of m l.special && (is_empty l.prerequisites || has target l.prerequisites)
+
+  chosen : (b : Bool) (names : List (List ℕ)) → has target (cond b names []) ≡ (b && has target names)
+  chosen true names = refl
+  chosen false names = refl
+
+  parted : (b e h all some both : Bool) → (all || some) ≡ both → (((b && e) || all) || ((b && h) || some)) ≡ ((b && (e || h)) || both)
+  parted false e h all some both is = is
+  parted true true h all some both is = refl
+  parted true false true true some both is = refl
+  parted true false true false some both is = refl
+  parted true false false all some both is = is
+
+  marked_is : (lines : List RuleLine) → (list_any (speaks_of_all m) lines || has target (flat_map (names_in m) lines)) ≡ list_any speaks lines
+  marked_is [] = refl
+  marked_is (l ∷ lines) =
+      let all = list_any (speaks_of_all m) lines in
+      let some = has target (flat_map (names_in m) lines) in
+      ap (λ b. (speaks_of_all m l || all) || b)
+      (list_any-append (bytes_eq target) (names_in m l) (flat_map (names_in m) lines) ∙ ap (λ b. b || some) (chosen (is_of m l.special) l.prerequisites))
+      ∙ parted (is_of m l.special) (is_empty l.prerequisites) (has target l.prerequisites) all some (list_any speaks lines) (marked_is lines)
+
+mark_at : (m : Mark) (o : Option SpecialName) → Decides (is_of m o) (o ≡ Some (name_of m))
+mark_at mark.Ignored None = ((λ e. absurd cc), λ e. absurd cc)
+mark_at mark.Ignored (Some special.Ignore) = ((λ e. refl), λ e. refl)
+mark_at mark.Ignored (Some other) = ((λ e. absurd cc), λ e. absurd cc)
+mark_at mark.Silent None = ((λ e. absurd cc), λ e. absurd cc)
+mark_at mark.Silent (Some special.Silent) = ((λ e. refl), λ e. refl)
+mark_at mark.Silent (Some other) = ((λ e. absurd cc), λ e. absurd cc)
+mark_at mark.Precious None = ((λ e. absurd cc), λ e. absurd cc)
+mark_at mark.Precious (Some special.Precious) = ((λ e. refl), λ e. refl)
+mark_at mark.Precious (Some other) = ((λ e. absurd cc), λ e. absurd cc)
+
+speaks_decides : (m : Mark) (target : List ℕ) (l : RuleLine) → Decides (speaks m target l) ((l.special ≡ Some (name_of m)) × SpeaksOf l target)
+speaks_decides m target l =
+    Decides-and (is_of m l.special) (is_empty l.prerequisites || has target l.prerequisites) (mark_at m l.special)
+    (Decides-or (is_empty l.prerequisites) (has target l.prerequisites) (empty_decides l.prerequisites) (has_decides target l.prerequisites))
+
+pub marks_decide : (m : Mark) (lines : List RuleLine) (target : List ℕ) → Decides (has_mark (marked_by m lines) target) (HasMark m lines target)
+marks_decide m lines target =
+    let is : has_mark (marked_by m lines) target ≡ list_any (speaks m target) lines =
+    ap (λ b. list_any (speaks_of_all m) lines || b) (has_all_added [] (flat_map (names_in m) lines) target) ∙ marked_is m target lines in
+    subst (λ b. Decides b (HasMark m lines target)) (sym is)
+    (any_decides (speaks m target) (λ l. (l.special ≡ Some (name_of m)) × SpeaksOf l target) (speaks_decides m target) lines)
