@@ -1,0 +1,22 @@
+use Rattle.worker_tests.proofs.runs.made.Goals as goal
+
+pub invariant_of-graph-clause-distinct : goal.invariant_of-graph-clause-distinct
+invariant_of-graph-clause-distinct g c = c.in_ok-graph.graph.distinct
+
+pub invariant_of-graph-clause-required_closed : goal.invariant_of-graph-clause-required_closed
+invariant_of-graph-clause-required_closed g c = c.in_ok-graph.graph.required_closed
+
+pub invariant_of-graph-clause-required_rows : goal.invariant_of-graph-clause-required_rows
+invariant_of-graph-clause-required_rows g c = c.in_ok-graph.graph.required_rows
+
+pub invariant_of-graph-clause-counted_ascending : goal.invariant_of-graph-clause-counted_ascending
+invariant_of-graph-clause-counted_ascending g c = c.in_ok-graph.graph.counted_ascending
+
+pub invariant_of-graph-clause-suffixes_are : goal.invariant_of-graph-clause-suffixes_are
+invariant_of-graph-clause-suffixes_are g c = c.in_ok-graph.graph.suffixes_are
+
+pub invariant_of-graph-clause-kept : goal.invariant_of-graph-clause-kept
+invariant_of-graph-clause-kept g c = c.in_ok-graph.graph.kept
+
+pub invariant_of-graph-clause-table : goal.invariant_of-graph-clause-table
+invariant_of-graph-clause-table g c = c.in_ok-graph.graph.table
