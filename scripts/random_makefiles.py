@@ -166,13 +166,20 @@ class Makefile:
         self.text += self.random.choice((b"", b" ")) + self.spelled(names[0])
         for name in names[1:]:
             self.text += self.gap() + self.spelled(name)
-        self.text += self.random.choice((b"", b" ", self.gap())) + b":"
+        self.text += self.random.choice((b"", b" ", self.gap())) + self.colons(names)
         for place, name in enumerate(wanted):
             self.text += (b"" if place == 0 and self.random.once_in(3) else self.gap()) + self.spelled(name)
         for name in names:
             known = self.prerequisites[name]
             known += [wish for wish in dict.fromkeys(wanted) if wish not in known]
-        self.recipe(names, names[0] not in self.recipes)
+        self.recipe(names, self.may_have_recipe(names[0]))
+
+    def colons(self, names):
+        """The sign of a rule of these targets."""
+        return b":"
+
+    def may_have_recipe(self, name):
+        return name not in self.recipes
 
     def spelled(self, name):
         return name if self.random.once_in(2) else self.spellings[name]

@@ -1,13 +1,13 @@
 """As random_makefiles.py, in the wide profile: python3 scripts/random_wide_makefiles.py [FIRST [LAST]]
 
 What is printed more: definitions of each sign, whose texts refer to others in all forms, in one another too; include lines that
-are expanded, and such as pass over what isn't there; phony names; what recipes say of all prerequisites. What they mean is worked out
-from the definitions in the order in which they are printed.
+are expanded, and such as pass over what isn't there; phony names; what recipes say of all prerequisites; rules with `::`. What they mean
+is worked out from the definitions in the order in which they are printed.
 """
 import re
 import sys
 
-from random_makefiles import LETTERS, REFERENCES, SHARED, SHELL, SIGNS, Makefile, main
+from random_makefiles import LETTERS, NEWER, REFERENCES, SHARED, SHELL, SIGNS, Makefile, main
 
 # In a meaning: the reference of a number.
 MARK = re.compile(rb"\0(\d+)\0")
@@ -57,6 +57,7 @@ class WideMakefile(Makefile):
         self.texts, self.flavors = {}, {}
         self.references, self.sees = [], 0
         self.first, self.repeated = {}, {}
+        self.is_double = {}  # of each target of a rule: whether its rules have `::`
         super().__init__(seed)
 
     def statements(self):
@@ -158,14 +159,40 @@ class WideMakefile(Makefile):
         for name in self.ruled:
             self.repeated[name] = self.repeated.get(name, []) + self.wanted
 
+    def colons(self, names):
+        for name in names:
+            self.is_double.setdefault(name, self.is_double.get(names[0], None))
+            if self.is_double[name] is None:
+                self.is_double[name] = self.random.once_in(4)
+        return b"::" if self.is_double[names[0]] else b":"
+
+    def may_have_recipe(self, name):
+        return self.is_double[name] or super().may_have_recipe(name)
+
     def recipe(self, targets, may_have_one):
         self.ruled = targets
         self.sees = 10
+        before = {target: self.recipes.get(target) for target in targets}
         super().recipe(targets, may_have_one)
         self.sees = 0
+        if self.is_double[targets[0]]:
+            self.behind(before)
+            return
         for target in targets:
             if self.recipes.get(target) is not None and target not in self.first:
                 self.first[target] = self.wanted[:1]
+
+    def behind(self, before):
+        """The lines of a rule with `::` stand behind those of the others, and speak of its own prerequisites."""
+        for target, lines in before.items():
+            if self.recipes.get(target) is lines:
+                continue
+            newer = [name for name in self.prerequisites[target] if name in self.wanted]
+            words = {FIRST: self.wanted[:1], ONCE: dict.fromkeys(self.wanted), REPEATED: self.wanted, NEWER: newer}
+            own = self.recipes[target]
+            for mark, names in words.items():
+                own = [line.replace(mark, b" ".join(names)) for line in own]
+            self.recipes[target] = (lines or []) + own
 
     def recipe_line(self):
         line = super().recipe_line()

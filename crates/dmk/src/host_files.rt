@@ -1,12 +1,13 @@
-//! Files by the system's own calls, and the commands of definitions by its shell.
+//! Files and folders by the system's own calls, and the commands of definitions by its shell.
 use crate::always_run::NONE;
 use crate::standard_streams::with_patience;
 use bd_lists::Variable;
+use byte_strings::ByteStrings;
 use dmk_drive::{FileCalls, FileStatus, FileTexts, FileTree};
 use jb_host::{DryShell, Written};
 use std::alloc::{AllocError, Global};
 use std::fs;
-use std::io::{self, Read, Write};
+use std::io::{self, ErrorKind, Read, Write};
 use std::os::unix::fs::MetadataExt;
 
 /// The name under which standard input is read as a makefile.
@@ -97,6 +98,19 @@ impl FileCalls for HostFiles<'_> {
             return Ok(Vec::from_slice(alloc, input)?);
         }
         fs::read(&self.rt, name)
+    }
+
+    fn names(&mut self, alloc: Global, folder: &str) -> io::Result<ByteStrings> {
+        let folder = if folder.is_empty() { "." } else { folder };
+        let mut names = ByteStrings::empty(alloc);
+        for entry in fs::read_dir(&self.rt, folder)? {
+            match entry {
+                Ok(entry) => names.push(entry.file_name().as_bytes())?,
+                Err(error) if error.kind() == ErrorKind::InvalidFilename => {}
+                Err(error) => return Err(error),
+            }
+        }
+        Ok(names)
     }
 
     fn output(

@@ -30,17 +30,25 @@ macro_line name sign value = name ++ sign ++ value ++ 10 ∷ []
 abbrev pub definition_text : Definition → List ℕ
 definition_text d = place_line d.file d.line ++ macro_line d.name (equals d.append) d.value
 
+abbrev pub colons : (is_double : Bool) → List ℕ
+colons true = codes "::"
+colons false = codes ":"
+
+-- what stands behind the sign of a rule
+abbrev pub spaced : List ℕ → List ℕ
+spaced [] = []
+spaced (c ∷ text) = 32 ∷ c ∷ text
+
 -- the line of targets and prerequisites as they stand in the makefile
-abbrev pub target_line : (targets prerequisites : List ℕ) → List ℕ
-target_line targets [] = targets ++ codes ":" ++ 10 ∷ []
-target_line targets (c ∷ prerequisites) = targets ++ codes ": " ++ (c ∷ prerequisites) ++ 10 ∷ []
+abbrev pub target_line : (is_double : Bool) → (targets prerequisites : List ℕ) → List ℕ
+target_line is_double targets prerequisites = targets ++ colons is_double ++ spaced prerequisites ++ 10 ∷ []
 
 -- a line of a recipe, behind its TAB
 abbrev pub recipe_line : RecipeLine → List ℕ
 recipe_line line = 9 ∷ line.text ++ 10 ∷ []
 
 abbrev pub rule_text : Rule → List ℕ
-rule_text rule = place_line rule.file rule.line ++ target_line rule.targets rule.prerequisites ++ flat_map recipe_line rule.recipe
+rule_text rule = place_line rule.file rule.line ++ target_line rule.is_double rule.targets rule.prerequisites ++ flat_map recipe_line rule.recipe
 
 -- what a makefile holds, in its order, that of special names too
 abbrev pub item_text : Item → List ℕ

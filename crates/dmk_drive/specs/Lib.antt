@@ -26,6 +26,8 @@ pub mod StateName
 pub mod Files
 -- Commands: what is known of commands that definitions ran.
 pub mod Commands
+-- Listings: what is known of folders.
+pub mod Listings
 -- Stamps: the times of files that are known so far.
 pub mod Stamps
 -- Fits: what is known of names, and what it may come from.

@@ -2,7 +2,7 @@
 ghost use Rattle.std.specs.Prelude.{◌≡◌, ◌++◌, ℕ, ℤ, List, Option, codes, map, IfOk, OnOk};
 ghost use Rattle.std.specs.List.{flat_map};
 ghost use Rattle.mk_reader.specs.declared.item.Item.{Item as MakefileItem};
-ghost use Rattle.dmk_drive.specs.Base.{origin_line, place_line, equals, macro_line, definition_text, target_line, recipe_line, rule_text, item_text, variable_text, base_text};
+ghost use Rattle.dmk_drive.specs.Base.{origin_line, place_line, equals, macro_line, definition_text, colons, target_line, recipe_line, rule_text, item_text, variable_text, base_text};
 ghost use Rattle.dmk_drive.specs.Definitions.{first_defined, variable, tool_macros, environment_macros};
 ghost use Rattle.dmk_drive.specs.Planned.{AreItems};
 ghost use Rattle.mk_eval.specs.Output.{World};
@@ -81,18 +81,24 @@ fn append_definition(
     )
 }
 
+fn colons(is_double: bool) -> &'static [u8]
+    ensures { result.now ≡ colons is_double }
+{
+    if is_double { b"::" } else { b":" }
+}
+
 fn append_target_line(
     text: &mut Vec<u8>,
+    is_double: bool,
     targets: &[u8],
     prerequisites: &[u8],
 ) -> Result<(), AllocError>
-    ensures { OnOk result (text.new.items ≡ text.old.items ++ target_line targets.now prerequisites.now) }
+    ensures { OnOk result (text.new.items ≡ text.old.items ++ target_line is_double targets.now prerequisites.now) }
 {
     text.extend_from_slice(targets)?;
-    if prerequisites.is_empty() {
-        text.extend_from_slice(b":")?;
-    } else {
-        text.extend_from_slice(b": ")?;
+    text.extend_from_slice(colons(is_double))?;
+    if !prerequisites.is_empty() {
+        text.push(b' ')?;
         text.extend_from_slice(prerequisites)?;
     }
     text.push(b'\n')?;
@@ -114,7 +120,12 @@ fn append_rule(alloc: Global, text: &mut Vec<u8>, rule: &Rule) -> Result<(), All
     ensures { OnOk result (text.new.items ≡ text.old.items ++ rule_text rule.now) }
 {
     append_place(alloc, text, rule.file.as_slice(), rule.line)?;
-    append_target_line(text, rule.targets.as_slice(), rule.prerequisites.as_slice())?;
+    append_target_line(
+        text,
+        rule.is_double,
+        rule.targets.as_slice(),
+        rule.prerequisites.as_slice(),
+    )?;
     append_recipe(text, rule.recipe.lines())
 }
 

@@ -2,6 +2,7 @@
 ghost use Rattle.std.specs.Prelude.{◌≡◌};
 ghost use Rattle.dmk_drive.specs.Files.{nanoseconds_of};
 
+use byte_strings::ByteStrings;
 use std::alloc::{AllocError, Global};
 use std::io;
 
@@ -32,6 +33,9 @@ pub trait FileCalls {
 
     /// All bytes of the file of this name, which is an ordinary one.
     fn contents(&mut self, alloc: Global, name: &str) -> io::Result<Vec<u8>>;
+
+    /// The names in a folder without `.` and `..`; that of no name is the current one. A name that is no text is left out.
+    fn names(&mut self, alloc: Global, folder: &str) -> io::Result<ByteStrings>;
 
     /// What this command writes, which a definition in this line of this file runs. That it fails is told by whoever runs it, and changes
     /// nothing.

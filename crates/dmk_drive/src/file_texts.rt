@@ -1,13 +1,16 @@
-//! The texts of files and what commands write, by the system's calls, each read and run once.
+//! The texts of files, what commands write and the names in folders, by the system's calls, each read and run once.
 ghost use Rattle.std.specs.Prelude.{◌≡◌, None, option_map, IfOk, IfErr, IsSome};
 ghost use Rattle.mk_eval.specs.Output.{World};
 ghost use Rattle.dmk_drive.specs.Commands.{Agree};
+ghost use Rattle.dmk_drive.specs.Listings.{AgreeIn};
 ghost use Rattle.dmk_drive.specs.Files.{known_text};
 
 use crate::commands::Commands;
 use crate::file_calls::FileCalls;
+use crate::listings::{Listings, copy_of as copy_of_names};
 use crate::texts::Texts;
 use bd_lists::Variable;
+use byte_strings::ByteStrings;
 use mk_eval::Includes;
 use mk_notes::Notes;
 use mk_profile::Profile;
@@ -31,13 +34,14 @@ impl fmt::Display for Unread {
     }
 }
 
-/// The files of the current folder that are read, and the commands that are run. What was read of a name, and what a command wrote, holds
-/// from then on.
+/// The files of the current folder that are read, the commands that are run, and the folders that are listed. What was read of a name or of
+/// a folder, and what a command wrote, holds from then on.
 #[derive(Drop)]
 pub struct FileTexts<C: FileCalls + Drop> {
     calls: C,
     texts: Texts,
     commands: Commands,
+    listings: Listings,
     unread: Option<Unread>,
     notes: Notes,
 }
@@ -87,6 +91,22 @@ fn text_of<C: FileCalls>(
     Ok(None)
 }
 
+/// The names that the system gives of a folder; none where it can't be read.
+fn names_of<C: FileCalls>(
+    alloc: Global,
+    calls: &mut C,
+    folder: &[u8],
+) -> Result<Option<ByteStrings>, AllocError> {
+    let Ok(folder) = std::str::from_utf8(folder) else {
+        return Ok(None);
+    };
+    match calls.names(alloc, folder) {
+        Ok(names) => Ok(Some(names)),
+        Err(error) if error.kind() == ErrorKind::OutOfMemory => Err(AllocError),
+        Err(_) => Ok(None),
+    }
+}
+
 fn copy_of(alloc: Global, text: &Option<Vec<u8>>) -> Result<Option<Vec<u8>>, AllocError>
     ensures { IfOk result (λ copy. option_map (λ v. v.items) copy ≡ option_map (λ v. v.items) text.now) }
 {
@@ -102,14 +122,16 @@ impl<C: FileCalls + Drop> FileTexts<C> {
             calls,
             texts: Texts::new(alloc),
             commands: Commands::new(alloc),
+            listings: Listings::new(alloc),
             unread: None,
             notes: Notes::new(alloc),
         }
     }
 
-    /// Files are read anew from here on, and no command is run that was run.
+    /// Files and folders are read anew from here on, and no command is run that was run.
     pub fn forget_texts(&mut self, alloc: Global) {
         self.texts = Texts::new(alloc);
+        self.listings = Listings::new(alloc);
         self.unread = None;
     }
 
@@ -136,6 +158,7 @@ impl<C: FileCalls + Drop> FileTexts<C> {
             → option_map (λ text. text.items) answer ≡ world.files name.now) }
         ensures grows { (world : World) → Agree self.new.texts self.new.commands world → Agree self.old.texts self.old.commands world }
         ensures known { IsSome (known_text self.old.texts name.now) → self.new ≡ self.old }
+        ensures listings { self.new.listings ≡ self.old.listings }
     {
         if let Some(known) = self.texts.get(name) {
             return copy_of(alloc, known);
@@ -157,6 +180,7 @@ impl<C: FileCalls + Drop> FileTexts<C> {
         ensures output { IfOk result (λ output. (world : World) → Agree self.new.texts self.new.commands world
             → output.items ≡ world.outputs file.now line command.now) }
         ensures grows { (world : World) → Agree self.new.texts self.new.commands world → Agree self.old.texts self.old.commands world }
+        ensures listings { self.new.listings ≡ self.old.listings }
     {
         if let Some(known) = self.commands.get(file, line, command) {
             let copy = Vec::from_slice(alloc, known)?;
@@ -167,14 +191,32 @@ impl<C: FileCalls + Drop> FileTexts<C> {
             .add(alloc, file, line, command, output.as_slice())?;
         Ok(output)
     }
+
+    /// The names in a folder. It is read where it isn't known.
+    fn listed(&mut self, alloc: Global, folder: &[u8]) -> Result<Option<ByteStrings>, AllocError>
+        ensures names { IfOk result (λ names. (world : World) → AgreeIn self.new.listings world.folders
+            → names ≡ world.folders folder.now) }
+        ensures grows { (world : World) → AgreeIn self.new.listings world.folders → AgreeIn self.old.listings world.folders }
+        ensures texts { self.new.texts ≡ self.old.texts }
+        ensures commands { self.new.commands ≡ self.old.commands }
+    {
+        if let Some(known) = self.listings.get(folder) {
+            return copy_of_names(alloc, known);
+        }
+        let names = names_of(alloc, &mut self.calls, folder)?;
+        let copy = copy_of_names(alloc, &names)?;
+        self.listings.add(alloc, folder, names)?;
+        Ok(copy)
+    }
 }
 
 impl<C: FileCalls + Drop> Includes for FileTexts<C> {
     ghost use Rattle.std.specs.Prelude.{None, [], unwrap_or};
     ghost use Rattle.dmk_drive.specs.Commands.{known_output};
+    ghost use Rattle.dmk_drive.specs.Listings.{known_names};
     ghost use Rattle.dmk_drive.specs.Fits.{some_fit, some_fit_at};
 
-    ghost allows = { λ source world. Agree source.texts source.commands world };
+    ghost allows = { λ source world. Agree source.texts source.commands world × AgreeIn source.listings world.folders };
 
     fn read(&mut self, alloc: Global, name: &[u8]) -> Result<Option<Vec<u8>>, AllocError> {
         self.text(alloc, name)
@@ -190,6 +232,10 @@ impl<C: FileCalls + Drop> Includes for FileTexts<C> {
         self.written(alloc, file, line, command)
     }
 
+    fn names(&mut self, alloc: Global, folder: &[u8]) -> Result<Option<ByteStrings>, AllocError> {
+        self.listed(alloc, folder)
+    }
+
     // A note that there is no memory for isn't said.
     fn see(&mut self, alloc: Global, profile: Profile, file: &[u8], statements: &[Statement]) {
         let _ = self.notes.see(alloc, profile, file, statements);
@@ -199,7 +245,11 @@ impl<C: FileCalls + Drop> Includes for FileTexts<C> {
       record {
         files = λ name. unwrap_or (known_text source.texts name) None;
         outputs = λ file line text. unwrap_or (known_output source.commands.run.items file line text) [];
+        folders = λ folder. unwrap_or (known_names source.listings folder) None;
       },
-      (some_fit (known_text source.texts) None, λ file line text. some_fit_at (known_output source.commands.run.items file line text) []),
+      (
+        (some_fit (known_text source.texts) None, λ file line text. some_fit_at (known_output source.commands.run.items file line text) []),
+        some_fit (known_names source.listings) None,
+      ),
     ) };
 }

@@ -3,7 +3,7 @@ ghost use Rattle.std.specs.Prelude.{◌≡◌, ◌≤◌, ◌<◌, ◌↔◌, �
 ghost use Rattle.mk_graph.specs.Numbering.{name_at};
 ghost use Rattle.mk_recipe.specs.Line.{Records};
 ghost use Rattle.mk_rule_lines.specs.Marks.{has_mark};
-ghost use Rattle.mk_plan.specs.Nodes.{explicit_of};
+ghost use Rattle.mk_plan.specs.Nodes.{explicit_of, made_beside};
 ghost use Rattle.mk_plan.specs.Passage.{to_make, commands_of};
 ghost use Rattle.mk_plan.specs.Telling.{lines_about};
 ghost use Rattle.st_records.specs.Limits.{IsGood, IsWithin, SaysExplicit};
@@ -18,7 +18,7 @@ use crate::silence::as_run;
 use crate::{Conduct, environment};
 use bd_lists::{Recipe, Variable};
 use byte_strings::{ByteString, ByteStrings};
-use mk_plan::{Why, explicit_of, why_lines};
+use mk_plan::{Why, explicit_of, made_beside, why_lines};
 use mk_recipe::{Line, recorded};
 use mk_rules::Graph;
 use st_records::{Explicit, Record};
@@ -53,6 +53,8 @@ pub struct Plan {
     pub recipe: Recipe,
     pub commands: ByteStrings,
     pub explicit: ByteStrings,
+    /// What the recipe makes beside the target.
+    pub others: ByteStrings,
     /// The names of its source and its explicit prerequisites: a report that names them says nothing new.
     pub known: ByteStrings,
     pub report: Option<ByteString>,
@@ -106,6 +108,7 @@ struct Noted {
     target: ByteString,
     commands: ByteStrings,
     explicit: ByteStrings,
+    others: ByteStrings,
     known: ByteStrings,
 }
 
@@ -115,12 +118,14 @@ impl Noted {
         ensures target { IfOk result (λ noted. noted.target ≡ name_at graph.now.names number) }
         ensures commands { IfOk result (λ noted. Records lines.now noted.commands) }
         ensures explicit { IfOk result (λ noted. noted.explicit ≡ explicit_of graph.now number) }
+        ensures others { IfOk result (λ noted. noted.others ≡ made_beside graph.now number) }
         ensures known { IfOk result (λ noted. noted.known ≡ known_of graph.now number) }
     {
         Ok(Noted {
             target: ByteString::from_slice(alloc, graph.names.name(number))?,
             commands: recorded(alloc, lines)?,
             explicit: explicit_of(alloc, graph, number)?,
+            others: made_beside(alloc, graph, number)?,
             known: known_of(alloc, graph, number)?,
         })
     }
@@ -179,6 +184,7 @@ impl Plan {
             ≡ as_run (conduct.now.prints_no_lines || has_mark graph.now.settings.silent (name_at graph.now.names number)) lines.items)) }
         ensures commands { IfOk result (λ plan. IfSome plan (λ p. Records lines.items p.commands)) }
         ensures explicit { IfOk result (λ plan. IfSome plan (λ p. p.explicit ≡ explicit_of graph.now number)) }
+        ensures others { IfOk result (λ plan. IfSome plan (λ p. p.others ≡ made_beside graph.now number)) }
         ensures known { IfOk result (λ plan. IfSome plan (λ p. p.known ≡ known_of graph.now number)) }
         ensures report { IfOk result (λ plan. IfSome plan (λ p. p.report
             ≡ report_path conduct.now.keeps_state conduct.now.state_name number)) }
@@ -210,6 +216,7 @@ impl Plan {
             recipe,
             commands: noted.commands,
             explicit: noted.explicit,
+            others: noted.others,
             known: noted.known,
             report,
             removes,

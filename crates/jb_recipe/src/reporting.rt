@@ -25,6 +25,8 @@ pub struct EndNote {
     target: ByteString,
     commands: ByteStrings,
     explicit: ByteStrings,
+    /// What the recipe makes beside the target.
+    others: ByteStrings,
     known: ByteStrings,
     report: Option<ByteString>,
     removes: bool,
@@ -50,6 +52,7 @@ impl Plan {
           target = self.recipe.target;
           commands = self.commands;
           explicit = self.explicit;
+          others = self.others;
           known = self.known;
           report = self.report;
           removes = self.removes;
@@ -62,6 +65,7 @@ impl Plan {
             target,
             commands: self.commands,
             explicit: self.explicit,
+            others: self.others,
             known: self.known,
             report: self.report,
             removes: self.removes,
@@ -113,6 +117,15 @@ fn taken<P: Place>(
             Some(not_done) => Ok(Err(not_done)),
             None => Err(AllocError),
         },
+    }
+}
+
+/// Puts a file on the disk, or says why it isn't there.
+fn synced<P: Place>(place: &P, name: &[u8]) -> Result<Result<(), NotDone>, AllocError> {
+    match place.sync(name) {
+        Ok(()) => Ok(Ok(())),
+        Err(PlaceFault::Device(error)) => Ok(Err(NotDone::NotSynced(error))),
+        Err(PlaceFault::OutOfMemory) => Err(AllocError),
     }
 }
 
@@ -170,6 +183,7 @@ impl EndNote {
             target,
             commands,
             explicit,
+            others: _,
             known: _,
             report: _,
             removes: _,
@@ -194,16 +208,20 @@ impl EndNote {
         }
     }
 
-    // Puts the target's file on the disk, or says why it isn't there. Only a state that is kept could outlive it.
+    // Puts the files that the recipe makes on the disk, or says why one isn't there. Only a state that is kept could outlive them.
     fn synced<P: Place>(&self, place: &P) -> Result<Result<(), NotDone>, AllocError> {
         if self.report.is_none() {
             return Ok(Ok(()));
         }
-        match place.sync(self.target.as_slice()) {
-            Ok(()) => Ok(Ok(())),
-            Err(PlaceFault::Device(error)) => Ok(Err(NotDone::NotSynced(error))),
-            Err(PlaceFault::OutOfMemory) => Err(AllocError),
+        if let Err(not_done) = synced(place, self.target.as_slice())? {
+            return Ok(Err(not_done));
         }
+        for other in self.others.iter() {
+            if let Err(not_done) = synced(place, other)? {
+                return Ok(Err(not_done));
+            }
+        }
+        Ok(Ok(()))
     }
 
     // The hidden names of a recipe that passed, or why the report can't be taken or the target's file isn't on the disk.

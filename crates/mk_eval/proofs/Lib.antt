@@ -1,5 +1,6 @@
 pub mod BehindLemmas
 pub mod DoubledLemmas
+pub mod ListedLemmas
 pub mod MakefileLemmas
 pub mod OrderLemmas
 pub mod OutcomeLemmas

@@ -34,12 +34,17 @@ use Rattle.mk_reader.proofs.PrintedItemsLemmas.{printed_read}
 use Rattle.mk_eval.specs.Static.{DefinesMacro}
 use Rattle.mk_eval.specs.Output.{World}
 use Rattle.mk_eval.specs.Unmade.{outcome_beside}
-use Rattle.mk_eval.specs.PlainRules.{IsPlainRule, ArePlainRules}
-use Rattle.mk_eval.specs.Makefile.{Outcome, GivesItems, InOrder, behind, NamesIn, LineNames, cause_of, NamedItems, fixed_as, FixedItems, run_as, OutputItems, KindItems, DefinitionItems, appends_fixed, ItemItems, StatementItems, FileItems, NoneFixed, RuleItems, named_rule, with_item, missing_items, AnswerItems, IncludedItems, TextItems}
+use Rattle.mk_eval.specs.PlainRules.{IsPlainText, IsPlainLine, IsPlainRule, ArePlainRules}
+use Rattle.mk_eval.specs.Static.{doubled}
+use Rattle.mk_eval.specs.Listed.{listed_text}
+use Rattle.mk_wildcards.specs.Pattern.{has_wildcard}
+use Rattle.mk_wildcards.specs.Found.{Folders, line_of}
+use Rattle.mk_reader.specs.declared.item.Special.{Special}
+use Rattle.mk_eval.specs.Makefile.{Outcome, GivesItems, InOrder, behind, NamesIn, LineNames, cause_of, NamedItems, fixed_as, FixedItems, run_as, OutputItems, KindItems, DefinitionItems, appends_fixed, ItemItems, StatementItems, FileItems, NoneFixed, IsListed as IsListedRule, RuleItems, SpecialItems, named_rule, with_item, missing_items, AnswerItems, IncludedItems, TextItems}
 use Rattle.mk_eval.proofs.BehindLemmas.{IsListed, behind_listed, behind_language, behind_wide, behind_strict}
 use Rattle.mk_eval.proofs.MakefileLemmas.{items_passed_on}
 use Rattle.mk_eval.proofs.OrderLemmas.{IsOne, order_one, Some_of, order_some}
-use Rattle.mk_eval.proofs.RuleLemmas.{names_one, rule_one, rule_some}
+use Rattle.mk_eval.proofs.RuleLemmas.{names_one, rule_one, rule_some, special_one, special_some}
 
 and_false : (t : Bool) → (t && false) ≡ false
 and_false true = refl
@@ -62,10 +67,10 @@ definition_one : (expanded : Bool) (d : Definition) (given : Defined) → IsOne 
 definition_one false d given one other a b = a ∙ sym b
 definition_one true d given one other a b = fixed_one d true given one other a b
 
-item_one : (said : Item) (given : Defined) → IsOne (ItemItems said given)
-item_one (item.Definition d) given one other a b = definition_one (appends_fixed d given) d given one other a b
-item_one (item.Rule lines) given one other a b = rule_one lines (is_wide given.language) given one other a b
-item_one (item.Special special) given one other a b = a ∙ sym b
+item_one : (world : World) (said : Item) (given : Defined) → IsOne (ItemItems world said given)
+item_one world (item.Definition d) given one other a b = definition_one (appends_fixed d given) d given one other a b
+item_one world (item.Rule lines) given one other a b = rule_one lines world (is_wide given.language) given one other a b
+item_one world (item.Special special) given one other a b = special_one world (is_wide given.language) special given one other a b
 
 output_one : (world : World) (d : Definition) (given : Defined) → IsOne (OutputItems world d given)
 output_one world d given one other (command, is, a) (also, was, b) = a ∙ ap (run_as world d) (expands_once (rule_meanings given) is was) ∙ sym b
@@ -77,7 +82,7 @@ kind_one world AtOnceAlone d given one other a b = fixed_one d false given one o
 kind_one world Output d given one other a b = output_one world d given one other a b
 
 statement_one : (world : World) (Included : Including) → AreOne Included → (file : List ℕ) (given : Defined) (said : Statement) → IsOne (StatementItems world Included file given said)
-statement_one world Included i file given (statement.Item said) one other a b = item_one said given one other a b
+statement_one world Included i file given (statement.Item said) one other a b = item_one world said given one other a b
 statement_one world Included i file given (statement.Definition line) one other a b = kind_one world line.kind line.definition given one other a b
 statement_one world Included i file given (statement.Include include) one other (names, are, a) (also, were, b) =
     named_one Included i file include given also one other
@@ -136,10 +141,10 @@ definition_some : (expanded : Bool) (d : Definition) (given : Defined) → IsLis
 definition_some false d given is = (_, refl)
 definition_some true d given is = fixed_some d true given is
 
-item_some : (said : Item) (given : Defined) → IsListed given → Some_of (ItemItems said given)
-item_some (item.Definition d) given is = definition_some (appends_fixed d given) d given is
-item_some (item.Rule lines) given is = rule_some lines given (text_expands given is) (is_wide given.language)
-item_some (item.Special special) given is = (_, refl)
+item_some : (world : World) (said : Item) (given : Defined) → IsListed given → Some_of (ItemItems world said given)
+item_some world (item.Definition d) given is = definition_some (appends_fixed d given) d given is
+item_some world (item.Rule lines) given is = rule_some lines given (text_expands given is) world (is_wide given.language)
+item_some world (item.Special special) given is = special_some world (is_wide given.language) special given (text_expands given is)
 
 output_some : (world : World) (d : Definition) (given : Defined) → IsListed given → Some_of (OutputItems world d given)
 output_some world d given is = let command = text_expands given is d.value in (run_as world d command.0, (command.0, command.1, refl))
@@ -151,7 +156,7 @@ kind_some world AtOnceAlone d given is = fixed_some d false given is
 kind_some world Output d given is = output_some world d given is
 
 statement_some : (world : World) (Included : Including) → AreSome Included → (file : List ℕ) (given : Defined) → IsListed given → (said : Statement) → Some_of (StatementItems world Included file given said)
-statement_some world Included i file given is (statement.Item said) = item_some said given is
+statement_some world Included i file given is (statement.Item said) = item_some world said given is
 statement_some world Included i file given is (statement.Definition line) = kind_some world line.kind line.definition given is
 statement_some world Included i file given is (statement.Include include) =
     let names = names_some given is include.names in
@@ -185,7 +190,7 @@ module _ (world : World) where
 abbrev IsLoose : Profile → Item → Type 0
 IsLoose language (item.Definition d) = d.is_fixed ≡ false
 IsLoose language (item.Rule lines) = IsPlainRule language lines.targets lines.prerequisites × (special_name language (first_word lines.targets) ≡ None)
-IsLoose language (item.Special special) = Unit {0}
+IsLoose language (item.Special special) = IsPlainLine language special.rule.targets special.rule.prerequisites
 
 loose_item : (given : Defined) (one : Item) → IsLoose given.language one → (name : List ℕ) → (given.ranks name).is_fixed ≡ false → ((with_item given one).ranks name).is_fixed ≡ false
 loose_item given (item.Rule lines) loose name h = h
@@ -214,19 +219,41 @@ none_behind given one loose h =
 targets_stand : (given : Defined) (text : List ℕ) → list_any is_dollar text ≡ false → LineNames given text (gives text)
 targets_stand given text none = subst (λ refers. NamesIn refers given text (gives text)) (sym none) refl
 
-rule_given : (wide : Bool) (lines : Rule) (given : Defined) → special_name given.language (first_word lines.targets) ≡ None →
-    (wide ≡ true → (DefinesMacro lines.prerequisites → ⊥) × Without 58 58 lines.prerequisites × (list_any is_dollar lines.targets ≡ false)) →
-    RuleItems wide lines given (Ok (item.Rule lines ∷ []))
-rule_given true lines given none plain =
+-- a text without a wildcard stands as it is
+text_listed : (folders : Folders) (text : List ℕ) → has_wildcard text ≡ false → listed_text folders text (gives text) ≡ text
+text_listed folders text none = ap (λ t. cond t (doubled (line_of folders text)) text) none
+
+rule_listed : (world : World) (lines : Rule) (given : Defined) → IsPlainText lines.targets → IsPlainText lines.prerequisites → IsListedRule world lines given (gives lines.targets) lines
+rule_listed world lines given targets prerequisites = (
+  gives lines.prerequisites,
+  targets_stand given lines.prerequisites prerequisites.0,
+  λ i. record lines {
+    targets = sym (text_listed world.folders lines.targets targets.1) i;
+    prerequisites = sym (text_listed world.folders lines.prerequisites prerequisites.1) i;
+  },
+)
+
+rule_given : (world : World) (wide : Bool) (lines : Rule) (given : Defined) → special_name given.language (first_word lines.targets) ≡ None →
+    (wide ≡ true → (DefinesMacro lines.prerequisites → ⊥) × Without 58 58 lines.prerequisites × IsPlainText lines.targets × IsPlainText lines.prerequisites) →
+    RuleItems world wide lines given (Ok (item.Rule lines ∷ []))
+rule_given world true lines given none plain =
     let here = plain refl in
-    inr (inl (here.0, here.1, (gives lines.targets, targets_stand given lines.targets here.2, sym (ap (named_rule given.language lines) none))))
-rule_given false lines given none plain = refl
+    let listed = rule_listed world lines given here.2 here.3 in
+    inr (inl (here.0, here.1, (gives lines.targets, targets_stand given lines.targets here.2.0, lines, listed, sym (ap (named_rule given.language lines) none))))
+rule_given world false lines given none plain = refl
+
+special_given : (world : World) (wide : Bool) (special : Special) (given : Defined) → (wide ≡ true → IsPlainText special.rule.targets × IsPlainText special.rule.prerequisites) →
+    SpecialItems world wide special given (Ok (item.Special special ∷ []))
+special_given world true special given plain =
+    let here = plain refl in
+    (gives special.rule.targets, targets_stand given special.rule.targets here.0.0, special.rule, rule_listed world special.rule given here.0 here.1, refl)
+special_given world false special given plain = refl
 
 item_given : (world : World) (Included : Including) (file : List ℕ) (given : Defined) → NoneFixed given → (one : Item) → IsLoose given.language one → StatementItems world Included file given (statement.Item one) (Ok (one ∷ []))
 item_given world Included file given h (item.Definition d) loose =
     subst (λ t. DefinitionItems t d given (Ok (item.Definition d ∷ []))) (sym (ap (λ t. d.append && t) (h d.name) ∙ and_false d.append)) refl
-item_given world Included file given h (item.Rule lines) loose = rule_given (is_wide given.language) lines given loose.1 loose.0
-item_given world Included file given h (item.Special special) loose = refl
+item_given world Included file given h (item.Rule lines) loose = rule_given world (is_wide given.language) lines given loose.1 loose.0
+item_given world Included file given h (item.Special special) loose = special_given world (is_wide given.language) special given loose
 
 abbrev AreLoose : Profile → List Item → Type 0
 AreLoose language [] = Unit {0}
@@ -242,10 +269,10 @@ plain_loose : (language : Profile) (file : List ℕ) (number : ℕ) (items : Lis
     AreLoose language (items_on file number items)
 plain_loose language file number [] plain rules = tt
 plain_loose language file number (definition name append value ∷ more) (is, plain) rules = (refl, plain_loose language file (next number) more plain rules)
-plain_loose language file number (rule None targets prerequisites recipe ∷ more) (is, plain) (here, later) =
+plain_loose language file number (rule None double targets prerequisites recipe ∷ more) (is, plain) (here, later) =
     ((here, special_is language targets None is.2), plain_loose language file (after_recipe (next number) recipe) more plain later)
-plain_loose language file number (rule (Some name) targets prerequisites recipe ∷ more) (is, plain) rules =
-    (tt, plain_loose language file (after_recipe (next number) recipe) more plain rules)
+plain_loose language file number (rule (Some name) double targets prerequisites recipe ∷ more) (is, plain) rules =
+    (rules.0, plain_loose language file (after_recipe (next number) recipe) more plain rules.1)
 
 pub printed_given : (world : World) (levels : ℕ) (given : Defined) (file : List ℕ) (items : List PlainItem) → NoneFixed given → ArePlain given.language items → ArePlainRules given.language items → TextItems world levels given file (printed items) (Ok (items_on file 1 items))
 printed_given world levels given file items none plain rules = (

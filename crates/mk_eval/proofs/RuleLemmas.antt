@@ -1,5 +1,5 @@
 -- What a rule gives is one outcome, and there is one.
-use Rattle.std.proofs.Common.{◌≡◌, ℕ, Bool, true, false, ◌||◌, ◌==◌, List, [], ◌∷◌, ◌++◌, length, inl, inr, ◌⊎◌, refl, sym, ap, subst, ◌∙◌, Option, Some, None, Result, Ok, Vec}
+use Rattle.std.proofs.Common.{◌≡◌, ℕ, Bool, true, false, ◌||◌, ◌==◌, List, [], ◌∷◌, ◌++◌, length, inl, inr, ◌⊎◌, refl, sym, ap, subst, ◌∙◌, Option, Some, None, Result, Ok, Err, Vec, cond}
 use Rattle.std.specs.Bool.{Decides}
 use Rattle.std.specs.List.{list_any}
 use Rattle.std.specs.declared.alloc.Global.{Global}
@@ -12,19 +12,27 @@ use Rattle.mk_macros.specs.Ranks.{Defined, rule_meanings}
 use Rattle.mk_macros.proofs.OutcomeLemmas.{expands_once}
 use Rattle.mk_reader.specs.Grammar.{Without}
 use Rattle.mk_reader.specs.Text.{is_dollar}
-use Rattle.mk_reader.specs.Form.{first_outside}
+use Rattle.mk_reader.specs.Form.{first_outside, Refuses}
 use Rattle.mk_reader.specs.declared.form.Place.TheVariants.{Outside}
 use Rattle.mk_reader.specs.declared.item.Item.{Item}
 use Rattle.mk_reader.specs.declared.item.Item.TheVariants as item
 use Rattle.mk_reader.specs.declared.item.Rule.{Rule}
 use Rattle.mk_reader.specs.declared.fault.Cause.{Cause}
 use Rattle.mk_reader.specs.declared.fault.Cause.TheVariants.{Static, Unsupported}
-use Rattle.mk_reader.specs.declared.fault.Feature.TheVariants.{TargetMacro}
+use Rattle.mk_reader.specs.declared.fault.Feature.TheVariants.{TargetMacro, SpecialName as SpecialRule}
+use Rattle.mk_reader.specs.declared.fault.Refusal.{Refusal}
+use Rattle.mk_reader.specs.declared.fault.ReadFault.TheVariants.{OutOfMemory, Refused}
+use Rattle.mk_reader.specs.Special.{is_refused}
+use Rattle.mk_profile.specs.declared.profile.Profile.{Profile}
 use Rattle.mk_reader.specs.declared.fault.StaticCause.TheVariants.{NoPercent}
 use Rattle.mk_reader.proofs.ReferenceLemmas.{either, cut_found, none_found, Said, said}
 use Rattle.mk_reader.proofs.CutLemmas.{one_of, cut_left, cut_right}
 use Rattle.mk_eval.specs.Static.{IsCutAt, name_macro, DefinesMacro, has_percent, pattern_fault, rule_for}
-use Rattle.mk_eval.specs.Makefile.{Outcome, GivesItems, refused_rule, TargetItems, unmoved, JudgedItems, PatternItems, Behind, WithText, StaticItems, NamesIn, LineNames, special_in, named_rule, PlainItems, WideRuleItems, RuleItems}
+use Rattle.mk_eval.specs.Output.{World}
+use Rattle.mk_eval.specs.Listed.{listed, listed_rule}
+use Rattle.mk_reader.specs.declared.item.Special.{Special}
+use Rattle.mk_reader.specs.declared.special.SpecialName.{SpecialName}
+use Rattle.mk_eval.specs.Makefile.{Outcome, GivesItems, refused_rule, TargetItems, unmoved, JudgedItems, PatternItems, Behind, WithText, StaticItems, NamesIn, LineNames, special_in, named_rule, IsListed, PlainItems, WideRuleItems, RuleItems, SpecialItems}
 use Rattle.mk_eval.proofs.MakefileLemmas.{items_passed_on}
 use Rattle.mk_eval.proofs.OrderLemmas.{IsOne, order_one, Some_of, order_some}
 use Rattle.mk_eval.proofs.StemLemmas.{stem_one, Found, stem_found}
@@ -133,30 +141,39 @@ module _ (rule : Rule) where
   with_text_one given text Rest h one other (told, is, a) (also, was, b) =
       behind_one also Rest h one other (subst (λ t. Behind rule t Rest one) (expands_once (rule_meanings given) is was) a) b
 
-  static_one : (left right : List ℕ) (given : Defined) → IsOne (StaticItems rule left right given)
-  static_one left right given =
-      with_text_one given rule.targets _ (λ targets. with_text_one given left _ (λ patterns. with_text_one given right _ (λ prerequisites. pattern_one (words targets) (words patterns) (words prerequisites))))
+  static_one : (world : World) (left right : List ℕ) (given : Defined) → IsOne (StaticItems world rule left right given)
+  static_one world left right given =
+      with_text_one given rule.targets _ (λ targets. with_text_one given left _ (λ patterns. with_text_one given right _ (λ prerequisites.
+      pattern_one (words (listed world.folders targets)) (words patterns) (words (listed world.folders prerequisites)))))
 
-  plain_one : (given : Defined) → IsOne (PlainItems rule given)
-  plain_one given one other (targets, is, a) (also, was, b) =
-      a ∙ ap (λ t. named_rule given.language rule (special_in given.language t)) (names_one given rule.targets targets also is was) ∙ sym b
+  -- the rule with names in the place of wildcards
+  listed_one : (world : World) (given : Defined) (targets also : expansion.Outcome) (one other : Rule) → LineNames given rule.targets targets → LineNames given rule.targets also →
+      IsListed world rule given targets one → IsListed world rule given also other → one ≡ other
+  listed_one world given targets also one other are were (prerequisites, is, a) (others, was, b) =
+      a ∙ ap (λ t. listed_rule world.folders rule t prerequisites) (names_one given rule.targets targets also are were)
+      ∙ ap (listed_rule world.folders rule also) (names_one given rule.prerequisites prerequisites others is was) ∙ sym b
 
-  wide_one : (given : Defined) → IsOne (WideRuleItems rule given)
-  wide_one given one other (inl (defines, a)) (inl (also, b)) = a ∙ sym b
-  wide_one given one other (inl (defines, a)) (inr (inl h)) = absurd (h.0 defines)
-  wide_one given one other (inl (defines, a)) (inr (inr h)) = absurd (h.0 defines)
-  wide_one given one other (inr (inl h)) (inl (defines, b)) = absurd (h.0 defines)
-  wide_one given one other (inr (inr h)) (inl (defines, b)) = absurd (h.0 defines)
-  wide_one given one other (inr (inl (never, without, a))) (inr (inl (also, lacks, b))) = plain_one given one other a b
-  wide_one given one other (inr (inl (never, without, a))) (inr (inr (also, left, right, cut, b))) = absurd (cut_none 58 refl refl rule.prerequisites left right cut without)
-  wide_one given one other (inr (inr (never, left, right, cut, a))) (inr (inl (also, without, b))) = absurd (cut_none 58 refl refl rule.prerequisites left right cut without)
-  wide_one given one other (inr (inr (never, left, right, cut, a))) (inr (inr (also, l, r, is, b))) =
+  plain_one : (world : World) (given : Defined) → IsOne (PlainItems world rule given)
+  plain_one world given one other (targets, are, found, is, a) (also, were, again, was, b) =
+      a ∙ ap (λ t. named_rule given.language found (special_in given.language t)) (names_one given rule.targets targets also are were)
+      ∙ ap (λ r. named_rule given.language r (special_in given.language also)) (listed_one world given targets also found again are were is was) ∙ sym b
+
+  wide_one : (world : World) (given : Defined) → IsOne (WideRuleItems world rule given)
+  wide_one world given one other (inl (defines, a)) (inl (also, b)) = a ∙ sym b
+  wide_one world given one other (inl (defines, a)) (inr (inl h)) = absurd (h.0 defines)
+  wide_one world given one other (inl (defines, a)) (inr (inr h)) = absurd (h.0 defines)
+  wide_one world given one other (inr (inl h)) (inl (defines, b)) = absurd (h.0 defines)
+  wide_one world given one other (inr (inr h)) (inl (defines, b)) = absurd (h.0 defines)
+  wide_one world given one other (inr (inl (never, without, a))) (inr (inl (also, lacks, b))) = plain_one world given one other a b
+  wide_one world given one other (inr (inl (never, without, a))) (inr (inr (also, left, right, cut, b))) = absurd (cut_none 58 refl refl rule.prerequisites left right cut without)
+  wide_one world given one other (inr (inr (never, left, right, cut, a))) (inr (inl (also, without, b))) = absurd (cut_none 58 refl refl rule.prerequisites left right cut without)
+  wide_one world given one other (inr (inr (never, left, right, cut, a))) (inr (inr (also, l, r, is, b))) =
       let same = cut_one 58 refl refl rule.prerequisites left right l r cut is in
-      static_one l r given one other (subst (λ x. StaticItems rule x r given one) same.0 (subst (λ y. StaticItems rule left y given one) same.1 a)) b
+      static_one world l r given one other (subst (λ x. StaticItems world rule x r given one) same.0 (subst (λ y. StaticItems world rule left y given one) same.1 a)) b
 
-  pub rule_one : (wide : Bool) (given : Defined) → IsOne (RuleItems wide rule given)
-  rule_one true given one other a b = wide_one given one other a b
-  rule_one false given one other a b = a ∙ sym b
+  pub rule_one : (world : World) (wide : Bool) (given : Defined) → IsOne (RuleItems world wide rule given)
+  rule_one world true given one other a b = wide_one world given one other a b
+  rule_one world false given one other a b = a ∙ sym b
 
   -- An outcome
 
@@ -182,40 +199,81 @@ module _ (rule : Rule) where
         let whole = behind_some told.0 Rest h in
         (whole.0, (told.0, told.1, whole.1))
 
-    static_some : (left right : List ℕ) → Some_of (StaticItems rule left right given)
-    static_some left right =
-        with_text_some rule.targets _ (λ targets. with_text_some left _ (λ patterns. with_text_some right _ (λ prerequisites. pattern_some (words targets) (words patterns) (words prerequisites))))
+    static_some : (world : World) (left right : List ℕ) → Some_of (StaticItems world rule left right given)
+    static_some world left right =
+        with_text_some rule.targets _ (λ targets. with_text_some left _ (λ patterns. with_text_some right _ (λ prerequisites.
+        pattern_some (words (listed world.folders targets)) (words patterns) (words (listed world.folders prerequisites)))))
 
-    names_told : (text : List ℕ) → (names : expansion.Outcome) × LineNames given text names
+    pub names_told : (text : List ℕ) → (names : expansion.Outcome) × LineNames given text names
     names_told text = either_way (list_any is_dollar text)
       where
         either_way : (refers : Bool) → (names : expansion.Outcome) × NamesIn refers given text names
         either_way true = expands text
         either_way false = (gives text, refl)
 
-    plain_some : Some_of (PlainItems rule given)
-    plain_some = let targets = names_told rule.targets in (_, (targets.0, targets.1, refl))
+    pub listed_some : (world : World) (targets : expansion.Outcome) → (found : Rule) × IsListed world rule given targets found
+    listed_some world targets =
+        let prerequisites = names_told rule.prerequisites in (listed_rule world.folders rule targets prerequisites.0, (prerequisites.0, prerequisites.1, refl))
 
-    wide_some : Some_of (WideRuleItems rule given)
-    wide_some = at (macro_found rule.prerequisites) (cut_some 58 refl refl rule.prerequisites)
+    plain_some : (world : World) → Some_of (PlainItems world rule given)
+    plain_some world =
+        let targets = names_told rule.targets in
+        let found = listed_some world targets.0 in
+        (named_rule given.language found.0 (special_in given.language targets.0), (targets.0, targets.1, found.0, found.1, refl))
+
+    wide_some : (world : World) → Some_of (WideRuleItems world rule given)
+    wide_some world = at (macro_found rule.prerequisites) (cut_some 58 refl refl rule.prerequisites)
       where
-        at : DefinesMacro rule.prerequisites ⊎ (DefinesMacro rule.prerequisites → ⊥) → Without 58 58 rule.prerequisites ⊎ ((left : List ℕ) × (right : List ℕ) × IsCutAt 58 rule.prerequisites left right) → Some_of (WideRuleItems rule given)
+        at : DefinesMacro rule.prerequisites ⊎ (DefinesMacro rule.prerequisites → ⊥) → Without 58 58 rule.prerequisites ⊎ ((left : List ℕ) × (right : List ℕ) × IsCutAt 58 rule.prerequisites left right) → Some_of (WideRuleItems world rule given)
         at (inl defines) cut = (refused_rule rule (Unsupported TargetMacro), inl (defines, refl))
-        at (inr never) (inl without) = let whole = plain_some in (whole.0, inr (inl (never, without, whole.1)))
-        at (inr never) (inr (left, right, cut)) = let whole = static_some left right in (whole.0, inr (inr (never, left, right, cut, whole.1)))
+        at (inr never) (inl without) = let whole = plain_some world in (whole.0, inr (inl (never, without, whole.1)))
+        at (inr never) (inr (left, right, cut)) = let whole = static_some world left right in (whole.0, inr (inr (never, left, right, cut, whole.1)))
 
-    pub rule_some : (wide : Bool) → Some_of (RuleItems wide rule given)
-    rule_some true = wide_some
-    rule_some false = (_, refl)
+    pub rule_some : (world : World) (wide : Bool) → Some_of (RuleItems world wide rule given)
+    rule_some world true = wide_some world
+    rule_some world false = (_, refl)
+
+-- what a special rule gives is one outcome, and there is one
+pub special_one : (world : World) (wide : Bool) (special : Special) (given : Defined) → IsOne (SpecialItems world wide special given)
+special_one world true special given one other (targets, are, found, is, a) (also, were, again, was, b) =
+    a ∙ ap (λ r. Ok (item.Special (record special { rule = r }) ∷ [])) (listed_one special.rule world given targets also found again are were is was) ∙ sym b
+special_one world false special given one other a b = a ∙ sym b
+
+pub special_some : (world : World) (wide : Bool) (special : Special) (given : Defined) → ((text : List ℕ) → (o : expansion.Outcome) × ExpandsTo (rule_meanings given) text o) → Some_of (SpecialItems world wide special given)
+special_some world true special given expands =
+    let targets = names_told special.rule given expands special.rule.targets in
+    let found = listed_some special.rule given expands world targets.0 in
+    (_, (targets.0, targets.1, found.0, found.1, refl))
+special_some world false special given expands = (_, refl)
 
 -- what a static pattern rule gives is what the rule gives
-pub static_given : (rule : Rule) (given : Defined) (left right : List ℕ) (r : Result (Vec Item Global) ReadFault) → is_wide given.language ≡ true → (DefinesMacro rule.prerequisites → ⊥) → IsCutAt 58 rule.prerequisites left right →
-    GivesItems r (StaticItems rule left right given) → GivesItems r (RuleItems (is_wide given.language) rule given)
-static_given rule given left right r wide never cut h =
-    items_passed_on r (StaticItems rule left right given) (RuleItems (is_wide given.language) rule given) h (λ o s. subst (λ w. RuleItems w rule given o) (sym wide) (inr (inr (never, left, right, cut, s))))
+pub static_given : (world : World) (rule : Rule) (given : Defined) (left right : List ℕ) (r : Result (Vec Item Global) ReadFault) → is_wide given.language ≡ true → (DefinesMacro rule.prerequisites → ⊥) → IsCutAt 58 rule.prerequisites left right →
+    GivesItems r (StaticItems world rule left right given) → GivesItems r (RuleItems world (is_wide given.language) rule given)
+static_given world rule given left right r wide never cut h =
+    items_passed_on r (StaticItems world rule left right given) (RuleItems world (is_wide given.language) rule given) h (λ o s. subst (λ w. RuleItems world w rule given o) (sym wide) (inr (inr (never, left, right, cut, s))))
 
 -- so is what a plain rule gives
-pub plain_given : (rule : Rule) (given : Defined) (r : Result (Vec Item Global) ReadFault) → is_wide given.language ≡ true → (DefinesMacro rule.prerequisites → ⊥) → Without 58 58 rule.prerequisites →
-    GivesItems r (PlainItems rule given) → GivesItems r (RuleItems (is_wide given.language) rule given)
-plain_given rule given r wide never without h =
-    items_passed_on r (PlainItems rule given) (RuleItems (is_wide given.language) rule given) h (λ o s. subst (λ w. RuleItems w rule given o) (sym wide) (inr (inl (never, without, s))))
+pub plain_given : (world : World) (rule : Rule) (given : Defined) (r : Result (Vec Item Global) ReadFault) → is_wide given.language ≡ true → (DefinesMacro rule.prerequisites → ⊥) → Without 58 58 rule.prerequisites →
+    GivesItems r (PlainItems world rule given) → GivesItems r (RuleItems world (is_wide given.language) rule given)
+plain_given world rule given r wide never without h =
+    items_passed_on r (PlainItems world rule given) (RuleItems world (is_wide given.language) rule given) h (λ o s. subst (λ w. RuleItems world w rule given o) (sym wide) (inr (inl (never, without, s))))
+
+-- a plain rule's outcome by the name among its targets and by its texts
+pub plain_of : (world : World) (rule found : Rule) (given : Defined) (name : Option SpecialName) (outcome : Outcome) →
+    ((targets : expansion.Outcome) × LineNames given rule.targets targets × (name ≡ special_in given.language targets)) →
+    ((targets : expansion.Outcome) × LineNames given rule.targets targets × IsListed world rule given targets found) →
+    outcome ≡ named_rule given.language found name → PlainItems world rule given outcome
+plain_of world rule found given name outcome (targets, are, named) (also, were, is) e =
+    let same = names_one given rule.targets also targets were are in
+    (targets, are, found, subst (λ t. IsListed world rule given t found) same is, e ∙ ap (named_rule given.language found) named)
+
+pub named_refused : (profile : Profile) (rule : Rule) (name : SpecialName) → is_refused profile name ≡ true → named_rule profile rule (Some name) ≡ refused_rule rule (Unsupported (SpecialRule name))
+named_refused profile rule name e = ap (λ t. cond t (refused_rule rule (Unsupported (SpecialRule name))) (Ok (item.Special (record { name = name; rule = rule }) ∷ []))) e
+
+pub named_taken : (profile : Profile) (rule : Rule) (name : SpecialName) → is_refused profile name ≡ false → named_rule profile rule (Some name) ≡ Ok (item.Special (record { name = name; rule = rule }) ∷ [])
+named_taken profile rule name e = ap (λ t. cond t (refused_rule rule (Unsupported (SpecialRule name))) (Ok (item.Special (record { name = name; rule = rule }) ∷ []))) e
+
+-- a refusal is a fault
+pub refused_given : (P : Outcome → Type 0) (told : ReadFault) (refused : Refusal) → Refuses told refused → P (Err refused) → GivesItems (Err told) P
+refused_given P OutOfMemory refused h is = tt
+refused_given P (Refused r) refused h is = subst (λ x. P (Err x)) h is

@@ -1,5 +1,7 @@
 -- Makefile: what a text gives with the files that it includes. Output: what commands write that definitions run. Static: what static
--- pattern rules are made of. PlainRules: printed rules that give themselves. Unmade: missing files that have a rule.
+-- pattern rules are made of. Listed: rule lines with the names of files in the place of wildcards. PlainRules: printed rules that give
+-- themselves. Unmade: missing files that have a rule.
+pub mod Listed
 pub mod Makefile
 pub mod Output
 pub mod PlainRules

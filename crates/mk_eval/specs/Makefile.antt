@@ -35,6 +35,8 @@ use Rattle.mk_reader.specs.declared.fault.Refusal.{Refusal}
 use Rattle.mk_reader.specs.declared.fault.ReadFault.{ReadFault}
 use Rattle.mk_reader.specs.declared.fault.ReadFault.TheVariants.{OutOfMemory, Refused}
 use Rattle.mk_eval.specs.Output.{World, output_text}
+use Rattle.mk_reader.specs.declared.item.Special.{Special}
+use Rattle.mk_eval.specs.Listed.{listed, listed_text, listed_rule}
 use Rattle.mk_eval.specs.Static.{doubled, IsCutAt, DefinesMacro, with_stem, pattern_fault, rule_for}
 use Rattle.mk_eval.specs.Unmade.{outcome_beside}
 
@@ -189,11 +191,12 @@ Behind rule (fails fault) Rest outcome = outcome ≡ refused_rule rule (Macro (c
 abbrev pub WithText : Rule → Defined → (text : List ℕ) → (List ℕ → Outcome → Type 0) → Outcome → Type 0
 WithText rule given text Rest outcome = (told : expansion.Outcome) × ExpandsTo (rule_meanings given) text told × Behind rule told Rest outcome
 
--- what a static pattern rule gives whose second `:` stands between these texts
-abbrev pub StaticItems : Rule → (left right : List ℕ) → Defined → Outcome → Type 0
-StaticItems rule left right given outcome =
+-- what a static pattern rule gives whose second `:` stands between these texts. Wildcards give way to names in its targets and in its
+-- prerequisite patterns before they have a stem, and not in the target pattern (GNU make)
+abbrev pub StaticItems : World → Rule → (left right : List ℕ) → Defined → Outcome → Type 0
+StaticItems world rule left right given outcome =
     WithText rule given rule.targets (λ targets. WithText rule given left (λ patterns. WithText rule given right (λ prerequisites.
-    PatternItems rule (words targets) (words patterns) (words prerequisites)))) outcome
+    PatternItems rule (words (listed world.folders targets)) (words patterns) (words (listed world.folders prerequisites))))) outcome
 
 -- the special name that stands first among the targets of a rule line, which came to this; targets without an expansion name none, which
 -- is told with the line
@@ -207,33 +210,48 @@ named_rule profile rule None = Ok (item.Rule rule ∷ [])
 named_rule profile rule (Some name) =
     if is_refused profile name then refused_rule rule (Unsupported (SpecialRule name)) else Ok (item.Special (record { name = name; rule = rule }) ∷ [])
 
--- what a rule gives that is no static pattern rule: itself, or a special rule, told by what its targets come to with what is defined
--- above the line (own: POSIX make has macros in targets, and special targets by name)
-abbrev pub PlainItems : Rule → Defined → Outcome → Type 0
-PlainItems rule given outcome =
-    (targets : expansion.Outcome) × LineNames given rule.targets targets × (outcome ≡ named_rule given.language rule (special_in given.language targets))
+-- the rule with names in the place of wildcards, which are looked for in what its texts come to with what is defined above the line
+abbrev pub IsListed : World → Rule → Defined → (targets : expansion.Outcome) → Rule → Type 0
+IsListed world rule given targets found =
+    (prerequisites : expansion.Outcome) × LineNames given rule.prerequisites prerequisites × (found ≡ listed_rule world.folders rule targets prerequisites)
+
+-- what a rule gives that is no static pattern rule: itself with names in the place of wildcards, or so a special rule, told by what its
+-- targets come to with what is defined above the line (own: POSIX make has macros in targets, and special targets by name)
+abbrev pub PlainItems : World → Rule → Defined → Outcome → Type 0
+PlainItems world rule given outcome =
+    (targets : expansion.Outcome) × LineNames given rule.targets targets
+    × (found : Rule) × IsListed world rule given targets found
+    × (outcome ≡ named_rule given.language found (special_in given.language targets))
 
 -- what a rule of the wide profile gives: what a plain rule gives, or what a static pattern rule gives. The second `:` is one that stands in the
 -- makefile outside references (own: GNU make sees also one that comes out of a macro)
-abbrev pub WideRuleItems : Rule → Defined → Outcome → Type 0
-WideRuleItems rule given outcome =
+abbrev pub WideRuleItems : World → Rule → Defined → Outcome → Type 0
+WideRuleItems world rule given outcome =
     (DefinesMacro rule.prerequisites × (outcome ≡ refused_rule rule (Unsupported TargetMacro)))
-    ⊎ (((DefinesMacro rule.prerequisites → ⊥) × Without 58 58 rule.prerequisites × PlainItems rule given outcome)
-    ⊎ ((DefinesMacro rule.prerequisites → ⊥) × (left : List ℕ) × (right : List ℕ) × IsCutAt 58 rule.prerequisites left right × StaticItems rule left right given outcome))
+    ⊎ (((DefinesMacro rule.prerequisites → ⊥) × Without 58 58 rule.prerequisites × PlainItems world rule given outcome)
+    ⊎ ((DefinesMacro rule.prerequisites → ⊥) × (left : List ℕ) × (right : List ℕ) × IsCutAt 58 rule.prerequisites left right × StaticItems world rule left right given outcome))
 
-abbrev pub RuleItems : (wide : Bool) → Rule → Defined → Outcome → Type 0
-RuleItems true rule given outcome = WideRuleItems rule given outcome
-RuleItems false rule given outcome = outcome ≡ Ok (item.Rule rule ∷ [])
+abbrev pub RuleItems : World → (wide : Bool) → Rule → Defined → Outcome → Type 0
+RuleItems world true rule given outcome = WideRuleItems world rule given outcome
+RuleItems world false rule given outcome = outcome ≡ Ok (item.Rule rule ∷ [])
+
+-- what a special rule gives whose name stands in the makefile: itself, in the wide profile with names in the place of wildcards
+abbrev pub SpecialItems : World → (wide : Bool) → Special → Defined → Outcome → Type 0
+SpecialItems world true special given outcome =
+    (targets : expansion.Outcome) × LineNames given special.rule.targets targets
+    × (found : Rule) × IsListed world special.rule given targets found
+    × (outcome ≡ Ok (item.Special (record special { rule = found }) ∷ []))
+SpecialItems world false special given outcome = outcome ≡ Ok (item.Special special ∷ [])
 
 -- what an item gives
-abbrev pub ItemItems : Item → Defined → Outcome → Type 0
-ItemItems (item.Definition d) given outcome = DefinitionItems (appends_fixed d given) d given outcome
-ItemItems (item.Rule rule) given outcome = RuleItems (is_wide given.language) rule given outcome
-ItemItems (item.Special special) given outcome = outcome ≡ Ok (item.Special special ∷ [])
+abbrev pub ItemItems : World → Item → Defined → Outcome → Type 0
+ItemItems world (item.Definition d) given outcome = DefinitionItems (appends_fixed d given) d given outcome
+ItemItems world (item.Rule rule) given outcome = RuleItems world (is_wide given.language) rule given outcome
+ItemItems world (item.Special special) given outcome = SpecialItems world (is_wide given.language) special given outcome
 
 -- what a statement of the file gives; Included says it of a name on an include line
 abbrev pub StatementItems : World → (IncludeLine → Defined → List ℕ → Outcome → Type 0) → (file : List ℕ) → Defined → Statement → Outcome → Type 0
-StatementItems world Included file given (statement.Item one) outcome = ItemItems one given outcome
+StatementItems world Included file given (statement.Item one) outcome = ItemItems world one given outcome
 StatementItems world Included file given (statement.Definition line) outcome = KindItems world line.kind line.definition given outcome
 StatementItems world Included file given (statement.Include include) outcome =
     (names : expansion.Outcome) × LineNames given include.names names × NamedItems (Included include) file include given names outcome
@@ -299,3 +317,13 @@ abbrev pub IsTextFault : Defined → Rule → (text : List ℕ) → ReadFault �
 IsTextFault given rule text OutOfMemory = Unit {0}
 IsTextFault given rule text (Refused refused) =
     (fault : expansion.Fault) × ExpandsTo (rule_meanings given) text (fails fault) × (refused ≡ refusal rule.file rule.line (Macro (cause_of fault)))
+
+-- what is told of a text: what it came to, or that it has a fault
+abbrev pub IsTold : Option (Vec ℕ Global) → expansion.Outcome → Type 0
+IsTold (Some v) names = names ≡ gives v.items
+IsTold None names = (fault : expansion.Fault) × (names ≡ fails fault)
+
+-- a text of a rule line, with names in the place of wildcards
+abbrev pub IsListedText : World → (text : List ℕ) → Defined → (found : List ℕ) → Type 0
+IsListedText world text given found =
+    (told : expansion.Outcome) × LineNames given text told × (found ≡ listed_text world.folders text told)

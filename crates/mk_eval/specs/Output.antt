@@ -1,11 +1,14 @@
 -- What the outside answers while makefiles are read, and the text that a command's output gives a name.
 use Rattle.std.specs.Prelude.{ℕ, List, Option, map, reverse, if◌then◌else◌}
 use Rattle.mk_reader.specs.Text.{is_newline, begins_with, without_last}
+use Rattle.mk_wildcards.specs.Found.{Folders}
 
--- each file, by its name, that can be read holds this, and each command writes this that a definition of this line of this file runs
+-- each file, by its name, that can be read holds this, each command writes this that a definition of this line of this file runs, and these
+-- names are in each folder
 pub record World : Type 0 where
   pub files : (name : List ℕ) → Option (List ℕ)
   pub outputs : (file : List ℕ) (line : ℕ) (command : List ℕ) → List ℕ
+  pub folders : Folders
 
 -- without the newline at its end, where it has one
 abbrev pub without_newline : List ℕ → List ℕ

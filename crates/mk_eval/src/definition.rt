@@ -10,6 +10,7 @@ use crate::names::follow;
 use crate::output::run_definition;
 use crate::refuse::refuse_text;
 use crate::rule::evaluate_rule;
+use crate::special_rule::evaluate_special;
 use byte_strings::ByteString;
 use mk_macros::{Dynamic, Macros};
 use mk_reader::{Definition, DefinitionKind, DefinitionLine, Item, ReadFault};
@@ -108,9 +109,16 @@ pub fn evaluate_definition<I: Includes>(
 }
 
 /// What an item gives, which is taken into the macros.
-pub fn evaluate_item(alloc: Global, item: Item, macros: &mut Macros) -> Result<Vec<Item>, ReadFault>
-    ensures items { GivesItems result (ItemItems item (defined_by macros.old)) }
+pub fn evaluate_item<I: Includes>(
+    alloc: Global,
+    item: Item,
+    macros: &mut Macros,
+    includes: &mut I,
+) -> Result<Vec<Item>, ReadFault>
+    ensures items { (world : World) → I.allows includes.new world
+        → GivesItems result (ItemItems world item (defined_by macros.old)) }
     ensures defined { IfOk result (λ items. defined_by macros.new ≡ behind (defined_by macros.old) items.items) }
+    ensures grows { (world : World) → I.allows includes.new world → I.allows includes.old world }
 {
     match item {
         Item::Definition(definition) => {
@@ -120,7 +128,7 @@ pub fn evaluate_item(alloc: Global, item: Item, macros: &mut Macros) -> Result<V
             }
             Ok(take(alloc, Item::Definition(definition), macros)?)
         }
-        Item::Rule(rule) => evaluate_rule(alloc, rule, macros),
-        Item::Special(special) => Ok(take(alloc, Item::Special(special), macros)?),
+        Item::Rule(rule) => evaluate_rule(alloc, rule, macros, includes),
+        Item::Special(special) => evaluate_special(alloc, special, macros, includes),
     }
 }

@@ -1,13 +1,14 @@
-//! What the outside is asked while makefiles are evaluated: the files that they include, and what commands write.
+//! What the outside is asked while makefiles are evaluated: the files that they include, what commands write, and the names in folders.
 ghost use Rattle.std.specs.Prelude.{◌≡◌, option_map, IfOk};
 ghost use Rattle.mk_eval.specs.Output.{World};
 
+use byte_strings::ByteStrings;
 use mk_profile::Profile;
 use mk_reader::Statement;
 use std::alloc::{AllocError, Global};
 
-/// Gives the files that a makefile includes, and runs the commands of its definitions. An answer narrows what is still possible and
-/// never widens it.
+/// Gives the files that a makefile includes, runs the commands of its definitions, and lists folders. An answer narrows what is still
+/// possible and never widens it.
 pub trait Includes {
     /// Which worlds agree with all that was answered so far.
     ghost allows: { Self → World → Type 0 };
@@ -28,6 +29,12 @@ pub trait Includes {
     ) -> Result<Vec<u8>, AllocError>
         ensures output { IfOk result (λ output. (world : World) → allows self.new world
             → output.items ≡ world.outputs file.now line command.now) }
+        ensures grows { (world : World) → allows self.new world → allows self.old world };
+
+    /// The names in a folder without `.` and `..`, or `None` where it can't be read. The current folder is named by nothing, and each other
+    /// one ends with a `/`.
+    fn names(&mut self, alloc: Global, folder: &[u8]) -> Result<Option<ByteStrings>, AllocError>
+        ensures names { IfOk result (λ names. (world : World) → allows self.new world → names ≡ world.folders folder.now) }
         ensures grows { (world : World) → allows self.new world → allows self.old world };
 
     /// The statements of a file, before any of them is evaluated: for notes. It answers nothing.

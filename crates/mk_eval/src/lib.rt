@@ -6,6 +6,7 @@ mod definition;
 mod doubled;
 mod includes;
 pub mod laws;
+mod listed;
 mod makefile;
 mod names;
 mod output;

@@ -83,7 +83,7 @@ fn evaluate_all<I: Includes>(
     for statement in statements {
         match statement {
             Statement::Item(item) => {
-                let mut given = evaluate_item(alloc, item, macros)?;
+                let mut given = evaluate_item(alloc, item, macros, includes)?;
                 items.append(&mut given)?;
             }
             Statement::Definition(line) => {

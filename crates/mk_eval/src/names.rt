@@ -1,13 +1,13 @@
 //! The names on an include line, and what is defined for the lines below.
-ghost use Rattle.std.specs.Prelude.{◌≡◌, [], ◌∷◌, IfOk, IfErr, OnOk};
+ghost use Rattle.std.specs.Prelude.{◌≡◌, [], ◌∷◌, is_none, IfOk, IfErr, OnOk};
 ghost use Rattle.std.specs.List.{list_any};
 ghost use Rattle.mk_reader.specs.Text.{is_dollar};
 ghost use Rattle.mk_macros.specs.Expansion.{gives};
 ghost use Rattle.mk_macros.specs.Ranks.{defined_by};
-ghost use Rattle.mk_eval.specs.Makefile.{behind, LineNames, IsNamesFault};
+ghost use Rattle.mk_eval.specs.Makefile.{behind, fault_told, LineNames, IsNamesFault};
 
 use crate::refuse::refuse_text;
-use mk_macros::{Dynamic, Macros, Rank};
+use mk_macros::{Dynamic, MacroFault, Macros, Rank};
 use mk_reader::{IncludeLine, Item, ReadFault};
 use std::alloc::{AllocError, Global};
 
@@ -15,6 +15,13 @@ pub fn has_dollar(text: &[u8]) -> bool
     ensures { result ≡ list_any is_dollar text.now }
 {
     text.contains(&b'$')
+}
+
+/// Whether memory ran out, which says nothing of a text.
+pub fn ran_out(fault: &MacroFault) -> bool
+    ensures { result ≡ is_none (fault_told fault.now) }
+{
+    matches!(fault, MacroFault::OutOfMemory)
 }
 
 /// The names on an include line. A text with a reference is expanded.

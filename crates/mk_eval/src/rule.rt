@@ -5,10 +5,12 @@ ghost use Rattle.byte_strings.specs.Blanks.{words};
 ghost use Rattle.mk_macros.specs.Ranks.{defined_by};
 ghost use Rattle.std.specs.List.{list_all};
 ghost use Rattle.mk_eval.specs.Static.{is_sign_byte, name_macro, DefinesMacro};
+ghost use Rattle.mk_eval.specs.Output.{World};
 ghost use Rattle.mk_eval.specs.Makefile.{behind, GivesItems, ItemItems};
 ghost use Rattle.mk_reader.specs.declared.item.Item.TheVariants as item;
 
 use crate::definition::take;
+use crate::includes::Includes;
 use crate::refuse::refuse;
 use crate::special_rule::plain_items;
 use crate::static_rule::static_items;
@@ -48,9 +50,16 @@ fn defines_macro(text: &[u8]) -> bool
 }
 
 /// What a rule gives, which defines nothing.
-pub fn evaluate_rule(alloc: Global, rule: Rule, macros: &mut Macros) -> Result<Vec<Item>, ReadFault>
-    ensures items { GivesItems result (ItemItems (item.Rule rule) (defined_by macros.old)) }
+pub fn evaluate_rule<I: Includes>(
+    alloc: Global,
+    rule: Rule,
+    macros: &mut Macros,
+    includes: &mut I,
+) -> Result<Vec<Item>, ReadFault>
+    ensures items { (world : World) → I.allows includes.new world
+        → GivesItems result (ItemItems world (item.Rule rule) (defined_by macros.old)) }
     ensures defined { IfOk result (λ items. defined_by macros.new ≡ behind (defined_by macros.old) items.items) }
+    ensures grows { (world : World) → I.allows includes.new world → I.allows includes.old world }
 {
     if !macros.profile().is_wide() {
         return Ok(take(alloc, Item::Rule(rule), macros)?);
@@ -60,7 +69,7 @@ pub fn evaluate_rule(alloc: Global, rule: Rule, macros: &mut Macros) -> Result<V
         return Err(refuse(alloc, rule.file.as_slice(), rule.line, cause));
     }
     if let Some((left, right)) = split_outside(rule.prerequisites.as_slice(), b':') {
-        return static_items(alloc, &rule, left, right, macros);
+        return static_items(alloc, &rule, left, right, macros, includes);
     }
-    plain_items(alloc, rule, macros)
+    plain_items(alloc, rule, macros, includes)
 }

@@ -4,10 +4,13 @@ ghost use Rattle.byte_strings.specs.Blanks.{words};
 ghost use Rattle.mk_macros.specs.Ranks.{Defined, defined_by, rule_meanings};
 ghost use Rattle.mk_eval.specs.Static.{has_percent, rule_for};
 ghost use Rattle.mk_reader.specs.Form.{Refuses, refusal};
+ghost use Rattle.mk_eval.specs.Output.{World};
 ghost use Rattle.mk_eval.specs.Makefile.{GivesItem, GivesItems, with_item, with_items, TargetItems, EachTarget, PatternItems, StaticItems, IsTextFault};
 ghost use Rattle.mk_macros.specs.Expansion.{gives, ExpandsTo};
 
 use crate::doubled::doubled;
+use crate::includes::Includes;
+use crate::listed::listed;
 use crate::refuse::{refuse, refuse_text};
 use crate::stem::{pattern_fault, prerequisites_with, stem_of};
 use byte_strings::{ByteString, next_word};
@@ -44,6 +47,7 @@ fn rule_for(
     Ok(Rule {
         file: rule.file.copy(alloc)?,
         line: rule.line,
+        is_double: rule.is_double,
         targets: ByteString::new(doubled(alloc, target)?),
         prerequisites: ByteString::new(doubled(alloc, prerequisites.as_slice())?),
         recipe: copied_recipe(alloc, &rule.recipe)?,
@@ -133,19 +137,24 @@ fn text_of(alloc: Global, rule: &Rule, text: &[u8], macros: &Macros) -> Result<V
 }
 
 /// What a static pattern rule gives whose second `:` stands between these texts.
-pub fn static_items(
+pub fn static_items<I: Includes>(
     alloc: Global,
     rule: &Rule,
     left: &[u8],
     right: &[u8],
     macros: &Macros,
+    includes: &mut I,
 ) -> Result<Vec<Item>, ReadFault>
-    ensures items { GivesItems result (StaticItems rule.now left.now right.now (defined_by macros.now)) }
+    ensures items { (world : World) → I.allows includes.new world
+        → GivesItems result (StaticItems world rule.now left.now right.now (defined_by macros.now)) }
     ensures loose { IfOk result (λ items. (given : Defined) → with_items given items.items ≡ given) }
+    ensures grows { (world : World) → I.allows includes.new world → I.allows includes.old world }
 {
     let targets = text_of(alloc, rule, rule.targets.as_slice(), macros)?;
     let patterns = text_of(alloc, rule, left, macros)?;
     let prerequisites = text_of(alloc, rule, right, macros)?;
+    let targets = listed(alloc, targets, includes)?;
+    let prerequisites = listed(alloc, prerequisites, includes)?;
     pattern_items(
         alloc,
         rule,

@@ -1,4 +1,4 @@
--- What dynamic macros stand for (make(1S), "Dynamic Macros"; POSIX make, "Internal Macros").
+-- What dynamic macros stand for (make(1S), "Dynamic Macros"; POSIX make, "Internal Macros"; `$|`: GNU make manual, "Automatic Variables").
 use Rattle.std.specs.Prelude.{ℕ, ◌==◌, if◌then◌else◌, List, [], ◌∷◌, map, Option, Some, None, option_map}
 use Rattle.std.specs.Borrow.{Bor}
 use Rattle.std.specs.List.{join_with_byte}
@@ -11,7 +11,7 @@ use Rattle.mk_macros.specs.declared.dynamic.Dynamic.TheVariants.{RuleLine, Recip
 abbrev pub words_in : Option (Bor (List (Bor (List ℕ)))) → Option (List (List ℕ))
 words_in found = option_map (λ words. map (λ word. word.now) words.now) found
 
--- the value of the macro of this one byte: `@`, `<`, `*` or `?`, and `^` or `+` where they are dynamic macros
+-- the value of the macro of this one byte: `@`, `<`, `*` or `?`, and `^`, `+` or `|` where they are dynamic macros
 abbrev pub whole_value : RecipeNames → ℕ → Option (List ℕ)
 whole_value names sign =
     if sign == 64 then Some names.target.now
@@ -20,7 +20,8 @@ whole_value names sign =
     else (if sign == 63 then Some (join_with_byte 32 (map (λ name. name.now) names.newer.now))
     else (if sign == 94 then option_map (join_with_byte 32) (words_in names.once)
     else (if sign == 43 then option_map (join_with_byte 32) (words_in names.repeated)
-    else None)))))
+    else (if sign == 124 then option_map (join_with_byte 32) (words_in names.order_only)
+    else None))))))
 
 -- the value of `sign part`, where part is D for the directories of the words and F for their files
 abbrev pub part_value : RecipeNames → (sign part : ℕ) → Option (List ℕ)

@@ -1,4 +1,4 @@
-// The dynamic macros of a recipe line: `$@`, `$<`, `$*`, `$?`, `$^`, `$+`, and their D and F parts.
+// The dynamic macros of a recipe line: `$@`, `$<`, `$*`, `$?`, `$^`, `$+`, `$|`, and their D and F parts.
 ghost use Rattle.std.specs.Prelude.{◌≡◌, ◌≤◌, ◌<◌, [], ◌∷◌, ◌++◌, length, map, option_map, IfOk, IfErr, IfSome};
 ghost use Rattle.std.specs.List.{join_with_byte};
 ghost use Rattle.mk_macros.specs.Words.{changed_words};
@@ -19,9 +19,10 @@ pub struct RecipeNames<'a> {
     pub stem: &'a [u8],
     /// The words of `$?`.
     pub newer: &'a [&'a [u8]],
-    /// The words of `$^`, and those of `$+`; None where it is no dynamic macro.
+    /// The words of `$^`, those of `$+`, and those of `$|`; None where it is no dynamic macro.
     pub once: Option<&'a [&'a [u8]]>,
     pub repeated: Option<&'a [&'a [u8]]>,
+    pub order_only: Option<&'a [&'a [u8]]>,
 }
 
 /// The line whose text is expanded.
@@ -67,6 +68,7 @@ impl<'a> RecipeNames<'a> {
             b'?' => Ok(Some(joined(alloc, self.newer)?)),
             b'^' => joined_in(alloc, self.once),
             b'+' => joined_in(alloc, self.repeated),
+            b'|' => joined_in(alloc, self.order_only),
             _ => Ok(None),
         }
     }

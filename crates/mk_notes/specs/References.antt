@@ -31,9 +31,9 @@ word_before (b ∷ word) rest = if begins_with_blank rest then Some (b ∷ word)
 abbrev pub word_at : List ℕ → Option (List ℕ)
 word_at text = word_before (take (prefix_len is_letter text) text) (drop (prefix_len is_letter text) text)
 
--- the automatic macro is empty: `$|` of GNU make is so, and in the strict profile `$^` and `$+`
+-- the automatic macro is empty: in the strict profile `$^`, `$+` and `$|` of GNU make are
 abbrev pub is_automatic : Profile → ℕ → Bool
-is_automatic profile b = b == 124 || (not (is_wide profile) && (b == 94 || b == 43))
+is_automatic profile b = not (is_wide profile) && (b == 94 || (b == 43 || b == 124))
 
 abbrev pub called_within : (closing : Option ℕ) (after : List ℕ) → Option (List ℕ)
 called_within None after = None

@@ -72,7 +72,7 @@ fn called(byte: u8, after: &[u8]) -> Option<&[u8]>
 pub(crate) fn is_automatic(profile: Profile, byte: u8) -> bool
     ensures { result ≡ is_automatic profile byte }
 {
-    byte == b'|' || (!profile.is_wide() && (byte == b'^' || byte == b'+'))
+    !profile.is_wide() && (byte == b'^' || byte == b'+' || byte == b'|')
 }
 
 /// What is to be noted of the reference that a byte begins behind a dollar, with what follows it.

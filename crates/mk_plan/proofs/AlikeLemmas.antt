@@ -3,14 +3,13 @@ use mathlib.Core.Path.{fun_ext}
 use Rattle.std.specs.Prelude.{IsTrue, ◌&&◌, if◌then◌else◌, codes, encode_utf8_all}
 use Rattle.std.specs.List.{Any}
 use Rattle.std.specs.Option.{option_map_or}
-use Rattle.std.proofs.Common.{◌≡◌, ◌∙◌, ◌⊎◌, ℕ, ℤ, Bool, true, false, not, List, [], ◌∷◌, ◌++◌, map, Option, Some, None, refl, sym, ap, subst}
+use Rattle.std.proofs.Common.{◌≡◌, ◌∙◌, ◌⊎◌, ℕ, ℤ, Bool, true, false, not, cond, List, [], ◌∷◌, ◌++◌, map, filter, Option, Some, None, refl, sym, ap, subst}
 use Rattle.bstr.specs.Utf8.{lossy_chars}
 use Rattle.mk_graph.specs.Edges.{row}
-use Rattle.mk_graph.specs.Numbering.{all_added, name_at}
+use Rattle.mk_graph.specs.Numbering.{all_added, name_at, has_name}
 use Rattle.mk_macros.specs.Ranks.{Defined, defined_by, meanings_of}
 use Rattle.mk_macros.specs.declared.dynamic.Dynamic.TheVariants as dynamic
 use Rattle.mk_macros.specs.declared.dynamic.RecipeNames.{RecipeNames}
-use Rattle.mk_reader.specs.declared.item.RecipeLine.{RecipeLine}
 use Rattle.mk_recipe.specs.declared.line.Line.{Line}
 use Rattle.mk_verdict.specs.Verdict.{IsLater, IsFirstReason, IsOutOfDate}
 use Rattle.mk_verdict.specs.declared.verdict.Reason.{Reason}
@@ -18,19 +17,21 @@ use Rattle.mk_verdict.specs.declared.verdict.Target.{Target}
 use Rattle.mk_profile.specs.Profile.{is_wide}
 use Rattle.mk_profile.specs.declared.profile.Profile.{Profile}
 use Rattle.mk_reader.specs.Text.{is_empty}
-use Rattle.mk_rule_lines.specs.Explicit.{explicit_of as explicit_names}
-use Rattle.mk_rule_lines.specs.Rules.{suffixes_of}
+use Rattle.mk_rule_lines.specs.Explicit.{names_in, explicit_of as explicit_names}
+use Rattle.mk_rule_lines.specs.Rules.{suffixes_of, is_default_rule}
 use Rattle.mk_rule_lines.specs.declared.rule_line.RuleLine.{RuleLine}
 use Rattle.mk_rules.specs.Prerequisites.{distinct, hidden_in}
 use Rattle.mk_rules.specs.declared.graph.Graph.{Graph}
 use Rattle.st_records.specs.declared.record.Entry.{Entry}
-use Rattle.mk_plan.specs.ExplicitWords.{language_of, once_of, first_of, is_implicit, recipe_names, source_word, stem_left, stem_word}
-use Rattle.mk_plan.specs.Nodes.{stamp_of, entry_of, hidden_of, stem_of, source_of, explicit_of, recipe_of, is_marked, IsNewer, AreNewer, nothing, named, left_out, EndsRemade}
-use Rattle.mk_plan.specs.Recipe.{AreExpanded, AreNames, AreLinesOf}
+use Rattle.mk_plan.specs.ExplicitWords.{once_of, first_of, is_implicit, source_word, stem_left, stem_word}
+use Rattle.mk_plan.specs.Nodes.{stamp_of, made_of, entry_of, hidden_of, stem_of, source_of, explicit_of, is_marked, IsNewer, AreNewer, nothing, named, left_out, EndsRemade}
+use Rattle.mk_plan.specs.PartWords.{once_in, written_in, row_in}
+use Rattle.mk_plan.specs.Parts.{language_of, is_part, recipe_of}
+use Rattle.mk_plan.specs.Recipe.{AreExpanded, AreNames, AreLinesIn, AreLinesOf}
 use Rattle.mk_plan.specs.Target.{Seen, seen_at, seen_hard, seen_of, IsTargetOf}
 use Rattle.mk_plan.specs.Passage.{Passage, to_make, finished, commands_of}
 use Rattle.mk_plan.specs.Passing.{Passes, is_to_be_run, is_up_to_date, has_no_recipe, is_left}
-use Rattle.mk_plan.specs.Words.{in_wide, implied_names, written_of}
+use Rattle.mk_plan.specs.Words.{in_wide, implied_names, written_of, order_only_words}
 use Rattle.mk_plan.specs.Why.{IsWhy, judged_names, words_by, gone_number}
 use Rattle.mk_plan.specs.declared.why.Why.{Why}
 
@@ -39,15 +40,16 @@ pub record AreAlike (a b : Graph) : Type 0 where
   pub names : a.names ≡ b.names
   pub hard : a.hard ≡ b.hard
   pub stamp : (n : ℕ) → stamp_of a n ≡ stamp_of b n
+  pub made : (n : ℕ) → made_of a n ≡ made_of b n
   pub entry : (n : ℕ) → entry_of a n ≡ entry_of b n
   pub hidden : (n : ℕ) → hidden_of a n ≡ hidden_of b n
   pub stem : (n : ℕ) → stem_of a n ≡ stem_of b n
   pub source : (n : ℕ) → source_of a n ≡ source_of b n
   pub explicit : (n : ℕ) → explicit_of a n ≡ explicit_of b n
   pub sources : (n : ℕ) → implied_names a n ≡ implied_names b n
+  pub order_only : (n : ℕ) → order_only_words a n ≡ order_only_words b n
   pub implicit : (n : ℕ) → is_implicit a n ≡ is_implicit b n
   pub recipe : (n : ℕ) → recipe_of a n ≡ recipe_of b n
-  pub beside : (n : ℕ) → recipe_names a n ≡ recipe_names b n
   pub lines : a.lines.items ≡ b.lines.items
   pub dropped : a.soft_dropped ≡ b.soft_dropped
   pub defined : defined_by a.macros ≡ defined_by b.macros
@@ -57,15 +59,16 @@ turned a b same = record {
   names = sym same.names;
   hard = sym same.hard;
   stamp = λ n. sym (same.stamp n);
+  made = λ n. sym (same.made n);
   entry = λ n. sym (same.entry n);
   hidden = λ n. sym (same.hidden n);
   stem = λ n. sym (same.stem n);
   source = λ n. sym (same.source n);
   explicit = λ n. sym (same.explicit n);
   sources = λ n. sym (same.sources n);
+  order_only = λ n. sym (same.order_only n);
   implicit = λ n. sym (same.implicit n);
   recipe = λ n. sym (same.recipe n);
-  beside = λ n. sym (same.beside n);
   lines = sym same.lines;
   dropped = sym same.dropped;
   defined = sym same.defined;
@@ -78,7 +81,7 @@ IsNewerBy marks m stamp target = (target ≡ None) ⊎ (IsLater stamp target ⊎
 
 newer_in : (a b : Graph) → AreAlike a b → (marks : List Bool) (n m : ℕ) → IsNewer a marks n m → IsNewer b marks n m
 newer_in a b same marks n m is =
-    subst (λ t. IsNewerBy marks m (stamp_of b m) t) (same.stamp n) (subst (λ s. IsNewerBy marks m s (stamp_of a n)) (same.stamp m) is)
+    subst (λ t. IsNewerBy marks m (stamp_of b m) t) (same.made n) (subst (λ s. IsNewerBy marks m s (made_of a n)) (same.stamp m) is)
 
 words_in : (a b : Graph) → AreAlike a b → (marks : List Bool) (n : ℕ) (ms : List ℕ) (words : List (List ℕ)) →
     AreNewer a marks n ms words → AreNewer b marks n ms words
@@ -99,11 +102,11 @@ ends_in a b same marks n ends =
 -- ---- lines and targets
 
 module _ (a b : Graph) (same : AreAlike a b) (marks : List Bool) (n : ℕ) where
-  once_in : once_of a n ≡ once_of b n
-  once_in = ap (λ ns. map (name_at ns) (row a.hard n)) same.names ∙ ap (λ h. map (name_at b.names) (row h n)) same.hard
+  same_once : once_of a n ≡ once_of b n
+  same_once = ap (λ ns. map (name_at ns) (row a.hard n)) same.names ∙ ap (λ h. map (name_at b.names) (row h n)) same.hard
 
-  written_in : written_of a n ≡ written_of b n
-  written_in =
+  same_written : written_of a n ≡ written_of b n
+  same_written =
       ap (λ s. s ++ explicit_names a.lines.items (name_at a.names n)) (same.sources n)
       ∙ ap (λ lines. implied_names b n ++ explicit_names lines (name_at a.names n)) same.lines
       ∙ ap (λ ns. implied_names b n ++ explicit_names b.lines.items (name_at ns n)) same.names
@@ -111,17 +114,49 @@ module _ (a b : Graph) (same : AreAlike a b) (marks : List Bool) (n : ℕ) where
   wide_in : {A : Type 0} (v w : A) → v ≡ w → in_wide (language_of a) v ≡ in_wide (language_of b) w
   wide_in v w e = ap (λ (d : Defined). in_wide d.language v) same.defined ∙ ap (in_wide (language_of b)) e
 
-  -- what `$<` and `$*` stand for is the same choice of the same values
-  abbrev source_from : Profile → (sources beside once : List (List ℕ)) (source : List ℕ) → List ℕ
-  source_from profile sources beside once source = if is_wide profile && is_empty sources then first_of (beside ++ once) else source
+  -- what a line speaks of is the same choice of the same prerequisites
+  module _ (l : RuleLine) where
+    abbrev chosen : {A : Type 0} → (own whole : A) → Profile → A
+    chosen own whole profile = if is_part profile l then own else whole
 
-  source_alike : source_word a n ≡ source_word b n
-  source_alike =
-      ap (λ (d : Defined). source_from d.language (implied_names a n) (recipe_names a n) (once_of a n) (source_of a n)) same.defined
-      ∙ ap (λ ns. source_from (language_of b) ns (recipe_names a n) (once_of a n) (source_of a n)) (same.sources n)
-      ∙ ap (λ ns. source_from (language_of b) (implied_names b n) ns (once_of a n) (source_of a n)) (same.beside n)
-      ∙ ap (λ ns. source_from (language_of b) (implied_names b n) (recipe_names b n) ns (source_of a n)) once_in
-      ∙ ap (source_from (language_of b) (implied_names b n) (recipe_names b n) (once_of b n)) (same.source n)
+    once_alike : once_in a n l ≡ once_in b n l
+    once_alike =
+        ap (λ (d : Defined). chosen (distinct (names_in l)) (once_of a n) d.language) same.defined
+        ∙ ap (λ ns. chosen (distinct (names_in l)) ns (language_of b)) same_once
+
+    written_alike : written_in a n l ≡ written_in b n l
+    written_alike =
+        ap (λ (d : Defined). chosen (names_in l) (written_of a n) d.language) same.defined
+        ∙ ap (λ ns. chosen (names_in l) ns (language_of b)) same_written
+
+    abbrev among : (names : List (List ℕ)) (hard : List (List ℕ)) → List ℕ
+    among names hard = filter (λ m. has_name (distinct (names_in l)) (name_at names m)) (row hard n)
+
+    row_alike : row_in a n l ≡ row_in b n l
+    row_alike =
+        ap (λ (d : Defined). chosen (among a.names a.hard) (row a.hard n) d.language) same.defined
+        ∙ ap (λ ns. chosen (among ns a.hard) (row a.hard n) (language_of b)) same.names
+        ∙ ap (λ h. chosen (among b.names h) (row h n) (language_of b)) same.hard
+
+    -- what `$<` and `$*` stand for is the same choice of the same values
+    abbrev source_from : Profile → (sources once : List (List ℕ)) (source : List ℕ) → List ℕ
+    source_from profile sources once source =
+        if is_wide profile && is_empty sources then first_of (chosen (names_in l) (names_in l ++ once) profile) else source
+
+    abbrev source_of_rule : Graph → List ℕ
+    source_of_rule graph = source_from (language_of graph) (implied_names graph n) (once_of graph n) (source_of graph n)
+
+    rule_alike : source_of_rule a ≡ source_of_rule b
+    rule_alike =
+        ap (λ (d : Defined). source_from d.language (implied_names a n) (once_of a n) (source_of a n)) same.defined
+        ∙ ap (λ ns. source_from (language_of b) ns (once_of a n) (source_of a n)) (same.sources n)
+        ∙ ap (λ ns. source_from (language_of b) (implied_names b n) ns (source_of a n)) same_once
+        ∙ ap (source_from (language_of b) (implied_names b n) (once_of b n)) (same.source n)
+
+    source_alike : source_word a n l ≡ source_word b n l
+    source_alike =
+        ap (λ ns. cond (is_default_rule l.special) (name_at ns n) (source_of_rule a)) same.names
+        ∙ ap (cond (is_default_rule l.special) (name_at b.names n)) rule_alike
 
   abbrev stem_from : Profile → (implicit : Bool) (lines : List RuleLine) (name stem : List ℕ) → List ℕ
   stem_from profile implicit lines name stem = if is_wide profile && not implicit then stem_left (suffixes_of lines) name else stem
@@ -134,22 +169,28 @@ module _ (a b : Graph) (same : AreAlike a b) (marks : List Bool) (n : ℕ) where
       ∙ ap (λ ns. stem_from (language_of b) (is_implicit b n) b.lines.items (name_at ns n) (stem_of a n)) same.names
       ∙ ap (stem_from (language_of b) (is_implicit b n) b.lines.items (name_at b.names n)) (same.stem n)
 
-  names_in : (names : RecipeNames) → AreNames a marks n names → AreNames b marks n names
-  names_in names are = record {
+  names_alike : (l : RuleLine) (names : RecipeNames) → AreNames a marks n l names → AreNames b marks n l names
+  names_alike l names are = record {
     target = are.target ∙ ap (λ ns. name_at ns n) same.names;
-    source = are.source ∙ source_alike;
+    source = are.source ∙ source_alike l;
     stem = are.stem ∙ stem_alike;
-    newer = subst (λ h. AreNewer b marks n (row h n) (map (λ word. word.now) names.newer.now)) same.hard (words_in a b same marks n _ _ are.newer);
-    once = are.once ∙ wide_in (once_of a n) (once_of b n) once_in;
-    repeated = are.repeated ∙ wide_in (written_of a n) (written_of b n) written_in;
+    newer =
+        subst (λ ms. AreNewer b marks n ms (map (λ word. word.now) names.newer.now)) (row_alike l) (words_in a b same marks n _ _ are.newer);
+    once = are.once ∙ wide_in (once_in a n l) (once_in b n l) (once_alike l);
+    repeated = are.repeated ∙ wide_in (written_in a n l) (written_in b n l) (written_alike l);
+    order_only = are.order_only ∙ wide_in (order_only_words a n) (order_only_words b n) (same.order_only n);
   }
 
-  lines_in : (recipe : List RecipeLine) (lines : List Line) → AreLinesOf a marks n recipe lines → AreLinesOf b marks n recipe lines
-  lines_in recipe lines are = record {
+  part_in : (l : RuleLine) (lines : List Line) → AreLinesIn a marks n l lines → AreLinesIn b marks n l lines
+  part_in l lines are = record {
     names = are.names;
-    are_names = names_in are.names are.are_names;
-    expanded = subst (λ r. AreExpanded (meanings_of r (dynamic.RecipeLine are.names)) recipe lines) same.defined are.expanded;
+    are_names = names_alike l are.names are.are_names;
+    expanded = subst (λ r. AreExpanded (meanings_of r (dynamic.RecipeLine are.names)) l.recipe lines) same.defined are.expanded;
   }
+
+  lines_in : (recipe : List RuleLine) (lines : List Line) → AreLinesOf a marks n recipe lines → AreLinesOf b marks n recipe lines
+  lines_in [] lines are = are
+  lines_in (l ∷ parts) lines (own, rest, of_line, more, is) = (own, rest, part_in l own of_line, lines_in parts rest more, is)
 
   abbrev seen_by : (is_hidden : Bool) (m : ℕ) (name : List ℕ) (stamp : Option ℤ) → Seen
   seen_by is_hidden m name stamp =
@@ -171,7 +212,7 @@ module _ (a b : Graph) (same : AreAlike a b) (marks : List Bool) (n : ℕ) where
   target_in lines target is = record {
     commands = is.commands;
     explicit = is.explicit ∙ same.explicit n;
-    stamp = is.stamp ∙ same.stamp n;
+    stamp = is.stamp ∙ same.made n;
     prerequisites = is.prerequisites ∙ seen_in;
     ordered = is.ordered ∙ ap not same.dropped;
   }

@@ -1,20 +1,26 @@
 -- The node of a name has what is known of the name.
 use Rattle.std.specs.Prelude.{◌++◌, slice_get, option_map, option_and_then, option_to_list, is_some, unwrap_or}
 use Rattle.std.specs.Option.{option_map_or}
-use Rattle.std.proofs.Common.{◌≡◌, ◌∙◌, ◌<◌, ℕ, List, [], length, map, take, Option, Some, None, inl, inr, refl, sym, ap, arith}
-use Rattle.std.proofs.lemmas.List.{take-map}
+use Rattle.std.proofs.Common.{◌≡◌, ◌∙◌, ◌<◌, ℕ, false, List, [], drop, length, map, take, Option, Some, None, inl, inr, refl, sym, ap, arith}
+use Rattle.std.proofs.lemmas.List.{take-map, drop-map, length-map}
 use Rattle.std.proofs.lemmas.Option.{slice_get_cases}
 use Rattle.mk_graph.specs.Edges.{row}
 use Rattle.mk_graph.specs.Numbering.{all_added, name_at}
-use Rattle.mk_rule_lines.specs.Explicit.{names_in, explicit_of as names_written}
-use Rattle.mk_rules.specs.Graph.{IsNode, IsGraph, judged}
+use Rattle.mk_rule_lines.specs.Explicit.{explicit_of as names_written}
+use Rattle.mk_rule_lines.specs.declared.rule_line.RuleLine.{RuleLine}
+use Rattle.mk_rule_lines.specs.Rules.{is_default_rule}
+use Rattle.mk_rules.specs.Graph.{IsNode, IsGraph, judged, required_in}
 use Rattle.mk_rules.specs.Node.{source_by, source_in, explicit_in, implied_in}
-use Rattle.mk_rules.specs.Prerequisites.{Inputs, implicit_source, made_from, recipe_of as rule_of, hard_of, hidden_in, distinct}
+use Rattle.mk_rules.specs.Prerequisites.{Inputs, implicit_source, made_from, recipe_of as rule_of, hard_of, hidden_in, distinct, required_of}
 use Rattle.mk_rules.specs.declared.graph.Node.{Node}
 use Rattle.mk_rules.specs.declared.graph.Graph.{Graph}
 use Rattle.mk_plan.specs.Known.{IsNodeOf}
 use Rattle.st_records.specs.declared.record.Entry.{Entry}
-use Rattle.mk_plan.specs.Nodes.{entry_of}
+use Rattle.mk_plan.specs.Nodes.{made_in, entry_of}
+use Rattle.mk_plan.specs.Parts.{language_of, parts_of}
+use Rattle.mk_rules.specs.Groups.{group_of}
+use Rattle.mk_rules.specs.declared.group.Group.{Group}
+use Rattle.std.specs.Global.{Box}
 use Rattle.mk_plan.specs.Words.{implied_names}
 use Rattle.mk_graph.proofs.NameLemmas.{all_added-append}
 use Rattle.mk_rules.proofs.FreshLemmas.{front_added}
@@ -27,7 +33,15 @@ some_map : {A B : Type 0} (f : A → B) (o : Option A) → is_some (option_map f
 some_map f None = refl
 some_map f (Some x) = refl
 
+-- what is said of a box is said of what it holds
+unboxed : {V : Type 0} (of : Group → V) (o : Option (Box Group)) (v : V) → option_map_or (λ b. of b.value) o v ≡ option_map_or of (option_map (λ b. b.value) o) v
+unboxed of None v = refl
+unboxed of (Some b) v = refl
+
 module _ (inputs : Inputs) (named : List (List ℕ)) (graph : Graph) (is : IsGraph inputs named graph) (n : ℕ) (within : n < length graph.nodes.items) where
+  abbrev parts_at : List RuleLine → Option ℕ → Option (List RuleLine)
+  parts_at lines number = option_map (parts_of (language_of graph) lines (name_at graph.names n)) (option_and_then (slice_get lines) number)
+
   of_node : (node : Node) → slice_get graph.nodes.items n ≡ Some node → IsNodeOf inputs graph n (name_at graph.names n)
   of_node node at =
       let name : List ℕ = name_at graph.names n in
@@ -43,6 +57,14 @@ module _ (inputs : Inputs) (named : List (List ℕ)) (graph : Graph) (is : IsGra
       let entry_is : entry_of graph n ≡ inputs.entries name = ap (λ (f : List ℕ → Option Entry). f name) is.entries in
       record {
         stamp = ap (option_and_then (λ (m : Node). m.stamp)) at ∙ known.stamp;
+        made =
+            ap (option_and_then made_in) at ∙ unboxed (λ (g : Group). g.made) node.group node.stamp
+            ∙ ap (λ (g : Option Group). option_map_or (λ (m : Group). m.made) g node.stamp) known.group
+            ∙ ap (option_map_or (λ (m : Group). m.made) (group_of inputs name)) known.stamp;
+        made_too =
+            ap (λ o. option_map_or (λ (g : Box Group). g.value.others) (option_and_then (λ (m : Node). m.group) o) []) at
+            ∙ unboxed (λ (g : Group). g.others) node.group []
+            ∙ ap (λ (g : Option Group). option_map_or (λ (m : Group). m.others) g []) known.group;
         entry = entry_is;
         stem =
             ap (λ o. unwrap_or (option_and_then (λ (m : Node). m.stem) o) []) at ∙ ap (λ o. unwrap_or o []) known.stem
@@ -50,17 +72,13 @@ module _ (inputs : Inputs) (named : List (List ℕ)) (graph : Graph) (is : IsGra
         implicit =
             ap (λ o. is_some (option_and_then (λ (m : Node). m.stem) o)) at ∙ ap is_some known.stem
             ∙ some_map (λ s. s.stem) (implicit_source inputs name);
-        beside =
-            ap (λ o. option_map_or names_in (option_and_then (slice_get graph.lines.items) (option_and_then (λ (m : Node). m.recipe) o)) []) at
-            ∙ ap (λ o. option_map_or names_in (option_and_then (slice_get graph.lines.items) o) []) known.recipe
-            ∙ ap (λ lines. option_map_or names_in (option_and_then (slice_get lines) (rule_of inputs name)) []) is.lines;
         source =
             ap (λ o. option_map_or (name_at graph.names) (source_in o hard) []) at
             ∙ sym (or_map (name_at graph.names) (source_by node.implied hard) []) ∙ ap (λ o. unwrap_or o []) known.source;
         recipe =
-            ap (λ o. option_map (λ l. l.recipe) (option_and_then (slice_get graph.lines.items) (option_and_then (λ (m : Node). m.recipe) o))) at
-            ∙ ap (λ o. option_map (λ l. l.recipe) (option_and_then (slice_get graph.lines.items) o)) known.recipe
-            ∙ ap (λ lines. option_map (λ l. l.recipe) (option_and_then (slice_get lines) (rule_of inputs name))) is.lines;
+            ap (λ o. parts_at graph.lines.items (option_and_then (λ (m : Node). m.recipe) o)) at
+            ∙ ap (parts_at graph.lines.items) known.recipe
+            ∙ ap (λ lines. parts_at lines (rule_of inputs name)) is.lines;
         hard = hard_is;
         names =
             ap (λ hs. all_added (distinct hs) (hidden_in (entry_of graph n))) hard_is
@@ -70,6 +88,11 @@ module _ (inputs : Inputs) (named : List (List ℕ)) (graph : Graph) (is : IsGra
         written =
             ap (λ s. s ++ names_written graph.lines.items name) implied_are
             ∙ ap (λ lines. distinct made ++ names_written lines name) is.lines;
+        order_only =
+            let required : List ℕ = row (required_in graph) n in
+            sym (drop-map (name_at graph.names) (length hard) required)
+            ∙ ap (drop (length hard)) (is.required.rows n (omega (arith, is.nodes)))
+            ∙ ap (λ k. drop k (required_of inputs name)) (sym (length-map hard (name_at graph.names)) ∙ ap length hard_is);
         prerequisites =
             ap (λ o. map (option_map (name_at graph.names)) (judged hard (option_map_or (λ (m : Node). m.hidden.items) o []))) at
             ∙ known.prerequisites;

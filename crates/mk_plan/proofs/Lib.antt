@@ -1,6 +1,7 @@
 pub mod KnownLemmas
 pub mod NodeLemmas
 pub mod RecipeLemmas
+pub mod PartLemmas
 pub mod PassingLemmas
 pub mod SameLemmas
 pub mod AlikeLemmas

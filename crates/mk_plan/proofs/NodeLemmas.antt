@@ -11,7 +11,7 @@ use Rattle.mk_graph.specs.Numbering.{name_at}
 use Rattle.mk_verdict.specs.Tests.{is_later}
 use Rattle.mk_verdict.specs.Verdict.{IsLater}
 use Rattle.mk_rules.specs.declared.graph.Graph.{Graph}
-use Rattle.mk_plan.specs.Nodes.{stamp_of, is_marked, IsNewer, AreNewer, nothing, named, left_out, EndsRemade}
+use Rattle.mk_plan.specs.Nodes.{stamp_of, made_of, is_marked, IsNewer, AreNewer, nothing, named, left_out, EndsRemade}
 use Rattle.mk_plan.specs.Tests.{is_newer_word, newer_words, ends_remade}
 
 -- ---- times
@@ -47,8 +47,8 @@ module _ (graph : Graph) (marks : List Bool) (n : ℕ) where
 
   newer_decides : (m : ℕ) → Decides (is_newer_word graph marks n m) (IsNewer graph marks n m)
   newer_decides m =
-      Decides-or (is_none (stamp_of graph n)) (is_later (stamp_of graph m) (stamp_of graph n) || is_marked marks m) (absent_decides (stamp_of graph n))
-      (Decides-or (is_later (stamp_of graph m) (stamp_of graph n)) (is_marked marks m) (later_decides (stamp_of graph m) (stamp_of graph n)) ((λ e. e), λ e. e))
+      Decides-or (is_none (made_of graph n)) (is_later (stamp_of graph m) (made_of graph n) || is_marked marks m) (absent_decides (made_of graph n))
+      (Decides-or (is_later (stamp_of graph m) (made_of graph n)) (is_marked marks m) (later_decides (stamp_of graph m) (made_of graph n)) ((λ e. e), λ e. e))
 
   newer_one : (m : ℕ) (ms : List ℕ) (b : Bool) → is_newer_word graph marks n m ≡ b →
       AreNewer graph marks n ms (map (name_at graph.names) (filter (is_newer_word graph marks n) ms)) →
@@ -57,7 +57,7 @@ module _ (graph : Graph) (marks : List Bool) (n : ℕ) where
   newer_one m ms true e rest = named m ((newer_decides m).0 e) rest
   newer_one m ms false e rest = left_out m (λ is. let both : false ≡ true = sym e ∙ (newer_decides m).1 is in cc) rest
 
-  newer_by : (ms : List ℕ) → AreNewer graph marks n ms (map (name_at graph.names) (filter (is_newer_word graph marks n) ms))
+  pub newer_by : (ms : List ℕ) → AreNewer graph marks n ms (map (name_at graph.names) (filter (is_newer_word graph marks n) ms))
   newer_by [] = nothing
   newer_by (m ∷ ms) = newer_one m ms (is_newer_word graph marks n m) refl (newer_by ms)
 

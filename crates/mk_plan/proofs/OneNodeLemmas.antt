@@ -3,7 +3,7 @@ use Rattle.std.specs.Prelude.{slice_get, option_map, is_some, option_and_then, o
 use Rattle.std.specs.List.{list_all}
 use Rattle.std.specs.Option.{option_map_or}
 use Rattle.std.specs.FinMap as finmap
-use Rattle.std.proofs.Common.{◌≡◌, ◌∙◌, ◌<◌, ◌≤◌, ℕ, true, false, ◌&&◌, nat_lt, List, [], ◌∷◌, ◌++◌, length, map, drop, Option, Some, None, inl, inr, refl, sym, ap, subst, ⊎_elim, arith}
+use Rattle.std.proofs.Common.{◌≡◌, ◌∙◌, ◌<◌, ◌≤◌, ℕ, zero, suc, true, false, ◌&&◌, nat_lt, List, [], ◌∷◌, ◌++◌, length, map, drop, Option, Some, None, inl, inr, refl, sym, ap, subst, ⊎_elim, arith}
 use Rattle.std.proofs.lemmas.Bool.{and_from, cases_lt}
 use Rattle.std.proofs.lemmas.List.{get_or_past}
 use Rattle.std.proofs.lemmas.List.Folds.{list_all-append}
@@ -11,18 +11,22 @@ use Rattle.std.proofs.lemmas.Option.{slice_get_cases}
 use Rattle.mk_graph.specs.Edges.{row}
 use Rattle.mk_graph.specs.Numbering.{name_at}
 use Rattle.mk_graph.proofs.CycleLemmas.{closed_row}
-use Rattle.mk_macros.specs.Ranks.{defined_by}
-use Rattle.mk_rule_lines.specs.Explicit.{names_in}
-use Rattle.mk_rules.specs.Graph.{IsGraph, is_numbered, judged, judged_name}
+use Rattle.mk_macros.specs.Ranks.{defined_by, Defined}
+use Rattle.mk_profile.specs.declared.profile.Profile.{Profile}
+use Rattle.mk_rule_lines.specs.declared.rule_line.RuleLine.{RuleLine}
+use Rattle.mk_rule_lines.specs.Rules.{is_default_rule}
+use Rattle.mk_rules.specs.Graph.{IsGraph, is_numbered, judged, judged_name, required_in}
 use Rattle.mk_rules.specs.Node.{source_in, explicit_in, implied_in}
-use Rattle.mk_rules.specs.Prerequisites.{Inputs, hard_of, judged_of, distinct, implicit_source, made_from, source_name, recipe_of as rule_of, explicit_names}
+use Rattle.mk_rules.specs.Groups.{made_time}
+use Rattle.mk_rules.specs.Prerequisites.{Inputs, hard_of, judged_of, distinct, implicit_source, made_from, source_name, recipe_of as rule_of, explicit_names, required_of}
 use Rattle.mk_rules.specs.declared.graph.Node.{Node}
 use Rattle.mk_rules.specs.declared.graph.Graph.{Graph}
 use Rattle.mk_rules.proofs.OneGraphLemmas.{one_names, one_count, one_hard, one_dropped, same_hidden}
-use Rattle.mk_plan.specs.Nodes.{node_at, stamp_of, hidden_of, stem_of, source_of, explicit_of, recipe_of}
-use Rattle.mk_plan.specs.ExplicitWords.{is_implicit, recipe_names}
+use Rattle.mk_plan.specs.Nodes.{node_at, stamp_of, made_in, made_of, hidden_of, stem_of, source_of, explicit_of}
+use Rattle.mk_plan.specs.ExplicitWords.{is_implicit}
 use Rattle.mk_plan.specs.Known.{IsNodeOf}
-use Rattle.mk_plan.specs.Words.{implied_names}
+use Rattle.mk_plan.specs.Parts.{language_of, parts_of, recipe_of}
+use Rattle.mk_plan.specs.Words.{implied_names, order_only_words}
 use Rattle.mk_plan.proofs.KnownLemmas.{node_of_name}
 use Rattle.mk_plan.proofs.AlikeLemmas.{AreAlike}
 use Rattle.st_records.specs.declared.record.Entry.{Entry}
@@ -43,6 +47,9 @@ module _ (graph : Graph) (n : ℕ) (past : length graph.nodes.items ≤ n) where
   no_stamp : stamp_of graph n ≡ None
   no_stamp = ap (option_and_then (λ (node : Node). node.stamp)) none
 
+  no_made : made_of graph n ≡ None
+  no_made = ap (option_and_then made_in) none
+
   no_hidden : hidden_of graph n ≡ []
   no_hidden = ap (λ o. option_map_or (λ (node : Node). node.hidden.items) o []) none
 
@@ -51,9 +58,6 @@ module _ (graph : Graph) (n : ℕ) (past : length graph.nodes.items ≤ n) where
 
   not_implicit : is_implicit graph n ≡ false
   not_implicit = ap (λ o. is_some (option_and_then (λ (node : Node). node.stem) o)) none
-
-  none_beside : recipe_names graph n ≡ []
-  none_beside = ap (λ o. option_map_or names_in (option_and_then (slice_get graph.lines.items) (option_and_then (λ (node : Node). node.recipe) o)) []) none
 
   no_source : source_of graph n ≡ []
   no_source = ap (λ o. option_map_or (name_at graph.names) (source_in o (row graph.hard n)) []) none
@@ -66,8 +70,19 @@ module _ (graph : Graph) (n : ℕ) (past : length graph.nodes.items ≤ n) where
   none_implied : implied_names graph n ≡ []
   none_implied = ap (λ o. map (name_at graph.names) (implied_in o (row graph.hard n))) none
 
+  none_order_only : order_only_words graph n ≡ []
+  none_order_only =
+      ap (λ ms. map (name_at graph.names) (drop (length (row graph.hard n)) ms)) (get_or_past (required_in graph) n [] (omega (arith, graph.required_rows)))
+      ∙ none_behind (length (row graph.hard n))
+    where
+      none_behind : (k : ℕ) → map (name_at graph.names) (drop k []) ≡ []
+      none_behind zero = refl
+      none_behind (suc k) = refl
+
   no_recipe : recipe_of graph n ≡ None
-  no_recipe = ap (λ o. option_map (λ l. l.recipe) (option_and_then (slice_get graph.lines.items) (option_and_then (λ (node : Node). node.recipe) o))) none
+  no_recipe =
+      ap (λ o. option_map (parts_of (language_of graph) graph.lines.items (name_at graph.names n))
+      (option_and_then (slice_get graph.lines.items) (option_and_then (λ (node : Node). node.recipe) o))) none
 
 -- ---- hidden prerequisites
 
@@ -151,6 +166,10 @@ module _ (inputs : Inputs) (named : List (List ℕ)) (a b : Graph) (is_a : IsGra
       ⊎_elim (λ (inside : n < length a.nodes.items). hidden_inside n inside)
       (λ (past : length a.nodes.items ≤ n). no_hidden a n past ∙ sym (no_hidden b n (past_b n past))) (cases_lt n (length a.nodes.items))
 
+  abbrev parts_told : (n : ℕ) → Profile → Option (List RuleLine)
+  parts_told n profile =
+      option_map (parts_of profile inputs.lines (name_at a.names n)) (option_and_then (slice_get inputs.lines) (rule_of inputs (name_at a.names n)))
+
   pub one_graph : defined_by a.macros ≡ defined_by b.macros → AreAlike a b
   one_graph same = record {
     names = names;
@@ -158,6 +177,9 @@ module _ (inputs : Inputs) (named : List (List ℕ)) (a b : Graph) (is_a : IsGra
     stamp =
         view_once (length a.nodes.items) (stamp_of a) (stamp_of b) (λ n. inputs.times (name_at a.names n)) None (λ n inside. (known_a n inside).stamp)
         (λ n inside. (known_b n inside).stamp) (no_stamp a) (λ n past. no_stamp b n (past_b n past));
+    made =
+        view_once (length a.nodes.items) (made_of a) (made_of b) (λ n. made_time inputs (name_at a.names n)) None (λ n inside. (known_a n inside).made)
+        (λ n inside. (known_b n inside).made) (no_made a) (λ n past. no_made b n (past_b n past));
     entry = λ n.
         ap (λ (of : List ℕ → Option Entry). of (name_at a.names n)) (is_a.entries ∙ sym is_b.entries)
         ∙ ap (λ (ns : List (List ℕ)). finmap.get b.state (name_at ns n)) names;
@@ -174,18 +196,19 @@ module _ (inputs : Inputs) (named : List (List ℕ)) (a b : Graph) (is_a : IsGra
     sources =
         view_once (length a.nodes.items) (implied_names a) (implied_names b) (λ n. distinct (made_from (implicit_source inputs (name_at a.names n)))) []
         (λ n inside. (known_a n inside).sources) (λ n inside. (known_b n inside).sources) (none_implied a) (λ n past. none_implied b n (past_b n past));
+    order_only =
+        view_once (length a.nodes.items) (order_only_words a) (order_only_words b)
+        (λ n. drop (length (hard_of inputs (name_at a.names n))) (required_of inputs (name_at a.names n))) []
+        (λ n inside. (known_a n inside).order_only) (λ n inside. (known_b n inside).order_only) (none_order_only a) (λ n past. none_order_only b n (past_b n past));
     implicit =
         view_once (length a.nodes.items) (is_implicit a) (is_implicit b) (λ n. is_some (implicit_source inputs (name_at a.names n))) false
         (λ n inside. (known_a n inside).implicit) (λ n inside. (known_b n inside).implicit) (not_implicit a) (λ n past. not_implicit b n (past_b n past));
-    beside =
-        view_once (length a.nodes.items) (recipe_names a) (recipe_names b)
-        (λ n. option_map_or names_in (option_and_then (slice_get inputs.lines) (rule_of inputs (name_at a.names n))) []) []
-        (λ n inside. (known_a n inside).beside) (λ n inside. (known_b n inside).beside) (none_beside a) (λ n past. none_beside b n (past_b n past));
     lines = is_a.lines ∙ sym is_b.lines;
     recipe =
         view_once (length a.nodes.items) (recipe_of a) (recipe_of b)
-        (λ n. option_map (λ l. l.recipe) (option_and_then (slice_get inputs.lines) (rule_of inputs (name_at a.names n)))) None
-        (λ n inside. (known_a n inside).recipe) (λ n inside. (known_b n inside).recipe) (no_recipe a) (λ n past. no_recipe b n (past_b n past));
+        (λ n. parts_told n (language_of a)) None
+        (λ n inside. (known_a n inside).recipe)
+        (λ n inside. subst (λ p. recipe_of b n ≡ parts_told n p) (sym (ap (λ (d : Defined). d.language) same)) (known_b n inside).recipe) (no_recipe a) (λ n past. no_recipe b n (past_b n past));
     dropped = one_dropped inputs named a b is_a is_b;
     defined = same;
   }

@@ -1,16 +1,17 @@
 -- What a verdict says of a node that is passed.
 use Rattle.std.proofs.Common.{◌≡◌, ◌∙◌, ℕ, Bool, true, false, List, [], ◌∷◌, Option, Some, None, Result, Ok, Err, IfOk, sym, subst}
 use Rattle.mk_graph.specs.Numbering.{name_at}
-use Rattle.mk_reader.specs.declared.item.RecipeLine.{RecipeLine}
 use Rattle.mk_recipe.specs.declared.line.Line.{Line}
 use Rattle.mk_verdict.specs.Verdict.{IsVerdict, IsFirstReason, IsOutOfDate}
 use Rattle.mk_verdict.specs.declared.verdict.Target.{Target}
 use Rattle.mk_verdict.specs.declared.verdict.Reason.{Reason}
 use Rattle.mk_verdict.specs.declared.verdict.Verdict.{Verdict}
 use Rattle.mk_verdict.specs.declared.verdict.Verdict.TheVariants.{UpToDate, OutOfDate}
+use Rattle.mk_rule_lines.specs.declared.rule_line.RuleLine.{RuleLine}
 use Rattle.mk_rules.specs.declared.graph.Graph.{Graph}
 use Rattle.st_records.specs.declared.record.Entry.{Entry}
-use Rattle.mk_plan.specs.Nodes.{recipe_of, entry_of}
+use Rattle.mk_plan.specs.Nodes.{entry_of}
+use Rattle.mk_plan.specs.Parts.{recipe_of}
 use Rattle.mk_plan.specs.Passage.{to_make, finished, commands_of}
 use Rattle.mk_plan.specs.Tests.{ends_remade}
 use Rattle.mk_plan.specs.Recipe.{AreLinesOf}
@@ -40,7 +41,7 @@ judged_as keeping graph marks n lines target (Ok why) judged is = (target, (is, 
 judged_as keeping graph marks n lines target (Err e) judged is = tt
 
 -- a node that is judged up to date is passed without being listed. It is judged by a reading of its lines
-pub passed_over : (keeping : Bool) (graph : Graph) (marks : List Bool) (n : ℕ) (recipe : List RecipeLine) (lines read : List Line) (judged : Option Why) →
+pub passed_over : (keeping : Bool) (graph : Graph) (marks : List Bool) (n : ℕ) (recipe : List RuleLine) (lines read : List Line) (judged : Option Why) →
     judged ≡ None → recipe_of graph n ≡ Some recipe → AreLinesOf graph marks n recipe lines → read ≡ lines →
     ((target : Target) × (IsTargetOf graph marks n read target × IsJudgedSo keeping graph n target judged)) →
     Passes keeping graph marks n false (finished (name_at graph.names n) ∷ [])
@@ -49,7 +50,7 @@ passed_over keeping graph marks n recipe lines read judged none has are same (ta
     (subst (IsJudgedSo keeping graph n target) none holds)
 
 -- one that is judged out of date is listed, with the reason
-pub passed_listed : (keeping : Bool) (graph : Graph) (marks : List Bool) (n : ℕ) (recipe : List RecipeLine) (lines read : List Line) (judged : Option Why) (why : Why) →
+pub passed_listed : (keeping : Bool) (graph : Graph) (marks : List Bool) (n : ℕ) (recipe : List RuleLine) (lines read : List Line) (judged : Option Why) (why : Why) →
     judged ≡ Some why → recipe_of graph n ≡ Some recipe → AreLinesOf graph marks n recipe lines → read ≡ lines →
     ((target : Target) × (IsTargetOf graph marks n read target × IsJudgedSo keeping graph n target judged)) →
     Passes keeping graph marks n true (to_make (name_at graph.names n) why (commands_of graph n) lines ∷ [])

@@ -6,7 +6,6 @@ use Rattle.std.specs.Str.{is_utf8}
 use Rattle.std.proofs.Common.{◌≡◌, ◌≢◌, ◌⊎◌, ◌∙◌, ℕ, Bool, true, false, List, [], ◌∷◌, ◌++◌, map, Option, Some, None, refl, sym, ap, subst}
 use Rattle.std.proofs.lemmas.Option.{same_Some, slice_get-map}
 use Rattle.bstr.specs.Utf8.{lossy_chars}
-use Rattle.mk_graph.specs.Edges.{row}
 use Rattle.mk_graph.specs.Numbering.{name_at}
 use Rattle.mk_macros.specs.Words.{to_directory, to_file, changed_words}
 use Rattle.mk_macros.specs.Dynamic.{words_in, whole_value, recipe_value}
@@ -27,10 +26,13 @@ use Rattle.mk_verdict.specs.declared.verdict.Reason.{Reason}
 use Rattle.mk_verdict.specs.declared.verdict.Reason.TheVariants as reason
 use Rattle.mk_verdict.specs.declared.verdict.Verdict.TheVariants.{OutOfDate}
 use Rattle.mk_verdict.proofs.VerdictLemmas.{same_verdict}
+use Rattle.mk_rule_lines.specs.declared.rule_line.RuleLine.{RuleLine}
 use Rattle.mk_rules.specs.declared.graph.Graph.{Graph}
 use Rattle.st_records.specs.declared.record.Entry.{Entry}
-use Rattle.mk_plan.specs.Nodes.{recipe_of, entry_of}
-use Rattle.mk_plan.specs.Recipe.{IsExpandedLine, AreExpanded, AreNames, recipe_meaning, AreLinesOf}
+use Rattle.mk_plan.specs.Nodes.{entry_of}
+use Rattle.mk_plan.specs.PartWords.{row_in}
+use Rattle.mk_plan.specs.Parts.{recipe_of}
+use Rattle.mk_plan.specs.Recipe.{IsExpandedLine, AreExpanded, AreNames, recipe_meaning, AreLinesIn, AreLinesOf}
 use Rattle.mk_plan.specs.Target.{Seen, shown, IsTargetOf}
 use Rattle.mk_plan.specs.Passage.{Passage, to_make, commands_of}
 use Rattle.mk_plan.specs.Passing.{Passes, is_to_be_run, is_up_to_date, has_no_recipe, is_left}
@@ -40,15 +42,16 @@ use Rattle.mk_plan.proofs.NodeLemmas.{same_newer}
 
 -- ---- one meaning
 
-abbrev whole_from : (target source stem : List ℕ) (newer : List (List ℕ)) (once repeated : Option (List (List ℕ))) (sign : ℕ) → Option (List ℕ)
-whole_from target source stem newer once repeated sign =
+abbrev whole_from : (target source stem : List ℕ) (newer : List (List ℕ)) (once repeated order_only : Option (List (List ℕ))) (sign : ℕ) → Option (List ℕ)
+whole_from target source stem newer once repeated order_only sign =
     if sign == 64 then Some target
     else (if sign == 60 then Some source
     else (if sign == 42 then Some stem
     else (if sign == 63 then Some (join_with_byte 32 newer)
     else (if sign == 94 then option_map (join_with_byte 32) once
     else (if sign == 43 then option_map (join_with_byte 32) repeated
-    else None)))))
+    else (if sign == 124 then option_map (join_with_byte 32) order_only
+    else None))))))
 
 abbrev part_from : (whole : Option (List ℕ)) (part : ℕ) → Option (List ℕ)
 part_from whole part =
@@ -59,16 +62,17 @@ part_from whole part =
 abbrev in_language : Profile → (List ℕ → Meaning) → Meanings
 in_language profile meaning = record { language = profile; meaning = meaning }
 
-module _ (graph : Graph) (marks : List Bool) (n : ℕ) (a b : RecipeNames) (of_a : AreNames graph marks n a) (of_b : AreNames graph marks n b) where
+module _ (graph : Graph) (marks : List Bool) (n : ℕ) (l : RuleLine) (a b : RecipeNames) (of_a : AreNames graph marks n l a) (of_b : AreNames graph marks n l b) where
   same_whole : (sign : ℕ) → whole_value a sign ≡ whole_value b sign
   same_whole sign =
-      ap (λ t. whole_from t a.source.now a.stem.now (map (λ word. word.now) a.newer.now) (words_in a.once) (words_in a.repeated) sign) (of_a.target ∙ sym of_b.target)
-      ∙ ap (λ s. whole_from b.target.now s a.stem.now (map (λ word. word.now) a.newer.now) (words_in a.once) (words_in a.repeated) sign) (of_a.source ∙ sym of_b.source)
-      ∙ ap (λ s. whole_from b.target.now b.source.now s (map (λ word. word.now) a.newer.now) (words_in a.once) (words_in a.repeated) sign) (of_a.stem ∙ sym of_b.stem)
-      ∙ ap (λ ws. whole_from b.target.now b.source.now b.stem.now ws (words_in a.once) (words_in a.repeated) sign)
-      (same_newer graph marks n (row graph.hard n) _ _ of_a.newer of_b.newer)
-      ∙ ap (λ ws. whole_from b.target.now b.source.now b.stem.now (map (λ word. word.now) b.newer.now) ws (words_in a.repeated) sign) (of_a.once ∙ sym of_b.once)
-      ∙ ap (λ ws. whole_from b.target.now b.source.now b.stem.now (map (λ word. word.now) b.newer.now) (words_in b.once) ws sign) (of_a.repeated ∙ sym of_b.repeated)
+      ap (λ t. whole_from t a.source.now a.stem.now (map (λ word. word.now) a.newer.now) (words_in a.once) (words_in a.repeated) (words_in a.order_only) sign) (of_a.target ∙ sym of_b.target)
+      ∙ ap (λ s. whole_from b.target.now s a.stem.now (map (λ word. word.now) a.newer.now) (words_in a.once) (words_in a.repeated) (words_in a.order_only) sign) (of_a.source ∙ sym of_b.source)
+      ∙ ap (λ s. whole_from b.target.now b.source.now s (map (λ word. word.now) a.newer.now) (words_in a.once) (words_in a.repeated) (words_in a.order_only) sign) (of_a.stem ∙ sym of_b.stem)
+      ∙ ap (λ ws. whole_from b.target.now b.source.now b.stem.now ws (words_in a.once) (words_in a.repeated) (words_in a.order_only) sign)
+      (same_newer graph marks n (row_in graph n l) _ _ of_a.newer of_b.newer)
+      ∙ ap (λ ws. whole_from b.target.now b.source.now b.stem.now (map (λ word. word.now) b.newer.now) ws (words_in a.repeated) (words_in a.order_only) sign) (of_a.once ∙ sym of_b.once)
+      ∙ ap (λ ws. whole_from b.target.now b.source.now b.stem.now (map (λ word. word.now) b.newer.now) (words_in b.once) ws (words_in a.order_only) sign) (of_a.repeated ∙ sym of_b.repeated)
+      ∙ ap (λ ws. whole_from b.target.now b.source.now b.stem.now (map (λ word. word.now) b.newer.now) (words_in b.once) (words_in b.repeated) ws sign) (of_a.order_only ∙ sym of_b.order_only)
 
   same_value : (name : List ℕ) → recipe_value a name ≡ recipe_value b name
   same_value [] = refl
@@ -126,11 +130,17 @@ same_lines meanings (raw ∷ recipe) (x ∷ a) [] of_a of_b = absurd of_b
 same_lines meanings (raw ∷ recipe) (x ∷ a) (y ∷ b) of_a of_b =
     ap (λ l. l ∷ a) (same_expanded meanings raw x y of_a.0 of_b.0) ∙ ap (λ ls. y ∷ ls) (same_lines meanings recipe a b of_a.1 of_b.1)
 
-lines_alike : (graph : Graph) (marks : List Bool) (n : ℕ) (recipe : List RecipeLine) (a b : List Line) →
+part_alike : (graph : Graph) (marks : List Bool) (n : ℕ) (l : RuleLine) (a b : List Line) → AreLinesIn graph marks n l a → AreLinesIn graph marks n l b → a ≡ b
+part_alike graph marks n l a b of_a of_b =
+    same_lines (recipe_meaning graph of_b.names) l.recipe a b
+    (subst (λ m. AreExpanded m l.recipe a) (same_meaning graph marks n l of_a.names of_b.names of_a.are_names of_b.are_names) of_a.expanded) of_b.expanded
+
+lines_alike : (graph : Graph) (marks : List Bool) (n : ℕ) (recipe : List RuleLine) (a b : List Line) →
     AreLinesOf graph marks n recipe a → AreLinesOf graph marks n recipe b → a ≡ b
-lines_alike graph marks n recipe a b of_a of_b =
-    same_lines (recipe_meaning graph of_b.names) recipe a b
-    (subst (λ m. AreExpanded m recipe a) (same_meaning graph marks n of_a.names of_b.names of_a.are_names of_b.are_names) of_a.expanded) of_b.expanded
+lines_alike graph marks n [] a b of_a of_b = of_a ∙ sym of_b
+lines_alike graph marks n (l ∷ parts) a b (own, rest, of_line, more, is) (own', rest', of_line', more', is') =
+    is ∙ ap (λ ls. ls ++ rest) (part_alike graph marks n l own own' of_line of_line')
+    ∙ ap (λ ls. own' ++ ls) (lines_alike graph marks n parts rest rest' more more') ∙ sym is'
 
 -- ---- one target, as far as it is judged
 
@@ -245,10 +255,10 @@ module _ (keeping : Bool) (graph : Graph) (marks : List Bool) (n : ℕ) (lines :
 -- ---- one way to pass it
 
 module _ (keeping : Bool) (graph : Graph) (marks : List Bool) (n : ℕ) where
-  same_recipe : (r s : List RecipeLine) → recipe_of graph n ≡ Some r → recipe_of graph n ≡ Some s → r ≡ s
+  same_recipe : (r s : List RuleLine) → recipe_of graph n ≡ Some r → recipe_of graph n ≡ Some s → r ≡ s
   same_recipe r s is_r is_s = same_Some r s (sym is_r ∙ is_s)
 
-  lines_of_recipes : (r s : List RecipeLine) (a b : List Line) → recipe_of graph n ≡ Some r → recipe_of graph n ≡ Some s →
+  lines_of_recipes : (r s : List RuleLine) (a b : List Line) → recipe_of graph n ≡ Some r → recipe_of graph n ≡ Some s →
       AreLinesOf graph marks n r a → AreLinesOf graph marks n s b → a ≡ b
   lines_of_recipes r s a b is_r is_s of_a of_b =
       lines_alike graph marks n s a b (subst (λ recipe. AreLinesOf graph marks n recipe a) (same_recipe r s is_r is_s) of_a) of_b
@@ -261,14 +271,14 @@ module _ (keeping : Bool) (graph : Graph) (marks : List Bool) (n : ℕ) where
       ap (λ ls. to_make (name_at graph.names n) v (commands_of graph n) ls ∷ []) same
       ∙ ap (λ why. to_make (name_at graph.names n) why (commands_of graph n) b ∷ []) whys
 
-  not_both : (r s : List RecipeLine) (a b : List Line) (t u : Target) (v : Why) → recipe_of graph n ≡ Some r → recipe_of graph n ≡ Some s →
+  not_both : (r s : List RuleLine) (a b : List Line) (t u : Target) (v : Why) → recipe_of graph n ≡ Some r → recipe_of graph n ≡ Some s →
       AreLinesOf graph marks n r a → AreLinesOf graph marks n s b → IsTargetOf graph marks n a t → IsTargetOf graph marks n b u →
       IsWhy keeping graph n t v → (IsOutOfDate keeping (entry_of graph n) u → ⊥) → ⊥
   not_both r s a b t u v is_r is_s of_a of_b is_t is_u is_v up =
       up (out_of_date_alike keeping graph marks n b t u
       (subst (λ ls. IsTargetOf graph marks n ls t) (lines_of_recipes r s a b is_r is_s of_a of_b) is_t) is_u (v.reason, is_v.first.holds))
 
-  no_recipe : (r : List RecipeLine) → recipe_of graph n ≡ Some r → recipe_of graph n ≡ None → ⊥
+  no_recipe : (r : List RuleLine) → recipe_of graph n ≡ Some r → recipe_of graph n ≡ None → ⊥
   no_recipe r is none = let both : Some r ≡ None = sym is ∙ none in absurd cc
 
   pub passes_once : (p q : Bool) (a b : List Passage) → Passes keeping graph marks n p a → Passes keeping graph marks n q b → (p ≡ q) × (a ≡ b)

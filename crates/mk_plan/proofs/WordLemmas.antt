@@ -5,7 +5,7 @@ use Rattle.mk_graph.specs.Numbering.{name_at}
 use Rattle.mk_profile.specs.Profile.{is_wide}
 use Rattle.mk_rule_lines.specs.Explicit.{explicit_of}
 use Rattle.mk_rules.specs.declared.graph.Graph.{Graph}
-use Rattle.mk_plan.specs.ExplicitWords.{language_of}
+use Rattle.mk_plan.specs.Parts.{language_of}
 use Rattle.mk_plan.specs.Words.{in_wide, implied_names, written_of}
 
 -- a value where the test comes out so

@@ -1,23 +1,19 @@
 -- What `$<` and `$*` stand for in a recipe. POSIX make leaves open what they are in one of the target's own: there the strict profile
 -- has nothing, and the wide one what GNU make has.
-use Rattle.std.specs.Prelude.{ℕ, Bool, not, ◌&&◌, if◌then◌else◌, List, [], ◌∷◌, ◌++◌, map, flat_map, slice_get, slice_index_or, Option, Some, None, is_some, option_and_then, option_to_list}
+use Rattle.std.specs.Prelude.{ℕ, Bool, false, not, ◌&&◌, if◌then◌else◌, List, [], ◌∷◌, ◌++◌, map, flat_map, slice_get, slice_index_or, Option, Some, None, is_some, option_and_then, option_to_list}
 use Rattle.std.specs.Option.{option_map_or}
 use Rattle.mk_graph.specs.Edges.{row}
 use Rattle.mk_graph.specs.Numbering.{name_at}
-use Rattle.mk_macros.specs.Ranks.{defined_by}
 use Rattle.mk_macros.specs.Words.{without_end}
 use Rattle.mk_profile.specs.Profile.{is_wide}
-use Rattle.mk_profile.specs.declared.profile.Profile.{Profile}
 use Rattle.mk_rule_lines.specs.Explicit.{names_in}
-use Rattle.mk_rule_lines.specs.Rules.{suffixes_of}
+use Rattle.mk_rule_lines.specs.Rules.{is_default_rule, suffixes_of}
+use Rattle.mk_rule_lines.specs.declared.rule_line.RuleLine.{RuleLine}
 use Rattle.mk_rules.specs.declared.graph.Graph.{Graph}
 use Rattle.mk_reader.specs.Text.{is_empty}
 use Rattle.mk_plan.specs.Nodes.{node_at, source_of, stem_of}
+use Rattle.mk_plan.specs.Parts.{language_of, is_part}
 use Rattle.mk_plan.specs.Words.{implied_names}
-
--- the language of the makefile
-abbrev pub language_of : Graph → Profile
-language_of graph = (defined_by graph.macros).language
 
 -- the hard prerequisites of node n: the source, then those by name, each at its first mention
 abbrev pub once_of : Graph → (n : ℕ) → List (List ℕ)
@@ -35,21 +31,23 @@ is_implicit graph n = is_some (option_and_then (λ node. node.stem) (node_at gra
 abbrev pub has_words : Graph → (n : ℕ) → Bool
 has_words graph n = is_wide (language_of graph) && not (is_implicit graph n)
 
--- the prerequisites of the line whose recipe makes it
-abbrev pub recipe_names : Graph → (n : ℕ) → List (List ℕ)
-recipe_names graph n = option_map_or names_in (option_and_then (slice_get graph.lines.items) (option_and_then (λ node. node.recipe) (node_at graph n))) []
+-- what `$<` is the first of in the recipe of a line, whose prerequisites they are: behind these, in a line without `::`, all of the
+-- node's stand (GNU make)
+abbrev pub first_among : Graph → (n : ℕ) → RuleLine → List (List ℕ)
+first_among graph n l = if is_part (language_of graph) l then names_in l else names_in l ++ once_of graph n
 
--- the first of them, and where that line has none the first of all (GNU make)
-abbrev pub first_prerequisite : Graph → (n : ℕ) → List ℕ
-first_prerequisite graph n = first_of (recipe_names graph n ++ once_of graph n)
+abbrev pub first_prerequisite : Graph → (n : ℕ) → RuleLine → List ℕ
+first_prerequisite graph n l = first_of (first_among graph n l)
 
 -- no implicit rule gives it a source, in the wide profile
 abbrev pub lacks_source : Graph → (n : ℕ) → Bool
 lacks_source graph n = is_wide (language_of graph) && is_empty (implied_names graph n)
 
--- what `$<` stands for in its recipe
-abbrev pub source_word : Graph → (n : ℕ) → List ℕ
-source_word graph n = if lacks_source graph n then first_prerequisite graph n else source_of graph n
+-- what `$<` stands for in its recipe, of which this line has a part: in that of `.DEFAULT` the target (POSIX make, "Internal Macros")
+abbrev pub source_word : Graph → (n : ℕ) → RuleLine → List ℕ
+source_word graph n l =
+    if is_default_rule l.special then name_at graph.names n
+    else (if lacks_source graph n then first_prerequisite graph n l else source_of graph n)
 
 abbrev pub unless_empty : List ℕ → Option (List ℕ)
 unless_empty [] = None

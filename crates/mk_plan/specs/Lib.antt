@@ -1,6 +1,9 @@
 pub mod ExplicitWords
 pub mod Known
 pub mod Nodes
+pub mod PartTests
+pub mod PartWords
+pub mod Parts
 pub mod Passage
 pub mod Passing
 pub mod Recipe

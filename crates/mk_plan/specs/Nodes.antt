@@ -1,12 +1,11 @@
 -- What a graph has under a number. Past the end there is nothing.
-use Rattle.std.specs.Prelude.{◌≡◌, ◌⊎◌, ℕ, ℤ, Bool, false, IsTrue, List, [], ◌∷◌, map, slice_get, slice_index_or, Option, None, option_map, option_and_then, unwrap_or}
+use Rattle.std.specs.Prelude.{◌≡◌, ◌⊎◌, ℕ, ℤ, Bool, false, IsTrue, List, [], ◌∷◌, map, slice_get, slice_index_or, Option, None, option_and_then, unwrap_or}
 use Rattle.std.specs.FinMap as finmap
 use Rattle.std.specs.List.{Any}
 use Rattle.std.specs.Option.{option_map_or}
 use Rattle.mk_graph.specs.Edges.{row}
 use Rattle.mk_graph.specs.Numbering.{name_at}
 use Rattle.mk_verdict.specs.Verdict.{IsLater}
-use Rattle.mk_reader.specs.declared.item.RecipeLine.{RecipeLine}
 use Rattle.mk_rules.specs.Node.{source_in, explicit_in}
 use Rattle.mk_rules.specs.declared.graph.Node.{Node}
 use Rattle.mk_rules.specs.declared.graph.Graph.{Graph}
@@ -18,6 +17,18 @@ node_at graph n = slice_get graph.nodes.items n
 -- the time of its file
 abbrev pub stamp_of : Graph → (n : ℕ) → Option ℤ
 stamp_of graph n = option_and_then (λ node. node.stamp) (node_at graph n)
+
+-- when all that its recipe makes was made: the time of its file, and where the recipe makes more, the earliest of all; none where a file
+-- is missing
+abbrev pub made_in : Node → Option ℤ
+made_in node = option_map_or (λ g. g.value.made) node.group node.stamp
+
+abbrev pub made_of : Graph → (n : ℕ) → Option ℤ
+made_of graph n = option_and_then made_in (node_at graph n)
+
+-- what its recipe makes beside it
+abbrev pub made_beside : Graph → (n : ℕ) → List (List ℕ)
+made_beside graph n = option_map_or (λ g. g.value.others) (option_and_then (λ node. node.group) (node_at graph n)) []
 
 -- what the state has of its name
 abbrev pub entry_of : Graph → (n : ℕ) → Option Entry
@@ -39,29 +50,14 @@ source_of graph n = option_map_or (name_at graph.names) (source_in (node_at grap
 abbrev pub explicit_of : Graph → (n : ℕ) → List (List ℕ)
 explicit_of graph n = map (name_at graph.names) (explicit_in (node_at graph n) (row graph.hard n))
 
--- the lines of the recipe that makes it
-abbrev pub recipe_of : Graph → (n : ℕ) → Option (List RecipeLine)
-recipe_of graph n =
-    option_map (λ l. l.recipe) (option_and_then (slice_get graph.lines.items) (option_and_then (λ node. node.recipe) (node_at graph n)))
-
--- the file that holds that recipe, as it is told
-abbrev pub file_of : Graph → (n : ℕ) → Option (List ℕ)
-file_of graph n =
-    option_and_then (λ l. l.file) (option_and_then (slice_get graph.lines.items) (option_and_then (λ node. node.recipe) (node_at graph n)))
-
--- the file and the number of the line at this place of that recipe, where the file is told
-abbrev pub line_place : Graph → (n place : ℕ) → Option (List ℕ × ℕ)
-line_place graph n place =
-    option_and_then (λ file. option_map (λ raw. (file, raw.line)) (option_and_then (λ raws. slice_get raws place) (recipe_of graph n))) (file_of graph n)
-
 -- the mark of a node
 abbrev pub is_marked : (marks : List Bool) (n : ℕ) → Bool
 is_marked marks n = slice_index_or marks n false
 
--- the prerequisite m is newer than the target n, as `$?` has it: its file is later, or it was remade; each is where the target
--- has no file (make(1S), "Dynamic Macros"; that remade ones count: own)
+-- the prerequisite m is newer than the target n, as `$?` has it: its file is later, or it was remade; each is where a file of the target
+-- is missing (make(1S), "Dynamic Macros"; that remade ones count: own)
 abbrev pub IsNewer : Graph → (marks : List Bool) → (n m : ℕ) → Type 0
-IsNewer graph marks n m = (stamp_of graph n ≡ None) ⊎ (IsLater (stamp_of graph m) (stamp_of graph n) ⊎ IsTrue (is_marked marks m))
+IsNewer graph marks n m = (made_of graph n ≡ None) ⊎ (IsLater (stamp_of graph m) (made_of graph n) ⊎ IsTrue (is_marked marks m))
 
 -- the words that these prerequisites give `$?` of the target n: the names of those that are newer, in their order
 pub data AreNewer (graph : Graph) (marks : List Bool) (n : ℕ) : (prerequisites : List ℕ) → (words : List (List ℕ)) → Type 0 where

@@ -3,12 +3,13 @@
 use Rattle.std.specs.Prelude.{◌≡◌, ℕ, Bool, true, false, List, [], ◌∷◌, Some, None}
 use Rattle.std.specs.List.{list_any}
 use Rattle.mk_graph.specs.Numbering.{name_at}
-use Rattle.mk_reader.specs.declared.item.RecipeLine.{RecipeLine}
 use Rattle.mk_recipe.specs.declared.line.Line.{Line}
 use Rattle.mk_verdict.specs.Verdict.{IsOutOfDate}
 use Rattle.mk_verdict.specs.declared.verdict.Target.{Target}
+use Rattle.mk_rule_lines.specs.declared.rule_line.RuleLine.{RuleLine}
 use Rattle.mk_rules.specs.declared.graph.Graph.{Graph}
-use Rattle.mk_plan.specs.Nodes.{recipe_of, entry_of, EndsRemade}
+use Rattle.mk_plan.specs.Nodes.{entry_of, EndsRemade}
+use Rattle.mk_plan.specs.Parts.{recipe_of}
 use Rattle.mk_plan.specs.Passage.{Passage, to_make, finished, is_listed, commands_of}
 use Rattle.mk_plan.specs.Recipe.{AreLinesOf, IsFaultOf}
 use Rattle.mk_plan.specs.Target.{IsTargetOf}
@@ -23,11 +24,11 @@ use Rattle.mk_plan.specs.declared.passing.Passed.TheVariants as passed
 -- what there is to tell of it. A node with a recipe is listed where it is out of date, with the reason of that verdict, and then
 -- counts as remade; of one without, nothing is told
 pub data Passes (keeping : Bool) (graph : Graph) (marks : List Bool) (n : ℕ) : (remade : Bool) → (told : List Passage) → Type 0 where
-  is_to_be_run : (recipe : List RecipeLine) (lines : List Line) (target : Target) (why : Why) →
+  is_to_be_run : (recipe : List RuleLine) (lines : List Line) (target : Target) (why : Why) →
       recipe_of graph n ≡ Some recipe → AreLinesOf graph marks n recipe lines → IsTargetOf graph marks n lines target →
       IsWhy keeping graph n target why →
       Passes keeping graph marks n true (to_make (name_at graph.names n) why (commands_of graph n) lines ∷ [])
-  is_up_to_date : (recipe : List RecipeLine) (lines : List Line) (target : Target) →
+  is_up_to_date : (recipe : List RuleLine) (lines : List Line) (target : Target) →
       recipe_of graph n ≡ Some recipe → AreLinesOf graph marks n recipe lines → IsTargetOf graph marks n lines target →
       (IsOutOfDate keeping (entry_of graph n) target → ⊥) → Passes keeping graph marks n false (finished (name_at graph.names n) ∷ [])
   has_no_recipe : recipe_of graph n ≡ None → EndsRemade graph marks n → Passes keeping graph marks n true []
@@ -56,4 +57,4 @@ told_in graph n passed.Left = []
 abbrev pub IsFaultAt : Graph → (marks : List Bool) → (n : ℕ) → RecipeFault → Type 0
 IsFaultAt graph marks n fault.OutOfMemory = Unit {0}
 IsFaultAt graph marks n (fault.Macro f) =
-    (recipe : List RecipeLine) × (recipe_of graph n ≡ Some recipe) × IsFaultOf graph marks n recipe (fault.Macro f)
+    (recipe : List RuleLine) × (recipe_of graph n ≡ Some recipe) × IsFaultOf graph marks n recipe (fault.Macro f)

@@ -7,7 +7,7 @@ use Rattle.mk_recipe.specs.declared.line.Line.{Line}
 use Rattle.mk_verdict.specs.declared.verdict.Prerequisite.{Prerequisite}
 use Rattle.mk_verdict.specs.declared.verdict.Target.{Target}
 use Rattle.mk_rules.specs.declared.graph.Graph.{Graph}
-use Rattle.mk_plan.specs.Nodes.{stamp_of, hidden_of, explicit_of, is_marked}
+use Rattle.mk_plan.specs.Nodes.{stamp_of, made_of, hidden_of, explicit_of, is_marked}
 
 -- a prerequisite, with its name as a list of bytes
 pub record Seen : Type 0 where
@@ -43,6 +43,6 @@ seen_of graph marks n = map (seen_hard graph marks) (row graph.hard n) ++ map (s
 pub record IsTargetOf (graph : Graph) (marks : List Bool) (n : ℕ) (lines : List Line) (target : Target) : Type 0 where
   pub commands : Records lines target.commands.now
   pub explicit : target.explicit.now ≡ explicit_of graph n
-  pub stamp : target.stamp ≡ stamp_of graph n
+  pub stamp : target.stamp ≡ made_of graph n
   pub prerequisites : map shown target.prerequisites.now ≡ seen_of graph marks n
   pub ordered : target.orders_hidden ≡ not graph.soft_dropped

@@ -5,11 +5,11 @@ use Rattle.mk_graph.specs.Edges.{row}
 use Rattle.mk_graph.specs.Numbering.{name_at}
 use Rattle.mk_verdict.specs.Tests.{is_later}
 use Rattle.mk_rules.specs.declared.graph.Graph.{Graph}
-use Rattle.mk_plan.specs.Nodes.{stamp_of, is_marked}
+use Rattle.mk_plan.specs.Nodes.{stamp_of, made_of, is_marked}
 
 -- the prerequisite m is newer than the target n
 abbrev pub is_newer_word : Graph → (marks : List Bool) → (n m : ℕ) → Bool
-is_newer_word graph marks n m = is_none (stamp_of graph n) || (is_later (stamp_of graph m) (stamp_of graph n) || is_marked marks m)
+is_newer_word graph marks n m = is_none (made_of graph n) || (is_later (stamp_of graph m) (made_of graph n) || is_marked marks m)
 
 -- the words of `$?`: of the source and the prerequisites by name
 abbrev pub newer_words : Graph → (marks : List Bool) → (n : ℕ) → List (List ℕ)

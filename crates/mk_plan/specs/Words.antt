@@ -1,10 +1,12 @@
--- What `$^` and `$+` stand for in the wide profile (POSIX make, "Internal Macros"). The strict profile has no such macros.
-use Rattle.std.specs.Prelude.{ℕ, if◌then◌else◌, List, ◌++◌, map, Option, Some, None}
+-- What `$^`, `$+` and `$|` stand for in the wide profile (POSIX make, "Internal Macros"; GNU make manual, "Automatic Variables"). The
+-- strict profile has no such macros.
+use Rattle.std.specs.Prelude.{ℕ, if◌then◌else◌, List, ◌++◌, drop, length, map, Option, Some, None}
 use Rattle.mk_graph.specs.Edges.{row}
 use Rattle.mk_graph.specs.Numbering.{name_at}
 use Rattle.mk_profile.specs.Profile.{is_wide}
 use Rattle.mk_profile.specs.declared.profile.Profile.{Profile}
 use Rattle.mk_rule_lines.specs.Explicit.{explicit_of}
+use Rattle.mk_rules.specs.Graph.{required_in}
 use Rattle.mk_rules.specs.Node.{implied_in}
 use Rattle.mk_rules.specs.declared.graph.Graph.{Graph}
 use Rattle.mk_plan.specs.Nodes.{node_at}
@@ -21,3 +23,7 @@ implied_names graph n = map (name_at graph.names) (implied_in (node_at graph n) 
 -- without `.WAIT`
 abbrev pub written_of : Graph → (n : ℕ) → List (List ℕ)
 written_of graph n = implied_names graph n ++ explicit_of graph.lines.items (name_at graph.names n)
+
+-- its order-only prerequisites: what it can't be made without, behind its prerequisites, each once
+abbrev pub order_only_words : Graph → (n : ℕ) → List (List ℕ)
+order_only_words graph n = map (name_at graph.names) (drop (length (row graph.hard n)) (row (required_in graph) n))

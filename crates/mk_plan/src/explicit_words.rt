@@ -4,11 +4,12 @@ ghost use Rattle.std.specs.Option.{option_copied};
 ghost use Rattle.mk_rule_lines.specs.Explicit.{names_in};
 ghost use Rattle.mk_reader.specs.Text.{is_empty};
 ghost use Rattle.mk_plan.specs.Words.{implied_names};
-ghost use Rattle.mk_plan.specs.ExplicitWords.{first_of, once_of, is_implicit, recipe_names, first_prerequisite, without_suffix, stem_left, has_words, lacks_source, source_word, stem_word};
+ghost use Rattle.mk_plan.specs.ExplicitWords.{first_of, once_of, is_implicit, first_prerequisite, without_suffix, stem_left, has_words, lacks_source, source_word, stem_word};
 
 use crate::nodes::{name_of, source_of, stem_of};
+use crate::parts::is_part;
 use byte_strings::ByteStrings;
-use mk_rule_lines::{RuleLine, is_bar, is_wait};
+use mk_rule_lines::{RuleLine, is_bar, is_default_rule, is_wait};
 use mk_rules::Graph;
 
 /// Whether an implicit rule makes a node.
@@ -36,14 +37,6 @@ fn first_in(line: &RuleLine) -> Option<&[u8]>
     None
 }
 
-/// The first prerequisite of the line whose recipe makes a node.
-fn first_beside(graph: &Graph, node: usize) -> Option<&[u8]>
-    ensures { option_copied result ≡ slice_get (recipe_names graph.now node) 0 }
-{
-    let number = graph.nodes.get(node)?.recipe?;
-    first_in(graph.lines.get(number)?)
-}
-
 /// The first of all prerequisites of a node.
 fn first_hard(graph: &Graph, node: usize) -> &[u8]
     requires { node < length graph.now.nodes.items }
@@ -55,12 +48,13 @@ fn first_hard(graph: &Graph, node: usize) -> &[u8]
     }
 }
 
-fn first_prerequisite(graph: &Graph, node: usize) -> &[u8]
+fn first_prerequisite<'g>(graph: &'g Graph, node: usize, line: &'g RuleLine) -> &'g [u8]
     requires { node < length graph.now.nodes.items }
-    ensures { result.now ≡ first_prerequisite graph.now node }
+    ensures { result.now ≡ first_prerequisite graph.now node line.now }
 {
-    match first_beside(graph, node) {
+    match first_in(line) {
         Some(name) => name,
+        None if is_part(graph, line) => &[],
         None => first_hard(graph, node),
     }
 }
@@ -114,13 +108,16 @@ fn lacks_source(graph: &Graph, node: usize) -> bool
     graph.macros.profile().is_wide() && gives_none(graph, node)
 }
 
-/// The value of `$<` in the recipe of a node.
-pub fn source_word(graph: &Graph, node: usize) -> &[u8]
+/// The value of `$<` in the part of a node's recipe that this line has.
+pub fn source_word<'g>(graph: &'g Graph, node: usize, line: &'g RuleLine) -> &'g [u8]
     requires { node < length graph.now.nodes.items }
-    ensures { result.now ≡ source_word graph.now node }
+    ensures { result.now ≡ source_word graph.now node line.now }
 {
+    if is_default_rule(line.special) {
+        return name_of(graph, node);
+    }
     if lacks_source(graph, node) {
-        return first_prerequisite(graph, node);
+        return first_prerequisite(graph, node, line);
     }
     source_of(graph, node)
 }

@@ -6,6 +6,8 @@ mod explicit_words;
 mod fault;
 mod laws;
 mod nodes;
+mod part_words;
+mod parts;
 mod passing;
 mod recipe;
 mod target;
@@ -15,7 +17,8 @@ mod words;
 
 pub use fault::RecipeFault;
 pub use laws::{nodes_by_name, one_passing};
-pub use nodes::{LinePlace, explicit_of, line_place, name_of};
+pub use nodes::{explicit_of, made_beside, name_of};
+pub use parts::{LinePlace, line_place};
 pub use passing::{Passed, pass};
 pub use telling::{Telling, told_lines, why_lines};
 pub use why::Why;

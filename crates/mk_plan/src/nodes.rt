@@ -1,16 +1,15 @@
 //! What a graph has under a number. Past the end there is nothing, so that no number is out of range.
-ghost use Rattle.std.specs.Prelude.{◌≡◌, ◌<◌, ◌||◌, length, map, filter, is_none, option_map, unwrap_or, IfOk};
+ghost use Rattle.std.specs.Prelude.{◌≡◌, ◌<◌, ◌||◌, length, map, filter, is_none, unwrap_or, IfOk};
 ghost use Rattle.std.specs.List.{list_any};
 ghost use Rattle.std.specs.Option.{option_copied, option_map_or};
 ghost use Rattle.mk_graph.specs.Edges.{row};
 ghost use Rattle.mk_graph.specs.Numbering.{name_at};
 ghost use Rattle.mk_verdict.specs.Tests.{is_later};
 ghost use Rattle.mk_rules.specs.Node.{source_in};
-ghost use Rattle.mk_plan.specs.Nodes.{node_at, stamp_of, entry_of, stem_of, source_of, explicit_of, recipe_of, file_of, line_place, is_marked};
+ghost use Rattle.mk_plan.specs.Nodes.{node_at, stamp_of, made_of, made_beside, entry_of, stem_of, source_of, explicit_of, is_marked};
 ghost use Rattle.mk_plan.specs.Tests.{is_newer_word, newer_words, ends_remade};
 
 use byte_strings::ByteStrings;
-use mk_reader::RecipeLine;
 use mk_rules::Graph;
 use st_records::Entry;
 use std::alloc::{AllocError, Global};
@@ -32,6 +31,30 @@ pub fn stamp_of(graph: &Graph, node: usize) -> Option<i128>
     match graph.nodes.get(node) {
         Some(node) => node.stamp,
         None => None,
+    }
+}
+
+/// When all that the recipe of a node makes was made; None where a file of it is missing.
+pub fn made_of(graph: &Graph, node: usize) -> Option<i128>
+    ensures { result ≡ made_of graph.now node }
+{
+    let node = graph.nodes.get(node)?;
+    match &node.group {
+        Some(group) => group.made,
+        None => node.stamp,
+    }
+}
+
+/// What the recipe of a node makes beside it.
+pub fn made_beside(alloc: Global, graph: &Graph, node: usize) -> Result<ByteStrings, AllocError>
+    ensures { IfOk result (λ names. names ≡ made_beside graph.now node) }
+{
+    let Some(node) = graph.nodes.get(node) else {
+        return Ok(ByteStrings::empty(alloc));
+    };
+    match &node.group {
+        Some(group) => group.others.copy(alloc),
+        None => Ok(ByteStrings::empty(alloc)),
     }
 }
 
@@ -66,52 +89,26 @@ pub fn source_of(graph: &Graph, node: usize) -> &[u8]
     }
 }
 
+/// How many bytes the names of these nodes have, as far as a number goes.
+fn size_of(graph: &Graph, nodes: &[usize]) -> usize {
+    let mut size = 0usize;
+    for node in nodes {
+        size = size.saturating_add(name_of(graph, *node).len());
+    }
+    size
+}
+
 /// The prerequisites of a node by name, as they are recorded.
 pub fn explicit_of(alloc: Global, graph: &Graph, node: usize) -> Result<ByteStrings, AllocError>
     requires { node < length graph.now.nodes.items }
     ensures { IfOk result (λ names. names ≡ explicit_of graph.now node) }
 {
-    let mut names = ByteStrings::empty(alloc);
+    let explicit = graph.explicit(node);
+    let mut names = ByteStrings::with_capacity(alloc, explicit.len(), size_of(graph, explicit))?;
     for prerequisite in graph.explicit(node) {
         names.push(name_of(graph, *prerequisite))?;
     }
     Ok(names)
-}
-
-/// The lines of the recipe that makes a node.
-pub fn recipe_of(graph: &Graph, node: usize) -> Option<&[RecipeLine]>
-    ensures { option_map (λ lines. lines.now) result ≡ recipe_of graph.now node }
-{
-    let number = graph.nodes.get(node)?.recipe?;
-    let line = graph.lines.get(number)?;
-    Some(line.recipe.lines())
-}
-
-/// The file that holds that recipe, as it is told.
-pub fn file_of(graph: &Graph, node: usize) -> Option<&[u8]>
-    ensures { option_map (λ file. file.now) result ≡ file_of graph.now node }
-{
-    let number = graph.nodes.get(node)?.recipe?;
-    match &graph.lines.get(number)?.file {
-        Some(file) => Some(file.as_slice()),
-        None => None,
-    }
-}
-
-/// Where a line stands, as it is told.
-#[derive(Clone, Copy)]
-pub struct LinePlace<'a> {
-    pub file: &'a [u8],
-    pub line: usize,
-}
-
-/// Where the line of this number stands in a node's recipe, where its file is told.
-pub fn line_place(graph: &Graph, node: usize, number: usize) -> Option<LinePlace<'_>>
-    ensures { option_map (λ p. (p.file.now, p.line)) result ≡ line_place graph.now node number }
-{
-    let file = file_of(graph, node)?;
-    let line = recipe_of(graph, node)?.get(number)?.line;
-    Some(LinePlace { file, line })
 }
 
 /// The mark of a node.
@@ -135,10 +132,10 @@ fn is_later(prerequisite: Option<i128>, target: Option<i128>) -> bool
 }
 
 /// Whether a prerequisite is among the words of `$?` for a target.
-fn is_newer_word(graph: &Graph, marks: &[bool], target: usize, prerequisite: usize) -> bool
+pub fn is_newer_word(graph: &Graph, marks: &[bool], target: usize, prerequisite: usize) -> bool
     ensures { result ≡ is_newer_word graph.now marks.now target prerequisite }
 {
-    let made = stamp_of(graph, target);
+    let made = made_of(graph, target);
     made.is_none()
         || is_later(stamp_of(graph, prerequisite), made)
         || is_marked(marks, prerequisite)

@@ -1,18 +1,19 @@
 //! One node of a graph passed: whether its recipe is to be run, and with which lines.
-ghost use Rattle.std.specs.Prelude.{◌≡◌, ◌<◌, ℕ, Some, length, IfOk, IfErr};
+ghost use Rattle.std.specs.Prelude.{◌≡◌, ◌<◌, ℕ, Some, length, map, IfOk, IfErr};
 ghost use Rattle.std.specs.List.{list_any};
 ghost use Rattle.mk_rules.specs.declared.graph.Graph.{Graph as Plan};
-ghost use Rattle.mk_plan.specs.Nodes.{recipe_of};
+ghost use Rattle.mk_plan.specs.Parts.{recipe_of};
 ghost use Rattle.mk_plan.specs.Passage.{is_listed};
 ghost use Rattle.mk_plan.specs.Passing.{Passes, IsFaultAt, is_remade, told_in};
 
 use crate::fault::RecipeFault;
-use crate::nodes::{ends_remade, recipe_of};
+use crate::nodes::ends_remade;
+use crate::parts::recipe_of;
 use crate::recipe::lines_of;
 use crate::target::judge_node;
 use crate::why::Why;
-use mk_reader::RecipeLine;
 use mk_recipe::Line;
+use mk_rule_lines::RuleLine;
 use mk_rules::Graph;
 use std::alloc::Global;
 
@@ -62,10 +63,10 @@ fn pass_recipe(
     graph: &Graph,
     marks: &[bool],
     node: usize,
-    recipe: &[RecipeLine],
+    recipe: &[&RuleLine],
 ) -> Result<Passed, RecipeFault>
     requires node { node < length graph.now.nodes.items }
-    requires recipe { recipe_of graph.now node ≡ Some recipe.now }
+    requires recipe { recipe_of graph.now node ≡ Some (map (λ l. l.now) recipe.now) }
     ensures passes { IfOk result (λ p. Passes keeping graph.now marks.now node (is_remade p) (told_in graph.now node p)) }
     ensures fault { IfErr result (IsFaultAt graph.now marks.now node) }
 {
@@ -88,8 +89,8 @@ pub fn pass(
     ensures passes { IfOk result (λ p. Passes keeping graph.now marks.now node (is_remade p) (told_in graph.now node p)) }
     ensures fault { IfErr result (IsFaultAt graph.now marks.now node) }
 {
-    match recipe_of(graph, node) {
-        Some(recipe) => pass_recipe(alloc, keeping, graph, marks, node, recipe),
+    match recipe_of(alloc, graph, node)? {
+        Some(recipe) => pass_recipe(alloc, keeping, graph, marks, node, &recipe),
         None if ends_remade(graph, marks, node) => Ok(Passed::Remade),
         None => Ok(Passed::Left),
     }

@@ -5,7 +5,7 @@ ghost use Rattle.mk_plan.specs.Nodes.{hidden_of};
 ghost use Rattle.mk_plan.specs.Target.{shown, seen_at, seen_of, IsTargetOf};
 ghost use Rattle.mk_plan.specs.Why.{IsJudgedSo};
 
-use crate::nodes::{explicit_of, is_marked, name_of, stamp_of};
+use crate::nodes::{explicit_of, is_marked, made_of, name_of, stamp_of};
 use crate::why::{Why, why_of};
 use mk_recipe::{Line, Prerequisite, Target, recorded};
 use mk_rules::Graph;
@@ -60,7 +60,12 @@ fn prerequisites_of<'g>(
     requires { node < length graph.now.nodes.items }
     ensures { IfOk result (λ found. map shown found.items ≡ seen_of graph.now marks.now node) }
 {
-    let mut found = Vec::new(alloc);
+    let count = graph
+        .hard
+        .row(node)
+        .len()
+        .saturating_add(hidden_of(graph, node).len());
+    let mut found = Vec::with_capacity(alloc, count)?;
     for hard in graph.hard.row(node) {
         found.push(node_seen(graph, marks, *hard, false))?;
     }
@@ -89,7 +94,7 @@ pub fn judge_node(
     let target = Target {
         commands: &commands,
         explicit: &explicit,
-        stamp: stamp_of(graph, node),
+        stamp: made_of(graph, node),
         prerequisites: &prerequisites,
         orders_hidden: !graph.soft_dropped,
     };

@@ -1,13 +1,14 @@
-//! The words of `$^` and of `$+`, which the wide profile has.
-ghost use Rattle.std.specs.Prelude.{◌≡◌, ℕ, ◌<◌, List, ◌++◌, length, map, option_map, is_some, IfOk, IfSome};
+//! The words of `$^`, `$+` and `$|`, which the wide profile has.
+ghost use Rattle.std.specs.Prelude.{◌≡◌, ℕ, ◌<◌, false, List, ◌++◌, length, map, option_map, is_some, IfOk, IfSome};
 ghost use Rattle.mk_graph.specs.Numbering.{name_at};
 ghost use Rattle.mk_macros.specs.Dynamic.{words_in};
 ghost use Rattle.mk_profile.specs.Profile.{is_wide};
 ghost use Rattle.mk_rule_lines.specs.Explicit.{numbers_of, explicit_of};
 ghost use Rattle.mk_rule_lines.specs.Table.{named_at};
-ghost use Rattle.mk_plan.specs.ExplicitWords.{language_of, once_of};
+ghost use Rattle.mk_plan.specs.ExplicitWords.{once_of};
+ghost use Rattle.mk_plan.specs.Parts.{language_of, is_part};
 ghost use Rattle.mk_plan.specs.Recipe.{AreRecipeWords};
-ghost use Rattle.mk_plan.specs.Words.{in_wide, implied_names, written_of};
+ghost use Rattle.mk_plan.specs.Words.{in_wide, implied_names, written_of, order_only_words};
 
 use crate::nodes::{name_of, newer_words};
 use byte_strings::ByteStrings;
@@ -20,9 +21,10 @@ use std::alloc::{AllocError, Global};
 pub struct RecipeWords<'g> {
     /// Those of `$?`.
     pub newer: Vec<&'g [u8]>,
-    /// Those of `$^`, and those of `$+`; None in the strict profile.
+    /// Those of `$^`, those of `$+`, and those of `$|`; None in the strict profile.
     pub once: Option<Vec<&'g [u8]>>,
     pub repeated: Option<Vec<&'g [u8]>>,
+    pub order_only: Option<Vec<&'g [u8]>>,
 }
 
 /// The words as they are told, if there are any.
@@ -167,26 +169,61 @@ pub fn repeated_words<'g>(
     behind_implied(alloc, graph, node, explicit)
 }
 
-/// The words of the dynamic macros in the recipe of a node, where the marks are those of the nodes that were remade before it.
-#[tactic(auto, using(crate::proofs::NodeLemmas::are_newer))]
+fn words_behind_the_bar<'g>(
+    alloc: Global,
+    graph: &'g Graph,
+    node: usize,
+) -> Result<Vec<&'g [u8]>, AllocError>
+    requires { node < length graph.now.nodes.items }
+    ensures { IfOk result (λ words. map (λ word. word.now) words.items ≡ order_only_words graph.now node) }
+{
+    let mut words = Vec::new(alloc);
+    for prerequisite in graph.order_only(node) {
+        words.push(name_of(graph, *prerequisite))?;
+    }
+    Ok(words)
+}
+
+/// The words of `$|` for a node.
+pub fn order_only_words<'g>(
+    alloc: Global,
+    graph: &'g Graph,
+    node: usize,
+) -> Result<Option<Vec<&'g [u8]>>, AllocError>
+    requires { node < length graph.now.nodes.items }
+    ensures { IfOk result (λ found. option_map (λ words. map (λ word. word.now) words.items) found
+        ≡ in_wide (language_of graph.now) (order_only_words graph.now node)) }
+{
+    if graph.macros.profile().is_wide() {
+        return Ok(Some(words_behind_the_bar(alloc, graph, node)?));
+    }
+    Ok(None)
+}
+
+/// The words of the dynamic macros in the recipe of a node that this line has alone, where the marks are those of the nodes that were
+/// remade before it.
 pub fn recipe_words<'g>(
     alloc: Global,
     graph: &'g Graph,
     marks: &[bool],
     node: usize,
+    line: &RuleLine,
     explicit: &'g Option<ByteStrings>,
 ) -> Result<RecipeWords<'g>, AllocError>
     requires node { node < length graph.now.nodes.items }
+    requires alone { is_part (language_of graph.now) line.now ≡ false }
     requires wide { is_some explicit.now ≡ is_wide (language_of graph.now) }
     requires names { IfSome explicit.now (λ names. names ≡ explicit_of graph.now.lines.items (name_at graph.now.names node)) }
-    ensures { IfOk result (AreRecipeWords graph.now marks.now node) }
+    ensures { IfOk result (AreRecipeWords graph.now marks.now node line.now) }
 {
     let newer = newer_words(alloc, graph, marks, node)?;
     let once = once_words(alloc, graph, node)?;
     let repeated = repeated_words(alloc, graph, node, explicit)?;
+    let order_only = order_only_words(alloc, graph, node)?;
     Ok(RecipeWords {
         newer,
         once,
         repeated,
+        order_only,
     })
 }

@@ -1,5 +1,5 @@
 -- Tests, and texts that are cut at a byte.
-use Rattle.std.proofs.Common.{◌≡◌, ℕ, ◌+◌, Bool, true, false, cond, not, ◌&&◌, ◌||◌, ◌==◌, List, [], ◌∷◌, ◌++◌, length, take, drop, refl, sym, ap, ◌∙◌, arith, append_assoc, length-append, subst, Option, Some, None, Result, slice_index}
+use Rattle.std.proofs.Common.{◌≡◌, ℕ, ◌+◌, Bool, true, false, cond, not, ◌||◌, ◌==◌, List, [], ◌∷◌, ◌++◌, length, take, drop, refl, sym, ap, ◌∙◌, arith, append_assoc, length-append, subst, Option, Some, None, Result, slice_index}
 use Rattle.std.proofs.lemmas.Bool.Decides.{Decides-eqb}
 use Rattle.std.proofs.lemmas.List.{take_at}
 use Rattle.std.proofs.Math.Seq.{drop-append_seam, get_or-append_seam}
@@ -36,17 +36,6 @@ not_false false h = absurd (cc h)
 pub not_true : (t : Bool) → not t ≡ true → t ≡ false
 not_true true h = absurd (cc h)
 not_true false h = refl
-
-pub neither : (w a b : Bool) → (w && a) ≡ false → (w && b) ≡ false → (w && (a || b)) ≡ false
-neither false a b f g = refl
-neither true true b f g = f
-neither true false b f g = g
-
-pub third : (w a b : Bool) (x y z : Told) → (w && (a || b)) ≡ false → cond (w && a) x (cond (w && b) y z) ≡ z
-third false a b x y z h = refl
-third true true b x y z h = absurd (cc h)
-third true false true x y z h = absurd (cc h)
-third true false false x y z h = refl
 
 -- a text that is cut at a byte
 module _ (text left : List ℕ) (b : ℕ) (right : List ℕ) (n : ℕ) (e : text ≡ left ++ b ∷ right) (long : length left ≡ n) where

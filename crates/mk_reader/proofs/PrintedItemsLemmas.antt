@@ -7,7 +7,7 @@ use Rattle.mk_reader.specs.Text.{is_backslash, begins_with, without_last, is_tex
 use Rattle.mk_reader.specs.Lines.{Physical, spelling, goes_on, body, opening, groups, logical_line, numbered, logical_lines}
 use Rattle.mk_reader.specs.Grammar.{begins_blank, HasContent, IsForm}
 use Rattle.mk_reader.specs.Spelling.{ArePhysical}
-use Rattle.mk_reader.specs.Printed.{line_of_text, definition_text, rule_text, definition_on, rule_on, sign, spaced, PlainItem, definition, rule, lines_of, printed, IsOwnLine, IsPlainRecipe, ArePlain, next, recipe_on, after_recipe, items_on}
+use Rattle.mk_reader.specs.Printed.{line_of_text, definition_text, rule_sign, rule_text, definition_on, rule_on, sign, spaced, PlainItem, definition, rule, lines_of, printed, IsOwnLine, IsPlainRecipe, ArePlain, next, recipe_on, after_recipe, items_on}
 use Rattle.mk_reader.specs.Statements.{RecipeBelow, LineStatements, AreStatements}
 use Rattle.mk_reader.specs.declared.item.Statement.{Statement}
 use Rattle.mk_reader.specs.declared.item.Statement.TheVariants as statement
@@ -52,7 +52,7 @@ own_recipe (text ∷ more) rest h own = (h.0, own_recipe more rest h.3 own)
 own_lines : (profile : Profile) (items : List PlainItem) → ArePlain profile items → AllOwn (flat_map lines_of items)
 own_lines profile [] h = tt
 own_lines profile (definition name append value ∷ more) h = (h.0.3, own_lines profile more h.1)
-own_lines profile (rule special targets prerequisites recipe ∷ more) h = (h.0.5, own_recipe recipe (flat_map lines_of more) h.0.6 (own_lines profile more h.1))
+own_lines profile (rule special double targets prerequisites recipe ∷ more) h = (h.0.5, own_recipe recipe (flat_map lines_of more) h.0.6 (own_lines profile more h.1))
 
 -- One logical line each
 
@@ -90,8 +90,8 @@ with_recipe number (text ∷ more) rest = recipe_line number text ∷ with_recip
 abbrev plain_lines : ℕ → List PlainItem → List LogicalLine
 plain_lines number [] = line_of_text number [] ∷ []
 plain_lines number (definition name append value ∷ more) = line_of_text number (definition_text name append value) ∷ plain_lines (next number) more
-plain_lines number (rule special targets prerequisites recipe ∷ more) =
-    line_of_text number (rule_text targets prerequisites) ∷ with_recipe (next number) recipe (λ n. plain_lines n more)
+plain_lines number (rule special double targets prerequisites recipe ∷ more) =
+    line_of_text number (rule_text double targets prerequisites) ∷ with_recipe (next number) recipe (λ n. plain_lines n more)
 
 one_more : (number : ℕ) (p : Physical) (rest : List Physical) (line : LogicalLine) (lines : List LogicalLine) → goes_on p ≡ false → logical_line number (p ∷ []) ≡ line → numbered (next number) (groups rest) ≡ lines →
     numbered number (groups (p ∷ rest)) ≡ line ∷ lines
@@ -121,9 +121,9 @@ items_numbered profile number [] h =
 items_numbered profile number (definition name append value ∷ more) h =
     plain_one number (definition_text name append value) (physical_of (flat_map lines_of more)) (plain_lines (next number) more) h.0.3
     (begins_more name (sign append ++ spaced value) h.0.0.0 (no_blank_first name h.0.0.1)) (items_numbered profile (next number) more h.1)
-items_numbered profile number (rule special targets prerequisites recipe ∷ more) h =
-    plain_one number (rule_text targets prerequisites) (physical_of (map (λ t. 9 ∷ t) recipe ++ flat_map lines_of more)) (with_recipe (next number) recipe (λ n. plain_lines n more)) h.0.5
-    (begins_more targets (32 ∷ 58 ∷ spaced prerequisites) h.0.0.0 h.0.0.1.0)
+items_numbered profile number (rule special double targets prerequisites recipe ∷ more) h =
+    plain_one number (rule_text double targets prerequisites) (physical_of (map (λ t. 9 ∷ t) recipe ++ flat_map lines_of more)) (with_recipe (next number) recipe (λ n. plain_lines n more)) h.0.5
+    (begins_more targets (rule_sign double ++ spaced prerequisites) h.0.0.0 h.0.0.1.0)
     (recipe_numbered (next number) recipe (flat_map lines_of more) (λ n. plain_lines n more) h.0.6 (items_numbered profile (after_recipe (next number) recipe) more h.1))
 
 pub printed_lines : (profile : Profile) (items : List PlainItem) → ArePlain profile items → logical_lines 1 (Some (printed items)) ≡ plain_lines 1 items
@@ -148,9 +148,9 @@ module _ (profile : Profile) (file : List ℕ) where
   none_below number (definition name append value ∷ more) h =
       let rest = recipe_some profile file (plain_lines (next number) more) in
       (Ok (form.Definition (definition_on file number name append value)), definition_read profile file name value number append h.0.0 h.0.1 h.0.2, rest.0, rest.1, refl)
-  none_below number (rule special targets prerequisites recipe ∷ more) h =
+  none_below number (rule special double targets prerequisites recipe ∷ more) h =
       let rest = recipe_some profile file (with_recipe (next number) recipe (λ n. plain_lines n more)) in
-      (Ok (form.Rule (rule_on file number special targets prerequisites)), rule_read profile file targets prerequisites number special h.0.0 h.0.1 h.0.2 h.0.3 h.0.4, rest.0, rest.1, refl)
+      (Ok (form.Rule (rule_on file number special double targets prerequisites)), rule_read profile file targets prerequisites number special double h.0.0 h.0.1 h.0.2 h.0.3 h.0.4 h.0.7, rest.0, rest.1, refl)
 
   recipe_below : (number : ℕ) (recipe : List (List ℕ)) (rest : ℕ → List LogicalLine) → IsPlainRecipe recipe → RecipeBelow profile file (rest (after_recipe number recipe)) [] → RecipeBelow profile file (with_recipe number recipe rest) (recipe_on number recipe)
   recipe_below number [] rest h none = none
@@ -174,10 +174,10 @@ module _ (profile : Profile) (file : List ℕ) where
         below.1,
         (map statement.Item (items_on file (next number) more), items_read (next number) more false h.1, refl),
       )
-  items_read number (rule special targets prerequisites recipe ∷ more) above h =
+  items_read number (rule special double targets prerequisites recipe ∷ more) above h =
       let after = after_recipe (next number) recipe in (
-        Ok (form.Rule (rule_on file number special targets prerequisites)),
-        rule_read profile file targets prerequisites number special h.0.0 h.0.1 h.0.2 h.0.3 h.0.4,
+        Ok (form.Rule (rule_on file number special double targets prerequisites)),
+        rule_read profile file targets prerequisites number special double h.0.0 h.0.1 h.0.2 h.0.3 h.0.4 h.0.7,
         recipe_on (next number) recipe,
         recipe_below (next number) recipe (λ n. plain_lines n more) h.0.6 (none_below after more h.1),
         (

@@ -7,9 +7,9 @@ use Rattle.byte_strings.specs.Blanks.{is_blank, first_word}
 use Rattle.mk_profile.specs.Profile.{is_wide}
 use Rattle.mk_profile.specs.declared.profile.Profile.{Profile}
 use Rattle.mk_reader.specs.Text.{is_empty, begins_with, ends_with, is_text}
-use Rattle.mk_reader.specs.Grammar.{Piece, plain, piece_text, IsPiece, ArePieces, nothing, Lacks, Whole, Without, begins_blank, Padded, BeginsWithWord, BeginsInclude, IsNoInclude, SpellsName, SpellsAssignment, SpellsDefinition, SpellsColon, IsRuleEnd, SpellsEnd, SpellsRule, HasSpecial, is_refused_with, IsStatement, HasContent, IsTextLine, IsForm}
+use Rattle.mk_reader.specs.Grammar.{Piece, plain, piece_text, IsPiece, ArePieces, nothing, Lacks, Whole, Without, begins_blank, Padded, BeginsWithWord, BeginsInclude, IsNoInclude, SpellsName, SpellsAssignment, SpellsDefinition, SpellsColon, IsRuleEnd, ends_sign, SpellsRuleSign, SpellsEnd, SpellsRule, HasSpecial, is_refused_with, IsStatement, HasContent, IsTextLine, IsForm}
 use Rattle.mk_reader.specs.Form.{content_in}
-use Rattle.mk_reader.specs.Printed.{line_of_text, HasBareEnds, IsPlainName, IsPlainValue, ArePlainTargets, ArePlainPrerequisites, sign, spaced, definition_text, rule_text, definition_on, rule_on}
+use Rattle.mk_reader.specs.Printed.{line_of_text, HasBareEnds, IsPlainName, IsPlainValue, ArePlainTargets, ArePlainPrerequisites, sign, spaced, definition_text, rule_text, HasSign, definition_on, rule_on}
 use Rattle.mk_reader.specs.declared.special.SpecialName.{SpecialName}
 use Rattle.mk_reader.specs.declared.fault.Refusal.{Refusal}
 use Rattle.mk_reader.specs.declared.form.Form.{Form}
@@ -205,22 +205,52 @@ colon_plain : (prerequisites : List ℕ) → Lacks 35 prerequisites → Lacks 35
 colon_plain [] h = refl
 colon_plain (b ∷ bs) h = h
 
-pub rule_read : (profile : Profile) (file targets prerequisites : List ℕ) (number : ℕ) (special : Option SpecialName) → ArePlainTargets profile targets → ArePlainPrerequisites prerequisites → HasSpecial profile targets special → is_refused_with profile prerequisites special ≡ false → is_text (rule_text targets prerequisites) ≡ true →
-    IsForm profile file (line_of_text number (rule_text targets prerequisites)) (Ok (form.Rule (rule_on file number special targets prerequisites)))
-rule_read profile file targets prerequisites number special t p has taken good =
-    let text = rule_text targets prerequisites in
-    let ends : HasBareEnds text = (
-      begins_more targets (32 ∷ 58 ∷ spaced prerequisites) t.0 t.1.0,
-      ends_more targets (32 ∷ 58 ∷ spaced prerequisites) refl (colon_end prerequisites p.1.1),
-    ) in
-    let colon : SpellsColon text (targets ++ 32 ∷ []) (spaced prerequisites) =
-    (sym (append_assoc targets (32 ∷ []) (58 ∷ spaced prerequisites)), whole_more 61 58 targets 32 t.3 refl refl) in
-    let end : SpellsEnd (spaced prerequisites) prerequisites None = (without_spaced prerequisites p.2, padded_spaced prerequisites p.1) in
-    let spells : SpellsRule text targets prerequisites None =
-    (targets ++ 32 ∷ [], spaced prerequisites, colon, no_rule_sign prerequisites, padded_space targets t.1, t.0, end) in
-    itself_read profile file number text _ (lacks_both 35 targets (32 ∷ 58 ∷ spaced prerequisites) t.2 (colon_plain prerequisites p.0)) good ends
-    (empty_more targets (32 ∷ 58 ∷ spaced prerequisites) t.0) (no_include profile targets (58 ∷ spaced prerequisites) t.4)
-    (refl, refl, None, refl, spells, has, taken)
+double_end : (prerequisites : List ℕ) → begins_blank (reverse prerequisites) ≡ false → begins_blank (reverse (32 ∷ 58 ∷ 58 ∷ spaced prerequisites)) ≡ false
+double_end [] h = refl
+double_end (b ∷ bs) h = ends_more (32 ∷ 58 ∷ 58 ∷ 32 ∷ []) (b ∷ bs) refl h
+
+double_plain : (prerequisites : List ℕ) → Lacks 35 prerequisites → Lacks 35 (32 ∷ 58 ∷ 58 ∷ spaced prerequisites)
+double_plain [] h = refl
+double_plain (b ∷ bs) h = h
+
+no_sign_more : (prerequisites : List ℕ) → ends_sign (spaced prerequisites) ≡ false
+no_sign_more [] = refl
+no_sign_more (b ∷ bs) = refl
+
+-- a rule whose sign stands in front of this
+module _ (profile : Profile) (file targets prerequisites : List ℕ) (number : ℕ) (special : Option SpecialName) (t : ArePlainTargets profile targets)
+    (p : ArePlainPrerequisites prerequisites) (has : HasSpecial profile targets special) (taken : is_refused_with profile prerequisites special ≡ false) where
+  signed_read : (double : Bool) (rest : List ℕ) → begins_blank (reverse (32 ∷ rest)) ≡ false → Lacks 35 (32 ∷ rest) →
+      SpellsRuleSign profile double (targets ++ 32 ∷ rest) (targets ++ 32 ∷ []) (spaced prerequisites) → is_text (targets ++ 32 ∷ rest) ≡ true →
+      IsForm profile file (line_of_text number (targets ++ 32 ∷ rest)) (Ok (form.Rule (rule_on file number special double targets prerequisites)))
+  signed_read double rest bare no_hash sign good =
+      let text = targets ++ 32 ∷ rest in
+      let ends : HasBareEnds text = (begins_more targets (32 ∷ rest) t.0 t.1.0, ends_more targets (32 ∷ rest) refl bare) in
+      let end : SpellsEnd (spaced prerequisites) prerequisites None = (without_spaced prerequisites p.2, padded_spaced prerequisites p.1) in
+      let spells : SpellsRule profile double text targets prerequisites None = (targets ++ 32 ∷ [], spaced prerequisites, sign, padded_space targets t.1, t.0, end) in
+      itself_read profile file number text _ (lacks_both 35 targets (32 ∷ rest) t.2 no_hash) good ends
+      (empty_more targets (32 ∷ rest) t.0) (no_include profile targets rest t.4) (refl, refl, None, refl, spells, has, taken)
+
+  abbrev IsReadAs : (double : Bool) → Type 0
+  IsReadAs double = IsForm profile file (line_of_text number (rule_text double targets prerequisites)) (Ok (form.Rule (rule_on file number special double targets prerequisites)))
+
+  read_as : (double : Bool) → is_text (rule_text double targets prerequisites) ≡ true → HasSign profile double → IsReadAs double
+  read_as false good is =
+      let colon : SpellsColon (targets ++ 32 ∷ 58 ∷ spaced prerequisites) (targets ++ 32 ∷ []) (spaced prerequisites) =
+      (sym (append_assoc targets (32 ∷ []) (58 ∷ spaced prerequisites)), whole_more 61 58 targets 32 t.3 refl refl) in
+      signed_read false (58 ∷ spaced prerequisites) (colon_end prerequisites p.1.1) (colon_plain prerequisites p.0) (colon, no_rule_sign prerequisites) good
+  read_as true good is =
+      let colon : SpellsColon (targets ++ 32 ∷ 58 ∷ 58 ∷ spaced prerequisites) (targets ++ 32 ∷ []) (58 ∷ spaced prerequisites) =
+      (sym (append_assoc targets (32 ∷ []) (58 ∷ 58 ∷ spaced prerequisites)), whole_more 61 58 targets 32 t.3 refl refl) in
+      signed_read true (58 ∷ 58 ∷ spaced prerequisites) (double_end prerequisites p.1.1) (double_plain prerequisites p.0)
+      (colon, is refl, no_sign_more prerequisites) good
+
+pub rule_read : (profile : Profile) (file targets prerequisites : List ℕ) (number : ℕ) (special : Option SpecialName) (double : Bool) →
+    ArePlainTargets profile targets → ArePlainPrerequisites prerequisites → HasSpecial profile targets special →
+    is_refused_with profile prerequisites special ≡ false → is_text (rule_text double targets prerequisites) ≡ true → HasSign profile double →
+    IsForm profile file (line_of_text number (rule_text double targets prerequisites)) (Ok (form.Rule (rule_on file number special double targets prerequisites)))
+rule_read profile file targets prerequisites number special double t p has taken good sign =
+    read_as profile file targets prerequisites number special t p has taken double good sign
 
 -- Comments
 

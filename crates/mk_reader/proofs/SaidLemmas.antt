@@ -10,7 +10,7 @@ use Rattle.mk_profile.specs.Profile.{is_wide}
 use Rattle.mk_profile.specs.declared.profile.Profile.{Profile}
 use Rattle.mk_reader.specs.Text.{is_empty, begins_with, ends_with, without_last}
 use Rattle.mk_reader.specs.Special.{special_name}
-use Rattle.mk_reader.specs.Grammar.{Whole, Padded, AllBlank, SpellsName, SpellsAssignment, SpellsSign, SpellsColon, IsShell, IsRuleEnd, SpellsEnd, SpellsRule, HasSpecial, is_refused_with, refusal, first_line, IsStatement}
+use Rattle.mk_reader.specs.Grammar.{Whole, Padded, AllBlank, SpellsName, SpellsAssignment, SpellsSign, SpellsColon, IsShell, SpellsRuleSign, SpellsEnd, SpellsRule, HasSpecial, is_refused_with, refusal, first_line, IsStatement}
 use Rattle.mk_reader.specs.Form.{first_outside, defined_as, is_no_name, named_form, kind_form, optional_form, assigned_form, definition_form, prerequisites_of, recipe_of, judged_form, rule_form, begins_shell_definition, double_form, set_form, colon_form, decided_form}
 use Rattle.mk_reader.specs.declared.special.SpecialName.{SpecialName}
 use Rattle.mk_reader.specs.declared.item.DefinitionKind.{DefinitionKind}
@@ -22,7 +22,7 @@ use Rattle.mk_reader.specs.declared.form.Place.TheVariants.{Outside}
 use Rattle.mk_reader.proofs.ReferenceLemmas.{either, or_false, Said, said}
 use Rattle.mk_reader.proofs.BlankLemmas.{and_true, begins_is, start_cut, trimmed_start_of, trimmed_padded}
 use Rattle.mk_reader.proofs.SpellingLemmas.{ends_at}
-use Rattle.mk_reader.proofs.CutLemmas.{Told, by_test, empty_is, one_of, cut_first, neither, cut_left, cut_right, cut_byte}
+use Rattle.mk_reader.proofs.CutLemmas.{Told, by_test, empty_is, one_of, cut_first, not_false, not_true, cut_left, cut_right, cut_byte}
 use Rattle.mk_reader.proofs.WordLemmas.{has_special}
 use Rattle.mk_reader.proofs.ConditionalLemmas.{is_unset, set_parts, set_taken}
 
@@ -123,55 +123,64 @@ module _ (file : List ℕ) (number : ℕ) (profile : Profile) where
         ap (λ xs. first_line number (Some xs)) (cut_right right before b rest n e long),
       )
 
-  judged_said : (line targets prerequisites : List ℕ) (recipe : Option (List ℕ)) (special : Option SpecialName) (rule : Rule) →
-      rule.file ≡ file → rule.line ≡ number → rule.targets ≡ targets → rule.prerequisites ≡ prerequisites → rule.recipe ≡ first_line number recipe →
-      SpellsRule line targets prerequisites recipe → HasSpecial profile targets special → IsStatement profile file number line (judged_form profile special rule)
+  respelled : (double : Bool) (line targets prerequisites : List ℕ) (recipe : Option (List ℕ)) (rule : Rule) → rule.is_double ≡ double → rule.targets ≡ targets →
+      rule.prerequisites ≡ prerequisites → SpellsRule profile double line targets prerequisites recipe →
+      SpellsRule profile rule.is_double line rule.targets rule.prerequisites recipe
+  respelled double line targets prerequisites recipe rule d t p spells =
+      subst (λ b. SpellsRule profile b line rule.targets rule.prerequisites recipe) (sym d)
+      (subst (λ xs. SpellsRule profile double line xs rule.prerequisites recipe) (sym t)
+      (subst (λ xs. SpellsRule profile double line targets xs recipe) (sym p) spells))
+
+  judged_said : (double : Bool) (line targets prerequisites : List ℕ) (recipe : Option (List ℕ)) (special : Option SpecialName) (rule : Rule) →
+      rule.file ≡ file → rule.line ≡ number → rule.is_double ≡ double → rule.targets ≡ targets → rule.prerequisites ≡ prerequisites → rule.recipe ≡ first_line number recipe →
+      SpellsRule profile double line targets prerequisites recipe → HasSpecial profile targets special → IsStatement profile file number line (judged_form profile special rule)
   unfolding judged_form
-  judged_said line targets prerequisites recipe None rule f n t p r spells has = (
+  judged_said double line targets prerequisites recipe None rule f n d t p r spells has = (
     f,
     n,
     recipe,
     r,
-    subst (λ xs. SpellsRule line xs rule.prerequisites recipe) (sym t) (subst (λ xs. SpellsRule line targets xs recipe) (sym p) spells),
+    respelled double line targets prerequisites recipe rule d t p spells,
     subst (λ xs. HasSpecial profile xs None) (sym t) has,
     refl,
   )
-  judged_said line targets prerequisites recipe (Some name) rule f n t p r spells has =
+  judged_said double line targets prerequisites recipe (Some name) rule f n d t p r spells has =
       by_test (IsStatement profile file number line) (is_refused_with profile rule.prerequisites (Some name)) _ _
-      (λ e. ((f, n), (targets, prerequisites, recipe, spells, has, ap (λ xs. is_refused_with profile xs (Some name)) (sym p) ∙ e)))
+      (λ e. ((f, n), (double, targets, prerequisites, recipe, spells, has, ap (λ xs. is_refused_with profile xs (Some name)) (sym p) ∙ e)))
       (λ e. (
         f,
         n,
         recipe,
         r,
-        subst (λ xs. SpellsRule line xs rule.prerequisites recipe) (sym t) (subst (λ xs. SpellsRule line targets xs recipe) (sym p) spells),
+        respelled double line targets prerequisites recipe rule d t p spells,
         subst (λ xs. HasSpecial profile xs (Some name)) (sym t) has,
         e,
       ))
 
-  rule_said : (line left right : List ℕ) → SpellsColon line left right → IsRuleEnd right → IsStatement profile file number line (rule_form profile file number (trimmed left) right)
+  rule_said : (double : Bool) (line left right : List ℕ) → SpellsRuleSign profile double line left right →
+      IsStatement profile file number line (rule_form profile file number double (trimmed left) right)
   unfolding rule_form
-  rule_said line left right colon ends =
+  rule_said double line left right sign =
       let end = end_said right (first_outside 59 59 Outside right) (said 59 59 refl right) in
       by_test (IsStatement profile file number line) (is_empty (trimmed left)) _ _
-      (λ e. ((refl, refl), inr (inr (inr (left, right, colon, ends, core_blank left (subst (Padded left) (empty_is (trimmed left) e) (trimmed_padded left)))))))
-      (λ e. judged_said line (trimmed left) (prerequisites_of right (first_outside 59 59 Outside right)) end.0 (special_name profile (first_word (trimmed left))) _
-      refl refl refl refl end.2 (left, right, colon, ends, trimmed_padded left, e, end.1) (has_special profile (trimmed left) (special_name profile (first_word (trimmed left))) refl))
+      (λ e. ((refl, refl), inr (inr (inr (double, left, right, sign, core_blank left (subst (Padded left) (empty_is (trimmed left) e) (trimmed_padded left)))))))
+      (λ e. judged_said double line (trimmed left) (prerequisites_of right (first_outside 59 59 Outside right)) end.0 (special_name profile (first_word (trimmed left))) _
+      refl refl refl refl refl end.2 (left, right, sign, trimmed_padded left, e, end.1) (has_special profile (trimmed left) (special_name profile (first_word (trimmed left))) refl))
 
   double_said : (line left right : List ℕ) → SpellsColon line left (58 ∷ right) → IsStatement profile file number line (double_form profile file number left right)
   unfolding double_form
   double_said line left right h =
       let next = begins_with 58 right && begins_with 61 (drop 1 right) in
-      by_test (IsStatement profile file number line) (is_wide profile && begins_with 61 right) _ _
-      (λ t. let parts = and_true (is_wide profile) (begins_with 61 right) t in
-      signed_said line AtOnce left (drop 1 right) parts.0 (inl (h.0 ∙ ap (λ xs. left ++ 58 ∷ 58 ∷ xs) (cut_first 61 right parts.1), h.1)))
-      (λ f. by_test (IsStatement profile file number line) (is_wide profile && next) _ _
+      by_test (IsStatement profile file number line) (not (is_wide profile)) _ _
+      (λ t. ((refl, refl), (left, right, h, not_true (is_wide profile) t)))
+      (λ f. by_test (IsStatement profile file number line) (begins_with 61 right) _ _
+      (λ t. signed_said line AtOnce left (drop 1 right) (not_false (is_wide profile) f) (inl (h.0 ∙ ap (λ xs. left ++ 58 ∷ 58 ∷ xs) (cut_first 61 right t), h.1)))
+      (λ g. by_test (IsStatement profile file number line) next _ _
       (λ t.
-      let parts = and_true (is_wide profile) next t in
-      let more = and_true (begins_with 58 right) (begins_with 61 (drop 1 right)) parts.1 in
+      let more = and_true (begins_with 58 right) (begins_with 61 (drop 1 right)) t in
       let at : right ≡ 58 ∷ 61 ∷ drop 1 (drop 1 right) = cut_first 58 right more.0 ∙ ap (λ xs. 58 ∷ xs) (cut_first 61 (drop 1 right) more.1) in
-      signed_said line AtOnceAlone left (drop 1 (drop 1 right)) parts.0 (h.0 ∙ ap (λ xs. left ++ 58 ∷ 58 ∷ xs) at, h.1))
-      (λ g. ((refl, refl), (left, right, h, neither (is_wide profile) (begins_with 61 right) next f g))))
+      signed_said line AtOnceAlone left (drop 1 (drop 1 right)) (not_false (is_wide profile) f) (h.0 ∙ ap (λ xs. left ++ 58 ∷ 58 ∷ xs) at, h.1))
+      (λ k. rule_said true line left right (h, not_false (is_wide profile) f, ap (λ t. t || next) g ∙ k))))
 
   set_said : (line left right : List ℕ) → SpellsColon line left (61 ∷ right) → IsStatement profile file number line (set_form profile file number left right)
   unfolding set_form is_no_name
@@ -189,7 +198,7 @@ module _ (file : List ℕ) (number : ℕ) (profile : Profile) where
       (λ t. set_said line left (drop 1 right) (h.0 ∙ ap (λ xs. left ++ 58 ∷ xs) (cut_first 61 right t), h.1))
       (λ g. by_test (IsStatement profile file number line) (begins_shell_definition right) _ _
       (λ t. ((refl, refl), (left, right, h, shell_said right t)))
-      (λ k. rule_said line left right h (f, g, (λ s. absurd (cc (shell_back right s, k)))))))
+      (λ k. rule_said false line left right (h, (f, g, (λ s. absurd (cc (shell_back right s, k))))))))
 
   -- Statements
 

@@ -7,7 +7,7 @@ use Rattle.mk_profile.specs.Profile.{is_wide}
 use Rattle.mk_profile.specs.declared.profile.Profile.{Profile}
 use Rattle.mk_reader.specs.Text.{begins_with, ends_with, without_last}
 use Rattle.mk_reader.specs.Special.{special_name}
-use Rattle.mk_reader.specs.Grammar.{Whole, SpellsName, SpellsAssignment, SpellsDefinition, SpellsSign, SpellsKind, SpellsColon, IsRuleEnd, SpellsEnd, SpellsRule, HasSpecial, is_refused_with, IsRefused, refusal, first_line, IsStatement}
+use Rattle.mk_reader.specs.Grammar.{Whole, SpellsName, SpellsAssignment, SpellsDefinition, SpellsSign, SpellsKind, SpellsColon, IsRuleEnd, SpellsRuleSign, SpellsEnd, SpellsRule, HasSpecial, is_refused_with, IsRefused, refusal, first_line, IsStatement}
 use Rattle.mk_reader.specs.Form.{first_outside, defined_as, is_no_name, named_form, kind_form, optional_form, assigned_form, definition_form, prerequisites_of, recipe_of, judged_form, rule_form, begins_shell_definition, double_form, set_form, colon_form, decided_form}
 use Rattle.mk_reader.specs.declared.special.SpecialName.{SpecialName}
 use Rattle.mk_reader.specs.declared.item.Definition.{Definition}
@@ -23,9 +23,9 @@ use Rattle.mk_reader.specs.declared.fault.Refusal.{Refusal}
 use Rattle.mk_reader.specs.declared.form.Place.TheVariants.{Outside}
 use Rattle.mk_reader.specs.declared.form.UnfinishedRule.{UnfinishedRule}
 use Rattle.mk_reader.specs.declared.form.Form.TheVariants as form
-use Rattle.mk_reader.proofs.ReferenceLemmas.{either, cut_found, none_found}
+use Rattle.mk_reader.proofs.ReferenceLemmas.{either, or_false, cut_found, none_found}
 use Rattle.mk_reader.proofs.BlankLemmas.{trimmed_is}
-use Rattle.mk_reader.proofs.CutLemmas.{Told, third, cut_left, cut_right, cut_byte}
+use Rattle.mk_reader.proofs.CutLemmas.{Told, cut_left, cut_right, cut_byte}
 use Rattle.mk_reader.proofs.WordLemmas.{special_is}
 use Rattle.mk_reader.proofs.ConditionalLemmas.{is_unset, set_parts, set_taken}
 use Rattle.mk_reader.proofs.SaidLemmas.{shell_said, shell_back}
@@ -106,12 +106,12 @@ module _ (file : List ℕ) (number : ℕ) (profile : Profile) where
       ∙ ap (λ t. at_equals false t signed right) output
       ∙ ap (λ xs. kind_form file number Output (trimmed xs) right) front
 
-  colon_is : (left right : List ℕ) → IsRuleEnd right → colon_form profile file number left right ≡ rule_form profile file number (trimmed left) right
+  colon_is : (left right : List ℕ) → IsRuleEnd right → colon_form profile file number left right ≡ rule_form profile file number false (trimmed left) right
   unfolding colon_form
   colon_is left right (one, two, three) =
-      ap (λ t. cond t (double_form profile file number left (drop 1 right)) (cond (begins_with 61 right) (set_form profile file number left (drop 1 right)) (cond (begins_shell_definition right) (Err (refusal file number (cause.Unsupported feature.ShellDefinition))) (rule_form profile file number (trimmed left) right)))) one
-      ∙ ap (λ t. cond t (set_form profile file number left (drop 1 right)) (cond (begins_shell_definition right) (Err (refusal file number (cause.Unsupported feature.ShellDefinition))) (rule_form profile file number (trimmed left) right))) two
-      ∙ ap (λ t. cond t (Err (refusal file number (cause.Unsupported feature.ShellDefinition))) (rule_form profile file number (trimmed left) right)) (no_shell (begins_shell_definition right) refl)
+      ap (λ t. cond t (double_form profile file number left (drop 1 right)) (cond (begins_with 61 right) (set_form profile file number left (drop 1 right)) (cond (begins_shell_definition right) (Err (refusal file number (cause.Unsupported feature.ShellDefinition))) (rule_form profile file number false (trimmed left) right)))) one
+      ∙ ap (λ t. cond t (set_form profile file number left (drop 1 right)) (cond (begins_shell_definition right) (Err (refusal file number (cause.Unsupported feature.ShellDefinition))) (rule_form profile file number false (trimmed left) right))) two
+      ∙ ap (λ t. cond t (Err (refusal file number (cause.Unsupported feature.ShellDefinition))) (rule_form profile file number false (trimmed left) right)) (no_shell (begins_shell_definition right) refl)
     where
       no_shell : (t : Bool) → begins_shell_definition right ≡ t → begins_shell_definition right ≡ false
       no_shell true e = absurd (three (shell_said right e))
@@ -120,16 +120,30 @@ module _ (file : List ℕ) (number : ℕ) (profile : Profile) where
   colon_back : (line left right : List ℕ) → SpellsColon line left right → decided_form profile file number line (first_outside 61 58 Outside line) ≡ colon_form profile file number left right
   colon_back line left right (e, whole) = at_cut line left 58 right e whole refl
 
-  -- what `::` gives, where the profile is or isn't wide
+  -- what `::` gives, where the profile is or isn't wide, and this stands behind it
+  abbrev at_sign : (at_once alone : Bool) (left right : List ℕ) → Told
+  at_sign at_once alone left right =
+      cond at_once (kind_form file number AtOnce (trimmed left) (drop 1 right))
+      (cond alone (kind_form file number AtOnceAlone (trimmed left) (drop 1 (drop 1 right))) (rule_form profile file number true (trimmed left) right))
+
   abbrev at_double : (wide : Bool) (left right : List ℕ) → Told
   at_double wide left right =
-      cond (wide && begins_with 61 right) (kind_form file number AtOnce (trimmed left) (drop 1 right))
-      (cond (wide && (begins_with 58 right && begins_with 61 (drop 1 right))) (kind_form file number AtOnceAlone (trimmed left) (drop 1 (drop 1 right)))
-      (Err (refusal file number (cause.Unsupported feature.DoubleColon))))
+      cond (not wide) (Err (refusal file number (cause.Unsupported feature.DoubleColon)))
+      (at_sign (begins_with 61 right) (begins_with 58 right && begins_with 61 (drop 1 right)) left right)
 
   -- what `:=` gives, where it is or isn't refused
   abbrev at_set : (unset : Bool) (left right : List ℕ) → Told
   at_set unset left right = cond unset (Err (refusal file number (cause.Unsupported feature.ColonDefinition))) (kind_form file number AtOnce (trimmed left) right)
+
+  rule_sign_back : (double : Bool) (line left right : List ℕ) → SpellsRuleSign profile double line left right →
+      decided_form profile file number line (first_outside 61 58 Outside line) ≡ rule_form profile file number double (trimmed left) right
+  unfolding colon_form double_form
+  rule_sign_back false line left right (colon, ends) = colon_back line left right colon ∙ colon_is left right ends
+  rule_sign_back true line left right (colon, wide, ends) =
+      let next = begins_with 58 right && begins_with 61 (drop 1 right) in
+      let none = or_false (begins_with 61 right) next ends in
+      colon_back line left (58 ∷ right) colon ∙ ap (λ w. at_double w left right) wide
+      ∙ ap (λ t. at_sign t next left right) none.0 ∙ ap (λ t. at_sign false t left right) none.1
 
   sign_cut : (kind : DefinitionKind) (line left right : List ℕ) → is_wide profile ≡ true → SpellsSign kind line left right →
       decided_form profile file number line (first_outside 61 58 Outside line) ≡ kind_form file number kind (trimmed left) right
@@ -171,22 +185,23 @@ module _ (file : List ℕ) (number : ℕ) (profile : Profile) where
         ap (recipe_of number right) o ∙ ap (λ xs. first_line number (Some xs)) (cut_right right before 59 text (length before) e refl),
       )
 
-  ruled : (line targets prerequisites : List ℕ) (recipe : Option (List ℕ)) (o : Option SpecialName) → SpellsRule line targets prerequisites recipe → HasSpecial profile targets o →
+  ruled : (double : Bool) (line targets prerequisites : List ℕ) (recipe : Option (List ℕ)) (o : Option SpecialName) →
+      SpellsRule profile double line targets prerequisites recipe → HasSpecial profile targets o →
       decided_form profile file number line (first_outside 61 58 Outside line)
-      ≡ judged_form profile o (record { file = file; line = number; targets = targets; prerequisites = prerequisites; recipe = first_line number recipe })
+      ≡ judged_form profile o (record { file = file; line = number; is_double = double; targets = targets; prerequisites = prerequisites; recipe = first_line number recipe })
   unfolding rule_form
-  ruled line targets prerequisites recipe o (left, right, colon, ends, padded, some, end) has =
+  ruled double line targets prerequisites recipe o (left, right, sign, padded, some, end) has =
       let parts = end_back right prerequisites recipe end in
       let at = first_outside 59 59 Outside right in
-      colon_back line left right colon ∙ colon_is left right ends
-      ∙ ap (λ xs. rule_form profile file number xs right) (trimmed_is left targets padded)
+      rule_sign_back double line left right sign
+      ∙ ap (λ xs. rule_form profile file number double xs right) (trimmed_is left targets padded)
       ∙ ap (λ t. cond t (Err (refusal file number cause.MissingSeparator)) (judged_form profile (special_name profile (first_word targets)) (made targets (prerequisites_of right at) (recipe_of number right at)))) some
       ∙ ap (λ s. judged_form profile s (made targets (prerequisites_of right at) (recipe_of number right at))) (special_is profile targets o has)
       ∙ ap (λ p. judged_form profile o (made targets p (recipe_of number right at))) parts.0
       ∙ ap (λ r. judged_form profile o (made targets prerequisites r)) parts.1
     where
       made : List ℕ → List ℕ → List RecipeLine → Rule
-      made xs p r = record { file = file; line = number; targets = xs; prerequisites = p; recipe = r }
+      made xs p r = record { file = file; line = number; is_double = double; targets = xs; prerequisites = p; recipe = r }
 
   rule_taken : (o : Option SpecialName) (rule : Rule) → is_refused_with profile rule.prerequisites o ≡ false → judged_form profile o rule ≡ Ok (form.Rule (record { special = o; rule = rule }))
   unfolding judged_form
@@ -196,12 +211,12 @@ module _ (file : List ℕ) (number : ℕ) (profile : Profile) where
 
   rule_back : (line : List ℕ) (u : UnfinishedRule) → IsStatement profile file number line (Ok (form.Rule u)) → decided_form profile file number line (first_outside 61 58 Outside line) ≡ Ok (form.Rule u)
   rule_back line u (f, n, recipe, r, spells, has, taken) =
-      ruled line u.rule.targets u.rule.prerequisites recipe u.special spells has
+      ruled u.rule.is_double line u.rule.targets u.rule.prerequisites recipe u.special spells has
       ∙ rule_taken u.special _ taken
       ∙ ap (λ x. made x number (first_line number recipe)) (sym f) ∙ ap (λ x. made u.rule.file x (first_line number recipe)) (sym n) ∙ ap (made u.rule.file u.rule.line) (sym r)
     where
       made : List ℕ → ℕ → List RecipeLine → Told
-      made x y z = Ok (form.Rule (record { special = u.special; rule = record { file = x; line = y; targets = u.rule.targets; prerequisites = u.rule.prerequisites; recipe = z } }))
+      made x y z = Ok (form.Rule (record { special = u.special; rule = record { file = x; line = y; is_double = u.rule.is_double; targets = u.rule.targets; prerequisites = u.rule.prerequisites; recipe = z } }))
 
   refused_back : (line : List ℕ) (why : Cause) → IsRefused profile line why → decided_form profile file number line (first_outside 61 58 Outside line) ≡ Err (refusal file number why)
   unfolding decided_form named_form is_no_name defined_as kind_form optional_form rule_form colon_form double_form set_form definition_form ends_with judged_form
@@ -212,26 +227,24 @@ module _ (file : List ℕ) (number : ℕ) (profile : Profile) where
   refused_back line cause.MissingSeparator (inr (inr (inl (wide, kind, left, right, spells, name, padded, bad)))) =
       sign_cut kind line left right wide spells ∙ ap (λ xs. kind_form file number kind xs right) (trimmed_is left name padded)
       ∙ ap (λ t. cond t (Err (refusal file number cause.MissingSeparator)) (Ok (form.DefinitionLine (record { kind = kind; definition = record { file = file; line = number; name = name; append = false; value = trimmed right; is_fixed = false } })))) bad
-  refused_back line cause.MissingSeparator (inr (inr (inr (left, right, colon, ends, blank)))) =
-      colon_back line left right colon ∙ colon_is left right ends
-      ∙ ap (λ xs. rule_form profile file number xs right) (trimmed_is left [] (left, [], sym (append-nil left), blank, refl, refl, refl))
+  refused_back line cause.MissingSeparator (inr (inr (inr (double, left, right, sign, blank)))) =
+      rule_sign_back double line left right sign
+      ∙ ap (λ xs. rule_form profile file number double xs right) (trimmed_is left [] (left, [], sym (append-nil left), blank, refl, refl, refl))
   refused_back line (cause.Unsupported feature.OptionalDefinition) (strict, left, right, spells) =
       optional_cut line left right spells
       ∙ ap (λ t. cond (not t) (Err (refusal file number (cause.Unsupported feature.OptionalDefinition))) (kind_form file number IfUndefined (trimmed left) right)) strict
-  refused_back line (cause.Unsupported feature.DoubleColon) (left, right, colon, none) =
-      colon_back line left (58 ∷ right) colon
-      ∙ third (is_wide profile) (begins_with 61 right) (begins_with 58 right && begins_with 61 (drop 1 right)) (kind_form file number AtOnce (trimmed left) (drop 1 right))
-      (kind_form file number AtOnceAlone (trimmed left) (drop 1 (drop 1 right))) (Err (refusal file number (cause.Unsupported feature.DoubleColon))) none
+  refused_back line (cause.Unsupported feature.DoubleColon) (left, right, colon, strict) =
+      colon_back line left (58 ∷ right) colon ∙ ap (λ w. at_double w left right) strict
   refused_back line (cause.Unsupported feature.ColonDefinition) (left, right, colon, none) =
       colon_back line left (61 ∷ right) colon
       ∙ either _ (is_unset profile left right) (λ t. ap (λ u. at_set u left right) t) (λ f. let parts = set_parts profile left right f in absurd (none parts.0 parts.1))
   refused_back line (cause.Unsupported feature.ShellDefinition) (left, right, colon, (blanks, rest, e, blank)) =
       colon_back line left right colon ∙ ap (colon_form profile file number left) e
-      ∙ ap (λ t. cond t (Err (refusal file number (cause.Unsupported feature.ShellDefinition))) (rule_form profile file number (trimmed left) (codes "sh" ++ (blanks ++ 61 ∷ rest))))
+      ∙ ap (λ t. cond t (Err (refusal file number (cause.Unsupported feature.ShellDefinition))) (rule_form profile file number false (trimmed left) (codes "sh" ++ (blanks ++ 61 ∷ rest))))
       (shell_back (codes "sh" ++ (blanks ++ 61 ∷ rest)) (blanks, rest, refl, blank))
-  refused_back line (cause.Unsupported (feature.SpecialName name)) (targets, prerequisites, recipe, spells, has, bad) =
-      ruled line targets prerequisites recipe (Some name) spells has
-      ∙ ap (λ t. cond t (Err (refusal file number (cause.Unsupported (feature.SpecialName name)))) (Ok (form.Rule (record { special = Some name; rule = record { file = file; line = number; targets = targets; prerequisites = prerequisites; recipe = first_line number recipe } })))) bad
+  refused_back line (cause.Unsupported (feature.SpecialName name)) (double, targets, prerequisites, recipe, spells, has, bad) =
+      ruled double line targets prerequisites recipe (Some name) spells has
+      ∙ ap (λ t. cond t (Err (refusal file number (cause.Unsupported (feature.SpecialName name)))) (Ok (form.Rule (record { special = Some name; rule = record { file = file; line = number; is_double = double; targets = targets; prerequisites = prerequisites; recipe = first_line number recipe } })))) bad
   refused_back line (cause.Unsupported feature.Include) h = absurd h
   refused_back line (cause.Unsupported (feature.Directive directive)) h = absurd h
   refused_back line (cause.Unsupported feature.TargetMacro) h = absurd h

@@ -125,12 +125,13 @@ judged_form profile (Some name) rule =
     else Ok (form.Rule (record { special = Some name; rule = rule }))
 
 -- a rule: it has a target
-unfoldable pub rule_form : Profile → List ℕ → ℕ → List ℕ → List ℕ → Result Form Refusal
-rule_form profile file number targets right =
+unfoldable pub rule_form : Profile → List ℕ → ℕ → Bool → List ℕ → List ℕ → Result Form Refusal
+rule_form profile file number is_double targets right =
     if is_empty targets then Err (refusal file number MissingSeparator)
     else judged_form profile (special_name profile (first_word targets)) (record {
       file = file;
       line = number;
+      is_double = is_double;
       targets = targets;
       prerequisites = prerequisites_of right (first_outside 59 59 Outside right);
       recipe = recipe_of number right (first_outside 59 59 Outside right);
@@ -153,12 +154,13 @@ unfoldable pub conditional_at : List ℕ → Option ℕ → Bool
 conditional_at right None = false
 conditional_at right (Some at) = is_macro_name (trimmed (without_plus (take at right)))
 
--- what stands around `::`; the wide profile has `::=` and `:::=`
+-- what stands around `::`, which the wide profile has: as `::=`, as `:::=`, and in a rule
 unfoldable pub double_form : Profile → List ℕ → ℕ → List ℕ → List ℕ → Result Form Refusal
 double_form profile file number left right =
-    if is_wide profile && begins_with 61 right then kind_form file number AtOnce (trimmed left) (drop 1 right)
-    else (if is_wide profile && (begins_with 58 right && begins_with 61 (drop 1 right)) then kind_form file number AtOnceAlone (trimmed left) (drop 1 (drop 1 right))
-    else Err (refusal file number (Unsupported feature.DoubleColon)))
+    if not (is_wide profile) then Err (refusal file number (Unsupported feature.DoubleColon))
+    else (if begins_with 61 right then kind_form file number AtOnce (trimmed left) (drop 1 right)
+    else (if begins_with 58 right && begins_with 61 (drop 1 right) then kind_form file number AtOnceAlone (trimmed left) (drop 1 (drop 1 right))
+    else rule_form profile file number true (trimmed left) right))
 
 -- what stands around `:=`, which the wide profile has where it isn't that of a conditional macro
 unfoldable pub set_form : Profile → List ℕ → ℕ → List ℕ → List ℕ → Result Form Refusal
@@ -172,7 +174,7 @@ colon_form profile file number left right =
     if begins_with 58 right then double_form profile file number left (drop 1 right)
     else (if begins_with 61 right then set_form profile file number left (drop 1 right)
     else (if begins_shell_definition right then Err (refusal file number (Unsupported feature.ShellDefinition))
-    else rule_form profile file number (trimmed left) right))
+    else rule_form profile file number false (trimmed left) right))
 
 -- the first `=` or `:` outside references decides
 unfoldable pub decided_form : Profile → List ℕ → ℕ → List ℕ → Option ℕ → Result Form Refusal

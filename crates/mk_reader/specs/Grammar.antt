@@ -184,9 +184,18 @@ SpellsEnd right prerequisites None = Without 59 59 right × Padded right prerequ
 SpellsEnd right prerequisites (Some recipe) =
     (before : List ℕ) × (right ≡ before ++ 59 ∷ recipe) × Whole 59 59 before × Padded before prerequisites
 
-abbrev pub SpellsRule : (line targets prerequisites : List ℕ) (recipe : Option (List ℕ)) → Type 0
-SpellsRule line targets prerequisites recipe =
-    (left : List ℕ) × (right : List ℕ) × SpellsColon line left right × IsRuleEnd right
+-- behind `::` the sign of a definition ends: `=` or `:=`
+abbrev pub ends_sign : List ℕ → Bool
+ends_sign right = begins_with 61 right || (begins_with 58 right && begins_with 61 (drop 1 right))
+
+-- what stands around the sign of a rule: `:`, or in the wide profile `::` (GNU make manual, "Double-Colon Rules")
+abbrev pub SpellsRuleSign : Profile → (is_double : Bool) → (line left right : List ℕ) → Type 0
+SpellsRuleSign profile false line left right = SpellsColon line left right × IsRuleEnd right
+SpellsRuleSign profile true line left right = SpellsColon line left (58 ∷ right) × (is_wide profile ≡ true) × (ends_sign right ≡ false)
+
+abbrev pub SpellsRule : Profile → (is_double : Bool) → (line targets prerequisites : List ℕ) (recipe : Option (List ℕ)) → Type 0
+SpellsRule profile is_double line targets prerequisites recipe =
+    (left : List ℕ) × (right : List ℕ) × SpellsRuleSign profile is_double line left right
     × Padded left targets × (is_empty targets ≡ false) × SpellsEnd right prerequisites recipe
 
 -- the first target is this special name of the profile, or none
@@ -214,25 +223,23 @@ NamesNoWordOfKind profile line =
     × (name : List ℕ) × Padded left name × ((is_empty name || list_any is_blank name) ≡ true)
 
 -- a rule without a target
-abbrev pub HasNoTarget : (line : List ℕ) → Type 0
-HasNoTarget line = (left : List ℕ) × (right : List ℕ) × SpellsColon line left right × IsRuleEnd right × AllBlank left
-
--- behind `::` the sign of a definition ends: `=` or `:=`
-abbrev pub ends_sign : List ℕ → Bool
-ends_sign right = begins_with 61 right || (begins_with 58 right && begins_with 61 (drop 1 right))
+abbrev pub HasNoTarget : Profile → (line : List ℕ) → Type 0
+HasNoTarget profile line =
+    (is_double : Bool) × (left : List ℕ) × (right : List ℕ) × SpellsRuleSign profile is_double line left right × AllBlank left
 
 -- why a line is refused that isn't empty and is no include line
 abbrev pub IsRefused : Profile → (line : List ℕ) → Cause → Type 0
-IsRefused profile line cause.MissingSeparator = Without 61 58 line ⊎ (NamesNoWord profile line ⊎ (NamesNoWordOfKind profile line ⊎ HasNoTarget line))
+IsRefused profile line cause.MissingSeparator = Without 61 58 line ⊎ (NamesNoWord profile line ⊎ (NamesNoWordOfKind profile line ⊎ HasNoTarget profile line))
 IsRefused profile line (cause.Unsupported feature.OptionalDefinition) =
     (is_wide profile ≡ false) × (left : List ℕ) × (right : List ℕ) × SpellsSign IfUndefined line left right
 IsRefused profile line (cause.Unsupported feature.DoubleColon) =
-    (left : List ℕ) × (right : List ℕ) × SpellsColon line left (58 ∷ right) × ((is_wide profile && ends_sign right) ≡ false)
+    (left : List ℕ) × (right : List ℕ) × SpellsColon line left (58 ∷ right) × (is_wide profile ≡ false)
 IsRefused profile line (cause.Unsupported feature.ColonDefinition) =
     (left : List ℕ) × (right : List ℕ) × SpellsColon line left (61 ∷ right) × (is_wide profile ≡ true → IsSet left right → ⊥)
 IsRefused profile line (cause.Unsupported feature.ShellDefinition) = (left : List ℕ) × (right : List ℕ) × SpellsColon line left right × IsShell right
 IsRefused profile line (cause.Unsupported (feature.SpecialName name)) =
-    (targets : List ℕ) × (prerequisites : List ℕ) × (recipe : Option (List ℕ)) × SpellsRule line targets prerequisites recipe
+    (is_double : Bool) × (targets : List ℕ) × (prerequisites : List ℕ) × (recipe : Option (List ℕ))
+    × SpellsRule profile is_double line targets prerequisites recipe
     × HasSpecial profile targets (Some name) × (is_refused_with profile prerequisites (Some name) ≡ true)
 IsRefused profile line (cause.Unsupported feature.Include) = ⊥
 IsRefused profile line (cause.Unsupported (feature.Directive directive)) = ⊥
@@ -267,7 +274,7 @@ IsStatement profile file number line (Ok (form.DefinitionLine l)) =
     (is_wide profile ≡ true) × (l.definition.file ≡ file) × (l.definition.line ≡ number) × SpellsKind line l.kind l.definition
 IsStatement profile file number line (Ok (form.Rule u)) =
     (u.rule.file ≡ file) × (u.rule.line ≡ number) × (recipe : Option (List ℕ)) × (u.rule.recipe ≡ first_line number recipe)
-    × SpellsRule line u.rule.targets u.rule.prerequisites recipe
+    × SpellsRule profile u.rule.is_double line u.rule.targets u.rule.prerequisites recipe
     × HasSpecial profile u.rule.targets u.special × (is_refused_with profile u.rule.prerequisites u.special ≡ false)
 IsStatement profile file number line (Ok form.Blank) = ⊥
 IsStatement profile file number line (Ok (form.Recipe recipe)) = ⊥

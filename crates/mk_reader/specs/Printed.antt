@@ -2,6 +2,7 @@
 use Rattle.std.specs.Prelude.{◌≡◌, ℕ, Bool, true, false, List, [], ◌∷◌, ◌++◌, map, reverse, flat_map, Option, codes}
 use Rattle.std.specs.List.{list_any, list_all}
 use Rattle.byte_strings.specs.Blanks.{is_blank}
+use Rattle.mk_profile.specs.Profile.{is_wide}
 use Rattle.mk_profile.specs.declared.profile.Profile.{Profile}
 use Rattle.mk_reader.specs.Text.{is_empty, begins_with, is_text}
 use Rattle.mk_reader.specs.Lines.{number_after}
@@ -56,27 +57,37 @@ spaced (b ∷ bs) = 32 ∷ b ∷ bs
 abbrev pub definition_text : (name : List ℕ) (append : Bool) (value : List ℕ) → List ℕ
 definition_text name append value = name ++ (sign append ++ spaced value)
 
--- `TARGETS : PREREQUISITES`
-abbrev pub rule_text : (targets prerequisites : List ℕ) → List ℕ
-rule_text targets prerequisites = targets ++ (codes " :" ++ spaced prerequisites)
+abbrev pub rule_sign : (is_double : Bool) → List ℕ
+rule_sign false = codes " :"
+rule_sign true = codes " ::"
+
+-- `TARGETS : PREREQUISITES` or `TARGETS :: PREREQUISITES`
+abbrev pub rule_text : (is_double : Bool) (targets prerequisites : List ℕ) → List ℕ
+rule_text is_double targets prerequisites = targets ++ (rule_sign is_double ++ spaced prerequisites)
+
+-- the wide profile has `::`
+abbrev pub HasSign : Profile → (is_double : Bool) → Type 0
+HasSign profile is_double = is_double ≡ true → is_wide profile ≡ true
 
 abbrev pub definition_on : (file : List ℕ) (number : ℕ) (name : List ℕ) (append : Bool) (value : List ℕ) → Definition
 definition_on file number name append value = record { file = file; line = number; name = name; append = append; value = value; is_fixed = false }
 
-abbrev pub rule_on : (file : List ℕ) (number : ℕ) (special : Option SpecialName) (targets prerequisites : List ℕ) → UnfinishedRule
-rule_on file number special targets prerequisites =
-    record { special = special; rule = record { file = file; line = number; targets = targets; prerequisites = prerequisites; recipe = [] } }
+abbrev pub rule_on : (file : List ℕ) (number : ℕ) (special : Option SpecialName) (is_double : Bool) (targets prerequisites : List ℕ) → UnfinishedRule
+rule_on file number special is_double targets prerequisites = record {
+  special = special;
+  rule = record { file = file; line = number; is_double = is_double; targets = targets; prerequisites = prerequisites; recipe = [] };
+}
 
 -- Whole makefiles
 
 -- an item without a place, and the lines of its recipe
 pub data PlainItem : Type 0 where
   definition : (name : List ℕ) (append : Bool) (value : List ℕ) → PlainItem
-  rule : (special : Option SpecialName) (targets prerequisites : List ℕ) (recipe : List (List ℕ)) → PlainItem
+  rule : (special : Option SpecialName) (is_double : Bool) (targets prerequisites : List ℕ) (recipe : List (List ℕ)) → PlainItem
 
 abbrev pub lines_of : PlainItem → List (List ℕ)
 lines_of (definition name append value) = definition_text name append value ∷ []
-lines_of (rule special targets prerequisites recipe) = rule_text targets prerequisites ∷ map (λ text. 9 ∷ text) recipe
+lines_of (rule special is_double targets prerequisites recipe) = rule_text is_double targets prerequisites ∷ map (λ text. 9 ∷ text) recipe
 
 -- each line with a newline behind it
 abbrev pub printed : List PlainItem → List ℕ
@@ -93,9 +104,10 @@ IsPlainRecipe (text ∷ more) = IsOwnLine (9 ∷ text) × (is_text text ≡ true
 abbrev pub IsPlainItem : Profile → PlainItem → Type 0
 IsPlainItem profile (definition name append value) =
     IsPlainName profile name × IsPlainValue value × (is_text (definition_text name append value) ≡ true) × IsOwnLine (definition_text name append value)
-IsPlainItem profile (rule special targets prerequisites recipe) =
+IsPlainItem profile (rule special is_double targets prerequisites recipe) =
     ArePlainTargets profile targets × ArePlainPrerequisites prerequisites × HasSpecial profile targets special × (is_refused_with profile prerequisites special ≡ false)
-    × (is_text (rule_text targets prerequisites) ≡ true) × IsOwnLine (rule_text targets prerequisites) × IsPlainRecipe recipe
+    × (is_text (rule_text is_double targets prerequisites) ≡ true) × IsOwnLine (rule_text is_double targets prerequisites) × IsPlainRecipe recipe
+    × HasSign profile is_double
 
 abbrev pub ArePlain : Profile → List PlainItem → Type 0
 ArePlain profile [] = Unit {0}
@@ -117,6 +129,6 @@ after_recipe number (text ∷ more) = after_recipe (next number) more
 abbrev pub items_on : (file : List ℕ) (number : ℕ) → List PlainItem → List Item
 items_on file number [] = []
 items_on file number (definition name append value ∷ more) = item.Definition (definition_on file number name append value) ∷ items_on file (next number) more
-items_on file number (rule special targets prerequisites recipe ∷ more) =
-    item_of special (record { file = file; line = number; targets = targets; prerequisites = prerequisites; recipe = recipe_on (next number) recipe })
+items_on file number (rule special is_double targets prerequisites recipe ∷ more) =
+    item_of special (record { file = file; line = number; is_double = is_double; targets = targets; prerequisites = prerequisites; recipe = recipe_on (next number) recipe })
     ∷ items_on file (after_recipe (next number) recipe) more

@@ -42,12 +42,12 @@ is_known profile _ = true
 unfoldable pub special_name : Profile → List ℕ → Option SpecialName
 special_name profile word = find (λ name. bytes_eq (name_text name) word && is_known profile name) all_names
 
--- a rule of this name is refused; that of PHONY in the strict profile alone
+-- a rule of this name is refused; those of DEFAULT and PHONY in the strict profile alone
 unfoldable pub is_refused : Profile → SpecialName → Bool
 is_refused profile Init = true
 is_refused profile Done = true
 is_refused profile Failed = true
-is_refused profile Default = true
+is_refused profile Default = not (is_wide profile)
 is_refused profile KeepStateFile = true
 is_refused profile MakeVersion = true
 is_refused profile GetPosix = true

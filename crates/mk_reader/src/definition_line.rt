@@ -2,7 +2,7 @@
 ghost use Rattle.std.specs.Prelude.{◌≡◌, ◌&&◌, IfOk};
 ghost use Rattle.std.specs.List.{list_any, list_all};
 ghost use Rattle.byte_strings.specs.Blanks.{is_blank};
-ghost use Rattle.mk_reader.specs.Form.{Gives, defined_as, is_no_name, named_form, kind_form, optional_form, assigned_form, definition_form, is_macro_name, without_plus, conditional_at, double_form, set_form, first_outside};
+ghost use Rattle.mk_reader.specs.Form.{Gives, defined_as, is_no_name, named_form, kind_form, optional_form, assigned_form, definition_form, is_macro_name, without_plus, conditional_at, set_form, first_outside};
 ghost use Rattle.mk_reader.specs.Grammar.{is_name_byte};
 ghost use Rattle.mk_reader.specs.declared.form.Place.TheVariants.{Outside};
 
@@ -10,7 +10,7 @@ use crate::fault::{Cause, Feature, ReadFault};
 use crate::form::Form;
 use crate::item::{Definition, DefinitionKind, DefinitionLine};
 use crate::line::LinePlace;
-use crate::lines::{begins_with, ends_with, without_first, without_last};
+use crate::lines::{ends_with, without_last};
 use crate::reference::first_outside;
 use crate::refuse::refuse;
 use byte_strings::{ByteString, is_blank, trim};
@@ -66,7 +66,7 @@ fn named_form(
 }
 
 #[tactic(auto, unfolding(crate::specs::Form::kind_form))]
-fn kind_form(
+pub fn kind_form(
     place: LinePlace<'_>,
     kind: DefinitionKind,
     name: &[u8],
@@ -155,27 +155,6 @@ fn is_conditional(right: &[u8]) -> bool
         Some(at) => is_macro_name(trim(without_plus(right.split_at(at).0))),
         None => false,
     }
-}
-
-#[tactic(auto, unfolding(crate::specs::Form::double_form))]
-pub fn double_form(place: LinePlace<'_>, left: &[u8], right: &[u8]) -> Result<Form, ReadFault>
-    ensures { Gives result (double_form place.entry.profile place.entry.file.now place.entry.number left.now right.now) }
-{
-    let is_wide = place.profile.is_wide();
-    if is_wide && begins_with(right, b'=') {
-        return kind_form(
-            place,
-            DefinitionKind::AtOnce,
-            trim(left),
-            without_first(right),
-        );
-    }
-    if is_wide && begins_with(right, b':') && begins_with(without_first(right), b'=') {
-        let value = without_first(without_first(right));
-        return kind_form(place, DefinitionKind::AtOnceAlone, trim(left), value);
-    }
-    let cause = Cause::Unsupported(Feature::DoubleColon);
-    Err(refuse(place, cause))
 }
 
 #[tactic(auto, unfolding(crate::specs::Form::set_form))]

@@ -13,7 +13,7 @@ pub enum Feature {
     Include,
     /// `?=` in the strict profile.
     OptionalDefinition,
-    /// `::`, and in the strict profile so `::=`.
+    /// `::` in the strict profile, and so `::=`.
     DoubleColon,
     /// `:=` in the strict profile, and where it would be a conditional macro.
     ColonDefinition,

@@ -73,13 +73,15 @@ impl Recipe {
     }
 }
 
-/// `TARGETS : PREREQUISITES`, with a recipe below it or behind a `;`. The texts aren't expanded, and as they are
-/// read they have no blanks at their ends.
+/// `TARGETS : PREREQUISITES`, or with `::`, with a recipe below it or behind a `;`. The texts aren't expanded, and as they
+/// are read they have no blanks at their ends.
 #[derive(Drop)]
 pub struct Rule {
     pub file: ByteString,
     /// The number of the first physical line, from 1.
     pub line: usize,
+    /// Whether `::` stands there, which the wide profile has.
+    pub is_double: bool,
     pub targets: ByteString,
     pub prerequisites: ByteString,
     pub recipe: Recipe,

@@ -7,7 +7,7 @@ ghost use Rattle.mk_reader.specs.Spelling.{AreLines, AreGroups};
 ghost use Rattle.mk_reader.specs.Form.{form_of};
 ghost use Rattle.mk_reader.specs.Text.{ends_with, is_text};
 ghost use Rattle.mk_reader.specs.Grammar.{Lacks, HasSpecial, is_refused_with, IsForm};
-ghost use Rattle.mk_reader.specs.Printed.{line_of_text, IsPlainName, IsPlainValue, ArePlainTargets, ArePlainPrerequisites, definition_text, definition_on, rule_text, rule_on, PlainItem, ArePlain, printed, items_on};
+ghost use Rattle.mk_reader.specs.Printed.{line_of_text, IsPlainName, IsPlainValue, ArePlainTargets, ArePlainPrerequisites, definition_text, definition_on, HasSign, rule_text, rule_on, PlainItem, ArePlain, printed, items_on};
 ghost use Rattle.mk_reader.specs.Statements.{AreStatements};
 ghost use Rattle.mk_reader.specs.declared.fault.Refusal.{Refusal};
 ghost use Rattle.mk_reader.specs.declared.form.Form.{Form};
@@ -47,11 +47,12 @@ pub fn printed_lines_are_read_back()
         → IsPlainName profile name → IsPlainValue value → is_text (definition_text name append value) ≡ true
         → IsForm profile file (line_of_text number (definition_text name append value))
         (Ok (form.Definition (definition_on file number name append value))) }
-    ensures rule { (profile : Profile) (file targets prerequisites : List ℕ) (number : ℕ) (special : Option SpecialName)
+    ensures rule { (profile : Profile) (file targets prerequisites : List ℕ) (number : ℕ) (special : Option SpecialName) (is_double : Bool)
         → ArePlainTargets profile targets → ArePlainPrerequisites prerequisites → HasSpecial profile targets special
-        → is_refused_with profile prerequisites special ≡ false → is_text (rule_text targets prerequisites) ≡ true
-        → IsForm profile file (line_of_text number (rule_text targets prerequisites))
-        (Ok (form.Rule (rule_on file number special targets prerequisites))) }
+        → is_refused_with profile prerequisites special ≡ false → is_text (rule_text is_double targets prerequisites) ≡ true
+        → HasSign profile is_double
+        → IsForm profile file (line_of_text number (rule_text is_double targets prerequisites))
+        (Ok (form.Rule (rule_on file number special is_double targets prerequisites))) }
 {}
 
 /// A makefile that is printed from plain items is read back as these.

@@ -20,7 +20,7 @@ pub enum SpecialName {
     Parallel,
     SccsGet,
     Local,
-    // These are refused, `.PHONY` in the strict profile alone.
+    // These are refused, `.DEFAULT` and `.PHONY` in the strict profile alone.
     Init,
     Done,
     Failed,
@@ -118,7 +118,7 @@ pub fn special_name(profile: Profile, word: &[u8]) -> Option<SpecialName>
     ALL.iter().copied().find(|name| name.as_str().as_bytes() == word && is_known(profile, *name))
 }
 
-/// Whether passing over a rule of this name could change what is built. The wide profile takes `.PHONY`.
+/// Whether passing over a rule of this name could change what is built. The wide profile takes `.DEFAULT` and `.PHONY`.
 #[tactic(auto, unfolding(crate::specs::Special::is_refused))]
 pub fn is_refused(profile: Profile, name: SpecialName) -> bool
     ensures { result ≡ is_refused profile name }
@@ -127,12 +127,11 @@ pub fn is_refused(profile: Profile, name: SpecialName) -> bool
         SpecialName::Init
         | SpecialName::Done
         | SpecialName::Failed
-        | SpecialName::Default
         | SpecialName::KeepStateFile
         | SpecialName::MakeVersion
         | SpecialName::GetPosix
         | SpecialName::SccsGetPosix => true,
-        SpecialName::Phony => !profile.is_wide(),
+        SpecialName::Default | SpecialName::Phony => !profile.is_wide(),
         _ => false,
     }
 }

@@ -4,15 +4,15 @@ ghost use Rattle.std.specs.List.{list_any};
 ghost use Rattle.byte_strings.specs.Blanks.{trimmed_start};
 ghost use Rattle.mk_reader.specs.Text.{is_dollar, is_empty, is_text};
 ghost use Rattle.mk_reader.specs.Directive.{told_as};
-ghost use Rattle.mk_reader.specs.Form.{Gives, include_kind, include_form, prerequisites_of, recipe_of, judged_form, rule_form, begins_shell_definition, colon_form, decided_form, line_form, content_form, statement_form, recipe_form, form_of, first_outside};
+ghost use Rattle.mk_reader.specs.Form.{Gives, include_kind, include_form, prerequisites_of, recipe_of, judged_form, rule_form, begins_shell_definition, double_form, colon_form, decided_form, line_form, content_form, statement_form, recipe_form, form_of, first_outside};
 ghost use Rattle.mk_reader.specs.declared.form.Place.TheVariants.{Outside};
 
 use crate::comment::{before_comment, unescaped};
-use crate::definition_line::{definition_form, double_form, set_form};
+use crate::definition_line::{definition_form, kind_form, set_form};
 use crate::directive::told_refusal;
 use crate::fault::{Cause, Feature, ReadFault};
 use crate::form::{Form, UnfinishedRule};
-use crate::item::{IncludeLine, Recipe, RecipeLine, Rule};
+use crate::item::{DefinitionKind, IncludeLine, Recipe, RecipeLine, Rule};
 use crate::line::{LinePlace, LogicalLine};
 use crate::lines::{around, begins_with, ends_with, without_first};
 use crate::reference::first_outside;
@@ -115,8 +115,13 @@ fn recipe_of(
 }
 
 #[tactic(auto, unfolding(crate::specs::Form::rule_form))]
-fn rule_form(place: LinePlace<'_>, targets: &[u8], right: &[u8]) -> Result<Form, ReadFault>
-    ensures { Gives result (rule_form place.entry.profile place.entry.file.now place.entry.number targets.now right.now) }
+fn rule_form(
+    place: LinePlace<'_>,
+    is_double: bool,
+    targets: &[u8],
+    right: &[u8],
+) -> Result<Form, ReadFault>
+    ensures { Gives result (rule_form place.entry.profile place.entry.file.now place.entry.number is_double targets.now right.now) }
 {
     if targets.is_empty() {
         return Err(refuse(place, Cause::MissingSeparator));
@@ -125,12 +130,36 @@ fn rule_form(place: LinePlace<'_>, targets: &[u8], right: &[u8]) -> Result<Form,
     let rule = Rule {
         file: ByteString::from_slice(place.alloc, place.file)?,
         line: place.number,
+        is_double,
         targets: ByteString::from_slice(place.alloc, targets)?,
         prerequisites: ByteString::from_slice(place.alloc, prerequisites_of(right, semicolon))?,
         recipe: recipe_of(place.alloc, place.number, right, semicolon)?,
     };
     let special = special_name(place.profile, first_word(targets));
     judged_form(place.alloc, place.profile, special, rule)
+}
+
+#[tactic(auto, unfolding(crate::specs::Form::double_form))]
+fn double_form(place: LinePlace<'_>, left: &[u8], right: &[u8]) -> Result<Form, ReadFault>
+    ensures { Gives result (double_form place.entry.profile place.entry.file.now place.entry.number left.now right.now) }
+{
+    if !place.profile.is_wide() {
+        let cause = Cause::Unsupported(Feature::DoubleColon);
+        return Err(refuse(place, cause));
+    }
+    if begins_with(right, b'=') {
+        return kind_form(
+            place,
+            DefinitionKind::AtOnce,
+            trim(left),
+            without_first(right),
+        );
+    }
+    if begins_with(right, b':') && begins_with(without_first(right), b'=') {
+        let value = without_first(without_first(right));
+        return kind_form(place, DefinitionKind::AtOnceAlone, trim(left), value);
+    }
+    rule_form(place, true, trim(left), right)
 }
 
 #[tactic(auto, unfolding(crate::specs::Form::begins_shell_definition))]
@@ -157,7 +186,7 @@ fn colon_form(place: LinePlace<'_>, left: &[u8], right: &[u8]) -> Result<Form, R
         let cause = Cause::Unsupported(Feature::ShellDefinition);
         return Err(refuse(place, cause));
     }
-    rule_form(place, trim(left), right)
+    rule_form(place, false, trim(left), right)
 }
 
 #[tactic(auto, unfolding(crate::specs::Form::decided_form))]

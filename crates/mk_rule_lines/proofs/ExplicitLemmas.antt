@@ -8,7 +8,7 @@ use Rattle.mk_rule_lines.specs.Rules.{places}
 use Rattle.mk_rule_lines.specs.declared.rule_line.RuleLine.{RuleLine}
 
 -- what the line with a number has of this
-abbrev pub names_at : (of : RuleLine → List (List ℕ)) → List RuleLine → (k : ℕ) → List (List ℕ)
+abbrev pub names_at : {A : Type 0} → (of : RuleLine → List A) → List RuleLine → (k : ℕ) → List A
 names_at of lines k = option_map_or of (slice_get lines k) []
 
 -- the line behind some others is read by their number
@@ -16,7 +16,7 @@ read_behind : (done : List RuleLine) (l : RuleLine) (left : List RuleLine) → s
 read_behind [] l left = refl
 read_behind (d ∷ done) l left = read_behind done l left
 
-module _ (of : RuleLine → List (List ℕ)) (p : RuleLine → Bool) where
+module _ {A : Type 0} (of : RuleLine → List A) (p : RuleLine → Bool) where
   at_places : (done : List RuleLine) (l : RuleLine) (left : List RuleLine) (t : Bool) → p l ≡ t →
       flat_map (names_at of (done ++ l ∷ left)) (places p (length done + 1) left) ≡ flat_map of (filter p left) →
       flat_map (names_at of (done ++ l ∷ left)) (places p (length done) (l ∷ left)) ≡ flat_map of (filter p (l ∷ left))
@@ -58,7 +58,7 @@ module _ (p q : RuleLine → Bool) where
       rw whole at (rw count at more))
 
 -- once the prerequisites of the next line are added, what is left to add are those of the lines behind it
-pub names-next : (of : RuleLine → List (List ℕ)) (before after whole : List (List ℕ)) (lines : List RuleLine) (k : ℕ) (l : RuleLine) (more : List ℕ) → slice_get lines k ≡ Some l →
+pub names-next : {A : Type 0} (of : RuleLine → List A) (before after whole : List A) (lines : List RuleLine) (k : ℕ) (l : RuleLine) (more : List ℕ) → slice_get lines k ≡ Some l →
     after ≡ before ++ of l → before ++ flat_map (names_at of lines) (k ∷ more) ≡ whole → after ++ flat_map (names_at of lines) more ≡ whole
 names-next of before after whole lines k l more read adds so =
     let here : names_at of lines k ≡ of l = ap (λ (o : Option RuleLine). option_map_or of o []) read in
@@ -68,7 +68,7 @@ names-next of before after whole lines k l more read adds so =
     ∙ so
 
 -- a number past the lines has no prerequisites
-pub names-none : (of : RuleLine → List (List ℕ)) (before whole : List (List ℕ)) (lines : List RuleLine) (k : ℕ) (more : List ℕ) → slice_get lines k ≡ None →
+pub names-none : {A : Type 0} (of : RuleLine → List A) (before whole : List A) (lines : List RuleLine) (k : ℕ) (more : List ℕ) → slice_get lines k ≡ None →
     before ++ flat_map (names_at of lines) (k ∷ more) ≡ whole → before ++ flat_map (names_at of lines) more ≡ whole
 names-none of before whole lines k more read so =
     let here : names_at of lines k ≡ [] = ap (λ (o : Option RuleLine). option_map_or of o []) read in

@@ -19,10 +19,10 @@ use Rattle.mk_rule_lines.specs.Goals.{has_special}
 use Rattle.mk_rule_lines.specs.InForce.{IsTaking, IsSamePattern, IsSuffixRuleOf, Takes, AreLeft, no_lines, counts, goes, AreInForce, AreLinesInForce}
 use Rattle.mk_rule_lines.specs.Lines.{AreRuleLines}
 use Rattle.mk_rule_lines.specs.Kinds.{IsRule, IsOnePattern}
-use Rattle.mk_rule_lines.specs.Rules.{has, is_rule, may_be_suffix_rule}
+use Rattle.mk_rule_lines.specs.Rules.{has, is_rule, lacks_single, may_be_suffix_rule}
 use Rattle.mk_rule_lines.specs.Tests.{is_one_pattern, is_taking, same_word, is_same_pattern, is_joined, names_suffix_rule, names_form, one_names_form, is_suffix_rule_of, takes}
 use Rattle.mk_rule_lines.specs.declared.rule_line.RuleLine.{RuleLine}
-use Rattle.mk_rule_lines.proofs.KindLemmas.{any_decides, has_decides, empty_decides, rule_decides, recipe_decides, rest_is}
+use Rattle.mk_rule_lines.proofs.KindLemmas.{any_decides, has_decides, empty_decides, rule_decides, single_decides, rest_is}
 use Rattle.mk_rule_lines.proofs.SupportedLemmas.{one_pattern_decides}
 
 -- ---- one line
@@ -129,7 +129,7 @@ module _ (suffixes : List (List ℕ)) where
   suffix_rule_of : (l taking : RuleLine) → is_suffix_rule_of suffixes l taking ≡ true → IsSuffixRuleOf suffixes l taking
   suffix_rule_of l taking e =
       let whole = and_parts (may_be_suffix_rule l) (one_names_form suffixes l.targets taking.targets taking.prerequisites) e in
-      let may = and_parts (is_empty l.prerequisites) (not (is_empty l.recipe)) whole.0 in
+      let may = and_parts (is_empty l.prerequisites) (not (lacks_single l)) whole.0 in
       let (name, names, target, targets, source, sources, form) = form_of_one l.targets taking.targets taking.prerequisites whole.1 in
       let (t, target_is, of_source) = form in
       let (s, source_is, named) = of_source in
@@ -140,7 +140,7 @@ module _ (suffixes : List (List ℕ)) where
         second = (named.1).0;
         targets = names ∙ ap (λ n. n ∷ []) (named.1).1;
         prerequisites = (empty_decides l.prerequisites).0 may.0;
-        recipe = (recipe_decides l).0 may.1;
+        recipe = (single_decides l).0 may.1;
         target = targets ∙ ap (λ n. n ∷ []) target_is;
         source = sources ∙ ap (λ n. n ∷ []) source_is;
       }
@@ -149,7 +149,7 @@ module _ (suffixes : List (List ℕ)) where
   is_suffix_rule l taking is =
       let name : List ℕ = is.s ++ is.t in
       and_from (may_be_suffix_rule l) (one_names_form suffixes l.targets taking.targets taking.prerequisites)
-      (and_from (is_empty l.prerequisites) (not (is_empty l.recipe)) ((empty_decides l.prerequisites).1 is.prerequisites) ((recipe_decides l).1 is.recipe))
+      (and_from (is_empty l.prerequisites) (not (lacks_single l)) ((empty_decides l.prerequisites).1 is.prerequisites) ((single_decides l).1 is.recipe))
       (ap (λ ns. one_names_form suffixes ns taking.targets taking.prerequisites) is.targets
       ∙ ap (λ ns. one_names_form suffixes (name ∷ []) ns taking.prerequisites) is.target
       ∙ ap (λ ns. one_names_form suffixes (name ∷ []) ((37 ∷ is.t) ∷ []) ns) is.source

@@ -1,21 +1,22 @@
 -- What the tests of a rule line and of its targets mean, one by one.
 use Rattle.std.specs.Prelude.{is_none, slice_index_or, Contains}
 use Rattle.std.specs.Bool.{Decides}
-use Rattle.std.specs.List.{Any, list_any}
+use Rattle.std.specs.List.{All, Any, list_all, list_any}
 use Rattle.std.specs.Option.{option_map_or}
-use Rattle.std.proofs.Common.{◌≡◌, ◌⊎◌, ◌∙◌, ℕ, Bool, true, false, not, cond, ◌&&◌, ◌==◌, List, [], ◌∷◌, ◌++◌, length, take, drop, filter, Option, Some, None, refl, sym, ap, subst, bytes_eq}
+use Rattle.std.proofs.Common.{◌≡◌, ◌⊎◌, ◌∙◌, ℕ, Bool, true, false, not, cond, ◌&&◌, ◌||◌, ◌==◌, List, [], ◌∷◌, ◌++◌, length, take, drop, filter, Option, Some, None, refl, sym, ap, subst, bytes_eq}
 use Rattle.std.proofs.lemmas.Bool.{both_ways, not-true, not_from_false, false_from_ne_true, and_parts, and_from}
 use Rattle.std.proofs.lemmas.Bool.Decides.{Decides-and, Decides-or, Decides-not, Decides-like, Decides-at, Decides-eqb}
 use Rattle.std.proofs.lemmas.List.{take_at, drop_at, take-append-drop}
 use Rattle.std.proofs.lemmas.List.Folds.{Any-from_list_any, list_any-from_Any}
+use Rattle.std.proofs.lemmas.List.Elements.{All-nil, All-cons, All-head, All-tail}
 use Rattle.std.proofs.lemmas.Map.Views.{any-filter_same}
 use Rattle.std.proofs.lemmas.Slice.Eq.{bytes_eq-Decides}
 use Rattle.mk_macros.specs.Words.{without_front}
 use Rattle.mk_reader.specs.Text.{is_empty}
 use Rattle.mk_reader.specs.declared.special.SpecialName.{SpecialName}
-use Rattle.mk_reader.specs.declared.special.SpecialName.TheVariants.{Phony}
-use Rattle.mk_rule_lines.specs.Kinds.{IsRule, HasRecipe, IsPatternRule, IsPhonyList, IsSuffixName, IsSuffixRule, Mentions, IsRuleFor, IsSuffixRuleFor}
-use Rattle.mk_rule_lines.specs.Rules.{has, has_percent, is_rule, is_pattern_rule, is_phony_list, makes_targets, joins, is_suffix_name, may_be_suffix_rule, is_suffix_target, comes_out, targets_by}
+use Rattle.mk_reader.specs.declared.special.SpecialName.TheVariants.{Default, Phony}
+use Rattle.mk_rule_lines.specs.Kinds.{IsRule, HasRecipe, HasSingleRecipe, IsPatternRule, IsPhonyList, IsDefaultRule, IsSuffixName, IsSuffixRule, Mentions, IsRuleFor, IsSuffixRuleFor}
+use Rattle.mk_rule_lines.specs.Rules.{has, has_percent, is_rule, is_pattern_rule, is_phony_list, is_default_rule, makes_targets, joins, is_suffix_name, lacks_single, may_be_suffix_rule, is_suffix_target, comes_out, targets_by}
 use Rattle.mk_rule_lines.specs.declared.rule_line.RuleLine.{RuleLine}
 
 -- ---- lists
@@ -25,6 +26,17 @@ any_decides p P each xs = (
   (λ e. let (k, x, within, at, is) = Any-from_list_any p xs e in (k, x, within, at, (each x).0 is)),
   λ (k, x, within, at, is). list_any-from_Any p xs (k, x, within, at, (each x).1 is),
 )
+
+all_one : {X : Type 0} (p : X → Bool) (P : X → Type 0) → ((x : X) → Decides (p x) (P x)) → (x : X) (xs : List X) → Decides (list_all p xs) (All P xs) →
+    Decides (p x && list_all p xs) (All P (x ∷ xs))
+all_one p P each x xs rest = (
+  (λ e. let parts = and_parts (p x) (list_all p xs) e in All-cons P x xs ((each x).0 parts.0) (rest.0 parts.1)),
+  λ all. and_from (p x) (list_all p xs) ((each x).1 (All-head P x xs all)) (rest.1 (All-tail P x xs all)),
+)
+
+pub all_decides : {X : Type 0} (p : X → Bool) (P : X → Type 0) → ((x : X) → Decides (p x) (P x)) → (xs : List X) → Decides (list_all p xs) (All P xs)
+all_decides p P each [] = ((λ e. All-nil P), λ all. refl)
+all_decides p P each (x ∷ xs) = all_one p P each x xs (all_decides p P each xs)
 
 pub contains_decides : {X : Type 0} (p : X → Bool) (y : X) → ((x : X) → Decides (p x) (x ≡ y)) → (xs : List X) → Decides (list_any p xs) (Contains xs y)
 contains_decides p y each xs = (
@@ -63,13 +75,27 @@ phony_list_at None = ((λ e. absurd cc), λ e. absurd cc)
 phony_list_at (Some Phony) = ((λ e. refl), λ e. refl)
 phony_list_at (Some other) = ((λ e. absurd cc), λ e. absurd cc)
 
-makes_decides : (l : RuleLine) → Decides (makes_targets l) (IsPhonyList l ⊎ (IsRule l × (IsPatternRule l → ⊥)))
+pub default_rule_at : (o : Option SpecialName) → Decides (is_default_rule o) (o ≡ Some Default)
+default_rule_at None = ((λ e. absurd cc), λ e. absurd cc)
+default_rule_at (Some Default) = ((λ e. refl), λ e. refl)
+default_rule_at (Some other) = ((λ e. absurd cc), λ e. absurd cc)
+
+makes_decides : (l : RuleLine) → Decides (makes_targets l) (IsPhonyList l ⊎ (IsDefaultRule l ⊎ (IsRule l × (IsPatternRule l → ⊥))))
 makes_decides l =
-    Decides-or (is_phony_list l.special) (is_rule l && not (is_pattern_rule l)) (phony_list_at l.special)
-    (Decides-and (is_rule l) (not (is_pattern_rule l)) (rule_decides l) (Decides-not (is_pattern_rule l) (pattern_rule_decides l)))
+    Decides-or (is_phony_list l.special) (is_default_rule l.special || (is_rule l && not (is_pattern_rule l))) (phony_list_at l.special)
+    (Decides-or (is_default_rule l.special) (is_rule l && not (is_pattern_rule l)) (default_rule_at l.special)
+    (Decides-and (is_rule l) (not (is_pattern_rule l)) (rule_decides l) (Decides-not (is_pattern_rule l) (pattern_rule_decides l))))
 
 pub recipe_decides : (l : RuleLine) → Decides (not (is_empty l.recipe)) (HasRecipe l)
 recipe_decides l = Decides-not (is_empty l.recipe) (empty_decides l.recipe)
+
+-- a recipe of which a name has just one
+single_at : (double empty : Bool) (R : Type 0) → Decides (not empty) R → Decides (not (double || empty)) ((double ≡ false) × R)
+single_at true empty R is = ((λ h. absurd cc), λ h. absurd (both_ways true h.0 refl))
+single_at false empty R is = ((λ h. (refl, is.0 h)), λ h. is.1 h.1)
+
+pub single_decides : (l : RuleLine) → Decides (not (lacks_single l)) (HasSingleRecipe l)
+single_decides l = single_at l.is_double (is_empty l.recipe) (HasRecipe l) (recipe_decides l)
 
 -- ---- suffix rules
 
@@ -109,7 +135,7 @@ module _ (suffixes : List (List ℕ)) where
       (λ h. record { prerequisites = h.0.0; recipe = h.0.1; name_is = h.1 })
       (λ is. ((is.prerequisites, is.recipe), is.name_is))
       (Decides-and (may_be_suffix_rule l) (is_suffix_name suffixes name)
-      (Decides-and (is_empty l.prerequisites) (not (is_empty l.recipe)) (empty_decides l.prerequisites) (recipe_decides l))
+      (Decides-and (is_empty l.prerequisites) (not (lacks_single l)) (empty_decides l.prerequisites) (single_decides l))
       (suffix_name_decides name))
 
 -- ---- the targets that are listed by name

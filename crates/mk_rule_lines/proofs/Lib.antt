@@ -1,4 +1,5 @@
 pub mod BarLemmas
+pub mod DoubleLemmas
 pub mod ExplicitLemmas
 pub mod FormLemmas
 pub mod GoalLemmas
@@ -17,3 +18,4 @@ pub mod SupportedLemmas
 pub mod TableLemmas
 pub mod TakenLemmas
 pub mod TargetLemmas
+pub mod WordByteLemmas

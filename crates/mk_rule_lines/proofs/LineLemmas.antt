@@ -1,5 +1,5 @@
 -- The rule lines of items, one more item at a time.
-use Rattle.std.specs.Prelude.{Result, Ok, Err, IsErrAnd, IfErr}
+use Rattle.std.specs.Prelude.{◌&&◌, is_none, Result, Ok, Err, IsErrAnd, IfErr}
 use Rattle.std.proofs.Common.{arith, length, ◌+◌, ◌≡◌, ℕ, true, false, inl, inr, List, [], ◌∷◌, ◌++◌, Option, Some, None, refl, sym, ap, subst}
 use Rattle.byte_strings.specs.Blanks.{words}
 use Rattle.mk_macros.specs.Expansion.{ExpandsToFault}
@@ -81,18 +81,18 @@ no_words = refl
 -- a line of `.PHONY` is a rule line for the names that it lists, and any other line has its own texts
 pub phony_line_is : (given : Defined) (special : Option SpecialName) (rule : Rule) (l : RuleLine) → is_phony_list special ≡ true →
     l.file ≡ told_file given.language rule.file → l.line ≡ rule.line → l.profile ≡ given.language →
-    l.special ≡ Some Phony → AreWordsOf given rule.prerequisites l.targets → l.prerequisites ≡ [] → l.recipe ≡ [] → IsRuleLine given special rule l
-phony_line_is given None rule l is_list f n o s t p r = absurd cc
-phony_line_is given (Some Phony) rule l is_list f n o s t p r = record { file = f; number = n; profile = o; name = s; targets = t; prerequisites = p; recipe = r }
-phony_line_is given (Some other) rule l is_list f n o s t p r = absurd cc
+    l.special ≡ Some Phony → AreWordsOf given rule.prerequisites l.targets → l.prerequisites ≡ [] → l.recipe ≡ [] → l.is_double ≡ false → IsRuleLine given special rule l
+phony_line_is given None rule l is_list f n o s t p r d = absurd cc
+phony_line_is given (Some Phony) rule l is_list f n o s t p r d = record { file = f; number = n; profile = o; name = s; targets = t; prerequisites = p; recipe = r; double = d }
+phony_line_is given (Some other) rule l is_list f n o s t p r d = absurd cc
 
 pub other_line_is : (given : Defined) (special : Option SpecialName) (rule : Rule) (l : RuleLine) → is_phony_list special ≡ false →
     l.file ≡ told_file given.language rule.file → l.line ≡ rule.line → l.profile ≡ given.language →
     l.special ≡ special → AreWordsOf given rule.targets l.targets → AreWordsOf given rule.prerequisites l.prerequisites → l.recipe ≡ rule.recipe →
-    IsRuleLine given special rule l
-other_line_is given None rule l no_phony f n o s t p r = record { file = f; number = n; profile = o; name = s; targets = t; prerequisites = p; recipe = r }
-other_line_is given (Some Phony) rule l no_phony f n o s t p r = absurd cc
-other_line_is given (Some other) rule l no_phony f n o s t p r = record { file = f; number = n; profile = o; name = s; targets = t; prerequisites = p; recipe = r }
+    l.is_double ≡ (is_none special && rule.is_double) → IsRuleLine given special rule l
+other_line_is given None rule l no_phony f n o s t p r d = record { file = f; number = n; profile = o; name = s; targets = t; prerequisites = p; recipe = r; double = d }
+other_line_is given (Some Phony) rule l no_phony f n o s t p r d = absurd cc
+other_line_is given (Some other) rule l no_phony f n o s t p r d = record { file = f; number = n; profile = o; name = s; targets = t; prerequisites = p; recipe = r; double = d }
 
 -- what is known where some of the items have been read: what the lines of the items that are left, and what their
 -- faults, say of all items

@@ -5,8 +5,7 @@ use Rattle.std.specs.Prelude.{slice_get, option_to_list, option_map, IfSome}
 use Rattle.std.specs.Option.{option_map_or}
 use Rattle.std.proofs.lemmas.List.{append_assoc}
 use Rattle.std.proofs.lemmas.Bool.Decides.{nat_tests}
-use Rattle.mk_reader.specs.Text.{is_empty}
-use Rattle.mk_rule_lines.specs.Rules.{has, times, places, recipe_places}
+use Rattle.mk_rule_lines.specs.Rules.{has, lacks_single, times, places, recipe_places}
 use Rattle.mk_rule_lines.specs.Table.{Named, named_at, IsTableFault, IsAddFault, AddsLine, IsSecond, HasTwoRecipes, is_last, with_line}
 use Rattle.mk_rule_lines.specs.declared.table.TargetTable.{TargetTable}
 use Rattle.mk_rule_lines.specs.declared.fault.RuleFault.{RuleFault}
@@ -52,7 +51,7 @@ pub record LinesGo (targets : RuleLine → List (List ℕ)) (k : ℕ) (left line
   pub recipes_go : option_to_list now.recipe ++ recipe_places targets k left name ≡ recipe_places targets 0 lines name
 
 module _ (targets : RuleLine → List (List ℕ)) (k : ℕ) (l : RuleLine) (left lines : List RuleLine) (name : List ℕ) (now after : Named)
-    (go : LinesGo targets k (l ∷ left) lines name now) (adds : AddsLine k (not (is_empty l.recipe)) (targets l) name now after) where
+    (go : LinesGo targets k (l ∷ left) lines name now) (adds : AddsLine k (not (lacks_single l)) (targets l) name now after) where
   below_at : (b : Bool) → has name (targets l) ≡ b → AllBelow (k + 1) after.lines
   below_at true e =
       let is : after.lines ≡ now.lines ++ k ∷ [] = adds.lines_are ∙ simp e (fresh k now.lines go.below) in
@@ -81,8 +80,8 @@ module _ (targets : RuleLine → List (List ℕ)) (k : ℕ) (l : RuleLine) (left
   recipes =
       let these = times k name (targets l) in
       let rest = recipe_places targets (k + 1) left name in
-      ap (λ xs. xs ++ rest) (adds.recipe_is ∙ ap (λ xs. option_to_list now.recipe ++ xs) (turned (is_empty l.recipe) these))
-      ∙ append_assoc (option_to_list now.recipe) (cond (is_empty l.recipe) [] these) rest ∙ go.recipes_go
+      ap (λ xs. xs ++ rest) (adds.recipe_is ∙ ap (λ xs. option_to_list now.recipe ++ xs) (turned (lacks_single l) these))
+      ∙ append_assoc (option_to_list now.recipe) (cond (lacks_single l) [] these) rest ∙ go.recipes_go
 
   -- one line more is taken in
   pub lines_go_on : LinesGo targets (k + 1) left lines name after
@@ -94,11 +93,11 @@ filled false xs has = refl
 
 -- a line that gives a name its second recipe
 pub lines_go_second : (targets : RuleLine → List (List ℕ)) (k : ℕ) (l : RuleLine) (left lines : List RuleLine) (name : List ℕ) (now : Named) → LinesGo targets k (l ∷ left) lines name now →
-    slice_get lines k ≡ Some l → IsSecond k (not (is_empty l.recipe)) (targets l) name now → HasTwoRecipes targets lines name l.line
+    slice_get lines k ≡ Some l → IsSecond k (not (lacks_single l)) (targets l) name now → HasTwoRecipes targets lines name l.line
 lines_go_second targets k l left lines name now go at second =
     let these = times k name (targets l) in
     let rest = recipe_places targets (k + 1) left name in
-    let full : cond (is_empty l.recipe) [] these ≡ these = filled (is_empty l.recipe) these second.has in
+    let full : cond (lacks_single l) [] these ≡ these = filled (lacks_single l) these second.has in
     record {
       first = second.first;
       second = k;
@@ -114,11 +113,11 @@ lines_go_start targets lines name now is = subst (λ m. LinesGo targets 0 lines 
 -- the fault of a line is one of the table
 pub line_fault : (targets : RuleLine → List (List ℕ)) (k : ℕ) (l : RuleLine) (left lines : List RuleLine) (table : TargetTable) (r : Bool) (these : List (List ℕ)) →
     ((name : List ℕ) → LinesGo targets k (l ∷ left) lines name (named_at table name)) → slice_get lines k ≡ Some l →
-    r ≡ not (is_empty l.recipe) → these ≡ targets l → (f : RuleFault) → IsAddFault k l.line r these table f → IsTableFault targets lines f
+    r ≡ not (lacks_single l) → these ≡ targets l → (f : RuleFault) → IsAddFault k l.line r these table f → IsTableFault targets lines f
 line_fault targets k l left lines table r these go at has are fault.OutOfMemory meets = tt
 line_fault targets k l left lines table r these go at has are (fault.TwoRecipes name line) meets =
     let one = subst (λ (b : Bool). IsSecond k b these name (named_at table name)) has meets.1 in
-    let two = subst (λ (ts : List (List ℕ)). IsSecond k (not (is_empty l.recipe)) ts name (named_at table name)) are one in
+    let two = subst (λ (ts : List (List ℕ)). IsSecond k (not (lacks_single l)) ts name (named_at table name)) are one in
     subst (λ (n : ℕ). HasTwoRecipes targets lines name n) (sym meets.0) (lines_go_second targets k l left lines name (named_at table name) (go name) at two)
 line_fault targets k l left lines table r these go at has are _ meets = meets
 

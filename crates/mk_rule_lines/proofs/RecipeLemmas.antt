@@ -4,11 +4,10 @@ use Rattle.std.specs.Bool.{Decides}
 use Rattle.std.proofs.Common.{arith, ◌≡◌, ◌∙◌, ◌≤◌, ℕ, zero, suc, ◌+◌, Bool, true, false, cond, ◌||◌, List, [], ◌∷◌, ◌++◌, length, filter, Some, ◌⊎◌, ◌↔◌, inl, inr, refl, sym, ap, subst, bytes_eq}
 use Rattle.std.proofs.lemmas.Bool.{both_ways, not-true, not_from_false, or_left, or_right}
 use Rattle.std.proofs.lemmas.Option.{same_Some}
-use Rattle.mk_reader.specs.Text.{is_empty}
 use Rattle.mk_rule_lines.specs.ByName.{AreLines, no_lines, one, another, HasRecipeAt}
-use Rattle.mk_rule_lines.specs.Rules.{has, times, recipe_places}
+use Rattle.mk_rule_lines.specs.Rules.{has, lacks_single, times, recipe_places}
 use Rattle.mk_rule_lines.specs.declared.rule_line.RuleLine.{RuleLine}
-use Rattle.mk_rule_lines.proofs.KindLemmas.{recipe_decides}
+use Rattle.mk_rule_lines.proofs.KindLemmas.{single_decides}
 
 -- ---- the lines that pass a test
 
@@ -92,10 +91,10 @@ module _ (name : List ℕ) where
       line : RuleLine
       at : slice_get lines place ≡ Some line
       number : k + place ≡ j
-      recipe : is_empty line.recipe ≡ false
+      recipe : lacks_single line ≡ false
       has_it : has name (targets line) ≡ true
 
-    here_at : (k j : ℕ) (l : RuleLine) (lines : List RuleLine) (b : Bool) → is_empty l.recipe ≡ b → Among j (cond b [] (times k name (targets l))) → GivesAt k (l ∷ lines) j
+    here_at : (k j : ℕ) (l : RuleLine) (lines : List RuleLine) (b : Bool) → lacks_single l ≡ b → Among j (cond b [] (times k name (targets l))) → GivesAt k (l ∷ lines) j
     here_at k j l lines true e is = absurd is
     here_at k j l lines false e is =
         let (same, h) = times_have k j (targets l) is in
@@ -104,26 +103,26 @@ module _ (name : List ℕ) where
     gives : (k j : ℕ) (lines : List RuleLine) → Among j (recipe_places targets k lines name) → GivesAt k lines j
     gives k j [] is = absurd is
     gives k j (l ∷ lines) is =
-        elim (among_cases j (cond (is_empty l.recipe) [] (times k name (targets l))) (recipe_places targets (k + 1) lines name) is) [
-          | inl here ↦ here_at k j l lines (is_empty l.recipe) refl here
+        elim (among_cases j (cond (lacks_single l) [] (times k name (targets l))) (recipe_places targets (k + 1) lines name) is) [
+          | inl here ↦ here_at k j l lines (lacks_single l) refl here
           | inr more ↦
               let g : GivesAt (k + 1) lines j = gives (k + 1) j lines more in
               record { place = suc g.place; line = g.line; at = g.at; number = (let n = g.number in omega arith); recipe = g.recipe; has_it = g.has_it }
         ]
 
-    given : (k j : ℕ) (lines : List RuleLine) (place : ℕ) (line : RuleLine) → slice_get lines place ≡ Some line → k + place ≡ j → is_empty line.recipe ≡ false →
+    given : (k j : ℕ) (lines : List RuleLine) (place : ℕ) (line : RuleLine) → slice_get lines place ≡ Some line → k + place ≡ j → lacks_single line ≡ false →
         has name (targets line) ≡ true → Among j (recipe_places targets k lines name)
     given k j [] place line at number r h = absurd cc
     given k j (l ∷ lines) zero line at number r h =
         let same : l ≡ line = same_Some l line at in
-        let full : is_empty l.recipe ≡ false = ap (λ (m : RuleLine). is_empty m.recipe) same ∙ r in
+        let full : lacks_single l ≡ false = ap lacks_single same ∙ r in
         let had : has name (targets l) ≡ true = ap (λ (m : RuleLine). has name (targets m)) same ∙ h in
         let n : k ≡ j = omega (arith, number) in
         let here : Among j (times k name (targets l)) = subst (λ (n : ℕ). Among n (times k name (targets l))) n (had_times k (targets l) had) in
-        among_left j (cond (is_empty l.recipe) [] (times k name (targets l))) (recipe_places targets (k + 1) lines name)
+        among_left j (cond (lacks_single l) [] (times k name (targets l))) (recipe_places targets (k + 1) lines name)
         (subst (λ (b : Bool). Among j (cond b [] (times k name (targets l)))) (sym full) here)
     given k j (l ∷ lines) (suc place) line at number r h =
-        among_right j (cond (is_empty l.recipe) [] (times k name (targets l))) (recipe_places targets (k + 1) lines name)
+        among_right j (cond (lacks_single l) [] (times k name (targets l))) (recipe_places targets (k + 1) lines name)
         (given (k + 1) j lines place line at (omega (arith, number)) r h)
 
     module _ (Is : RuleLine → Type 0) (each : (l : RuleLine) → Decides (has name (targets l)) (Is l)) (lines : List RuleLine) where
@@ -136,12 +135,12 @@ module _ (name : List ℕ) where
             line = g.line;
             at = subst (λ (n : ℕ). slice_get lines n ≡ Some g.line) at g.at;
             is = (each g.line).0 g.has_it;
-            recipe = (recipe_decides g.line).0 (not_from_false (is_empty g.line.recipe) g.recipe);
+            recipe = (single_decides g.line).0 (not_from_false (lacks_single g.line) g.recipe);
           }
 
       pub had_recipe : (k : ℕ) → HasRecipeAt Is lines k → Among k (recipe_places targets 0 lines name)
       had_recipe k h =
-          given 0 k lines k h.line h.at (omega arith) (not-true (is_empty h.line.recipe) ((recipe_decides h.line).1 h.recipe)) ((each h.line).1 h.is)
+          given 0 k lines k h.line h.at (omega arith) (not-true (lacks_single h.line) ((single_decides h.line).1 h.recipe)) ((each h.line).1 h.is)
 
       -- where the name has one recipe at most, its line is the one of this number
       pub one_recipe_told : length (recipe_places targets 0 lines name) ≤ 1 → (k : ℕ) → (recipe_places targets 0 lines name ≡ k ∷ []) ↔ HasRecipeAt Is lines k

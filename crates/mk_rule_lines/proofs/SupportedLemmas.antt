@@ -1,24 +1,27 @@
 -- What the tests by which a line is refused mean.
 use Rattle.std.specs.Prelude.{codes}
 use Rattle.std.specs.Bool.{Decides}
-use Rattle.std.specs.List.{list_any, count_by}
-use Rattle.std.proofs.Common.{arith, ◌≡◌, ◌≢◌, ◌∙◌, ℕ, ◌+◌, Bool, true, false, not, cond, ◌&&◌, ◌||◌, ◌==◌, List, [], ◌∷◌, ◌++◌, length, inl, inr, refl, sym, ap, bytes_eq}
+use Rattle.std.specs.List.{All, Any, list_all, list_any, count_by}
+use Rattle.std.proofs.Common.{arith, ◌≡◌, ◌≢◌, ◌⊎◌, ◌∙◌, ℕ, ◌+◌, Bool, true, false, not, cond, ◌&&◌, ◌||◌, ◌==◌, List, [], ◌∷◌, ◌++◌, length, inl, inr, refl, sym, ap, subst, bytes_eq}
 use Rattle.std.proofs.lemmas.Bool.{both_ways, not-true, not_from_false, false_from_ne_true, and_parts, and_from, or_parts, or_from, or_left, or_cases, eqb-true, eq-eqb}
-use Rattle.std.proofs.lemmas.Bool.Decides.{Decides-and, Decides-or, Decides-not, Decides-eqb}
+use Rattle.std.proofs.lemmas.Bool.Decides.{Decides-and, Decides-or, Decides-not, Decides-eqb, Decides-like}
 use Rattle.std.proofs.lemmas.List.Sums.{sum_by-cons, sum_by-append}
+use Rattle.std.proofs.lemmas.List.Elements.{All-nil, All-cons}
 use Rattle.std.proofs.lemmas.Slice.Eq.{bytes_eq-Decides}
 use Rattle.mk_macros.specs.Spelled.{Lacks}
 use Rattle.mk_profile.specs.declared.profile.Profile.{Profile}
 use Rattle.mk_profile.specs.declared.profile.Profile.TheVariants.{Strict, Posix}
-use Rattle.mk_reader.specs.Text.{is_empty}
-use Rattle.mk_rule_lines.specs.Kinds.{IsRule, IsMark, IsOnePattern, BeginsWithPattern, MayMake, IsPatternRuleOf}
-use Rattle.mk_rule_lines.specs.Rules.{has, is_percent, is_rule, is_pattern_rule}
+use Rattle.mk_macros.specs.Words.{is_byte}
+use Rattle.mk_reader.specs.Text.{is_empty, begins_with}
+use Rattle.mk_rule_lines.specs.Doubles.{IsImplicitTarget}
+use Rattle.mk_rule_lines.specs.Kinds.{IsRule, IsPattern, IsOnePattern, HasSlash, BeginsWithPattern, MayBeMade, MayMake, IsWholeDefault, IsWholePatternRule}
+use Rattle.mk_rule_lines.specs.Rules.{has, is_percent, has_percent, is_rule, is_pattern_rule, is_default_rule, lacks_single}
 use Rattle.mk_rule_lines.specs.Supported.{HasBracket, IsRefused, IsSupported}
-use Rattle.mk_rule_lines.specs.Tests.{is_pattern, is_one_pattern, is_mark, begins_with_pattern, is_bare, may_make, is_whole_pattern_rule, has_bracket, is_refused}
+use Rattle.mk_rule_lines.specs.Tests.{is_pattern, is_one_pattern, begins_with_pattern, is_bare, has_slash, may_be_made, may_make, is_whole_pattern_rule, is_alone, is_whole_default, has_bracket, is_implicit_target, is_refused}
 use Rattle.mk_rule_lines.specs.declared.fault.Unsupported.{Unsupported}
-use Rattle.mk_rule_lines.specs.declared.fault.Unsupported.TheVariants.{TargetGroup, LibraryMember, PatternRule}
+use Rattle.mk_rule_lines.specs.declared.fault.Unsupported.TheVariants.{TargetGroup, LibraryMember, DoubleColon, PatternRule, DefaultRule}
 use Rattle.mk_rule_lines.specs.declared.rule_line.RuleLine.{RuleLine}
-use Rattle.mk_rule_lines.proofs.KindLemmas.{any_decides, has_decides, byte_decides, rule_decides, pattern_rule_decides, recipe_decides}
+use Rattle.mk_rule_lines.proofs.KindLemmas.{all_decides, any_decides, has_decides, byte_decides, rule_decides, pattern_rule_decides, recipe_decides, single_decides, empty_decides, default_rule_at}
 
 -- ---- one `%`
 
@@ -92,70 +95,109 @@ one_pattern_decides names = (
   λ (before, after, is, b, a). ap is_one_pattern is ∙ one_name_is before after b a,
 )
 
--- ---- the prerequisites of a pattern rule
+-- ---- the targets of a pattern rule
 
-mark_decides : (word : List ℕ) → Decides (is_mark word) (IsMark word)
-mark_decides word =
-    Decides-or (bytes_eq word (codes ".WAIT")) (bytes_eq word (codes "|")) (bytes_eq-Decides word (codes ".WAIT")) (bytes_eq-Decides word (codes "|"))
+pattern_decides : (name : List ℕ) → Decides (is_pattern name) (IsPattern name)
+pattern_decides name = (
+  (λ e. parts_of name (eqb-true (count name) 1 e)),
+  λ (before, after, is, b, a). ap is_pattern is ∙ pattern_is before after b a,
+)
+
+alike_decides : (names : List (List ℕ)) → Decides (list_all has_slash names || not (list_any has_slash names)) (All HasSlash names ⊎ (Any HasSlash names → ⊥))
+alike_decides names =
+    Decides-or (list_all has_slash names) (not (list_any has_slash names)) (all_decides has_slash HasSlash (byte_decides 47) names)
+    (Decides-not (list_any has_slash names) (any_decides has_slash HasSlash (byte_decides 47) names))
+
+made_decides : (profile : Profile) (names : List (List ℕ)) → Decides (may_be_made profile names) (MayBeMade profile names)
+made_decides Strict names = one_pattern_decides names
+made_decides Posix names =
+    Decides-and (list_all is_pattern names) (list_all has_slash names || not (list_any has_slash names))
+    (all_decides is_pattern IsPattern pattern_decides names) (alike_decides names)
+
+patterns_in : (profile : Profile) (names : List (List ℕ)) → MayBeMade profile names → All IsPattern names
+patterns_in Strict names (before, after, is, b, a) = subst (All IsPattern) (sym is) (All-cons IsPattern (before ++ 37 ∷ after) [] (before, after, refl, b, a) (All-nil IsPattern))
+patterns_in Posix names is = is.0
+
+-- ---- the prerequisites of a pattern rule
 
 begins_decides : (names : List (List ℕ)) → Decides (begins_with_pattern names) (BeginsWithPattern names)
 begins_decides [] = (λ e. both_ways false refl e, λ none. absurd none)
 begins_decides (name ∷ names) = byte_decides 37 name
 
--- the one target is `%` alone
-bare_decides : (target : List ℕ) → Decides (not (is_bare (target ∷ []))) (target ≢ 37 ∷ [])
-bare_decides target = Decides-not (is_bare (target ∷ [])) (
-  λ e.
-      elim (or_cases (bytes_eq (37 ∷ []) target) false e) [
-        | inl same ↦ sym ((bytes_eq-Decides (37 ∷ []) target).0 same)
-        | inr none ↦ absurd (both_ways false refl none)
-      ],
-  λ same. or_left (bytes_eq (37 ∷ []) target) false ((bytes_eq-Decides (37 ∷ []) target).1 (sym same)),
-)
-
-make_decides : (profile : Profile) (target : List ℕ) (names : List (List ℕ)) → Decides (may_make profile (target ∷ []) names) (MayMake profile target names)
-make_decides Strict target names = one_pattern_decides names
-make_decides Posix target names =
-    Decides-and (not (list_any is_mark names)) (not (is_bare (target ∷ [])) || begins_with_pattern names)
-    (Decides-not (list_any is_mark names) (any_decides is_mark IsMark mark_decides names))
-    (Decides-or (not (is_bare (target ∷ []))) (begins_with_pattern names) (bare_decides target) (begins_decides names))
+make_decides : (profile : Profile) (targets names : List (List ℕ)) → Decides (may_make profile targets names) (MayMake profile targets names)
+make_decides Strict targets names = one_pattern_decides names
+make_decides Posix targets names =
+    Decides-and (not (has (codes ".WAIT") names)) (not (is_bare targets) || begins_with_pattern names)
+    (Decides-not (has (codes ".WAIT") names) (has_decides (codes ".WAIT") names))
+    (Decides-or (not (is_bare targets)) (begins_with_pattern names) (Decides-not (is_bare targets) (has_decides (37 ∷ []) targets)) (begins_decides names))
 
 -- ---- pattern rules
 
 module _ (l : RuleLine) where
-  abbrev pub Whole : Type 0
-  Whole = (before : List ℕ) × (after : List ℕ) × IsPatternRuleOf before after l
-
-  pub whole_rule : IsRule l → is_whole_pattern_rule l ≡ true → Whole
+  pub whole_rule : IsRule l → is_whole_pattern_rule l ≡ true → IsWholePatternRule l
   whole_rule rule h =
-      let parts = and_parts (is_one_pattern l.targets) (may_make l.profile l.targets l.prerequisites && not (is_empty l.recipe)) h in
+      let parts = and_parts (may_be_made l.profile l.targets) (may_make l.profile l.targets l.prerequisites && not (is_empty l.recipe)) h in
       let more = and_parts (may_make l.profile l.targets l.prerequisites) (not (is_empty l.recipe)) parts.1 in
-      let (before, after, target, b, a) = (one_pattern_decides l.targets).0 parts.0 in (
-        before,
-        after,
-        record {
-          rule = rule;
-          targets = target;
-          lacks = (b, a);
-          prerequisites =
-              (make_decides l.profile (before ++ 37 ∷ after) l.prerequisites).0
-              (ap (λ (ts : List (List ℕ)). may_make l.profile ts l.prerequisites) (sym target) ∙ more.0);
-          recipe = (recipe_decides l).0 more.1;
-        },
-      )
+      record {
+        rule = rule;
+        targets = (made_decides l.profile l.targets).0 parts.0;
+        prerequisites = (make_decides l.profile l.targets l.prerequisites).0 more.0;
+        recipe = (recipe_decides l).0 more.1;
+      }
 
-  pub whole_rule_is : (before after : List ℕ) → IsPatternRuleOf before after l → is_whole_pattern_rule l ≡ true
-  whole_rule_is before after is =
-      and_from (is_one_pattern l.targets) (may_make l.profile l.targets l.prerequisites && not (is_empty l.recipe))
-      ((one_pattern_decides l.targets).1 (before, after, is.targets, is.lacks.0, is.lacks.1))
+  pub whole_rule_is : IsWholePatternRule l → is_whole_pattern_rule l ≡ true
+  whole_rule_is is =
+      and_from (may_be_made l.profile l.targets) (may_make l.profile l.targets l.prerequisites && not (is_empty l.recipe))
+      ((made_decides l.profile l.targets).1 is.targets)
       (and_from (may_make l.profile l.targets l.prerequisites) (not (is_empty l.recipe))
-      (ap (λ (ts : List (List ℕ)). may_make l.profile ts l.prerequisites) is.targets
-      ∙ (make_decides l.profile (before ++ 37 ∷ after) l.prerequisites).1 is.prerequisites) ((recipe_decides l).1 is.recipe))
+      ((make_decides l.profile l.targets l.prerequisites).1 is.prerequisites) ((recipe_decides l).1 is.recipe))
+
+  -- each of its targets has one `%`
+  pub patterns : IsWholePatternRule l → All IsPattern l.targets
+  patterns is = patterns_in l.profile l.targets is.targets
+
+-- ---- the line of `.DEFAULT`
+
+alone_first : (name first : List ℕ) → is_alone name (first ∷ []) ≡ true → first ∷ [] ≡ name ∷ []
+alone_first name first e =
+    let same : (bytes_eq name first || false) ≡ true = (and_parts (length (first ∷ []) == 1) (has name (first ∷ [])) e).1 in
+    elim (or_cases (bytes_eq name first) false same) [
+      | inl found ↦ ap (λ x. x ∷ []) (sym ((bytes_eq-Decides name first).0 found))
+      | inr none ↦ absurd (both_ways false refl none)
+    ]
+
+alone_decides : (name : List ℕ) (names : List (List ℕ)) → Decides (is_alone name names) (names ≡ name ∷ [])
+alone_decides name [] = ((λ e. absurd (both_ways false refl e)), λ is. absurd cc)
+alone_decides name (first ∷ []) = (
+  alone_first name first,
+  λ is.
+      let same : first ≡ name = cc in
+      or_left (bytes_eq name first) false ((bytes_eq-Decides name first).1 (sym same)),
+)
+alone_decides name (first ∷ second ∷ names) = (
+  (λ e.
+      let n : length (first ∷ second ∷ names) ≡ 1
+      = eqb-true (length (first ∷ second ∷ names)) 1 (and_parts (length (first ∷ second ∷ names) == 1) (has name (first ∷ second ∷ names)) e).0 in
+      absurd (omega arith)),
+  λ is. absurd cc,
+)
+
+whole_default_decides : (l : RuleLine) → Decides (is_whole_default l) (IsWholeDefault l)
+whole_default_decides l =
+    Decides-like (is_whole_default l) (λ h. record { targets = h.0; prerequisites = h.1.0; recipe = h.1.1 }) (λ is. (is.targets, (is.prerequisites, is.recipe)))
+    (Decides-and (is_alone (codes ".DEFAULT") l.targets) (is_empty l.prerequisites && not (lacks_single l)) (alone_decides (codes ".DEFAULT") l.targets)
+    (Decides-and (is_empty l.prerequisites) (not (lacks_single l)) (empty_decides l.prerequisites) (single_decides l)))
 
 -- ---- refused lines
 
 bracket_decides : (name : List ℕ) → Decides (has_bracket name) (HasBracket name)
 bracket_decides name = byte_decides 40 name
+
+implicit_decides : (name : List ℕ) → Decides (is_implicit_target name) (IsImplicitTarget name)
+implicit_decides name =
+    Decides-or (has_percent name) (begins_with 46 name && not (list_any (is_byte 47) name)) (byte_decides 37 name)
+    (Decides-and (begins_with 46 name) (not (list_any (is_byte 47) name)) ((λ e. e), λ e. e)
+    ((λ e. not-true (list_any (is_byte 47) name) e), λ e. not_from_false (list_any (is_byte 47) name) e))
 
 pub refused_decides : (what : Unsupported) (l : RuleLine) → Decides (is_refused what l) (IsRefused what l)
 refused_decides TargetGroup l = Decides-and (is_rule l) (has (codes "+") l.targets) (rule_decides l) (has_decides (codes "+") l.targets)
@@ -163,15 +205,21 @@ refused_decides LibraryMember l =
     Decides-and (is_rule l) (list_any has_bracket l.targets || list_any has_bracket l.prerequisites) (rule_decides l)
     (Decides-or (list_any has_bracket l.targets) (list_any has_bracket l.prerequisites)
     (any_decides has_bracket HasBracket bracket_decides l.targets) (any_decides has_bracket HasBracket bracket_decides l.prerequisites))
+refused_decides DoubleColon l =
+    Decides-and (is_rule l) (l.is_double && list_any is_implicit_target l.targets) (rule_decides l)
+    (Decides-and l.is_double (list_any is_implicit_target l.targets) ((λ e. e), λ e. e)
+    (any_decides is_implicit_target IsImplicitTarget implicit_decides l.targets))
 refused_decides PatternRule l = (
   (λ e. let parts = and_parts (is_pattern_rule l) (not (is_whole_pattern_rule l)) e in (
     (pattern_rule_decides l).0 parts.0,
-    λ before after is. both_ways (is_whole_pattern_rule l) (not-true (is_whole_pattern_rule l) parts.1) (whole_rule_is l before after is),
+    λ is. both_ways (is_whole_pattern_rule l) (not-true (is_whole_pattern_rule l) parts.1) (whole_rule_is l is),
   )),
   λ h. and_from (is_pattern_rule l) (not (is_whole_pattern_rule l)) ((pattern_rule_decides l).1 h.0)
       (not_from_false (is_whole_pattern_rule l) (false_from_ne_true (is_whole_pattern_rule l)
-      (λ e. let (before, after, is) = whole_rule l h.0.0 e in h.1 before after is))),
+      (λ e. h.1 (whole_rule l h.0.0 e)))),
 )
+refused_decides DefaultRule l =
+    Decides-and (is_default_rule l.special) (not (is_whole_default l)) (default_rule_at l.special) (Decides-not (is_whole_default l) (whole_default_decides l))
 
 pub refused : (what : Unsupported) (l : RuleLine) → true ≡ is_refused what l → IsRefused what l
 refused what l e = (refused_decides what l).0 (sym e)
@@ -179,5 +227,12 @@ refused what l e = (refused_decides what l).0 (sym e)
 passed : (what : Unsupported) (l : RuleLine) → false ≡ is_refused what l → IsRefused what l → ⊥
 passed what l e is = both_ways (is_refused what l) (sym e) ((refused_decides what l).1 is)
 
-pub supported : (l : RuleLine) → false ≡ is_refused TargetGroup l → false ≡ is_refused LibraryMember l → false ≡ is_refused PatternRule l → IsSupported l
-supported l group member pattern = record { group = passed TargetGroup l group; member = passed LibraryMember l member; pattern = passed PatternRule l pattern }
+pub supported : (l : RuleLine) → false ≡ is_refused TargetGroup l → false ≡ is_refused LibraryMember l → false ≡ is_refused DoubleColon l → false ≡ is_refused PatternRule l →
+    false ≡ is_refused DefaultRule l → IsSupported l
+supported l group member double pattern default = record {
+  group = passed TargetGroup l group;
+  member = passed LibraryMember l member;
+  double = passed DoubleColon l double;
+  pattern = passed PatternRule l pattern;
+  default = passed DefaultRule l default;
+}

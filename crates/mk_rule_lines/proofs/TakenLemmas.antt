@@ -3,6 +3,10 @@ use Rattle.std.proofs.Common.{arith, ◌≡◌, ◌≤◌, ℕ, Bool, true, fals
 use Rattle.std.specs.Prelude.{option_to_list}
 use Rattle.mk_rule_lines.specs.Rules.{targets_by, suffixes_of, recipe_places}
 use Rattle.mk_rule_lines.specs.Table.{IsTable, named_at}
+use Rattle.mk_rule_lines.specs.Doubles.{IsKindsFault}
+use Rattle.mk_rule_lines.specs.Taken.{IsTakingFault}
+use Rattle.mk_rule_lines.specs.declared.fault.RuleFault.{RuleFault}
+use Rattle.mk_rule_lines.specs.declared.fault.RuleFault.TheVariants as fault
 use Rattle.mk_rule_lines.specs.declared.rule_line.RuleLine.{RuleLine}
 use Rattle.mk_rule_lines.specs.declared.table.TargetTable.{TargetTable}
 
@@ -26,3 +30,9 @@ one_recipe_each lines table is rules true name = rules name
 pub of_same : (P : List (List ℕ) → List RuleLine → Type 0) (suffixes : List (List ℕ)) (ls lines : List RuleLine) → suffixes ≡ suffixes_of lines → ls ≡ lines →
     P suffixes ls → P (suffixes_of lines) lines
 of_same P suffixes ls lines same read is = subst (P (suffixes_of lines)) read (subst (λ ss. P ss ls) same is)
+
+-- a name of both kinds is a fault of the lines
+pub kinds_fault : (lines : List RuleLine) (f : RuleFault) → IsKindsFault lines f → IsTakingFault lines f
+kinds_fault lines fault.OutOfMemory meets = tt
+kinds_fault lines (fault.BothKinds name number) meets = meets
+kinds_fault lines _ meets = absurd meets

@@ -1,10 +1,10 @@
 -- What rule lines say of a name by name: the lines that make it, their recipes and their prerequisites, and whether it is phony.
-use Rattle.std.specs.Prelude.{ℕ, Bool, true, false, not, ◌&&◌, List, [], ◌∷◌, filter, flat_map, bytes_eq, codes, slice_get, if◌then◌else◌}
+use Rattle.std.specs.Prelude.{ℕ, Bool, true, false, not, ◌&&◌, ◌||◌, List, [], ◌∷◌, filter, flat_map, bytes_eq, codes, slice_get, if◌then◌else◌}
 use Rattle.std.specs.List.{list_any}
 use Rattle.std.specs.Option.{option_map_or}
 use Rattle.mk_profile.specs.Profile.{is_wide}
 use Rattle.mk_profile.specs.declared.profile.Profile.{Profile}
-use Rattle.mk_rule_lines.specs.Rules.{has, is_phony_list, places, suffixes_of, targets_by}
+use Rattle.mk_rule_lines.specs.Rules.{has, is_always, is_phony_list, is_default_rule, places, suffixes_of, targets_by}
 use Rattle.mk_rule_lines.specs.declared.rule_line.RuleLine.{RuleLine}
 
 -- the targets that a line makes by name
@@ -19,13 +19,22 @@ lines_of lines name = filter (λ l. has name (explicit_targets lines l)) lines
 abbrev pub numbers_of : List RuleLine → (name : List ℕ) → List ℕ
 numbers_of lines name = places (λ l. has name (explicit_targets lines l)) 0 lines
 
--- some line of `.PHONY` lists the name
-abbrev pub is_phony : List RuleLine → (name : List ℕ) → Bool
-is_phony lines name = list_any (λ l. has name (explicit_targets lines l) && is_phony_list l.special) lines
+-- the targets of the line are phony: it is one of `.PHONY`, or one whose targets are always made, whatever their files are (that
+-- these count as phony: own)
+abbrev pub makes_phony : RuleLine → Bool
+makes_phony l = is_phony_list l.special || is_always l
 
--- the line of this number is one of `.PHONY`
+-- some line makes the name phony
+abbrev pub is_phony : List RuleLine → (name : List ℕ) → Bool
+is_phony lines name = list_any (λ l. has name (explicit_targets lines l) && makes_phony l) lines
+
+-- the line of this number makes its targets phony
 abbrev pub is_phony_at : List RuleLine → (k : ℕ) → Bool
-is_phony_at lines k = option_map_or (λ l. is_phony_list l.special) (slice_get lines k) false
+is_phony_at lines k = option_map_or makes_phony (slice_get lines k) false
+
+-- the line of this number is one of `.DEFAULT`
+abbrev pub is_default_at : List RuleLine → (k : ℕ) → Bool
+is_default_at lines k = option_map_or (λ l. is_default_rule l.special) (slice_get lines k) false
 
 -- the word `.WAIT`, which is no prerequisite (dmake manual)
 abbrev pub is_wait : (word : List ℕ) → Bool

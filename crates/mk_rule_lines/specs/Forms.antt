@@ -1,8 +1,8 @@
 -- The implicit rules of a makefile's lines, in the order in which they are tried.
-use Rattle.std.specs.Prelude.{ℕ, ◌+◌, List, [], ◌∷◌, ◌++◌, take, drop, flat_map, Bool, true, false, map, if◌then◌else◌}
+use Rattle.std.specs.Prelude.{ℕ, ◌+◌, List, [], ◌∷◌, ◌++◌, length, take, drop, flat_map, Bool, true, false, map, Option, Some, None, if◌then◌else◌}
 use Rattle.std.specs.Option.{option_map_or}
 use Rattle.mk_macros.specs.Words.{place_of}
-use Rattle.mk_profile.specs.declared.profile.Profile.{Profile}
+use Rattle.mk_rule_lines.specs.Explicit.{words_by}
 use Rattle.mk_rule_lines.specs.Kinds.{leaves_folders}
 use Rattle.mk_rule_lines.specs.Rules.{is_pattern_rule, targets_by, recipe_places}
 use Rattle.mk_rule_lines.specs.declared.form.Form.{Form}
@@ -15,36 +15,54 @@ before_percent name = option_map_or (λ i. take i name) (place_of 37 name) name
 abbrev pub behind_percent : (name : List ℕ) → List ℕ
 behind_percent name = option_map_or (λ i. drop (i + 1) name) (place_of 37 name) []
 
--- the form of the pattern rule `target : prerequisites` of this line
-abbrev pub pattern_form : (rule : ℕ) → Profile → (target : List ℕ) (prerequisites : List (List ℕ)) → Form
-pattern_form rule profile target prerequisites = record {
+-- the form of the pattern rule `target : ordinary | order_only` of this line: its first target has the others beside it, each other one
+-- the first
+abbrev pub pattern_form : (rule : ℕ) → RuleLine → (target : List ℕ) (leader : Option (List ℕ)) (others : List (List ℕ)) → Form
+pattern_form rule l target leader others = record {
   before = before_percent target;
   after = behind_percent target;
-  prerequisites = prerequisites;
-  leaves_folders = leaves_folders profile target;
+  prerequisites = words_by false l ++ words_by true l;
+  ordinary = length (words_by false l);
+  leaves_folders = leaves_folders l.profile target;
   takes_empty = false;
   rule = rule;
+  leader = leader;
+  others = others;
 }
 
--- the form of a rule of one target
-abbrev pub form_of_names : (rule : ℕ) → Profile → (targets prerequisites : List (List ℕ)) → List Form
-form_of_names rule profile (target ∷ []) prerequisites = pattern_form rule profile target prerequisites ∷ []
-form_of_names rule profile _ prerequisites = []
+-- the form of a target behind the first
+abbrev pub further_form : (rule : ℕ) → RuleLine → (leader : List ℕ) → (target : List ℕ) → Form
+further_form rule l leader target = pattern_form rule l target (Some leader) []
 
--- the forms of a line, which has one where it is a pattern rule
-abbrev pub form_of_line : (rule : ℕ) → RuleLine → List Form
-form_of_line rule l = if is_pattern_rule l then form_of_names rule l.profile l.targets l.prerequisites else []
+-- the forms of a rule, one for each target
+abbrev pub forms_of_names : (rule : ℕ) → RuleLine → (targets : List (List ℕ)) → List Form
+forms_of_names rule l [] = []
+forms_of_names rule l (target ∷ others) = pattern_form rule l target None others ∷ map (further_form rule l target) others
+
+-- the forms of a line, which has some where it is a pattern rule
+abbrev pub forms_of_line : (rule : ℕ) → RuleLine → List Form
+forms_of_line rule l = if is_pattern_rule l then forms_of_names rule l l.targets else []
 
 -- the forms of the pattern rules in the order of their lines, the first of which has the number k
 -- (make(1S), "Pattern Matching Rules")
 abbrev pub pattern_forms : (k : ℕ) → List RuleLine → List Form
 pattern_forms k [] = []
-pattern_forms k (l ∷ lines) = form_of_line k l ++ pattern_forms (k + 1) lines
+pattern_forms k (l ∷ lines) = forms_of_line k l ++ pattern_forms (k + 1) lines
 
 -- a suffix rule's form: a name that ends in `after` comes from the same one with `back` in its place
 abbrev pub suffix_form : (after back : List ℕ) (takes_empty : Bool) (rule : ℕ) → Form
 suffix_form after back takes_empty rule =
-    record { before = []; after = after; prerequisites = (37 ∷ back) ∷ []; leaves_folders = false; takes_empty = takes_empty; rule = rule }
+    record {
+      before = [];
+      after = after;
+      prerequisites = (37 ∷ back) ∷ [];
+      ordinary = 1;
+      leaves_folders = false;
+      takes_empty = takes_empty;
+      rule = rule;
+      leader = None;
+      others = [];
+    }
 
 -- the lines that have the recipe of a suffix rule
 abbrev pub suffix_rules : (suffixes : List (List ℕ)) → List RuleLine → (name : List ℕ) → List ℕ

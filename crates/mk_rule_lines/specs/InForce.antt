@@ -6,7 +6,7 @@ use Rattle.mk_macros.specs.Ranks.{Defined}
 use Rattle.mk_profile.specs.declared.profile.Profile.{Profile}
 use Rattle.mk_profile.specs.declared.profile.Profile.TheVariants.{Strict, Posix}
 use Rattle.mk_reader.specs.declared.item.Item.{Item}
-use Rattle.mk_rule_lines.specs.Kinds.{IsRule, HasRecipe, IsOnePattern}
+use Rattle.mk_rule_lines.specs.Kinds.{IsRule, HasSingleRecipe, IsOnePattern}
 use Rattle.mk_rule_lines.specs.Lines.{AreRuleLines}
 use Rattle.mk_rule_lines.specs.Rules.{suffixes_of}
 use Rattle.mk_rule_lines.specs.declared.rule_line.RuleLine.{RuleLine}
@@ -30,7 +30,7 @@ pub record IsSuffixRuleOf (suffixes : List (List ℕ)) (l taking : RuleLine) : T
   pub second : (t ≡ []) ⊎ Contains suffixes t
   pub targets : l.targets ≡ (s ++ t) ∷ []
   pub prerequisites : l.prerequisites ≡ []
-  pub recipe : HasRecipe l
+  pub recipe : HasSingleRecipe l
   pub target : taking.targets ≡ (37 ∷ t) ∷ []
   pub source : taking.prerequisites ≡ (37 ∷ s) ∷ []
 

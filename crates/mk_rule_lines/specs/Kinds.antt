@@ -1,11 +1,11 @@
 -- What kind a rule line is, and what its targets are: told of the line, whatever order it is looked at in.
 use Rattle.std.specs.Prelude.{◌≡◌, ◌≢◌, ◌⊎◌, ℕ, Bool, false, not, List, [], ◌∷◌, ◌++◌, Some, None, Contains, codes}
-use Rattle.std.specs.List.{Any, list_any}
+use Rattle.std.specs.List.{All, Any, list_any}
 use Rattle.mk_macros.specs.Spelled.{Lacks}
 use Rattle.mk_macros.specs.Words.{is_byte}
 use Rattle.mk_profile.specs.declared.profile.Profile.{Profile}
 use Rattle.mk_profile.specs.declared.profile.Profile.TheVariants.{Strict, Posix}
-use Rattle.mk_reader.specs.declared.special.SpecialName.TheVariants.{Phony}
+use Rattle.mk_reader.specs.declared.special.SpecialName.TheVariants.{Default, Phony}
 use Rattle.mk_rule_lines.specs.declared.rule_line.RuleLine.{RuleLine}
 
 -- a line that is no special rule
@@ -15,6 +15,10 @@ IsRule l = l.special ≡ None
 -- a recipe of one empty line is one too: `x: ;`
 abbrev pub HasRecipe : RuleLine → Type 0
 HasRecipe l = l.recipe ≢ []
+
+-- it has one of which a name has just one: the line is none with `::`
+abbrev pub HasSingleRecipe : RuleLine → Type 0
+HasSingleRecipe l = (l.is_double ≡ false) × HasRecipe l
 
 -- a pattern rule: a `%` stands in a target
 abbrev pub IsPatternRule : RuleLine → Type 0
@@ -26,9 +30,9 @@ abbrev pub leaves_folders : Profile → (target : List ℕ) → Bool
 leaves_folders Strict target = false
 leaves_folders Posix target = not (list_any (is_byte 47) target)
 
--- a word that stands for no prerequisite: `.WAIT` (dmake manual), and the bar before order-only ones (GNU make manual)
-abbrev pub IsMark : (word : List ℕ) → Type 0
-IsMark word = (word ≡ codes ".WAIT") ⊎ (word ≡ codes "|")
+-- a name with one `%`
+abbrev pub IsPattern : (name : List ℕ) → Type 0
+IsPattern name = (before : List ℕ) × (after : List ℕ) × (name ≡ before ++ 37 ∷ after) × Lacks 37 before × Lacks 37 after
 
 -- one name, with one `%`
 abbrev pub IsOnePattern : (names : List (List ℕ)) → Type 0
@@ -40,19 +44,28 @@ abbrev pub BeginsWithPattern : (names : List (List ℕ)) → Type 0
 BeginsWithPattern [] = ⊥
 BeginsWithPattern (name ∷ names) = Contains name 37
 
--- what may be the prerequisites of a pattern rule: in the strict profile one name with one `%` (make(1S), "Pattern Matching Rules");
--- in the wide one any names, also none (GNU make manual, "Pattern Rules"; without marks, and `%` alone only from a first one with a
--- `%`: own)
-abbrev pub MayMake : Profile → (target : List ℕ) (prerequisites : List (List ℕ)) → Type 0
-MayMake Strict target prerequisites = IsOnePattern prerequisites
-MayMake Posix target prerequisites = (Any IsMark prerequisites → ⊥) × ((target ≢ 37 ∷ []) ⊎ BeginsWithPattern prerequisites)
+abbrev pub HasSlash : (name : List ℕ) → Type 0
+HasSlash name = Contains name 47
 
--- the pattern rule `before%after : prerequisites` with a recipe: one target, with one `%` (make(1S), "Pattern Matching Rules")
-pub record IsPatternRuleOf (before after : List ℕ) (l : RuleLine) : Type 0 where
+-- what may be the targets of a pattern rule: in the strict profile one with one `%` (make(1S), "Pattern Matching Rules"); in the wide one
+-- any number of such (GNU make manual, "Pattern Intro"), of which each has a `/` or none has: so they have one stem (own)
+abbrev pub MayBeMade : Profile → (targets : List (List ℕ)) → Type 0
+MayBeMade Strict targets = IsOnePattern targets
+MayBeMade Posix targets = All IsPattern targets × (All HasSlash targets ⊎ (Any HasSlash targets → ⊥))
+
+-- what may be the prerequisites of a pattern rule: in the strict profile one name with one `%` (make(1S), "Pattern Matching Rules");
+-- in the wide one any names, also none, and behind a bar order-only ones (GNU make manual, "Pattern Rules"; without `.WAIT`, and `%`
+-- alone only from a first one with a `%`: own)
+abbrev pub MayMake : Profile → (targets prerequisites : List (List ℕ)) → Type 0
+MayMake Strict targets prerequisites = IsOnePattern prerequisites
+MayMake Posix targets prerequisites =
+    (Contains prerequisites (codes ".WAIT") → ⊥) × ((Contains targets (37 ∷ []) → ⊥) ⊎ BeginsWithPattern prerequisites)
+
+-- a pattern rule that is taken: what may be made from what may make it, by a recipe
+pub record IsWholePatternRule (l : RuleLine) : Type 0 where
   pub rule : IsRule l
-  pub targets : l.targets ≡ (before ++ 37 ∷ after) ∷ []
-  pub lacks : Lacks 37 before × Lacks 37 after
-  pub prerequisites : MayMake l.profile (before ++ 37 ∷ after) l.prerequisites
+  pub targets : MayBeMade l.profile l.targets
+  pub prerequisites : MayMake l.profile l.targets l.prerequisites
   pub recipe : HasRecipe l
 
 -- one suffix, or two joined
@@ -63,16 +76,26 @@ IsSuffixName suffixes name = Contains suffixes name ⊎ Any (λ s. Any (λ t. na
 -- Rules"; POSIX make, "Inference Rules")
 pub record IsSuffixRule (suffixes : List (List ℕ)) (l : RuleLine) (name : List ℕ) : Type 0 where
   pub prerequisites : l.prerequisites ≡ []
-  pub recipe : HasRecipe l
+  pub recipe : HasSingleRecipe l
   pub name_is : IsSuffixName suffixes name
 
 -- a line of `.PHONY`, whose targets are the names that it lists (POSIX make, .PHONY)
 abbrev pub IsPhonyList : RuleLine → Type 0
 IsPhonyList l = l.special ≡ Some Phony
 
--- the line has the name among its targets, and is a rule that is no pattern rule, or lists phony names
+-- a line of `.DEFAULT`, which has the recipe for what nothing else makes (POSIX make, .DEFAULT)
+abbrev pub IsDefaultRule : RuleLine → Type 0
+IsDefaultRule l = l.special ≡ Some Default
+
+-- it stands alone there, with `:`, without prerequisites, and with a recipe
+pub record IsWholeDefault (l : RuleLine) : Type 0 where
+  pub targets : l.targets ≡ codes ".DEFAULT" ∷ []
+  pub prerequisites : l.prerequisites ≡ []
+  pub recipe : HasSingleRecipe l
+
+-- the line has the name among its targets, and is a rule that is no pattern rule, or lists phony names, or is that of `.DEFAULT`
 pub record Mentions (l : RuleLine) (name : List ℕ) : Type 0 where
-  pub makes : IsPhonyList l ⊎ (IsRule l × (IsPatternRule l → ⊥))
+  pub makes : IsPhonyList l ⊎ (IsDefaultRule l ⊎ (IsRule l × (IsPatternRule l → ⊥)))
   pub target : Contains l.targets name
 
 -- the line is one of the name's rules (make(1S), "Rules"), and it has the suffix rule of this name

@@ -1,5 +1,5 @@
 -- The rule lines of a makefile's items: each is expanded with the definitions above it.
-use Rattle.std.specs.Prelude.{◌≡◌, ℕ, ◌⊎◌, List, [], ◌∷◌, Option, Some, None, if◌then◌else◌}
+use Rattle.std.specs.Prelude.{◌≡◌, ℕ, ◌⊎◌, ◌&&◌, is_none, List, [], ◌∷◌, Option, Some, None, if◌then◌else◌}
 use Rattle.mk_profile.specs.Profile.{is_wide}
 use Rattle.mk_profile.specs.declared.profile.Profile.{Profile}
 use Rattle.byte_strings.specs.Blanks.{words}
@@ -58,7 +58,7 @@ abbrev pub told_file : Profile → (file : List ℕ) → Option (List ℕ)
 told_file profile file = if is_wide profile then Some file else None
 
 -- the line is that of a rule, which may be a special one. A line of `.PHONY` is a rule line for the names that it lists, without
--- prerequisites and recipe
+-- prerequisites and recipe. A special rule means the same with `::`
 pub record IsRuleLine (given : Defined) (special : Option SpecialName) (rule : Rule) (l : RuleLine) : Type 0 where
   pub file : l.file ≡ told_file given.language rule.file
   pub number : l.line ≡ rule.line
@@ -67,6 +67,7 @@ pub record IsRuleLine (given : Defined) (special : Option SpecialName) (rule : R
   pub targets : AreWordsOf given (targets_text special rule) l.targets
   pub prerequisites : ArePrerequisites given special rule l.prerequisites
   pub recipe : l.recipe ≡ recipe_in special rule
+  pub double : l.is_double ≡ (is_none special && rule.is_double)
 
 -- the lines are those of the items, each expanded with the definitions above it (make(1S), "Macros")
 pub data AreRuleLines : Defined → List Item → List RuleLine → Type 0 where

@@ -5,7 +5,7 @@ use Rattle.std.specs.Option.{option_map_or}
 use Rattle.mk_macros.specs.Words.{without_front}
 use Rattle.mk_reader.specs.Text.{is_empty}
 use Rattle.mk_reader.specs.declared.special.SpecialName.{SpecialName}
-use Rattle.mk_reader.specs.declared.special.SpecialName.TheVariants.{Suffixes, Phony}
+use Rattle.mk_reader.specs.declared.special.SpecialName.TheVariants.{Suffixes, Phony, Default}
 use Rattle.mk_rule_lines.specs.declared.rule_line.RuleLine.{RuleLine}
 
 -- the name is one of these
@@ -32,9 +32,14 @@ abbrev pub is_phony_list : Option SpecialName → Bool
 is_phony_list (Some Phony) = true
 is_phony_list _ = false
 
--- a line that makes its targets by name: a rule that is no pattern rule, or one of `.PHONY`
+-- a line of `.DEFAULT`
+abbrev pub is_default_rule : Option SpecialName → Bool
+is_default_rule (Some Default) = true
+is_default_rule _ = false
+
+-- a line that makes its targets by name: a rule that is no pattern rule, one of `.PHONY`, or one of `.DEFAULT`
 abbrev pub makes_targets : RuleLine → Bool
-makes_targets l = is_phony_list l.special || (is_rule l && not (is_pattern_rule l))
+makes_targets l = is_phony_list l.special || (is_default_rule l.special || (is_rule l && not (is_pattern_rule l)))
 
 -- the suffixes with those of a list that are new, in order (own: one that is there keeps its place)
 abbrev pub added : (suffixes names : List (List ℕ)) → List (List ℕ)
@@ -69,9 +74,21 @@ joins suffixes name suffix = option_map_or (λ rest. has rest suffixes) (without
 abbrev pub is_suffix_name : (suffixes : List (List ℕ)) → (name : List ℕ) → Bool
 is_suffix_name suffixes name = has name suffixes || list_any (joins suffixes name) suffixes
 
+-- a line that has no recipe of which a name has just one: it has none, or it is a line with `::`
+abbrev pub lacks_single : RuleLine → Bool
+lacks_single l = l.is_double || is_empty l.recipe
+
+-- a line with `::` that has a recipe, of which a name may have several (GNU make manual, "Double-Colon Rules")
+abbrev pub is_double_recipe : RuleLine → Bool
+is_double_recipe l = l.is_double && not (is_empty l.recipe)
+
+-- such a line without prerequisites: its targets are always made (GNU make manual, "Double-Colon Rules")
+abbrev pub is_always : RuleLine → Bool
+is_always l = is_double_recipe l && is_empty l.prerequisites
+
 -- a line without prerequisites and with a recipe, whose targets may be suffix rules
 abbrev pub may_be_suffix_rule : RuleLine → Bool
-may_be_suffix_rule l = is_empty l.prerequisites && not (is_empty l.recipe)
+may_be_suffix_rule l = is_empty l.prerequisites && not (lacks_single l)
 
 -- this target of the line is a suffix rule (make(1S), "Suffix Rules")
 abbrev pub is_suffix_target : (suffixes : List (List ℕ)) → RuleLine → (name : List ℕ) → Bool
@@ -97,9 +114,9 @@ abbrev pub times : (k : ℕ) → (name : List ℕ) → List (List ℕ) → List 
 times k name [] = []
 times k name (t ∷ targets) = if bytes_eq name t then k ∷ times k name targets else times k name targets
 
--- the numbers, from k on, of the lines that have a recipe for a name, each as often as the name is among its targets
--- of this choice
+-- the numbers, from k on, of the lines without `::` that have a recipe for a name, each as often as the name is among its
+-- targets of this choice
 abbrev pub recipe_places : (targets : RuleLine → List (List ℕ)) → (k : ℕ) → List RuleLine → (name : List ℕ) → List ℕ
 recipe_places targets k [] name = []
 recipe_places targets k (l ∷ lines) name =
-    (if is_empty l.recipe then [] else times k name (targets l)) ++ recipe_places targets (k + 1) lines name
+    (if lacks_single l then [] else times k name (targets l)) ++ recipe_places targets (k + 1) lines name

@@ -34,17 +34,24 @@ stem_of form name = stem_in form (seen_by form name)
 abbrev pub with_stem : (folder stem pattern : List ℕ) → List ℕ
 with_stem folder stem pattern = option_map_or (λ i. folder ++ (take i pattern ++ (stem ++ drop (i + 1) pattern))) (place_of 37 pattern) pattern
 
--- what a form makes the name with this folder and stem from
+-- what a form makes the name with this folder and stem from, and behind it the order-only prerequisites
 abbrev pub source_at : Form → (stem : List ℕ × List ℕ) → Source
 source_at form stem =
-    record { names = map (with_stem stem.0 stem.1) form.prerequisites; stem = stem.0 ++ stem.1; rule = form.rule }
+    record {
+      names = map (with_stem stem.0 stem.1) form.prerequisites;
+      ordinary = form.ordinary;
+      stem = stem.0 ++ stem.1;
+      rule = form.rule;
+      leader = option_map (with_stem stem.0 stem.1) form.leader;
+      others = map (with_stem stem.0 stem.1) form.others;
+    }
 
 -- what a name may be made from, in the order of the forms
 abbrev pub candidates : List Form → (name : List ℕ) → List Source
 candidates [] name = []
 candidates (form ∷ forms) name = option_to_list (option_map (source_at form) (stem_of form name)) ++ candidates forms name
 
--- what a name is made from: the first of all candidates whose names are all there, as those of a rule without prerequisites are. One
--- step; a source's own source is not asked for (own)
+-- what a name is made from: the first of all candidates whose names are all there, order-only ones too (GNU make), as those of a rule
+-- without prerequisites are. One step; a source's own source is not asked for (own)
 abbrev pub source_of : (is_there : List ℕ → Bool) → List Form → (name : List ℕ) → Option Source
 source_of is_there forms name = find (λ source. list_all is_there source.names) (candidates forms name)

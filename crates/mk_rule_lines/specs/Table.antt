@@ -10,7 +10,7 @@ use Rattle.mk_rule_lines.specs.declared.rule_line.RuleLine.{RuleLine}
 use Rattle.mk_rule_lines.specs.declared.table.Target.{Target}
 use Rattle.mk_rule_lines.specs.declared.table.TargetTable.{TargetTable}
 
--- the lines that name a target, in order, and the line that has its recipe
+-- the lines that name a target, in order, and the line that has its recipe, if it isn't one with `::`
 pub record Named : Type 0 where
   pub lines : List ℕ
   pub recipe : Option ℕ
@@ -48,8 +48,8 @@ with_target k has_recipe named = record {
 abbrev pub recipes_in : TargetTable → (name : List ℕ) → List ℕ
 recipes_in table name = option_to_list (named_at table name).recipe
 
--- the table of these lines: of each name the lines that have it among their targets, of this choice, and the one that
--- has a recipe for it
+-- the table of these lines: of each name the lines that have it among their targets, of this choice, and the one without `::`
+-- that has a recipe for it
 pub record IsTable (targets : RuleLine → List (List ℕ)) (lines : List RuleLine) (table : TargetTable) : Type 0 where
   pub named : (name : List ℕ) → (named_at table name).lines ≡ places (λ l. has name (targets l)) 0 lines
   pub recipe : (name : List ℕ) → option_to_list (named_at table name).recipe ≡ recipe_places targets 0 lines name

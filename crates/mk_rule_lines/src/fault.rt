@@ -15,9 +15,15 @@ pub enum Unsupported {
     /// A `(` in a target or a prerequisite.
     #[error("library member")]
     LibraryMember,
+    /// A `%` in a target of a line with `::`, or a target that may be a suffix rule.
+    #[error("::")]
+    DoubleColon,
     /// A `%` in a target, in another form than one target, one prerequisite, one `%` in each, and a recipe.
     #[error("pattern rule")]
     PatternRule,
+    /// A line of `.DEFAULT` with other targets or with prerequisites, or without a recipe.
+    #[error(".DEFAULT")]
+    DefaultRule,
 }
 
 /// Where a line of a makefile stands.
@@ -99,6 +105,9 @@ pub enum RuleFault {
     /// The name, and the number of the rule line whose recipe is its second.
     #[error("two recipes for {0} (line {1})")]
     TwoRecipes(ByteString, usize),
+    /// The name, and the number of its rule line with `::`.
+    #[error("both : and :: for {0} (line {1})")]
+    BothKinds(ByteString, usize),
     #[error("cycle: {0}")]
     Cycle(CycleNames),
     /// There are more names than a graph holds.

@@ -16,42 +16,70 @@ use std::alloc::{AllocError, Global};
 pub struct Form {
     pub before: ByteString,
     pub after: ByteString,
+    /// The ordinary prerequisites, then the order-only ones.
     pub prerequisites: ByteStrings,
+    /// How many are ordinary.
+    pub ordinary: usize,
     /// Whether the folder of a name is left aside: it stands before the sources, and is no part of what the form is told by.
     pub leaves_folders: bool,
     /// Whether the stem may be empty: the suffix rule `.c` makes any name, also the empty one.
     pub takes_empty: bool,
     /// Which rule line has the recipe, from 0.
     pub rule: usize,
+    /// The first target of a rule of several, where this is the form of another one: it is made by the run for the first.
+    pub leader: Option<ByteString>,
+    /// The other targets of a rule of several, where this is the form of the first: its run makes them too.
+    pub others: ByteStrings,
 }
 
 /// What an implicit rule makes a name from.
 #[derive(Drop)]
 pub struct Source {
+    /// The prerequisites that the rule gives it: the ordinary ones, then the order-only ones.
     pub names: ByteStrings,
+    /// How many are ordinary.
+    pub ordinary: usize,
     pub stem: ByteString,
     /// Which rule line has the recipe, from 0.
     pub rule: usize,
+    /// The name by whose run the rule makes this one, if it does: that of the rule's first target.
+    pub leader: Option<ByteString>,
+    /// What else the rule's run for this name makes.
+    pub others: ByteStrings,
 }
 
-/// Adds a pattern with the stem in the place of its first `%`, in the folder.
-fn push_with_stem(
+/// A pattern with the stem in the place of its first `%`, in the folder.
+fn with_stem(
     alloc: Global,
-    names: &mut ByteStrings,
     pattern: &[u8],
     folder: &[u8],
     stem: &[u8],
-) -> Result<(), AllocError>
-    ensures { OnOk result (names.new ≡ names.old ++ with_stem folder.now stem.now pattern.now ∷ []) }
+) -> Result<ByteString, AllocError>
+    ensures { IfOk result (λ name. name ≡ with_stem folder.now stem.now pattern.now) }
 {
     let Some(place) = percent(pattern) else {
-        return names.push(pattern);
+        return ByteString::from_slice(alloc, pattern);
     };
     let mut name = Vec::from_slice(alloc, folder)?;
     name.extend_from_slice(&pattern[..place])?;
     name.extend_from_slice(stem)?;
     name.extend_from_slice(&pattern[place + 1..])?;
-    names.push(&name)
+    Ok(ByteString::new(name))
+}
+
+/// The name of a rule's first target, where the form is that of another one.
+fn leader_with(
+    alloc: Global,
+    leader: &Option<ByteString>,
+    folder: &[u8],
+    stem: &[u8],
+) -> Result<Option<ByteString>, AllocError>
+    ensures { IfOk result (λ name. name ≡ option_map (with_stem folder.now stem.now) leader.now) }
+{
+    match leader {
+        Some(pattern) => Ok(Some(with_stem(alloc, pattern.as_slice(), folder, stem)?)),
+        None => Ok(None),
+    }
 }
 
 /// The patterns with the stem in the place of their first `%`, in the folder.
@@ -65,7 +93,7 @@ fn with_stems(
 {
     let mut names = ByteStrings::empty(alloc);
     for pattern in patterns.iter() {
-        push_with_stem(alloc, &mut names, pattern, folder, stem)?;
+        names.push(with_stem(alloc, pattern, folder, stem)?.as_slice())?;
     }
     Ok(names)
 }
@@ -104,8 +132,11 @@ impl Form {
         whole.extend_from_slice(stem)?;
         Ok(Source {
             names: with_stems(alloc, &self.prerequisites, folder, stem)?,
+            ordinary: self.ordinary,
             stem: ByteString::new(whole),
             rule: self.rule,
+            leader: leader_with(alloc, &self.leader, folder, stem)?,
+            others: with_stems(alloc, &self.others, folder, stem)?,
         })
     }
 }

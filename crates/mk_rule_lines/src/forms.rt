@@ -1,12 +1,13 @@
 //! All implicit rules of a makefile, made once.
-ghost use Rattle.std.specs.Prelude.{◌≡◌, ◌<◌, true, [], ◌∷◌, ◌++◌, length, option_to_list, IfOk, OnOk, IfSome};
-ghost use Rattle.std.specs.List.{list_any};
-ghost use Rattle.mk_macros.specs.Words.{is_byte, place_of};
+ghost use Rattle.std.specs.Prelude.{◌≡◌, ◌<◌, true, [], ◌∷◌, ◌++◌, length, map, option_to_list, IfOk, OnOk, IfSome};
+ghost use Rattle.mk_macros.specs.Words.{place_of};
 ghost use Rattle.mk_rule_lines.specs.Kinds.{leaves_folders};
 ghost use Rattle.mk_rule_lines.specs.Rules.{targets_by};
+ghost use Rattle.mk_rule_lines.specs.Tests.{has_slash};
 ghost use Rattle.mk_rule_lines.specs.Table.{IsTable, recipes_in};
-ghost use Rattle.mk_rule_lines.specs.Forms.{before_percent, behind_percent, pattern_form, form_of_line, suffix_form, pair_forms, single_forms, forms_from, suffix_forms, pattern_forms, forms_of};
+ghost use Rattle.mk_rule_lines.specs.Forms.{before_percent, behind_percent, pattern_form, further_form, forms_of_names, forms_of_line, suffix_form, pair_forms, single_forms, forms_from, suffix_forms, pattern_forms, forms_of};
 
+use crate::explicit::words_by;
 use crate::form::Form;
 use crate::rule_line::RuleLine;
 use crate::table::TargetTable;
@@ -40,8 +41,8 @@ fn behind_percent(name: &[u8]) -> &[u8]
     }
 }
 
-fn has_slash(name: &[u8]) -> bool
-    ensures { result ≡ list_any (is_byte 47) name.now }
+pub(crate) fn has_slash(name: &[u8]) -> bool
+    ensures { result ≡ has_slash name.now }
 {
     name.iter().any(|b| *b == b'/')
 }
@@ -56,22 +57,40 @@ fn leaves_folders(profile: Profile, target: &[u8]) -> bool
     }
 }
 
+/// These names, and behind them the others.
+fn joined(names: ByteStrings, others: &ByteStrings) -> Result<ByteStrings, AllocError>
+    ensures { IfOk result (λ all. all ≡ names ++ others.now) }
+{
+    let mut all = names;
+    for name in others.iter() {
+        all.push(name)?;
+    }
+    Ok(all)
+}
+
 fn pattern_form(
     alloc: Global,
     rule: usize,
-    profile: Profile,
+    line: &RuleLine,
     target: &[u8],
-    prerequisites: ByteStrings,
+    leader: Option<ByteString>,
+    others: ByteStrings,
 ) -> Result<Form, AllocError>
-    ensures { IfOk result (λ form. form ≡ pattern_form rule profile target.now prerequisites) }
+    ensures { IfOk result (λ form. form ≡ pattern_form rule line.now target.now leader others) }
 {
+    let ordinary = words_by(alloc, line, false)?;
+    let order_only = words_by(alloc, line, true)?;
+    let count = ordinary.len();
     Ok(Form {
         before: ByteString::from_slice(alloc, before_percent(target))?,
         after: ByteString::from_slice(alloc, behind_percent(target))?,
-        prerequisites,
-        leaves_folders: leaves_folders(profile, target),
+        prerequisites: joined(ordinary, &order_only)?,
+        ordinary: count,
+        leaves_folders: leaves_folders(line.profile, target),
         takes_empty: false,
         rule,
+        leader,
+        others,
     })
 }
 
@@ -99,9 +118,12 @@ fn suffix_form(
         before: ByteString::new(Vec::new(alloc)),
         after: ByteString::from_slice(alloc, after)?,
         prerequisites: pattern_to(alloc, back)?,
+        ordinary: 1,
         leaves_folders: false,
         takes_empty,
         rule,
+        leader: None,
+        others: ByteStrings::empty(alloc),
     })
 }
 
@@ -116,24 +138,45 @@ fn listed(alloc: Global, words: Words) -> Result<ByteStrings, AllocError>
     Ok(names)
 }
 
-/// Adds the form of a line, where it is a pattern rule.
-fn add_form_of_line(
+/// Adds the forms of the targets behind the first.
+fn add_further_forms(
+    alloc: Global,
+    forms: &mut Vec<Form>,
+    rule: usize,
+    line: &RuleLine,
+    leader: &[u8],
+    others: &ByteStrings,
+) -> Result<(), AllocError>
+    ensures { OnOk result (forms.new.items ≡ forms.old.items ++ map (further_form rule line.now leader.now) others.now) }
+{
+    for other in others.iter() {
+        let leader = Some(ByteString::from_slice(alloc, leader)?);
+        let none = ByteStrings::empty(alloc);
+        forms.push(pattern_form(alloc, rule, line, other, leader, none)?)?;
+    }
+    Ok(())
+}
+
+/// Adds the forms of a line, where it is a pattern rule.
+fn add_forms_of_line(
     alloc: Global,
     forms: &mut Vec<Form>,
     rule: usize,
     line: &RuleLine,
 ) -> Result<(), AllocError>
-    ensures { OnOk result (forms.new.items ≡ forms.old.items ++ form_of_line rule line.now) }
+    ensures { OnOk result (forms.new.items ≡ forms.old.items ++ forms_of_line rule line.now) }
 {
-    if !line.is_pattern_rule() || !line.targets.is_one() {
+    if !line.is_pattern_rule() {
         return Ok(());
     }
-    if let Some(target) = line.targets.first() {
-        let prerequisites = listed(alloc, line.prerequisites.iter())?;
-        let form = pattern_form(alloc, rule, line.profile, target, prerequisites)?;
-        forms.push(form)?;
-    }
-    Ok(())
+    let mut words = line.targets.iter();
+    let Some(target) = words.next() else {
+        return Ok(());
+    };
+    let others = listed(alloc, words)?;
+    let beside = others.copy(alloc)?;
+    forms.push(pattern_form(alloc, rule, line, target, None, beside)?)?;
+    add_further_forms(alloc, forms, rule, line, target, &others)
 }
 
 fn add_pattern_forms(
@@ -144,7 +187,7 @@ fn add_pattern_forms(
     ensures { OnOk result (forms.new.items ≡ forms.old.items ++ pattern_forms 0 lines.now) }
 {
     for (i, line) in lines.iter().enumerate() {
-        add_form_of_line(alloc, forms, i, line)?;
+        add_forms_of_line(alloc, forms, i, line)?;
     }
     Ok(())
 }

@@ -2,6 +2,7 @@
 #![tactic(auto)]
 
 mod counting;
+mod doubles;
 mod explicit;
 mod fault;
 mod folder;
@@ -20,8 +21,9 @@ mod supported;
 mod table;
 
 pub use counting::in_force;
+pub use doubles::{double_lines, first_double};
 pub use explicit::{
-    explicit_of, is_bar, is_phony, is_wait, order_only_in, order_only_of, words_by,
+    explicit_of, is_bar, is_default_at, is_phony, is_wait, names_in, order_only_of, words_by,
 };
 pub use fault::{CycleNames, RuleFault, TextFault, TextPlace, Unmade, Unsupported};
 pub use form::{Form, Source};
@@ -35,7 +37,7 @@ pub use line_words::LineWords;
 pub use lines::rule_lines;
 pub use makefile::Makefile;
 pub use marked::{Mark, Marked};
-pub use rule_line::RuleLine;
+pub use rule_line::{RuleLine, is_default_rule};
 pub use settings::Settings;
 pub use suffixes::suffixes_of;
 pub use supported::check_lines;

@@ -1,9 +1,11 @@
 //! The words of what a text of a rule line expands to.
-ghost use Rattle.std.specs.Prelude.{◌≡◌, ◌↔◌, ◌==◌, [], length, slice_get, option_copied, IsTrue};
-ghost use Rattle.byte_strings.specs.Blanks.{words};
+ghost use Rattle.std.specs.Prelude.{◌≡◌, ◌↔◌, ◌==◌, [], length, slice_get, option_copied, false, IfOk, IsTrue};
+ghost use Rattle.std.specs.List.{list_any};
+ghost use Rattle.byte_strings.specs.Blanks.{is_blank, words};
 ghost use Rattle.mk_rule_lines.specs.Rules.{has};
 
-use byte_strings::Words;
+use byte_strings::{ByteStrings, Words};
+use std::alloc::{AllocError, Global};
 use std::marker::Model;
 
 /// The words of a text, which is all that is kept of them: a list of words takes twice the room. Contracts see the list.
@@ -27,6 +29,14 @@ impl LineWords {
         ensures { result ≡ words text.items }
     {
         LineWords { text }
+    }
+
+    /// No strings, with room for about as many as these words: about four bytes a word.
+    pub(crate) fn room(&self, alloc: Global) -> Result<ByteStrings, AllocError>
+        ensures { IfOk result (λ strings. strings ≡ []) }
+    {
+        let bytes = self.text.len();
+        ByteStrings::with_capacity(alloc, bytes / 4, bytes)
     }
 
     /// The words in their order.
@@ -60,6 +70,14 @@ impl LineWords {
             Some(_) => left.next().is_none(),
             None => false,
         }
+    }
+
+    /// Whether one of the words has this byte, which is no blank: told without cutting the text into words.
+    pub fn has_byte(&self, byte: u8) -> bool
+        requires { is_blank byte ≡ false }
+        ensures { result ≡ list_any (list_any (λ b. b == byte)) self.now }
+    {
+        self.text.contains(&byte)
     }
 
     /// Whether the name is one of the words.

@@ -1,5 +1,5 @@
 //! The rule lines of a makefile's items.
-ghost use Rattle.std.specs.Prelude.{◌≡◌, ℕ, List, [], None, Some, IfOk, IfErr, OnOk};
+ghost use Rattle.std.specs.Prelude.{◌≡◌, ℕ, List, [], None, Some, false, IfOk, IfErr, OnOk};
 ghost use Rattle.mk_reader.specs.declared.special.SpecialName.TheVariants.{Phony};
 ghost use Rattle.mk_macros.specs.Ranks.{defined_by, rule_meanings};
 ghost use Rattle.mk_rule_lines.specs.Lines.{behind, behind_items, AreWordsOf, IsRuleLine, AreRuleLines, IsTextsFault, IsRuleLineFault, IsLinesFault, IsToldAt, told_place, told_file};
@@ -82,6 +82,7 @@ fn phony_line(
     ensures targets { result.targets ≡ names }
     ensures prerequisites { result.prerequisites ≡ [] }
     ensures recipe { result.recipe ≡ [] }
+    ensures double { result.is_double ≡ false }
 {
     RuleLine {
         file,
@@ -91,6 +92,7 @@ fn phony_line(
         targets: names,
         prerequisites: LineWords::new(Vec::new(alloc)),
         recipe: Recipe::new(alloc),
+        is_double: false,
     }
 }
 
@@ -109,6 +111,7 @@ fn rule_line(
         file,
         line,
         recipe,
+        is_double,
         ..
     } = rule;
     let (targets, prerequisites) = match words {
@@ -131,6 +134,7 @@ fn rule_line(
         targets,
         prerequisites,
         recipe,
+        is_double: special.is_none() && is_double,
     })
 }
 

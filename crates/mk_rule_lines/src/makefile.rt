@@ -9,6 +9,7 @@ ghost use Rattle.mk_rule_lines.specs.Table.{IsTable, IsTableFault};
 ghost use Rattle.mk_rule_lines.specs.Taken.{AreTaken, IsTakingFault};
 
 use crate::counting::in_force;
+use crate::doubles::check_kinds;
 use crate::fault::RuleFault;
 use crate::form::Form;
 use crate::forms::forms_of;
@@ -68,12 +69,13 @@ impl Makefile {
         Makefile::of_lines(alloc, lines)
     }
 
-    /// Takes in rule lines, unless one is refused or a name has two recipes.
+    /// Takes in rule lines, unless one is refused, or a name has both kinds of rules or two recipes.
     fn of_lines(alloc: Global, lines: Vec<RuleLine>) -> Result<Makefile, RuleFault>
         ensures lines { IfOk result (λ makefile. makefile.lines ≡ lines) }
         ensures fault { IfErr result (IsTakingFault lines.items) }
     {
         check_lines(&lines)?;
+        check_kinds(alloc, &lines)?;
         let suffixes = suffixes_of(alloc, &lines)?;
         let targets = TargetTable::of_lines(alloc, &lines, &suffixes, false)?;
         let forms = implicit_rules(alloc, &lines, &suffixes)?;

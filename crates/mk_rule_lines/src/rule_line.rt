@@ -2,7 +2,7 @@
 ghost use Rattle.std.specs.Prelude.{◌≡◌, not, IfOk};
 ghost use Rattle.std.specs.List.{list_any};
 ghost use Rattle.mk_reader.specs.Text.{is_empty};
-ghost use Rattle.mk_rule_lines.specs.Rules.{has, has_percent, is_rule, is_pattern_rule, is_phony_list, makes_targets, is_suffix_list, joins, is_suffix_name, may_be_suffix_rule, is_suffix_target, comes_out, targets_by};
+ghost use Rattle.mk_rule_lines.specs.Rules.{has, has_percent, is_rule, is_pattern_rule, is_phony_list, is_default_rule, makes_targets, is_suffix_list, joins, is_suffix_name, lacks_single, is_double_recipe, is_always, may_be_suffix_rule, is_suffix_target, comes_out, targets_by};
 
 use crate::line_words::LineWords;
 use byte_strings::{ByteString, ByteStrings};
@@ -24,6 +24,8 @@ pub struct RuleLine {
     pub targets: LineWords,
     pub prerequisites: LineWords,
     pub recipe: Recipe,
+    /// Whether it is a rule with `::`, of which a name may have several with a recipe.
+    pub is_double: bool,
 }
 
 /// Whether the name is one of these.
@@ -42,7 +44,7 @@ pub(crate) fn has_percent(name: &[u8]) -> bool
 fn any_percent(names: &LineWords) -> bool
     ensures { result ≡ list_any has_percent names.now }
 {
-    names.iter().any(|name| has_percent(name))
+    names.has_byte(b'%')
 }
 
 fn joins(suffixes: &ByteStrings, name: &[u8], suffix: &[u8]) -> bool
@@ -76,6 +78,15 @@ pub(crate) fn is_phony_list(special: Option<SpecialName>) -> bool
     }
 }
 
+pub fn is_default_rule(special: Option<SpecialName>) -> bool
+    ensures { result ≡ is_default_rule special }
+{
+    match special {
+        Some(SpecialName::Default) => true,
+        _ => false,
+    }
+}
+
 fn comes_out(wanted: bool, answer: bool) -> bool
     ensures { result ≡ comes_out wanted answer }
 {
@@ -100,7 +111,9 @@ impl RuleLine {
     fn makes_targets(&self) -> bool
         ensures { result ≡ makes_targets self.now }
     {
-        is_phony_list(self.special) || (self.is_rule() && !self.is_pattern_rule())
+        is_phony_list(self.special)
+            || is_default_rule(self.special)
+            || (self.is_rule() && !self.is_pattern_rule())
     }
 
     pub fn has_recipe(&self) -> bool
@@ -109,10 +122,37 @@ impl RuleLine {
         !self.recipe.lines().is_empty()
     }
 
+    /// Whether it has no recipe of which a name has just one.
+    fn lacks_single(&self) -> bool
+        ensures { result ≡ lacks_single self.now }
+    {
+        self.is_double || !self.has_recipe()
+    }
+
+    pub(crate) fn has_single_recipe(&self) -> bool
+        ensures { result ≡ not (lacks_single self.now) }
+    {
+        !self.lacks_single()
+    }
+
+    /// Whether it is a line with `::` and a recipe.
+    pub fn is_double_recipe(&self) -> bool
+        ensures { result ≡ is_double_recipe self.now }
+    {
+        self.is_double && self.has_recipe()
+    }
+
+    /// Whether its targets are always made.
+    pub(crate) fn is_always(&self) -> bool
+        ensures { result ≡ is_always self.now }
+    {
+        self.is_double_recipe() && self.prerequisites.is_empty()
+    }
+
     pub(crate) fn may_be_suffix_rule(&self) -> bool
         ensures { result ≡ may_be_suffix_rule self.now }
     {
-        self.prerequisites.is_empty() && self.has_recipe()
+        self.prerequisites.is_empty() && self.has_single_recipe()
     }
 
     /// Whether this target of the line is a suffix rule.

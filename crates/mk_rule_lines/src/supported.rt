@@ -1,13 +1,14 @@
 //! Which rule lines are refused.
-ghost use Rattle.std.specs.Prelude.{◌≡◌, ℕ, Some, MatchOption, OnOk, IfErr, slice_get};
+ghost use Rattle.std.specs.Prelude.{◌≡◌, ◌||◌, not, ℕ, Some, MatchOption, OnOk, IfErr, slice_get};
 ghost use Rattle.mk_rule_lines.specs.Supported.{IsRefused, IsSupported, AreSupported, IsRefusal};
-ghost use Rattle.mk_rule_lines.specs.Tests.{is_pattern, is_one_pattern, is_mark, begins_with_pattern, may_make, is_whole_pattern_rule, has_bracket, is_refused};
-ghost use Rattle.std.specs.List.{list_any};
+ghost use Rattle.mk_rule_lines.specs.Tests.{has_slash, is_pattern, is_one_pattern, begins_with_pattern, may_be_made, may_make, is_whole_pattern_rule, is_alone, is_whole_default, has_bracket, is_implicit_target, is_refused};
+ghost use Rattle.std.specs.List.{list_all, list_any};
+ghost use Rattle.mk_reader.specs.Text.{begins_with};
 
-use crate::explicit::is_wait;
 use crate::fault::{RuleFault, Unsupported};
+use crate::forms::has_slash;
 use crate::line_words::LineWords;
-use crate::rule_line::{RuleLine, has_percent};
+use crate::rule_line::{RuleLine, has_percent, is_default_rule};
 use mk_profile::Profile;
 
 fn is_pattern(name: &[u8]) -> bool
@@ -28,29 +29,67 @@ pub(crate) fn is_one_pattern(names: &LineWords) -> bool
     names.is_one() && any_is_pattern(names)
 }
 
-fn has_bracket(name: &[u8]) -> bool
-    ensures { result ≡ has_bracket name.now }
+fn all_are_patterns(names: &LineWords) -> bool
+    ensures { result ≡ list_all is_pattern names.now }
 {
-    name.iter().any(|b| *b == b'(')
+    names.iter().all(|name| is_pattern(name))
+}
+
+fn all_have_slashes(names: &LineWords) -> bool
+    ensures { result ≡ list_all has_slash names.now }
+{
+    names.iter().all(|name| has_slash(name))
+}
+
+fn any_has_slash(names: &LineWords) -> bool
+    ensures { result ≡ list_any has_slash names.now }
+{
+    names.iter().any(|name| has_slash(name))
+}
+
+/// Whether each of the names has a `/`, or none has.
+fn have_slashes_alike(names: &LineWords) -> bool
+    ensures { result ≡ (list_all has_slash names.now || not (list_any has_slash names.now)) }
+{
+    all_have_slashes(names) || !any_has_slash(names)
+}
+
+/// Whether these may be the targets of a pattern rule.
+fn may_be_made(profile: Profile, targets: &LineWords) -> bool
+    ensures { result ≡ may_be_made profile targets.now }
+{
+    match profile {
+        Profile::Strict => is_one_pattern(targets),
+        Profile::Posix => all_are_patterns(targets) && have_slashes_alike(targets),
+    }
 }
 
 fn any_has_bracket(names: &LineWords) -> bool
     ensures { result ≡ list_any has_bracket names.now }
 {
-    names.iter().any(|name| has_bracket(name))
+    names.has_byte(b'(')
 }
 
-/// Whether the word stands for no prerequisite: `.WAIT`, or the bar before order-only ones.
-fn is_mark(word: &[u8]) -> bool
-    ensures { result ≡ is_mark word.now }
+fn begins_with_dot(name: &[u8]) -> bool
+    ensures { result ≡ begins_with 46 name.now }
 {
-    is_wait(word) || word == b"|".as_slice()
+    match name.split_first() {
+        Some((first, _)) => *first == b'.',
+        None => false,
+    }
 }
 
-fn any_is_mark(words: &LineWords) -> bool
-    ensures { result ≡ list_any is_mark words.now }
+/// Whether a target is that of an implicit rule, or may be.
+fn is_implicit_target(name: &[u8]) -> bool
+    ensures { result ≡ is_implicit_target name.now }
 {
-    words.iter().any(|word| is_mark(word))
+    has_percent(name) || (begins_with_dot(name) && !has_slash(name))
+}
+
+fn any_is_implicit_target(names: &LineWords) -> bool
+    ensures { result ≡ list_any is_implicit_target names.now }
+{
+    names.iter().any(|name| is_implicit_target(name))
 }
 
 /// Whether the first of these names has a `%`.
@@ -70,7 +109,7 @@ fn may_make(profile: Profile, targets: &LineWords, prerequisites: &LineWords) ->
     match profile {
         Profile::Strict => is_one_pattern(prerequisites),
         Profile::Posix => {
-            !any_is_mark(prerequisites)
+            !prerequisites.has(b".WAIT")
                 && (!targets.has(b"%") || begins_with_pattern(prerequisites))
         }
     }
@@ -79,9 +118,23 @@ fn may_make(profile: Profile, targets: &LineWords, prerequisites: &LineWords) ->
 fn is_whole_pattern_rule(line: &RuleLine) -> bool
     ensures { result ≡ is_whole_pattern_rule line.now }
 {
-    is_one_pattern(&line.targets)
+    may_be_made(line.profile, &line.targets)
         && may_make(line.profile, &line.targets, &line.prerequisites)
         && line.has_recipe()
+}
+
+/// Whether this name is the only one.
+fn is_alone(name: &[u8], names: &LineWords) -> bool
+    ensures { result ≡ is_alone name.now names.now }
+{
+    names.is_one() && names.has(name)
+}
+
+/// Whether the line of `.DEFAULT` names nothing else, has no prerequisites, and has a recipe.
+fn is_whole_default(line: &RuleLine) -> bool
+    ensures { result ≡ is_whole_default line.now }
+{
+    is_alone(b".DEFAULT", &line.targets) && line.may_be_suffix_rule()
 }
 
 fn is_refused(what: Unsupported, line: &RuleLine) -> bool
@@ -93,7 +146,11 @@ fn is_refused(what: Unsupported, line: &RuleLine) -> bool
             line.is_rule()
                 && (any_has_bracket(&line.targets) || any_has_bracket(&line.prerequisites))
         }
+        Unsupported::DoubleColon => {
+            line.is_rule() && line.is_double && any_is_implicit_target(&line.targets)
+        }
         Unsupported::PatternRule => line.is_pattern_rule() && !is_whole_pattern_rule(line),
+        Unsupported::DefaultRule => is_default_rule(line.special) && !is_whole_default(line),
     }
 }
 
@@ -107,8 +164,14 @@ fn refusal(line: &RuleLine) -> Option<Unsupported>
     if is_refused(Unsupported::LibraryMember, line) {
         return Some(Unsupported::LibraryMember);
     }
+    if is_refused(Unsupported::DoubleColon, line) {
+        return Some(Unsupported::DoubleColon);
+    }
     if is_refused(Unsupported::PatternRule, line) {
         return Some(Unsupported::PatternRule);
+    }
+    if is_refused(Unsupported::DefaultRule, line) {
+        return Some(Unsupported::DefaultRule);
     }
     None
 }

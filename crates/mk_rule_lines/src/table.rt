@@ -14,7 +14,7 @@ use std::alloc::{AllocError, Global};
 struct Target {
     /// The numbers of these lines, from 0, in order.
     lines: Vec<usize>,
-    /// The number of the line that has the recipe.
+    /// The number of the line that has the recipe, if it isn't one with `::`.
     recipe: Option<usize>,
 }
 
@@ -67,7 +67,7 @@ impl TargetTable {
         }
     }
 
-    /// The numbers of the lines that name the target, in order, and of the one that has its recipe.
+    /// The numbers of the lines that name the target, in order, and of the one that has its recipe, if it isn't one with `::`.
     pub fn named(&self, name: &[u8]) -> (&[usize], Option<usize>)
         ensures lines { result.0.now ≡ (named_at self.now name.now).lines }
         ensures recipe { result.1 ≡ (named_at self.now name.now).recipe }
@@ -78,7 +78,7 @@ impl TargetTable {
         }
     }
 
-    /// The number of the line that has the name's recipe.
+    /// The number of the line that has the name's recipe, if it isn't one with `::`.
     pub fn recipe(&self, name: &[u8]) -> Option<usize>
         ensures { result ≡ (named_at self.now name.now).recipe }
     {
@@ -169,7 +169,7 @@ impl TargetTable {
         let mut table = TargetTable::new(alloc);
         for (i, line) in lines.iter().enumerate() {
             let targets = line.targets_by(alloc, suffixes, suffix_rules)?;
-            table.add_targets(alloc, i, line.line, line.has_recipe(), &targets)?;
+            table.add_targets(alloc, i, line.line, line.has_single_recipe(), &targets)?;
         }
         Ok(table)
     }

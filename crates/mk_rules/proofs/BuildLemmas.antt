@@ -26,6 +26,7 @@ module _ (inputs : Inputs) (refuses : List ℕ → Type 0) (named : List (List �
   taking : (f : RuleFault) → IsTakingFault inputs.lines f → IsGraphFault inputs refuses named limit f
   taking fault.OutOfMemory meets = tt
   taking (fault.TwoRecipes name line) meets = meets
+  taking (fault.BothKinds name line) meets = meets
   taking (fault.Unsupported what line) meets = meets
   taking _ meets = absurd meets
 

@@ -25,6 +25,7 @@ module _ (inputs : Inputs) (refuses : List ℕ → Type 0) (named : List (List �
   refused_line fault.NoTarget meets = absurd meets
   refused_line (fault.NoRule name) meets = absurd meets
   refused_line (fault.TwoRecipes name line) meets = absurd meets
+  refused_line (fault.BothKinds name line) meets = absurd meets
   refused_line (fault.Cycle cycle) meets = absurd meets
   refused_line fault.TooMany meets = absurd meets
   refused_line (fault.Macro f) meets = absurd meets

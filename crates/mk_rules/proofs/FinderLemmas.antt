@@ -1,14 +1,18 @@
 -- What is looked up of a name, put together.
-use Rattle.std.proofs.Common.{◌≡◌, ◌⊎◌, ℕ, ℤ, Bool, true, false, List, [], ◌++◌, length, filter, map, drop, inl, inr, Option, sym, ap, ◌∙◌}
-use Rattle.std.specs.Prelude.{option_map, option_to_list}
+use Rattle.std.proofs.Common.{◌≡◌, ◌⊎◌, ℕ, ℤ, true, false, List, [], ◌++◌, length, filter, map, drop, take, inl, inr, Option, Some, sym, ap, ◌∙◌}
+use Rattle.std.specs.Prelude.{option_map, option_to_list, unwrap_or}
 use Rattle.mk_graph.specs.Numbering.{all_added}
 use Rattle.mk_graph.proofs.NameLemmas.{all_added-append}
 use Rattle.st_records.specs.declared.record.Entry.{Entry}
-use Rattle.mk_rule_lines.specs.Explicit.{explicit_of, order_only_of}
+use Rattle.mk_rule_lines.specs.Explicit.{explicit_of, is_phony}
+use Rattle.mk_rule_lines.specs.Rules.{has}
+use Rattle.mk_rule_lines.specs.declared.rule_line.RuleLine.{RuleLine}
+use Rattle.mk_rules.proofs.FreshLemmas.{front_added}
 use Rattle.mk_rules.specs.Hidden.{HasHidden, IsNamesFault, nodes_in}
-use Rattle.mk_rules.specs.Known.{IsKnown, IsLookUpFault}
-use Rattle.mk_rules.specs.Prerequisites.{Inputs, distinct, made_from, implicit_source, hard_of, hidden_in, hidden_of, is_node, prerequisites_of, judged_of, own_recipes, first_or}
-use Rattle.mk_rules.specs.Source.{IsSourceFault}
+use Rattle.mk_rules.specs.Groups.{others_in, group_with}
+use Rattle.mk_rules.specs.Known.{IsKnown, IsLookUpFault, IsFoundFault, IsImplicitFault, IsOthersFault, required_by}
+use Rattle.mk_rules.specs.Prerequisites.{Inputs, inputs_of, distinct, made_from, found_source, implicit_source, hard_of, hidden_in, hidden_of, is_node, prerequisites_of, judged_of, own_recipes, first_or, rule_or, left_recipe, order_only_of, required_of}
+use Rattle.mk_rules.specs.Search.{IsSearchFault}
 use Rattle.mk_rules.specs.Looks.{IsLookFault}
 use Rattle.mk_rule_lines.specs.declared.fault.RuleFault.{RuleFault}
 use Rattle.mk_rule_lines.specs.declared.fault.RuleFault.TheVariants as fault
@@ -32,28 +36,39 @@ module _ (inputs : Inputs) (name : List ℕ) (source : Option Source) (explicit 
       ∙ ap (λ (e : Option Entry). all_added (hard_of inputs name) (filter (is_node inputs) (hidden_in e))) entry_is
 
   -- with the order-only ones they are all prerequisites
-  pub all_are : all_added (nodes_in m) (order_only_of inputs.lines name) ≡ prerequisites_of inputs name
+  pub all_are : all_added (nodes_in m) (order_only_of inputs name) ≡ prerequisites_of inputs name
   all_are =
-      ap (λ (ns : List (List ℕ)). all_added ns (order_only_of inputs.lines name)) nodes_are
-      ∙ sym (all_added-append (hard_of inputs name) (filter (is_node inputs) (hidden_of inputs name)) (order_only_of inputs.lines name))
+      ap (λ (ns : List (List ℕ)). all_added ns (order_only_of inputs name)) nodes_are
+      ∙ sym (all_added-append (hard_of inputs name) (filter (is_node inputs) (hidden_of inputs name)) (order_only_of inputs name))
 
   judged_are : m.judged ≡ judged_of inputs name
   judged_are =
       hidden.judged ∙ ap (λ (h : List (List ℕ)). all_added h (hidden_in entry)) hard_are
       ∙ ap (λ (e : Option Entry). all_added (hard_of inputs name) (hidden_in e)) entry_is
 
+  -- the front of what is judged, with the order-only ones, is what the name isn't made without
+  pub required_are : (listed : Option (List (List ℕ))) (order_only : List (List ℕ)) → order_only ≡ order_only_of inputs name →
+      unwrap_or listed (take (length hard) m.judged) ≡ all_added (take (length hard) m.judged) order_only → unwrap_or listed (hard_of inputs name) ≡ required_of inputs name
+  required_are listed order_only order_only_is said =
+      let front : take (length hard) m.judged ≡ hard_of inputs name = ap (take (length hard)) hidden.judged ∙ front_added hard (hidden_in entry) ∙ hard_are in
+      ap (unwrap_or listed) (sym front) ∙ said ∙ ap (λ (h : List (List ℕ)). all_added h order_only) front ∙ ap (all_added (hard_of inputs name)) order_only_is
+
   -- what was found of the name is what the inputs say of it
-  pub known_is : (k : Known) (own : Option ℕ) → k.stamp ≡ inputs.times name → k.stem ≡ option_map (λ s. s.stem) source → k.implied ≡ length (distinct (made_from source)) →
-      k.recipe ≡ first_or (option_to_list own) (option_map (λ s. s.rule) source) → option_to_list own ≡ own_recipes inputs.lines name →
-      k.hard ≡ length hard → k.hidden.items ≡ m.hidden.items → IsKnown inputs name k
-  known_is k own stamp stem given recipe own_is count among = record {
+  pub known_is : (k : Known) (own left : Option ℕ) → left ≡ left_recipe inputs name → k.stamp ≡ inputs.times name → k.stem ≡ option_map (λ s. s.stem) source → k.implied ≡ length (distinct (made_from source)) →
+      k.recipe ≡ first_or (option_to_list own) (rule_or source left) → option_to_list own ≡ own_recipes inputs.lines name →
+      k.hard ≡ length hard → required_by k (hard_of inputs name) ≡ required_of inputs name → k.hidden.items ≡ m.hidden.items →
+      option_map (λ g. g.value) k.group ≡ group_with inputs.times name (others_in source) → IsKnown inputs name k
+  known_is k own left left_is stamp stem given recipe own_is count required among group = record {
     stamp = stamp;
     stem = stem ∙ ap (option_map (λ (s : Source). s.stem)) source_is;
     implied = given ∙ ap (λ (s : Option Source). length (distinct (made_from s))) source_is;
     recipe =
-        recipe ∙ ap (λ (ns : List ℕ). first_or ns (option_map (λ (s : Source). s.rule) source)) own_is
-        ∙ ap (λ (s : Option Source). first_or (own_recipes inputs.lines name) (option_map (λ (t : Source). t.rule) s)) source_is;
+        recipe ∙ ap (λ (ns : List ℕ). first_or ns (rule_or source left)) own_is
+        ∙ ap (λ (s : Option Source). first_or (own_recipes inputs.lines name) (rule_or s left)) source_is
+        ∙ ap (λ (l : Option ℕ). first_or (own_recipes inputs.lines name) (rule_or (implicit_source inputs name) l)) left_is;
+    group = group ∙ ap (λ (s : Option Source). group_with inputs.times name (others_in s)) source_is;
     hard = count ∙ ap length hard_are;
+    required = required;
     hidden =
         among ∙ hidden.among ∙ ap (λ (n : ℕ). map (is_node inputs) (drop n m.judged)) (sym count)
         ∙ ap (λ (ns : List (List ℕ)). map (is_node inputs) (drop k.hard ns)) judged_are;
@@ -62,22 +77,50 @@ module _ (inputs : Inputs) (name : List ℕ) (source : Option Source) (explicit 
 no_value : false ≡ true → ⊥
 no_value is = cc
 
-module _ (targets : TargetTable) (allowed : (List ℕ → Option ℤ) → Type 0) (refuses : List ℕ → Type 0) (forms : List Form) (phony : Bool) (own : List ℕ) (hidden : List (List ℕ)) (name : List ℕ) where
-  -- each look that fails is one of looking up the name
-  pub own_look : phony ≡ false → (f : RuleFault) → IsLookFault refuses name f → IsLookUpFault targets allowed refuses forms phony own hidden name f
-  own_look no_phony fault.OutOfMemory meets = tt
-  own_look no_phony (fault.Tree n) meets = (inl (no_phony, meets.0), meets.1)
-  own_look no_phony _ meets = meets
-
+module _ (targets : TargetTable) (allowed : (List ℕ → Option ℤ) → Type 0) (refuses : List ℕ → Type 0) (forms : List Form) (steps : ℕ) (lines : List RuleLine) (name : List ℕ) where
   -- a source is looked for only where the name isn't phony, and no line has a recipe for it
-  pub source_look : {A : Type 0} → ((phony ≡ false) × (own ≡ [])) ⊎ A → (A → false ≡ true) → (f : RuleFault) → IsSourceFault targets allowed refuses forms name f →
-      IsLookUpFault targets allowed refuses forms phony own hidden name f
-  source_look (inl none) never fault.OutOfMemory meets = tt
-  source_look (inl none) never (fault.Tree n) meets = (inr (inr (none.0, none.1, meets.0)), meets.1)
-  source_look (inl none) never _ meets = meets
-  source_look (inr beside) never f meets = absurd (no_value (never beside))
+  pub search_look : {A : Type 0} → ((is_phony lines name ≡ false) × (own_recipes lines name ≡ [])) ⊎ A → (A → false ≡ true) → (f : RuleFault) →
+      IsSearchFault targets allowed refuses forms steps name f → IsFoundFault targets allowed refuses forms steps lines name f
+  search_look (inl none) never fault.OutOfMemory meets = tt
+  search_look (inl none) never (fault.Tree n) meets = ((none.0, none.1, meets.0), meets.1)
+  search_look (inl none) never _ meets = meets
+  search_look (inr beside) never f meets = absurd (no_value (never beside))
 
-  pub hidden_look : (f : RuleFault) → IsNamesFault refuses hidden f → IsLookUpFault targets allowed refuses forms phony own hidden name f
-  hidden_look fault.OutOfMemory meets = tt
-  hidden_look (fault.Tree n) meets = (inr (inl meets.0), meets.1)
-  hidden_look _ meets = meets
+  module _ (entries : (name : List ℕ) → Option Entry) where
+    -- each look that fails is one of looking for what an implicit rule makes the name from
+    pub name_search : (f : RuleFault) → IsFoundFault targets allowed refuses forms steps lines name f → IsImplicitFault targets allowed refuses forms steps lines entries name f
+    name_search fault.OutOfMemory meets = tt
+    name_search (fault.Tree n) meets = (inl meets.0, meets.1)
+    name_search _ meets = meets
+
+    pub leader_search : (source : Source) → ((times : List ℕ → Option ℤ) → allowed times → found_source (inputs_of lines entries times) name ≡ Some source) →
+        (leader : List ℕ) → source.leader ≡ Some leader → (f : RuleFault) → IsFoundFault targets allowed refuses forms steps lines leader f →
+        IsImplicitFault targets allowed refuses forms steps lines entries name f
+    leader_search source found leader is fault.OutOfMemory meets = tt
+    leader_search source found leader is (fault.Tree n) meets =
+        (inr (record { source = source; found = found; leader = leader; leader_is = is; searched = meets.0 }), meets.1)
+    leader_search source found leader is _ meets = meets
+
+    -- each look that fails is one of looking up the name
+    pub own_look : is_phony lines name ≡ false → (f : RuleFault) → IsLookFault refuses name f → IsLookUpFault targets allowed refuses forms steps lines entries name f
+    own_look no_phony fault.OutOfMemory meets = tt
+    own_look no_phony (fault.Tree n) meets = (inl (no_phony, meets.0), meets.1)
+    own_look no_phony _ meets = meets
+
+    pub source_look : (f : RuleFault) → IsImplicitFault targets allowed refuses forms steps lines entries name f → IsLookUpFault targets allowed refuses forms steps lines entries name f
+    source_look fault.OutOfMemory meets = tt
+    source_look (fault.Tree n) (inl searched, refused) = (inr (inr (inl searched)), refused)
+    source_look (fault.Tree n) (inr leader, refused) = (inr (inr (inr (inl leader))), refused)
+    source_look _ meets = meets
+
+    pub others_look : (source : Option Source) → ((times : List ℕ → Option ℤ) → allowed times → source ≡ implicit_source (inputs_of lines entries times) name) →
+        (f : RuleFault) → IsOthersFault refuses lines (others_in source) f → IsLookUpFault targets allowed refuses forms steps lines entries name f
+    others_look source is fault.OutOfMemory meets = tt
+    others_look source is (fault.Tree n) (among, no_phony, refused) =
+        (inr (inr (inr (inr (λ times now. ap (λ (s : Option Source). has n (others_in s)) (sym (is times now)) ∙ among, no_phony)))), refused)
+    others_look source is _ meets = meets
+
+    pub hidden_look : (f : RuleFault) → IsNamesFault refuses (hidden_in (entries name)) f → IsLookUpFault targets allowed refuses forms steps lines entries name f
+    hidden_look fault.OutOfMemory meets = tt
+    hidden_look (fault.Tree n) meets = (inr (inl meets.0), meets.1)
+    hidden_look _ meets = meets

@@ -1,6 +1,6 @@
 -- What is found of all names, in terms of the inputs.
-use Rattle.std.proofs.Common.{◌≡◌, ℕ, ℤ, ◌<◌, Bool, true, false, not, List, [], length, inl, inr, Option, Some, sym, ap, subst, ◌∙◌}
-use Rattle.std.specs.Prelude.{◌⊎◌, take, slice_get}
+use Rattle.std.proofs.Common.{◌≡◌, ℕ, ℤ, ◌<◌, ◌≤◌, Bool, true, false, not, List, [], length, inl, inr, Option, Some, sym, ap, subst, ◌∙◌}
+use Rattle.std.specs.Prelude.{take, slice_get}
 use Rattle.std.specs.List.{list_all}
 use Rattle.mk_graph.specs.Numbering.{IsNumbering, AreDescribed, has_name}
 use Rattle.mk_graph.specs.NumberingFault.{IsNumberingFault}
@@ -9,12 +9,14 @@ use Rattle.mk_graph.specs.declared.numbering.NumberingFault.TheVariants.{TooMany
 use Rattle.mk_reader.specs.Text.{is_empty}
 use Rattle.st_records.specs.declared.record.Entry.{Entry}
 use Rattle.mk_rule_lines.specs.Explicit.{explicit_targets, is_phony}
-use Rattle.mk_rules.specs.Faults.{IsItself, IsReachedFrom}
+use Rattle.mk_rules.specs.Faults.{IsReachedFrom, IsLedToFrom, IsSearchedFrom, IsAskedOf}
 use Rattle.mk_rule_lines.specs.Forms.{forms_of}
 use Rattle.mk_rules.specs.Found.{IsFindingFault}
 use Rattle.mk_rules.specs.Known.{IsAsked, IsLookUpFault}
-use Rattle.mk_rules.specs.Prerequisites.{IsTextAmong, inputs_of, own_recipes, is_target, hidden_in, hidden_of, prerequisites_of}
+use Rattle.mk_rules.specs.Prerequisites.{inputs_of, own_recipes, is_target, prerequisites_of}
 use Rattle.mk_rule_lines.specs.Rules.{has, places, targets_by, suffixes_of}
+use Rattle.mk_rules.specs.Chain.{steps_of}
+use Rattle.mk_rules.specs.Search.{IsLedTo, IsSearched, IsChainedTo}
 use Rattle.mk_rules.specs.Source.{IsReached}
 use Rattle.mk_rule_lines.specs.Source.{source_of}
 use Rattle.mk_rule_lines.specs.Table as table
@@ -35,7 +37,7 @@ module _ (lines : List RuleLine) (targets : TargetTable)
 
 module _ (lines : List RuleLine) (targets : TargetTable)
     (named : (name : List ℕ) → (table.named_at targets name).lines ≡ places (λ l. has name (targets_by false (suffixes_of lines) l)) 0 lines)
-    (forms : List Form) (all_forms : forms ≡ forms_of (suffixes_of lines) lines) (entries : (name : List ℕ) → Option Entry)
+    (forms : List Form) (all_forms : forms ≡ forms_of (suffixes_of lines) lines) (steps : ℕ) (few : steps ≡ steps_of lines) (entries : (name : List ℕ) → Option Entry)
     (allowed : (List ℕ → Option ℤ) → Type 0) (times : List ℕ → Option ℤ) (now : allowed times) where
   reached : (node name : List ℕ) → is_phony lines node ≡ false → own_recipes lines node ≡ [] → IsReached targets allowed forms node name →
       IsReachedFrom (inputs_of lines entries times) node name
@@ -58,15 +60,44 @@ module _ (lines : List RuleLine) (targets : TargetTable)
         ∙ ap (λ (fs : List Form). source_of (table.is_there targets times) (take r.place fs) node) (sym all_forms) ∙ r.earlier times now;
   }
 
-  asked : (node name : List ℕ) → IsAsked targets allowed forms (is_phony lines node) (own_recipes lines node) (hidden_in (entries node)) node name →
-      IsItself lines node name ⊎ (IsTextAmong (hidden_of (inputs_of lines entries times) node) name ⊎ IsReachedFrom (inputs_of lines entries times) node name)
+  led_to : (node name : List ℕ) → is_phony lines node ≡ false → own_recipes lines node ≡ [] → IsLedTo targets allowed forms steps node name →
+      IsLedToFrom (inputs_of lines entries times) node name
+  led_to node name no_phony none r = record {
+    no_phony = no_phony;
+    no_recipe = none;
+    none =
+        ap (λ (there : List ℕ → Bool). source_of there (forms_of (suffixes_of lines) lines) node) (sym (same_there lines targets named entries times))
+        ∙ ap (λ (fs : List Form). source_of (table.is_there targets times) fs node) (sym all_forms) ∙ r.none times now;
+    no_target = sym (target_is lines targets named name) ∙ r.no_target;
+    count = r.count;
+    some = r.some;
+    few = subst (λ (n : ℕ). r.count ≤ n) few r.few;
+    leads = subst (λ (fs : List Form). IsChainedTo fs r.count node name) all_forms r.leads;
+  }
+
+  searched : (node name : List ℕ) → is_phony lines node ≡ false → own_recipes lines node ≡ [] → IsSearched targets allowed forms steps node name →
+      IsSearchedFrom (inputs_of lines entries times) node name
+  searched node name no_phony none (inl r) = inl (reached node name no_phony none r)
+  searched node name no_phony none (inr r) = inr (led_to node name no_phony none r)
+
+  asked : (node name : List ℕ) → IsAsked targets allowed forms steps lines entries node name → IsAskedOf (inputs_of lines entries times) node name
   asked node name (inl own) = inl own
   asked node name (inr (inl hidden)) = inr (inl hidden)
-  asked node name (inr (inr (no_phony, none, r))) = inr (inr (reached node name no_phony none r))
+  asked node name (inr (inr (inl (no_phony, none, r)))) = inr (inr (inl (searched node name no_phony none r)))
+  asked node name (inr (inr (inr (inl led)))) =
+      let (no_phony, none, r) = led.searched in
+      inr (inr (inr (inl (record {
+        source = led.source;
+        found = led.found times now;
+        leader = led.leader;
+        leader_is = led.leader_is;
+        searched = searched led.leader name no_phony none r;
+      }))))
+  asked node name (inr (inr (inr (inr (among, no_phony))))) = inr (inr (inr (inr (among times now, no_phony))))
 
   -- a name that can't be looked up is one that the goals lead to
   pub finding_fault : (refuses : List ℕ → Type 0) (goals : List (List ℕ)) (limit : ℕ) (node : List ℕ) (f : RuleFault) →
-      IsLookUpFault targets allowed refuses forms (is_phony lines node) (own_recipes lines node) (hidden_in (entries node)) node f →
+      IsLookUpFault targets allowed refuses forms steps lines entries node f →
       ((names : List (List ℕ)) → IsNumbering (prerequisites_of (inputs_of lines entries times)) goals names → has_name names node ≡ true) →
       IsFindingFault (inputs_of lines entries times) refuses goals limit f
   finding_fault refuses goals limit node fault.OutOfMemory meets is = tt

@@ -48,10 +48,14 @@ line_once given special rule l m of_l of_m =
     let fourth : record l { file = m.file; line = m.line; profile = m.profile; special = m.special; targets = m.targets }
     ≡ record l { file = m.file; line = m.line; profile = m.profile; special = m.special; targets = m.targets; prerequisites = m.prerequisites }
     = ap (λ ps. record l { file = m.file; line = m.line; profile = m.profile; special = m.special; targets = m.targets; prerequisites = ps }) prerequisites in
-    let fifth : record l { file = m.file; line = m.line; profile = m.profile; special = m.special; targets = m.targets; prerequisites = m.prerequisites } ≡ m
+    let fifth : record l { file = m.file; line = m.line; profile = m.profile; special = m.special; targets = m.targets; prerequisites = m.prerequisites }
+    ≡ record l { file = m.file; line = m.line; profile = m.profile; special = m.special; targets = m.targets; prerequisites = m.prerequisites; recipe = m.recipe }
     = ap (λ r. record l { file = m.file; line = m.line; profile = m.profile; special = m.special; targets = m.targets; prerequisites = m.prerequisites; recipe = r })
     (of_l.recipe ∙ sym of_m.recipe) in
-    named ∙ first ∙ read_in ∙ second ∙ third ∙ fourth ∙ fifth
+    let sixth : record l { file = m.file; line = m.line; profile = m.profile; special = m.special; targets = m.targets; prerequisites = m.prerequisites; recipe = m.recipe } ≡ m
+    = ap (λ d. record l { file = m.file; line = m.line; profile = m.profile; special = m.special; targets = m.targets; prerequisites = m.prerequisites; recipe = m.recipe; is_double = d })
+    (of_l.double ∙ sym of_m.double) in
+    named ∙ first ∙ read_in ∙ second ∙ third ∙ fourth ∙ fifth ∙ sixth
 
 lines_once : (given : Defined) (items : List Item) (a b : List RuleLine) → AreRuleLines given items a → AreRuleLines given items b → a ≡ b
 lines_once given _ _ _ no_items no_items = refl

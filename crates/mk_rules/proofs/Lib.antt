@@ -1,5 +1,8 @@
+pub mod AsciiLemmas
 pub mod AssemblyLemmas
 pub mod BuildLemmas
+pub mod ChainLaws
+pub mod ChainLemmas
 pub mod DistinctLemmas
 pub mod FaultLemmas
 pub mod FinderLemmas
@@ -8,6 +11,7 @@ pub mod FreshLemmas
 pub mod FewLemmas
 pub mod HiddenLemmas
 pub mod InputLemmas
+pub mod LeftLemmas
 pub mod LookLemmas
 pub mod LookupLemmas
 pub mod MadeLemmas
@@ -17,10 +21,12 @@ pub mod OneGraphLemmas
 pub mod OneNumberingLemmas
 pub mod OrderLemmas
 pub mod PartsLaws
+pub mod PlaceLemmas
 pub mod RequiredLemmas
 pub mod RowLaws
 pub mod RowsLemmas
 pub mod RuleLemmas
 pub mod SetLemmas
+pub mod SeveralLemmas
 pub mod SourceLemmas
 pub mod WaitLemmas

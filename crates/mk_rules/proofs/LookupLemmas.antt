@@ -5,16 +5,16 @@ use Rattle.std.specs.List.{list_any}
 use Rattle.std.specs.Str.{is_utf8}
 use Rattle.mk_reader.specs.Text.{is_empty}
 use Rattle.st_records.specs.declared.record.Entry.{Entry}
-use Rattle.mk_rule_lines.specs.Explicit.{explicit_targets, is_phony}
+use Rattle.mk_rule_lines.specs.Explicit.{explicit_targets, makes_phony, is_phony}
 use Rattle.mk_rule_lines.specs.Forms.{forms_of}
 use Rattle.mk_rules.specs.Prerequisites as inputs
-use Rattle.mk_rule_lines.specs.Rules.{has, is_phony_list, places, targets_by, suffixes_of}
-use Rattle.mk_rule_lines.specs.Source.{source_of}
+use Rattle.mk_rule_lines.specs.Rules.{has, places, targets_by, suffixes_of}
 use Rattle.mk_rule_lines.specs.Table as table
 use Rattle.mk_rule_lines.specs.declared.form.Form.{Form}
 use Rattle.mk_rule_lines.specs.declared.form.Source.{Source}
 use Rattle.mk_rule_lines.specs.declared.rule_line.RuleLine.{RuleLine}
 use Rattle.mk_rule_lines.specs.declared.table.TargetTable.{TargetTable}
+use Rattle.mk_rules.specs.Chain.{source_in, steps_of}
 use Rattle.mk_rules.proofs.RuleLemmas.{any_place}
 
 -- two facts of the value at Ok
@@ -44,7 +44,7 @@ module _ (p q : RuleLine → Bool) where
 
 -- a phony name is a target
 phony_target : (lines : List RuleLine) (name : List ℕ) → is_phony lines name ≡ true → inputs.is_target lines name ≡ true
-phony_target lines name e = first_passes (λ l. has name (explicit_targets lines l)) (λ l. is_phony_list l.special) lines e
+phony_target lines name e = first_passes (λ l. has name (explicit_targets lines l)) makes_phony lines e
 
 -- so it is there, whatever its time
 there_whatever : (target phony : Bool) (time : Option ℤ) → (phony ≡ true → target ≡ true) → (target || is_some time) ≡ (target || is_some (cond phony None time))
@@ -70,12 +70,13 @@ module _ (lines : List RuleLine) (targets : TargetTable)
   node_there name text = there_at name ∙ sym (ap (λ (t : Bool). t && inputs.is_there (inputs.inputs_of lines entries times) name) text)
 
   -- where the name isn't phony, and no line has a recipe for it
-  pub implicit_is : (forms : List Form) (name : List ℕ) (recipe : Option ℕ) (found : Option Source) → forms ≡ forms_of (suffixes_of lines) lines →
-      option_to_list recipe ≡ inputs.own_recipes lines name → is_some recipe ≡ false → is_phony lines name ≡ false → found ≡ source_of (table.is_there targets times) forms name →
-      found ≡ inputs.implicit_source (inputs.inputs_of lines entries times) name
-  implicit_is forms name recipe found all own none no_phony is =
+  pub found_is : (forms : List Form) (steps : ℕ) (name : List ℕ) (recipe : Option ℕ) (found : Option Source) → forms ≡ forms_of (suffixes_of lines) lines → steps ≡ steps_of lines →
+      option_to_list recipe ≡ inputs.own_recipes lines name → is_some recipe ≡ false → is_phony lines name ≡ false → found ≡ source_in (table.is_there targets times) forms steps name →
+      found ≡ inputs.found_source (inputs.inputs_of lines entries times) name
+  found_is forms steps name recipe found all few own none no_phony is =
       let there = inputs.is_there (inputs.inputs_of lines entries times) in
-      let source = source_of there (forms_of (suffixes_of lines) lines) name in
-      is ∙ ap (λ (f : List ℕ → Bool). source_of f forms name) same_there ∙ ap (λ (fs : List Form). source_of there fs name) all
+      let source = source_in there (forms_of (suffixes_of lines) lines) (steps_of lines) name in
+      is ∙ ap (λ (f : List ℕ → Bool). source_in f forms steps name) same_there ∙ ap (λ (fs : List Form). source_in there fs steps name) all
+      ∙ ap (λ (n : ℕ). source_in there (forms_of (suffixes_of lines) lines) n name) few
       ∙ ap (λ (ns : List ℕ). inputs.unless_any ns source) (sym (no_own recipe none) ∙ own)
       ∙ ap (λ (t : Bool). cond t None (inputs.unless_any (inputs.own_recipes lines name) source)) (sym no_phony)

@@ -4,7 +4,7 @@ use Rattle.std.specs.Prelude.{◌||◌, bytes_eq, is_some, option_map}
 use Rattle.std.proofs.lemmas.Bool.{cases_lt}
 use Rattle.mk_graph.specs.Numbering.{name_at, has_name}
 use Rattle.mk_rules.specs.Known.{IsKnown}
-use Rattle.mk_rules.specs.Prerequisites.{Inputs, is_target, implicit_source, is_made}
+use Rattle.mk_rules.specs.Prerequisites.{Inputs, default_of, is_target, implicit_source, is_made}
 use Rattle.mk_rule_lines.specs.Table.{is_named, named_at}
 use Rattle.mk_rule_lines.specs.declared.form.Source.{Source}
 use Rattle.mk_rules.specs.declared.known.Known.{Known}
@@ -25,11 +25,23 @@ in_order false true false = refl
 in_order false false true = refl
 in_order false false false = refl
 
--- what is known of a name tells whether something makes it
-pub made_is : (inputs : Inputs) (lines : List RuleLine) (targets : TargetTable) → inputs.lines ≡ lines →
+-- where there is a rule for what nothing else makes, all is made
+pub all_made : (inputs : Inputs) (lines : List RuleLine) → inputs.lines ≡ lines → is_some (default_of lines) ≡ true → (name : List ℕ) → is_made inputs name ≡ true
+all_made inputs lines lines_are some name = first (is_some (default_of inputs.lines)) _ (ap (λ (ls : List RuleLine). is_some (default_of ls)) lines_are ∙ some)
+  where
+    first : (d m : Bool) → d ≡ true → (d || m) ≡ true
+    first true m e = refl
+    first false m e = cc
+
+no_default : (d m : Bool) → d ≡ false → m ≡ (d || m)
+no_default true m e = cc
+no_default false m e = refl
+
+-- where there is none, what is known of a name tells whether something makes it
+pub made_is : (inputs : Inputs) (lines : List RuleLine) (targets : TargetTable) → inputs.lines ≡ lines → is_some (default_of lines) ≡ false →
     ((name : List ℕ) → is_named (named_at targets name) ≡ is_target lines name) → (name : List ℕ) (k : Known) → IsKnown inputs name k →
     (is_some k.stamp || (is_some k.stem || is_named (named_at targets name))) ≡ is_made inputs name
-made_is inputs lines targets lines_are table name k is =
+made_is inputs lines targets lines_are none table name k is =
     let stamp : is_some k.stamp ≡ is_some (inputs.times name) = ap is_some is.stamp in
     let stem : is_some k.stem ≡ is_some (implicit_source inputs name) = ap is_some is.stem ∙ some_stem (implicit_source inputs name) in
     let target : is_named (named_at targets name) ≡ is_target inputs.lines name = table name ∙ ap (λ (ls : List RuleLine). is_target ls name) (sym lines_are) in
@@ -37,6 +49,7 @@ made_is inputs lines targets lines_are table name k is =
     ∙ ap (λ (t : Bool). (t || is_some k.stamp) || is_some k.stem) target
     ∙ ap (λ (s : Bool). (is_target inputs.lines name || s) || is_some k.stem) stamp
     ∙ ap (λ (m : Bool). (is_target inputs.lines name || is_some (inputs.times name)) || m) stem
+    ∙ no_default (is_some (default_of inputs.lines)) _ (ap (λ (ls : List RuleLine). is_some (default_of ls)) lines_are ∙ none)
 
 module _ (p : List ℕ → Bool) where
   all_at : (x : List ℕ) (xs : List (List ℕ)) (name : List ℕ) → p x ≡ true → (has_name xs name ≡ true → p name ≡ true) →

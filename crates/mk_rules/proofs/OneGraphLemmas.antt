@@ -17,7 +17,7 @@ use Rattle.mk_graph.proofs.RowLemmas.{list_all-has}
 use Rattle.mk_rule_lines.specs.Goals.{goals_of}
 use Rattle.mk_rules.specs.Graph.{IsGraph, AreEdges, AreHard, AreRequired, AreSoft, is_soft, required_in, is_numbered}
 use Rattle.mk_rules.specs.Node.{EachHasOneNumber}
-use Rattle.mk_rules.specs.Prerequisites.{Inputs, prerequisites_of, is_required}
+use Rattle.mk_rules.specs.Prerequisites.{Inputs, prerequisites_of, hard_of, required_of}
 use Rattle.mk_rules.specs.declared.graph.Graph.{Graph}
 use Rattle.mk_rules.proofs.OneNumberingLemmas.{names_once}
 
@@ -137,10 +137,14 @@ module _ (names : List (List ℕ)) (is_edge : (q p : List ℕ) → Bool) where
   same_members a b of_a of_b count_a count_b closed_a closed_b n m =
       both_ways (has (row a n) m) (has (row b n) m) (wider a b of_a of_b count_a closed_a n m) (wider b a of_b of_a count_b closed_b n m)
 
-module _ (inputs : Inputs) (names : List (List ℕ)) (one : EachHasOneNumber names) (a b : List (List ℕ)) where
-  -- one list of hard rows
-  same_hard : AreHard inputs names a → AreHard inputs names b → is_closed a ≡ true → is_closed b ≡ true → a ≡ b
-  same_hard of_a of_b closed_a closed_b =
+-- the rows hold, by number, the names that belong to each name
+abbrev AreRowsOf : (names : List (List ℕ)) → (of : List ℕ → List (List ℕ)) → List (List ℕ) → Type 0
+AreRowsOf names of rows = (length rows ≡ length names) × ((n : ℕ) → n < length names → map (name_at names) (row rows n) ≡ of (name_at names n))
+
+module _ (names : List (List ℕ)) (of : List ℕ → List (List ℕ)) (one : EachHasOneNumber names) (a b : List (List ℕ)) where
+  -- one list of such rows
+  same_rows : AreRowsOf names of a → AreRowsOf names of b → is_closed a ≡ true → is_closed b ≡ true → a ≡ b
+  same_rows of_a of_b closed_a closed_b =
       ext_get_or [] a b (of_a.0 ∙ sym of_b.0)
       (λ n inside.
       let n_in : n < length names = subst (λ l. n < l) of_a.0 inside in
@@ -158,15 +162,18 @@ module _ (inputs : Inputs) (named : List (List ℕ)) (a b : Graph) (is_a : IsGra
 
   pub one_hard : a.hard ≡ b.hard
   one_hard =
-      same_hard inputs a.names a.distinct a.hard b.hard is_a.hard (subst (λ ns. AreHard inputs ns b.hard) (sym one_names) is_b.hard) a.hard_closed b.hard_closed
+      same_rows a.names (hard_of inputs) a.distinct a.hard b.hard is_a.hard (subst (λ ns. AreHard inputs ns b.hard) (sym one_names) is_b.hard) a.hard_closed b.hard_closed
 
   required_of_b : AreRequired inputs a.names (required_in b)
   required_of_b = subst (λ ns. AreRequired inputs ns (required_in b)) (sym one_names) is_b.required
 
+  one_required : required_in a ≡ required_in b
+  one_required =
+      same_rows a.names (required_of inputs) a.distinct (required_in a) (required_in b) (is_a.required.nodes, is_a.required.rows)
+      (required_of_b.nodes, required_of_b.rows) is_a.required.closed required_of_b.closed
+
   required_same : (n m : ℕ) → has (row (required_in a) n) m ≡ has (row (required_in b) n) m
-  required_same =
-      same_members a.names (is_required inputs) (required_in a) (required_in b) is_a.required.members required_of_b.members
-      is_a.required.nodes required_of_b.nodes is_a.required.closed required_of_b.closed
+  required_same n m = ap (λ g. has (row g n) m) one_required
 
   soft_of_b : AreSoft inputs a.names b.soft
   soft_of_b = subst (λ ns. AreSoft inputs ns b.soft) (sym one_names) is_b.soft

@@ -1,21 +1,24 @@
--- What has to be made before, by names and by the lines that say so.
-use Rattle.std.proofs.Common.{◌≡◌, ℕ, ◌<◌, Bool, true, false, ◌&&◌, ◌||◌, nat_lt, List, [], ◌∷◌, ◌++◌, length, map, filter, refl, sym, ap, subst, ◌∙◌, arith, lt-ltb, append_assoc}
-use Rattle.std.specs.Prelude.{bytes_eq}
-use Rattle.std.specs.List.{list_any, list_all, flat_map, IsDistinct}
-use Rattle.std.proofs.lemmas.Bool.{and_from}
-use Rattle.std.proofs.lemmas.List.{map-append}
-use Rattle.std.proofs.lemmas.List.Folds.{list_all-append, list_any-append}
+-- What has to be made before, by numbers and by names.
+use Rattle.std.proofs.Common.{◌≡◌, ℕ, zero, suc, ◌<◌, ◌≤◌, ⊎_elim, ltb-true, Bool, true, false, ◌&&◌, ◌||◌, nat_lt, List, [], ◌∷◌, ◌++◌, length, map, filter, Option, Some, None, refl, sym, ap, subst, ◌∙◌, lt-ltb, append_assoc, true≢false}
+use Rattle.std.specs.Prelude.{bytes_eq, is_some, option_map, slice_get, unwrap_or}
+use Rattle.std.specs.List.{list_any, list_all}
+use Rattle.std.proofs.lemmas.Bool.{and_from, and_parts, cases_lt}
+use Rattle.std.proofs.lemmas.List.{map-append, get_or_past}
+use Rattle.std.proofs.lemmas.List.Folds.{list_all-append}
 use Rattle.mk_graph.specs.Edges.{row, is_closed, has as has_number}
-use Rattle.mk_graph.specs.Numbering.{name_at, has_name}
-use Rattle.mk_graph.proofs.CycleLemmas.{closed_row}
-use Rattle.mk_profile.specs.declared.profile.Profile.{Profile}
-use Rattle.mk_rule_lines.specs.Explicit.{is_bar, behind_bar, order_only_in, order_only_of, without_waits}
-use Rattle.mk_rule_lines.specs.Rules.{has, targets_by, suffixes_of}
-use Rattle.mk_rule_lines.specs.declared.rule_line.RuleLine.{RuleLine}
+use Rattle.mk_graph.specs.Numbering.{name_at, has_name, added, all_added, AreDescribed}
+use Rattle.mk_graph.proofs.CountedLemmas.{closed_from_below}
+use Rattle.mk_graph.proofs.RowLemmas.{list_all-has}
+use Rattle.mk_graph.proofs.NameLemmas.{all_added-append, list_all-all_added, has_name_at, same_bytes, added_new}
 use Rattle.mk_rules.specs.Graph.{AreHard, AreRequired}
-use Rattle.mk_rules.specs.Prerequisites.{Inputs, hard_of}
-use Rattle.mk_rules.specs.Required.{has_bar, line_requires}
-use Rattle.mk_rules.proofs.WaitLemmas.{are_below, has_named}
+use Rattle.mk_rules.specs.Known.{IsKnown, listed_in}
+use Rattle.mk_rules.specs.Prerequisites.{Inputs, hard_of, hidden_of, is_node, order_only_of, prerequisites_of, required_of}
+use Rattle.mk_rules.specs.Required.{has_others, names_in_row, IsRequiredRow}
+use Rattle.mk_rules.specs.Rows.{EachRow}
+use Rattle.mk_rules.specs.declared.known.Known.{Known}
+use Rattle.mk_rules.proofs.FreshLemmas.{added_fresh}
+use Rattle.mk_rules.proofs.RowLaws.{known_at}
+use Rattle.mk_rules.proofs.WaitLemmas.{are_below}
 
 -- ---- numbers of names
 
@@ -41,105 +44,134 @@ below_more names numbers n all within =
     list_all-append (λ k. nat_lt k (length names)) numbers (n ∷ [])
     ∙ and_from (are_below names numbers) (nat_lt n (length names) && true) all (ap (λ b. b && true) (lt-ltb n (length names) within))
 
--- ---- lines without a bar
+-- ---- names that all pass
 
-first_none : (t s : Bool) → (t || s) ≡ false → t ≡ false
-first_none true s e = cc
-first_none false s e = refl
+module _ (p : List ℕ → Bool) where
+  kept_at : (x : List ℕ) (xs : List (List ℕ)) → p x ≡ true → filter p xs ≡ xs → filter p (x ∷ xs) ≡ x ∷ xs
+  kept_at x xs e more = simp e (ap (λ l. x ∷ l) more)
 
-later_none : (t s : Bool) → (t || s) ≡ false → s ≡ false
-later_none true s e = cc
-later_none false s e = e
+  all_kept : (xs : List (List ℕ)) → list_all p xs ≡ true → filter p xs ≡ xs
+  all_kept [] all = refl
+  all_kept (x ∷ xs) all =
+      let parts = and_parts (p x) (list_all p xs) all in
+      kept_at x xs parts.0 (all_kept xs parts.1)
 
-no_bar : (profile : Profile) (ws : List (List ℕ)) → list_any (is_bar profile) ws ≡ false → behind_bar profile ws ≡ []
-no_bar profile [] none = refl
-no_bar profile (w ∷ ws) none =
-    simp (first_none (is_bar profile w) (list_any (is_bar profile) ws) none) (no_bar profile ws (later_none (is_bar profile w) (list_any (is_bar profile) ws) none))
+  -- one that is among names that pass
+  passes_at : (q : List ℕ) (x : List ℕ) (xs : List (List ℕ)) (t : Bool) → bytes_eq q x ≡ t → p x ≡ true → (has_name xs q ≡ true → p q ≡ true) →
+      (t || has_name xs q) ≡ true → p q ≡ true
+  passes_at q x xs true e first more is = ap p (same_bytes q x e) ∙ first
+  passes_at q x xs false e first more is = more is
 
-pub none_required : (suffixes : List (List ℕ)) (p q : List ℕ) (l : RuleLine) → has_bar l ≡ false → line_requires suffixes p q l ≡ false
-none_required suffixes p q l none = ap (λ ws. has p (without_waits ws) && has q (targets_by false suffixes l)) (no_bar l.profile l.prerequisites none)
+  passes : (xs : List (List ℕ)) (q : List ℕ) → list_all p xs ≡ true → has_name xs q ≡ true → p q ≡ true
+  passes [] q all is = absurd (true≢false (sym is))
+  passes (x ∷ xs) q all is =
+      let parts = and_parts (p x) (list_all p xs) all in
+      passes_at q x xs (bytes_eq q x) refl parts.0 (λ later. passes xs q parts.1 later) is
 
-none_all : (suffixes : List (List ℕ)) (p q : List ℕ) (lines : List RuleLine) → list_any has_bar lines ≡ false → list_any (line_requires suffixes p q) lines ≡ false
-none_all suffixes p q [] none = refl
-none_all suffixes p q (l ∷ lines) none =
-    ap (λ b. b || list_any (line_requires suffixes p q) lines) (none_required suffixes p q l (first_none (has_bar l) (list_any has_bar lines) none))
-    ∙ none_all suffixes p q lines (later_none (has_bar l) (list_any has_bar lines) none)
+  fronts : (xs ys : List (List ℕ)) → list_all p (xs ++ ys) ≡ true → list_all p xs ≡ true
+  fronts xs ys all = (and_parts (list_all p xs) (list_all p ys) (sym (list_all-append p xs ys) ∙ all)).0
 
--- ---- a name is an order-only prerequisite where a line says so
+  backs : (xs ys : List (List ℕ)) → list_all p (xs ++ ys) ≡ true → list_all p ys ≡ true
+  backs xs ys all = (and_parts (list_all p xs) (list_all p ys) (sym (list_all-append p xs ys) ∙ all)).1
 
-module _ (suffixes : List (List ℕ)) (p q : List ℕ) where
-  abbrev makes : RuleLine → Bool
-  makes l = has q (targets_by false suffixes l)
-
-  and_true : (b : Bool) → (b && true) ≡ b
-  and_true true = refl
-  and_true false = refl
-
-  and_false : (b : Bool) → (b && false) ≡ false
-  and_false true = refl
-  and_false false = refl
-
-  said_at : (l : RuleLine) (lines : List RuleLine) (t : Bool) → makes l ≡ t →
-      has p (flat_map order_only_in (filter makes lines)) ≡ list_any (line_requires suffixes p q) lines →
-      has p (flat_map order_only_in (filter makes (l ∷ lines))) ≡ list_any (line_requires suffixes p q) (l ∷ lines)
-  said_at l lines true e more =
-      ap (λ ls. has p (flat_map order_only_in ls)) (kept e)
-      ∙ list_any-append (bytes_eq p) (order_only_in l) (flat_map order_only_in (filter makes lines))
-      ∙ ap (λ b. has p (order_only_in l) || b) more
-      ∙ sym (ap (λ b. b || list_any (line_requires suffixes p q) lines) (ap (λ b. has p (order_only_in l) && b) e ∙ and_true (has p (order_only_in l))))
+  added_passes : (xs : List (List ℕ)) (y : List ℕ) (t : Bool) → has_name xs y ≡ t → list_all p (added xs y) ≡ true → p y ≡ true
+  added_passes xs y true e all = passes xs y (unchanged e all) e
     where
-      kept : makes l ≡ true → filter makes (l ∷ lines) ≡ l ∷ filter makes lines
-      kept e = simp e refl
-  said_at l lines false e more =
-      ap (λ ls. has p (flat_map order_only_in ls)) (gone e)
-      ∙ more
-      ∙ sym (ap (λ b. b || list_any (line_requires suffixes p q) lines) (ap (λ b. has p (order_only_in l) && b) e ∙ and_false (has p (order_only_in l))))
-    where
-      gone : makes l ≡ false → filter makes (l ∷ lines) ≡ filter makes lines
-      gone e = simp e refl
+      unchanged : has_name xs y ≡ true → list_all p (added xs y) ≡ true → list_all p xs ≡ true
+      unchanged e all = simp e at all
+  added_passes xs y false e all =
+      (and_parts (p y) true (backs xs (y ∷ []) (ap (list_all p) (sym (added_new xs y e)) ∙ all))).0
 
-  said : (lines : List RuleLine) → has p (flat_map order_only_in (filter makes lines)) ≡ list_any (line_requires suffixes p q) lines
-  said [] = refl
-  said (l ∷ lines) = said_at l lines (makes l) refl (said lines)
+  -- where names with what is mentioned pass, both do
+  pub names_pass : (xs ys : List (List ℕ)) → list_all p (all_added xs ys) ≡ true → list_all p xs ≡ true
+  names_pass xs ys all = fronts xs _ (ap (list_all p) (sym (added_fresh xs ys)) ∙ all)
 
-order_only_said : (lines : List RuleLine) (p q : List ℕ) → has p (order_only_of lines q) ≡ list_any (line_requires (suffixes_of lines) p q) lines
-order_only_said lines p q = said (suffixes_of lines) p q lines
+  pub mentioned_pass : (xs ys : List (List ℕ)) → list_all p (all_added xs ys) ≡ true → list_all p ys ≡ true
+  mentioned_pass xs [] all = refl
+  mentioned_pass xs (y ∷ ys) all =
+      and_from (p y) (list_all p ys) (added_passes xs y (has_name xs y) refl (names_pass (added xs y) ys all)) (mentioned_pass (added xs y) ys all)
 
--- ---- the edges
+-- the names of numbers of names are among them
+pub numbers_named : (names : List (List ℕ)) (ns : List ℕ) → are_below names ns ≡ true → list_all (has_name names) (map (name_at names) ns) ≡ true
+numbers_named names [] all = refl
+numbers_named names (n ∷ ns) all =
+    let parts = and_parts (nat_lt n (length names)) (are_below names ns) all in
+    and_from (has_name names (name_at names n)) (list_all (has_name names) (map (name_at names) ns)) (has_name_at names n (ltb-true n (length names) parts.0)) (numbers_named names ns parts.1)
 
-module _ (inputs : Inputs) (names : List (List ℕ)) (distinct : IsDistinct bytes_eq names) (hard : List (List ℕ)) (closed : is_closed hard ≡ true)
-    (are : AreHard inputs names hard) where
-  pub hard_members : (n m : ℕ) → n < length names → m < length names → has_number (row hard n) m ≡ has (name_at names m) (hard_of inputs (name_at names n))
-  hard_members n m n_in m_in =
-      let below : are_below names (row hard n) ≡ true
-      = ap (λ l. list_all (λ x. nat_lt x l) (row hard n)) (sym are.0) ∙ closed_row hard closed n (subst (λ l. n < l) (sym are.0) n_in) in
-      has_named names distinct (row hard n) m m_in below ∙ ap (has (name_at names m)) (are.1 n n_in)
+-- what a name isn't made without is among its prerequisites
+pub required_inside : (p : List ℕ → Bool) (inputs : Inputs) (name : List ℕ) → list_all p (prerequisites_of inputs name) ≡ true → list_all p (required_of inputs name) ≡ true
+required_inside p inputs name all =
+    let hard = hard_of inputs name in
+    let hidden = filter (is_node inputs) (hidden_of inputs name) in
+    let behind = order_only_of inputs name in
+    let both = ap (list_all p) (sym (all_added-append hard hidden behind)) ∙ all in
+    list_all-all_added p hard behind (names_pass p hard hidden (names_pass p (all_added hard hidden) behind both)) (mentioned_pass p (all_added hard hidden) behind both)
 
-  module _ (suffixes : List (List ℕ)) (lines : List RuleLine) (suffixes_are : suffixes ≡ suffixes_of lines) (lines_are : inputs.lines ≡ lines) where
-    pub required_by : (required : List (List ℕ)) → length required ≡ length names → is_closed required ≡ true →
-        ((n m : ℕ) → n < length names → m < length names → has_number (row required n) m
-        ≡ (has_number (row hard n) m || list_any (line_requires suffixes (name_at names m) (name_at names n)) lines)) → AreRequired inputs names required
-    required_by required count shut members = record {
-      nodes = count;
-      closed = shut;
-      members = λ n m n_in m_in.
-          let p = name_at names m in
-          let q = name_at names n in
-          members n m n_in m_in
-          ∙ ap (λ b. b || list_any (line_requires suffixes p q) lines) (hard_members n m n_in m_in)
-          ∙ ap (λ s. has p (hard_of inputs q) || list_any (line_requires s p q) lines) suffixes_are
-          ∙ ap (λ b. has p (hard_of inputs q) || b) (sym (order_only_said lines p q))
-          ∙ ap (λ ls. has p (hard_of inputs q) || has p (order_only_of ls q)) (sym lines_are);
-    }
+-- ---- the rows
 
-    -- where no line has a bar the hard ones are all
-    pub required_none : list_any has_bar lines ≡ false → AreRequired inputs names hard
-    required_none none =
-        required_by hard are.0 closed
-        (λ n m n_in m_in.
-        or_none (has_number (row hard n) m) (list_any (line_requires suffixes (name_at names m) (name_at names n)) lines)
-        (none_all suffixes (name_at names m) (name_at names n) lines none))
-      where
-        or_none : (b t : Bool) → t ≡ false → b ≡ (b || t)
-        or_none true t e = refl
-        or_none false t e = sym e
+same_some : {A : Type 0} {x y : A} → Some x ≡ Some y → x ≡ y
+same_some e = cc
+
+or_parts : (a b : Bool) → (a || b) ≡ false → (a ≡ false) × (b ≡ false)
+or_parts true b e = cc
+or_parts false b e = (refl, e)
+
+pub required_here : (names hard : List (List ℕ)) (known : List Known) (k : ℕ) (found : Known) (r : List ℕ) → slice_get known k ≡ Some found →
+    map (name_at names) r ≡ names_in_row names found (row hard k) → are_below names r ≡ true → IsRequiredRow names hard known k r
+required_here names hard known k found r at are below = record {
+  names_are = λ other other_at. are ∙ ap (λ f. names_in_row names f (row hard k)) (same_some (sym at ∙ other_at));
+  below = below;
+}
+
+module _ (names : List (List ℕ)) (hard : List (List ℕ)) (known : List Known) (required : List (List ℕ)) (count : length required ≡ length names)
+    (each : EachRow (IsRequiredRow names hard known) required) where
+  pub closed_required : is_closed required ≡ true
+  closed_required =
+      closed_from_below required (λ n m there.
+      ⊎_elim
+      (λ (inside : n < length required). subst (λ k. m < k) (sym count) (ltb-true m (length names) (list_all-has (λ x. nat_lt x (length names)) (row required n) m (each n inside).below there)))
+      (λ (past : length required ≤ n). absurd (true≢false (sym (subst (λ l. has_number l m ≡ true) (get_or_past required n [] past) there))))
+      (cases_lt n (length required)))
+
+no_other : {A : Type 0} (o : Option A) → is_some o ≡ false → o ≡ None
+no_other None e = refl
+no_other (Some x) e = cc
+
+-- where none has others, the one at a place hasn't
+none_at : (known : List Known) (n : ℕ) (k : Known) → list_any has_others known ≡ false → slice_get known n ≡ Some k → has_others k ≡ false
+none_at [] n k none at = cc
+none_at (x ∷ known) zero k none at = ap has_others (sym (same_some at)) ∙ (or_parts (has_others x) (list_any has_others known) none).0
+none_at (x ∷ known) (suc n) k none at = none_at known n k (or_parts (has_others x) (list_any has_others known) none).1 at
+
+module _ (inputs : Inputs) (names : List (List ℕ)) (hard : List (List ℕ)) (known : List Known) (count : length known ≡ length names)
+    (described : AreDescribed (IsKnown inputs) names known) (are : AreHard inputs names hard) where
+  in_row : (o : Option (List (List ℕ))) (h w : List (List ℕ)) → list_all (has_name names) w ≡ true → unwrap_or o h ≡ w → unwrap_or (option_map (filter (has_name names)) o) h ≡ w
+  in_row None h w all e = e
+  in_row (Some l) h w all e = ap (filter (has_name names)) e ∙ all_kept (has_name names) w all
+
+  pub are_required : ((n : ℕ) → n < length names → list_all (has_name names) (prerequisites_of inputs (name_at names n)) ≡ true) →
+      (required : List (List ℕ)) → length required ≡ length names → is_closed required ≡ true → EachRow (IsRequiredRow names hard known) required → AreRequired inputs names required
+  are_required inside required nodes closed each = record {
+    nodes = nodes;
+    closed = closed;
+    rows = λ n within.
+        let name = name_at names n in
+        let k = known_at known n (subst (λ l. n < l) (sym count) within) in
+        let row_is = each n (subst (λ l. n < l) (sym nodes) within) in
+        row_is.names_are k.0 k.1
+        ∙ ap (λ h. unwrap_or (option_map (filter (has_name names)) (listed_in k.0)) h) (are.1 n within)
+        ∙ in_row (listed_in k.0) (hard_of inputs name) (required_of inputs name) (required_inside (has_name names) inputs name (inside n within)) (described n k.0 k.1).required;
+  }
+
+  -- where none has others the hard ones are all
+  pub none_required : is_closed hard ≡ true → list_any has_others known ≡ false → AreRequired inputs names hard
+  none_required closed none = record {
+    nodes = are.0;
+    closed = closed;
+    rows = λ n within.
+        let name = name_at names n in
+        let k = known_at known n (subst (λ l. n < l) (sym count) within) in
+        are.1 n within
+        ∙ ap (λ o. unwrap_or (option_map (λ l. l.value) o) (hard_of inputs name)) (sym (no_other k.0.required (none_at known n k.0 none k.1)))
+        ∙ (described n k.0 k.1).required;
+  }

@@ -15,10 +15,9 @@ use Rattle.std.proofs.lemmas.List.Folds.{list_all-append}
 use Rattle.mk_graph.specs.Numbering.{name_at, all_added, AreDescribed, IsNumbering}
 use Rattle.mk_rules.specs.Graph.{judged, judged_name, is_numbered, AreHard, IsNode}
 use Rattle.mk_rules.specs.Known.{IsKnown, nodes_among}
-use Rattle.mk_rules.specs.Prerequisites.{Inputs, prerequisites_of, waited_for, judged_of, hard_of, hidden_of, soft_names, is_node}
+use Rattle.mk_rules.specs.Prerequisites.{Inputs, prerequisites_of, waited_for, judged_of, hard_of, hidden_of, soft_names, is_node, order_only_of}
 use Rattle.mk_rules.specs.Rows.{EachRow, IsHardRow, IsWaitedRow, spread}
 use Rattle.mk_rules.specs.Nodes.{AreMadeOf}
-use Rattle.mk_rule_lines.specs.Explicit.{order_only_of}
 use Rattle.mk_rule_lines.specs.Rules.{has}
 use Rattle.mk_rules.specs.declared.graph.Node.{Node}
 use Rattle.mk_rules.specs.declared.known.Known.{Known}
@@ -94,7 +93,7 @@ module _ (inputs : Inputs) (names : List (List ℕ)) (name : List ℕ) (k : Know
 
   -- the order-only ones that are new behind all others
   abbrev rest : List (List ℕ)
-  rest = fresh (all_added (hard_of inputs name) present) (order_only_of inputs.lines name)
+  rest = fresh (all_added (hard_of inputs name) present) (order_only_of inputs name)
 
   -- its front is that of the hard prerequisites
   pub hard_names : map (name_at names) (take k.hard r) ≡ hard_of inputs name
@@ -111,7 +110,7 @@ module _ (inputs : Inputs) (names : List (List ℕ)) (name : List ℕ) (k : Know
 
   gone_or_not : map (name_at names) (drop k.hard r) ≡ filter (is_node inputs) (fresh (hard_of inputs name) (hidden_of inputs name)) ++ rest
   gone_or_not =
-      behind_names ∙ fresh-append (hard_of inputs name) present (order_only_of inputs.lines name)
+      behind_names ∙ fresh-append (hard_of inputs name) present (order_only_of inputs name)
       ∙ ap (λ l. l ++ rest) (sym (filter_fresh (is_node inputs) (hard_of inputs name) (hidden_of inputs name)))
 
   known_nodes : k.hidden.items ≡ map (is_node inputs) (fresh (hard_of inputs name) (hidden_of inputs name))
@@ -166,11 +165,11 @@ closed_within g rows same within closed =
     (λ (past : length rows ≤ n). absurd (true≢false (sym (subst (λ l. has_number l m ≡ true) (get_or_past rows n [] past) there))))
     (cases_lt n (length rows)))
 
-abbrev IsRead : (known : List Known) (n : ℕ) → Type 0
+abbrev pub IsRead : (known : List Known) (n : ℕ) → Type 0
 IsRead known n = (k : Known) × (slice_get known n ≡ Some k)
 
 -- there is something known of each number below
-known_at : (known : List Known) (n : ℕ) → n < length known → IsRead known n
+pub known_at : (known : List Known) (n : ℕ) → n < length known → IsRead known n
 known_at [] n within = absurd (omega arith)
 known_at (k ∷ known) n within = (get_or (k ∷ known) n k, slice_get-get_or (k ∷ known) n k within)
 
@@ -291,6 +290,7 @@ module _ (inputs : Inputs) (names : List (List ℕ)) (g : List (List ℕ)) (know
         source = source_is inputs names (name_at names n) node.implied (is.implied ∙ known_is.implied) (row hard n) row_is;
         explicit = explicit_is inputs names (name_at names n) node.implied (is.implied ∙ known_is.implied) (row hard n) row_is;
         recipe = is.recipe ∙ known_is.recipe;
+        group = ap (option_map (λ g. g.value)) is.group ∙ known_is.group;
         prerequisites =
             ap (λ r. map (option_map (name_at names)) (judged r node.hidden.items)) hard_is
             ∙ ap (λ h. map (option_map (name_at names)) (judged (take k.hard (row g n)) h)) is.hidden

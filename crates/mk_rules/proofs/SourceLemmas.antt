@@ -25,7 +25,7 @@ from_form forms k form within is = drop-cons forms k form within ∙ ap (λ f. f
 pub up_to_form : (forms : List Form) (k : ℕ) (form : Form) → k < length forms → form ≡ get_or forms k form → take (k + 1) forms ≡ take k forms ++ form ∷ []
 up_to_form forms k form within is = take_more forms k form within ∙ ap (λ f. take k forms ++ f ∷ []) (sym is)
 
-candidates-append : (a b : List Form) (name : List ℕ) → candidates (a ++ b) name ≡ candidates a name ++ candidates b name
+pub candidates-append : (a b : List Form) (name : List ℕ) → candidates (a ++ b) name ≡ candidates a name ++ candidates b name
 candidates-append [] b name = refl
 candidates-append (f ∷ a) b name =
     let first = option_to_list (option_map (source_at f) (stem_of f name)) in

@@ -1,8 +1,8 @@
 -- Groups of names and groups of their numbers.
 use Rattle.std.proofs.Common.{◌≡◌, ℕ, ◌<◌, Bool, true, false, ◌&&◌, ◌||◌, nat_lt, nat_eq, List, [], ◌∷◌, ◌++◌, length, map, filter, refl, sym, ap, subst, ◌∙◌, ⊎_elim, arith, eq-eqb, ne_eqb, ltb-true, lt-ltb, true≢false, append_assoc, append-nil}
-use Rattle.std.specs.Prelude.{bytes_eq, Result, Ok, Err, OnOk}
+use Rattle.std.specs.Prelude.{bytes_eq, ◌==◌, Result, Ok, Err, OnOk}
 use Rattle.std.specs.List.{list_any, list_all, flat_map, IsDistinct}
-use Rattle.std.proofs.lemmas.Bool.{cases_order, and_parts, and_from, or_cases}
+use Rattle.std.proofs.lemmas.Bool.{cases_order, and_parts, and_from, or_parts, or_cases}
 use Rattle.std.proofs.lemmas.List.{map-append}
 use Rattle.std.proofs.lemmas.List.Elements.{filter-append}
 use Rattle.std.proofs.lemmas.List.Folds.{list_all-append}
@@ -314,3 +314,28 @@ closed_waits old new groups same all members closed =
 pub both_ok : {T E P Q R : Type 0} (r : Result T E) → (P → Q → R) → OnOk r P → OnOk r Q → OnOk r R
 both_ok (Ok x) f p q = f p q
 both_ok (Err e) f p q = p
+
+-- ---- words that are no `.WAIT`
+
+abbrev has_byte : (byte : ℕ) → List ℕ → Bool
+has_byte byte = list_any (λ b. b == byte)
+
+and_no : (a : Bool) → (a && false) ≡ false
+and_no true = refl
+and_no false = refl
+
+no_wait_at : (word : List ℕ) → has_byte 87 word ≡ false → is_wait word ≡ false
+no_wait_at [] none = refl
+no_wait_at (b ∷ []) none = and_no (b == 46)
+no_wait_at (b ∷ c ∷ bs) none =
+    let behind = (or_parts (b == 87) (has_byte 87 (c ∷ bs)) none).1 in
+    let no : (c == 87) ≡ false = (or_parts (c == 87) (has_byte 87 bs) behind).0 in
+    simp no (and_no (b == 46))
+
+-- words of which none has its second byte
+pub no_wait : (words : List (List ℕ)) → list_any (has_byte 87) words ≡ false → list_any is_wait words ≡ false
+no_wait [] none = refl
+no_wait (word ∷ words) none =
+    let parts = or_parts (has_byte 87 word) (list_any (has_byte 87) words) none in
+    let no : is_wait word ≡ false = no_wait_at word parts.0 in
+    simp no (no_wait words parts.1)

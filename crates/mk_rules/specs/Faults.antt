@@ -1,18 +1,22 @@
 -- What each refusal says of a makefile, its files and its state.
-use Rattle.std.specs.Prelude.{◌≡◌, ℕ, ℤ, ◌<◌, ◌⊎◌, Bool, true, false, List, [], ◌∷◌, ◌++◌, length, map, take, slice_get, Option, Some, None, IfSome}
+use Rattle.std.specs.Prelude.{◌≡◌, ℕ, ℤ, ◌<◌, ◌≤◌, ◌⊎◌, Bool, true, false, List, [], ◌∷◌, ◌++◌, length, map, take, slice_get, Option, Some, None, IfSome}
 use Rattle.std.specs.List.{list_all}
 use Rattle.mk_graph.specs.Cycle.{IsCycle}
 use Rattle.mk_graph.specs.Numbering.{IsNumbering, name_at, has_name}
 use Rattle.mk_reader.specs.declared.item.Item.{Item}
 use Rattle.st_records.specs.declared.record.Entry.{Entry}
+use Rattle.mk_rule_lines.specs.Doubles.{HasBothKinds}
 use Rattle.mk_rule_lines.specs.Explicit.{is_phony}
 use Rattle.mk_rule_lines.specs.Forms.{forms_of}
 use Rattle.mk_rule_lines.specs.Goals.{goals_of}
+use Rattle.mk_rules.specs.Chain.{steps_of}
 use Rattle.mk_rules.specs.Graph.{AreRequired}
+use Rattle.mk_rules.specs.Search.{IsChainedTo}
+use Rattle.mk_rules.specs.Groups.{others_in}
 use Rattle.mk_macros.specs.Ranks.{Defined}
 use Rattle.mk_rule_lines.specs.InForce.{AreLinesInForce}
 use Rattle.mk_rule_lines.specs.Lines.{IsLinesFault}
-use Rattle.mk_rules.specs.Prerequisites.{Inputs, IsTextAmong, seen_times, own_recipes, is_target, is_there, hidden_of, prerequisites_of, is_made}
+use Rattle.mk_rules.specs.Prerequisites.{Inputs, IsTextAmong, seen_times, own_recipes, found_source, implicit_source, is_target, is_there, hidden_of, prerequisites_of, is_made}
 use Rattle.mk_rule_lines.specs.Rules.{has, targets_by, suffixes_of}
 use Rattle.mk_rule_lines.specs.Source.{stem_of, source_at, source_of}
 use Rattle.mk_rule_lines.specs.Supported.{HasRefusedLine}
@@ -21,6 +25,7 @@ use Rattle.mk_rule_lines.specs.declared.fault.Unmade.{Unmade}
 use Rattle.mk_rule_lines.specs.declared.fault.RuleFault.{RuleFault}
 use Rattle.mk_rule_lines.specs.declared.fault.RuleFault.TheVariants as fault
 use Rattle.mk_rule_lines.specs.declared.form.Form.{Form}
+use Rattle.mk_rule_lines.specs.declared.form.Source.{Source}
 use Rattle.mk_rule_lines.specs.declared.rule_line.RuleLine.{RuleLine}
 
 -- the names of the graph for these goals
@@ -70,12 +75,47 @@ pub record IsReachedFrom (inputs : Inputs) (node name : List ℕ) : Type 0 where
   pub no_target : is_target inputs.lines name ≡ false
   pub earlier : source_of (is_there inputs) (take place (forms_of (suffixes_of inputs.lines) inputs.lines)) node ≡ None
 
--- the name is one of the graph that isn't phony, a hidden prerequisite of one that is text, or the candidate that the search for a
--- source of one reaches
+-- some search for a chain of rules that makes the node leads to the name: the node isn't phony, no line has a recipe for it, no
+-- candidate is there, and no line makes the name
+pub record IsLedToFrom (inputs : Inputs) (node name : List ℕ) : Type 0 where
+  pub no_phony : is_phony inputs.lines node ≡ false
+  pub no_recipe : own_recipes inputs.lines node ≡ []
+  pub none : source_of (is_there inputs) (forms_of (suffixes_of inputs.lines) inputs.lines) node ≡ None
+  pub no_target : is_target inputs.lines name ≡ false
+  pub count : ℕ
+  pub some : 0 < count
+  pub few : count ≤ steps_of inputs.lines
+  pub leads : IsChainedTo (forms_of (suffixes_of inputs.lines) inputs.lines) count node name
+
+-- the search for a source of the node asks for the name
+abbrev pub IsSearchedFrom : Inputs → (node name : List ℕ) → Type 0
+IsSearchedFrom inputs node name = IsReachedFrom inputs node name ⊎ IsLedToFrom inputs node name
+
+-- the rule that is found for the node makes it by the run for another name, and the search for the source of that one reaches the name
+pub record IsLeaderAskedFrom (inputs : Inputs) (node name : List ℕ) : Type 0 where
+  pub source : Source
+  pub found : found_source inputs node ≡ Some source
+  pub leader : List ℕ
+  pub leader_is : source.leader ≡ Some leader
+  pub searched : IsSearchedFrom inputs leader name
+
+-- the name isn't phony, and is made beside the node
+abbrev pub IsOtherOf : Inputs → (node name : List ℕ) → Type 0
+IsOtherOf inputs node name = (has name (others_in (implicit_source inputs node)) ≡ true) × (is_phony inputs.lines name ≡ false)
+
+-- why a name is looked at while another is looked up: it is that one, which isn't phony, a hidden prerequisite of it that is text,
+-- what the search for its source reaches, or what is asked for since its rule has several targets
+abbrev pub IsAskedOf : Inputs → (node name : List ℕ) → Type 0
+IsAskedOf inputs node name =
+    IsItself inputs.lines node name
+    ⊎ (IsTextAmong (hidden_of inputs node) name
+    ⊎ (IsSearchedFrom inputs node name ⊎ (IsLeaderAskedFrom inputs node name ⊎ IsOtherOf inputs node name)))
+
+-- the name is looked at while one of the graph is looked up
 pub record IsLookedAt (inputs : Inputs) (named : List (List ℕ)) (name : List ℕ) : Type 0 where
   pub node : List ℕ
   pub is_name : (names : List (List ℕ)) → AreNames inputs named names → has_name names node ≡ true
-  pub asked : IsItself inputs.lines node name ⊎ (IsTextAmong (hidden_of inputs node) name ⊎ IsReachedFrom inputs node name)
+  pub asked : IsAskedOf inputs node name
 
 -- the fault of these inputs, for the goals that are named. A name that can't be looked at is one that the tree refuses; that
 -- memory was wanted stands outside the inputs
@@ -85,6 +125,7 @@ IsGraphFault inputs refuses named limit fault.NoTarget = goals_of inputs.lines n
 IsGraphFault inputs refuses named limit (fault.NoRule told) = HasUnmade inputs named told
 IsGraphFault inputs refuses named limit (fault.TwoRecipes name line) =
     (suffix_rules : Bool) × HasTwoRecipes (targets_by suffix_rules (suffixes_of inputs.lines)) inputs.lines name line
+IsGraphFault inputs refuses named limit (fault.BothKinds name line) = HasBothKinds inputs.lines name line
 IsGraphFault inputs refuses named limit (fault.Cycle cycle) = HasNamedCycle inputs named cycle.names
 IsGraphFault inputs refuses named limit fault.TooMany = (names : List (List ℕ)) → AreNames inputs named names → limit < length names
 IsGraphFault inputs refuses named limit (fault.Macro f) = ⊥

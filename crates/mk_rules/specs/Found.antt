@@ -1,11 +1,11 @@
 -- What is found of all names that goals lead to.
-use Rattle.std.specs.Prelude.{◌≡◌, ℕ, ◌<◌, ◌⊎◌, true, false, List, length, map, IfSome}
+use Rattle.std.specs.Prelude.{◌≡◌, ℕ, ◌<◌, true, false, List, length, map, IfSome}
 use Rattle.mk_graph.specs.Edges.{row, has as has_number}
 use Rattle.mk_graph.specs.Numbering.{IsNumbering, AreDescribed, name_at, has_name}
 use Rattle.mk_graph.specs.declared.numbering.Numbered.{Numbered}
-use Rattle.mk_rules.specs.Faults.{IsItself, IsReachedFrom, HasUnmade, HasNamedCycle}
+use Rattle.mk_rules.specs.Faults.{IsAskedOf, HasUnmade, HasNamedCycle}
 use Rattle.mk_rules.specs.Known.{IsKnown}
-use Rattle.mk_rules.specs.Prerequisites.{Inputs, IsTextAmong, prerequisites_of, hidden_of, is_made}
+use Rattle.mk_rules.specs.Prerequisites.{Inputs, prerequisites_of, is_made}
 use Rattle.mk_rule_lines.specs.declared.fault.Unmade.{Unmade}
 use Rattle.mk_rule_lines.specs.declared.fault.RuleFault.{RuleFault}
 use Rattle.mk_rule_lines.specs.declared.fault.RuleFault.TheVariants as fault
@@ -18,12 +18,11 @@ pub record AreFound (inputs : Inputs) (goals : List (List ℕ)) (n : Numbered Kn
   pub goals_are : map (name_at n.names) n.goals.items ≡ goals
   pub known : AreDescribed (IsKnown inputs) n.names n.nodes.items
 
--- a name that can't be looked at: one that the goals lead to and that isn't phony, a hidden prerequisite of one that is text, or
--- the candidate that the search for a source of one reaches
+-- a name that can't be looked at while one that the goals lead to is looked up
 pub record IsAskedFor (inputs : Inputs) (goals : List (List ℕ)) (name : List ℕ) : Type 0 where
   pub node : List ℕ
   pub is_name : (names : List (List ℕ)) → IsNumbering (prerequisites_of inputs) goals names → has_name names node ≡ true
-  pub asked : IsItself inputs.lines node name ⊎ (IsTextAmong (hidden_of inputs node) name ⊎ IsReachedFrom inputs node name)
+  pub asked : IsAskedOf inputs node name
 
 -- the fault of looking up all names that the goals lead to
 abbrev pub IsFindingFault : Inputs → (refuses : List ℕ → Type 0) → (goals : List (List ℕ)) → (limit : ℕ) → RuleFault → Type 0

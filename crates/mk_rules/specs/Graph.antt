@@ -7,8 +7,9 @@ use Rattle.mk_graph.specs.Numbering.{IsNumbering, name_at, has_name}
 use Rattle.mk_rule_lines.specs.Rules.{suffixes_of, has}
 use Rattle.mk_rule_lines.specs.Taken.{AreTaken}
 use Rattle.mk_rule_lines.specs.Goals.{goals_of, settings_of}
+use Rattle.mk_rules.specs.Groups.{group_of}
 use Rattle.mk_rules.specs.Node.{source_by, explicit_by}
-use Rattle.mk_rules.specs.Prerequisites.{Inputs, implicit_source, made_from, source_name, distinct, explicit_names, recipe_of, hard_of, is_node, prerequisites_of, judged_of, is_made, is_required, soft_names}
+use Rattle.mk_rules.specs.Prerequisites.{Inputs, implicit_source, made_from, source_name, distinct, explicit_names, recipe_of, hard_of, is_node, prerequisites_of, judged_of, is_made, required_of, soft_names}
 use Rattle.mk_rules.specs.Waits.{line_orders}
 use Rattle.mk_graph.specs.Plan.{IsPlan}
 use Rattle.std.specs.FinMap as finmap
@@ -38,6 +39,7 @@ pub record IsNode (inputs : Inputs) (names : List (List ℕ)) (hard : List ℕ) 
   pub source : option_map (name_at names) (source_by node.implied hard) ≡ source_name (implicit_source inputs name)
   pub explicit : map (name_at names) (explicit_by node.implied hard) ≡ explicit_names inputs name
   pub recipe : node.recipe ≡ recipe_of inputs name
+  pub group : option_map (λ g. g.value) node.group ≡ group_of inputs name
   pub prerequisites :
       map (option_map (name_at names)) (judged hard node.hidden.items)
       ≡ map (judged_name inputs (hard_of inputs name)) (judged_of inputs name)
@@ -56,11 +58,11 @@ AreEdges names is_edge edges = (n m : ℕ) → n < length names → m < length n
 abbrev pub AreSoft : Inputs → (names : List (List ℕ)) → (soft : List (List ℕ)) → Type 0
 AreSoft inputs names soft = AreEdges names (is_soft inputs names) soft
 
--- the rows hold, of each name, what it can't be made without
+-- the rows hold, of each name, what it can't be made without by number
 pub record AreRequired (inputs : Inputs) (names : List (List ℕ)) (required : List (List ℕ)) : Type 0 where
   pub nodes : length required ≡ length names
   pub closed : IsTrue (is_closed required)
-  pub members : AreEdges names (is_required inputs) required
+  pub rows : (n : ℕ) → n < length names → map (name_at names) (row required n) ≡ required_of inputs (name_at names n)
 
 -- what each node of the graph can't be made without: its hard prerequisites, where it is not said that there are others
 abbrev pub required_in : Graph → List (List ℕ)

@@ -1,8 +1,10 @@
 pub mod Assembly
+pub mod Chain
 pub mod DistinctNames
 pub mod Faults
 pub mod Found
 pub mod Graph
+pub mod Groups
 pub mod Hidden
 pub mod Known
 pub mod Limit
@@ -14,6 +16,7 @@ pub mod Ordering
 pub mod Prerequisites
 pub mod Required
 pub mod Rows
+pub mod Search
 pub mod Source
 pub mod Tree
 pub mod Waits

@@ -12,6 +12,7 @@ pub record IsMadeOf (known : Known) (r : List ℕ) (node : Node) : Type 0 where
   pub stem : node.stem ≡ known.stem
   pub implied : node.implied ≡ known.implied
   pub recipe : node.recipe ≡ known.recipe
+  pub group : node.group ≡ known.group
   pub hidden : node.hidden.items ≡ spread known.hidden.items (drop known.hard r)
 
 -- the node of each number is made of what is known of it

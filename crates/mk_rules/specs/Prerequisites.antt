@@ -1,16 +1,19 @@
 -- What the rules, the files and the state say of a name: what makes it and what it is made from.
-use Rattle.std.specs.Prelude.{◌≡◌, ℕ, ℤ, Bool, true, not, ◌&&◌, ◌||◌, List, [], ◌∷◌, ◌++◌, filter, drop, slice_get, Option, Some, None, is_some, option_map, option_to_list, if◌then◌else◌}
+use Rattle.std.specs.Prelude.{◌≡◌, ℕ, ℤ, Bool, true, false, not, ◌&&◌, ◌||◌, List, [], ◌∷◌, ◌++◌, filter, drop, take, slice_get, codes, Option, Some, None, is_some, is_none, option_and_then, option_to_list, ◌==◌, if◌then◌else◌}
 use Rattle.std.specs.List.{list_any}
 use Rattle.std.specs.Option.{option_map_or}
 use Rattle.std.specs.Str.{is_utf8}
 use Rattle.mk_graph.specs.Numbering.{all_added}
 use Rattle.st_records.specs.declared.record.Entry.{Entry}
+use Rattle.st_records.specs.declared.record.Phase.{Phase}
+use Rattle.st_records.specs.declared.record.Phase.TheVariants.{Begun, Done, Failed}
 use Rattle.mk_rule_lines.specs.Rules.{has, suffixes_of, recipe_places}
-use Rattle.mk_rule_lines.specs.Explicit.{explicit_targets, explicit_of, order_only_of, is_phony}
-use Rattle.mk_rule_lines.specs.Source.{source_of}
+use Rattle.mk_rule_lines.specs.Explicit.{explicit_targets, explicit_of, order_only_of as order_only_by_name, is_phony, is_default_at}
+use Rattle.mk_rule_lines.specs.Doubles.{first_double}
 use Rattle.mk_rule_lines.specs.Forms.{forms_of}
 use Rattle.mk_rule_lines.specs.declared.form.Source.{Source}
 use Rattle.mk_rule_lines.specs.declared.rule_line.RuleLine.{RuleLine}
+use Rattle.mk_rules.specs.Chain.{source_in, steps_of}
 
 -- what a graph is made of: the rule lines, the times of names as the lines let them be seen, and what the state has of each
 -- target
@@ -30,9 +33,14 @@ inputs_of lines entries times = record { lines = lines; times = seen_times lines
 abbrev pub is_target : List RuleLine → (name : List ℕ) → Bool
 is_target lines name = list_any (λ l. has name (explicit_targets lines l)) lines
 
--- the numbers of the lines that have a recipe for the name, of which there is one at most
+-- what the list has, or else the other one
+abbrev pub any_or : List ℕ → (other : Option ℕ) → List ℕ
+any_or [] other = option_to_list other
+any_or (n ∷ ns) other = n ∷ ns
+
+-- the numbers of the lines that have a recipe for the name, of which there is one at most: of lines with `::` it is the first
 abbrev pub own_recipes : List RuleLine → (name : List ℕ) → List ℕ
-own_recipes lines name = recipe_places (explicit_targets lines) 0 lines name
+own_recipes lines name = any_or (recipe_places (explicit_targets lines) 0 lines name) (first_double lines name)
 
 -- there is a file of the name, or some line makes it
 abbrev pub is_there : Inputs → (name : List ℕ) → Bool
@@ -48,24 +56,78 @@ abbrev pub first_or : List ℕ → (other : Option ℕ) → Option ℕ
 first_or [] other = other
 first_or (n ∷ ns) other = Some n
 
--- what an implicit rule makes the name from, where no line has a recipe for it and it isn't phony (make(1S), "Implicit Rules";
--- POSIX make, .PHONY)
-abbrev pub implicit_source : Inputs → (name : List ℕ) → Option Source
-implicit_source inputs name =
+-- what the search for a source of the name finds, where no line has a recipe for it and it isn't phony (make(1S), "Implicit Rules"; POSIX
+-- make, .PHONY; in the wide profile also by chains: GNU make manual, "Chains of Implicit Rules")
+abbrev pub found_source : Inputs → (name : List ℕ) → Option Source
+found_source inputs name =
     if is_phony inputs.lines name then None
-    else unless_any (own_recipes inputs.lines name) (source_of (is_there inputs) (forms_of (suffixes_of inputs.lines) inputs.lines) name)
+    else unless_any (own_recipes inputs.lines name)
+    (source_in (is_there inputs) (forms_of (suffixes_of inputs.lines) inputs.lines) (steps_of inputs.lines) name)
 
--- the line whose recipe makes the name: its own, else that of the implicit rule
+-- the rule of this line makes a name that is found to come from the source by a run for that name
+abbrev pub is_run_of : (rule : ℕ) → Source → Bool
+is_run_of rule source = is_none source.leader && (source.rule == rule)
+
+abbrev pub runs_for : Inputs → (rule : ℕ) → (name : List ℕ) → Bool
+runs_for inputs rule name = option_map_or (is_run_of rule) (found_source inputs name) false
+
+-- a target behind the first is made where the rule makes the first one, for the same stem, by a run for it (own: GNU make runs the
+-- recipe for whichever target it comes to)
+abbrev pub is_led : Inputs → Source → Bool
+is_led inputs source = option_map_or (runs_for inputs source.rule) source.leader true
+
+-- what an implicit rule makes the name from
+abbrev pub implicit_source : Inputs → (name : List ℕ) → Option Source
+implicit_source inputs name = option_and_then (λ source. if is_led inputs source then Some source else None) (found_source inputs name)
+
+-- the line whose recipe is run for a name with this source; None where it is run for another name
+abbrev pub run_by : Source → Option ℕ
+run_by source = if is_none source.leader then Some source.rule else None
+
+-- the line whose recipe makes what nothing else makes: that of `.DEFAULT`, and no other line that has this name among its targets
+-- (POSIX make, .DEFAULT; the latter: own)
+abbrev pub default_of : List RuleLine → Option ℕ
+default_of lines = slice_get (filter (is_default_at lines) (recipe_places (explicit_targets lines) 0 lines (codes ".DEFAULT"))) 0
+
+-- a recipe was begun, and not run to its end
+abbrev pub is_cut : Phase → Bool
+is_cut Begun = true
+is_cut Done = false
+is_cut (Failed status) = true
+
+-- a name that is left to `.DEFAULT` where no implicit rule makes it: no line makes it, and it has no file (POSIX make, .DEFAULT), or
+-- only one whose recipe wasn't run to its end, which would pass as a source else (own)
+abbrev pub is_left : Inputs → (name : List ℕ) → Bool
+is_left inputs name =
+    not (is_target inputs.lines name) && (is_none (inputs.times name) || option_map_or (λ e. is_cut e.phase) (inputs.entries name) false)
+
+abbrev pub left_recipe : Inputs → (name : List ℕ) → Option ℕ
+left_recipe inputs name = if is_left inputs name then default_of inputs.lines else None
+
+-- the line of the source whose recipe is run for the name, or the other one where there is no source
+abbrev pub rule_or : Option Source → (other : Option ℕ) → Option ℕ
+rule_or None other = other
+rule_or (Some source) other = run_by source
+
+-- the line whose recipe makes the name: its own, else that of the implicit rule, else that of `.DEFAULT`, where the name is left to it
 abbrev pub recipe_of : Inputs → (name : List ℕ) → Option ℕ
-recipe_of inputs name = first_or (own_recipes inputs.lines name) (option_map (λ s. s.rule) (implicit_source inputs name))
+recipe_of inputs name = first_or (own_recipes inputs.lines name) (rule_or (implicit_source inputs name) (left_recipe inputs name))
 
 -- the names, each at its first mention alone
 abbrev pub distinct : List (List ℕ) → List (List ℕ)
 distinct names = all_added [] names
 
+-- what a name with this source is made from: the name by whose run it is made, or the rule's prerequisites
+abbrev pub made_names : Source → List (List ℕ)
+made_names source = option_map_or (λ leader. leader ∷ []) source.leader (take source.ordinary source.names)
+
 -- what an implicit rule makes a name from, if one does
 abbrev pub made_from : Option Source → List (List ℕ)
-made_from source = option_map_or (λ s. s.names) source []
+made_from source = option_map_or made_names source []
+
+-- the order-only prerequisites that it gives the name
+abbrev pub behind_bar_of : Option Source → List (List ℕ)
+behind_bar_of source = option_map_or (λ s. drop s.ordinary s.names) source []
 
 -- the source: the first of these, where the rule has any
 abbrev pub source_name : Option Source → Option (List ℕ)
@@ -103,17 +165,22 @@ IsTextAmong names name = (has name names ≡ true) × (is_utf8 name ≡ true)
 abbrev pub is_node : Inputs → (hidden : List ℕ) → Bool
 is_node inputs hidden = is_utf8 hidden && is_there inputs hidden
 
+-- the order-only prerequisites: those of the implicit rule, then those of the lines (GNU make manual, "Types of Prerequisites")
+abbrev pub order_only_of : Inputs → (name : List ℕ) → List (List ℕ)
+order_only_of inputs name = behind_bar_of (implicit_source inputs name) ++ order_only_by_name inputs.lines name
+
 -- what a name waits for beside its hard prerequisites: the hidden ones that are nodes, then the order-only ones
 abbrev pub waited_for : Inputs → (name : List ℕ) → List (List ℕ)
-waited_for inputs name = filter (is_node inputs) (hidden_of inputs name) ++ order_only_of inputs.lines name
+waited_for inputs name = filter (is_node inputs) (hidden_of inputs name) ++ order_only_of inputs name
 
 -- the prerequisites of a name that are nodes: the hard ones, the hidden ones that aren't gone, and the order-only ones
 abbrev pub prerequisites_of : Inputs → (name : List ℕ) → List (List ℕ)
 prerequisites_of inputs name = all_added (hard_of inputs name) (waited_for inputs name)
 
--- the one can't be made without the other, which is a hard or an order-only prerequisite of it (GNU make manual, "Types of Prerequisites")
-abbrev pub is_required : Inputs → (name prerequisite : List ℕ) → Bool
-is_required inputs name prerequisite = has prerequisite (hard_of inputs name) || has prerequisite (order_only_of inputs.lines name)
+-- what a name can't be made without: its hard prerequisites, then the order-only ones that are none (GNU make manual, "Types of
+-- Prerequisites")
+abbrev pub required_of : Inputs → (name : List ℕ) → List (List ℕ)
+required_of inputs name = all_added (hard_of inputs name) (order_only_of inputs name)
 
 -- the prerequisites as they are judged, numbered from 0: the hard ones, then the hidden ones, gone or not
 abbrev pub judged_of : Inputs → (name : List ℕ) → List (List ℕ)
@@ -123,6 +190,6 @@ judged_of inputs name = all_added (hard_of inputs name) (hidden_of inputs name)
 abbrev pub soft_names : Inputs → (name : List ℕ) → List (List ℕ)
 soft_names inputs name = filter (λ waited. not (has waited (hard_of inputs name))) (waited_for inputs name)
 
--- there is a file of the name, a line that makes it, or an implicit rule
+-- there is a rule for what nothing else makes, or a file of the name, a line that makes it, or an implicit rule
 abbrev pub is_made : Inputs → (name : List ℕ) → Bool
-is_made inputs name = is_there inputs name || is_some (implicit_source inputs name)
+is_made inputs name = is_some (default_of inputs.lines) || (is_there inputs name || is_some (implicit_source inputs name))

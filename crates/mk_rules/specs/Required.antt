@@ -1,18 +1,20 @@
--- What the lines say of what has to be made before, one line after the other.
-use Rattle.std.specs.Prelude.{ℕ, Bool, false, ◌&&◌, List, [], ◌∷◌}
-use Rattle.std.specs.List.{list_any}
-use Rattle.mk_rule_lines.specs.Explicit.{is_bar, order_only_in}
-use Rattle.mk_rule_lines.specs.Rules.{has, targets_by}
-use Rattle.mk_rule_lines.specs.declared.rule_line.RuleLine.{RuleLine}
+-- The rows of what nodes aren't made without, by what was found of each name.
+use Rattle.std.specs.Prelude.{◌≡◌, ℕ, Bool, true, List, length, map, filter, nat_lt, is_some, option_map, unwrap_or, Some, slice_get}
+use Rattle.std.specs.List.{list_all}
+use Rattle.mk_graph.specs.Edges.{row}
+use Rattle.mk_graph.specs.Numbering.{has_name, name_at}
+use Rattle.mk_rules.specs.Known.{listed_in}
+use Rattle.mk_rules.specs.declared.known.Known.{Known}
 
--- a bar stands in the line
-abbrev pub has_bar : RuleLine → Bool
-has_bar l = list_any (is_bar l.profile) l.prerequisites
+-- there are order-only prerequisites beside the hard ones
+abbrev pub has_others : Known → Bool
+has_others known = is_some known.required
 
--- the order-only prerequisites of a line, and the targets that it makes by name
-abbrev pub groups_in : (suffixes : List (List ℕ)) → RuleLine → List (List (List ℕ))
-groups_in suffixes l = order_only_in l ∷ targets_by false suffixes l ∷ []
+-- the names that are listed of a node and have a number, or those of this row where none are listed
+abbrev pub names_in_row : (names : List (List ℕ)) → Known → (hard : List ℕ) → List (List ℕ)
+names_in_row names known hard = unwrap_or (option_map (filter (has_name names)) (listed_in known)) (map (name_at names) hard)
 
--- the line makes q, and has p as an order-only prerequisite
-abbrev pub line_requires : (suffixes : List (List ℕ)) → (p q : List ℕ) → RuleLine → Bool
-line_requires suffixes p q l = has p (order_only_in l) && has q (targets_by false suffixes l)
+-- the row holds, by number, the names that are listed of node n, or the hard prerequisites
+pub record IsRequiredRow (names : List (List ℕ)) (hard : List (List ℕ)) (known : List Known) (n : ℕ) (r : List ℕ) : Type 0 where
+  pub names_are : (k : Known) → slice_get known n ≡ Some k → map (name_at names) r ≡ names_in_row names k (row hard n)
+  pub below : list_all (λ m. nat_lt m (length names)) r ≡ true

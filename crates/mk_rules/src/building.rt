@@ -26,6 +26,7 @@ ghost use Rattle.mk_rules.specs.Graph.{IsGraph, AreMade};
 ghost use Rattle.st_state.specs.State.{StateMap};
 ghost use Rattle.mk_rules.specs.Faults.{AreInputs, IsGraphFault, IsRuleFault};
 
+use crate::chain::steps_of;
 use crate::finder::Finder;
 use crate::graph::{Graph, Node};
 use crate::known::Known;
@@ -212,7 +213,7 @@ fn order_found(
         → AreFound inputs (goals_of inputs.lines named) numbered.now → IsGraphlessFault inputs named fault) }
 {
     let hard = hard_edges(alloc, numbered)?;
-    let required = required_edges(alloc, &hard, &numbered.names, suffixes, lines)?;
+    let required = required_edges(alloc, &hard, &numbered.names, &numbered.nodes)?;
     let soft = soft_edges(alloc, numbered, lines, suffixes)?;
     ordered_by(alloc, &numbered.names, hard, required, soft)
 }
@@ -302,6 +303,7 @@ fn reached<T: Tree>(
         targets: &makefile.targets,
         forms: &makefile.forms,
         state,
+        steps: steps_of(&makefile.lines),
     };
     numbered_names(alloc, rules, tree, &goals, limit)
 }

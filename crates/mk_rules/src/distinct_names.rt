@@ -1,8 +1,9 @@
 //! Names at their first mention, of which there are mostly few.
-ghost use Rattle.std.specs.Prelude.{◌≡◌, ◌++◌, ◌∷◌, ◌⊎◌, [], false, not, length, IfOk, OnOk, OnErr};
+ghost use Rattle.std.specs.Prelude.{◌≡◌, ◌++◌, ◌∷◌, ◌⊎◌, [], false, not, length, take, IfOk, OnOk, OnErr};
 ghost use Rattle.mk_graph.specs.Numbering.{has_name, added};
 ghost use Rattle.mk_rules.specs.DistinctNames.{HaveTheSame};
 
+use crate::listed::front_of;
 use byte_strings::ByteStrings;
 use mk_graph::Names;
 use std::alloc::{AllocError, Global};
@@ -10,7 +11,7 @@ use std::marker::Model;
 use std::mem;
 
 /// So many are compared one by one, which takes no memory beside their list; of more, a set tells which are there.
-const FEW: usize = 16;
+const FEW: usize = 64;
 
 /// Names, each once. Contracts see the list.
 #[derive(Drop)]
@@ -42,6 +43,15 @@ fn set_of(alloc: Global, list: &ByteStrings) -> Result<Names, AllocError>
     Ok(set)
 }
 
+/// How many bytes they have, as far as a number goes.
+fn size_of(list: &ByteStrings) -> usize {
+    let mut size = 0usize;
+    for name in list.iter() {
+        size = size.saturating_add(name.len());
+    }
+    size
+}
+
 impl DistinctNames {
     /// No names, which takes no memory.
     pub fn new(alloc: Global) -> DistinctNames
@@ -63,6 +73,16 @@ impl DistinctNames {
         }
     }
 
+    /// No names, with room for so many names of a list as it has.
+    pub fn with_room(alloc: Global, list: &ByteStrings) -> Result<DistinctNames, AllocError>
+        ensures { IfOk result (λ names. names ≡ []) }
+    {
+        Ok(DistinctNames {
+            list: ByteStrings::with_capacity(alloc, list.len(), size_of(list))?,
+            set: Names::new(alloc),
+        })
+    }
+
     /// How many names there are.
     pub fn len(&self) -> usize
         ensures { result ≡ length self.now }
@@ -75,6 +95,14 @@ impl DistinctNames {
         ensures { IfOk result (λ list. list ≡ self.now) }
     {
         self.list.copy(alloc)
+    }
+
+    /// The first so many names, or all where there are no more.
+    pub fn front(&self, alloc: Global, count: usize) -> Result<DistinctNames, AllocError>
+        ensures { IfOk result (λ names. names ≡ take count self.now) }
+    {
+        let list = front_of(alloc, &self.list, count)?;
+        Ok(DistinctNames::of_list(alloc, list))
     }
 
     pub fn into_list(self) -> ByteStrings

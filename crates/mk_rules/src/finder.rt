@@ -1,41 +1,45 @@
 //! Names looked up one by one while they are numbered.
-ghost use Rattle.std.specs.Prelude.{◌≡◌, ◌++◌, ℕ, ℤ, List, Option, [], length, option_map, option_to_list, IfOk, IfErr, OnOk};
+ghost use Rattle.std.specs.Prelude.{◌≡◌, ◌++◌, ℕ, ℤ, List, Option, [], length, take, option_map, option_to_list, unwrap_or, IfOk, IfErr, OnOk};
 ghost use Rattle.std.specs.FinMap as map;
 ghost use Rattle.mk_rule_lines.specs.Explicit.{numbers_of, explicit_of, order_only_of, is_phony};
-ghost use Rattle.mk_rules.specs.Prerequisites.{inputs_of, is_node, first_or, hidden_in, own_recipes, prerequisites_of, made_from, distinct};
+ghost use Rattle.mk_rules.specs.Prerequisites.{inputs_of, is_node, first_or, rule_or, hidden_in, own_recipes, prerequisites_of, made_from, behind_bar_of, distinct};
 ghost use Rattle.mk_graph.specs.Numbering.{all_added};
 ghost use Rattle.mk_rules.specs.Looks.{Looks};
 ghost use Rattle.mk_rules.specs.Hidden.{HasHidden, IsNamesFault, nodes_in};
 ghost use Rattle.mk_rules.specs.Known.{IsKnown, IsLookUpFault};
 
 use crate::distinct_names::DistinctNames;
+use crate::group::Group;
 use crate::known::Known;
-use crate::lookup::{add_hidden, implicit_source, seen_stamp};
+use crate::left_over::rule_or;
+use crate::listed::{names_behind, push_all};
+use crate::lookup::{add_hidden, seen_stamp};
 use crate::mentioned::{Mentioned, implied_count, listed_nodes, mention_all};
 use crate::rules::Rules;
+use crate::several::{group_of, implicit_source};
 use crate::tree::Tree;
 use byte_strings::{ByteString, ByteStrings};
 use mk_graph::{Dependencies, Found};
 use mk_rule_lines::{RuleFault, Source};
 use std::alloc::{AllocError, Global};
+use std::boxed::Box;
 
-fn stem_and_rule(source: Option<Source>) -> (Option<ByteString>, Option<usize>)
-    ensures stem { result.0 ≡ option_map (λ s. s.stem) source }
-    ensures rule { result.1 ≡ option_map (λ s. s.rule) source }
+fn stem_of(source: Option<Source>) -> Option<ByteString>
+    ensures { result ≡ option_map (λ s. s.stem) source }
 {
     match source {
-        Some(Source { stem, rule, .. }) => (Some(stem), Some(rule)),
-        None => (None, None),
+        Some(Source { stem, .. }) => Some(stem),
+        None => None,
     }
 }
 
-/// The line with the name's own recipe, or else that of the implicit rule.
-fn own_or(own: Option<usize>, implicit: Option<usize>) -> Option<usize>
-    ensures { result ≡ first_or (option_to_list own) implicit }
+/// The line with the name's own recipe, or else the other one.
+fn own_or(own: Option<usize>, other: Option<usize>) -> Option<usize>
+    ensures { result ≡ first_or (option_to_list own) other }
 {
     match own {
         Some(line) => Some(line),
-        None => implicit,
+        None => other,
     }
 }
 
@@ -88,21 +92,71 @@ fn mentioned_of<T: Tree>(
     Ok((mentioned, hard, implied))
 }
 
+/// The order-only prerequisites that an implicit rule gives a name.
+fn behind_bar_of(alloc: Global, source: &Option<Source>) -> Result<ByteStrings, AllocError>
+    ensures { IfOk result (λ names. names ≡ behind_bar_of source.now) }
+{
+    match source {
+        Some(source) => names_behind(alloc, &source.names, source.ordinary),
+        None => Ok(ByteStrings::empty(alloc)),
+    }
+}
+
+/// The order-only prerequisites of a name with this source, which the lines of these numbers make.
+fn order_only_of(
+    alloc: Global,
+    rules: &Rules,
+    numbers: &[usize],
+    source: &Option<Source>,
+) -> Result<ByteStrings, AllocError>
+    ensures { IfOk result (λ found. (name : List ℕ) → numbers.now ≡ numbers_of rules.now.lines.now name
+        → found ≡ behind_bar_of source.now ++ order_only_of rules.now.lines.now name) }
+{
+    let mut found = behind_bar_of(alloc, source)?;
+    let own = rules.order_only(alloc, numbers)?;
+    push_all(&mut found, &own)?;
+    Ok(found)
+}
+
+/// What a name can't be made without, where it has order-only prerequisites: the first so many of those that are judged, which are
+/// hard, and these.
+fn required_names(
+    alloc: Global,
+    mentioned: &Mentioned,
+    hard: usize,
+    order_only: &ByteStrings,
+) -> Result<Option<Box<ByteStrings>>, AllocError>
+    ensures { IfOk result (λ required. unwrap_or (option_map (λ names. names.value) required) (take hard mentioned.now.judged)
+        ≡ all_added (take hard mentioned.now.judged) order_only.now) }
+{
+    if order_only.is_empty() {
+        return Ok(None);
+    }
+    let mut names = mentioned.judged.front(alloc, hard)?;
+    mention_all(alloc, &mut names, order_only)?;
+    Ok(Some(Box::new(alloc, names.into_list())?))
+}
+
 /// What is found of a name, put together.
 fn gathered(
     stamp: Option<i128>,
     source: Option<Source>,
     own: Option<usize>,
+    left: Option<usize>,
     mentioned: Mentioned,
     hard: usize,
     implied: usize,
+    group: Option<Box<Group>>,
+    required: Option<Box<ByteStrings>>,
 ) -> Found<Known>
     ensures prerequisites { result.prerequisites ≡ nodes_in mentioned }
     ensures stamp { result.node.stamp ≡ stamp }
     ensures stem { result.node.stem ≡ option_map (λ s. s.stem) source }
     ensures implied { result.node.implied ≡ implied }
-    ensures recipe { result.node.recipe ≡ first_or (option_to_list own) (option_map (λ s. s.rule) source) }
+    ensures recipe { result.node.recipe ≡ first_or (option_to_list own) (rule_or source left) }
+    ensures group { result.node.group ≡ group }
     ensures hard { result.node.hard ≡ hard }
+    ensures required { result.node.required ≡ required }
     ensures hidden { result.node.hidden.items ≡ mentioned.hidden.items }
 {
     let Mentioned {
@@ -110,15 +164,17 @@ fn gathered(
         nodes,
         hidden,
     } = mentioned;
-    let (stem, rule) = stem_and_rule(source);
+    let recipe = own_or(own, rule_or(&source, left));
     Found {
         prerequisites: listed_nodes(judged, nodes),
         node: Known {
             stamp,
-            stem,
+            stem: stem_of(source),
             implied,
-            recipe: own_or(own, rule),
+            recipe,
+            group,
             hard,
+            required,
             hidden,
         },
     }
@@ -140,24 +196,21 @@ fn with_order_only(
     Ok(names.into_list())
 }
 
-/// What is found of a name, with its order-only prerequisites, which the lines of these numbers have.
+/// What is found of a name, with its order-only prerequisites.
 fn completed(
     alloc: Global,
-    rules: &Rules,
-    numbers: &[usize],
     found: Found<Known>,
+    order_only: &ByteStrings,
 ) -> Result<Found<Known>, AllocError>
     ensures node { IfOk result (λ with. with.node ≡ found.node) }
-    ensures prerequisites { IfOk result (λ with. (name : List ℕ) → numbers.now ≡ numbers_of rules.now.lines.now name
-        → with.prerequisites ≡ all_added found.prerequisites (order_only_of rules.now.lines.now name)) }
+    ensures prerequisites { IfOk result (λ with. with.prerequisites ≡ all_added found.prerequisites order_only.now) }
 {
-    let order_only = rules.order_only(alloc, numbers)?;
     let Found {
         prerequisites,
         node,
     } = found;
     Ok(Found {
-        prerequisites: with_order_only(alloc, prerequisites, &order_only)?,
+        prerequisites: with_order_only(alloc, prerequisites, order_only)?,
         node,
     })
 }
@@ -174,16 +227,22 @@ fn look_up<T: Tree>(
     ensures node { IfOk result (λ found. (times : List ℕ → Option ℤ) → T.allows tree.new times
         → IsKnown (inputs_of rules.now.lines.now (map.get rules.now.state.now) times) name.now found.node) }
     ensures looks { Looks (T.allows tree.old) (T.allows tree.new) (T.refuses tree.old) (T.refuses tree.new) (T.asked tree.old) (T.asked tree.new) }
-    ensures fault { IfErr result (IsLookUpFault rules.now.targets.now (T.allows tree.new) (T.refuses tree.new) rules.now.forms.now
-        (is_phony rules.now.lines.now name.now) (own_recipes rules.now.lines.now name.now) (hidden_in (map.get rules.now.state.now name.now)) name.now) }
+    ensures fault { IfErr result (IsLookUpFault rules.now.targets.now (T.allows tree.new) (T.refuses tree.new) rules.now.forms.now rules.now.steps
+        rules.now.lines.now (map.get rules.now.state.now) name.now) }
 {
     let (numbers, own) = rules.named(name);
     let phony = rules.is_phony(numbers);
     let stamp = seen_stamp(alloc, tree, name, phony)?;
     let source = implicit_source(alloc, rules, tree, name, own, phony)?;
+    let group = group_of(alloc, rules, tree, stamp, &source)?;
+    let left = rules.left_recipe(name, numbers, stamp);
     let (mentioned, hard, implied) = mentioned_of(alloc, rules, tree, name, numbers, &source)?;
-    let found = gathered(stamp, source, own, mentioned, hard, implied);
-    Ok(completed(alloc, rules, numbers, found)?)
+    let order_only = order_only_of(alloc, rules, numbers, &source)?;
+    let required = required_names(alloc, &mentioned, hard, &order_only)?;
+    let found = gathered(
+        stamp, source, own, left, mentioned, hard, implied, group, required,
+    );
+    Ok(completed(alloc, found, &order_only)?)
 }
 
 /// Looks names up in the rules, the state and a tree.
@@ -211,8 +270,8 @@ impl<'m, 't, T: Tree> Dependencies for Finder<'m, 't, T> {
     ghost describes = { λ f name known. (times : List ℕ → Option ℤ) → T.allows f.tree.now times
         → IsKnown (inputs_of f.rules.lines.now (map.get f.rules.state.now) times) name known };
 
-    ghost refuses = { λ f name fault. IsLookUpFault f.rules.targets.now (T.allows f.tree.now) (T.refuses f.tree.now) f.rules.forms.now
-        (is_phony f.rules.lines.now name) (own_recipes f.rules.lines.now name) (hidden_in (map.get f.rules.state.now name)) name fault };
+    ghost refuses = { λ f name fault. IsLookUpFault f.rules.targets.now (T.allows f.tree.now) (T.refuses f.tree.now) f.rules.forms.now f.rules.steps
+        f.rules.lines.now (map.get f.rules.state.now) name fault };
 
     ghost follows = { λ f _ g. (g.rules ≡ f.rules) × (g.tree.ghost_name ≡ f.tree.ghost_name)
         × Looks (T.allows f.tree.now) (T.allows g.tree.now) (T.refuses f.tree.now) (T.refuses g.tree.now) (T.asked f.tree.now) (T.asked g.tree.now) };

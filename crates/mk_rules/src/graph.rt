@@ -1,6 +1,6 @@
 //! The graph of a makefile's names: what each is made from, and what the state and the files say of it.
 ghost use Rattle.std.proofs.Props.{props};
-ghost use Rattle.std.specs.Prelude.{◌≡◌, ℕ, List, ◌<◌, length, option_copied, slice_index, slice_get, is_some, unwrap_or, IsTrue, IfSome};
+ghost use Rattle.std.specs.Prelude.{◌≡◌, ℕ, List, ◌<◌, drop, length, option_copied, slice_index, slice_get, is_some, unwrap_or, IsTrue, IfSome};
 ghost use Rattle.std.specs.List.Sorted.{IsStrictlyIncreasing};
 ghost use Rattle.mk_graph.specs.Edges.{row, is_closed};
 ghost use Rattle.mk_macros.specs.Ranks.{defined_by};
@@ -10,12 +10,14 @@ ghost use Rattle.mk_rule_lines.specs.Rules.{suffixes_of};
 ghost use Rattle.mk_rule_lines.specs.Table.{named_at};
 ghost use Rattle.mk_rules.specs.Node.{EachHasOneNumber, source_in, explicit_in, implied_in};
 
-use crate::rows::front;
+use crate::group::Group;
+use crate::rows::{behind, front};
 use byte_strings::{ByteString, ByteStrings};
 use mk_graph::{Edges, Names};
 use mk_macros::Macros;
 use mk_rule_lines::{RuleLine, Settings, TargetTable};
 use st_state::State;
+use std::boxed::Box;
 
 /// A name of the graph.
 #[derive(Drop)]
@@ -28,6 +30,8 @@ pub struct Node {
     pub implied: usize,
     /// The number of the rule line whose recipe makes it.
     pub recipe: Option<usize>,
+    /// What that recipe makes beside it, where it is that of an implicit rule and makes more.
+    pub group: Option<Box<Group>>,
     /// The hidden prerequisites that aren't hard ones, in the order in which they were recorded: the number of a node, or
     /// None where there is neither a file nor a rule.
     pub hidden: Vec<Option<usize>>,
@@ -111,6 +115,14 @@ impl Graph {
             Some(required) => required,
             None => &self.hard,
         }
+    }
+
+    /// The order-only prerequisites of a node that are no hard ones, each once.
+    pub fn order_only(&self, node: usize) -> &[usize]
+        requires { node < length self.now.nodes.items }
+        ensures { result.now ≡ drop (length (row self.now.hard node)) (row (unwrap_or self.now.required self.now.hard) node) }
+    {
+        behind(self.required_edges().row(node), self.hard.row(node).len())
     }
 
     /// The prerequisites of a node by name, each once, without its source: what is recorded of it.

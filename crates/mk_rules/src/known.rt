@@ -1,5 +1,7 @@
 //! What is found of a name while names are numbered.
-use byte_strings::ByteString;
+use crate::group::Group;
+use byte_strings::{ByteString, ByteStrings};
+use std::boxed::Box;
 
 /// What the rules and the files say of a name.
 #[derive(Drop)]
@@ -9,8 +11,12 @@ pub(crate) struct Known {
     /// How many of the hard prerequisites an implicit rule gives: those that come first.
     pub implied: usize,
     pub recipe: Option<usize>,
+    /// What the recipe of an implicit rule makes beside it, where it makes more.
+    pub group: Option<Box<Group>>,
     /// How many of its prerequisites are hard: those that come first.
     pub hard: usize,
+    /// What it can't be made without: the hard prerequisites and the order-only ones; None where there are none of these.
+    pub required: Option<Box<ByteStrings>>,
     /// Of each hidden prerequisite that isn't a hard one, in their order, whether it is a node.
     pub hidden: Vec<bool>,
 }

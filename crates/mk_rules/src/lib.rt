@@ -2,11 +2,16 @@
 #![tactic(auto)]
 
 mod building;
+mod chain;
 mod distinct_names;
 mod finder;
 mod graph;
+mod group;
 mod known;
+mod laws;
+mod left_over;
 mod limit;
+mod listed;
 mod look;
 mod lookup;
 mod mentioned;
@@ -16,6 +21,7 @@ mod removing;
 mod required;
 mod rows;
 mod rules;
+mod several;
 mod soft;
 mod source;
 mod tree;
@@ -24,6 +30,8 @@ mod waits;
 
 pub use building::build;
 pub use graph::{Graph, Node};
+pub use group::Group;
+pub use laws::further_targets_follow_the_run;
 pub use limit::{MAX_NODES, MAX_WIDE_NODES, node_limit};
 pub use source::source_of;
 pub use tree::{Tree, TreeFault};

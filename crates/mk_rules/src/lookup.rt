@@ -1,11 +1,12 @@
 //! What is found of a name: what makes it, and what it is made from.
-ghost use Rattle.std.specs.Prelude.{◌≡◌, ◌⊎◌, ℕ, ℤ, List, Option, None, [], false, option_to_list, IfOk, IfErr, OnOk, IsOk, IsErr, if◌then◌else◌};
+ghost use Rattle.std.specs.Prelude.{◌≡◌, ◌⊎◌, ℕ, ℤ, List, Option, None, [], false, nat_lt, option_to_list, IfOk, IfErr, OnOk, IsOk, IsErr, if◌then◌else◌};
 ghost use Rattle.std.specs.FinMap as map;
+ghost use Rattle.std.specs.List.{list_all};
 ghost use Rattle.std.specs.Str.{is_utf8};
 ghost use Rattle.mk_rule_lines.specs.Explicit.{is_phony};
-ghost use Rattle.mk_rules.specs.Prerequisites.{inputs_of, is_node, implicit_source, own_recipes, prerequisites_of};
+ghost use Rattle.mk_rules.specs.Prerequisites.{inputs_of, is_node, found_source, own_recipes, prerequisites_of};
 ghost use Rattle.mk_rules.specs.Looks.{IsLookFault, Looks};
-ghost use Rattle.mk_rules.specs.Source.{IsSourceFault};
+ghost use Rattle.mk_rules.specs.Search.{IsSearchFault};
 ghost use Rattle.mk_rules.specs.Hidden.{HasHidden, IsNamesFault, nodes_in};
 
 use crate::look::stamp_of;
@@ -18,9 +19,20 @@ use mk_rule_lines::{RuleFault, Source};
 use std::alloc::Global;
 use std::str;
 
+/// Whether all are ASCII, as most names are: told faster than what a text of other bytes is.
+fn is_plain(bytes: &[u8]) -> bool
+    ensures { result ≡ list_all (λ b. nat_lt b 128) bytes.now }
+{
+    bytes.iter().all(|byte| *byte < 128)
+}
+
+#[tactic(auto, using(crate::proofs::AsciiLemmas::plain_is_text))]
 fn is_utf8(bytes: &[u8]) -> bool
     ensures { result ≡ is_utf8 bytes.now }
 {
+    if is_plain(bytes) {
+        return true;
+    }
     match str::from_utf8(bytes) {
         Ok(_) => true,
         Err(_) => false,
@@ -66,9 +78,9 @@ pub(crate) fn seen_stamp<T: Tree>(
     stamp_of(alloc, tree, name)
 }
 
-/// What an implicit rule makes the name from, where it isn't phony and no line has a recipe for it: `own` is the number of the
+/// What the search for a source of the name finds, where it isn't phony and no line has a recipe for it: `own` is the number of the
 /// line that has.
-pub(crate) fn implicit_source<T: Tree>(
+pub(crate) fn found_source<T: Tree>(
     alloc: Global,
     rules: &Rules,
     tree: &mut T,
@@ -79,9 +91,9 @@ pub(crate) fn implicit_source<T: Tree>(
     requires own { option_to_list own ≡ own_recipes rules.now.lines.now name.now }
     requires phony { phony ≡ is_phony rules.now.lines.now name.now }
     ensures source { IfOk result (λ found. (times : List ℕ → Option ℤ) → T.allows tree.new times
-        → found ≡ implicit_source (inputs_of rules.now.lines.now (map.get rules.now.state.now) times) name.now) }
+        → found ≡ found_source (inputs_of rules.now.lines.now (map.get rules.now.state.now) times) name.now) }
     ensures looks { Looks (T.allows tree.old) (T.allows tree.new) (T.refuses tree.old) (T.refuses tree.new) (T.asked tree.old) (T.asked tree.new) }
-    ensures fault { IfErr result (IsSourceFault rules.now.targets.now (T.allows tree.new) (T.refuses tree.new) rules.now.forms.now name.now) }
+    ensures fault { IfErr result (IsSearchFault rules.now.targets.now (T.allows tree.new) (T.refuses tree.new) rules.now.forms.now rules.now.steps name.now) }
     // Of a phony name, and beside a recipe of its own, no source is looked for.
     ensures unasked { ((is_phony rules.now.lines.now name.now ≡ false) × (own_recipes rules.now.lines.now name.now ≡ []))
         ⊎ ((tree.new ≡ tree.old) × IsOk result) }

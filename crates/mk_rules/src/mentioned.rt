@@ -1,8 +1,8 @@
 //! The prerequisites of a name, each once.
-ghost use Rattle.std.specs.Prelude.{◌≡◌, ◌++◌, ◌∷◌, ◌||◌, [], length, not, is_some, option_map, true, unwrap_or, IfOk, OnOk, if◌then◌else◌};
+ghost use Rattle.std.specs.Prelude.{◌≡◌, ◌++◌, ◌∷◌, ◌||◌, [], length, take, not, is_some, slice_get, option_map, option_to_list, true, unwrap_or, IfOk, OnOk, if◌then◌else◌};
 ghost use Rattle.mk_graph.specs.Numbering.{has_name, added, all_added};
 ghost use Rattle.mk_rules.specs.Hidden.{nodes_in};
-ghost use Rattle.mk_rules.specs.Prerequisites.{made_from, distinct};
+ghost use Rattle.mk_rules.specs.Prerequisites.{made_names, made_from, distinct};
 
 use crate::distinct_names::DistinctNames;
 use byte_strings::ByteStrings;
@@ -34,6 +34,49 @@ pub(crate) fn mention_all(
     Ok(())
 }
 
+/// Mentions the name with this number, if there is one.
+fn mention_at(
+    alloc: Global,
+    names: &mut DistinctNames,
+    mentioned: &ByteStrings,
+    number: usize,
+) -> Result<(), AllocError>
+    ensures { OnOk result (names.new ≡ all_added names.old (option_to_list (slice_get mentioned.now number))) }
+{
+    if let Some(name) = mentioned.get(number) {
+        let _is_new = names.mention(alloc, name)?;
+    }
+    Ok(())
+}
+
+/// Mentions the first so many of these.
+fn mention_front(
+    alloc: Global,
+    names: &mut DistinctNames,
+    mentioned: &ByteStrings,
+    count: usize,
+) -> Result<(), AllocError>
+    ensures { OnOk result (names.new ≡ all_added names.old (take count mentioned.now)) }
+{
+    for number in 0..count {
+        mention_at(alloc, names, mentioned, number)?;
+    }
+    Ok(())
+}
+
+/// Mentions what a name with this source is made from.
+fn mention_made(alloc: Global, names: &mut DistinctNames, source: &Source) -> Result<(), AllocError>
+    ensures { OnOk result (names.new ≡ all_added names.old (made_names source.now)) }
+{
+    match &source.leader {
+        Some(leader) => {
+            let _is_new = names.mention(alloc, leader.as_slice())?;
+            Ok(())
+        }
+        None => mention_front(alloc, names, &source.names, source.ordinary),
+    }
+}
+
 /// Mentions what an implicit rule makes a name from.
 fn mention_source(
     alloc: Global,
@@ -43,7 +86,7 @@ fn mention_source(
     ensures { OnOk result (names.new ≡ all_added names.old (made_from source.now)) }
 {
     match source {
-        Some(source) => mention_all(alloc, names, &source.names),
+        Some(source) => mention_made(alloc, names, source),
         None => Ok(()),
     }
 }
@@ -60,23 +103,33 @@ fn hard_names(
     if source.is_none() && explicit.len() < 2 {
         return Ok(DistinctNames::of_list(alloc, explicit));
     }
-    let mut names = DistinctNames::new(alloc);
+    let mut names = DistinctNames::with_room(alloc, &explicit)?;
     mention_source(alloc, &mut names, source)?;
     mention_all(alloc, &mut names, &explicit)?;
     Ok(names)
 }
 
-/// How many names these are, each once.
-fn distinct_count(alloc: Global, names: &ByteStrings) -> Result<usize, AllocError>
-    ensures { IfOk result (λ count. count ≡ length (distinct names.now)) }
+/// How many names the first so many are, each once.
+fn distinct_count(alloc: Global, names: &ByteStrings, count: usize) -> Result<usize, AllocError>
+    ensures { IfOk result (λ found. found ≡ length (distinct (take count names.now))) }
 {
-    let count = names.len();
-    if count < 2 {
+    // Less than two are as many, which takes no memory.
+    if count <= names.len() && count < 2 {
         return Ok(count);
     }
     let mut mentioned = DistinctNames::new(alloc);
-    mention_all(alloc, &mut mentioned, names)?;
+    mention_front(alloc, &mut mentioned, names, count)?;
     Ok(mentioned.len())
+}
+
+/// How many names a name with this source is made from.
+fn made_count(alloc: Global, source: &Source) -> Result<usize, AllocError>
+    ensures { IfOk result (λ count. count ≡ length (distinct (made_names source.now))) }
+{
+    match source.leader {
+        Some(_) => Ok(1),
+        None => distinct_count(alloc, &source.names, source.ordinary),
+    }
 }
 
 /// How many names an implicit rule gives.
@@ -84,7 +137,7 @@ pub(crate) fn implied_count(alloc: Global, source: &Option<Source>) -> Result<us
     ensures { IfOk result (λ count. count ≡ length (distinct (made_from source.now))) }
 {
     match source {
-        Some(source) => distinct_count(alloc, &source.names),
+        Some(source) => made_count(alloc, source),
         None => Ok(0),
     }
 }

@@ -17,14 +17,17 @@ fn node_of(alloc: Global, known: Known, row: &[usize]) -> Result<Node, AllocErro
         stem,
         implied,
         recipe,
+        group,
         hard,
         hidden,
+        ..
     } = known;
     Ok(Node {
         stamp,
         stem,
         implied,
         recipe,
+        group,
         hidden: hidden_numbers(alloc, &hidden, behind(row, hard))?,
     })
 }

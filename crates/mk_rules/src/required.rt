@@ -1,33 +1,29 @@
 //! What each node isn't made without: its hard prerequisites, and its order-only ones.
 ghost use Rattle.std.specs.Prelude.{◌≡◌, ◌<◌, ◌||◌, ℕ, List, length, map, filter, nat_lt, true, unwrap_or, IfOk, OnOk, IsTrue};
-ghost use Rattle.std.specs.List.{IsDistinct, list_any, list_all};
-ghost use Rattle.std.specs.Str.{bytes_eq};
-ghost use Rattle.mk_graph.specs.Edges.{row, is_closed, has as has_number};
-ghost use Rattle.mk_graph.specs.Numbering.{has_name, name_at};
-ghost use Rattle.mk_rule_lines.specs.Rules.{suffixes_of};
+ghost use Rattle.std.specs.List.{list_any, list_all};
+ghost use Rattle.mk_graph.specs.Edges.{row, is_closed};
+ghost use Rattle.mk_graph.specs.Numbering.{AreDescribed, has_name, name_at};
 ghost use Rattle.mk_rules.specs.Graph.{AreHard, AreRequired};
-ghost use Rattle.mk_rules.specs.Prerequisites.{Inputs};
-ghost use Rattle.mk_rules.specs.Required.{has_bar, groups_in, line_requires};
+ghost use Rattle.mk_rules.specs.Known.{IsKnown};
+ghost use Rattle.mk_rules.specs.Prerequisites.{Inputs, prerequisites_of};
+ghost use Rattle.mk_rules.specs.Required.{has_others, names_in_row, IsRequiredRow};
+ghost use Rattle.mk_rules.specs.Rows.{EachRow};
 
-use crate::waits::add_groups;
+use crate::known::Known;
 use byte_strings::ByteStrings;
 use mk_graph::{Edges, Names};
-use mk_rule_lines::{RuleLine, is_bar, order_only_in};
 use std::alloc::{AllocError, Global};
 
-/// Whether a bar stands in the line.
-fn has_bar(line: &RuleLine) -> bool
-    ensures { result ≡ has_bar line.now }
+fn has_others(known: &Known) -> bool
+    ensures { result ≡ has_others known.now }
 {
-    line.prerequisites
-        .iter()
-        .any(|word| is_bar(line.profile, word))
+    known.required.is_some()
 }
 
-fn any_has_bar(lines: &[RuleLine]) -> bool
-    ensures { result ≡ list_any has_bar lines.now }
+fn any_has_others(known: &[Known]) -> bool
+    ensures { result ≡ list_any has_others known.now }
 {
-    lines.iter().any(|line| has_bar(line))
+    known.iter().any(|found| has_others(found))
 }
 
 /// The numbers of these names. A name without a number is passed over.
@@ -44,104 +40,63 @@ fn numbers_of(alloc: Global, names: &Names, listed: &ByteStrings) -> Result<Vec<
     Ok(numbers)
 }
 
-/// The order-only prerequisites of a line and the targets that it makes by name, by number.
-fn line_groups(
+/// The numbers of the names that are listed of a node, or its hard prerequisites where none are listed.
+fn required_row(
     alloc: Global,
+    hard: &[usize],
     names: &Names,
-    suffixes: &ByteStrings,
-    line: &RuleLine,
-) -> Result<Vec<Vec<usize>>, AllocError>
-    ensures groups { IfOk result (λ groups. map (map (name_at names.now)) (map (λ g. g.items) groups.items)
-        ≡ map (filter (has_name names.now)) (groups_in suffixes.now line.now)) }
-    ensures nodes { IfOk result (λ groups. list_all (λ g. list_all (λ n. nat_lt n (length names.now)) g.items) groups.items ≡ true) }
+    found: &Known,
+) -> Result<Vec<usize>, AllocError>
+    requires { list_all (λ n. nat_lt n (length names.now)) hard.now ≡ true }
+    ensures names { IfOk result (λ numbers. map (name_at names.now) numbers.items ≡ names_in_row names.now found.now hard.now) }
+    ensures nodes { IfOk result (λ numbers. list_all (λ n. nat_lt n (length names.now)) numbers.items ≡ true) }
 {
-    let order_only = order_only_in(alloc, line)?;
-    let targets = line.targets_by(alloc, suffixes, false)?;
-    let mut groups = Vec::new(alloc);
-    groups.push(numbers_of(alloc, names, &order_only)?)?;
-    groups.push(numbers_of(alloc, names, &targets)?)?;
-    Ok(groups)
+    match &found.required {
+        Some(listed) => numbers_of(alloc, names, listed),
+        None => Vec::from_slice(alloc, hard),
+    }
 }
 
-/// Adds what a line says of order-only prerequisites.
-fn add_line_required(
+/// What each node isn't made without, by number.
+fn required_rows(
     alloc: Global,
-    rows: &mut Vec<Vec<usize>>,
+    hard: &Edges,
     names: &Names,
-    suffixes: &ByteStrings,
-    line: &RuleLine,
-) -> Result<(), AllocError>
-    requires nodes { length rows.old.items ≡ length names.now }
-    requires names { IsDistinct bytes_eq names.now }
-    ensures nodes { OnOk result (length rows.new.items ≡ length rows.old.items) }
-    ensures members { OnOk result ((n m : ℕ) → n < length names.now → m < length names.now
-        → has_number (row (map (λ r. r.items) rows.new.items) n) m
-        ≡ (has_number (row (map (λ r. r.items) rows.old.items) n) m
-        || line_requires suffixes.now (name_at names.now m) (name_at names.now n) line.now)) }
-    ensures closed { OnOk result (is_closed (map (λ r. r.items) rows.old.items) ≡ true → is_closed (map (λ r. r.items) rows.new.items) ≡ true) }
+    known: &[Known],
+) -> Result<Edges, AllocError>
+    requires nodes { length hard.now ≡ length names.now }
+    requires known { length known.now ≡ length names.now }
+    requires closed { IsTrue (is_closed hard.now) }
+    ensures count { IfOk result (λ required. length required ≡ length names.now) }
+    ensures rows { IfOk result (EachRow (IsRequiredRow names.now hard.now known.now)) }
+    ensures closed { IfOk result (λ required. IsTrue (is_closed required)) }
 {
-    if !has_bar(line) {
-        return Ok(());
+    let mut required = Edges::with_capacity(alloc, known.len())?;
+    for (node, found) in known.iter().enumerate() {
+        let numbers = required_row(alloc, hard.row(node), names, found)?;
+        required.push_row(&numbers)?;
     }
-    let groups = line_groups(alloc, names, suffixes, line)?;
-    add_groups(alloc, rows, names, &groups)
+    Ok(required)
 }
 
-/// Adds what all lines say of order-only prerequisites.
-fn add_all_required(
-    alloc: Global,
-    rows: &mut Vec<Vec<usize>>,
-    names: &Names,
-    suffixes: &ByteStrings,
-    lines: &[RuleLine],
-) -> Result<(), AllocError>
-    requires nodes { length rows.old.items ≡ length names.now }
-    requires names { IsDistinct bytes_eq names.now }
-    ensures nodes { OnOk result (length rows.new.items ≡ length rows.old.items) }
-    ensures members { OnOk result ((n m : ℕ) → n < length names.now → m < length names.now
-        → has_number (row (map (λ r. r.items) rows.new.items) n) m
-        ≡ (has_number (row (map (λ r. r.items) rows.old.items) n) m
-        || list_any (line_requires suffixes.now (name_at names.now m) (name_at names.now n)) lines.now)) }
-    ensures closed { OnOk result (is_closed (map (λ r. r.items) rows.old.items) ≡ true → is_closed (map (λ r. r.items) rows.new.items) ≡ true) }
-{
-    for line in lines {
-        add_line_required(alloc, rows, names, suffixes, line)?;
-    }
-    Ok(())
-}
-
-/// The rows of these edges, to be added to.
-fn rows_of(alloc: Global, edges: &Edges) -> Result<Vec<Vec<usize>>, AllocError>
-    ensures { IfOk result (λ rows. map (λ r. r.items) rows.items ≡ edges.now) }
-{
-    let mut rows = Vec::with_capacity(alloc, edges.len())?;
-    for node in 0..edges.len() {
-        rows.push(Vec::from_slice(alloc, edges.row(node))?)?;
-    }
-    Ok(rows)
-}
-
-/// What each node isn't made without, where some line has order-only prerequisites: these and the hard ones.
+/// What each node isn't made without, where some name has order-only prerequisites: these and the hard ones.
 pub(crate) fn required_edges(
     alloc: Global,
     hard: &Edges,
     names: &Names,
-    suffixes: &ByteStrings,
-    lines: &[RuleLine],
+    known: &[Known],
 ) -> Result<Option<Edges>, AllocError>
     requires nodes { length hard.now ≡ length names.now }
+    requires known { length known.now ≡ length names.now }
     requires closed { IsTrue (is_closed hard.now) }
-    requires names { IsDistinct bytes_eq names.now }
-    requires suffixes { suffixes.now ≡ suffixes_of lines.now }
     ensures count { IfOk result (λ required. length (unwrap_or required hard.now) ≡ length names.now) }
     ensures closed { IfOk result (λ required. IsTrue (is_closed (unwrap_or required hard.now))) }
-    ensures required { IfOk result (λ required. (inputs : Inputs) → inputs.lines ≡ lines.now → AreHard inputs names.now hard.now
+    ensures required { IfOk result (λ required. (inputs : Inputs) → AreDescribed (IsKnown inputs) names.now known.now → AreHard inputs names.now hard.now
+        → ((n : ℕ) → n < length names.now → list_all (has_name names.now) (prerequisites_of inputs (name_at names.now n)) ≡ true)
         → AreRequired inputs names.now (unwrap_or required hard.now)) }
 {
-    if !any_has_bar(lines) {
+    if !any_has_others(known) {
         return Ok(None);
     }
-    let mut rows = rows_of(alloc, hard)?;
-    add_all_required(alloc, &mut rows, names, suffixes, lines)?;
-    Ok(Some(Edges::of_rows(alloc, &rows)?))
+    Ok(Some(required_rows(alloc, hard, names, known)?))
 }

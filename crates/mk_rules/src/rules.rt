@@ -3,16 +3,22 @@ ghost use Rattle.std.specs.Prelude.{◌≡◌, ℕ, ℤ, List, Option, false, op
 ghost use Rattle.std.specs.FinMap as map;
 ghost use Rattle.std.specs.Option.{option_copied};
 ghost use Rattle.mk_rule_lines.specs.Rules.{has, suffixes_of, targets_by, places, recipe_places};
-ghost use Rattle.mk_rules.specs.Source.{IsSourceFault};
+ghost use Rattle.mk_rules.specs.Chain.{steps_of};
+ghost use Rattle.mk_rules.specs.Search.{IsSearchFault};
 ghost use Rattle.mk_rules.specs.Looks.{Looks};
 ghost use Rattle.mk_rule_lines.specs.Table.{is_there, named_at};
+ghost use Rattle.mk_rule_lines.specs.Doubles.{first_double};
+ghost use Rattle.mk_rule_lines.specs.Explicit.{numbers_of};
 ghost use Rattle.mk_rule_lines.specs.Forms.{forms_of};
+ghost use Rattle.mk_rules.specs.Prerequisites.{any_or};
 
-use crate::source::source_of;
+use crate::chain::{Makers, source_in};
+use crate::left_over::{default_of, is_left};
 use crate::tree::Tree;
 use byte_strings::ByteStrings;
 use mk_rule_lines::{
-    Form, RuleFault, RuleLine, Source, TargetTable, explicit_of, is_phony, order_only_of,
+    Form, RuleFault, RuleLine, Source, TargetTable, explicit_of, first_double, is_phony,
+    order_only_of,
 };
 use st_records::Entry;
 use st_state::State;
@@ -25,24 +31,39 @@ pub(crate) struct Rules<'m> {
     pub targets: &'m TargetTable,
     pub forms: &'m [Form],
     pub state: &'m State,
+    /// How many rules a chain may have before its last one.
+    pub steps: usize,
     pub ghost named: { (name : List ℕ) → (named_at targets.now name).lines
         ≡ places (λ l. has name (targets_by false (suffixes_of lines.now) l)) 0 lines.now },
     pub ghost recipes: { (name : List ℕ) → option_to_list (named_at targets.now name).recipe
         ≡ recipe_places (targets_by false (suffixes_of lines.now)) 0 lines.now name },
     pub ghost all_forms: { forms.now ≡ forms_of (suffixes_of lines.now) lines.now },
+    pub ghost few: { steps ≡ steps_of lines.now },
+}
+
+/// The number of this line, or else of the first one with `::` that has a recipe.
+fn own_or_first(lines: &[RuleLine], numbers: &[usize], recipe: Option<usize>) -> Option<usize>
+    ensures { (name : List ℕ) → numbers.now ≡ numbers_of lines.now name
+        → option_to_list result ≡ any_or (option_to_list recipe) (first_double lines.now name) }
+{
+    match recipe {
+        Some(number) => Some(number),
+        None => first_double(lines, numbers),
+    }
 }
 
 impl<'m> Rules<'m> {
     ghost use Rattle.mk_rule_lines.specs.Explicit.{numbers_of, explicit_of, order_only_of, is_phony};
-    ghost use Rattle.mk_rules.specs.Prerequisites.{own_recipes, is_target};
-    ghost use Rattle.mk_rule_lines.specs.Source.{source_of};
+    ghost use Rattle.mk_rules.specs.Prerequisites.{Inputs, own_recipes, is_target, left_recipe};
+    ghost use Rattle.mk_rules.specs.Chain.{source_in};
 
-    /// The numbers of the lines that make the name, in order, and of the one that has its recipe.
+    /// The numbers of the lines that make the name, in order, and of the one that has its recipe, or the first of its lines with `::`.
     pub fn named(&self, name: &[u8]) -> (&[usize], Option<usize>)
         ensures lines { result.0.now ≡ numbers_of self.now.lines.now name.now }
         ensures recipe { option_to_list result.1 ≡ own_recipes self.now.lines.now name.now }
     {
-        self.targets.named(name)
+        let (numbers, recipe) = self.targets.named(name);
+        (numbers, own_or_first(self.lines, numbers, recipe))
     }
 
     /// Whether some line makes the name.
@@ -50,6 +71,18 @@ impl<'m> Rules<'m> {
         ensures { result ≡ is_target self.now.lines.now name.now }
     {
         self.targets.is_target(name)
+    }
+
+    /// The line whose recipe makes the name where no rule does, which the lines of these numbers make and which has this time.
+    pub fn left_recipe(&self, name: &[u8], numbers: &[usize], stamp: Option<i128>) -> Option<usize>
+        requires { numbers.now ≡ numbers_of self.now.lines.now name.now }
+        ensures { (inputs : Inputs) → inputs.lines ≡ self.now.lines.now → inputs.times name.now ≡ stamp
+            → inputs.entries name.now ≡ map.get self.now.state.now name.now → result ≡ left_recipe inputs name.now }
+    {
+        if !is_left(numbers, stamp, self.entry(name)) {
+            return None;
+        }
+        default_of(self.lines, self.targets)
     }
 
     /// The prerequisites by name of the name that the lines of these numbers make.
@@ -75,7 +108,7 @@ impl<'m> Rules<'m> {
         is_phony(self.lines, numbers)
     }
 
-    /// What an implicit rule makes the name from.
+    /// What implicit rules make the name from.
     pub fn source<T: Tree>(
         &self,
         alloc: Global,
@@ -83,11 +116,15 @@ impl<'m> Rules<'m> {
         name: &[u8],
     ) -> Result<Option<Source>, RuleFault>
         ensures source { IfOk result (λ found. (times : List ℕ → Option ℤ) → T.allows tree.new times
-            → found ≡ source_of (is_there self.now.targets.now times) self.now.forms.now name.now) }
+            → found ≡ source_in (is_there self.now.targets.now times) self.now.forms.now self.now.steps name.now) }
         ensures looks { Looks (T.allows tree.old) (T.allows tree.new) (T.refuses tree.old) (T.refuses tree.new) (T.asked tree.old) (T.asked tree.new) }
-        ensures fault { IfErr result (IsSourceFault self.now.targets.now (T.allows tree.new) (T.refuses tree.new) self.now.forms.now name.now) }
+        ensures fault { IfErr result (IsSearchFault self.now.targets.now (T.allows tree.new) (T.refuses tree.new) self.now.forms.now self.now.steps name.now) }
     {
-        source_of(alloc, self.targets, tree, self.forms, name)
+        let makers = Makers {
+            targets: self.targets,
+            forms: self.forms,
+        };
+        source_in(alloc, &makers, tree, self.steps, name)
     }
 
     /// What the state has of the name.

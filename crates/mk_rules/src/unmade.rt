@@ -1,7 +1,9 @@
 //! Names that have no file, and that nothing makes.
-ghost use Rattle.std.specs.Prelude.{◌≡◌, ◌<◌, ◌||◌, ℕ, List, length, is_some, IfOk, IfErr, IfSome, OnOk};
+ghost use Rattle.std.specs.Prelude.{◌≡◌, ◌<◌, ◌||◌, ℕ, List, length, codes, is_some, option_to_list, IfOk, IfErr, IfSome, OnOk};
 ghost use Rattle.mk_graph.specs.Edges.{has};
 ghost use Rattle.mk_graph.specs.Numbering.{AreDescribed, name_at};
+ghost use Rattle.mk_rule_lines.specs.Explicit.{explicit_targets};
+ghost use Rattle.mk_rule_lines.specs.Rules.{recipe_places};
 ghost use Rattle.mk_rule_lines.specs.Table.{is_named, named_at};
 ghost use Rattle.mk_rules.specs.Found.{HasItInItsRow, IsUnmadeFault};
 ghost use Rattle.mk_rules.specs.Graph.{AreMade};
@@ -9,6 +11,7 @@ ghost use Rattle.mk_rules.specs.Known.{IsKnown};
 ghost use Rattle.mk_rules.specs.Prerequisites.{Inputs, is_target};
 
 use crate::known::Known;
+use crate::left_over::default_of;
 use byte_strings::ByteString;
 use mk_graph::Numbered;
 use mk_profile::Profile;
@@ -75,6 +78,7 @@ pub(crate) fn check_made(
     numbered: &Numbered<Known>,
 ) -> Result<(), RuleFault>
     requires table { (name : List ℕ) → is_named (named_at targets.now name) ≡ is_target lines.now name }
+    requires recipes { option_to_list (named_at targets.now (codes ".DEFAULT")).recipe ≡ recipe_places (explicit_targets lines.now) 0 lines.now (codes ".DEFAULT") }
     requires count { length numbered.now.nodes.items ≡ length numbered.now.names }
     requires rows { length numbered.now.rows ≡ length numbered.now.names }
     ensures made { OnOk result ((inputs : Inputs) → inputs.lines ≡ lines.now
@@ -83,6 +87,10 @@ pub(crate) fn check_made(
         → AreDescribed (IsKnown inputs) numbered.now.names numbered.now.nodes.items
         → IsUnmadeFault inputs numbered.now.names numbered.now.rows fault) }
 {
+    let default = default_of(lines, targets);
+    if default.is_some() {
+        return Ok(());
+    }
     for (node, known) in numbered.nodes.iter().enumerate() {
         let name = numbered.names.name(node);
         if !is_made(targets, name, known) {

@@ -12,10 +12,12 @@ use mk_graph::{Names, add_waits};
 use mk_rule_lines::{LineWords, RuleLine, is_wait, words_by};
 use std::alloc::{AllocError, Global};
 
+/// Whether a `.WAIT` is among the words, which aren't cut where its second byte stands nowhere.
+#[tactic(auto, using(crate::proofs::WaitLemmas::no_wait))]
 fn any_wait(words: &LineWords) -> bool
     ensures { result ≡ list_any is_wait words.now }
 {
-    words.iter().any(|word| is_wait(word))
+    words.has_byte(b'W') && words.iter().any(|word| is_wait(word))
 }
 
 fn any_number(names: &Names, words: &ByteStrings) -> bool
@@ -49,7 +51,7 @@ fn number_groups(
 }
 
 /// Adds that the nodes of a group wait for those of the groups before it: the groups are told by name.
-pub(crate) fn add_groups(
+fn add_groups(
     alloc: Global,
     rows: &mut Vec<Vec<usize>>,
     names: &Names,

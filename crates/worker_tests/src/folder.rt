@@ -1,6 +1,7 @@
 //! A folder in memory, whose times and texts are told as they stand.
-ghost use Rattle.std.specs.Prelude.{◌≡◌, ℕ, List, [], find, bytes_eq, option_map, option_copied, refl};
+ghost use Rattle.std.specs.Prelude.{◌≡◌, ℕ, List, [], None, find, bytes_eq, option_map, option_copied, refl};
 
+use byte_strings::ByteStrings;
 use mk_eval::Includes;
 use mk_profile::Profile;
 use mk_reader::Statement;
@@ -62,7 +63,8 @@ impl Tree for Folder {
 impl Includes for Folder {
     ghost allows = { λ folder world.
         ((name : List ℕ) → world.files name ≡ option_map (λ file. file.2.now) (find (λ file. bytes_eq file.0.now name) folder.files.now))
-        × ((file : List ℕ) (line : ℕ) (command : List ℕ) → world.outputs file line command ≡ []) };
+        × ((file : List ℕ) (line : ℕ) (command : List ℕ) → world.outputs file line command ≡ [])
+        × ((folder : List ℕ) → world.folders folder ≡ None) };
 
     fn read(&mut self, alloc: Global, name: &[u8]) -> Result<Option<Vec<u8>>, AllocError> {
         self.reads = self.reads.saturating_add(1);
@@ -83,13 +85,19 @@ impl Includes for Folder {
         Ok(Vec::new(alloc))
     }
 
+    /// No folder can be read.
+    fn names(&mut self, _alloc: Global, _folder: &[u8]) -> Result<Option<ByteStrings>, AllocError> {
+        Ok(None)
+    }
+
     fn see(&mut self, _alloc: Global, _profile: Profile, _file: &[u8], _statements: &[Statement]) {}
 
     ghost possible = { λ folder. (
       record {
         files = λ name. option_map (λ file. file.2.now) (find (λ file. bytes_eq file.0.now name) folder.files.now);
         outputs = λ file line command. [];
+        folders = λ folder. None;
       },
-      (λ name. refl, λ file line command. refl),
+      (λ name. refl, λ file line command. refl, λ folder. refl),
     ) };
 }

@@ -126,8 +126,8 @@ evaluate_all-returns-in_err-given-in-Item-clause-items g t c = λ world allowed.
     let p = err_from_is_err_and c.from_residual.result c.from_residual.ensures.1 in
     let one = StatementItems world (IncludedItems world c.args.levels c.args.file.now) c.args.file.now in
     let told = fault_passed_on c.in_err-given-in-Item.field-0.0 (one here said) (InOrder behind one start c.args.statements.items)
-    c.in_err-given-in-Item.ensures.items
-    (λ fault h. reach_fault behind one start c.args.statements.items here now.items.items _ more said fault (now.invariant.gathered world allowed) at h) in
+    (c.in_err-given-in-Item.ensures.items world allowed)
+    (λ fault h. reach_fault behind one start c.args.statements.items here now.items.items _ more said fault (now.invariant.gathered world (c.evaluate_item.ensures.grows world allowed)) at h) in
     rw (p.1, p.2) told
 
 pub evaluate_all-loop-statement-preserved-in-Item : goal.evaluate_all-loop-statement-preserved-in-Item
@@ -146,11 +146,14 @@ evaluate_all-loop-statement-preserved-in-Item g t c =
       gathered = λ world allowed.
           let one = StatementItems world (IncludedItems world c.args.levels c.args.file.now) c.args.file.now in
           reach_more behind one start c.args.statements.items here next now.items.items _ front _ more said
-          (now.invariant.gathered world allowed) at
-          c.in_ok-given-in-Item.ensures.items c.in_ok-given-in-Item.ensures.defined c.in_ok-append-in-Item.ensures.items;
+          (now.invariant.gathered world (c.evaluate_item.ensures.grows world allowed)) at
+          (c.in_ok-given-in-Item.ensures.items world allowed) c.in_ok-given-in-Item.ensures.defined c.in_ok-append-in-Item.ensures.items;
       defined = behind_more start here next now.items.items _ front now.invariant.defined c.in_ok-given-in-Item.ensures.defined c.in_ok-append-in-Item.ensures.items;
-      grows = now.invariant.grows;
+      grows = λ world allowed. now.invariant.grows world (c.evaluate_item.ensures.grows world allowed);
     }
+
+pub evaluate_all-returns-in_err-given-in-Item-clause-grows : goal.evaluate_all-returns-in_err-given-in-Item-clause-grows
+evaluate_all-returns-in_err-given-in-Item-clause-grows g t c = λ world allowed. c.loop-statement.invariant.grows world (c.evaluate_item.ensures.grows world allowed)
 
 pub evaluate_all-returns-in_err-defined-in-Definition-clause-items : goal.evaluate_all-returns-in_err-defined-in-Definition-clause-items
 evaluate_all-returns-in_err-defined-in-Definition-clause-items g t c = λ world allowed.

@@ -9,7 +9,7 @@ returns c =
     (record {
       commands = c.in_ok-commands.ensures;
       explicit = c.in_ok-explicit.ensures;
-      stamp = c.stamp_of.ensures;
+      stamp = c.made_of.ensures;
       prerequisites = ap (map shown) c.deref.ensures.value ∙ c.in_ok-prerequisites.ensures;
       ordered = refl;
     })

@@ -1,7 +1,7 @@
 use Rattle.std.proofs.Common.{[], ap, ◌∙◌}
 use Rattle.std.specs.List.{list_any}
-use Rattle.mk_rule_lines.specs.Explicit.{explicit_targets, is_phony_at}
-use Rattle.mk_rule_lines.specs.Rules.{has, is_phony_list}
+use Rattle.mk_rule_lines.specs.Explicit.{explicit_targets, makes_phony, is_phony_at}
+use Rattle.mk_rule_lines.specs.Rules.{has}
 use Rattle.mk_rule_lines.proofs.ExplicitLemmas.{any-places}
 use Rattle.mk_rule_lines.proofs.explicit.is_phony.Goals as goal
 
@@ -9,4 +9,4 @@ pub returns : goal.returns
 returns c = λ name are.
     let lines = c.args.lines.now in
     c.any_is_phony.ensures ∙ ap (list_any (is_phony_at lines)) are
-    ∙ any-places (λ l. has name (explicit_targets lines l)) (λ l. is_phony_list l.special) [] lines
+    ∙ any-places (λ l. has name (explicit_targets lines l)) makes_phony [] lines

@@ -3,9 +3,8 @@ use Rattle.std.specs.FinMap as map
 use Rattle.mk_graph.specs.Numbering.{IsNumbering}
 use Rattle.mk_rules.specs.declared.known.Known.{Known}
 use Rattle.mk_rules.specs.Found.{AreFound, IsFindingFault}
-use Rattle.mk_rule_lines.specs.Explicit.{is_phony}
 use Rattle.mk_rules.specs.Known.{IsKnown, IsAllowed, IsLookUpFault}
-use Rattle.mk_rules.specs.Prerequisites.{Inputs, inputs_of, own_recipes, prerequisites_of, hidden_in}
+use Rattle.mk_rules.specs.Prerequisites.{Inputs, inputs_of, prerequisites_of}
 use Rattle.mk_rules.specs.declared.rules.Rules.{Rules}
 use Rattle.mk_rules.proofs.FoundLemmas.{described_at, finding_fault, too_many, of_source}
 use Rattle.mk_rules.proofs.building.found_names.Goals as goal
@@ -40,11 +39,11 @@ returns-in-Err-Source-clause-fault g c = λ times now.
     let inputs = inputs_of ends.lines.now (map.get ends.state.now) times in
     let e = c.in-Err-Source.ensures in
     let meets = of_source (IsAllowed (g.T.Tree.allows c.number.new.source.tree.now) ends.lines.now (map.get ends.state.now))
-    (λ name f. IsLookUpFault ends.targets.now (g.T.Tree.allows c.number.new.source.tree.now) (g.T.Tree.refuses c.number.new.source.tree.now) ends.forms.now (is_phony ends.lines.now name) (own_recipes ends.lines.now name) (hidden_in (map.get ends.state.now name)) name f)
+    (λ name f. IsLookUpFault ends.targets.now (g.T.Tree.allows c.number.new.source.tree.now) (g.T.Tree.refuses c.number.new.source.tree.now) ends.forms.now ends.steps ends.lines.now (map.get ends.state.now) name f)
     c.args.goals.now c.args.limit _ c.in-Err-Source.cause c.in-Err-Source.field-0-is e.fault in
     subst (λ (i : Inputs). IsFindingFault i (g.T.Tree.refuses c.number.new.source.tree.now) c.args.goals.now c.args.limit c.in-Err-Source.cause)
     (ap (λ (r : Rules). inputs_of r.lines.now (map.get r.state.now) times) (e.follows).0)
-    (finding_fault ends.lines.now ends.targets.now ends.named ends.forms.now ends.all_forms (map.get ends.state.now) (g.T.Tree.allows c.number.new.source.tree.now) times now
+    (finding_fault ends.lines.now ends.targets.now ends.named ends.forms.now ends.all_forms ends.steps ends.few (map.get ends.state.now) (g.T.Tree.allows c.number.new.source.tree.now) times now
     (g.T.Tree.refuses c.number.new.source.tree.now) c.args.goals.now c.args.limit meets.0 c.in-Err-Source.cause meets.1
     (λ names are. meets.2 (prerequisites_of inputs) (record { times = times; now = now; is = refl }) names are))
 

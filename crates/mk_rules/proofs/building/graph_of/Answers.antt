@@ -1,5 +1,8 @@
 use Rattle.std.proofs.Common.{◌≡◌, ℕ, List, sym, ap, subst, ◌∙◌}
+use Rattle.std.specs.Prelude.{codes}
 use Rattle.mk_rules.specs.Found.{AreFound, IsGraphlessFault}
+use Rattle.mk_rule_lines.specs.Explicit.{explicit_targets}
+use Rattle.mk_rule_lines.specs.Rules.{recipe_places}
 use Rattle.mk_rule_lines.specs.Goals.{goals_of}
 use Rattle.mk_rule_lines.specs.Taken.{AreTaken}
 use Rattle.mk_rule_lines.specs.declared.rule_line.RuleLine.{RuleLine}
@@ -15,6 +18,10 @@ pub check_made-requires-clause-table : goal.check_made-requires-clause-table
 check_made-requires-clause-table c = λ name.
     target_is c.args.makefile.lines.items c.args.makefile.targets c.args.makefile.table.named name
     ∙ ap (λ (ls : List RuleLine). is_target ls name) (sym c.deref.ensures.value)
+
+pub check_made-requires-clause-recipes : goal.check_made-requires-clause-recipes
+check_made-requires-clause-recipes c =
+    c.args.makefile.table.recipe (codes ".DEFAULT") ∙ ap (λ (ls : List RuleLine). recipe_places (explicit_targets ls) 0 ls (codes ".DEFAULT")) (sym c.deref.ensures.value)
 
 pub returns-in_err-check_made-clause-fault : goal.returns-in_err-check_made-clause-fault
 returns-in_err-check_made-clause-fault c =

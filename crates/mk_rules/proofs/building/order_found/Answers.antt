@@ -1,19 +1,33 @@
-use Rattle.std.proofs.Common.{◌≡◌, ℕ, List, length, sym, ap, subst, ◌∙◌}
+use Rattle.std.proofs.Common.{◌≡◌, ◌<◌, ℕ, true, nat_lt, List, length, sym, ap, subst, ◌∙◌}
 use Rattle.std.specs.Prelude.{unwrap_or}
+use Rattle.std.specs.List.{list_all}
 use Rattle.mk_graph.specs.Counted.{AreCounted}
 use Rattle.mk_graph.specs.Cycle.{HasCycle}
+use Rattle.mk_graph.specs.Edges.{row, is_closed}
+use Rattle.mk_graph.specs.Numbering.{AreDescribed, has_name, name_at}
+use Rattle.mk_graph.proofs.CycleLemmas.{closed_row}
 use Rattle.mk_graph.specs.declared.numbering.Numbered.{Numbered}
 use Rattle.mk_rule_lines.specs.Goals.{goals_of}
 use Rattle.mk_rules.specs.Found.{AreFound}
 use Rattle.mk_rules.specs.Graph.{AreHard, AreRequired, AreSoft}
-use Rattle.mk_rules.specs.Prerequisites.{Inputs}
+use Rattle.mk_rules.specs.Known.{IsKnown}
+use Rattle.mk_rules.specs.Prerequisites.{Inputs, prerequisites_of}
 use Rattle.mk_rules.specs.declared.known.Known.{Known}
 use Rattle.mk_rules.specs.Rows.{EachRow, IsHardRow}
 use Rattle.mk_rules.proofs.AssemblyLemmas.{assembled, cycle_fault}
-use Rattle.mk_rules.proofs.RowLaws.{are_hard}
+use Rattle.mk_rules.proofs.RowLaws.{are_hard, row_at}
+use Rattle.mk_rules.proofs.RequiredLemmas.{numbers_named}
 use Rattle.mk_rules.proofs.LookupLemmas.{ok_both}
 use Rattle.mk_rule_lines.proofs.ResultLemmas.{if_ok, if_err}
 use Rattle.mk_rules.proofs.building.order_found.Goals as goal
+
+-- each prerequisite of a name is a name
+inside : (inputs : Inputs) (named : List (List ℕ)) (n : Numbered Known) → AreFound inputs (goals_of inputs.lines named) n → length n.nodes.items ≡ length n.names →
+    length n.rows ≡ length n.names → is_closed n.rows ≡ true → (k : ℕ) → k < length n.names → list_all (has_name n.names) (prerequisites_of inputs (name_at n.names k)) ≡ true
+inside inputs named n found nodes count closed k within =
+    ap (list_all (has_name n.names)) (sym (row_at inputs n.names n.rows n.nodes.items found.rows_are found.known nodes k within))
+    ∙ numbers_named n.names (row n.rows k)
+    (ap (λ l. list_all (λ x. nat_lt x l) (row n.rows k)) (sym count) ∙ closed_row n.rows closed k (subst (λ l. k < l) (sym count) within))
 
 hard_are : (inputs : Inputs) (named : List (List ℕ)) (n : Numbered Known) → AreFound inputs (goals_of inputs.lines named) n → length n.nodes.items ≡ length n.names →
     (hard : List (List ℕ)) → length hard ≡ length n.names → EachRow (IsHardRow n.rows n.nodes.items) hard → AreHard inputs n.names hard
@@ -28,7 +42,8 @@ returns-clause-fault c =
     let hard = c.in_ok-hard.ensures in
     if_err c.ordered_by.result _ _
     (λ f meets inputs named are found. cycle_fault inputs named lines are n found c.requires.node_count (unwrap_or c.in_ok-required.required h)
-    (c.in_ok-required.ensures.required inputs are (hard_are inputs named n found c.requires.node_count h hard.count hard.rows)) f meets)
+    (c.in_ok-required.ensures.required inputs (subst (AreDescribed (IsKnown inputs) n.names) (sym c.deref.ensures.value) found.known) (hard_are inputs named n found c.requires.node_count h hard.count hard.rows)
+    (inside inputs named n found c.requires.node_count c.requires.row_count c.requires.closed)) f meets)
     c.ordered_by.ensures.fault
 
 pub returns-clause-graph : goal.returns-clause-graph
@@ -49,7 +64,8 @@ returns-clause-graph c =
     c.requires.taken
     (c.requires.made inputs are found.known)
     (subst (AreRequired inputs n.names) same
-    (c.in_ok-required.ensures.required inputs are (hard_are inputs named n found c.requires.node_count h hard.count hard.rows)))
+    (c.in_ok-required.ensures.required inputs (subst (AreDescribed (IsKnown inputs) n.names) (sym c.deref.ensures.value) found.known) (hard_are inputs named n found c.requires.node_count h hard.count hard.rows)
+    (inside inputs named n found c.requires.node_count c.requires.row_count c.requires.closed)))
     (subst (AreSoft inputs n.names) (sym is.1.1.0) (c.in_ok-soft.ensures.soft inputs are found.rows_are found.known))
     (subst (λ e. AreCounted e o.soft o.counted o.soft_dropped) same (subst (λ s. AreCounted edges s o.counted o.soft_dropped) (sym is.1.1.0) is.1.1.1.0))
     (subst (λ e. HasCycle e → ⊥) same is.1.1.1.1.0)

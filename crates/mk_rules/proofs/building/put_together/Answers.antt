@@ -1,4 +1,4 @@
-use Rattle.std.proofs.Common.{◌≡◌, sym, subst}
+use Rattle.std.proofs.Common.{sym, subst}
 use Rattle.mk_rules.specs.Node.{EachHasOneNumber}
 use Rattle.mk_rules.proofs.building.put_together.Goals as goal
 

@@ -1,6 +1,7 @@
 use Rattle.std.proofs.Common.{◌≡◌, ℕ, ℤ, List, Option, true, false, sym, ap, subst, ◌∙◌}
 use Rattle.std.specs.FinMap as map
 use Rattle.std.specs.Prelude.{option_to_list}
+use Rattle.mk_rules.specs.Chain.{steps_of}
 use Rattle.mk_rules.specs.Faults.{IsGraphFault}
 use Rattle.mk_rule_lines.specs.Forms.{forms_of}
 use Rattle.mk_rules.specs.Found.{AreFound, IsFindingFault}
@@ -62,6 +63,7 @@ invariant_of-rules g c =
       named = λ name. subst (λ (ls : List RuleLine). (named_at m.targets name).lines ≡ places (λ l. has name (targets_by false (suffixes_of ls) l)) 0 ls) read (m.table.named name);
       recipes = λ name. subst (λ (ls : List RuleLine). option_to_list (named_at m.targets name).recipe ≡ recipe_places (targets_by false (suffixes_of ls)) 0 ls name) read (m.table.recipe name);
       all_forms = subst (λ (ls : List RuleLine). c.deref-3.result.now ≡ forms_of (suffixes_of ls) ls) read (c.deref-3.ensures.value ∙ m.all_forms);
+      few = c.steps_of.ensures ∙ ap steps_of (c.deref-4.ensures.value ∙ sym c.deref-2.ensures.value);
     }
 
 pub returns-in_err-goals-clause-asked : goal.returns-in_err-goals-clause-asked

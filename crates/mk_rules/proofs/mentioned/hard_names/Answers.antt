@@ -18,5 +18,5 @@ pub returns : goal.returns
 returns c =
     c.in_ok-mention_all.ensures
     ∙ ap (λ ns. all_added ns c.args.explicit)
-    (c.in_ok-mention_source.ensures ∙ ap (λ ns. all_added ns (made_from c.args.source.now)) c.new-names.ensures)
+    (c.in_ok-mention_source.ensures ∙ ap (λ ns. all_added ns (made_from c.args.source.now)) c.in_ok-names.ensures)
     ∙ sym (all_added-append [] (made_from c.args.source.now) c.args.explicit)

@@ -1,4 +1,4 @@
-use Rattle.std.proofs.Common.{map, filter, true, length, nat_lt, ap, ◌∙◌}
+use Rattle.std.proofs.Common.{map, length, nat_lt, ap, ◌∙◌}
 use Rattle.std.specs.List.{list_all}
 use Rattle.std.proofs.lemmas.Result.{on_ok_weaker}
 use Rattle.mk_graph.specs.Numbering.{name_at}

@@ -2,6 +2,9 @@ use Rattle.std.proofs.Common.{◌≡◌, ◌∙◌, None, Some, sym, ap, option_
 use Rattle.mk_macros.specs.Dynamic.{dynamic_value}
 use Rattle.mk_macros.specs.Ranks.{ranks_at, in_force, meaning_from}
 use Rattle.mk_macros.specs.Lookup.{opened, shown_progress, progress_at}
+use Rattle.mk_macros.specs.Shown.{shown_use}
+use Rattle.std.proofs.lemmas.Result.{err_from_is_err_and}
+use Rattle.mk_macros.proofs.LookupLemmas.{value_fails}
 use Rattle.mk_macros.proofs.definitions.Macros.append_reference.Goals as goal
 
 pub returns-in_ok-from_slice-in-Some-Opened-clause-err : goal.returns-in_ok-from_slice-in-Some-Opened-clause-err
@@ -17,3 +20,10 @@ returns-in_ok-from_slice-in-Some-Opened-clause-err c =
         ap (λ o. meaning_from o (in_force (ranks_at c.args.self.now.texts c.args.name.now))) none ∙ ap (meaning_from None) (sym c.in-Some-definition.ensures.text),
       ),
     )
+
+pub returns-in_err-value-clause-err : goal.returns-in_err-value-clause-err
+returns-in_err-value-clause-err c =
+    let name = c.args.name.now in
+    let p = err_from_is_err_and c.from_residual.result c.from_residual.ensures.1 in
+    rw (p.1, p.2) (value_fails (progress_at c.args.progress.now name) (shown_use c.args.use_of.now) name c.args.made.now.items
+    (dynamic_value c.args.line.now name) (in_force (ranks_at c.args.self.now.texts name)) _ c.in_err-value.ensures.err)

@@ -1,0 +1,10 @@
+use Rattle.std.proofs.Common.{sym, ap, ◌∙◌}
+use Rattle.std.specs.List.{list_any}
+use Rattle.mk_rule_lines.proofs.WordByteLemmas.{has_byte, byte_in_words}
+use Rattle.mk_rule_lines.proofs.line_words.LineWords.has_byte.Goals as goal
+
+pub returns : goal.returns
+returns c =
+    let byte = c.args.byte in
+    c.contains.ensures.value ∙ ap (has_byte byte) c.deref.ensures.value ∙ sym (byte_in_words byte c.requires c.self.inside.text.items)
+    ∙ ap (list_any (has_byte byte)) c.self.view_is

@@ -1,0 +1,37 @@
+-- What the run of an implicit rule for a name makes beside it.
+use Rattle.std.specs.Prelude.{ℕ, ℤ, int_lt, List, [], ◌∷◌, map, Option, Some, None, if◌then◌else◌}
+use Rattle.std.specs.Option.{option_map_or}
+use Rattle.mk_rule_lines.specs.declared.form.Source.{Source}
+use Rattle.mk_rules.specs.Prerequisites.{Inputs, implicit_source}
+use Rattle.mk_rules.specs.declared.group.Group.{Group}
+
+-- the earlier of two times; none where one is missing
+abbrev pub earlier : (a b : Option ℤ) → Option ℤ
+earlier None b = None
+earlier (Some a) None = None
+earlier (Some a) (Some b) = if int_lt b a then Some b else Some a
+
+-- the earliest of these times; none where one is missing
+abbrev pub earliest : (first : Option ℤ) → (more : List (Option ℤ)) → Option ℤ
+earliest first [] = first
+earliest first (time ∷ more) = earliest (earlier first time) more
+
+abbrev pub others_in : Option Source → List (List ℕ)
+others_in source = option_map_or (λ s. s.others) source []
+
+-- what is made beside the name, and when all of it was: the earliest time of its files
+abbrev pub group_with : (times : List ℕ → Option ℤ) → (name : List ℕ) → (others : List (List ℕ)) → Option Group
+group_with times name [] = None
+group_with times name (other ∷ others) =
+    Some (record { made = earliest (times name) (map times (other ∷ others)); others = other ∷ others })
+
+abbrev pub group_of : Inputs → (name : List ℕ) → Option Group
+group_of inputs name = group_with inputs.times name (others_in (implicit_source inputs name))
+
+-- when what a recipe for the name makes was made: none where a file of it is missing (own: GNU make looks at the name that it comes to)
+abbrev pub made_time : Inputs → (name : List ℕ) → Option ℤ
+made_time inputs name = option_map_or (λ g. g.made) (group_of inputs name) (inputs.times name)
+
+-- what the recipe makes beside the name
+abbrev pub made_beside : Inputs → (name : List ℕ) → List (List ℕ)
+made_beside inputs name = option_map_or (λ g. g.others) (group_of inputs name) []

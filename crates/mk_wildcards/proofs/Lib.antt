@@ -1,0 +1,4 @@
+pub mod FitLemmas
+pub mod MemberLemmas
+pub mod OrderLemmas
+pub mod PatternLemmas
