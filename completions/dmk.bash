@@ -7,7 +7,7 @@ _dmk() {
         -f | -K) mapfile -t COMPREPLY < <(compgen -f -- "$word"); return ;;
     esac
     case $word in
-        -*) mapfile -t COMPREPLY < <(compgen -W '-C -e -f -K -r --posix -B -i -j -k -S -n -q -d -p -s -w --no-print-directory -h --help -V --version' -- "$word") ;;
+        -*) mapfile -t COMPREPLY < <(compgen -W '-C -e -f -K -r --posix -B -i -j -k -S --trust-files -n -q -d -p -s -w --no-print-directory -h --help -V --version' -- "$word") ;;
         *) mapfile -t COMPREPLY < <(compgen -W "$(_dmk_targets)" -- "$word"; compgen -f -- "$word") ;;
     esac
 }

@@ -107,6 +107,13 @@ fn with_running<'a>(
         "makes_all",
         "Make each target, whatever the files and the state say of it",
     );
+    let trusts_files = Arg::new(alloc, "trusts_files")
+        .long("trust-files")
+        .action(ArgAction::Count)
+        .help_heading(RUNNING)
+        .help(
+            "With --posix, once: where nothing is recorded take targets as they are whose files are up to date by their times",
+        );
     let workers = value(
         alloc,
         RUNNING,
@@ -119,7 +126,7 @@ fn with_running<'a>(
     .num_args(0..=1)
     .default_missing_value(processors)
     .default_value("2");
-    command.arg(makes_all)?.arg(workers)
+    command.arg(makes_all)?.arg(workers)?.arg(trusts_files)
 }
 
 fn with_failures(alloc: Global, command: Command<'_>) -> Result<Command<'_>, AllocError> {

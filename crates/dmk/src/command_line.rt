@@ -10,7 +10,7 @@ use bd_lists::Variable;
 use byte_strings::{ByteString, ByteStrings};
 use clap::ArgMatches;
 use clap::error::ErrorKind;
-use dmk_drive::{Makefiles, Options, Telling, value_of};
+use dmk_drive::{Makefiles, Mode, Options, Telling, value_of};
 use jb_flags::PROFILE;
 use mk_profile::Profile;
 use std::alloc::{AllocError, Global};
@@ -28,13 +28,15 @@ pub struct Asked {
     pub options: Options,
 }
 
-/// What the options don't say before the environment is known.
+/// What the words ask for beside the options, most of it before the environment is known.
 #[derive(Clone, Copy)]
 pub struct Later {
     /// The environment's variables count as definitions of the command line, before its own.
     pub environment_counts: bool,
     /// -K names the state. Else it goes by the language.
     pub names_state: bool,
+    /// Targets are taken as they are before the run, where nothing is recorded of any.
+    pub trusts_files: bool,
 }
 
 /// What the words ask for.
@@ -66,6 +68,12 @@ pub enum WordsFault {
     Touch,
     #[error("-l isn't supported: how busy the machine is isn't looked at")]
     Load,
+    #[error("--trust-files needs --posix")]
+    TrustInStrict,
+    #[error("--trust-files doesn't go with -n or -q, which record nothing")]
+    TrustToLook,
+    #[error("--trust-files doesn't go with -B, which makes each target")]
+    TrustToMakeAll,
 }
 
 impl Later {
@@ -105,17 +113,41 @@ pub fn read_words(rt: HostRuntime, processors: u16) -> Result<Request, WordsFaul
         Err(answer) => return say(rt, answer),
     };
     let environment = read_environment(rt)?;
-    if !is_wide(&request, &environment) {
-        return Ok(request);
-    }
     let makeflags = value_of(&environment, b"MAKEFLAGS");
+    if !is_wide(&request, &environment) {
+        return checked(request, makeflags);
+    }
     let Some(words) = with_flags(alloc, words, makeflags)? else {
         return Err(WordsFault::FlagsNotText);
     };
     match find(alloc, processors.as_str(), words.as_slice()) {
-        Ok(found) => request_of(alloc, &found),
+        Ok(found) => checked(request_of(alloc, &found)?, makeflags),
         Err(answer) => say(rt, answer),
     }
+}
+
+/// What is asked for, unless targets are to be taken as they are where that has no meaning.
+fn checked(request: Request, makeflags: &[u8]) -> Result<Request, WordsFault> {
+    match &request {
+        Request::Make(asked) if asked.later.trusts_files => {
+            check_trust(&asked.options, makeflags)?;
+        }
+        _ => {}
+    }
+    Ok(request)
+}
+
+fn check_trust(options: &Options, makeflags: &[u8]) -> Result<(), WordsFault> {
+    if !options.language(makeflags).is_wide() {
+        return Err(WordsFault::TrustInStrict);
+    }
+    if options.mode(makeflags) != Mode::Run {
+        return Err(WordsFault::TrustToLook);
+    }
+    if options.makes_all {
+        return Err(WordsFault::TrustToMakeAll);
+    }
+    Ok(())
 }
 
 /// Whether the wide profile is asked for: by the words, by MAKEFLAGS or by a run above that has it.
@@ -301,6 +333,7 @@ fn asked_of(alloc: Global, found: &ArgMatches<'_>) -> Result<Asked, AllocError> 
         later: Later {
             environment_counts: found.get_count("environment") > 0,
             names_state: found.contains_id("state"),
+            trusts_files: found.get_count("trusts_files") > 0,
         },
         options,
     })

@@ -14,8 +14,8 @@ use crate::standard_streams::{Patient, buffered, with_patience};
 use crate::state_lock::StateLock;
 use crate::terminal::status_columns;
 use bd_lists::Variable;
-use dmk_drive::{FileTexts, Options, value_of};
-use dmk_run::{Means, Printer, build_targets, followed};
+use dmk_drive::{FileTexts, FileTree, Options, value_of};
+use dmk_run::{Means, Printer, build_targets, followed, trust_files};
 use jb_flags::Handing;
 use jb_host::{HOLDS, HostPlace, Shell};
 use jb_slots::FifoBanks;
@@ -43,6 +43,30 @@ fn host_printer<'a, R: Wait>(
     ))
 }
 
+/// Takes targets as they are, where nothing is recorded of any; the status where that ends the run. The state's disk comes back.
+fn trust_here<R: Wait, O: Write + Drop, W: Write + Drop>(
+    host: HostRuntime,
+    means: &Means<'_, Handing<'_, Shell<'_>>, Printer<'_, R, O, W>, HostPlace>,
+    guard: &mut StateLock<'_>,
+    options: &Options,
+    tree: &mut FileTree<HostFiles<'_>>,
+    makefiles: &mut FileTexts<HostFiles<'_>>,
+    disk: FileDisk<SystemFolder>,
+) -> (Option<u8>, FileDisk<SystemFolder>) {
+    let (found, disk) = trust_files(
+        host.alloc(),
+        means.key,
+        means.environment,
+        means.say,
+        guard,
+        options,
+        tree,
+        makefiles,
+        disk,
+    );
+    (found.err(), disk)
+}
+
 /// Makes the targets over the files of the current folder, and answers the status. The state's disk comes back.
 fn make_here<R, O, W>(
     rt: &R,
@@ -50,6 +74,7 @@ fn make_here<R, O, W>(
     means: &Means<'_, Handing<'_, Shell<'_>>, Printer<'_, R, O, W>, HostPlace>,
     guard: &mut StateLock<'_>,
     options: Options,
+    trusts_files: bool,
     makefiles: &mut FileTexts<HostFiles<'_>>,
     folder: SystemFolder,
 ) -> (u8, FileDisk<SystemFolder>)
@@ -59,6 +84,16 @@ where
     W: Write + Drop + Send,
     requires { AsksToRun options (value_in means.now.environment.now (codes "MAKEFLAGS")) }
 {
+    let mut tree = HostFiles::tree(host);
+    let disk = FileDisk::new(folder);
+    let (ended, disk) = if trusts_files {
+        trust_here(host, means, guard, &options, &mut tree, makefiles, disk)
+    } else {
+        (None, disk)
+    };
+    if let Some(status) = ended {
+        return (status, disk);
+    }
     followed(
         rt,
         means.say,
@@ -71,10 +106,10 @@ where
                 means,
                 guard,
                 options,
-                &mut HostFiles::tree(host),
+                &mut tree,
                 makefiles,
                 &mut FifoBanks::new(host, "mkfifo"),
-                FileDisk::new(folder),
+                disk,
             )
         },
     )
@@ -130,6 +165,7 @@ pub fn make<R: Threads + Wait + Sync>(
         &means,
         &mut guard,
         options,
+        later.trusts_files,
         &mut makefiles,
         folder,
     );

@@ -17,6 +17,8 @@ pub struct StateLock<'a> {
     /// The locks that the runs above hold, as the environment has them.
     above: &'a str,
     held: &'a OnceLock<HeldLock>,
+    /// It was had, or what there was to say of that was said.
+    is_settled: bool,
 }
 
 /// What is wrong where no lock is had.
@@ -74,6 +76,7 @@ impl<'a> StateLock<'a> {
             path: lock_path(rt, state)?,
             above,
             held,
+            is_settled: false,
         })
     }
 
@@ -141,10 +144,12 @@ impl<'a> StateLock<'a> {
 }
 
 impl Guard for StateLock<'_> {
+    // A second one answers that it is held: by this run itself it would be waited for.
     fn attempt(&mut self) -> Result<Option<Hold>, AllocError> {
-        if !self.is_ordinary_or_missing() {
+        if self.is_settled || !self.is_ordinary_or_missing() {
             return Ok(Some(Hold::Held));
         }
+        self.is_settled = true;
         match self.try_once() {
             Ok(Ok(hold)) => Ok(Some(hold)),
             Ok(Err(_)) => Ok(None),

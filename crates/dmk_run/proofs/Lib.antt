@@ -2,3 +2,5 @@ mod OpeningLemmas
 mod JudgingLemmas
 mod BuildingLemmas
 mod DriverLemmas
+mod TakingLemmas
+mod TrustingLemmas

@@ -259,7 +259,7 @@ fn found_status<R: Wait, O: Write + Drop, W: Write + Drop>(
 
 /// The status of what was found, and 2 where not all that was to be printed went out, which is told last. Before it stands which
 /// targets failed.
-fn status_of<R: Wait, O: Write + Drop, W: Write + Drop>(
+pub(crate) fn status_of<R: Wait, O: Write + Drop, W: Write + Drop>(
     printer: &Printer<'_, R, O, W>,
     state: &str,
     found: Result<u8, Stop>,

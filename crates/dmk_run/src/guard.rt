@@ -19,7 +19,7 @@ pub enum Hold {
 
 /// Keeps other runs from a state until it is let go.
 pub trait Guard {
-    /// Waits for nobody: None where another run, or a recipe of one, has the state.
+    /// Waits for nobody: None where another run, or a recipe of one, has the state. Asked once more by the run that has it, it says so.
     fn attempt(&mut self) -> Result<Option<Hold>, AllocError>;
 
     /// Waits until nobody has it.

@@ -16,6 +16,8 @@ mod settling;
 mod status_line;
 mod stop;
 mod streams;
+mod taking;
+mod trusting;
 
 pub use building::{Built, build};
 pub use conducting::Wishes;
@@ -25,3 +27,4 @@ pub use guard::{Guard, Hold};
 pub use opening::open_store;
 pub use printer::Printer;
 pub use stop::Stop;
+pub use trusting::{Trusted, trust_files};

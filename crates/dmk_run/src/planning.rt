@@ -42,7 +42,8 @@ pub struct Plan {
     pub conduct: Conduct,
 }
 
-fn graph_of<T: Tree>(
+/// The graph of what is to be made, by this state.
+pub(crate) fn graph_of<T: Tree>(
     alloc: Global,
     profile: Profile,
     environment: &[Variable],

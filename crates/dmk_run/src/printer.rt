@@ -3,6 +3,7 @@
 
 use crate::status_line::StatusLine;
 use crate::streams::Streams;
+use crate::trusting::Trusted;
 use bd_lists::Ended;
 use dmk_drive::{Message, print_fault, print_note};
 use jb_closing::RunFault;
@@ -119,6 +120,30 @@ impl<'a, R: Wait, O: Write + Drop, E: Write + Drop> Printer<'a, R, O, E> {
     /// Says that other runs over the state aren't kept away.
     pub fn not_locked(&self, state: &str) {
         self.of_state("note: ", state, " is not locked");
+    }
+
+    /// Says what came of taking targets as they are.
+    pub(crate) fn trusted(&self, state: &str, trusted: Trusted) {
+        match trusted {
+            Trusted::Unkept => self.of_state(
+                "note: no target is taken as it is: no state is kept",
+                "",
+                "",
+            ),
+            Trusted::Known => self.of_state(
+                "note: no target is taken as it is: ",
+                state,
+                " knows of targets already",
+            ),
+            Trusted::Taken(count) => self.taken(count),
+        }
+    }
+
+    /// Says how many targets are taken as they are.
+    fn taken(&self, count: usize) {
+        let mut streams = self.streams.lock(self.rt);
+        let _ = writeln!(streams.err, "dmk: note: targets taken as they are: {count}");
+        let _ = streams.err.flush();
     }
 
     /// Says that the run which called this one has the state.

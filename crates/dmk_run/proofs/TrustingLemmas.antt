@@ -1,0 +1,105 @@
+-- What an opening leaves behind which targets are taken as they are.
+use Rattle.std.proofs.Common.{◌≡◌, ◌≢◌, ◌<◌, ◌⊎◌, inl, inr, ℕ, List, length, refl, subst, arith, ◌∙◌, ap, Result, Ok, Err, IfOk, OnOk}
+use Rattle.std.proofs.Math.Logic.{∥∥₁_map}
+use Rattle.std.specs.FinMap as map
+use Rattle.mk_rules.specs.declared.graph.Graph.{Graph}
+use Rattle.st_disk.specs.declared.which.Which.{Which}
+use Rattle.st_disk.specs.declared.which.Which.TheVariants as which
+use Rattle.st_disk.specs.Crash.{Sides, IsCrashImage}
+use Rattle.st_disk.specs.Moments.{Moments, Throughout}
+use Rattle.st_disk.proofs.MomentLaws.{then_goes, throughout_map}
+use Rattle.st_records.specs.declared.record.Record.{Record}
+use Rattle.st_state.specs.State.{StateMap, replay}
+use Rattle.st_recovery.specs.Recovers.{Recovers}
+use Rattle.st_recovery.specs.Stored.{AllRecover, AllRecoverEither}
+use Rattle.dmk_run.specs.Opened.{RecoversAs, ArePossibleOrRecover}
+use Rattle.dmk_run.specs.Taken.{AreTaken}
+use Rattle.dmk_run.specs.Trusted.{AllRecoverTaken, IsOfTaken, IsLeft, LeavesState, RecoversTaken, AllRecoverOrTaken, ArePossibleOrTaken}
+use Rattle.dmk_run.specs.declared.stop.Stop.{Stop}
+use Rattle.dmk_run.specs.declared.trusting.Trusted.{Trusted}
+
+-- a batch of the records of all that are taken
+pub batch_taken : (graph : Graph) (m : StateMap) (taken : List Record) {m0 m1 : Moments} → AreTaken graph taken →
+    Throughout m0 m1 (AllRecoverEither m (replay m taken)) → Throughout m0 m1 (AllRecoverTaken graph m)
+batch_taken graph m taken are batch = throughout_map batch (λ sides has. λ a b is_a is_b. ∥∥₁_map (has a b is_a is_b) (one a b))
+  where
+    one : (a b : List ℕ) → Recovers a b m ⊎ Recovers a b (replay m taken) → Recovers a b m ⊎ ((steps : List Record) × AreTaken graph steps × Recovers a b (replay m steps))
+    one a b (inl before) = inl before
+    one a b (inr behind) = inr (taken, are, behind)
+
+-- no call of the device
+pub none_taken : (graph : Graph) (m : StateMap) {m0 m1 : Moments} → Throughout m0 m1 (AllRecover m) → Throughout m0 m1 (AllRecoverTaken graph m)
+none_taken graph m same = throughout_map same (λ sides has. λ a b is_a is_b. ∥∥₁_map (has a b is_a is_b) inl)
+
+-- nothing is known in a state without names
+pub nothing_known : (m : StateMap) → map.len m ≡ 0 → m ≡ map.empty
+nothing_known m none = map.empty_of_len m none
+
+pub something_known : (m : StateMap) → 0 < map.len m → m ≢ map.empty
+something_known m some = λ none.
+    let same : map.len m ≡ 0 = ap map.len none ∙ map.len-empty _ _ in
+    absurd (omega (arith, some, same))
+
+-- what is left of the state that was found
+pub leaves : {Times : Type 0} (honest : Type 0) (allows : Times → Type 0) (IsWanted : Times → Graph → Type 0) (seen : Which → List ℕ) (sides : Sides)
+    (got : Result Trusted Stop) (was left : StateMap) → (honest → Recovers (seen which.A) (seen which.B) was) →
+    IfOk got (λ found. (times : Times) → allows times → IsLeft (IsWanted times) was left found) → (honest → OnOk got (AllRecover left sides)) →
+    IfOk got (λ found. honest → (times : Times) → allows times → LeavesState (IsWanted times) seen sides found)
+leaves honest allows IsWanted seen sides (Ok found) was left recovered is all = λ keeps times may. record {
+  was = was;
+  recovered = recovered keeps;
+  left = left;
+  is_left = is times may;
+  recovers = all keeps;
+}
+leaves honest allows IsWanted seen sides (Err stop) was left recovered is all = tt
+
+module _ (IsWanted : Graph → Type 0) where
+  pub of_taken : (graph : Graph) (was left : StateMap) (taken : List Record) (count : ℕ) → was ≡ map.empty → IsWanted graph →
+      AreTaken graph taken → left ≡ replay was taken → length taken ≡ count → IsOfTaken IsWanted left count
+  of_taken graph was left taken count none wanted are left_is counted = record {
+    graph = graph;
+    is_wanted = wanted;
+    taken = taken;
+    are_taken = are;
+    is_left = subst (λ m. left ≡ replay m taken) none left_is;
+    counted = counted;
+  }
+
+  pub over_graph : (graph : Graph) (was : StateMap) {m0 m1 : Moments} → was ≡ map.empty → IsWanted graph →
+      Throughout m0 m1 (AllRecoverTaken graph was) → Throughout m0 m1 (AllRecoverOrTaken IsWanted was)
+  over_graph graph was none wanted trusted = throughout_map trusted (λ sides has. λ a b is_a is_b. ∥∥₁_map (has a b is_a is_b) (one a b))
+    where
+      one : (a b : List ℕ) → Recovers a b was ⊎ ((steps : List Record) × AreTaken graph steps × Recovers a b (replay was steps)) →
+          Recovers a b was ⊎ RecoversTaken IsWanted was a b
+      one a b (inl before) = inl before
+      one a b (inr (steps, are, behind)) =
+          inr (none, replay was steps, length steps, of_taken graph was (replay was steps) steps (length steps) none wanted are refl refl, behind)
+
+  pub without_calls : (was : StateMap) {m0 m1 : Moments} → Throughout m0 m1 (AllRecover was) → Throughout m0 m1 (AllRecoverOrTaken IsWanted was)
+  without_calls was same = throughout_map same (λ sides has. λ a b is_a is_b. ∥∥₁_map (has a b is_a is_b) inl)
+
+  module _ (seen : Which → List ℕ) (start : Sides) where
+    abbrev MayBe : (a b : List ℕ) → Type 0
+    MayBe a b = (IsCrashImage start.a a × IsCrashImage start.b b) ⊎ (RecoversAs seen a b
+        ⊎ ((was : StateMap) × Recovers (seen which.A) (seen which.B) was × RecoversTaken IsWanted was a b))
+
+    opened_or : (a b : List ℕ) → (IsCrashImage start.a a × IsCrashImage start.b b) ⊎ RecoversAs seen a b → MayBe a b
+    opened_or a b (inl possible) = inl possible
+    opened_or a b (inr recovers) = inr (inl recovers)
+
+    trusted_or : (was : StateMap) → Recovers (seen which.A) (seen which.B) was → (a b : List ℕ) →
+        Recovers a b was ⊎ RecoversTaken IsWanted was a b → MayBe a b
+    trusted_or was found a b (inl before) = inr (inl (was, found, before))
+    trusted_or was found a b (inr taken) = inr (inr (was, found, taken))
+
+    -- an opening alone
+    pub only_opened : {m0 m1 : Moments} → Throughout m0 m1 (ArePossibleOrRecover seen start) →
+        Throughout m0 m1 (ArePossibleOrTaken IsWanted seen start)
+    only_opened opened = throughout_map opened (λ sides has. λ a b is_a is_b. ∥∥₁_map (has a b is_a is_b) (opened_or a b))
+
+    -- and then targets that are taken
+    pub then_trusted : {m0 m1 m2 : Moments} (was : StateMap) → Throughout m0 m1 (ArePossibleOrRecover seen start) → Recovers (seen which.A) (seen which.B) was →
+        Throughout m1 m2 (AllRecoverOrTaken IsWanted was) → Throughout m0 m2 (ArePossibleOrTaken IsWanted seen start)
+    then_trusted was opened found trusted =
+        then_goes (only_opened opened) (throughout_map trusted (λ sides has. λ a b is_a is_b. ∥∥₁_map (has a b is_a is_b) (trusted_or was found a b)))

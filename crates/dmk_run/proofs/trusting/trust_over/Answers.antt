@@ -1,0 +1,115 @@
+use Rattle.std.proofs.Common.{◌∙◌, refl, sym, subst}
+use Rattle.std.specs.FinMap as map
+use Rattle.st_disk.specs.Moments.{now}
+use Rattle.st_disk.proofs.MomentLaws.{started}
+use Rattle.st_recovery.proofs.StoredLemmas.{all_recover}
+use Rattle.dmk_drive.specs.Planned.{IsGraphOf}
+use Rattle.dmk_drive.proofs.PassingLemmas.{order_below}
+use Rattle.dmk_run.proofs.TrustingLemmas.{of_taken, over_graph, without_calls}
+use Rattle.dmk_run.proofs.trusting.trust_over.Goals as goal
+
+-- something is known: no call of the device
+pub returns-then-knows_any-clause-any_moment : goal.returns-then-knows_any-clause-any_moment
+returns-then-knows_any-clause-any_moment g c = λ honest times may.
+    let store = c.args.store.now in
+    let moments = g.D.Disk.moments store.log.disk in
+    let wanted = IsGraphOf c.args.options.now.profile c.args.options.now.definitions.items c.args.environment.now c.args.options.now.targets times c.args.items.items map.empty in
+    without_calls wanted store.state (started moments (all_recover store.log.side (now moments) (store.stored honest c.requires)))
+
+pub returns-then-knows_any-clause-recovers : goal.returns-then-knows_any-clause-recovers
+returns-then-knows_any-clause-recovers g c = λ honest.
+    let store = c.args.store.now in
+    all_recover store.log.side (now (g.D.Disk.moments store.log.disk)) (store.stored honest c.requires)
+
+pub returns-then-knows_any-clause-left : goal.returns-then-knows_any-clause-left
+returns-then-knows_any-clause-left g c = λ times may.
+    (λ none. c.knows_any.ensures.yes c.if-knows_any.true (c.state.ensures ∙ none), refl)
+
+-- the graph has a fault: no call of the device
+pub returns-in_err-graph-clause-any_moment : goal.returns-in_err-graph-clause-any_moment
+returns-in_err-graph-clause-any_moment g c = λ honest times may.
+    let store = c.args.store.now in
+    let moments = g.D.Disk.moments store.log.disk in
+    let wanted = IsGraphOf c.args.options.now.profile c.args.options.now.definitions.items c.args.environment.now c.args.options.now.targets times c.args.items.items map.empty in
+    without_calls wanted store.state (started moments (all_recover store.log.side (now moments) (store.stored honest c.requires)))
+
+pub record_taken-requires-clause-order : goal.record_taken-requires-clause-order
+record_taken-requires-clause-order g c =
+    let (times, may) = g.met.T.Tree.possible c.graph_asked.new.tree in
+    let is = c.in_ok-graph.ensures.graph times may in
+    order_below is.inputs c.args.options.now.targets c.in_ok-graph.graph is.is_graph
+
+pub invariant_of-graph : goal.invariant_of-graph
+invariant_of-graph g c = record {
+  named = c.in_ok-graph.graph.named;
+  distinct = c.in_ok-graph.graph.distinct;
+  hard_rows = c.in_ok-graph.graph.hard_rows;
+  required_rows = c.in_ok-graph.graph.required_rows;
+  required_closed = c.in_ok-graph.graph.required_closed;
+  soft_rows = c.in_ok-graph.graph.soft_rows;
+  counted_rows = c.in_ok-graph.graph.counted_rows;
+  hard_closed = c.in_ok-graph.graph.hard_closed;
+  soft_closed = c.in_ok-graph.graph.soft_closed;
+  counted_closed = c.in_ok-graph.graph.counted_closed;
+  counted_ascending = c.in_ok-graph.graph.counted_ascending;
+  suffixes_are = c.in_ok-graph.graph.suffixes_are;
+  kept = c.in_ok-graph.graph.kept;
+  table = c.in_ok-graph.graph.table;
+}
+
+pub invariant_of-graph-2 : goal.invariant_of-graph-2
+invariant_of-graph-2 g c = record {
+  named = c.in_ok-graph.graph.named;
+  distinct = c.in_ok-graph.graph.distinct;
+  hard_rows = c.in_ok-graph.graph.hard_rows;
+  required_rows = c.in_ok-graph.graph.required_rows;
+  required_closed = c.in_ok-graph.graph.required_closed;
+  soft_rows = c.in_ok-graph.graph.soft_rows;
+  counted_rows = c.in_ok-graph.graph.counted_rows;
+  hard_closed = c.in_ok-graph.graph.hard_closed;
+  soft_closed = c.in_ok-graph.graph.soft_closed;
+  counted_closed = c.in_ok-graph.graph.counted_closed;
+  counted_ascending = c.in_ok-graph.graph.counted_ascending;
+  suffixes_are = c.in_ok-graph.graph.suffixes_are;
+  kept = c.in_ok-graph.graph.kept;
+  table = c.in_ok-graph.graph.table;
+}
+
+pub returns-in_err-count-clause-any_moment : goal.returns-in_err-count-clause-any_moment
+returns-in_err-count-clause-any_moment g c = λ honest times may.
+    let store = c.args.store.now in
+    let options = c.args.options.now in
+    let graph = c.in_ok-graph.graph in
+    let none = sym c.state.ensures ∙ c.knows_any.ensures.no c.if-knows_any.false in
+    over_graph (IsGraphOf options.profile options.definitions.items c.args.environment.now options.targets times c.args.items.items map.empty)
+    graph store.state none
+    (subst (λ m. IsGraphOf options.profile options.definitions.items c.args.environment.now options.targets times c.args.items.items m graph)
+    (c.state-2.ensures ∙ none) (c.in_ok-graph.ensures.graph times may))
+    (c.record_taken.ensures.any_moment honest)
+
+pub returns-clause-any_moment : goal.returns-clause-any_moment
+returns-clause-any_moment g c = λ honest times may.
+    let store = c.args.store.now in
+    let options = c.args.options.now in
+    let graph = c.in_ok-graph.graph in
+    let none = sym c.state.ensures ∙ c.knows_any.ensures.no c.if-knows_any.false in
+    over_graph (IsGraphOf options.profile options.definitions.items c.args.environment.now options.targets times c.args.items.items map.empty)
+    graph store.state none
+    (subst (λ m. IsGraphOf options.profile options.definitions.items c.args.environment.now options.targets times c.args.items.items m graph)
+    (c.state-2.ensures ∙ none) (c.in_ok-graph.ensures.graph times may))
+    (c.record_taken.ensures.any_moment honest)
+
+pub returns-clause-left : goal.returns-clause-left
+returns-clause-left g c = λ times may.
+    let store = c.args.store.now in
+    let options = c.args.options.now in
+    let graph = c.in_ok-graph.graph in
+    let none = sym c.state.ensures ∙ c.knows_any.ensures.no c.if-knows_any.false in
+    let (taken, are, is, counted) = c.in_ok-count.ensures.taken in (
+      none,
+      of_taken (IsGraphOf options.profile options.definitions.items c.args.environment.now options.targets times c.args.items.items map.empty)
+          graph store.state c.record_taken.new.store.state taken c.in_ok-count.count none
+          (subst (λ m. IsGraphOf options.profile options.definitions.items c.args.environment.now options.targets times c.args.items.items m graph)
+          (c.state-2.ensures ∙ none) (c.in_ok-graph.ensures.graph times may))
+          are is counted,
+    )
