@@ -5,7 +5,7 @@ use Rattle.dmk_drive.specs.declared.stamps.Stamps.{Stamps}
 
 -- what is known of a name: nothing, that it has no file, or its time
 abbrev pub known_stamp : Stamps → (name : List ℕ) → Option (Option ℤ)
-known_stamp stamps name = get_by (λ k. bytes_eq name k.items) stamps.known
+known_stamp stamps name = get_by (bytes_eq name) stamps.known
 
 -- behind a call the name is known by this, and each other one as before
 abbrev pub Adds : (name : List ℕ) (stamp : Option ℤ) (before after : Stamps) → Type 0

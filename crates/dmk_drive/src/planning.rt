@@ -39,6 +39,7 @@ use st_disk::Disk;
 use st_records::HashKey;
 use st_state::State;
 use std::alloc::Global;
+use std::mem;
 
 /// What a makefile is read and planned with.
 #[derive(Clone, Copy)]
@@ -121,21 +122,23 @@ fn listed(alloc: Global, keeping: bool, shows: Shows, graph: Graph) -> Result<Dr
     ensures dropped { IfOk result (λ run. run.soft_dropped ≡ graph.soft_dropped) }
     ensures fault { IfErr result (λ fault. (f : LineFault) × (fault ≡ faults.Recipe f) × IsListingFault keeping graph f) }
 {
-    match listing_of(alloc, keeping, shows, &graph) {
-        Ok(
-            Listing {
-                text,
-                lists_any,
-                always,
-            },
-        ) => Ok(DryRun {
-            text,
-            lists_any,
-            always,
-            soft_dropped: graph.soft_dropped,
-        }),
-        Err(fault) => Err(Fault::Recipe(fault)),
-    }
+    let Listing {
+        text,
+        lists_any,
+        always,
+    } = match listing_of(alloc, keeping, shows, &graph) {
+        Ok(listing) => listing,
+        Err(fault) => return Err(Fault::Recipe(fault)),
+    };
+    let soft_dropped = graph.soft_dropped;
+    // It is millions of small pieces of memory. Whoever asked ends now, and the system takes all of them back at once.
+    mem::forget(graph);
+    Ok(DryRun {
+        text,
+        lists_any,
+        always,
+        soft_dropped,
+    })
 }
 
 /// The state's map, or the fault of its sides.

@@ -3,12 +3,13 @@ ghost use Rattle.std.specs.Prelude.{◌≡◌, ℕ, List, None, OnOk, OnErr};
 ghost use Rattle.dmk_drive.specs.Stamps.{known_stamp, Adds, KnowsTheSame};
 
 use indexmap::IndexMap;
+use name_keys::{Name, NameRef};
 use std::alloc::{AllocError, Global};
 
 /// What was told of each name so far.
 #[derive(Drop)]
 pub struct Stamps {
-    known: IndexMap<Vec<u8>, Option<i128>>,
+    known: IndexMap<Name, Option<i128>>,
 }
 
 impl Stamps {
@@ -24,7 +25,7 @@ impl Stamps {
     pub fn get(&self, name: &[u8]) -> Option<Option<i128>>
         ensures { result ≡ known_stamp self.now name.now }
     {
-        self.known.get(name).copied()
+        self.known.get(NameRef { bytes: name }).copied()
     }
 
     /// Takes in what was told of a name.
@@ -32,7 +33,7 @@ impl Stamps {
         ensures ok { OnOk result (Adds name.now stamp self.old self.new) }
         ensures err { OnErr result (KnowsTheSame self.old self.new) }
     {
-        self.known.insert(Vec::from_slice(alloc, name)?, stamp)?;
+        self.known.insert(Name::from_slice(alloc, name)?, stamp)?;
         Ok(())
     }
 }

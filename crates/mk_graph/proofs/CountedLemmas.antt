@@ -4,28 +4,16 @@ use Rattle.std.proofs.lemmas.Bool.{and_from, or_cases, cases_lt}
 use Rattle.std.proofs.lemmas.Cmp.{nat_eq_equiv}
 use Rattle.std.proofs.lemmas.List.{get_or_past, take_more}
 use Rattle.std.proofs.lemmas.List.Kept.{Contains-dedup_nat, Contains-from_dedup}
-use Rattle.std.proofs.lemmas.List.Sorted.{list_any-IsPermutation}
 use Rattle.std.proofs.lemmas.Map.Views.{Contains-from_any, list_any-from_Contains}
 use Rattle.std.proofs.lemmas.List.Folds.{list_any-append}
 use Rattle.std.specs.List.{list_all, dedup}
-use Rattle.std.specs.List.Sorted.{IsPermutation, IsStrictlyIncreasing}
+use Rattle.std.specs.List.Sorted.{IsStrictlyIncreasing}
 use Rattle.mk_graph.specs.Edges.{row, has, is_closed}
 use Rattle.mk_graph.specs.Cycle.{IsChain, IsCycle, HasCycle}
 use Rattle.mk_graph.specs.Counted.{joined, AreSets}
+use Rattle.mk_graph.proofs.JoinLemmas.{length-joined, row-joined}
 use Rattle.mk_graph.proofs.RowLemmas.{list_all-has}
 use Rattle.mk_graph.proofs.CycleLemmas.{closed_row}
-
-pub length-joined : (hard soft : List (List ℕ)) → length (joined hard soft) ≡ length hard
-length-joined [] soft = refl
-length-joined (ns ∷ hard) [] = refl
-length-joined (ns ∷ hard) (ms ∷ soft) = ap suc (length-joined hard soft)
-
-pub row-joined : (hard soft : List (List ℕ)) → length soft ≡ length hard → (n : ℕ) → row (joined hard soft) n ≡ row hard n ++ row soft n
-row-joined [] [] same n = refl
-row-joined [] (ms ∷ soft) same n = absurd (omega arith)
-row-joined (ns ∷ hard) [] same n = absurd (omega arith)
-row-joined (ns ∷ hard) (ms ∷ soft) same zero = refl
-row-joined (ns ∷ hard) (ms ∷ soft) same (suc n) = row-joined hard soft (omega arith) n
 
 pub has-joined : (hard soft : List (List ℕ)) → length soft ≡ length hard → (n m : ℕ) → has (row (joined hard soft) n) m ≡ (has (row hard n) m || has (row soft n) m)
 has-joined hard soft same n m = ap (λ l. has l m) (row-joined hard soft same n) ∙ list_any-append (nat_eq m) (row hard n) (row soft n)
@@ -136,10 +124,6 @@ has-dedup xs n = same_answer (has (dedup nat_eq xs) n) (has xs n)
     same_answer true b f g = sym (f refl)
     same_answer false true f g = g refl
     same_answer false false f g = refl
-
-pub has_of_both : (first second both : List ℕ) (n : ℕ) → IsPermutation (first ++ second) both → has (dedup nat_eq both) n ≡ (has first n || has second n)
-has_of_both first second both n moved =
-    has-dedup both n ∙ sym (list_any-IsPermutation (nat_eq n) (first ++ second) both moved) ∙ list_any-append (nat_eq n) first second
 
 -- a graph and its rows as sets have the same cycles
 pub no_cycle_in : (g sets : List (List ℕ)) → AreSets g sets → (HasCycle sets → ⊥) → HasCycle g → ⊥

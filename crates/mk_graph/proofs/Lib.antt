@@ -9,3 +9,5 @@ pub mod ReadyLemmas
 pub mod WholeLemmas
 pub mod EdgeLemmas
 pub mod UserLemmas
+pub mod SetLemmas
+pub mod JoinLemmas

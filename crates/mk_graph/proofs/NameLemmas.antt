@@ -1,28 +1,15 @@
 -- Names by first mention: what adding does to them, and that earlier numbers stay.
-use Rattle.std.proofs.Common.{◌≡◌, ℕ, ◌+◌, ◌<◌, ◌≤◌, Bool, true, false, cond, not, ◌||◌, nat_lt, List, [], ◌∷◌, ◌++◌, length, map, take, position, Some, None, suc, zero, refl, sym, ap, ◌∙◌, arith, lt-ltb, ltb-true, append_assoc, append-nil, length-append}
+use Rattle.std.proofs.Common.{◌≡◌, ℕ, ◌<◌, ◌≤◌, Bool, true, false, ◌||◌, nat_lt, List, [], ◌∷◌, ◌++◌, length, map, take, position, Some, suc, zero, refl, sym, ap, ◌∙◌, arith, lt-ltb, ltb-true, append_assoc, append-nil, length-append}
 use Rattle.std.proofs.lemmas.Bool.{and_parts}
-use Rattle.std.proofs.lemmas.List.{get_or_append_left, length-map, map-append}
+use Rattle.std.proofs.lemmas.List.{get_or_append_left}
 use Rattle.std.proofs.lemmas.List.Quantifiers.{position-Some}
 use Rattle.std.specs.Bool.{if◌then◌else◌}
 use Rattle.std.proofs.lemmas.Map.Keys.{IsDistinct-push, IsDistinct-tail, apart_from_distinct}
 use Rattle.std.specs.Cmp.{IsEquivalence}
-use Rattle.std.specs.List.{list_any, list_all, prefix_len, IsDistinct}
+use Rattle.std.specs.List.{list_all, IsDistinct}
 use Rattle.std.specs.Str.{bytes_eq}
 use Rattle.std.specs.Cmp.Lexicographic.{bytes_decides}
 use Rattle.mk_graph.specs.Numbering.{name_at, has_name, added, all_added}
-
--- ---- tests on a list that is seen through a function
-
-pub list_any-map : {A : Type 0} (f : A → List ℕ) (test : List ℕ → Bool) (xs : List A) → list_any (λ k. test (f k)) xs ≡ list_any test (map f xs)
-list_any-map f test [] = refl
-list_any-map f test (x ∷ xs) = ap (λ b. test (f x) || b) (list_any-map f test xs)
-
-prefix_len-map : {A : Type 0} (f : A → List ℕ) (test : List ℕ → Bool) (xs : List A) → prefix_len (λ k. test (f k)) xs ≡ prefix_len test (map f xs)
-prefix_len-map f test [] = refl
-prefix_len-map f test (x ∷ xs) = ap (λ n. cond (test (f x)) (1 + n) 0) (prefix_len-map f test xs)
-
-pub position-map : {A : Type 0} (f : A → List ℕ) (test : List ℕ → Bool) (xs : List A) → position (λ k. test (f k)) xs ≡ position test (map f xs)
-position-map f test xs = (λ i. cond (nat_lt (prefix_len-map f (λ n. not (test n)) xs i) (sym (length-map xs f) i)) (Some (prefix_len-map f (λ n. not (test n)) xs i)) None)
 
 -- ---- beginnings
 
@@ -116,14 +103,6 @@ found_at names name n e =
 -- a new name has the next number
 pub added_new : (names : List (List ℕ)) (name : List ℕ) → has_name names name ≡ false → added names name ≡ names ++ name ∷ []
 added_new names name h = ap (λ b. if b then names else names ++ name ∷ []) h
-
-pub added-map : {A : Type 0} (f : A → List ℕ) (b : Bool) (ks : List A) (k : A) (names : List (List ℕ)) → map f ks ≡ names → b ≡ has_name names (f k)
-    → map f (if b then ks else ks ++ k ∷ []) ≡ added names (f k)
-added-map f b ks k names e h = by b ∙ ap (λ c. if c then names else names ++ f k ∷ []) h
-  where
-    by : (b : Bool) → map f (if b then ks else ks ++ k ∷ []) ≡ (if b then names else names ++ f k ∷ [])
-    by true = e
-    by false = map-append f ks (k ∷ []) ∙ ap (λ l. l ++ f k ∷ []) e
 
 -- ---- names are distinct
 

@@ -2,7 +2,7 @@
 use Rattle.std.proofs.Common.{◌≡◌, ◌≢◌, ℕ, zero, suc, ◌+◌, ◌-◌, ◌<◌, ◌≤◌, ◌⊎◌, inl, inr, cond, nat_eq, List, [], ◌∷◌, ◌++◌, length, get_or, take, drop, set, replicate, sum, sum_by, slice_index, get_or-set_same, get_or-set_other, append_assoc, refl, sym, ap, ◌∙◌, subst, ⊎_elim, arith, eq-eqb, ne_eqb}
 use Rattle.std.specs.Prelude.{slice_range}
 use Rattle.std.proofs.lemmas.Bool.{cases_eq, cases_order}
-use Rattle.std.proofs.lemmas.List.{replicate-append-replicate, drop-drop, drop_all, take-append-drop, take_all, take_more, take_more_set}
+use Rattle.std.proofs.lemmas.List.{replicate-append-replicate, drop-drop, drop_all, take-append-drop, take_all, take_more, take_more_set, get_or-take, length-take-le}
 use Rattle.std.proofs.lemmas.List.Sums.{sum_by-append, sum_by-cons, sum_by-take-le, sum_by_more, sum_by-set, count_by-le-length}
 use Rattle.std.proofs.lemmas.Option.{get_or_from_slice_get}
 use Rattle.byte_strings.specs.Pieces.{pieces, AreEnds}
@@ -146,46 +146,35 @@ module _ (counts ns : List ℕ) (nodes i : ℕ) (within : i < length ns) (same :
       omega arith
 
 -- one more user noted
-module _ (users ends left : List ℕ) (p node at : ℕ) (h : AreEnds (length users) 0 ends) (within : p < length ends) (same : length left ≡ length ends)
-    (room : 1 ≤ get_or left p 0) (rows : (n : ℕ) → n < length ends → slice_index (0 ∷ ends) n + slice_index left n ≤ slice_index ends n)
-    (place : at ≡ get_or ends p 0 - get_or left p 0) where
-  pub at_within : at < length users
-  at_within = let e = AreEnds-at (length users) 0 ends p h within in let r = rows p within in let b = e.1 in omega arith
+module _ (users ends next : List ℕ) (p node : ℕ) (h : AreEnds (length users) 0 ends) (within : p < length ends) (same : length next ≡ length ends)
+    (room : get_or next p 0 + 1 ≤ get_or ends p 0)
+    (rows : (n : ℕ) → n < length ends → (slice_index (0 ∷ ends) n ≤ slice_index next n) × (slice_index next n ≤ slice_index ends n)) where
+  pub at_within : get_or next p 0 < length users
+  at_within = let e = (AreEnds-at (length users) 0 ends p h within).1 in omega arith
 
-  left_there : get_or (set left p (get_or left p 0 - 1)) p 0 ≡ get_or left p 0 - 1
-  left_there = get_or-set_same left p (get_or left p 0 - 1) 0 (omega arith)
+  next_there : get_or (set next p (get_or next p 0 + 1)) p 0 ≡ get_or next p 0 + 1
+  next_there = get_or-set_same next p (get_or next p 0 + 1) 0 (omega arith)
 
-  left_elsewhere : (n : ℕ) → n ≢ p → get_or (set left p (get_or left p 0 - 1)) n 0 ≡ get_or left n 0
-  left_elsewhere n apart = get_or-set_other left p n (get_or left p 0 - 1) 0 apart
+  next_elsewhere : (n : ℕ) → n ≢ p → get_or (set next p (get_or next p 0 + 1)) n 0 ≡ get_or next n 0
+  next_elsewhere n apart = get_or-set_other next p n (get_or next p 0 + 1) 0 apart
 
-  pub rows_left : (n : ℕ) → n < length ends → slice_index (0 ∷ ends) n + slice_index (set left p (get_or left p 0 - 1)) n ≤ slice_index ends n
-  rows_left n below = ⊎_elim there elsewhere (cases_eq n p)
-    where
-      there : n ≡ p → slice_index (0 ∷ ends) n + slice_index (set left p (get_or left p 0 - 1)) n ≤ slice_index ends n
-      there e = let r = rows n below in let s = ap (λ k. get_or (set left p (get_or left p 0 - 1)) k 0) e ∙ left_there in let t = ap (λ k. get_or left k 0) e in omega arith
-
-      elsewhere : n ≢ p → slice_index (0 ∷ ends) n + slice_index (set left p (get_or left p 0 - 1)) n ≤ slice_index ends n
-      elsewhere apart = let r = rows n below in let s = left_elsewhere n apart in omega arith
-
-  pub filled_there : filled (set users at node) ends (set left p (get_or left p 0 - 1)) p ≡ filled users ends left p ++ node ∷ []
+  pub filled_there : filled (set users (get_or next p 0) node) ends (set next p (get_or next p 0 + 1)) p ≡ filled users ends next p ++ node ∷ []
   filled_there =
-      let r = rows p within in
-      let to : slice_index ends p - slice_index (set left p (get_or left p 0 - 1)) p ≡ at + 1 = let l = left_there in omega arith in
-      ap (slice_range (set users at node) (slice_index (0 ∷ ends) p)) to
-      ∙ range_more users (slice_index (0 ∷ ends) p) at node (omega arith) at_within
-      ∙ ap (λ k. slice_range users (slice_index (0 ∷ ends) p) k ++ node ∷ []) place
+      ap (slice_range (set users (get_or next p 0) node) (slice_index (0 ∷ ends) p)) next_there
+      ∙ range_more users (slice_index (0 ∷ ends) p) (get_or next p 0) node (rows p within).0 at_within
 
-  pub filled_elsewhere : (n : ℕ) → n < length ends → n ≢ p → filled (set users at node) ends (set left p (get_or left p 0 - 1)) n ≡ filled users ends left n
+  pub filled_elsewhere : (n : ℕ) → n < length ends → n ≢ p
+      → filled (set users (get_or next p 0) node) ends (set next p (get_or next p 0 + 1)) n ≡ filled users ends next n
   filled_elsewhere n below apart =
-      let r = rows p within in
-      let s = rows n below in
-      let outside : (at < slice_index (0 ∷ ends) n) ⊎ (slice_index ends n - slice_index left n ≤ at)
+      let r = (rows p within).0 in
+      let s = (rows n below).1 in
+      let outside : (get_or next p 0 < slice_index (0 ∷ ends) n) ⊎ (slice_index next n ≤ get_or next p 0)
       = ⊎_elim (λ e. absurd (apart e))
       (⊎_elim (λ lt. inr (let b = starts_behind (length users) 0 ends n p h lt within in omega arith))
       (λ lt. inl (let b = starts_behind (length users) 0 ends p n h lt below in omega arith)))
       (cases_order n p) in
-      ap (λ k. slice_range (set users at node) (slice_index (0 ∷ ends) n) (slice_index ends n - k)) (left_elsewhere n apart)
-      ∙ range_apart users (slice_index (0 ∷ ends) n) (slice_index ends n - slice_index left n) at node outside
+      ap (slice_range (set users (get_or next p 0) node) (slice_index (0 ∷ ends) n)) (next_elsewhere n apart)
+      ∙ range_apart users (slice_index (0 ∷ ends) n) (slice_index next n) (get_or next p 0) node outside
 
 -- of the rows: before the call they are base, and before are those once so many prerequisites were noted
 module _ (base before : ℕ → List ℕ) (nodes node : ℕ) (ps : List ℕ) (i : ℕ) (within : i < length ps)
@@ -211,21 +200,44 @@ module _ (base before : ℕ → List ℕ) (nodes node : ℕ) (ps : List ℕ) (i 
           ∙ append_assoc (base n) (replicate (times n (take i ps)) node) (node ∷ [])
           ∙ ap (λ l. base n ++ l) (replicate-append-replicate (times n (take i ps)) 1 node ∙ ap (λ k. replicate k node) (sym t))
 
--- of the room that is left
-module _ (ps left old : List ℕ) (nodes i : ℕ) (within : i < length ps)
-    (so_far : (n : ℕ) → n < nodes → slice_index left n + times n (take i ps) ≡ slice_index old n) where
-  pub some_room : ((n : ℕ) → n < nodes → times n ps ≤ slice_index old n) → get_or ps i 0 < nodes → 1 ≤ get_or left (get_or ps i 0) 0
-  some_room enough below = let a = enough (get_or ps i 0) below in let b = so_far (get_or ps i 0) below in let r = times_room ps i within in omega arith
+-- of where the next users go
+module _ (ps next old : List ℕ) (nodes i : ℕ) (within : i < length ps)
+    (so_far : (n : ℕ) → n < nodes → slice_index next n ≡ slice_index old n + times n (take i ps)) where
+  pub some_room : (ends : List ℕ) → ((n : ℕ) → n < nodes → slice_index old n + times n ps ≤ slice_index ends n)
+      → get_or ps i 0 < nodes → get_or next (get_or ps i 0) 0 + 1 ≤ get_or ends (get_or ps i 0) 0
+  some_room ends enough below = let a = enough (get_or ps i 0) below in let b = so_far (get_or ps i 0) below in let r = times_room ps i within in omega arith
 
-  -- what is left of a row isn't more than before
-  pub rows_still : (ends : List ℕ) → ((n : ℕ) → n < nodes → slice_index (0 ∷ ends) n + slice_index old n ≤ slice_index ends n)
-      → (n : ℕ) → n < nodes → slice_index (0 ∷ ends) n + slice_index left n ≤ slice_index ends n
-  rows_still ends rows n below = let a = rows n below in let b = so_far n below in omega arith
+  -- each place lies in its row
+  pub rows_still : (ends : List ℕ) → ((n : ℕ) → n < nodes → slice_index (0 ∷ ends) n ≤ slice_index old n)
+      → ((n : ℕ) → n < nodes → slice_index old n + times n ps ≤ slice_index ends n)
+      → (n : ℕ) → n < nodes → (slice_index (0 ∷ ends) n ≤ slice_index next n) × (slice_index next n ≤ slice_index ends n)
+  rows_still ends rows enough n below =
+      let a = rows n below in
+      let b = so_far n below in
+      let c = enough n below in
+      let part = sum_by-take-le (λ y. cond (nat_eq n y) 1 0) ps i in
+      (omega arith, omega arith)
 
-  pub room_past : nodes ≤ get_or ps i 0 → (n : ℕ) → n < nodes → slice_index left n + times n (take (i + 1) ps) ≡ slice_index old n
-  room_past past n below =
-      let t : times n (take (i + 1) ps) ≡ times n (take i ps) = times-more n ps i within ∙ rw (ne_eqb n (get_or ps i 0) (λ e. absurd (omega arith))) (omega arith) in
+  next_apart : (n : ℕ) → n < nodes → n ≢ get_or ps i 0 → slice_index next n ≡ slice_index old n + times n (take (i + 1) ps)
+  next_apart n below apart =
+      let t : times n (take (i + 1) ps) ≡ times n (take i ps) = times-more n ps i within ∙ rw (ne_eqb n (get_or ps i 0) apart) (omega arith) in
       let b = so_far n below in omega arith
+
+  pub next_past : nodes ≤ get_or ps i 0 → (n : ℕ) → n < nodes → slice_index next n ≡ slice_index old n + times n (take (i + 1) ps)
+  next_past past n below = next_apart n below (λ e. absurd (omega arith))
+
+  pub next_more : get_or ps i 0 < nodes → length next ≡ nodes
+      → (n : ℕ) → n < nodes → slice_index (set next (get_or ps i 0) (get_or next (get_or ps i 0) 0 + 1)) n ≡ slice_index old n + times n (take (i + 1) ps)
+  next_more place same n below = ⊎_elim there (λ apart. get_or-set_other next (get_or ps i 0) n (get_or next (get_or ps i 0) 0 + 1) 0 apart ∙ next_apart n below apart) (cases_eq n (get_or ps i 0))
+    where
+      there : n ≡ get_or ps i 0 → slice_index (set next (get_or ps i 0) (get_or next (get_or ps i 0) 0 + 1)) n ≡ slice_index old n + times n (take (i + 1) ps)
+      there e =
+          let t : times n (take (i + 1) ps) ≡ times n (take i ps) + 1 = times-more n ps i within ∙ rw (eq-eqb n (get_or ps i 0) e) refl in
+          let b = so_far n below in
+          let c = ap (λ k. get_or next k 0) e in
+          let s = ap (λ k. get_or (set next (get_or ps i 0) (get_or next (get_or ps i 0) 0 + 1)) k 0) e
+          ∙ get_or-set_same next (get_or ps i 0) (get_or next (get_or ps i 0) 0 + 1) 0 (omega arith) in
+          omega arith
 
 -- how many users a node has: as often as it stands in the numbers of all rows
 pub times-pieces : (n : ℕ) (numbers : List ℕ) (start : ℕ) (ends : List ℕ) → AreEnds (length numbers) start ends
@@ -240,74 +252,72 @@ times-pieces n numbers start (end ∷ ends) h =
     ∙ sym (sum_by-append (λ y. cond (nat_eq n y) 1 0) (take (end - start) (drop start numbers)) (drop end numbers))
     ∙ ap (times n) (ap (λ l. take (end - start) (drop start numbers) ++ l) behind ∙ take-append-drop (end - start) (drop start numbers))
 
--- a node's row has no more users than are left
-pub room_for : (g : List (List ℕ)) (n k left all : ℕ) → k < length g → left + sum_by (times n) (take k g) ≡ all → sum_by (times n) g ≡ all → times n (row g k) ≤ left
-room_for g n k left all within so_far whole =
-    let more = sum_by_more (times n) g k [] within in
-    let part = sum_by-take-le (times n) g (k + 1) in
-    omega arith
-
 -- the row of a node before it is filled, and once all is
-pub filled_none : (users ends left : List ℕ) (n : ℕ) → slice_index ends n ≡ slice_index (0 ∷ ends) n + slice_index left n → filled users ends left n ≡ []
-filled_none users ends left n e = let none : slice_index ends n - slice_index left n - slice_index (0 ∷ ends) n ≡ 0 = omega arith in ap (λ k. take k (drop (slice_index (0 ∷ ends) n) users)) none
+pub filled_none : (users ends next : List ℕ) (n : ℕ) → slice_index next n ≡ slice_index (0 ∷ ends) n → filled users ends next n ≡ []
+filled_none users ends next n e = let none : slice_index next n - slice_index (0 ∷ ends) n ≡ 0 = omega arith in ap (λ k. take k (drop (slice_index (0 ∷ ends) n) users)) none
 
-pub filled_row : (users ends left : List ℕ) (n : ℕ) → n < length ends → slice_index left n ≡ 0 → row (pieces users 0 ends) n ≡ filled users ends left n
-filled_row users ends left n below none =
+pub filled_row : (users ends next : List ℕ) (n : ℕ) → n < length ends → slice_index next n ≡ slice_index ends n → row (pieces users 0 ends) n ≡ filled users ends next n
+filled_row users ends next n below whole =
     get_or_from_slice_get (pieces users 0 ends) n (slice_range users (slice_index (0 ∷ ends) n) (slice_index ends n)) [] (pieces-get users 0 ends n below)
-    ∙ ap (slice_range users (slice_index (0 ∷ ends) n)) (rw none (omega arith))
+    ∙ ap (slice_range users (slice_index (0 ∷ ends) n)) (sym whole)
 
 -- the rows of users, once the first k nodes are noted in them
-pub record Fills (g : List (List ℕ)) (k : ℕ) (users ends left : List ℕ) : Type 0 where
-  pub nodes : length left ≡ length g
-  pub rest : (n : ℕ) → n < length g → slice_index left n + sum_by (times n) (take k g) ≡ sum_by (times n) g
-  pub counts : (n m : ℕ) → m < length g → times n (filled users ends left m) ≡ times m (row (take k g) n)
-  pub rises : (m : ℕ) → m < length g → Rises k (filled users ends left m)
+pub record Fills (g : List (List ℕ)) (k : ℕ) (users ends next : List ℕ) : Type 0 where
+  pub nodes : length next ≡ length g
+  pub places : (n : ℕ) → n < length g → slice_index next n ≡ slice_index (0 ∷ ends) n + sum_by (times n) (take k g)
+  pub counts : (n m : ℕ) → m < length g → times n (filled users ends next m) ≡ times m (row (take k g) n)
+  pub rises : (m : ℕ) → m < length g → Rises k (filled users ends next m)
 
-pub refilled : (g : List (List ℕ)) (k : ℕ) (ends users users' left left' : List ℕ) → users' ≡ users → left' ≡ left
-    → Fills g k users ends left → Fills g k users' ends left'
-refilled g k ends users users' left left' same_users same_left fills =
-    subst (λ u. Fills g k u ends left') (sym same_users) (subst (λ l. Fills g k users ends l) (sym same_left) fills)
+pub refilled : (g : List (List ℕ)) (k : ℕ) (ends users users' next next' : List ℕ) → users' ≡ users → next' ≡ next
+    → Fills g k users ends next → Fills g k users' ends next'
+refilled g k ends users users' next next' same_users same_next fills =
+    subst (λ u. Fills g k u ends next') (sym same_users) (subst (λ l. Fills g k users ends l) (sym same_next) fills)
 
-pub fills_none : (g : List (List ℕ)) (users ends left : List ℕ) → length left ≡ length g
-    → ((n : ℕ) → n < length g → slice_index left n ≡ sum_by (times n) g)
-    → ((n : ℕ) → n < length g → slice_index ends n ≡ slice_index (0 ∷ ends) n + slice_index left n) → Fills g 0 users ends left
-fills_none g users ends left same all rows = record {
-  nodes = same;
-  rest = λ n below. let a = all n below in omega arith;
-  counts = λ n m below. ap (times n) (filled_none users ends left m (rows m below));
-  rises = λ m below. rises_none (filled users ends left m) (filled_none users ends left m (rows m below));
+-- the rows begin where those before them end
+pub starts_at : (ends next : List ℕ) → next ≡ take (length ends) (0 ∷ ends) → (n : ℕ) → n < length ends → slice_index next n ≡ slice_index (0 ∷ ends) n
+starts_at ends next e n below = ap (λ l. slice_index l n) e ∙ get_or-take (length ends) (0 ∷ ends) n 0 below
+
+pub fills_none : (g : List (List ℕ)) (users ends next : List ℕ) → length ends ≡ length g → next ≡ take (length ends) (0 ∷ ends) → Fills g 0 users ends next
+fills_none g users ends next same starts = record {
+  nodes = ap length starts ∙ length-take-le (length ends) (0 ∷ ends) (omega arith) ∙ same;
+  places = λ n below. let s = starts_at ends next starts n (omega arith) in omega arith;
+  counts = λ n m below. ap (times n) (filled_none users ends next m (starts_at ends next starts m (omega arith)));
+  rises = λ m below. rises_none (filled users ends next m) (filled_none users ends next m (starts_at ends next starts m (omega arith)));
 }
 
-module _ (g : List (List ℕ)) (k : ℕ) (users ends left : List ℕ) (fills : Fills g k users ends left) (as_many : length ends ≡ length g) where
-  pub room_left : k < length g → (n : ℕ) → n < length ends → times n (row g k) ≤ slice_index left n
-  room_left within n below = room_for g n k (slice_index left n) (sum_by (times n) g) within (fills.rest n (omega arith)) refl
+module _ (g : List (List ℕ)) (k : ℕ) (users ends next : List ℕ) (fills : Fills g k users ends next) (as_many : length ends ≡ length g)
+    (rows : (n : ℕ) → n < length g → slice_index ends n ≡ slice_index (0 ∷ ends) n + sum_by (times n) g) where
+  pub within_rows : (n : ℕ) → n < length ends → slice_index (0 ∷ ends) n ≤ slice_index next n
+  within_rows n below = let f = fills.places n (omega arith) in omega arith
 
-  pub within_rows : ((n : ℕ) → n < length g → slice_index ends n ≡ slice_index (0 ∷ ends) n + sum_by (times n) g)
-      → (n : ℕ) → n < length ends → slice_index (0 ∷ ends) n + slice_index left n ≤ slice_index ends n
-  within_rows rows n below = let r = rows n (omega arith) in let f = fills.rest n (omega arith) in omega arith
+  pub room_left : k < length g → (n : ℕ) → n < length ends → slice_index next n + times n (row g k) ≤ slice_index ends n
+  room_left within n below =
+      let more = sum_by_more (times n) g k [] within in
+      let part = sum_by-take-le (times n) g (k + 1) in
+      let f = fills.places n (omega arith) in
+      let r = rows n (omega arith) in
+      omega arith
 
-  pub fills_more : (users' left' : List ℕ) → k < length g → length left' ≡ length left
-      → ((n : ℕ) → n < length ends → slice_index left' n + times n (row g k) ≡ slice_index left n)
-      → ((n : ℕ) → n < length ends → filled users' ends left' n ≡ filled users ends left n ++ replicate (times n (row g k)) k)
-      → Fills g (k + 1) users' ends left'
-  fills_more users' left' within same counted noted = record {
+  pub fills_more : (users' next' : List ℕ) → k < length g → length next' ≡ length next
+      → ((n : ℕ) → n < length ends → slice_index next' n ≡ slice_index next n + times n (row g k))
+      → ((n : ℕ) → n < length ends → filled users' ends next' n ≡ filled users ends next n ++ replicate (times n (row g k)) k)
+      → Fills g (k + 1) users' ends next'
+  fills_more users' next' within same counted noted = record {
     nodes = same ∙ fills.nodes;
-    rest = λ n below.
+    places = λ n below.
         let more = sum_by_more (times n) g k [] within in
-        let b = fills.rest n below in
+        let b = fills.places n below in
         let c = counted n (omega arith) in
         omega arith;
-    counts = λ n m below. counts_more g (filled users ends left m) (filled users' ends left' m) k within m (noted m (omega arith)) n (fills.counts n m below);
-    rises = λ m below. rises_in_row g (filled users ends left m) (filled users' ends left' m) k within m (noted m (omega arith)) (fills.rises m below);
+    counts = λ n m below. counts_more g (filled users ends next m) (filled users' ends next' m) k within m (noted m (omega arith)) n (fills.counts n m below);
+    rises = λ m below. rises_in_row g (filled users ends next m) (filled users' ends next' m) k within m (noted m (omega arith)) (fills.rises m below);
   }
 
   pub all_noted : length g ≤ k → AreUsers g (pieces users 0 ends)
   all_noted past =
       let whole : take k g ≡ g = take_all k g past in
-      let none : (n : ℕ) → n < length g → slice_index left n ≡ 0
-      = λ n below. let b = fills.rest n below in let e = ap (sum_by (times n)) whole in omega arith in
-      let at : (n : ℕ) → n < length g → row (pieces users 0 ends) n ≡ filled users ends left n
-      = λ n below. filled_row users ends left n (omega arith) (none n below) in
+      let at : (n : ℕ) → n < length g → row (pieces users 0 ends) n ≡ filled users ends next n
+      = λ n below. filled_row users ends next n (omega arith) (let p = fills.places n below in let r = rows n below in let e = ap (sum_by (times n)) whole in omega arith) in
       let many : length (pieces users 0 ends) ≡ length g = length-pieces users 0 ends ∙ as_many in
       record {
         nodes = many;

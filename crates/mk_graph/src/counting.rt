@@ -1,13 +1,14 @@
 //! The edges that order nodes.
 
 ghost use Rattle.std.specs.Prelude.{◌≡◌, ℕ, ◌<◌, ◌||◌, List, length, IfOk, IsTrue};
-ghost use Rattle.std.specs.List.Sorted.{IsStrictlyIncreasing};
+ghost use Rattle.std.specs.List.Sorted.{IsNonDecreasing, IsStrictlyIncreasing};
 ghost use Rattle.mk_graph.specs.Edges.{row, has, is_closed};
 ghost use Rattle.mk_graph.specs.Cycle.{HasCycle};
 ghost use Rattle.mk_graph.specs.Counted.{joined, AreSets, AreCounted};
 ghost use Rattle.mk_graph.specs.Order.{IsCountedOrder};
+ghost use Rattle.mk_graph.specs.Users.{HasUsers};
 
-use crate::cycles::{Order, order_nodes};
+use crate::cycles::{Order, order_by_users};
 use crate::edges::Edges;
 use std::alloc::{AllocError, Global};
 
@@ -22,39 +23,53 @@ pub struct Counted {
     pub order: Order,
 }
 
-/// The numbers of two lists, each once and in their order.
-fn set_of(alloc: Global, first: &[usize], second: &[usize]) -> Result<Vec<usize>, AllocError>
-    ensures members { IfOk result (λ set. (n : ℕ) → has set.items n ≡ (has first.now n || has second.now n)) }
+/// Rows whose numbers ascend, and the users of their nodes.
+#[derive(Drop)]
+struct Sets {
+    edges: Edges,
+    users: Edges,
+}
+
+/// The numbers of a list that doesn't fall, each once.
+fn set_of(alloc: Global, numbers: &[usize]) -> Result<Vec<usize>, AllocError>
+    requires { IsNonDecreasing numbers.now }
+    ensures members { IfOk result (λ set. (n : ℕ) → has set.items n ≡ has numbers.now n) }
     ensures ascending { IfOk result (λ set. IsStrictlyIncreasing set.items) }
 {
-    let mut set = Vec::from_slice(alloc, first)?;
-    set.extend_from_slice(second)?;
-    set.sort_unstable();
+    let mut set = Vec::from_slice(alloc, numbers)?;
     set.dedup();
     Ok(set)
 }
 
-/// Edges without repeats.
-fn sets(alloc: Global, edges: &Edges) -> Result<Edges, AllocError>
-    ensures { IfOk result (AreSets edges.now) }
+/// Rows that don't fall, without repeats.
+fn without_repeats(alloc: Global, rows: Edges) -> Result<Edges, AllocError>
+    requires { (n : ℕ) → IsNonDecreasing (row rows n) }
+    ensures { IfOk result (AreSets rows) }
 {
-    let mut rows = Edges::with_capacity(alloc, edges.len())?;
-    for node in 0..edges.len() {
-        rows.push_row(&set_of(alloc, edges.row(node), &[])?)?;
+    if rows.ascends() {
+        return Ok(rows);
     }
-    Ok(rows)
+    let mut sets = Edges::with_capacity(alloc, rows.len())?;
+    for node in 0..rows.len() {
+        sets.push_row(&set_of(alloc, rows.row(node))?)?;
+    }
+    Ok(sets)
 }
 
-/// Hard and soft edges together, without repeats.
-fn sets_of_both(alloc: Global, hard: &Edges, soft: &Edges) -> Result<Edges, AllocError>
-    requires { length soft.now ≡ length hard.now }
-    ensures { IfOk result (AreSets (joined hard.now soft.now)) }
+/// Rows without repeats and in order. The users of a graph's users are its own rows in order, so no row need be sorted by
+/// itself.
+fn sets_of(alloc: Global, rows: Edges) -> Result<Sets, AllocError>
+    requires { IsTrue (is_closed rows) }
+    ensures sets { IfOk result (λ sets. AreSets rows sets.edges) }
+    ensures users { IfOk result (λ sets. HasUsers sets.edges sets.users) }
 {
-    let mut rows = Edges::with_capacity(alloc, hard.len())?;
-    for node in 0..hard.len() {
-        rows.push_row(&set_of(alloc, hard.row(node), soft.row(node))?)?;
+    let users = rows.reversed(alloc)?;
+    if rows.ascends() {
+        return Ok(Sets { edges: rows, users });
     }
-    Ok(rows)
+    let users = without_repeats(alloc, users)?;
+    let edges = users.reversed(alloc)?;
+    Ok(Sets { edges, users })
 }
 
 /// What orders the nodes where hard and soft edges together make a cycle.
@@ -67,8 +82,11 @@ fn count_hard(alloc: Global, hard: &Edges, soft: &Edges, both: Edges) -> Result<
     ensures order { IfOk result (λ c. IsCountedOrder hard.now c.edges c.order) }
     ensures closed { IfOk result (λ c. IsTrue (is_closed c.edges)) }
 {
-    let alone = sets(alloc, hard)?;
-    match order_nodes(alloc, &alone)? {
+    let Sets {
+        edges: alone,
+        users,
+    } = sets_of(alloc, hard.copy(alloc)?)?;
+    match order_by_users(alloc, &alone, &users)? {
         Order::Plan(order) => Ok(Counted {
             edges: alone,
             dropped: true,
@@ -92,8 +110,8 @@ pub fn count_edges(alloc: Global, hard: &Edges, soft: &Edges) -> Result<Counted,
     ensures order { IfOk result (λ c. IsCountedOrder hard.now c.edges c.order) }
     ensures closed { IfOk result (λ c. IsTrue (is_closed c.edges)) }
 {
-    let both = sets_of_both(alloc, hard, soft)?;
-    match order_nodes(alloc, &both)? {
+    let Sets { edges: both, users } = sets_of(alloc, Edges::joined(alloc, hard, soft)?)?;
+    match order_by_users(alloc, &both, &users)? {
         Order::Plan(order) => Ok(Counted {
             edges: both,
             dropped: false,

@@ -5,9 +5,10 @@ ghost use Rattle.std.specs.List.{IsDistinct, list_all};
 ghost use Rattle.mk_graph.specs.Edges.{row, has, is_closed};
 ghost use Rattle.mk_graph.specs.Order.{IsOrder};
 ghost use Rattle.mk_graph.specs.Ring.{IsRing};
+ghost use Rattle.mk_graph.specs.Users.{HasUsers};
 
 use crate::edges::Edges;
-use crate::planning::plan;
+use crate::planning::plan_by_users;
 use std::alloc::{AllocError, Global};
 
 /// A mark for each of so many nodes, set for those of the list.
@@ -145,7 +146,21 @@ pub fn order_nodes(alloc: Global, edges: &Edges) -> Result<Order, AllocError>
     requires { IsTrue (is_closed edges.now) }
     ensures { IfOk result (IsOrder edges.now) }
 {
-    let order = plan(alloc, edges)?;
+    let users = edges.reversed(alloc)?;
+    order_by_users(alloc, edges, &users)
+}
+
+/// The same of a graph whose users are known.
+pub(crate) fn order_by_users(
+    alloc: Global,
+    edges: &Edges,
+    users: &Edges,
+) -> Result<Order, AllocError>
+    requires closed { IsTrue (is_closed edges.now) }
+    requires users { HasUsers edges.now users.now }
+    ensures { IfOk result (IsOrder edges.now) }
+{
+    let order = plan_by_users(alloc, edges, users)?;
     let passed = marks(alloc, edges.len(), &order)?;
     let Some(start) = first_unmarked(&passed) else {
         return Ok(Order::Plan(order));

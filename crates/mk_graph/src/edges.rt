@@ -1,10 +1,12 @@
 //! A graph: the prerequisites of each node.
 
-ghost use Rattle.std.specs.Prelude.{◌≡◌, ◌<◌, ◌≤◌, [], ◌∷◌, ◌++◌, length, map, slice_index, IfOk, OnOk, OnErr, nat_lt};
+ghost use Rattle.std.specs.Prelude.{◌≡◌, ℕ, ◌+◌, ◌<◌, ◌≤◌, true, [], ◌∷◌, ◌++◌, length, map, slice_index, IfOk, OnOk, OnErr, nat_lt};
+ghost use Rattle.std.specs.List.Sorted.{IsStrictlyIncreasing};
 ghost use Rattle.mk_graph.specs.Edges.{row, is_closed, AreUsers};
+ghost use Rattle.mk_graph.specs.Counted.{joined};
 ghost use Rattle.std.specs.List.{list_all};
 
-use crate::users::{counted, ends_of, note_user};
+use crate::users::{counted, ends_of, note_user, starts_of};
 use std::alloc::{AllocError, Global};
 use std::marker::Model;
 
@@ -41,6 +43,17 @@ fn all_below(numbers: &[usize], limit: usize) -> bool
     numbers.iter().all(|n| *n < limit)
 }
 
+fn is_ascending(numbers: &[usize]) -> bool
+    ensures { result ≡ true → IsStrictlyIncreasing numbers.now }
+{
+    for place in 1..numbers.len() {
+        if numbers[place - 1] >= numbers[place] {
+            return false;
+        }
+    }
+    true
+}
+
 impl Edges {
     /// No nodes, which takes no memory.
     pub fn empty(alloc: Global) -> Edges
@@ -73,6 +86,25 @@ impl Edges {
         Ok(edges)
     }
 
+    /// The rows of two graphs together: of each node those of the first, and then those of the second.
+    pub(crate) fn joined(alloc: Global, first: &Edges, second: &Edges) -> Result<Edges, AllocError>
+        requires { length second.now ≡ length first.now }
+        ensures { IfOk result (λ e. e ≡ joined first.now second.now) }
+    {
+        if second.numbers.is_empty() {
+            return first.copy(alloc);
+        }
+        let room = first.numbers.len() + second.numbers.len();
+        let mut numbers = Vec::with_capacity(alloc, room)?;
+        let mut ends = Vec::with_capacity(alloc, first.len())?;
+        for node in 0..first.len() {
+            numbers.extend_from_slice(first.row(node))?;
+            numbers.extend_from_slice(second.row(node))?;
+            ends.push(numbers.len())?;
+        }
+        Ok(Edges { numbers, ends })
+    }
+
     /// Adds the prerequisites of one more node.
     pub fn push_row(&mut self, prerequisites: &[usize]) -> Result<(), AllocError>
         ensures ok { OnOk result (self.new ≡ self.old ++ prerequisites.now ∷ []) }
@@ -96,8 +128,8 @@ impl Edges {
         requires { node < length self.now }
         ensures { result.now ≡ row self.now node }
     {
-        let start = start_of(&self.ends, node);
         let end = self.ends[node];
+        let start = start_of(&self.ends, node);
         &self.numbers[start..end]
     }
 
@@ -108,16 +140,29 @@ impl Edges {
         all_below(&self.numbers, self.ends.len())
     }
 
+    /// Whether the numbers of each row ascend, so that none stands there twice.
+    pub(crate) fn ascends(&self) -> bool
+        ensures { result ≡ true → (n : ℕ) → IsStrictlyIncreasing (row self.now n) }
+    {
+        for node in 0..self.len() {
+            if !is_ascending(self.row(node)) {
+                return false;
+            }
+        }
+        true
+    }
+
     /// The users of each node in their order: a node has one for each time that a row names it. Numbers past the end
     /// have none.
     pub fn reversed(&self, alloc: Global) -> Result<Edges, AllocError>
         ensures { IfOk result (AreUsers self.now) }
     {
-        let mut left = counted(alloc, &self.numbers, self.len())?;
-        let ends = ends_of(alloc, &left)?;
+        let counts = counted(alloc, &self.numbers, self.len())?;
+        let ends = ends_of(alloc, &counts)?;
+        let mut next = starts_of(alloc, &ends)?;
         let mut users = Vec::from_elem(alloc, 0, start_of(&ends, ends.len()))?;
         for node in 0..self.len() {
-            note_user(node, self.row(node), &ends, &mut left, &mut users);
+            note_user(node, self.row(node), &ends, &mut next, &mut users);
         }
         Ok(Edges {
             numbers: users,

@@ -6,21 +6,22 @@ ghost use Rattle.mk_graph.specs.Numbering.{name_at, has_name, added, all_added};
 
 use byte_strings::ByteStrings;
 use indexmap::IndexSet;
+use name_keys::{Name, NameRef};
 use std::alloc::{AllocError, Global};
 use std::marker::Model;
 
 /// Names, each with a number: the place of its first mention.
 #[derive(Drop)]
 pub struct Names {
-    set: IndexSet<Vec<u8>>,
+    set: IndexSet<Name>,
 }
 
 impl Model for Names {
-    ghost use Rattle.std.specs.Prelude.{ℕ, List, map};
+    ghost use Rattle.std.specs.Prelude.{ℕ, List};
 
     ghost Value = { List (List ℕ) };
 
-    ghost view = { λ n. map (λ k. k.items) n.set.keys };
+    ghost view = { λ n. n.set.keys };
 }
 
 impl Names {
@@ -53,7 +54,7 @@ impl Names {
         ensures number { IfSome result (λ n. (n < length self.now) × (name_at self.now n ≡ name.now)) }
         ensures none { is_some result ≡ has_name self.now name.now }
     {
-        self.set.get_index_of(name)
+        self.set.get_index_of(NameRef { bytes: name })
     }
 
     /// Gives the next number to a name that has none.
@@ -62,7 +63,7 @@ impl Names {
         ensures ok { OnOk result (self.new ≡ self.old ++ name.now ∷ []) }
         ensures err { OnErr result (self.new ≡ self.old) }
     {
-        let _new = self.set.insert(Vec::from_slice(alloc, name)?)?;
+        let _new = self.set.insert(Name::from_slice(alloc, name)?)?;
         Ok(())
     }
 
@@ -77,6 +78,19 @@ impl Names {
         }
         self.push(alloc, name)?;
         Ok(true)
+    }
+
+    /// The number of a name, which is given the next one where it has none.
+    pub fn numbered(&mut self, alloc: Global, name: &[u8]) -> Result<usize, AllocError>
+        ensures ok { IfOk result (λ n. (self.new ≡ added self.old name.now) × (n < length self.new) × (name_at self.new n ≡ name.now)) }
+        ensures err { OnErr result (self.new ≡ self.old) }
+    {
+        if let Some(number) = self.number_of(name) {
+            return Ok(number);
+        }
+        let number = self.len();
+        self.push(alloc, name)?;
+        Ok(number)
     }
 
     /// The number of a name, which is given the next one where it has none; None where that would be past the limit.

@@ -1,7 +1,8 @@
 //! The numbering of all names that goals lead to.
 
-ghost use Rattle.std.specs.Prelude.{◌≡◌, ℕ, ◌≤◌, ◌⊎◌, Bool, true, false, List, [], ◌∷◌, ◌++◌, length, map, nat_lt, is_ok, IfOk, IfErr, OnOk, IsTrue};
-ghost use Rattle.std.specs.List.{list_all};
+ghost use Rattle.std.specs.Prelude.{◌≡◌, ℕ, ◌<◌, ◌≤◌, ◌⊎◌, Bool, true, false, List, [], ◌∷◌, ◌++◌, length, map, nat_lt, is_ok, IfOk, IfErr, OnOk, IsTrue};
+ghost use Rattle.std.specs.List.{list_all, IsDistinct};
+ghost use Rattle.std.specs.Str.{bytes_eq};
 ghost use Rattle.mk_graph.specs.Edges.{is_closed};
 ghost use Rattle.mk_graph.specs.Numbering.{IsNumbering, AreDescribed, DistinctNames, name_at, has_name, all_added};
 ghost use Rattle.mk_graph.specs.NumberingFault.{IsNumberingFault, IsLimitFault};
@@ -14,8 +15,8 @@ use std::alloc::{AllocError, AllocFailed, Global};
 /// What is found of a name.
 #[derive(Drop)]
 pub struct Found<N> {
-    /// Its prerequisites, in order; a name may stand there more than once.
-    pub prerequisites: ByteStrings,
+    /// The numbers of its prerequisites, in order; one may stand there more than once.
+    pub prerequisites: Vec<usize>,
     pub node: N,
 }
 
@@ -26,6 +27,9 @@ pub trait Dependencies {
 
     /// What is found of a name beside its prerequisites.
     type Node: Drop;
+
+    /// What the source notes of names by their numbers, so that it needn't look them up again.
+    type Notes: Drop;
 
     /// Which functions from a name to its prerequisites agree with all that was answered so far.
     ghost allows: { Self → (List ℕ → List (List ℕ)) → Type 0 };
@@ -42,21 +46,37 @@ pub trait Dependencies {
     /// What a call leaves true of the source, from before it to behind it: where it gives an answer, and where it doesn't.
     ghost follows: { Self → (answers : Bool) → Self → Type 0 };
 
-    /// The prerequisites of a name, and its node. An answer narrows what is still possible and never widens it.
+    /// That what is noted holds of the names with these numbers.
+    ghost fits: { Self → (names : List (List ℕ)) → Self.Notes → Type 0 };
+
+    /// No notes, which fit any names.
+    fn notes(&self, alloc: Global) -> Self::Notes
+        ensures { (names : List (List ℕ)) → fits self.now names result };
+
+    /// The prerequisites of the name with this number, and its node. The names that have no number are given the next ones, in turn.
+    /// An answer narrows what is still possible and never widens it.
     fn prerequisites(
         &mut self,
         alloc: Global,
-        name: &[u8],
+        names: &mut Names,
+        notes: &mut Self::Notes,
+        number: usize,
     ) -> Result<Found<Self::Node>, Self::Fault>
-        requires { ¬ (asked self.old name.now) }
+        requires number { number < length names.old }
+        requires distinct { IsDistinct bytes_eq names.old }
+        requires noted { fits self.old names.old notes.old }
+        requires unasked { ¬ (asked self.old (name_at names.old number)) }
+        ensures names { IfOk result (λ found. names.new ≡ all_added names.old (map (name_at names.new) found.prerequisites.items)) }
+        ensures numbers { IfOk result (λ found. list_all (λ n. nat_lt n (length names.new)) found.prerequisites.items ≡ true) }
         ensures list { IfOk result (λ found. (of : List ℕ → List (List ℕ)) → allows self.new of
-            → found.prerequisites ≡ of name.now) }
+            → map (name_at names.new) found.prerequisites.items ≡ of (name_at names.old number)) }
+        ensures noted { OnOk result (fits self.new names.new notes.new) }
         ensures grows { (of : List ℕ → List (List ℕ)) → allows self.new of → allows self.old of }
-        ensures node { IfOk result (λ found. describes self.new name.now found.node) }
+        ensures node { IfOk result (λ found. describes self.new (name_at names.old number) found.node) }
         ensures kept { (other : List ℕ) (node : Self.Node) → describes self.old other node → describes self.new other node }
-        ensures asks { (other : List ℕ) → asked self.new other → (asked self.old other) ⊎ (other ≡ name.now) }
+        ensures asks { (other : List ℕ) → asked self.new other → (asked self.old other) ⊎ (other ≡ name_at names.old number) }
         ensures follows { follows self.old (is_ok result) self.new }
-        ensures refused { IfErr result (refuses self.new name.now) };
+        ensures refused { IfErr result (refuses self.new (name_at names.old number)) };
 
     // Something is always possible.
     ghost possible: { (source : Self) → (of : List ℕ → List (List ℕ)) × allows source of };
@@ -140,26 +160,19 @@ impl<N: Drop> Numbered<N> {
         })
     }
 
-    /// Takes in what was found of the first name that has no row yet.
-    fn take_in<F>(
-        &mut self,
-        alloc: Global,
-        found: Found<N>,
-        limit: usize,
-    ) -> Result<(), NumberingFault<F>>
-        ensures names { OnOk result (self.new.names ≡ all_added self.old.names found.prerequisites) }
-        ensures row { OnOk result ((row : List ℕ) × (self.new.rows ≡ self.old.rows ++ row ∷ [])
-            × (list_all (λ n. nat_lt n (length self.new.names)) row ≡ true)
-            × (map (name_at self.new.names) row ≡ found.prerequisites)) }
+    /// Takes in what was found of the first name that has no row yet, once its prerequisites have numbers.
+    fn take_in<F>(&mut self, found: Found<N>, limit: usize) -> Result<(), NumberingFault<F>>
+        ensures names { OnOk result (self.new.names ≡ self.old.names) }
+        ensures rows { OnOk result (self.new.rows ≡ self.old.rows ++ found.prerequisites.items ∷ []) }
         ensures node { OnOk result (self.new.nodes.items ≡ self.old.nodes.items ++ found.node ∷ []) }
         ensures goals { OnOk result (self.new.goals ≡ self.old.goals) }
-        ensures within { OnOk result (length self.old.names ≤ limit → length self.new.names ≤ limit) }
-        ensures fault { IfErr result (IsLimitFault limit (all_added self.old.names found.prerequisites)) }
+        ensures within { OnOk result (length self.new.names ≤ limit) }
+        ensures fault { IfErr result (IsLimitFault limit self.old.names) }
     {
-        let Some(row) = self.names.add_all(alloc, &found.prerequisites, limit)? else {
+        if self.names.len() > limit {
             return Err(NumberingFault::TooMany);
-        };
-        self.rows.push_row(&row)?;
+        }
+        self.rows.push_row(&found.prerequisites)?;
         self.nodes.push(found.node)?;
         Ok(())
     }
@@ -197,10 +210,11 @@ pub fn number<R: Dependencies>(
     ensures follows { R.follows source.old (is_ok result) source.new }
 {
     let mut numbered = Numbered::of_goals(alloc, goals, limit)?;
+    let mut notes = source.notes(alloc);
     while numbered.rows.len() < numbered.names.len() {
-        let name = numbered.names.name(numbered.rows.len());
-        match source.prerequisites(alloc, name) {
-            Ok(found) => numbered.take_in(alloc, found, limit)?,
+        let number = numbered.rows.len();
+        match source.prerequisites(alloc, &mut numbered.names, &mut notes, number) {
+            Ok(found) => numbered.take_in(found, limit)?,
             Err(cause) => return Err(NumberingFault::Source(cause)),
         }
     }

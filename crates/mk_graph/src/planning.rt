@@ -7,6 +7,7 @@ ghost use Rattle.std.specs.BTreeSet.{contains};
 ghost use Rattle.mk_graph.specs.Edges.{row, has, times};
 ghost use Rattle.mk_graph.specs.Plan.{IsPlan, OnePlan, WholePlan};
 ghost use Rattle.mk_graph.specs.Ready.{is_open, are_ready, IsBelow};
+ghost use Rattle.mk_graph.specs.Users.{HasUsers};
 
 use crate::edges::Edges;
 use std::alloc::{AllocError, Global};
@@ -73,9 +74,11 @@ fn count_down(
         ≡ (contains nat_cmp ready.old q || (nat_lt q from && (has users.now q && nat_eq (slice_index missing.new q) 0)))) }
 {
     for user in users {
-        missing[*user] -= 1;
-        if missing[*user] == 0 && *user < from {
-            ready.insert(*user)?;
+        let node = *user;
+        let lacks = missing[node] - 1;
+        missing[node] = lacks;
+        if lacks == 0 && node < from {
+            ready.insert(node)?;
         }
     }
     Ok(())
@@ -89,6 +92,20 @@ pub fn plan(alloc: Global, edges: &Edges) -> Result<Vec<usize>, AllocError>
     ensures nodes { IfOk result (λ order. list_all (λ n. nat_lt n (length edges.now)) order.items ≡ true) }
 {
     let users = edges.reversed(alloc)?;
+    plan_by_users(alloc, edges, &users)
+}
+
+/// The plan of a graph whose users are known.
+pub(crate) fn plan_by_users(
+    alloc: Global,
+    edges: &Edges,
+    users: &Edges,
+) -> Result<Vec<usize>, AllocError>
+    requires { HasUsers edges.now users.now }
+    ensures plan { IfOk result (λ order. IsPlan edges.now order.items) }
+    ensures once { IfOk result (λ order. IsDistinct nat_eq order.items) }
+    ensures nodes { IfOk result (λ order. list_all (λ n. nat_lt n (length edges.now)) order.items ≡ true) }
+{
     let mut missing = counts(alloc, edges)?;
     let mut ready = BTreeSet::new(alloc);
     let mut from = 0;

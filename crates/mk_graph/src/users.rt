@@ -1,6 +1,6 @@
 //! Rows of users, filled once it is known how many each node has.
 
-ghost use Rattle.std.specs.Prelude.{◌≡◌, ℕ, ◌+◌, ◌<◌, ◌≤◌, ◌^◌, ◌∷◌, ◌++◌, length, replicate, slice_index, sum, IfOk};
+ghost use Rattle.std.specs.Prelude.{◌≡◌, ℕ, ◌+◌, ◌<◌, ◌≤◌, ◌^◌, ◌∷◌, ◌++◌, length, take, replicate, slice_index, sum, IfOk};
 ghost use Rattle.byte_strings.specs.Pieces.{AreEnds};
 ghost use Rattle.mk_graph.specs.Edges.{times};
 ghost use Rattle.mk_graph.specs.Users.{ends_from, filled};
@@ -36,27 +36,41 @@ pub fn ends_of(alloc: Global, lengths: &[usize]) -> Result<Vec<usize>, AllocErro
     Ok(ends)
 }
 
-/// Notes a node behind what the row of each of its prerequisites has so far, as often as it names it.
+/// Where the rows begin that end there.
+pub fn starts_of(alloc: Global, ends: &[usize]) -> Result<Vec<usize>, AllocError>
+    ensures { IfOk result (λ starts. starts.items ≡ take (length ends.now) (0 ∷ ends.now)) }
+{
+    let mut starts = Vec::with_capacity(alloc, ends.len())?;
+    let mut start = 0;
+    for end in ends {
+        starts.push(start)?;
+        start = *end;
+    }
+    Ok(starts)
+}
+
+/// Notes a node where the next user of each of its prerequisites goes, as often as it names it.
 pub fn note_user(
     node: usize,
     prerequisites: &[usize],
     ends: &[usize],
-    left: &mut [usize],
+    next: &mut [usize],
     users: &mut [usize],
 )
     requires ends { AreEnds (length users.old) 0 ends.now }
-    requires nodes { length left.old ≡ length ends.now }
-    requires room { (n : ℕ) → n < length ends.now → times n prerequisites.now ≤ slice_index left.old n }
-    requires rows { (n : ℕ) → n < length ends.now → slice_index (0 ∷ ends.now) n + slice_index left.old n ≤ slice_index ends.now n }
-    ensures left { (n : ℕ) → n < length ends.now → slice_index left.new n + times n prerequisites.now ≡ slice_index left.old n }
-    ensures rows { (n : ℕ) → n < length ends.now → filled users.new ends.now left.new n
-        ≡ filled users.old ends.now left.old n ++ replicate (times n prerequisites.now) node }
+    requires nodes { length next.old ≡ length ends.now }
+    requires rows { (n : ℕ) → n < length ends.now → slice_index (0 ∷ ends.now) n ≤ slice_index next.old n }
+    requires room { (n : ℕ) → n < length ends.now → slice_index next.old n + times n prerequisites.now ≤ slice_index ends.now n }
+    ensures next { (n : ℕ) → n < length ends.now → slice_index next.new n ≡ slice_index next.old n + times n prerequisites.now }
+    ensures rows { (n : ℕ) → n < length ends.now → filled users.new ends.now next.new n
+        ≡ filled users.old ends.now next.old n ++ replicate (times n prerequisites.now) node }
 {
     for prerequisite in prerequisites {
         let number = *prerequisite;
         if number < ends.len() {
-            users[ends[number] - left[number]] = node;
-            left[number] -= 1;
+            let place = next[number];
+            users[place] = node;
+            next[number] = place + 1;
         }
     }
 }

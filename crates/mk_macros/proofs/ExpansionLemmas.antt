@@ -403,3 +403,30 @@ module _ (wide : Bool) (meaning : List ℕ → Meaning) where
           short = inner.2;
           stands = stands-grow state state' grows inner.0 inner.1 before behind inner.3;
         }
+
+    -- a macro whose text stands for itself is known without being begun
+    pub know : (name text : List ℕ) → IsExpanding root state cs made left → meaning name ≡ defined text → state name ≡ unseen →
+        ((opened : List (List ℕ)) → Expands wide meaning opened [] text (gives text)) → SetsProgress state name (known text) state' → IsExpanding root state' cs made left
+    know name text now is_defined is_new expands sets =
+        let grows : (n : List ℕ) → IsKnown state n → IsKnown state' n = λ n k.
+        ⊎_elim (λ e. let bad : unseen ≡ known k.0 = sym is_new ∙ sym (ap state e) ∙ k.1 in absurd (cc)) (λ ne. (k.0, sets.others n ne ∙ k.1)) (same_or_not n name) in
+        let keep : (n : List ℕ) → IsOneOf n (names cs) → state n ≡ opened → state' n ≡ opened = λ n i o.
+        ⊎_elim (λ e. let bad : unseen ≡ opened = sym is_new ∙ sym (ap state e) ∙ o in absurd (cc)) (λ ne. sets.others n ne ∙ o) (same_or_not n name) in
+        record {
+          own = now.own;
+          text = now.text;
+          right = λ n v k.
+              ⊎_elim
+              (λ e. let same : known text ≡ known v = sym sets.at ∙ sym (ap state' e) ∙ k in
+              let v_is : text ≡ v = cc in
+              (text, ap meaning e ∙ is_defined, λ outer a. subst (λ w. Expands wide meaning (n ∷ outer) [] text (gives w)) v_is (expands (n ∷ outer))))
+              (λ ne. let r = now.right n v (sym (sets.others n ne) ∙ k) in (r.0, r.1, λ outer a. r.2 outer (avoids-grow state state' grows outer a)))
+              (same_or_not n name);
+          open_among = λ n o.
+              ⊎_elim (λ e. let bad : known text ≡ opened = sym sets.at ∙ sym (ap state' e) ∙ o in absurd (cc))
+              (λ ne. now.open_among n (sym (sets.others n ne) ∙ o))
+              (same_or_not n name);
+          leads = leads-grow state state' grows root cs now.own now.text keep now.leads;
+          short = now.short;
+          stands = stands-grow state state' grows now.own now.text made left now.stands;
+        }

@@ -7,6 +7,7 @@ pub mod MentionLemmas
 pub mod OutcomeLemmas
 pub mod PartLemmas
 pub mod PatternLemmas
+pub mod PlainLemmas
 pub mod SomeOutcomeLemmas
 pub mod SpelledLemmas
 pub mod StateLemmas

@@ -119,6 +119,20 @@ unseen_cost-leave state state' name value sets es = unseen_cost-falls state stat
     leaves n k true e = let same = (bytes_eq-Decides n name).0 e in rw same (rw sets.at (omega arith))
     leaves n k false e = rw (sets.others n (λ same. absurd (false≢true (sym e ∙ (bytes_eq-Decides n name).1 same)))) (omega arith)
 
+-- a macro that is known without being begun pays for its text
+pub unseen_cost-know : (state state' : List ℕ → Progress) (name text : List ℕ) → state name ≡ unseen → SetsProgress state name (known text) state' →
+    (es : List (List ℕ × Ranks)) → in_force (ranks_at es name) ≡ Some text → unseen_cost state' es + (length text + 2) ≤ unseen_cost state es
+unseen_cost-know state state' name text is_new sets es has =
+    let between : List ℕ → Progress = λ n. cond (bytes_eq n name) opened (state n) in
+    let itself : bytes_eq name name ≡ true = (bytes_eq-Decides name name).1 refl in
+    let differs : (n : List ℕ) → (n ≡ name → ⊥) → bytes_eq n name ≡ false = λ n apart. bytes_eq-other n name (λ e. apart (sym e)) (bytes_eq n name) refl in
+    let begins : SetsProgress state name opened between = record {
+      at = ap (λ t. cond t opened (state name)) itself;
+      others = λ n apart. ap (λ t. cond t opened (state n)) (differs n apart);
+    } in
+    let leaves : SetsProgress between name (known text) state' = record { at = sets.at; others = λ n apart. sets.others n apart ∙ sym (begins.others n apart) } in
+    omega (arith, unseen_cost-enter state between name text is_new begins es has, unseen_cost-leave between state' name text leaves es)
+
 -- what is left to read
 abbrev pub left_cost : CodeLeft → ℕ
 left_cost (left.Text rest) = length rest.now

@@ -9,6 +9,7 @@ use crate::definitions::Macros;
 use crate::dynamic::Dynamic;
 use crate::fault::MacroFault;
 use crate::lookup::Progress;
+use crate::plain::{expand_plain, has_reference, is_own_value};
 use crate::reference::{Piece, named, next_piece};
 use crate::substitution::append;
 use mk_profile::Profile;
@@ -53,6 +54,9 @@ impl Macros {
         ensures found { IfOk result (λ v. ExpandsTo (meanings_of (defined_by self.now) line.now) text.now (gives v.items)) }
         ensures fault { IfErr result (ExpandsToFault (meanings_of (defined_by self.now) line.now) text.now) }
     {
+        if !has_reference(text) {
+            return expand_plain(alloc, text);
+        }
         self.expand_in(alloc, self.profile(), text, line)
     }
 
@@ -129,6 +133,12 @@ impl Macros {
                         )? {
                             None => left = Left::Text(after),
                             Some((name, text)) => {
+                                if is_own_value(text) {
+                                    let value = Vec::from_slice(alloc, text)?;
+                                    progress.insert(name, Progress::Known(value))?;
+                                    left = Left::Text(rest);
+                                    continue 'pieces;
+                                }
                                 progress.insert(name, Progress::Opened)?;
                                 callers.push(Caller {
                                     awaited: Awaited::Value(name, Left::Text(rest)),

@@ -8,6 +8,7 @@ mod fault;
 mod laws;
 mod lookup;
 mod mention;
+mod plain;
 mod reference;
 mod substitution;
 

@@ -2,7 +2,8 @@
 ghost use Rattle.std.specs.Prelude.{◌≡◌, ◌≤◌, length, bytes_eq};
 ghost use Rattle.std.specs.List.{list_any, prefix_len};
 ghost use Rattle.byte_strings.specs.Blanks.{words};
-ghost use Rattle.mk_notes.specs.Names.{has, is_plain, parts_of, is_suffix_name, is_named_by};
+ghost use Rattle.mk_reader.specs.Text.{begins_with};
+ghost use Rattle.mk_notes.specs.Names.{has, is_target, is_plain, parts_of, is_suffix_name, is_named_by};
 
 use byte_strings::Words;
 
@@ -35,6 +36,26 @@ pub(crate) fn has(names: &[&[u8]], name: &[u8]) -> bool
     ensures { result ≡ list_any (λ n. bytes_eq n.now name.now) names.now }
 {
     names.iter().any(|n| *n == name)
+}
+
+fn begins_with_dot(name: &[u8]) -> bool
+    ensures { result ≡ begins_with 46 name.now }
+{
+    match name.split_first() {
+        Some((first, _)) => *first == b'.',
+        None => false,
+    }
+}
+
+/// Whether the name has a meaning elsewhere. Each of these begins with a dot.
+#[tactic(auto, using(crate::proofs::NameLemmas::without_dot))]
+pub(crate) fn is_target(name: &[u8]) -> bool
+    ensures { result ≡ is_target name.now }
+{
+    if !begins_with_dot(name) {
+        return false;
+    }
+    has(&TARGETS, name)
 }
 
 fn is_plain(byte: u8) -> bool

@@ -6,7 +6,7 @@ ghost use Rattle.mk_notes.specs.Notes.{all_noted};
 ghost use Rattle.mk_notes.specs.References.{listed};
 ghost use Rattle.mk_notes.specs.Statements.{recipe_texts, rule_texts, item_texts, texts_noted, is_suffix_rule, target_of, target_noted, statement_noted, statements_noted, special_suffixes, suffixes_of, statement_suffixes, automatic_in, mark_of, marks, marks_of, statement_marks, counts};
 
-use crate::names::{TARGETS, has, is_named_by, is_suffix_name};
+use crate::names::{is_named_by, is_suffix_name, is_target};
 use crate::note::{Note, Subject};
 use crate::notes::Notes;
 use crate::references::is_automatic;
@@ -30,7 +30,7 @@ fn target_of(alloc: Global, profile: Profile, rule: &Rule) -> Result<Option<Subj
     ensures { IfOk result (λ found. found ≡ target_of profile rule.now) }
 {
     let name = rule.targets.as_slice();
-    if has(&TARGETS, name) {
+    if is_target(name) {
         return Ok(Some(Subject::Target(ByteString::from_slice(alloc, name)?)));
     }
     if !profile.is_wide() && is_suffix_rule(rule) {

@@ -3,6 +3,8 @@ pub mod NodeLemmas
 pub mod RecipeLemmas
 pub mod PartLemmas
 pub mod PassingLemmas
+pub mod KeptLemmas
+pub mod FinishedLemmas
 pub mod SameLemmas
 pub mod AlikeLemmas
 pub mod OneNodeLemmas

@@ -1,4 +1,5 @@
 pub mod ExplicitWords
+pub mod Finished
 pub mod Known
 pub mod Nodes
 pub mod PartTests

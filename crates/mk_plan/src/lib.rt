@@ -4,6 +4,8 @@
 
 mod explicit_words;
 mod fault;
+mod finished;
+mod kept;
 mod laws;
 mod nodes;
 mod part_words;

@@ -122,7 +122,7 @@ pub fn is_marked(marks: &[bool], node: usize) -> bool
 }
 
 /// Whether both have a file, and that of the prerequisite is later.
-fn is_later(prerequisite: Option<i128>, target: Option<i128>) -> bool
+pub fn is_later(prerequisite: Option<i128>, target: Option<i128>) -> bool
     ensures { result ≡ is_later prerequisite target }
 {
     match (prerequisite, target) {

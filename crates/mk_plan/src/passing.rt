@@ -7,6 +7,7 @@ ghost use Rattle.mk_plan.specs.Passage.{is_listed};
 ghost use Rattle.mk_plan.specs.Passing.{Passes, IsFaultAt, is_remade, told_in};
 
 use crate::fault::RecipeFault;
+use crate::finished::is_finished;
 use crate::nodes::ends_remade;
 use crate::parts::recipe_of;
 use crate::recipe::lines_of;
@@ -89,6 +90,9 @@ pub fn pass(
     ensures passes { IfOk result (λ p. Passes keeping graph.now marks.now node (is_remade p) (told_in graph.now node p)) }
     ensures fault { IfErr result (IsFaultAt graph.now marks.now node) }
 {
+    if is_finished(alloc, keeping, graph, marks, node)? {
+        return Ok(Passed::UpToDate);
+    }
     match recipe_of(alloc, graph, node)? {
         Some(recipe) => pass_recipe(alloc, keeping, graph, marks, node, &recipe),
         None if ends_remade(graph, marks, node) => Ok(Passed::Remade),

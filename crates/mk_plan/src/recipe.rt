@@ -97,7 +97,7 @@ fn expanded_lines(
 }
 
 /// What the dynamic macros stand for in the part of a node's recipe that this line has.
-fn names_for<'n>(
+pub fn names_for<'n>(
     graph: &'n Graph,
     marks: &[bool],
     node: usize,

@@ -41,7 +41,7 @@ fn hidden_seen<'g>(graph: &'g Graph, marks: &[bool], hidden: Option<usize>) -> P
 }
 
 /// The hidden prerequisites of a node that are no hard ones.
-fn hidden_of(graph: &Graph, node: usize) -> &[Option<usize>]
+pub fn hidden_of(graph: &Graph, node: usize) -> &[Option<usize>]
     ensures { result.now ≡ hidden_of graph.now node }
 {
     match graph.nodes.get(node) {

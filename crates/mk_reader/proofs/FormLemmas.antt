@@ -1,8 +1,8 @@
 -- Steps along a line, for a byte outside references.
 use Rattle.std.proofs.Common.{◌≡◌, ℕ, ◌+◌, ◌<◌, ◌≤◌, Bool, true, false, cond, ◌&&◌, ◌||◌, ◌==◌, List, ◌∷◌, length, drop, get_or, refl, sym, ap, ◌∙◌, arith, Option, Some, None, option_map}
 use Rattle.std.proofs.lemmas.List.{drop_more, drop_all}
-use Rattle.std.specs.Str.{IsUtf8, is_utf8}
-use Rattle.std.proofs.lemmas.Str.{IsUtf8-from_is_utf8}
+use Rattle.std.specs.Str.{IsUtf8, IsAscii, is_utf8}
+use Rattle.std.proofs.lemmas.Str.{IsUtf8-from_is_utf8, IsUtf8-from_ascii, is_utf8-from_IsUtf8}
 use Rattle.mk_reader.specs.declared.form.Place.{Place}
 use Rattle.mk_reader.specs.Form.{next_place, is_outside, first_outside}
 
@@ -35,3 +35,6 @@ false_from_not false h = refl
 -- the test of bytes that aren't UTF-8
 pub is_utf8-none : (bs : List ℕ) → (IsUtf8 bs → ⊥) → is_utf8 bs ≡ false
 is_utf8-none bs h = false_from_not (is_utf8 bs) (λ e. h (IsUtf8-from_is_utf8 bs e))
+
+pub ascii_is_utf8 : (bs : List ℕ) → IsAscii bs → true ≡ is_utf8 bs
+ascii_is_utf8 bs h = sym (is_utf8-from_IsUtf8 bs (IsUtf8-from_ascii bs h))

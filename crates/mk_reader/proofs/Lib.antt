@@ -6,10 +6,13 @@ pub mod FormLemmas
 pub mod GrammarLemmas
 pub mod JoinedLemmas
 pub mod LinesLemmas
+pub mod OutsideLemmas
+pub mod PlaceLemmas
 pub mod PrintedItemsLemmas
 pub mod PrintedLemmas
 pub mod ReferenceLemmas
 pub mod SaidLemmas
+pub mod SpecialLemmas
 pub mod SpelledLemmas
 pub mod SpellingLemmas
 pub mod SplitLemmas

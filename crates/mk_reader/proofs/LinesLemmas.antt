@@ -1,5 +1,5 @@
 -- The first line of a text, and the lines behind it.
-use Rattle.std.proofs.Common.{◌≡◌, ℕ, ◌+◌, ◌<◌, ◌≤◌, min, Bool, true, false, cond, List, [], ◌∷◌, ◌++◌, length, take, drop, flat_map, refl, sym, ap, ◌∙◌, ◌⊎◌, inl, inr, append_assoc, arith, Option, Some, None, option_copied, Bor}
+use Rattle.std.proofs.Common.{◌≡◌, ℕ, ◌+◌, ◌<◌, ◌≤◌, min, Bool, true, false, cond, List, [], ◌∷◌, ◌++◌, length, take, drop, flat_map, refl, sym, ap, ◌∙◌, ◌⊎◌, inl, inr, append_assoc, append-nil, arith, Option, Some, None, option_copied, Bor}
 use Rattle.std.specs.List.{position_or_len, before_first, after_first, slice_split, onto_first}
 use Rattle.std.proofs.lemmas.List.{drop_more, length-drop, take_all}
 use Rattle.std.proofs.lemmas.List.Splits.{slice_split_first, slice_split_none, length-slice_split}
@@ -102,3 +102,15 @@ logical_line-is number recipe text p ps kind joined =
 pub no_lines_left : (number : ℕ) (left : Option (Bor (List ℕ))) → left ≡ None → logical_lines number (option_copied left) ≡ []
 unfolding logical_lines
 no_lines_left number left e = ap (λ ls. numbered number (groups ls)) (nothing_left left e)
+
+-- a line that doesn't go on is a logical line
+pub text_alone : (recipe : Bool) (p : Physical) (ps : List Physical) (text : List ℕ) → goes_on p ≡ false → text ≡ opening recipe p → text ≡ opening recipe p ++ flat_map (joint recipe) (rest_of_group p ps)
+text_alone recipe p ps text ends told =
+    told ∙ sym (append-nil (opening recipe p)) ∙ ap (λ (qs : List Physical). opening recipe p ++ flat_map (joint recipe) qs) (sym (group_ends p ps (inl ends)).0)
+
+pub number_alone : (number next : ℕ) (p : Physical) (ps : List Physical) → goes_on p ≡ false → next ≡ min (number + 1) 18446744073709551615 → next ≡ number_after number (length (p ∷ rest_of_group p ps))
+unfolding number_after
+number_alone number next p ps ends told = told ∙ ap (λ (qs : List Physical). number_after number (length (p ∷ qs))) (sym (group_ends p ps (inl ends)).0)
+
+pub left_alone : (p : Physical) (ps : List Physical) → goes_on p ≡ false → ps ≡ after_group p ps
+left_alone p ps ends = sym (group_ends p ps (inl ends)).1

@@ -4,17 +4,14 @@ ghost use Rattle.std.specs.List.{before_first};
 ghost use Rattle.mk_reader.specs.Text.{is_hash};
 ghost use Rattle.mk_reader.specs.Form.{unescaped_from};
 
+use crate::lines::len_before;
 use std::alloc::{AllocError, Global};
 
 /// What stands before the first `#`.
 pub fn before_comment(text: &[u8]) -> &[u8]
     ensures { result.now ≡ before_first is_hash text.now }
 {
-    let mut count = 0;
-    while count < text.len() && text[count] != b'#' {
-        count += 1;
-    }
-    text.split_at(count).0
+    text.split_at(len_before(text, b'#')).0
 }
 
 /// Takes in a byte that is no comment's `#`, and answers whether it is a backslash that isn't written yet.

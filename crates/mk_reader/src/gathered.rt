@@ -95,13 +95,13 @@ impl Gathered {
         alloc: Global,
         profile: Profile,
         file: &[u8],
-        line: LogicalLine,
+        line: LogicalLine<'_>,
     ) -> Result<bool, AllocError>
         ensures goes_on { IfOk result (λ ended. ended ≡ false → (more : List Line) (whole : List Said)
             → ComesTo profile file.now self.new.statements.items self.new.unfinished more whole
-            → ComesTo profile file.now self.old.statements.items self.old.unfinished (line ∷ more) whole) }
+            → ComesTo profile file.now self.old.statements.items self.old.unfinished (line.entry ∷ more) whole) }
         ensures ended { IfOk result (λ ended. ended ≡ true → (more : List Line)
-            → ComesTo profile file.now self.old.statements.items self.old.unfinished (line ∷ more) self.new.statements.items) }
+            → ComesTo profile file.now self.old.statements.items self.old.unfinished (line.entry ∷ more) self.new.statements.items) }
     {
         let number = line.number;
         let form = match form_of(alloc, profile, file, line) {

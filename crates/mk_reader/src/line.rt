@@ -1,7 +1,8 @@
 //! Physical and logical lines, as values.
 use byte_strings::ByteString;
 use mk_profile::Profile;
-use std::alloc::Global;
+use std::alloc::{AllocError, Global};
+use std::marker::Model;
 
 /// What ends a physical line.
 #[derive(Clone, Copy)]
@@ -19,13 +20,67 @@ pub struct PhysicalLine<'a> {
     pub ending: Ending,
 }
 
+/// The text of a logical line: a part of the file's, or several physical lines joined.
+#[derive(Drop)]
+pub struct LineText<'a> {
+    part: &'a [u8],
+    joined: Option<Vec<u8>>,
+}
+
+impl<'a> Model for LineText<'a> {
+    ghost use Rattle.std.specs.Prelude.{List, ℕ, option_map, unwrap_or};
+
+    ghost Value = { List ℕ };
+
+    ghost view = { λ t. unwrap_or (option_map (λ v. v.items) t.joined) t.part.now };
+}
+
+impl<'a> LineText<'a> {
+    ghost use Rattle.std.specs.Prelude.{◌≡◌, IfOk};
+
+    pub fn part(part: &'a [u8]) -> LineText<'a>
+        ensures { result ≡ part.now }
+    {
+        LineText { part, joined: None }
+    }
+
+    pub fn joined(text: Vec<u8>) -> LineText<'a>
+        ensures { result ≡ text.items }
+    {
+        LineText {
+            part: b"".as_slice(),
+            joined: Some(text),
+        }
+    }
+
+    pub fn as_slice(&self) -> &[u8]
+        ensures { result.now ≡ self.now }
+    {
+        match &self.joined {
+            Some(text) => text.as_slice(),
+            None => self.part,
+        }
+    }
+
+    /// The text as a byte string, copied where it is a part of the file's.
+    pub fn into_string(self, alloc: Global) -> Result<ByteString, AllocError>
+        ensures { IfOk result (λ s. s ≡ self.entry) }
+    {
+        let LineText { part, joined } = self;
+        match joined {
+            Some(text) => Ok(ByteString::new(text)),
+            None => ByteString::from_slice(alloc, part),
+        }
+    }
+}
+
 /// Physical lines joined where a backslash stands at the end. A recipe line is without its TAB.
 #[derive(Drop)]
-pub struct LogicalLine {
+pub struct LogicalLine<'a> {
     /// The number of the first physical line.
     pub number: usize,
     pub is_recipe: bool,
-    pub text: ByteString,
+    pub text: LineText<'a>,
 }
 
 /// Where a line stands, in which language it is read, and what allocates what is made of it.

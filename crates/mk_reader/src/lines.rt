@@ -4,8 +4,9 @@ ghost use Rattle.std.specs.List.{suffix_len, position_or_len};
 ghost use Rattle.mk_reader.specs.Text.{is_newline, is_backslash, begins_with, ends_with, without_last, without_tab};
 ghost use Rattle.mk_reader.specs.Lines.{ended_line, goes_on, body, opening, joint, groups, lines_left, rest_of_group, after_group, logical_line, is_recipe, logical_lines, joined_lines, numbered, number_after, physical, size_left};
 
-use crate::line::{Ending, LogicalLine, PhysicalLine};
-use byte_strings::{ByteString, trim_start};
+use crate::line::{Ending, LineText, LogicalLine, PhysicalLine};
+use byte_strings::trim_start;
+use memchr::memchr;
 use std::alloc::{AllocError, Global};
 
 pub fn begins_with(bytes: &[u8], byte: u8) -> bool
@@ -76,16 +77,16 @@ fn trailing_backslashes(bytes: &[u8]) -> usize
     bytes.len() - end
 }
 
-/// The place of the first newline, or the length.
-fn line_len(bytes: &[u8]) -> usize
-    ensures value { result ≡ position_or_len is_newline bytes.now }
+/// How many bytes stand before the first of these.
+#[tactic(auto, using(crate::proofs::PlaceLemmas::first_place))]
+pub fn len_before(bytes: &[u8], byte: u8) -> usize
+    ensures value { result ≡ position_or_len (λ b. b == byte) bytes.now }
     ensures within { result ≤ length bytes.now }
 {
-    let mut count = 0;
-    while count < bytes.len() && bytes[count] != b'\n' {
-        count += 1;
+    match memchr(byte, bytes) {
+        Some(at) => at,
+        None => bytes.len(),
     }
-    count
 }
 
 #[tactic(auto, unfolding(crate::specs::Lines::ended_line))]
@@ -110,7 +111,7 @@ fn next_line(bytes: &[u8]) -> (PhysicalLine<'_>, Option<&[u8]>)
     ensures lines { lines_left (Some bytes.now) ≡ physical result.0 ∷ lines_left (option_copied result.1) }
     ensures shorter { size_left (option_copied result.1) ≤ length bytes.now }
 {
-    let (text, rest) = bytes.split_at(line_len(bytes));
+    let (text, rest) = bytes.split_at(len_before(bytes, b'\n'));
     match rest.split_first() {
         Some((_, after)) => (ended_line(text), Some(after)),
         None => {
@@ -158,13 +159,13 @@ fn push_joint(text: &mut Vec<u8>, is_recipe: bool, line: PhysicalLine<'_>) -> Re
 }
 
 #[tactic(auto, unfolding(crate::specs::Lines::opening))]
-fn push_first(text: &mut Vec<u8>, is_recipe: bool, line: PhysicalLine<'_>) -> Result<(), AllocError>
-    ensures { OnOk result (text.new.items ≡ text.old.items ++ opening is_recipe (physical line.entry)) }
+fn opening(is_recipe: bool, line: PhysicalLine<'_>) -> &[u8]
+    ensures { result.now ≡ opening is_recipe (physical line.entry) }
 {
     if is_recipe {
-        text.extend_from_slice(without_first(body(line)))
+        without_first(body(line))
     } else {
-        text.extend_from_slice(body(line))
+        body(line)
     }
 }
 
@@ -199,25 +200,50 @@ fn join_rest<'a>(
     Ok((number, left))
 }
 
+/// The text of the logical line that begins with `first`, the number of the line behind it, and what is left there.
+#[tactic(auto, using(crate::proofs::LinesLemmas::text_alone, crate::proofs::LinesLemmas::number_alone, crate::proofs::LinesLemmas::left_alone))]
+fn whole_text<'a>(
+    alloc: Global,
+    number: usize,
+    is_recipe: bool,
+    first: PhysicalLine<'a>,
+    left: Option<&'a [u8]>,
+) -> Result<(LineText<'a>, usize, Option<&'a [u8]>), AllocError>
+    ensures text { let others = rest_of_group (physical first.entry) (lines_left (option_copied left.entry)) in
+        IfOk result (λ found. found.0 ≡ opening is_recipe (physical first.entry) ++ flat_map (joint is_recipe) others) }
+    ensures number { let others = rest_of_group (physical first.entry) (lines_left (option_copied left.entry)) in
+        IfOk result (λ found. found.1 ≡ number_after number (length (physical first.entry ∷ others))) }
+    ensures left { IfOk result (λ found. lines_left (option_copied found.2)
+        ≡ after_group (physical first.entry) (lines_left (option_copied left.entry))) }
+    ensures shorter { IfOk result (λ found.
+        size_left (option_copied found.2) ≤ size_left (option_copied left.entry)) }
+{
+    if !goes_on(first) {
+        let text = LineText::part(opening(is_recipe, first));
+        return Ok((text, number.saturating_add(1), left));
+    }
+    let mut text = Vec::from_slice(alloc, opening(is_recipe, first))?;
+    let (next_number, left) = join_rest(&mut text, is_recipe, first, number, left)?;
+    Ok((LineText::joined(text), next_number, left))
+}
+
 /// The logical line that the bytes begin with, the number of the line behind it, and what is left there.
 pub fn next_logical_line(
     alloc: Global,
     number: usize,
     bytes: &[u8],
-) -> Result<(LogicalLine, usize, Option<&[u8]>), AllocError>
+) -> Result<(LogicalLine<'_>, usize, Option<&[u8]>), AllocError>
     ensures line { IfOk result (λ found. logical_lines number (Some bytes.now)
         ≡ found.0 ∷ logical_lines found.1 (option_copied found.2)) }
     ensures shorter { IfOk result (λ found. size_left (option_copied found.2) ≤ length bytes.now) }
 {
     let (first, left) = next_line(bytes);
     let is_recipe = begins_with(first.text, b'\t');
-    let mut text = Vec::new(alloc);
-    push_first(&mut text, is_recipe, first)?;
-    let (next_number, left) = join_rest(&mut text, is_recipe, first, number, left)?;
+    let (text, next_number, left) = whole_text(alloc, number, is_recipe, first, left)?;
     let line = LogicalLine {
         number,
         is_recipe,
-        text: ByteString::new(text),
+        text,
     };
     Ok((line, next_number, left))
 }
@@ -230,8 +256,7 @@ pub fn next_joined_line(alloc: Global, bytes: &[u8]) -> Result<(Vec<u8>, Option<
     ensures shorter { IfOk result (λ found. size_left (option_copied found.1) ≤ length bytes.now) }
 {
     let (first, left) = next_line(bytes);
-    let mut text = Vec::new(alloc);
-    push_first(&mut text, false, first)?;
+    let mut text = Vec::from_slice(alloc, opening(false, first))?;
     let (_, left) = join_rest(&mut text, false, first, 1, left)?;
     Ok((text, left))
 }

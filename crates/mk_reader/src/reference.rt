@@ -6,6 +6,7 @@ ghost use Rattle.mk_reader.specs.declared.form.Place.TheVariants.{Outside};
 
 use crate::form::Place;
 use crate::lines::around;
+use memchr::memchr3;
 
 #[tactic(auto, unfolding(crate::specs::Form::next_place))]
 fn next_place(place: Place, byte: u8) -> Place
@@ -43,8 +44,8 @@ fn is_found(place: Place, byte: u8, one: u8, other: u8) -> bool
     }
 }
 
-/// The first place of one of two bytes outside references. A reference that isn't closed reaches to the end.
-pub fn first_outside(bytes: &[u8], one: u8, other: u8) -> Option<usize>
+/// The first place of one of two bytes outside references, found byte by byte.
+fn outside_references(bytes: &[u8], one: u8, other: u8) -> Option<usize>
     ensures found { result ≡ first_outside one other Outside bytes.now }
     ensures within { IfSome result (λ at. at < length bytes.now) }
 {
@@ -59,6 +60,23 @@ pub fn first_outside(bytes: &[u8], one: u8, other: u8) -> Option<usize>
         at += 1;
     }
     None
+}
+
+/// The first place of one of two bytes outside references. A reference that isn't closed reaches to the end.
+pub fn first_outside(bytes: &[u8], one: u8, other: u8) -> Option<usize>
+    ensures found { result ≡ first_outside one other Outside bytes.now }
+    ensures within { IfSome result (λ at. at < length bytes.now) }
+{
+    match memchr3(one, other, b'$', bytes) {
+        None => None,
+        Some(at) => {
+            // Before most such bytes stands no reference.
+            if bytes[at] == b'$' {
+                return outside_references(bytes, one, other);
+            }
+            Some(at)
+        }
+    }
 }
 
 /// What stands before the first such byte outside references, and what stands behind it. References begin with `$`.

@@ -2,6 +2,7 @@
 ghost use Rattle.std.specs.Prelude.{◌≡◌};
 ghost use Rattle.mk_reader.specs.Special.{name_text, is_known, special_name, is_refused, takes_no_prerequisites};
 
+use crate::lines::begins_with;
 use mk_profile::Profile;
 use std::fmt;
 
@@ -110,11 +111,14 @@ fn is_known(profile: Profile, name: SpecialName) -> bool
     }
 }
 
-/// The special name that the word is, if it is one.
-#[tactic(auto, unfolding(crate::specs::Special::special_name))]
+/// The special name that the word is, if it is one. Each begins with a dot.
+#[tactic(auto, unfolding(crate::specs::Special::special_name), using(crate::proofs::SpecialLemmas::without_dot))]
 pub fn special_name(profile: Profile, word: &[u8]) -> Option<SpecialName>
     ensures { result ≡ special_name profile word.now }
 {
+    if !begins_with(word, b'.') {
+        return None;
+    }
     ALL.iter().copied().find(|name| name.as_str().as_bytes() == word && is_known(profile, *name))
 }
 

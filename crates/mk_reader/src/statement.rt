@@ -13,7 +13,7 @@ use crate::directive::told_refusal;
 use crate::fault::{Cause, Feature, ReadFault};
 use crate::form::{Form, UnfinishedRule};
 use crate::item::{DefinitionKind, IncludeLine, Recipe, RecipeLine, Rule};
-use crate::line::{LinePlace, LogicalLine};
+use crate::line::{LinePlace, LineText, LogicalLine};
 use crate::lines::{around, begins_with, ends_with, without_first};
 use crate::reference::first_outside;
 use crate::refuse::refuse;
@@ -260,8 +260,8 @@ fn statement_form(place: LinePlace<'_>, text: &[u8]) -> Result<Form, ReadFault>
 }
 
 #[tactic(auto, unfolding(crate::specs::Form::recipe_form))]
-fn recipe_form(place: LinePlace<'_>, text: ByteString) -> Result<Form, ReadFault>
-    ensures { Gives result (recipe_form place.entry.file.now place.entry.number text) }
+fn recipe_form(place: LinePlace<'_>, text: LineText<'_>) -> Result<Form, ReadFault>
+    ensures { Gives result (recipe_form place.entry.file.now place.entry.number text.entry) }
 {
     if !is_text(text.as_slice()) {
         return Err(refuse(place, Cause::NotText));
@@ -270,7 +270,7 @@ fn recipe_form(place: LinePlace<'_>, text: ByteString) -> Result<Form, ReadFault
         return Ok(Form::Blank);
     }
     Ok(Form::Recipe(RecipeLine {
-        text,
+        text: text.into_string(place.alloc)?,
         line: place.number,
     }))
 }
@@ -281,9 +281,9 @@ pub fn form_of(
     alloc: Global,
     profile: Profile,
     file: &[u8],
-    line: LogicalLine,
+    line: LogicalLine<'_>,
 ) -> Result<Form, ReadFault>
-    ensures { Gives result (form_of profile file.now line) }
+    ensures { Gives result (form_of profile file.now line.entry) }
 {
     let LogicalLine {
         number,

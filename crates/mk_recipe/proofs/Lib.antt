@@ -1,6 +1,7 @@
 pub mod AnswerLemmas
 pub mod CallsLemmas
 pub mod HiddenLemmas
+pub mod KeptLemmas
 pub mod OutcomeLemmas
 pub mod NameLemmas
 pub mod RecordedLemmas

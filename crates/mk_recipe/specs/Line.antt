@@ -1,5 +1,5 @@
 -- The parts of a recipe line (make(1S), "Command Lines": `+`, `-`, `@`, `?`, `!` in front, in any order and between blanks).
-use Rattle.std.specs.Prelude.{◌≡◌, ◌⊎◌, ◌↔◌, ℕ, Bool, false, not, ◌&&◌, ◌||◌, ◌==◌, IsTrue, List, [], ◌∷◌, ◌++◌, codes, take, drop}
+use Rattle.std.specs.Prelude.{◌≡◌, ◌⊎◌, ◌↔◌, ℕ, Bool, false, not, ◌&&◌, ◌||◌, ◌==◌, if◌then◌else◌, IsTrue, List, [], ◌∷◌, ◌++◌, Option, Some, None, codes, take, drop}
 use Rattle.std.specs.List.{list_all, list_any, prefix_len}
 use Rattle.byte_strings.specs.Blanks.{is_blank}
 use Rattle.mk_profile.specs.Profile.{is_wide}
@@ -57,6 +57,16 @@ pub record IsLine (profile : Profile) (unexpanded expanded : List ℕ) (line : L
 -- the state keeps the line's text: the line isn't exempt, and the text isn't blank
 abbrev pub IsRecorded : Line → Type 0
 IsRecorded line = (line.is_exempt ≡ false) × (is_blank_text line.text ≡ false)
+
+-- what the state keeps of a line
+abbrev pub text_kept : Line → Option (List ℕ)
+text_kept line = if not line.is_exempt && not (is_blank_text line.text) then Some line.text else None
+
+-- this is what it keeps of the line that these texts give
+pub record IsKept (profile : Profile) (unexpanded expanded : List ℕ) (kept : Option (List ℕ)) : Type 0 where
+  pub line : Line
+  pub is_line : IsLine profile unexpanded expanded line
+  pub is_kept : kept ≡ text_kept line
 
 -- the texts that the state keeps of these lines, in their order
 pub data Records : List Line → List (List ℕ) → Type 0 where

@@ -1,8 +1,9 @@
 //! The lines of a recipe, and those that the state keeps.
-ghost use Rattle.std.specs.Prelude.{◌≡◌, ◌⊎◌, ◌↔◌, ◌≤◌, length, IfOk, IsTrue};
+ghost use Rattle.std.specs.Prelude.{◌≡◌, ◌⊎◌, ◌↔◌, ◌≤◌, false, length, option_copied, IfOk, IsTrue};
 ghost use Rattle.std.specs.List.{prefix_len};
 ghost use Rattle.mk_profile.specs.Profile.{is_wide};
-ghost use Rattle.mk_recipe.specs.Line.{is_front, is_blank_text, has, StandsIn, CallsMake, IsLine, Records};
+ghost use Rattle.mk_macros.specs.Mention.{RefersToNewer};
+ghost use Rattle.mk_recipe.specs.Line.{front, text_of, is_front, is_blank_text, has, StandsIn, CallsMake, IsLine, IsKept, Records};
 ghost use Rattle.mk_recipe.specs.Tests.{is_recorded};
 
 use bstr::ByteSlice;
@@ -77,9 +78,24 @@ fn is_always_run(profile: Profile, unexpanded: &[u8], front: &[u8]) -> bool
     profile.is_wide() && (has(front, b'+') || calls_make(unexpanded))
 }
 
+/// The line isn't compared with what the state has, with these prefixes.
+fn is_exempt(profile: Profile, unexpanded: &[u8], front: &[u8]) -> bool
+    ensures { IsTrue result ↔ ((has 33 front.now ≡ false) × (IsTrue (has 63 front.now) ⊎ RefersToNewer (is_wide profile) unexpanded.now)) }
+{
+    !has(front, b'!') && (has(front, b'?') || refers_to_newer(profile, unexpanded))
+}
+
+/// The prefixes of an expanded line, and what is left behind them.
+#[tactic(auto, unfolding(crate::specs::Line::front, crate::specs::Line::text_of))]
+fn parted(expanded: &[u8]) -> (&[u8], &[u8])
+    ensures front { result.0.now ≡ front expanded.now }
+    ensures text { result.1.now ≡ text_of expanded.now }
+{
+    expanded.split_at(front_len(expanded))
+}
+
 /// The line that an unexpanded and an expanded text give, in this language: its prefixes are those of the expanded one, and a
 /// reference to `$?` in the unexpanded one exempts it too.
-#[tactic(auto, unfolding(crate::specs::Line::front, crate::specs::Line::text_of))]
 pub fn split_line(
     alloc: Global,
     profile: Profile,
@@ -88,15 +104,29 @@ pub fn split_line(
 ) -> Result<Line, AllocError>
     ensures { IfOk result (IsLine profile unexpanded.now expanded.now) }
 {
-    let (front, text) = expanded.split_at(front_len(expanded));
-    let is_exempt = !has(front, b'!') && (has(front, b'?') || refers_to_newer(profile, unexpanded));
+    let (front, text) = parted(expanded);
     Ok(Line {
         text: ByteString::from_slice(alloc, text)?,
         is_printed: !has(front, b'@') && !is_blank_text(text),
         is_ignored: has(front, b'-'),
-        is_exempt,
+        is_exempt: is_exempt(profile, unexpanded, front),
         is_always_run: is_always_run(profile, unexpanded, front),
     })
+}
+
+/// What the state keeps of the line that an unexpanded and an expanded text give, in this language: its text, unless the line is
+/// exempt or blank. It takes no memory.
+pub fn kept_text<'e>(profile: Profile, unexpanded: &[u8], expanded: &'e [u8]) -> Option<&'e [u8]>
+    ensures { IsKept profile unexpanded.now expanded.now (option_copied result) }
+{
+    let (front, text) = parted(expanded);
+    if is_exempt(profile, unexpanded, front) {
+        return None;
+    }
+    if is_blank_text(text) {
+        return None;
+    }
+    Some(text)
 }
 
 impl Line {

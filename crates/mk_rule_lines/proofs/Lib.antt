@@ -11,6 +11,7 @@ pub mod MarkLemmas
 pub mod NameLemmas
 pub mod OwnGoalLemmas
 pub mod PlaceLemmas
+pub mod PlainLemmas
 pub mod RecipeLemmas
 pub mod ResultLemmas
 pub mod SuffixLemmas

@@ -18,26 +18,26 @@ use Rattle.mk_reader.specs.declared.special.SpecialName.TheVariants.{Phony}
 use Rattle.mk_rule_lines.specs.Rules.{is_phony_list}
 use Rattle.mk_rule_lines.specs.declared.rule_line.RuleLine.{RuleLine}
 use Rattle.mk_macros.specs.Ranks.{Defined, rule_meanings}
-use Rattle.mk_rule_lines.specs.Lines.{AreWordsOf, IsRuleLine, AreRuleLines, no_items, behind_definition, a_rule, a_special, behind, behind_items, IsTextsFault, IsRuleLineFault, IsLinesFault, IsToldAt, told_place, told_file}
+use Rattle.mk_rule_lines.specs.Lines.{AreWordsOf, IsRuleLine, AreRuleLines, no_items, behind_definition, a_rule, a_special, behind, behind_items, AreTextsFault, IsRuleLineFault, IsLinesFault, IsToldAt, told_place, told_file}
 
 -- a fault of a rule's targets, or of its prerequisites, is one of its texts
-pub targets_fault : (given : Defined) (rule : Rule) (f : MacroFault) → ExpandsToFault (rule_meanings given) rule.targets f → IsTextsFault given rule f
-targets_fault given rule OutOfMemory meets = tt
-targets_fault given rule (Loop name) meets = inl meets
-targets_fault given rule Unclosed meets = inl meets
-targets_fault given rule NestedReference meets = inl meets
-targets_fault given rule TooLong meets = inl meets
+pub targets_fault : (given : Defined) (targets prerequisites : List ℕ) (f : MacroFault) → ExpandsToFault (rule_meanings given) targets f → AreTextsFault given targets prerequisites f
+targets_fault given targets prerequisites OutOfMemory meets = tt
+targets_fault given targets prerequisites (Loop name) meets = inl meets
+targets_fault given targets prerequisites Unclosed meets = inl meets
+targets_fault given targets prerequisites NestedReference meets = inl meets
+targets_fault given targets prerequisites TooLong meets = inl meets
 
-pub prerequisites_fault : (given : Defined) (rule : Rule) (f : MacroFault) → ExpandsToFault (rule_meanings given) rule.prerequisites f → IsTextsFault given rule f
-prerequisites_fault given rule OutOfMemory meets = tt
-prerequisites_fault given rule (Loop name) meets = inr meets
-prerequisites_fault given rule Unclosed meets = inr meets
-prerequisites_fault given rule NestedReference meets = inr meets
-prerequisites_fault given rule TooLong meets = inr meets
+pub prerequisites_fault : (given : Defined) (targets prerequisites : List ℕ) (f : MacroFault) → ExpandsToFault (rule_meanings given) prerequisites f → AreTextsFault given targets prerequisites f
+prerequisites_fault given targets prerequisites OutOfMemory meets = tt
+prerequisites_fault given targets prerequisites (Loop name) meets = inr meets
+prerequisites_fault given targets prerequisites Unclosed meets = inr meets
+prerequisites_fault given targets prerequisites NestedReference meets = inr meets
+prerequisites_fault given targets prerequisites TooLong meets = inr meets
 
 -- a fault of the texts, told of the place of the line, is one of the line
 pub told_at : (given : Defined) (rule : Rule) (place : Option TextPlace) (f : MacroFault) (told : RuleFault) →
-    place ≡ told_place given.language rule.file rule.line → IsToldAt place f told → IsTextsFault given rule f → IsRuleLineFault given rule told
+    place ≡ told_place given.language rule.file rule.line → IsToldAt place f told → AreTextsFault given rule.targets rule.prerequisites f → IsRuleLineFault given rule told
 told_at given rule place OutOfMemory told here is meets = subst (IsRuleLineFault given rule) (sym is) tt
 told_at given rule place (Loop name) told here is meets = subst (IsRuleLineFault given rule) (sym is) (record { text = meets; place = here })
 told_at given rule place Unclosed told here is meets = subst (IsRuleLineFault given rule) (sym is) (record { text = meets; place = here })

@@ -1,12 +1,12 @@
 -- The table of all lines, one line at a time.
 use Rattle.std.proofs.Math.Seq.{drop-cons}
-use Rattle.std.proofs.Common.{arith, add-one, get_or, drop, length, nat_eq, [], ◌∷◌, ◌++◌, ◌-◌, ◌+◌, ◌<◌, ◌≡◌, ℕ, zero, suc, Bool, true, false, not, cond, List, Option, Some, None, refl, sym, ap, subst, ◌∙◌}
+use Rattle.std.proofs.Common.{arith, add-one, append-nil, get_or, drop, length, nat_eq, [], ◌∷◌, ◌++◌, ◌-◌, ◌+◌, ◌<◌, ◌≡◌, ℕ, zero, suc, Bool, true, false, not, cond, List, Option, Some, None, refl, sym, ap, subst, ◌∙◌}
 use Rattle.std.specs.Prelude.{slice_get, option_to_list, option_map, IfSome}
 use Rattle.std.specs.Option.{option_map_or}
 use Rattle.std.proofs.lemmas.List.{append_assoc}
 use Rattle.std.proofs.lemmas.Bool.Decides.{nat_tests}
 use Rattle.mk_rule_lines.specs.Rules.{has, lacks_single, times, places, recipe_places}
-use Rattle.mk_rule_lines.specs.Table.{Named, named_at, IsTableFault, IsAddFault, AddsLine, IsSecond, HasTwoRecipes, is_last, with_line}
+use Rattle.mk_rule_lines.specs.Table.{Named, named_at, IsTable, IsTableFault, IsAddFault, AddsLine, IsSecond, HasTwoRecipes, is_last, with_line}
 use Rattle.mk_rule_lines.specs.declared.table.TargetTable.{TargetTable}
 use Rattle.mk_rule_lines.specs.declared.fault.RuleFault.{RuleFault}
 use Rattle.mk_rule_lines.specs.declared.fault.RuleFault.TheVariants as fault
@@ -109,6 +109,14 @@ lines_go_second targets k l left lines name now go at second =
 
 pub lines_go_start : (targets : RuleLine → List (List ℕ)) (lines : List RuleLine) (name : List ℕ) (now : Named) → now ≡ record { lines = []; recipe = None } → LinesGo targets 0 lines lines name now
 lines_go_start targets lines name now is = subst (λ m. LinesGo targets 0 lines lines name m) (sym is) (record { below = tt; lines_go = refl; recipes_go = refl })
+
+-- where no line is left, the table is that of the lines
+pub lines_go_end : (targets : RuleLine → List (List ℕ)) (k : ℕ) (lines : List RuleLine) (table : TargetTable) →
+    ((name : List ℕ) → LinesGo targets k [] lines name (named_at table name)) → IsTable targets lines table
+lines_go_end targets k lines table go = record {
+  named = λ name. sym (append-nil (named_at table name).lines) ∙ (go name).lines_go;
+  recipe = λ name. sym (append-nil (option_to_list (named_at table name).recipe)) ∙ (go name).recipes_go;
+}
 
 -- the fault of a line is one of the table
 pub line_fault : (targets : RuleLine → List (List ℕ)) (k : ℕ) (l : RuleLine) (left lines : List RuleLine) (table : TargetTable) (r : Bool) (these : List (List ℕ)) →

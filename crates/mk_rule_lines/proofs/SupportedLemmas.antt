@@ -1,5 +1,5 @@
 -- What the tests by which a line is refused mean.
-use Rattle.std.specs.Prelude.{codes}
+use Rattle.std.specs.Prelude.{codes, is_none, Option, Some, None}
 use Rattle.std.specs.Bool.{Decides}
 use Rattle.std.specs.List.{All, Any, list_all, list_any, count_by}
 use Rattle.std.proofs.Common.{arith, ◌≡◌, ◌≢◌, ◌⊎◌, ◌∙◌, ℕ, ◌+◌, Bool, true, false, not, cond, ◌&&◌, ◌||◌, ◌==◌, List, [], ◌∷◌, ◌++◌, length, inl, inr, refl, sym, ap, subst, bytes_eq}
@@ -20,6 +20,7 @@ use Rattle.mk_rule_lines.specs.Supported.{HasBracket, IsRefused, IsSupported}
 use Rattle.mk_rule_lines.specs.Tests.{is_pattern, is_one_pattern, begins_with_pattern, is_bare, has_slash, may_be_made, may_make, is_whole_pattern_rule, is_alone, is_whole_default, has_bracket, is_implicit_target, is_refused}
 use Rattle.mk_rule_lines.specs.declared.fault.Unsupported.{Unsupported}
 use Rattle.mk_rule_lines.specs.declared.fault.Unsupported.TheVariants.{TargetGroup, LibraryMember, DoubleColon, PatternRule, DefaultRule}
+use Rattle.mk_reader.specs.declared.special.SpecialName.{SpecialName}
 use Rattle.mk_rule_lines.specs.declared.rule_line.RuleLine.{RuleLine}
 use Rattle.mk_rule_lines.proofs.KindLemmas.{all_decides, any_decides, has_decides, byte_decides, rule_decides, pattern_rule_decides, recipe_decides, single_decides, empty_decides, default_rule_at}
 
@@ -236,3 +237,30 @@ supported l group member double pattern default = record {
   pattern = passed PatternRule l pattern;
   default = passed DefaultRule l default;
 }
+
+-- ---- lines without the bytes that are looked for
+
+no_plus_at : (word : List ℕ) (t : Bool) → bytes_eq (codes "+") word ≡ t → list_any (λ b. b == 43) word ≡ false → bytes_eq (codes "+") word ≡ false
+no_plus_at word true e none =
+    let is : codes "+" ≡ word = (bytes_eq-Decides (codes "+") word).0 e in
+    let lacks : list_any (λ b. b == 43) (codes "+") ≡ false = ap (list_any (λ b. b == 43)) is ∙ none in
+    absurd (both_ways (list_any (λ b. b == 43) (codes "+")) lacks refl)
+no_plus_at word false e none = e
+
+no_plus : (words : List (List ℕ)) → list_any (list_any (λ b. b == 43)) words ≡ false → has (codes "+") words ≡ false
+no_plus [] none = refl
+no_plus (word ∷ words) none =
+    let parts = or_parts (list_any (λ b. b == 43) word) (list_any (list_any (λ b. b == 43)) words) none in
+    or_from (bytes_eq (codes "+") word) (has (codes "+") words) (no_plus_at word (bytes_eq (codes "+") word) refl parts.0) (no_plus words parts.1)
+
+no_default : (special : Option SpecialName) → is_none special ≡ true → is_default_rule special ≡ false
+no_default None is = refl
+no_default (Some name) is = cc
+
+pub plain_supported : (l : RuleLine) → is_rule l ≡ true → l.is_double ≡ false → list_any (list_any (λ b. b == 43)) l.targets ≡ false →
+    list_any (list_any (λ b. b == 40)) l.targets ≡ false → list_any (list_any (λ b. b == 37)) l.targets ≡ false →
+    list_any has_bracket l.prerequisites ≡ false → IsSupported l
+plain_supported l rule single plus bracket percent below =
+    let group : has (codes "+") l.targets ≡ false = no_plus l.targets plus in
+    let default : is_default_rule l.special ≡ false = no_default l.special rule in
+    supported l (simp (rule, group) refl) (simp (rule, bracket, below) refl) (simp (rule, single) refl) (simp (rule, percent) refl) (simp default refl)

@@ -1,11 +1,11 @@
 -- What a table of targets has of each name once one more line names a target.
-use Rattle.std.proofs.Common.{arith, eq-eqb, length-append, length, nat_eq, [], ◌∷◌, ◌++◌, ◌-◌, ◌≡◌, ℕ, Bool, true, false, cond, List, Option, Some, None, refl, sym, ap, subst, ◌∙◌}
+use Rattle.std.proofs.Common.{arith, append-nil, eq-eqb, length-append, length, nat_eq, [], ◌∷◌, ◌++◌, ◌-◌, ◌≡◌, ℕ, Bool, true, false, cond, List, Option, Some, None, refl, sym, ap, subst, ◌∙◌}
 use Rattle.std.specs.Prelude.{Result, Ok, Err, OnOk, slice_get, option_to_list, is_some, ◌&&◌}
 use Rattle.std.proofs.lemmas.Slice.Eq.{bytes_eq-Decides}
 use Rattle.mk_rule_lines.specs.Rules.{has, times}
 use Rattle.std.specs.Option.{option_map_or}
 use Rattle.std.specs.Str.{bytes_eq}
-use Rattle.mk_rule_lines.specs.Table.{IsSecond, is_last, with_line, with_target, Named, nothing_named, shown_target}
+use Rattle.mk_rule_lines.specs.Table.{AddsLine, IsSecond, is_last, with_line, with_target, Named, nothing_named, shown_target}
 use Rattle.mk_rule_lines.specs.declared.table.Target.{Target}
 use Rattle.mk_rule_lines.proofs.NameLemmas.{bytes_eq-same}
 
@@ -119,3 +119,16 @@ pub no_second : (r : Bool) (recipe : Option ℕ) → (r && is_some recipe) ≡ f
 no_second true (Some first) neither has = cc
 no_second true None neither has = refl
 no_second false recipe neither has = cc
+
+nothing_more : (r : Bool) (xs : List ℕ) → xs ≡ xs ++ cond r [] []
+nothing_more true xs = sym (append-nil xs)
+nothing_more false xs = sym (append-nil xs)
+
+-- where no target is left, the line is taken in
+pub goes_end : (k : ℕ) (r : Bool) (targets : List (List ℕ)) (name : List ℕ) (now old : Named) → Goes k r [] targets name now old → AddsLine k r targets name old now
+goes_end k r targets name now old goes = record { lines_are = goes.lines_go; recipe_is = nothing_more r (option_to_list now.recipe) ∙ goes.recipes_go }
+
+-- a line without targets changes nothing
+pub adds_nothing : (k : ℕ) (r : Bool) (targets : List (List ℕ)) (name : List ℕ) (old : Named) → targets ≡ [] → AddsLine k r targets name old old
+adds_nothing k r targets name old none =
+    subst (λ (ts : List (List ℕ)). AddsLine k r ts name old old) (sym none) (record { lines_are = refl; recipe_is = nothing_more r (option_to_list old.recipe) })

@@ -2,9 +2,10 @@
 use Rattle.std.proofs.Common.{◌≡◌, ℕ, Bool, true, false, ◌||◌, ◌==◌, List, [], ◌∷◌, filter, refl, sym, ap, ◌∙◌}
 use Rattle.std.specs.List.{list_any, slice_split, onto_first}
 use Rattle.std.proofs.Math.Bool.{or_assoc}
-use Rattle.std.proofs.lemmas.Bool.{eqb-true}
+use Rattle.std.proofs.lemmas.Bool.{eqb-true, or_parts}
 use Rattle.std.proofs.lemmas.List.Splits.{slice_split-cons_yes, slice_split-cons_no}
 use Rattle.byte_strings.specs.Blanks.{is_blank, is_nonempty, words}
+use Rattle.mk_rule_lines.specs.Tests.{is_sign}
 
 abbrev pub has_byte : (byte : ℕ) → List ℕ → Bool
 has_byte byte = list_any (λ b. b == byte)
@@ -44,3 +45,22 @@ in_nonempty byte ((b ∷ bs) ∷ parts) = ap (λ t. has_byte byte (b ∷ bs) || 
 pub byte_in_words : (byte : ℕ) → is_blank byte ≡ false → (text : List ℕ) → list_any (has_byte byte) (words text) ≡ has_byte byte text
 unfolding words
 byte_in_words byte plain text = in_nonempty byte (slice_split is_blank text) ∙ in_parts byte plain text
+
+-- what no byte of the text is, none of its words has
+none_at : (byte b : ℕ) (bs : List ℕ) (t : Bool) → (b == byte) ≡ t → ((b == byte) ≡ true → is_sign b ≡ true) → is_sign b ≡ false → has_byte byte bs ≡ false
+    → has_byte byte (b ∷ bs) ≡ false
+none_at byte b bs true e sign other rest = let one : is_sign b ≡ true = sign e in cc
+none_at byte b bs false e sign other rest = simp e rest
+
+none_in_text : (byte : ℕ) → ((b : ℕ) → (b == byte) ≡ true → is_sign b ≡ true) → (text : List ℕ) → list_any is_sign text ≡ false → has_byte byte text ≡ false
+none_in_text byte sign [] none = refl
+none_in_text byte sign (b ∷ bs) none =
+    let parts = or_parts (is_sign b) (list_any is_sign bs) none in
+    none_at byte b bs (b == byte) refl (sign b) parts.0 (none_in_text byte sign bs parts.1)
+
+signed : (byte : ℕ) → is_sign byte ≡ true → (b : ℕ) → (b == byte) ≡ true → is_sign b ≡ true
+signed byte sign b same = ap is_sign (eqb-true b byte same) ∙ sign
+
+pub none_in_words : (byte : ℕ) → is_sign byte ≡ true → is_blank byte ≡ false → (text : List ℕ) → list_any is_sign text ≡ false
+    → list_any (list_any (λ b. b == byte)) (words text) ≡ false
+none_in_words byte sign plain text none = byte_in_words byte plain text ∙ none_in_text byte (signed byte sign) text none

@@ -106,9 +106,9 @@ HasFirstFault given (item.Rule rule ∷ items) f = MeetsOrGives given None rule 
 HasFirstFault given (item.Special special ∷ items) f = MeetsOrGives given (Some special.name) special.rule (HasFirstFault given items f) f
 
 -- the fault of a rule's texts, of its line and of items; want of memory says nothing of them
-abbrev pub IsTextsFault : Defined → Rule → MacroFault → Type 0
-IsTextsFault given rule OutOfMemory = Unit {0}
-IsTextsFault given rule f = MeetsFault given rule.targets f ⊎ MeetsFault given rule.prerequisites f
+abbrev pub AreTextsFault : Defined → (targets prerequisites : List ℕ) → MacroFault → Type 0
+AreTextsFault given targets prerequisites OutOfMemory = Unit {0}
+AreTextsFault given targets prerequisites f = MeetsFault given targets f ⊎ MeetsFault given prerequisites f
 
 abbrev pub IsRuleLineFault : Defined → Rule → RuleFault → Type 0
 IsRuleLineFault given rule fault.OutOfMemory = Unit {0}

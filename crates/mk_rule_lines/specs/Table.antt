@@ -7,6 +7,8 @@ use Rattle.mk_rule_lines.specs.Rules.{has, places, times, recipe_places}
 use Rattle.mk_rule_lines.specs.declared.fault.RuleFault.{RuleFault}
 use Rattle.mk_rule_lines.specs.declared.fault.RuleFault.TheVariants as fault
 use Rattle.mk_rule_lines.specs.declared.rule_line.RuleLine.{RuleLine}
+use Rattle.mk_rule_lines.specs.declared.table.Numbers.{Numbers}
+use Rattle.mk_rule_lines.specs.declared.table.Numbers.TheVariants.{One, Many}
 use Rattle.mk_rule_lines.specs.declared.table.Target.{Target}
 use Rattle.mk_rule_lines.specs.declared.table.TargetTable.{TargetTable}
 
@@ -18,12 +20,16 @@ pub record Named : Type 0 where
 abbrev pub nothing_named : Named
 nothing_named = record { lines = []; recipe = None }
 
+abbrev pub numbers_in : Numbers → List ℕ
+numbers_in (One number) = number ∷ []
+numbers_in (Many numbers) = numbers.items
+
 abbrev pub shown_target : Target → Named
-shown_target target = record { lines = target.lines.items; recipe = target.recipe }
+shown_target target = record { lines = numbers_in target.lines; recipe = target.recipe }
 
 -- the table's entry of a name
 abbrev pub target_at : TargetTable → (name : List ℕ) → Option Target
-target_at table name = get_by (λ k. bytes_eq name k.items) table.targets
+target_at table name = get_by (λ k. bytes_eq name k) table.targets
 
 -- what the table has of a name
 abbrev pub named_at : TargetTable → (name : List ℕ) → Named

@@ -3,6 +3,7 @@ ghost use Rattle.std.specs.Prelude.{◌≡◌, ◌↔◌, ◌==◌, [], length, 
 ghost use Rattle.std.specs.List.{list_any};
 ghost use Rattle.byte_strings.specs.Blanks.{is_blank, words};
 ghost use Rattle.mk_rule_lines.specs.Rules.{has};
+ghost use Rattle.mk_rule_lines.specs.Tests.{is_sign};
 
 use byte_strings::{ByteStrings, Words};
 use std::alloc::{AllocError, Global};
@@ -21,6 +22,18 @@ impl Model for LineWords {
     ghost Value = { List (List ℕ) };
 
     ghost view = { λ w. words w.text.items };
+}
+
+fn is_sign(byte: u8) -> bool
+    ensures { result ≡ is_sign byte }
+{
+    byte == b'+' || byte == b'(' || byte == b'%'
+}
+
+fn any_is_sign(text: &[u8]) -> bool
+    ensures { result ≡ list_any is_sign text.now }
+{
+    text.iter().any(|b| is_sign(*b))
 }
 
 impl LineWords {
@@ -78,6 +91,15 @@ impl LineWords {
         ensures { result ≡ list_any (list_any (λ b. b == byte)) self.now }
     {
         self.text.contains(&byte)
+    }
+
+    /// Whether one of the words has a `+`, a `(` or a `%`, told in the same way. Only where it is so something of them may be refused.
+    pub(crate) fn may_have_sign(&self) -> bool
+        ensures plus { result ≡ false → list_any (list_any (λ b. b == 43)) self.now ≡ false }
+        ensures bracket { result ≡ false → list_any (list_any (λ b. b == 40)) self.now ≡ false }
+        ensures percent { result ≡ false → list_any (list_any (λ b. b == 37)) self.now ≡ false }
+    {
+        any_is_sign(&self.text)
     }
 
     /// Whether the name is one of the words.

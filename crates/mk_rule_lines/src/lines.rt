@@ -1,15 +1,15 @@
 //! The rule lines of a makefile's items.
-ghost use Rattle.std.specs.Prelude.{◌≡◌, ℕ, List, [], None, Some, false, IfOk, IfErr, OnOk};
+ghost use Rattle.std.specs.Prelude.{◌≡◌, ℕ, List, [], None, Some, false, IfOk, IfErr, OnOk, IsTrue};
 ghost use Rattle.mk_reader.specs.declared.special.SpecialName.TheVariants.{Phony};
 ghost use Rattle.mk_macros.specs.Ranks.{defined_by, rule_meanings};
-ghost use Rattle.mk_rule_lines.specs.Lines.{behind, behind_items, AreWordsOf, IsRuleLine, AreRuleLines, IsTextsFault, IsRuleLineFault, IsLinesFault, IsToldAt, told_place, told_file};
-ghost use Rattle.mk_macros.specs.Expansion.{ExpandsToFault};
+ghost use Rattle.mk_rule_lines.specs.Lines.{behind, behind_items, AreWordsOf, IsRuleLine, AreRuleLines, AreTextsFault, IsRuleLineFault, IsLinesFault, IsToldAt, told_place, told_file};
+ghost use Rattle.mk_macros.specs.Expansion.{Meanings, ExpandsTo, ExpandsToFault, gives};
 
 use crate::fault::{RuleFault, TextFault, TextPlace};
 use crate::line_words::LineWords;
 use crate::rule_line::{RuleLine, is_phony_list};
 use byte_strings::ByteString;
-use mk_macros::{Dynamic, MacroFault, Macros, Rank};
+use mk_macros::{Dynamic, MAX_EXPANSION_BYTES, MacroFault, Macros, Rank};
 use mk_profile::Profile;
 use mk_reader::{Definition, Item, Recipe, Rule, Special, SpecialName};
 use std::alloc::{AllocError, Global};
@@ -43,12 +43,23 @@ fn fault_at(place: Option<TextPlace>, cause: MacroFault) -> RuleFault
     }
 }
 
-/// The words of what the text of a rule line expands to.
-fn words_of(alloc: Global, macros: &Macros, text: &[u8]) -> Result<LineWords, MacroFault>
-    ensures words { IfOk result (λ words. AreWordsOf (defined_by macros.now) text.now words) }
-    ensures fault { IfErr result (ExpandsToFault (rule_meanings (defined_by macros.now)) text.now) }
+/// Whether the text is its own expansion, as most texts are: nothing in it is replaced, and it isn't too long.
+#[tactic(auto, using(crate::proofs::PlainLemmas::expands_to_itself))]
+fn is_plain(text: &[u8]) -> bool
+    ensures { IsTrue result → (names : Meanings) → ExpandsTo names text.now (gives text.now) }
 {
-    let expansion = macros.expand(alloc, text, &Dynamic::RuleLine)?;
+    text.len() <= MAX_EXPANSION_BYTES && !text.contains(&b'$')
+}
+
+/// The words of what the text of a rule line expands to.
+fn words_of(alloc: Global, macros: &Macros, text: ByteString) -> Result<LineWords, MacroFault>
+    ensures words { IfOk result (λ words. AreWordsOf (defined_by macros.now) text words) }
+    ensures fault { IfErr result (ExpandsToFault (rule_meanings (defined_by macros.now)) text) }
+{
+    if is_plain(text.as_slice()) {
+        return Ok(LineWords::new(text.into_vec()));
+    }
+    let expansion = macros.expand(alloc, text.as_slice(), &Dynamic::RuleLine)?;
     Ok(LineWords::new(expansion))
 }
 
@@ -56,14 +67,15 @@ fn words_of(alloc: Global, macros: &Macros, text: &[u8]) -> Result<LineWords, Ma
 fn both_words(
     alloc: Global,
     macros: &Macros,
-    rule: &Rule,
+    targets: ByteString,
+    prerequisites: ByteString,
 ) -> Result<(LineWords, LineWords), MacroFault>
-    ensures targets { IfOk result (λ both. AreWordsOf (defined_by macros.now) rule.now.targets both.0) }
-    ensures prerequisites { IfOk result (λ both. AreWordsOf (defined_by macros.now) rule.now.prerequisites both.1) }
-    ensures fault { IfErr result (IsTextsFault (defined_by macros.now) rule.now) }
+    ensures targets { IfOk result (λ both. AreWordsOf (defined_by macros.now) targets both.0) }
+    ensures prerequisites { IfOk result (λ both. AreWordsOf (defined_by macros.now) prerequisites both.1) }
+    ensures fault { IfErr result (AreTextsFault (defined_by macros.now) targets prerequisites) }
 {
-    let targets = words_of(alloc, macros, rule.targets.as_slice())?;
-    let prerequisites = words_of(alloc, macros, rule.prerequisites.as_slice())?;
+    let targets = words_of(alloc, macros, targets)?;
+    let prerequisites = words_of(alloc, macros, prerequisites)?;
     Ok((targets, prerequisites))
 }
 
@@ -106,15 +118,15 @@ fn rule_line(
     ensures line { IfOk result (IsRuleLine (defined_by macros.now) special rule) }
     ensures fault { IfErr result (IsRuleLineFault (defined_by macros.now) rule) }
 {
-    let words = both_words(alloc, macros, &rule);
     let Rule {
         file,
         line,
-        recipe,
         is_double,
-        ..
+        targets,
+        prerequisites,
+        recipe,
     } = rule;
-    let (targets, prerequisites) = match words {
+    let (targets, prerequisites) = match both_words(alloc, macros, targets, prerequisites) {
         Ok(both) => both,
         Err(cause) => {
             let place = told_place(macros.profile(), file, line);

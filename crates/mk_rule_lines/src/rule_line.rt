@@ -1,5 +1,5 @@
 //! One rule line of a makefile, with its texts expanded and cut into words.
-ghost use Rattle.std.specs.Prelude.{◌≡◌, not, IfOk};
+ghost use Rattle.std.specs.Prelude.{◌≡◌, ◌&&◌, ◌||◌, not, IfOk};
 ghost use Rattle.std.specs.List.{list_any};
 ghost use Rattle.mk_reader.specs.Text.{is_empty};
 ghost use Rattle.mk_rule_lines.specs.Rules.{has, has_percent, is_rule, is_pattern_rule, is_phony_list, is_default_rule, makes_targets, is_suffix_list, joins, is_suffix_name, lacks_single, is_double_recipe, is_always, may_be_suffix_rule, is_suffix_target, comes_out, targets_by};
@@ -162,8 +162,22 @@ impl RuleLine {
         self.may_be_suffix_rule() && is_suffix_name(suffixes, name)
     }
 
+    /// Whether it may have targets that are suffix rules, or others.
+    pub(crate) fn may_have_targets(&self, suffix_rules: bool) -> bool
+        ensures { result ≡ ((not suffix_rules || may_be_suffix_rule self.now) && makes_targets self.now) }
+    {
+        (!suffix_rules || self.may_be_suffix_rule()) && self.makes_targets()
+    }
+
+    /// Whether a target is one of this choice.
+    pub(crate) fn is_chosen(&self, suffixes: &ByteStrings, suffix_rules: bool, name: &[u8]) -> bool
+        ensures { result ≡ comes_out suffix_rules (is_suffix_target suffixes.now self.now name.now) }
+    {
+        comes_out(suffix_rules, self.is_suffix_target(suffixes, name))
+    }
+
     /// Its targets that are suffix rules, or those that are not.
-    #[tactic(auto, using(crate::proofs::TargetLemmas::none_made))]
+    #[tactic(auto, using(crate::proofs::TargetLemmas::none_made, crate::proofs::TargetLemmas::all_made))]
     pub fn targets_by(
         &self,
         alloc: Global,
@@ -173,14 +187,11 @@ impl RuleLine {
         ensures { IfOk result (λ targets. targets ≡ targets_by suffix_rules suffixes.now self.now) }
     {
         let mut targets = ByteStrings::empty(alloc);
-        if !self.makes_targets() {
-            return Ok(targets);
-        }
-        if suffix_rules && !self.may_be_suffix_rule() {
+        if !self.may_have_targets(suffix_rules) {
             return Ok(targets);
         }
         for target in self.targets.iter() {
-            if comes_out(suffix_rules, self.is_suffix_target(suffixes, target)) {
+            if self.is_chosen(suffixes, suffix_rules, target) {
                 targets.push(target)?;
             }
         }

@@ -1,5 +1,5 @@
 //! Which rule lines are refused.
-ghost use Rattle.std.specs.Prelude.{◌≡◌, ◌||◌, not, ℕ, Some, MatchOption, OnOk, IfErr, slice_get};
+ghost use Rattle.std.specs.Prelude.{◌≡◌, ◌||◌, not, ℕ, Some, MatchOption, OnOk, IfErr, IsTrue, slice_get};
 ghost use Rattle.mk_rule_lines.specs.Supported.{IsRefused, IsSupported, AreSupported, IsRefusal};
 ghost use Rattle.mk_rule_lines.specs.Tests.{has_slash, is_pattern, is_one_pattern, begins_with_pattern, may_be_made, may_make, is_whole_pattern_rule, is_alone, is_whole_default, has_bracket, is_implicit_target, is_refused};
 ghost use Rattle.std.specs.List.{list_all, list_any};
@@ -154,10 +154,24 @@ fn is_refused(what: Unsupported, line: &RuleLine) -> bool
     }
 }
 
+/// Whether it is told by a look at the bytes of the line that it isn't refused, as of most lines.
+#[tactic(auto, using(crate::proofs::SupportedLemmas::plain_supported))]
+fn is_plain(line: &RuleLine) -> bool
+    ensures { IsTrue result → IsSupported line.now }
+{
+    line.is_rule()
+        && !line.is_double
+        && !line.targets.may_have_sign()
+        && !any_has_bracket(&line.prerequisites)
+}
+
 /// Why the line is refused, if it is.
 fn refusal(line: &RuleLine) -> Option<Unsupported>
     ensures { MatchOption result (IsSupported line.now) (λ what. IsRefused what line.now) }
 {
+    if is_plain(line) {
+        return None;
+    }
     if is_refused(Unsupported::TargetGroup, line) {
         return Some(Unsupported::TargetGroup);
     }

@@ -1,19 +1,28 @@
 //! Which rule lines a name is a target of.
-ghost use Rattle.std.specs.Prelude.{◌≡◌, ℕ, List, None, Some, IsSome, OnOk, OnErr, IfOk, IfErr, if◌then◌else◌, bytes_eq, is_some, ◌&&◌};
-ghost use Rattle.mk_rule_lines.specs.Table.{is_last, with_line, with_target, target_at, named_at, nothing_named, shown_target, AddsLine, IsAddFault, IsTable, IsTableFault, is_named};
-ghost use Rattle.mk_rule_lines.specs.Rules.{targets_by};
+ghost use Rattle.std.specs.Prelude.{◌≡◌, ◌∷◌, ◌++◌, ℕ, List, [], None, OnOk, IfOk, IfErr, if◌then◌else◌, bytes_eq, is_some, ◌&&◌, not};
+ghost use Rattle.mk_rule_lines.specs.Table.{is_last, with_line, with_target, numbers_in, target_at, named_at, nothing_named, shown_target, AddsLine, IsAddFault, IsTable, IsTableFault, is_named};
+ghost use Rattle.mk_rule_lines.specs.Rules.{lacks_single, targets_by};
 
 use crate::fault::RuleFault;
 use crate::rule_line::RuleLine;
 use byte_strings::{ByteString, ByteStrings};
 use indexmap::IndexMap;
+use name_keys::{Name, NameRef};
 use std::alloc::{AllocError, Global};
+use std::slice;
+
+/// Numbers in order. A target mostly has one line, whose number takes no memory of its own.
+#[derive(Drop)]
+enum Numbers {
+    One(usize),
+    Many(Vec<usize>),
+}
 
 /// The lines that name a target.
 #[derive(Drop)]
 struct Target {
-    /// The numbers of these lines, from 0, in order.
-    lines: Vec<usize>,
+    /// The numbers of these lines, from 0.
+    lines: Numbers,
     /// The number of the line that has the recipe, if it isn't one with `::`.
     recipe: Option<usize>,
 }
@@ -21,7 +30,7 @@ struct Target {
 /// The targets of a makefile's rule lines.
 #[derive(Drop)]
 pub struct TargetTable {
-    targets: IndexMap<Vec<u8>, Target>,
+    targets: IndexMap<Name, Target>,
 }
 
 fn is_last(number: usize, numbers: &[usize]) -> bool
@@ -33,38 +42,79 @@ fn is_last(number: usize, numbers: &[usize]) -> bool
     }
 }
 
-impl Target {
-    fn new(alloc: Global) -> Target
-        ensures { shown_target result ≡ nothing_named }
+impl Numbers {
+    fn as_slice(&self) -> &[usize]
+        ensures { result.now ≡ numbers_in self.now }
     {
-        Target {
-            lines: Vec::new(alloc),
-            recipe: None,
+        match self {
+            Numbers::One(number) => slice::from_ref(number),
+            Numbers::Many(numbers) => numbers.as_slice(),
         }
     }
 
-    /// Takes in that a line names the target. Without memory the target stays as it was.
-    fn add(&mut self, line: usize, has_recipe: bool) -> Result<(), AllocError>
-        ensures ok { OnOk result (shown_target self.new ≡ with_target line has_recipe (shown_target self.old)) }
-        ensures err { OnErr result (shown_target self.new ≡ shown_target self.old) }
+    fn push(&mut self, alloc: Global, number: usize) -> Result<(), AllocError>
+        ensures { OnOk result (numbers_in self.new ≡ numbers_in self.old ++ number ∷ []) }
     {
-        if !is_last(line, &self.lines) {
-            self.lines.push(line)?;
+        let first = match self {
+            Numbers::One(first) => *first,
+            Numbers::Many(numbers) => {
+                numbers.push(number)?;
+                return Ok(());
+            }
+        };
+        *self = Numbers::Many(vec![in alloc; first, number]?);
+        Ok(())
+    }
+
+    /// Adds the number, unless it is the last one.
+    fn add(&mut self, alloc: Global, number: usize) -> Result<(), AllocError>
+        ensures { OnOk result (numbers_in self.new ≡ with_line number (numbers_in self.old)) }
+    {
+        if is_last(number, self.as_slice()) {
+            return Ok(());
         }
+        self.push(alloc, number)
+    }
+}
+
+impl Target {
+    /// What a line names first.
+    fn new(line: usize, has_recipe: bool) -> Target
+        ensures { shown_target result ≡ with_target line has_recipe nothing_named }
+    {
+        Target {
+            lines: Numbers::One(line),
+            recipe: if has_recipe { Some(line) } else { None },
+        }
+    }
+
+    /// Takes in that a line names the target, and answers whether its recipe is a second one.
+    fn add(&mut self, alloc: Global, line: usize, has_recipe: bool) -> Result<bool, AllocError>
+        ensures second { IfOk result (λ second. second ≡ (has_recipe && is_some self.old.recipe)) }
+        ensures ok { OnOk result (shown_target self.new ≡ with_target line has_recipe (shown_target self.old)) }
+    {
+        let is_second = has_recipe && self.recipe.is_some();
+        self.lines.add(alloc, line)?;
         if has_recipe {
             self.recipe = Some(line);
         }
-        Ok(())
+        Ok(is_second)
     }
 }
 
 impl TargetTable {
-    fn new(alloc: Global) -> TargetTable
-        ensures { (name : List ℕ) → named_at result name ≡ nothing_named }
+    /// No targets, with room for those of these lines: most have one, and few are suffix rules.
+    fn with_room(
+        alloc: Global,
+        lines: &[RuleLine],
+        suffix_rules: bool,
+    ) -> Result<TargetTable, AllocError>
+        ensures { IfOk result (λ table. (name : List ℕ) → named_at table name ≡ nothing_named) }
     {
-        TargetTable {
-            targets: IndexMap::new(alloc),
-        }
+        let room = if suffix_rules { 0 } else { lines.len() };
+        Ok(TargetTable {
+            targets: IndexMap::with_capacity(alloc, room)?,
+        })
     }
 
     /// The numbers of the lines that name the target, in order, and of the one that has its recipe, if it isn't one with `::`.
@@ -72,7 +122,7 @@ impl TargetTable {
         ensures lines { result.0.now ≡ (named_at self.now name.now).lines }
         ensures recipe { result.1 ≡ (named_at self.now name.now).recipe }
     {
-        match self.targets.get(name) {
+        match self.targets.get(NameRef { bytes: name }) {
             Some(target) => (target.lines.as_slice(), target.recipe),
             None => (&[], None),
         }
@@ -92,23 +142,28 @@ impl TargetTable {
         !self.named(name).0.is_empty()
     }
 
-    /// Takes in that a line names the target.
+    /// Takes in that a line names the target, and answers whether its recipe is a second one.
     fn add(
         &mut self,
         alloc: Global,
         name: &[u8],
         line: usize,
         has_recipe: bool,
-    ) -> Result<(), AllocError>
+    ) -> Result<bool, AllocError>
+        ensures second { IfOk result (λ second. second ≡ (has_recipe && is_some (named_at self.old name.now).recipe)) }
         ensures ok { OnOk result ((n : List ℕ) → named_at self.new n
             ≡ (if bytes_eq n name.now then with_target line has_recipe (named_at self.old n) else named_at self.old n)) }
     {
-        match self.targets.get_mut(name) {
-            Some(target) => target.add(line, has_recipe),
-            None => self.add_new(alloc, name, line, has_recipe),
+        match self.targets.get_mut(NameRef { bytes: name }) {
+            Some(target) => target.add(alloc, line, has_recipe),
+            None => {
+                self.add_new(alloc, name, line, has_recipe)?;
+                Ok(false)
+            }
         }
     }
 
+    /// Takes in a name that no line above has among its targets.
     fn add_new(
         &mut self,
         alloc: Global,
@@ -117,41 +172,40 @@ impl TargetTable {
         has_recipe: bool,
     ) -> Result<(), AllocError>
         requires { target_at self.old name.now ≡ None }
-        ensures ok { OnOk result ((n : List ℕ) → named_at self.new n
+        ensures { OnOk result ((n : List ℕ) → named_at self.new n
             ≡ (if bytes_eq n name.now then with_target line has_recipe (named_at self.old n) else named_at self.old n)) }
     {
-        let mut target = Target::new(alloc);
-        target.add(line, has_recipe)?;
-        self.targets.insert(Vec::from_slice(alloc, name)?, target)?;
+        let name = Name::from_slice(alloc, name)?;
+        self.targets.insert(name, Target::new(line, has_recipe))?;
         Ok(())
     }
 
-    /// Whether a line with a recipe meets a target that has one.
-    fn is_second(&self, name: &[u8], has_recipe: bool) -> bool
-        ensures { result ≡ (has_recipe && is_some (named_at self.now name.now).recipe) }
-    {
-        has_recipe && self.recipe(name).is_some()
-    }
-
-    /// Takes in the targets of a line, which has this number in its file.
-    fn add_targets(
+    /// Takes in the targets of the line of this number that are suffix rules, or those that are not.
+    fn add_line(
         &mut self,
         alloc: Global,
-        line: usize,
         number: usize,
-        has_recipe: bool,
-        targets: &ByteStrings,
+        line: &RuleLine,
+        suffixes: &ByteStrings,
+        suffix_rules: bool,
     ) -> Result<(), RuleFault>
         ensures ok { OnOk result ((name : List ℕ)
-            → AddsLine line has_recipe targets.now name (named_at self.old name) (named_at self.new name)) }
-        ensures fault { IfErr result (IsAddFault line number has_recipe targets.now self.old) }
+            → AddsLine number (not (lacks_single line.now)) (targets_by suffix_rules suffixes.now line.now) name (named_at self.old name) (named_at self.new name)) }
+        ensures fault { IfErr result (IsAddFault number line.now.line (not (lacks_single line.now)) (targets_by suffix_rules suffixes.now line.now) self.old) }
     {
-        for target in targets.iter() {
-            if self.is_second(target, has_recipe) {
-                let name = ByteString::from_slice(alloc, target)?;
-                return Err(RuleFault::TwoRecipes(name, number));
+        if !line.may_have_targets(suffix_rules) {
+            return Ok(());
+        }
+        let has_recipe = line.has_single_recipe();
+        for target in line.targets.iter() {
+            if !line.is_chosen(suffixes, suffix_rules, target) {
+                continue;
             }
-            self.add(alloc, target, line, has_recipe)?;
+            let is_second = self.add(alloc, target, number, has_recipe)?;
+            if is_second {
+                let name = ByteString::from_slice(alloc, target)?;
+                return Err(RuleFault::TwoRecipes(name, line.line));
+            }
         }
         Ok(())
     }
@@ -166,10 +220,9 @@ impl TargetTable {
         ensures table { IfOk result (IsTable (targets_by suffix_rules suffixes.now) lines.now) }
         ensures fault { IfErr result (IsTableFault (targets_by suffix_rules suffixes.now) lines.now) }
     {
-        let mut table = TargetTable::new(alloc);
+        let mut table = TargetTable::with_room(alloc, lines, suffix_rules)?;
         for (i, line) in lines.iter().enumerate() {
-            let targets = line.targets_by(alloc, suffixes, suffix_rules)?;
-            table.add_targets(alloc, i, line.line, line.has_single_recipe(), &targets)?;
+            table.add_line(alloc, i, line, suffixes, suffix_rules)?;
         }
         Ok(table)
     }

@@ -7,10 +7,14 @@ use Rattle.st_records.specs.declared.record.Entry.{Entry}
 use Rattle.mk_rule_lines.specs.Explicit.{explicit_of, is_phony}
 use Rattle.mk_rule_lines.specs.Rules.{has}
 use Rattle.mk_rule_lines.specs.declared.rule_line.RuleLine.{RuleLine}
-use Rattle.mk_rules.proofs.FreshLemmas.{front_added}
-use Rattle.mk_rules.specs.Hidden.{HasHidden, IsNamesFault, nodes_in}
+use Rattle.mk_rules.proofs.RowLemmas.{distinct_again}
+use Rattle.mk_rules.specs.Hidden.{IsNamesFault}
+use Rattle.mk_rules.specs.Seen.{IsSeen, IsNumberedAs}
+use Rattle.mk_rules.specs.declared.known.Seen.{Seen}
+use Rattle.mk_rules.specs.declared.group.Group.{Group}
+use Rattle.std.specs.Global.{Box}
 use Rattle.mk_rules.specs.Groups.{others_in, group_with}
-use Rattle.mk_rules.specs.Known.{IsKnown, IsLookUpFault, IsFoundFault, IsImplicitFault, IsOthersFault, required_by}
+use Rattle.mk_rules.specs.Known.{IsKnown, IsLookUpFault, IsFoundFault, IsImplicitFault, IsOthersFault, listed_in}
 use Rattle.mk_rules.specs.Prerequisites.{Inputs, inputs_of, distinct, made_from, found_source, implicit_source, hard_of, hidden_in, hidden_of, is_node, prerequisites_of, judged_of, own_recipes, first_or, rule_or, left_recipe, order_only_of, required_of}
 use Rattle.mk_rules.specs.Search.{IsSearchFault}
 use Rattle.mk_rules.specs.Looks.{IsLookFault}
@@ -19,46 +23,28 @@ use Rattle.mk_rule_lines.specs.declared.fault.RuleFault.TheVariants as fault
 use Rattle.mk_rule_lines.specs.declared.form.Form.{Form}
 use Rattle.mk_rule_lines.specs.declared.form.Source.{Source}
 use Rattle.mk_rules.specs.declared.known.Known.{Known}
-use Rattle.mk_rules.specs.declared.mentioned.Mentioned.{Mentioned}
 use Rattle.mk_rule_lines.specs.declared.table.TargetTable.{TargetTable}
 
-module _ (inputs : Inputs) (name : List ℕ) (source : Option Source) (explicit : List (List ℕ)) (entry : Option Entry) (hard : List (List ℕ)) (m : Mentioned)
-    (source_is : source ≡ implicit_source inputs name) (explicit_is : explicit ≡ explicit_of inputs.lines name) (entry_is : entry ≡ inputs.entries name)
-    (hard_is : hard ≡ distinct (made_from source ++ explicit)) (hidden : HasHidden (is_node inputs) hard (hidden_in entry) m) where
+module _ (inputs : Inputs) (name : List ℕ) (source : Option Source) (hard : List (List ℕ)) (source_is : source ≡ implicit_source inputs name)
+    (hard_is : hard ≡ distinct (made_from source ++ explicit_of inputs.lines name)) where
   hard_are : hard ≡ hard_of inputs name
-  hard_are =
-      hard_is ∙ ap (λ (s : Option Source). distinct (made_from s ++ explicit)) source_is
-      ∙ ap (λ (e : List (List ℕ)). distinct (made_from (implicit_source inputs name) ++ e)) explicit_is
+  hard_are = hard_is ∙ ap (λ (s : Option Source). distinct (made_from s ++ explicit_of inputs.lines name)) source_is
 
-  nodes_are : nodes_in m ≡ all_added (hard_of inputs name) (filter (is_node inputs) (hidden_of inputs name))
-  nodes_are =
-      hidden.nodes ∙ ap (λ (h : List (List ℕ)). all_added h (filter (is_node inputs) (hidden_in entry))) hard_are
-      ∙ ap (λ (e : Option Entry). all_added (hard_of inputs name) (filter (is_node inputs) (hidden_in e))) entry_is
-
-  -- with the order-only ones they are all prerequisites
-  pub all_are : all_added (nodes_in m) (order_only_of inputs name) ≡ prerequisites_of inputs name
-  all_are =
-      ap (λ (ns : List (List ℕ)). all_added ns (order_only_of inputs name)) nodes_are
-      ∙ sym (all_added-append (hard_of inputs name) (filter (is_node inputs) (hidden_of inputs name)) (order_only_of inputs name))
-
-  judged_are : m.judged ≡ judged_of inputs name
-  judged_are =
-      hidden.judged ∙ ap (λ (h : List (List ℕ)). all_added h (hidden_in entry)) hard_are
-      ∙ ap (λ (e : Option Entry). all_added (hard_of inputs name) (hidden_in e)) entry_is
-
-  -- the front of what is judged, with the order-only ones, is what the name isn't made without
-  pub required_are : (listed : Option (List (List ℕ))) (order_only : List (List ℕ)) → order_only ≡ order_only_of inputs name →
-      unwrap_or listed (take (length hard) m.judged) ≡ all_added (take (length hard) m.judged) order_only → unwrap_or listed (hard_of inputs name) ≡ required_of inputs name
+  -- the hard prerequisites with the order-only ones are what the name isn't made without
+  required_are : (listed : Option (List (List ℕ))) (order_only : List (List ℕ)) → order_only ≡ order_only_of inputs name →
+      unwrap_or listed hard ≡ all_added hard order_only → unwrap_or listed (hard_of inputs name) ≡ required_of inputs name
   required_are listed order_only order_only_is said =
-      let front : take (length hard) m.judged ≡ hard_of inputs name = ap (take (length hard)) hidden.judged ∙ front_added hard (hidden_in entry) ∙ hard_are in
-      ap (unwrap_or listed) (sym front) ∙ said ∙ ap (λ (h : List (List ℕ)). all_added h order_only) front ∙ ap (all_added (hard_of inputs name)) order_only_is
+      ap (unwrap_or listed) (sym hard_are) ∙ said ∙ ap (λ (h : List (List ℕ)). all_added h order_only) hard_are ∙ ap (all_added (hard_of inputs name)) order_only_is
 
   -- what was found of the name is what the inputs say of it
-  pub known_is : (k : Known) (own left : Option ℕ) → left ≡ left_recipe inputs name → k.stamp ≡ inputs.times name → k.stem ≡ option_map (λ s. s.stem) source → k.implied ≡ length (distinct (made_from source)) →
-      k.recipe ≡ first_or (option_to_list own) (rule_or source left) → option_to_list own ≡ own_recipes inputs.lines name →
-      k.hard ≡ length hard → required_by k (hard_of inputs name) ≡ required_of inputs name → k.hidden.items ≡ m.hidden.items →
-      option_map (λ g. g.value) k.group ≡ group_with inputs.times name (others_in source) → IsKnown inputs name k
-  known_is k own left left_is stamp stem given recipe own_is count required among group = record {
+  pub seen_is : (s : Seen) (own left : Option ℕ) → left ≡ left_recipe inputs name → s.hard ≡ hard → s.order_only ≡ order_only_of inputs name → s.node.stamp ≡ inputs.times name →
+      s.node.stem ≡ option_map (λ s. s.stem) source → s.node.implied ≡ length (distinct (made_from source)) →
+      s.node.recipe ≡ first_or (option_to_list own) (rule_or source left) → option_to_list own ≡ own_recipes inputs.lines name →
+      s.node.hard ≡ length hard → unwrap_or (listed_in s.node) hard ≡ all_added hard s.order_only →
+      option_map (λ g. g.value) s.node.group ≡ group_with inputs.times name (others_in source) → IsSeen inputs name s
+  seen_is s own left left_is same_hard order_only stamp stem given recipe own_is count required group = record {
+    hard_are = same_hard ∙ hard_are;
+    order_only_are = order_only;
     stamp = stamp;
     stem = stem ∙ ap (option_map (λ (s : Source). s.stem)) source_is;
     implied = given ∙ ap (λ (s : Option Source). length (distinct (made_from s))) source_is;
@@ -67,11 +53,38 @@ module _ (inputs : Inputs) (name : List ℕ) (source : Option Source) (explicit 
         ∙ ap (λ (s : Option Source). first_or (own_recipes inputs.lines name) (rule_or s left)) source_is
         ∙ ap (λ (l : Option ℕ). first_or (own_recipes inputs.lines name) (rule_or (implicit_source inputs name) l)) left_is;
     group = group ∙ ap (λ (s : Option Source). group_with inputs.times name (others_in s)) source_is;
-    hard = count ∙ ap length hard_are;
-    required = required;
+    count = count ∙ ap length (sym same_hard);
+    required = required_are (listed_in s.node) s.order_only order_only required;
+  }
+
+-- what was found of a name, once its prerequisites have numbers
+module _ (inputs : Inputs) (name : List ℕ) (seen : Seen) (is : IsSeen inputs name seen) (row : List (List ℕ)) (known : Known)
+    (numbered : IsNumberedAs (is_node inputs) seen (hidden_of inputs name) row known) where
+  distinct_hard : distinct seen.hard ≡ hard_of inputs name
+  distinct_hard = ap distinct is.hard_are ∙ distinct_again (made_from (implicit_source inputs name) ++ explicit_of inputs.lines name)
+
+  -- they are all prerequisites
+  pub all_are : row ≡ prerequisites_of inputs name
+  all_are =
+      numbered.row_is ∙ ap (λ (h : List (List ℕ)). all_added (all_added h (filter (is_node inputs) (hidden_of inputs name))) seen.order_only) distinct_hard
+      ∙ ap (all_added (all_added (hard_of inputs name) (filter (is_node inputs) (hidden_of inputs name)))) is.order_only_are
+      ∙ sym (all_added-append (hard_of inputs name) (filter (is_node inputs) (hidden_of inputs name)) (order_only_of inputs name))
+
+  count_is : known.hard ≡ length (hard_of inputs name)
+  count_is = numbered.as_seen.count ∙ is.count ∙ ap length is.hard_are
+
+  pub known_is : IsKnown inputs name known
+  known_is = record {
+    stamp = numbered.as_seen.stamp ∙ is.stamp;
+    stem = numbered.as_seen.stem ∙ is.stem;
+    implied = numbered.as_seen.implied ∙ is.implied;
+    recipe = numbered.as_seen.recipe ∙ is.recipe;
+    group = ap (option_map (λ (g : Box Group). g.value)) numbered.as_seen.group ∙ is.group;
+    hard = count_is;
+    required = ap (λ (r : Option (Box (List (List ℕ)))). unwrap_or (option_map (λ l. l.value) r) (hard_of inputs name)) numbered.as_seen.required ∙ is.required;
     hidden =
-        among ∙ hidden.among ∙ ap (λ (n : ℕ). map (is_node inputs) (drop n m.judged)) (sym count)
-        ∙ ap (λ (ns : List (List ℕ)). map (is_node inputs) (drop k.hard ns)) judged_are;
+        numbered.among ∙ ap (λ (h : List (List ℕ)). map (is_node inputs) (drop (length h) (all_added h (hidden_of inputs name)))) distinct_hard
+        ∙ ap (λ (n : ℕ). map (is_node inputs) (drop n (judged_of inputs name))) (sym count_is);
   }
 
 no_value : false ≡ true → ⊥

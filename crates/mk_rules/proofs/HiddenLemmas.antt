@@ -1,18 +1,18 @@
 -- The hidden prerequisites of a name, one at a time.
 use Rattle.std.proofs.Common.{arith, ◌≡◌, ◌≤◌, ℕ, Bool, true, false, not, cond, List, [], ◌∷◌, ◌++◌, length, map, drop, filter, refl, sym, ap, ◌∙◌, length-append}
-use Rattle.std.specs.Prelude.{◌||◌, bytes_eq}
+use Rattle.std.specs.Prelude.{◌||◌, ◌&&◌, bytes_eq}
 use Rattle.std.specs.Str.{is_utf8}
 use Rattle.std.proofs.lemmas.List.{drop-append-le, map-append}
 use Rattle.std.proofs.lemmas.List.Folds.{list_any-append}
 use Rattle.mk_graph.specs.Numbering.{has_name, added, all_added}
 use Rattle.mk_rule_lines.specs.Rules.{has}
 use Rattle.mk_rules.specs.Looks.{IsLookFault}
-use Rattle.mk_rules.specs.Hidden.{HasHidden, IsNamesFault, nodes_in}
+use Rattle.mk_rules.specs.Hidden.{Takes, HasHidden, IsNamesFault}
 use Rattle.mk_rules.specs.Prerequisites.{IsTextAmong}
-use Rattle.mk_rules.specs.declared.mentioned.Mentioned.{Mentioned}
 use Rattle.mk_rule_lines.specs.declared.fault.RuleFault.{RuleFault}
 use Rattle.mk_rule_lines.specs.declared.fault.RuleFault.TheVariants as fault
 use Rattle.mk_rule_lines.proofs.NameLemmas.{bytes_eq-same}
+use Rattle.mk_rules.proofs.SetLemmas.{has_added}
 use Rattle.std.proofs.lemmas.Slice.Eq.{bytes_eq-Decides}
 
 -- what is known where some hidden prerequisites are left
@@ -132,17 +132,113 @@ past_all : (p : List ℕ → Bool) (ns : List (List ℕ)) → map p (drop (lengt
 past_all p [] = refl
 past_all p (n ∷ ns) = past_all p ns
 
-pub hidden_start : (p : List ℕ → Bool) (judged nodes hidden : List (List ℕ)) (among : List Bool) → nodes ≡ judged → among ≡ [] → HiddenSoFar p judged hidden hidden judged nodes among
-hidden_start p judged nodes hidden among same none = rw (same, none) (record {
-  judged_go = refl;
-  nodes_go = refl;
-  alike = λ n is. refl;
-  longer = le_self (length judged);
-  among_are = sym (past_all p judged);
-})
+-- the same beside the names that are gone: what was mentioned is a node or gone
+pub record TakenSoFar (p : List ℕ → Bool) (hard hidden left judged nodes gone : List (List ℕ)) (among : List Bool) : Type 0 where
+  pub so : HiddenSoFar p hard hidden left judged nodes among
+  pub both : (n : List ℕ) → has_name judged n ≡ (has_name nodes n || has_name gone n)
 
-pub hidden_end : (p : List ℕ → Bool) (hard hidden : List (List ℕ)) (m : Mentioned) → HiddenSoFar p hard hidden [] m.judged (nodes_in m) m.hidden.items → HasHidden p hard hidden m
-hidden_end p hard hidden m so = record { judged = so.judged_go; nodes = so.nodes_go; among = so.among_are }
+or_swap : (a b c : Bool) → ((a || b) || c) ≡ ((a || c) || b)
+or_swap true b c = refl
+or_swap false true true = refl
+or_swap false true false = refl
+or_swap false false true = refl
+or_swap false false false = refl
+
+or_assoc : (a b c : Bool) → ((a || b) || c) ≡ (a || (b || c))
+or_assoc true b c = refl
+or_assoc false b c = refl
+
+pub or_nothing : (b : Bool) → (b || false) ≡ b
+or_nothing true = refl
+or_nothing false = refl
+
+or_all : (b : Bool) → (b || true) ≡ true
+or_all true = refl
+or_all false = refl
+
+module _ (p : List ℕ → Bool) (hard hidden : List (List ℕ)) (name : List ℕ) (left judged nodes gone : List (List ℕ)) (among : List Bool)
+    (before : TakenSoFar p hard hidden (name ∷ left) judged nodes gone among)
+    (nodes_then gone_then : List (List ℕ)) (among_then : List Bool) (takes : Takes p name nodes nodes_then gone gone_then among among_then) where
+  among_at : (t : Bool) → p name ≡ t → among_then ≡ cond (has_name nodes name || (not t && has_name gone name)) among (among ++ t ∷ [])
+  among_at t e = takes.among_are ∙ ap (λ (b : Bool). cond (has_name nodes name || (not b && has_name gone name)) among (among ++ b ∷ [])) e
+
+  -- it is a node, which was mentioned if it is among the nodes
+  of_node : p name ≡ true → TakenSoFar p hard hidden left (added judged name) nodes_then gone_then among_then
+  of_node node =
+      let same : has_name nodes name ≡ has_name judged name = before.so.alike name node in
+      let nodes_are : nodes_then ≡ added nodes name = takes.nodes_are ∙ ap (λ (b : Bool). cond b (added nodes name) nodes) node in
+      let gone_are : gone_then ≡ gone = takes.gone_are ∙ ap (λ (b : Bool). cond (b || has_name nodes name) gone (added gone name)) node in
+      let among_by : among_then ≡ cond (has_name judged name) among (among ++ true ∷ [])
+      = among_at true node ∙ ap (λ (b : Bool). cond b among (among ++ true ∷ [])) (or_nothing (has_name nodes name) ∙ same) in
+      let nodes_by : nodes_then ≡ cond (has_name judged name || not true) nodes (nodes ++ name ∷ [])
+      = nodes_are ∙ ap (λ (b : Bool). cond b nodes (nodes ++ name ∷ [])) (same ∙ sym (or_nothing (has_name judged name))) in
+      record {
+        so = hidden_step p hard hidden name left judged nodes among before.so (added judged name) nodes_then among_then true (sym node) refl nodes_by among_by;
+        both = λ n.
+            has_added judged name n ∙ ap (λ (b : Bool). b || bytes_eq n name) (before.both n)
+            ∙ or_swap (has_name nodes n) (has_name gone n) (bytes_eq n name)
+            ∙ ap (λ (b : Bool). b || has_name gone n) (sym (has_added nodes name n))
+            ∙ sym (ap (λ l. has_name l n || has_name gone_then n) nodes_are ∙ ap (λ l. has_name (added nodes name) n || has_name l n) gone_are);
+      }
+
+  gone_both : (t : Bool) → has_name nodes name ≡ t → gone_then ≡ cond t gone (added gone name) → (n : List ℕ) →
+      has_name (added judged name) n ≡ (has_name nodes n || has_name gone_then n)
+  gone_both true hard_one is n =
+      let there : has_name judged name ≡ true = before.both name ∙ ap (λ (b : Bool). b || has_name gone name) hard_one in
+      ap (λ (b : Bool). has_name (cond b judged (judged ++ name ∷ [])) n) there ∙ before.both n ∙ ap (λ l. has_name nodes n || has_name l n) (sym is)
+  gone_both false new is n =
+      has_added judged name n ∙ ap (λ (b : Bool). b || bytes_eq n name) (before.both n)
+      ∙ or_assoc (has_name nodes n) (has_name gone n) (bytes_eq n name)
+      ∙ ap (λ (b : Bool). has_name nodes n || b) (sym (has_added gone name n))
+      ∙ ap (λ l. has_name nodes n || has_name l n) (sym is)
+
+  -- it is gone, and was mentioned as a node, which is a hard one, or as one that is gone
+  of_gone : p name ≡ false → TakenSoFar p hard hidden left (added judged name) nodes_then gone_then among_then
+  of_gone none =
+      let nodes_are : nodes_then ≡ nodes = takes.nodes_are ∙ ap (λ (b : Bool). cond b (added nodes name) nodes) none in
+      let gone_are : gone_then ≡ cond (has_name nodes name) gone (added gone name) = takes.gone_are ∙ ap (λ (b : Bool). cond (b || has_name nodes name) gone (added gone name)) none in
+      let among_by : among_then ≡ cond (has_name judged name) among (among ++ false ∷ [])
+      = among_at false none ∙ ap (λ (b : Bool). cond b among (among ++ false ∷ [])) (sym (before.both name)) in
+      let nodes_by : nodes_then ≡ cond (has_name judged name || not false) nodes (nodes ++ name ∷ [])
+      = nodes_are ∙ ap (λ (b : Bool). cond b nodes (nodes ++ name ∷ [])) (sym (or_all (has_name judged name))) in
+      record {
+        so = hidden_step p hard hidden name left judged nodes among before.so (added judged name) nodes_then among_then false (sym none) refl nodes_by among_by;
+        both = λ n. gone_both (has_name nodes name) refl gone_are n ∙ ap (λ l. has_name l n || has_name gone_then n) (sym nodes_are);
+      }
+
+  taken_at : (t : Bool) → p name ≡ t → TakenSoFar p hard hidden left (added judged name) nodes_then gone_then among_then
+  taken_at true node = of_node node
+  taken_at false none = of_gone none
+
+  pub taken_step : TakenSoFar p hard hidden left (added judged name) nodes_then gone_then among_then
+  taken_step = taken_at (p name) refl
+
+pub taken_start : (p : List ℕ → Bool) (nodes hidden gone : List (List ℕ)) (among : List Bool) → gone ≡ [] → among ≡ [] → TakenSoFar p nodes hidden hidden nodes nodes gone among
+taken_start p nodes hidden gone among no_gone none = record {
+  so = rw none (record {
+    judged_go = refl;
+    nodes_go = refl;
+    alike = λ n is. refl;
+    longer = le_self (length nodes);
+    among_are = sym (past_all p nodes);
+  });
+  both = λ n. sym (ap (λ l. has_name nodes n || has_name l n) no_gone ∙ or_nothing (has_name nodes n));
+}
+
+pub taken_end : (p : List ℕ → Bool) (hard hidden judged nodes gone : List (List ℕ)) (among : List Bool) → TakenSoFar p hard hidden [] judged nodes gone among → HasHidden p hard hidden nodes among
+taken_end p hard hidden judged nodes gone among taken = record {
+  nodes_are = taken.so.nodes_go;
+  among_are = taken.so.among_are ∙ ap (λ l. map p (drop (length hard) l)) taken.so.judged_go;
+}
+
+-- what one hidden prerequisite is, said of two tests that agree there
+pub takes_same : (p q : List ℕ → Bool) (name : List ℕ) (nodes nodes_then gone gone_then : List (List ℕ)) (among among_then : List Bool) → q name ≡ p name →
+    Takes q name nodes nodes_then gone gone_then among among_then → Takes p name nodes nodes_then gone gone_then among among_then
+takes_same p q name nodes nodes_then gone gone_then among among_then same takes = record {
+  nodes_are = takes.nodes_are ∙ ap (λ (b : Bool). cond b (added nodes name) nodes) same;
+  gone_are = takes.gone_are ∙ ap (λ (b : Bool). cond (b || has_name nodes name) gone (added gone name)) same;
+  among_are = takes.among_are ∙ ap (λ (b : Bool). cond (has_name nodes name || (not b && has_name gone name)) among (among ++ b ∷ [])) same;
+}
 
 -- a name that can't be looked at is one of those that are left, and so of all
 pub names_fault : (refuses : List ℕ → Type 0) (names : List (List ℕ)) (name : List ℕ) → IsTextAmong names name → (f : RuleFault) → IsLookFault refuses name f → IsNamesFault refuses names f

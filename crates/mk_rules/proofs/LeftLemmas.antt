@@ -1,12 +1,12 @@
 -- What is left to the recipe of `.DEFAULT`.
-use Rattle.std.specs.Prelude.{codes, option_to_list, slice_get, is_none}
+use Rattle.std.specs.Prelude.{codes, option_to_list, slice_get, is_none, if◌then◌else◌}
 use Rattle.std.specs.Option.{option_map_or}
 use Rattle.std.proofs.Common.{◌≡◌, ◌∙◌, ℕ, ℤ, Bool, true, false, not, ◌&&◌, ◌||◌, List, [], ◌∷◌, filter, Option, Some, None, refl, sym, ap}
 use Rattle.mk_reader.specs.Text.{is_empty}
 use Rattle.mk_rule_lines.specs.Explicit.{explicit_targets, numbers_of, is_default_at}
 use Rattle.mk_rule_lines.specs.Rules.{has, recipe_places}
 use Rattle.mk_rule_lines.specs.declared.rule_line.RuleLine.{RuleLine}
-use Rattle.mk_rules.specs.Prerequisites.{Inputs, default_of, is_cut, is_left, is_target}
+use Rattle.mk_rules.specs.Prerequisites.{Inputs, default_of, is_cut, is_left, is_target, left_recipe}
 use Rattle.mk_rules.proofs.RuleLemmas.{any_place}
 use Rattle.st_records.specs.declared.record.Entry.{Entry}
 
@@ -34,3 +34,11 @@ left_is inputs lines name stamp entry lines_are times_are entry_is =
     ∙ ap (λ (ls : List RuleLine). not (is_target ls name)) (sym lines_are))
     ∙ ap (λ s. not (is_target inputs.lines name) && (is_none s || option_map_or (λ (e : Entry). is_cut e.phase) entry false)) (sym times_are)
     ∙ ap (λ o. not (is_target inputs.lines name) && (is_none (inputs.times name) || option_map_or (λ (e : Entry). is_cut e.phase) o false)) (sym entry_is)
+
+-- without a `.DEFAULT` no name is left to it
+neither : (b : Bool) → (none : Option ℕ) → none ≡ None → (if b then none else None) ≡ None
+neither true none is = is
+neither false none is = refl
+
+pub none_left : (inputs : Inputs) (name : List ℕ) → default_of inputs.lines ≡ None → None ≡ left_recipe inputs name
+none_left inputs name none = sym (neither (is_left inputs name) (default_of inputs.lines) none)

@@ -1,20 +1,21 @@
 -- The hidden prerequisites of a name, taken in behind the hard ones.
-use Rattle.std.specs.Prelude.{◌≡◌, ℕ, Bool, List, length, map, drop, filter, unwrap_or}
-use Rattle.mk_graph.specs.Numbering.{all_added}
+use Rattle.std.specs.Prelude.{◌≡◌, ℕ, Bool, not, ◌||◌, ◌&&◌, if◌then◌else◌, List, [], ◌∷◌, ◌++◌, length, map, drop, filter}
+use Rattle.mk_graph.specs.Numbering.{has_name, added, all_added}
 use Rattle.mk_rules.specs.Prerequisites.{IsTextAmong}
 use Rattle.mk_rule_lines.specs.declared.fault.RuleFault.{RuleFault}
 use Rattle.mk_rule_lines.specs.declared.fault.RuleFault.TheVariants as fault
-use Rattle.mk_rules.specs.declared.mentioned.Mentioned.{Mentioned}
 
--- the prerequisites that are nodes: those that are listed, or all
-abbrev pub nodes_in : Mentioned → List (List ℕ)
-nodes_in m = unwrap_or m.nodes m.judged
+-- one hidden prerequisite more is taken in: it is one of the nodes, or one that is gone, and where it wasn't mentioned before, it is
+-- noted which of both
+pub record Takes (is_node : List ℕ → Bool) (name : List ℕ) (nodes nodes_then gone gone_then : List (List ℕ)) (among among_then : List Bool) : Type 0 where
+  pub nodes_are : nodes_then ≡ (if is_node name then added nodes name else nodes)
+  pub gone_are : gone_then ≡ (if is_node name || has_name nodes name then gone else added gone name)
+  pub among_are : among_then ≡ (if has_name nodes name || (not (is_node name) && has_name gone name) then among else among ++ is_node name ∷ [])
 
--- behind the hard prerequisites stand the hidden ones, and it is known which of them are nodes
-pub record HasHidden (is_node : List ℕ → Bool) (hard hidden : List (List ℕ)) (m : Mentioned) : Type 0 where
-  pub judged : m.judged ≡ all_added hard hidden
-  pub nodes : nodes_in m ≡ all_added hard (filter is_node hidden)
-  pub among : m.hidden.items ≡ map is_node (drop (length hard) m.judged)
+-- behind the hard prerequisites stand the hidden ones that are nodes, and of each hidden one that isn't hard it is known whether it is one
+pub record HasHidden (is_node : List ℕ → Bool) (hard hidden nodes : List (List ℕ)) (among : List Bool) : Type 0 where
+  pub nodes_are : nodes ≡ all_added hard (filter is_node hidden)
+  pub among_are : among ≡ map is_node (drop (length hard) (all_added hard hidden))
 
 -- the fault of looking at some names, of which those that aren't text aren't looked at
 abbrev pub IsNamesFault : (refuses : List ℕ → Type 0) → (names : List (List ℕ)) → RuleFault → Type 0

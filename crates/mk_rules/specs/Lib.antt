@@ -1,6 +1,7 @@
 pub mod Assembly
 pub mod Chain
 pub mod DistinctNames
+pub mod DistinctNumbers
 pub mod Faults
 pub mod Found
 pub mod Graph
@@ -8,15 +9,19 @@ pub mod Groups
 pub mod Hidden
 pub mod Known
 pub mod Limit
+pub mod Links
 pub mod Looks
 pub mod LooksLaws
 pub mod Node
+pub mod NodeNotes
 pub mod Nodes
 pub mod Ordering
 pub mod Prerequisites
 pub mod Required
+pub mod Row
 pub mod Rows
 pub mod Search
+pub mod Seen
 pub mod Source
 pub mod Tree
 pub mod Waits

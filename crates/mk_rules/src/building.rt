@@ -30,6 +30,8 @@ use crate::chain::steps_of;
 use crate::finder::Finder;
 use crate::graph::{Graph, Node};
 use crate::known::Known;
+use crate::left_over::default_of;
+use crate::links::links_of;
 use crate::nodes::nodes_of;
 use crate::ordering::{Ordered, hard_edges, ordered_by};
 use crate::required::required_edges;
@@ -298,12 +300,16 @@ fn reached<T: Tree>(
     ensures asked { AskedOnce (T.asked tree.old) (λ _. true) (T.asked tree.new) }
 {
     let goals = goals_of(alloc, &makefile.lines, &makefile.suffixes, goals)?;
+    let steps = steps_of(&makefile.lines);
+    let links = links_of(alloc, &makefile.forms, steps)?;
     let rules = Rules {
         lines: &makefile.lines,
         targets: &makefile.targets,
         forms: &makefile.forms,
         state,
-        steps: steps_of(&makefile.lines),
+        steps,
+        links: &links,
+        default: default_of(&makefile.lines, &makefile.targets),
     };
     numbered_names(alloc, rules, tree, &goals, limit)
 }

@@ -1,14 +1,16 @@
 //! Chains of implicit rules.
-ghost use Rattle.std.specs.Prelude.{◌≡◌, ◌<◌, ℕ, ℤ, List, ◌∷◌, Option, None, option_map, if◌then◌else◌, IfOk, IfErr};
+ghost use Rattle.std.specs.Prelude.{◌≡◌, ◌<◌, ℕ, ℤ, false, List, ◌∷◌, Option, None, option_map, if◌then◌else◌, IfOk, IfErr};
 ghost use Rattle.std.specs.List.{list_any, list_all};
 ghost use Rattle.mk_graph.specs.Edges.{has as has_number};
 ghost use Rattle.mk_profile.specs.Profile.{is_wide};
 ghost use Rattle.mk_rule_lines.specs.Source.{stem_of, source_of};
 ghost use Rattle.mk_rule_lines.specs.Table.{is_there};
 ghost use Rattle.mk_rules.specs.Chain.{steps_of, makes_any, has_a_type, is_usable, usable, first_that, can_be, chained, source_in};
+ghost use Rattle.mk_rules.specs.Links.{AreLinks};
 ghost use Rattle.mk_rules.specs.Search.{IsAmong, IsAskedIn, IsBehind, IsChainedTo, IsLedFault, IsSearchFault};
 ghost use Rattle.mk_rules.specs.Looks.{Looks};
 
+use crate::links::{makes_any, may_lead_on, stem_of, steps_behind};
 use crate::source::{is_there, source_of};
 use crate::tree::Tree;
 use byte_strings::ByteStrings;
@@ -32,20 +34,13 @@ pub(crate) fn steps_of(lines: &[RuleLine]) -> usize
     if any_wide(lines) { MAX_STEPS } else { 0 }
 }
 
-/// Whether a form has nothing beside its stem.
-fn makes_any(form: &Form) -> bool
-    ensures { result ≡ makes_any form.now }
-{
-    form.before.as_slice().is_empty() && form.after.as_slice().is_empty()
-}
-
 /// Whether the name has a form with something beside its stem.
 fn has_a_type(forms: &[Form], name: &[u8]) -> bool
     ensures { result ≡ has_a_type forms.now name.now }
 {
     forms
         .iter()
-        .any(|form| !makes_any(form) && form.stem(name).is_some())
+        .any(|form| !makes_any(form) && stem_of(form, name).is_some())
 }
 
 fn has_number(numbers: &[usize], number: usize) -> bool
@@ -64,7 +59,7 @@ fn usable_stem<'n>(
     ensures { option_map (λ s. (s.0.now, s.1.now)) result ≡ (if is_usable any taken.now form.now then stem_of form.now name.now else None) }
 {
     if (any || !makes_any(form)) && !has_number(taken, form.rule) {
-        form.stem(name)
+        stem_of(form, name)
     } else {
         None
     }
@@ -85,6 +80,9 @@ fn with_rule(alloc: Global, rule: usize, taken: &[usize]) -> Result<Vec<usize>, 
 pub(crate) struct Makers<'m> {
     pub targets: &'m TargetTable,
     pub forms: &'m [Form],
+    /// Of each form, whether a chain may go on behind it.
+    pub links: &'m [bool],
+    pub ghost linked: { AreLinks forms.now links.now },
 }
 
 /// Whether a name is there, or rules that aren't taken can make it in so many steps.
@@ -108,7 +106,7 @@ fn can_be<T: Tree>(
     if steps == 0 {
         return Ok(false);
     }
-    let source = first_that(alloc, makers, tree, false, steps - 1, taken, name)?;
+    let source = first_that(alloc, makers, tree, steps - 1, taken, name)?;
     Ok(source.is_some())
 }
 
@@ -141,25 +139,24 @@ fn first_that<T: Tree>(
     alloc: Global,
     makers: &Makers,
     tree: &mut T,
-    any: bool,
     steps: usize,
     taken: &[usize],
     name: &[u8],
 ) -> Result<Option<Source>, RuleFault>
     ensures source { IfOk result (λ found. (times : List ℕ → Option ℤ) → T.allows tree.new times
         → found ≡ first_that (λ rule. can_be (is_there makers.now.targets.now times) makers.now.forms.now steps (rule ∷ taken.now))
-        (usable any taken.now makers.now.forms.now) name.now) }
+        (usable false taken.now makers.now.forms.now) name.now) }
     ensures looks { Looks (T.allows tree.old) (T.allows tree.new) (T.refuses tree.old) (T.refuses tree.new) (T.asked tree.old) (T.asked tree.new) }
     ensures fault { IfErr result (IsLedFault makers.now.targets.now (T.refuses tree.new)
-        (IsBehind (λ rule. IsAskedIn makers.now.forms.now steps (rule ∷ taken.now)) (usable any taken.now makers.now.forms.now) name.now)) }
+        (IsBehind (λ rule. IsAskedIn makers.now.forms.now steps (rule ∷ taken.now)) (usable false taken.now makers.now.forms.now) name.now)) }
 {
-    let forms = makers.forms;
-    for form in forms {
-        let Some((folder, stem)) = usable_stem(form, any, taken, name) else {
+    for (number, form) in makers.forms.iter().enumerate() {
+        let Some((folder, stem)) = usable_stem(form, false, taken, name) else {
             continue;
         };
         let source = form.source(alloc, folder, stem)?;
         let taken = with_rule(alloc, form.rule, taken)?;
+        let steps = steps_behind(makers.links, number, steps);
         if all_can_be(alloc, makers, tree, steps, &taken, &source.names)? {
             return Ok(Some(source));
         }
@@ -167,7 +164,7 @@ fn first_that<T: Tree>(
     Ok(None)
 }
 
-/// What a chain makes the name from that has so many steps before the last one.
+/// What a chain makes the name from that has so many steps before the last one, where no candidate is there.
 fn chained<T: Tree>(
     alloc: Global,
     makers: &Makers,
@@ -175,13 +172,28 @@ fn chained<T: Tree>(
     steps: usize,
     name: &[u8],
 ) -> Result<Option<Source>, RuleFault>
+    requires none { (times : List ℕ → Option ℤ) → T.allows tree.old times
+        → source_of (is_there makers.now.targets.now times) makers.now.forms.now name.now ≡ None }
     ensures source { IfOk result (λ found. (times : List ℕ → Option ℤ) → T.allows tree.new times
         → found ≡ chained (is_there makers.now.targets.now times) makers.now.forms.now steps name.now) }
     ensures looks { Looks (T.allows tree.old) (T.allows tree.new) (T.refuses tree.old) (T.refuses tree.new) (T.asked tree.old) (T.asked tree.new) }
     ensures fault { IfErr result (IsLedFault makers.now.targets.now (T.refuses tree.new) (IsChainedTo makers.now.forms.now steps name.now)) }
 {
     let any = !has_a_type(makers.forms, name);
-    first_that(alloc, makers, tree, any, steps, &[], name)
+    for (number, form) in makers.forms.iter().enumerate() {
+        // Where no rule makes a prerequisite, the candidate isn't there.
+        if !may_lead_on(makers.links, number) {
+            continue;
+        }
+        let Some((folder, stem)) = usable_stem(form, any, &[], name) else {
+            continue;
+        };
+        let source = form.source(alloc, folder, stem)?;
+        if all_can_be(alloc, makers, tree, steps, &[form.rule], &source.names)? {
+            return Ok(Some(source));
+        }
+    }
+    Ok(None)
 }
 
 /// What a chain of fewest steps makes the name from, where no candidate is there.

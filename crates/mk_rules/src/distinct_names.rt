@@ -1,9 +1,8 @@
 //! Names at their first mention, of which there are mostly few.
-ghost use Rattle.std.specs.Prelude.{◌≡◌, ◌++◌, ◌∷◌, ◌⊎◌, [], false, not, length, take, IfOk, OnOk, OnErr};
+ghost use Rattle.std.specs.Prelude.{◌≡◌, ◌++◌, ◌∷◌, ◌⊎◌, [], false, not, length, IfOk, OnOk, OnErr};
 ghost use Rattle.mk_graph.specs.Numbering.{has_name, added};
 ghost use Rattle.mk_rules.specs.DistinctNames.{HaveTheSame};
 
-use crate::listed::front_of;
 use byte_strings::ByteStrings;
 use mk_graph::Names;
 use std::alloc::{AllocError, Global};
@@ -88,21 +87,6 @@ impl DistinctNames {
         ensures { result ≡ length self.now }
     {
         self.list.len()
-    }
-
-    /// The names in their order.
-    pub fn listed(&self, alloc: Global) -> Result<ByteStrings, AllocError>
-        ensures { IfOk result (λ list. list ≡ self.now) }
-    {
-        self.list.copy(alloc)
-    }
-
-    /// The first so many names, or all where there are no more.
-    pub fn front(&self, alloc: Global, count: usize) -> Result<DistinctNames, AllocError>
-        ensures { IfOk result (λ names. names ≡ take count self.now) }
-    {
-        let list = front_of(alloc, &self.list, count)?;
-        Ok(DistinctNames::of_list(alloc, list))
     }
 
     pub fn into_list(self) -> ByteStrings

@@ -20,3 +20,13 @@ pub(crate) struct Known {
     /// Of each hidden prerequisite that isn't a hard one, in their order, whether it is a node.
     pub hidden: Vec<bool>,
 }
+
+/// What is found of a name but its hidden prerequisites.
+#[derive(Drop)]
+pub(crate) struct Seen {
+    /// What an implicit rule makes it from and the prerequisites by name, each at its first mention.
+    pub hard: ByteStrings,
+    pub order_only: ByteStrings,
+    /// Its node, to which hidden prerequisites come.
+    pub node: Known,
+}

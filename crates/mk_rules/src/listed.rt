@@ -1,5 +1,5 @@
 //! Parts of lists of names.
-ghost use Rattle.std.specs.Prelude.{◌≡◌, ◌++◌, take, drop, slice_get, option_to_list, IfOk, OnOk};
+ghost use Rattle.std.specs.Prelude.{◌≡◌, ◌++◌, drop, slice_get, option_to_list, IfOk, OnOk};
 
 use byte_strings::ByteStrings;
 use std::alloc::{AllocError, Global};
@@ -12,21 +12,6 @@ fn push_at(list: &mut ByteStrings, names: &ByteStrings, number: usize) -> Result
         Some(name) => list.push(name),
         None => Ok(()),
     }
-}
-
-/// The first so many names, or all where there are no more.
-pub(crate) fn front_of(
-    alloc: Global,
-    names: &ByteStrings,
-    count: usize,
-) -> Result<ByteStrings, AllocError>
-    ensures { IfOk result (λ front. front ≡ take count names.now) }
-{
-    let mut front = ByteStrings::empty(alloc);
-    for number in 0..count {
-        push_at(&mut front, names, number)?;
-    }
-    Ok(front)
 }
 
 /// The names behind the first so many.

@@ -1,20 +1,17 @@
 //! What is found of a name: what makes it, and what it is made from.
-ghost use Rattle.std.specs.Prelude.{◌≡◌, ◌⊎◌, ℕ, ℤ, List, Option, None, [], false, nat_lt, option_to_list, IfOk, IfErr, OnOk, IsOk, IsErr, if◌then◌else◌};
+ghost use Rattle.std.specs.Prelude.{◌≡◌, ◌⊎◌, ℕ, ℤ, List, Option, None, [], false, nat_lt, option_to_list, IfOk, IfErr, IsOk, IsErr, if◌then◌else◌};
 ghost use Rattle.std.specs.FinMap as map;
 ghost use Rattle.std.specs.List.{list_all};
 ghost use Rattle.std.specs.Str.{is_utf8};
 ghost use Rattle.mk_rule_lines.specs.Explicit.{is_phony};
-ghost use Rattle.mk_rules.specs.Prerequisites.{inputs_of, is_node, found_source, own_recipes, prerequisites_of};
+ghost use Rattle.mk_rules.specs.Prerequisites.{inputs_of, is_node, found_source, own_recipes};
 ghost use Rattle.mk_rules.specs.Looks.{IsLookFault, Looks};
 ghost use Rattle.mk_rules.specs.Search.{IsSearchFault};
-ghost use Rattle.mk_rules.specs.Hidden.{HasHidden, IsNamesFault, nodes_in};
 
 use crate::look::stamp_of;
-use crate::mentioned::Mentioned;
 use crate::rules::Rules;
 use crate::source::is_there;
 use crate::tree::Tree;
-use byte_strings::ByteStrings;
 use mk_rule_lines::{RuleFault, Source};
 use std::alloc::Global;
 use std::str;
@@ -40,7 +37,7 @@ fn is_utf8(bytes: &[u8]) -> bool
 }
 
 /// Whether a hidden prerequisite is a node.
-fn is_node<T: Tree>(
+pub(crate) fn is_node<T: Tree>(
     alloc: Global,
     rules: &Rules,
     tree: &mut T,
@@ -105,26 +102,4 @@ pub(crate) fn found_source<T: Tree>(
         return Ok(None);
     }
     rules.source(alloc, tree, name)
-}
-
-/// Takes in hidden prerequisites behind the hard ones.
-pub(crate) fn add_hidden<T: Tree>(
-    alloc: Global,
-    rules: &Rules,
-    tree: &mut T,
-    mentioned: &mut Mentioned,
-    hidden: &ByteStrings,
-) -> Result<(), RuleFault>
-    requires nodes { nodes_in mentioned.old ≡ mentioned.old.judged }
-    requires none { mentioned.old.hidden.items ≡ [] }
-    ensures hidden { OnOk result ((times : List ℕ → Option ℤ) → T.allows tree.new times
-        → HasHidden (is_node (inputs_of rules.now.lines.now (map.get rules.now.state.now) times)) mentioned.old.judged hidden.now mentioned.new) }
-    ensures looks { Looks (T.allows tree.old) (T.allows tree.new) (T.refuses tree.old) (T.refuses tree.new) (T.asked tree.old) (T.asked tree.new) }
-    ensures fault { IfErr result (IsNamesFault (T.refuses tree.new) hidden.now) }
-{
-    for name in hidden.iter() {
-        let node = is_node(alloc, rules, tree, name)?;
-        mentioned.add_hidden(alloc, name, node)?;
-    }
-    Ok(())
 }

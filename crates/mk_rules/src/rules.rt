@@ -4,16 +4,17 @@ ghost use Rattle.std.specs.FinMap as map;
 ghost use Rattle.std.specs.Option.{option_copied};
 ghost use Rattle.mk_rule_lines.specs.Rules.{has, suffixes_of, targets_by, places, recipe_places};
 ghost use Rattle.mk_rules.specs.Chain.{steps_of};
+ghost use Rattle.mk_rules.specs.Links.{AreLinks};
 ghost use Rattle.mk_rules.specs.Search.{IsSearchFault};
 ghost use Rattle.mk_rules.specs.Looks.{Looks};
 ghost use Rattle.mk_rule_lines.specs.Table.{is_there, named_at};
 ghost use Rattle.mk_rule_lines.specs.Doubles.{first_double};
 ghost use Rattle.mk_rule_lines.specs.Explicit.{numbers_of};
 ghost use Rattle.mk_rule_lines.specs.Forms.{forms_of};
-ghost use Rattle.mk_rules.specs.Prerequisites.{any_or};
+ghost use Rattle.mk_rules.specs.Prerequisites.{any_or, default_of};
 
 use crate::chain::{Makers, source_in};
-use crate::left_over::{default_of, is_left};
+use crate::left_over::is_left;
 use crate::tree::Tree;
 use byte_strings::ByteStrings;
 use mk_rule_lines::{
@@ -33,12 +34,18 @@ pub(crate) struct Rules<'m> {
     pub state: &'m State,
     /// How many rules a chain may have before its last one.
     pub steps: usize,
+    /// Of each form, whether a chain may go on behind it.
+    pub links: &'m [bool],
+    /// The line of `.DEFAULT`, if there is one.
+    pub default: Option<usize>,
     pub ghost named: { (name : List ℕ) → (named_at targets.now name).lines
         ≡ places (λ l. has name (targets_by false (suffixes_of lines.now) l)) 0 lines.now },
     pub ghost recipes: { (name : List ℕ) → option_to_list (named_at targets.now name).recipe
         ≡ recipe_places (targets_by false (suffixes_of lines.now)) 0 lines.now name },
     pub ghost all_forms: { forms.now ≡ forms_of (suffixes_of lines.now) lines.now },
     pub ghost few: { steps ≡ steps_of lines.now },
+    pub ghost linked: { AreLinks forms.now links.now },
+    pub ghost left_over: { default ≡ default_of lines.now },
 }
 
 /// The number of this line, or else of the first one with `::` that has a recipe.
@@ -79,10 +86,14 @@ impl<'m> Rules<'m> {
         ensures { (inputs : Inputs) → inputs.lines ≡ self.now.lines.now → inputs.times name.now ≡ stamp
             → inputs.entries name.now ≡ map.get self.now.state.now name.now → result ≡ left_recipe inputs name.now }
     {
+        // Without a `.DEFAULT` the state isn't asked.
+        let Some(line) = self.default else {
+            return None;
+        };
         if !is_left(numbers, stamp, self.entry(name)) {
             return None;
         }
-        default_of(self.lines, self.targets)
+        Some(line)
     }
 
     /// The prerequisites by name of the name that the lines of these numbers make.
@@ -123,6 +134,7 @@ impl<'m> Rules<'m> {
         let makers = Makers {
             targets: self.targets,
             forms: self.forms,
+            links: self.links,
         };
         source_in(alloc, &makers, tree, self.steps, name)
     }

@@ -1,14 +1,14 @@
 //! The implicit source of a name.
 ghost use Rattle.std.specs.Prelude.{◌≡◌, ℕ, ℤ, List, Option, false, IfOk, IfErr, IsErr};
 ghost use Rattle.std.specs.List.{list_all};
-ghost use Rattle.mk_rule_lines.specs.Source.{source_of};
+ghost use Rattle.mk_rule_lines.specs.Source.{source_at, source_of};
 ghost use Rattle.mk_rules.specs.Source.{IsAllFault, IsSourceFault};
 ghost use Rattle.mk_rules.specs.Looks.{IsLookFault, Looks};
 ghost use Rattle.mk_rule_lines.specs.Table.{is_named, is_there, named_at};
 
+use crate::links::{set_name, stem_of};
 use crate::look::stamp_of;
 use crate::tree::Tree;
-use byte_strings::ByteStrings;
 use mk_rule_lines::{Form, RuleFault, Source, TargetTable};
 use std::alloc::Global;
 
@@ -32,20 +32,24 @@ pub(crate) fn is_there<T: Tree>(
     Ok(stamp.is_some())
 }
 
-/// Whether each of these names is there, up to the first that isn't.
+/// Whether each prerequisite of a form with this stem in this folder is there, up to the first that isn't.
 fn all_there<T: Tree>(
     alloc: Global,
     targets: &TargetTable,
     tree: &mut T,
-    names: &ByteStrings,
+    form: &Form,
+    folder: &[u8],
+    stem: &[u8],
 ) -> Result<bool, RuleFault>
-    ensures there { IfOk result (λ there. (times : List ℕ → Option ℤ)
-        → T.allows tree.new times → there ≡ list_all (is_there targets.now times) names.now) }
+    ensures there { IfOk result (λ there. (times : List ℕ → Option ℤ) → T.allows tree.new times
+        → there ≡ list_all (is_there targets.now times) (source_at form.now (folder.now, stem.now)).names) }
     ensures looks { Looks (T.allows tree.old) (T.allows tree.new) (T.refuses tree.old) (T.refuses tree.new) (T.asked tree.old) (T.asked tree.new) }
-    ensures fault { IfErr result (IsAllFault targets.now (T.allows tree.new) (T.refuses tree.new) names.now) }
+    ensures fault { IfErr result (IsAllFault targets.now (T.allows tree.new) (T.refuses tree.new) (source_at form.now (folder.now, stem.now)).names) }
 {
-    for name in names.iter() {
-        if !is_there(alloc, targets, tree, name)? {
+    let mut name = Vec::new(alloc);
+    for pattern in form.prerequisites.iter() {
+        set_name(&mut name, pattern, folder, stem)?;
+        if !is_there(alloc, targets, tree, &name)? {
             return Ok(false);
         }
     }
@@ -69,12 +73,11 @@ pub fn source_of<T: Tree>(
     ensures fault { IfErr result (IsSourceFault targets.now (T.allows tree.new) (T.refuses tree.new) forms.now name.now) }
 {
     for form in forms {
-        let Some((folder, stem)) = form.stem(name) else {
+        let Some((folder, stem)) = stem_of(form, name) else {
             continue;
         };
-        let source = form.source(alloc, folder, stem)?;
-        if all_there(alloc, targets, tree, &source.names)? {
-            return Ok(Some(source));
+        if all_there(alloc, targets, tree, form, folder, stem)? {
+            return Ok(Some(form.source(alloc, folder, stem)?));
         }
     }
     Ok(None)

@@ -10,6 +10,7 @@ mod limits;
 mod measure;
 mod record;
 mod version;
+mod within;
 
 pub use byte_strings::{ByteString, ByteStrings, Iter};
 pub use decoder::{DecodeFault, decode};

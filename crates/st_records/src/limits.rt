@@ -32,7 +32,7 @@ pub const MAX_HIDDEN_NAMES: usize = 4096;
 pub const MAX_EXPLICIT_NAMES: usize = 65_536;
 
 impl Version {
-    fn max_name_bytes(self) -> usize
+    pub(crate) fn max_name_bytes(self) -> usize
         ensures { result ≡ max_name_bytes self }
     {
         match self {
@@ -41,7 +41,7 @@ impl Version {
         }
     }
 
-    fn max_record_bytes(self) -> usize
+    pub(crate) fn max_record_bytes(self) -> usize
         ensures { result ≡ max_record_bytes self }
     {
         match self {
@@ -80,6 +80,16 @@ impl Record {
 
     /// The first fault by the limits of a version.
     pub(crate) fn fault(&self, version: Version) -> Option<RecordFault>
+        ensures { result ≡ fault_of version self.now }
+    {
+        if self.is_seen_within(version) {
+            return None;
+        }
+        self.fault_in_order(version)
+    }
+
+    // One test after the other, each over all strings.
+    fn fault_in_order(&self, version: Version) -> Option<RecordFault>
         ensures { result ≡ fault_of version self.now }
     {
         if self.has_empty_name() {
@@ -134,7 +144,7 @@ impl Record {
         any_longer(self.commands(), MAX_COMMAND_BYTES)
     }
 
-    fn has_too_many(&self) -> bool
+    pub(crate) fn has_too_many(&self) -> bool
         ensures { result ≡ has_too_many self.now }
     {
         self.commands().len() > MAX_COMMANDS

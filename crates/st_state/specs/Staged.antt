@@ -6,7 +6,7 @@ use Rattle.st_state.specs.declared.staged.Staged.{Staged}
 
 -- the state to which the batch was staged
 abbrev pub staged_state : Staged → StateMap
-staged_state s = by_name (λ k. k.items) s.entries.entries
+staged_state s = by_name (λ k. k) s.entries.entries
 
 -- the records of the batch, in their order
 abbrev pub staged_records : Staged → List Record

@@ -25,14 +25,14 @@ pub(crate) struct Ranked<'a> {
 
 /// Each name with its rank, in the order of the map.
 pub(crate) fn with_ranks(alloc: Global, entries: &Entries) -> Result<Vec<Ranked<'_>>, AllocError>
-    ensures all { IfOk result (λ ranked. list_map (λ e. (e.name.now, e.entry.now)) ranked.items ≡ map_keys (λ k. k.items) entries.now.entries) }
-    ensures unique { IfOk result (λ _. IsUnique (λ x y. bytes_eq x.items y.items) entries.now) }
+    ensures all { IfOk result (λ ranked. list_map (λ e. (e.name.now, e.entry.now)) ranked.items ≡ map_keys (λ k. k) entries.now.entries) }
+    ensures unique { IfOk result (λ _. IsUnique bytes_eq entries.now) }
     ensures ranks { IfOk result (λ ranked. (beginning : List ℕ) × All (λ e. HasRank beginning e.name.now e.rank) ranked.items) }
 {
     let beginning = usual_beginning(entries);
     let mut ranked = Vec::with_capacity(alloc, entries.len())?;
     for (name, entry) in entries.iter() {
-        let name = bytes_of(name);
+        let name = bytes_of(name.as_slice());
         let rank = rank_of(beginning, name);
         ranked.push(Ranked { rank, name, entry })?;
     }
@@ -51,12 +51,12 @@ pub(crate) fn without_ranks<'a>(
         .collect(alloc)
 }
 
-// The bytes of a name. What follows from the type, that each is below 256, has to be said for the ranks.
-fn bytes_of(name: &Vec<u8>) -> &[u8]
-    ensures same { result.now ≡ name.now.items }
+// The bytes of a name again. What follows from the type, that each is below 256, has to be said for the ranks.
+fn bytes_of(name: &[u8]) -> &[u8]
+    ensures same { result.now ≡ name.now }
     ensures bytes { (place : ℕ) → slice_index result.now place < 256 }
 {
-    name.as_slice()
+    name
 }
 
 // What most names begin with, as far as a few of them show. Any answer serves: it only decides how many names their ranks

@@ -46,7 +46,7 @@ impl Staged {
 
 fn put_all(entries: &mut Entries, events: Vec<Record>)
     requires { length events.items ≤ spare entries.old }
-    ensures { by_name (λ k. k.items) entries.new.entries ≡ replay (by_name (λ k. k.items) entries.old.entries) events.items }
+    ensures { by_name (λ k. k) entries.new.entries ≡ replay (by_name (λ k. k) entries.old.entries) events.items }
 {
     let alloc = *entries.allocator();
     for event in events {

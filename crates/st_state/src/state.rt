@@ -12,12 +12,13 @@ use crate::staged::Staged;
 use crate::taking::take_in;
 use byte_strings::ByteStrings;
 use indexmap::IndexMap;
+use name_keys::{Name, NameRef};
 use st_records::{Entry, Explicit, HashKey, Phase, Record, room_after_kept};
 use std::alloc::{AllocError, Global};
 use std::marker::Model;
 
 // Each name with its entry. Names are hashed under a key, so that a file's writer can't choose names that collide.
-pub(crate) type Entries = IndexMap<Vec<u8>, Entry, HashKey>;
+pub(crate) type Entries = IndexMap<Name, Entry, HashKey>;
 
 /// What is known of each target. Contracts see it as a finite map from names to entries.
 ///
@@ -35,7 +36,7 @@ impl Model for State {
 
     ghost coded = { state_code };
 
-    ghost view = { λ a. by_name (λ k. k.items) a.entries.entries };
+    ghost view = { λ a. by_name (λ k. k) a.entries.entries };
 }
 
 impl State {
@@ -70,7 +71,7 @@ impl State {
     pub fn get(&self, name: &[u8]) -> Option<&Entry>
         ensures { option_copied result ≡ map.get self.now name.now }
     {
-        self.entries.get(name)
+        self.entries.get(NameRef { bytes: name })
     }
 
     /// Each name with what is known of it, in byte order of the names.
@@ -170,13 +171,13 @@ impl State {
     }
 
     pub(crate) fn from_entries(entries: Entries) -> State
-        ensures { result ≡ by_name (λ k. k.items) entries.entries }
+        ensures { result ≡ by_name (λ k. k) entries.entries }
     {
         State { entries }
     }
 
     fn into_entries(self) -> Entries
-        ensures { by_name (λ k. k.items) result.entries ≡ self }
+        ensures { by_name (λ k. k) result.entries ≡ self }
     {
         let State { entries } = self;
         entries
@@ -188,7 +189,7 @@ impl State {
         ensures err { OnErr result (self.new ≡ self.old) }
         ensures memory { OnErr result (map.get self.old name.now ≡ None) }
     {
-        if let Some(known) = self.entries.get_mut(name) {
+        if let Some(known) = self.entries.get_mut(NameRef { bytes: name }) {
             known.phase = phase;
             known.commands = ByteStrings::empty(alloc);
             known.explicit = Explicit::Unknown;
@@ -208,7 +209,7 @@ impl State {
         ensures err { OnErr result (self.new ≡ self.old) }
         ensures memory { OnErr result (map.get self.old name.now ≡ None) }
     {
-        if let Some(known) = self.entries.get_mut(name) {
+        if let Some(known) = self.entries.get_mut(NameRef { bytes: name }) {
             *known = entry;
             return Ok(());
         }
@@ -219,7 +220,7 @@ impl State {
         ensures ok { OnOk result (self.new ≡ map.insert self.old name.now entry) }
         ensures err { OnErr result (self.new ≡ self.old) }
     {
-        self.entries.insert(Vec::from_slice(alloc, name)?, entry)?;
+        self.entries.insert(Name::from_slice(alloc, name)?, entry)?;
         Ok(())
     }
 }

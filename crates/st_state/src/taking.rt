@@ -7,21 +7,22 @@ ghost use Rattle.st_records.specs.Parts.{target_of};
 ghost use Rattle.st_state.specs.State.{by_name, apply_record, known_hidden, unfinished};
 
 use crate::state::Entries;
-use byte_strings::ByteStrings;
+use byte_strings::{ByteString, ByteStrings};
+use name_keys::Name;
 use st_records::{Entry, Explicit, Phase, Record};
 use st_unfinished::leave_unfinished;
 use std::alloc::{AllocError, Global};
 
 /// Takes in one record. Without memory for a new name the map stays as it was, and the record is let go.
 pub(crate) fn take_in(alloc: Global, entries: &mut Entries, event: Record) -> Result<(), AllocError>
-    ensures ok { OnOk result (by_name (λ k. k.items) entries.new.entries ≡ apply_record (by_name (λ k. k.items) entries.old.entries) event) }
-    ensures err { OnErr result (by_name (λ k. k.items) entries.new.entries ≡ by_name (λ k. k.items) entries.old.entries) }
-    ensures memory { OnErr result (map.get (by_name (λ k. k.items) entries.old.entries) (target_of event) ≡ None) }
+    ensures ok { OnOk result (by_name (λ k. k) entries.new.entries ≡ apply_record (by_name (λ k. k) entries.old.entries) event) }
+    ensures err { OnErr result (by_name (λ k. k) entries.new.entries ≡ by_name (λ k. k) entries.old.entries) }
+    ensures memory { OnErr result (map.get (by_name (λ k. k) entries.old.entries) (target_of event) ≡ None) }
     ensures succeeds { 0 < spare entries.old → IsOk result }
     ensures room { spare entries.old ≤ spare entries.new + 1 }
 {
     match event {
-        Record::Begun { target } => set_unfinished(alloc, entries, target.into_vec(), Phase::Begun),
+        Record::Begun { target } => set_unfinished(alloc, entries, name_of(target), Phase::Begun),
         Record::Done {
             target,
             commands,
@@ -34,19 +35,25 @@ pub(crate) fn take_in(alloc: Global, entries: &mut Entries, event: Record) -> Re
                 hidden,
                 explicit,
             };
-            set_entry(entries, target.into_vec(), entry)
+            set_entry(entries, name_of(target), entry)
         }
         Record::Failed { target, status } => {
-            set_unfinished(alloc, entries, target.into_vec(), Phase::Failed(status))
+            set_unfinished(alloc, entries, name_of(target), Phase::Failed(status))
         }
-        Record::Kept { target, entry } => set_entry(entries, target.into_vec(), entry),
+        Record::Kept { target, entry } => set_entry(entries, name_of(target), entry),
     }
 }
 
-fn set_entry(entries: &mut Entries, name: Vec<u8>, entry: Entry) -> Result<(), AllocError>
-    ensures ok { OnOk result (by_name (λ k. k.items) entries.new.entries ≡ map.insert (by_name (λ k. k.items) entries.old.entries) name.items entry) }
-    ensures err { OnErr result (by_name (λ k. k.items) entries.new.entries ≡ by_name (λ k. k.items) entries.old.entries) }
-    ensures memory { OnErr result (map.get (by_name (λ k. k.items) entries.old.entries) name.items ≡ None) }
+fn name_of(target: ByteString) -> Name
+    ensures { result ≡ target }
+{
+    Name::new(target.into_vec())
+}
+
+fn set_entry(entries: &mut Entries, name: Name, entry: Entry) -> Result<(), AllocError>
+    ensures ok { OnOk result (by_name (λ k. k) entries.new.entries ≡ map.insert (by_name (λ k. k) entries.old.entries) name entry) }
+    ensures err { OnErr result (by_name (λ k. k) entries.new.entries ≡ by_name (λ k. k) entries.old.entries) }
+    ensures memory { OnErr result (map.get (by_name (λ k. k) entries.old.entries) name ≡ None) }
     ensures succeeds { 0 < spare entries.old → IsOk result }
     ensures room { spare entries.old ≤ spare entries.new + 1 }
 {
@@ -58,13 +65,13 @@ fn set_entry(entries: &mut Entries, name: Vec<u8>, entry: Entry) -> Result<(), A
 fn set_unfinished(
     alloc: Global,
     entries: &mut Entries,
-    name: Vec<u8>,
+    name: Name,
     phase: Phase,
 ) -> Result<(), AllocError>
-    ensures ok { OnOk result (by_name (λ k. k.items) entries.new.entries
-        ≡ map.insert (by_name (λ k. k.items) entries.old.entries) name.items (unfinished phase (known_hidden (by_name (λ k. k.items) entries.old.entries) name.items))) }
-    ensures err { OnErr result (by_name (λ k. k.items) entries.new.entries ≡ by_name (λ k. k.items) entries.old.entries) }
-    ensures memory { OnErr result (map.get (by_name (λ k. k.items) entries.old.entries) name.items ≡ None) }
+    ensures ok { OnOk result (by_name (λ k. k) entries.new.entries
+        ≡ map.insert (by_name (λ k. k) entries.old.entries) name (unfinished phase (known_hidden (by_name (λ k. k) entries.old.entries) name))) }
+    ensures err { OnErr result (by_name (λ k. k) entries.new.entries ≡ by_name (λ k. k) entries.old.entries) }
+    ensures memory { OnErr result (map.get (by_name (λ k. k) entries.old.entries) name ≡ None) }
     ensures succeeds { 0 < spare entries.old → IsOk result }
     ensures room { spare entries.old ≤ spare entries.new + 1 }
 {

@@ -35,42 +35,50 @@ loop-alloc-init g c =
       asked = λ name asked. absurd (c.requires name asked);
       nodes = ap length told.nodes ∙ sym (ap length told.rows);
       described = described_none (g.R.Dependencies.describes c.args.source.now) names c.in_ok-numbered.numbered.nodes.items told.nodes;
+      noted = c.notes-notes.ensures names;
       follows = g.met.R.Dependencies.stays c.args.source.now;
     }
 
 pub prerequisites-requires : goal.prerequisites-requires
-prerequisites-requires g c = λ asked.
+prerequisites-requires g c =
     let names = c.loop-alloc.numbered.names in
-    let k = c.len-in-loop-alloc-2.result in
+    let k = c.len-number.result in
     let next : k < length names = let t = c.loop-alloc-test.true in omega arith in
-    let before = c.loop-alloc.invariant.asked c.name-name.result.now asked in
     let e : length c.loop-alloc.numbered.rows ≡ k = omega arith in
-    true≢false (sym before ∙ ap (λ n. has_name (take n names) c.name-name.result.now) e ∙ ap (has_name (take k names)) c.name-name.ensures ∙ new_at names k c.loop-alloc.invariant.distinct next)
+    record {
+      number = next;
+      distinct = c.loop-alloc.invariant.distinct;
+      noted = c.loop-alloc.invariant.noted;
+      unasked = λ asked.
+          true≢false (sym (c.loop-alloc.invariant.asked (name_at names k) asked) ∙ ap (λ n. has_name (take n names) (name_at names k)) e
+          ∙ new_at names k c.loop-alloc.invariant.distinct next);
+    }
 
 pub returns-in-Err-clause-fault : goal.returns-in-Err-clause-fault
 returns-in-Err-clause-fault g c =
     let names = c.loop-alloc.numbered.names in
     let goals = c.args.goals.now in (
-      c.name-name.result.now,
+      name_at names c.len-number.result,
       c.in-Err.ensures.refused,
       λ of allowed whole numbering.
-          let r = reached of goals names c.loop-alloc.numbered.rows c.len-in-loop-alloc-2.result
-          (c.loop-alloc.invariant.numbers of (c.in-Err.ensures.grows of allowed)) (let k = c.loop-alloc-test.true in omega arith) whole numbering in
-          ap (has_name whole) c.name-name.ensures ∙ r,
+          reached of goals names c.loop-alloc.numbered.rows c.len-number.result
+          (c.loop-alloc.invariant.numbers of (c.in-Err.ensures.grows of allowed)) (let k = c.loop-alloc-test.true in omega arith) whole numbering,
     )
 
 pub returns-in_err-take_in-in-Ok-clause-fault : goal.returns-in_err-take_in-in-Ok-clause-fault
 returns-in_err-take_in-in-Ok-clause-fault g c =
     let p = err_from_is_err_and c.from_residual-in_err-take_in-in-Ok.result c.from_residual-in_err-take_in-in-Ok.ensures.1 in
     let names = c.loop-alloc.numbered.names in
+    let names' = c.prerequisites.new.names in
     let rows = c.loop-alloc.numbered.rows in
     let goals = c.args.goals.now in
-    let found = c.in-Ok.found.prerequisites in
+    let found = map (name_at names') c.in-Ok.found.prerequisites.items in
     let next : length rows < length names = let t = c.loop-alloc-test.true in omega arith in
-    let told = limit_fault_stands (g.R.Dependencies.allows c.prerequisites.new.self) (g.R.Dependencies.refuses c.prerequisites.new.self) goals c.args.limit (all_added names found) c.in_err-take_in-in-Ok.field-0.0 c.in_err-take_in-in-Ok.ensures.fault
+    let k : c.len-number.result ≡ length rows = omega arith in
+    let told = limit_fault_stands (g.R.Dependencies.allows c.prerequisites.new.self) (g.R.Dependencies.refuses c.prerequisites.new.self) goals c.args.limit names' c.in_err-take_in-in-Ok.field-0.0 c.in_err-take_in-in-Ok.ensures.fault
     (λ past of allowed whole numbering.
     too_many_found of goals names rows found (c.loop-alloc.invariant.numbers of (c.in-Ok.ensures.grows of allowed)) next
-    (c.in-Ok.ensures.list of allowed ∙ ap of (c.name-name.ensures ∙ ap (name_at names) (omega arith))) c.args.limit past whole numbering) in
+    (c.in-Ok.ensures.list of allowed ∙ ap (λ n. of (name_at names n)) k) c.args.limit (subst (λ l. c.args.limit < length l) c.in-Ok.ensures.names past) whole numbering) in
     rw (p.1, p.2) told
 
 -- names and rows once a row was found
@@ -96,22 +104,27 @@ loop-alloc-preserved g c =
     let names' = c.take_in.new.self.names in
     let rows = c.loop-alloc.numbered.rows in
     let goals = c.args.goals.now in
-    let found = c.in-Ok.found.prerequisites in
+    let row = c.in-Ok.found.prerequisites.items in
+    let found = map (name_at c.prerequisites.new.names) row in
     let told = c.in_ok-take_in-in-Ok.ensures in
-    let row = told.row.0 in
-    let longer = told.row.1 in
+    let same : names' ≡ c.prerequisites.new.names = told.names in
+    let is : names' ≡ all_added names found = same ∙ c.in-Ok.ensures.names in
+    let new_below : list_all (λ n. nat_lt n (length names')) row ≡ true = ap (λ l. list_all (λ n. nat_lt n (length l)) row) same ∙ c.in-Ok.ensures.numbers in
+    let here : map (name_at names') row ≡ found = ap (λ l. map (name_at l) row) same in
+    let longer = told.rows in
     let next : length rows < length names = let t = c.loop-alloc-test.true in omega arith in
-    let at : c.name-name.result.now ≡ name_at names (length rows) = c.name-name.ensures ∙ ap (name_at names) (omega arith) in
+    let k : c.len-number.result ≡ length rows = omega arith in
+    let at : name_at names c.len-number.result ≡ name_at names (length rows) = ap (name_at names) k in
     let one_more : length c.take_in.new.self.rows ≡ length rows + 1 = ap length longer ∙ length-append rows (row ∷ []) in
-    let grown : Begins names names' = begins goals names names' rows found row told.names told.row.2 told.row.3 before.below in
+    let grown : Begins names names' = begins goals names names' rows found row is new_below here before.below in
     let P : List (List ℕ) → Type 0 = λ rows. (of : List ℕ → List (List ℕ)) → g.R.Dependencies.allows c.prerequisites.new.self of → Numbers of goals names' rows in
     record {
       numbers = subst P (sym longer) (λ of allowed.
-          numbers_longer goals names names' rows found row told.names told.row.2 told.row.3 before.below of (before.numbers of (c.in-Ok.ensures.grows of allowed)) next
+          numbers_longer goals names names' rows found row is new_below here before.below of (before.numbers of (c.in-Ok.ensures.grows of allowed)) next
           (c.in-Ok.ensures.list of allowed ∙ ap of at));
-      below = ap (list_all (λ ns. list_all (λ n. nat_lt n (length names')) ns)) longer ∙ below_longer goals names names' rows found row told.names told.row.2 told.row.3 before.below;
+      below = ap (list_all (λ ns. list_all (λ n. nat_lt n (length names')) ns)) longer ∙ below_longer goals names names' rows found row is new_below here before.below;
       looked = let l = length_from_begins names names' grown in omega (arith, one_more, l, next);
-      within = told.within before.within;
+      within = told.within;
       goals =
           ap (λ v. map (name_at names') v.items) told.goals
           ∙ row_from_begins names names' c.loop-alloc.numbered.goals.items grown before.goal_nodes ∙ before.goals;
@@ -119,19 +132,20 @@ loop-alloc-preserved g c =
           ap (λ v. list_all (λ n. nat_lt n (length names')) v.items) told.goals
           ∙ below_from_begins names names' c.loop-alloc.numbered.goals.items grown before.goal_nodes;
       grows = λ of allowed. before.grows of (c.in-Ok.ensures.grows of allowed);
-      distinct = subst (IsDistinct bytes_eq) (sym told.names) (distinct_all_added names found before.distinct);
+      distinct = subst (IsDistinct bytes_eq) (sym is) (distinct_all_added names found before.distinct);
       asked = λ other asked.
           subst (λ n. has_name (take n names') other ≡ true) (sym one_more)
           (asked_more names names' (length rows) other grown next (⊎_elim (λ earlier. inl (before.asked other earlier)) (λ e. inr (e ∙ at)) (c.in-Ok.ensures.asks other asked)));
       nodes =
           let more = ap length told.node ∙ length-append c.loop-alloc.numbered.nodes.items (c.in-Ok.found.node ∷ []) in
-          let same = before.nodes in omega arith;
+          let as_many = before.nodes in omega (arith, more, as_many, one_more);
       described = λ n node there.
-          let same = before.nodes in
+          let as_many = before.nodes in
           described_more (g.R.Dependencies.describes c.loop-alloc.source) (g.R.Dependencies.describes c.prerequisites.new.self) names names' c.loop-alloc.numbered.nodes.items c.in-Ok.found.node
-          c.in-Ok.ensures.kept grown (omega arith) before.described
-          (subst (λ name. g.R.Dependencies.describes c.prerequisites.new.self name c.in-Ok.found.node) (at ∙ ap (name_at names) (sym same)) c.in-Ok.ensures.node)
+          c.in-Ok.ensures.kept grown (omega (arith, as_many, next)) before.described
+          (subst (λ name. g.R.Dependencies.describes c.prerequisites.new.self name c.in-Ok.found.node) (at ∙ ap (name_at names) (sym as_many)) c.in-Ok.ensures.node)
           n node (ap (λ l. slice_get l n) (sym told.node) ∙ there);
+      noted = subst (λ l. g.R.Dependencies.fits c.prerequisites.new.self l c.prerequisites.new.notes) (sym same) c.in-Ok.ensures.noted;
       follows = g.met.R.Dependencies.through c.args.source.now c.loop-alloc.source c.prerequisites.new.self true before.follows c.in-Ok.ensures.follows;
     }
 

@@ -18,6 +18,7 @@ invariant-loop-alloc g l = record {
   asked : (name : List ℕ) → g.R.Dependencies.asked l.source name → has_name (take (length l.numbered.rows) l.numbered.names) name ≡ true;
   nodes : length l.numbered.nodes.items ≡ length l.numbered.rows;
   described : AreDescribed (g.R.Dependencies.describes l.source) l.numbered.names l.numbered.nodes.items;
+  noted : g.R.Dependencies.fits l.source l.numbered.names l.notes;
   follows : g.R.Dependencies.follows l.fn.source true l.source;
 }
 

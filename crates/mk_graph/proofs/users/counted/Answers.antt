@@ -1,4 +1,4 @@
-use Rattle.std.proofs.Common.{◌≡◌, ℕ, ◌+◌, ◌≤◌, length, slice_index, sum, get_or, ap, ◌∙◌, subst, sym, arith, length-set}
+use Rattle.std.proofs.Common.{◌+◌, ◌≤◌, length, slice_index, sum, ap, ◌∙◌, subst, sym, arith, length-set}
 use Rattle.std.proofs.lemmas.Grind.{common_steps}
 use Rattle.mk_graph.proofs.UserLemmas.{counted_in, counted_past, sum_in}
 use Rattle.mk_graph.proofs.users.counted.Goals as goal

@@ -7,7 +7,7 @@ pub returns-clause-line : goal.returns-clause-line
 returns-clause-line c =
     let first = physical c.next_line.result.0 in
     let others = rest_of_group first (lines_left (option_copied c.next_line.result.1)) in
-    let front : c.push_first.new.text.items ≡ opening false first = c.in_ok-push_first.ensures ∙ ap (λ xs. xs ++ opening false first) c.new-text.ensures.items in
+    let front : c.in_ok-text.text.items ≡ opening false first = c.in_ok-text.ensures.items ∙ c.opening.ensures in
     let text : c.join_rest.new.text.items ≡ opening false first ++ flat_map (joint false) others =
     c.in_ok-left.ensures.text ∙ ap (λ xs. xs ++ flat_map (joint false) others) front in
     joined_lines-cons (Some c.args.bytes.now) (option_copied c.in_ok-left.left) first _ _ c.next_line.ensures.lines c.in_ok-left.ensures.left text

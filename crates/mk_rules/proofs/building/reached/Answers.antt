@@ -1,12 +1,15 @@
-use Rattle.std.proofs.Common.{◌≡◌, ℕ, ℤ, List, Option, true, false, sym, ap, subst, ◌∙◌}
+use Rattle.std.proofs.Common.{◌≡◌, ℕ, ℤ, Bool, List, Option, true, false, sym, ap, subst, ◌∙◌}
 use Rattle.std.specs.FinMap as map
-use Rattle.std.specs.Prelude.{option_to_list}
+use Rattle.std.specs.Prelude.{codes, option_to_list}
 use Rattle.mk_rules.specs.Chain.{steps_of}
+use Rattle.mk_rule_lines.specs.Explicit.{explicit_targets}
+use Rattle.mk_rule_lines.specs.declared.form.Form.{Form}
+use Rattle.mk_rules.specs.Links.{AreLinks}
 use Rattle.mk_rules.specs.Faults.{IsGraphFault}
 use Rattle.mk_rule_lines.specs.Forms.{forms_of}
 use Rattle.mk_rules.specs.Found.{AreFound, IsFindingFault}
 use Rattle.mk_rule_lines.specs.Goals.{goals_of, IsGoalFault}
-use Rattle.mk_rules.specs.Prerequisites.{inputs_of}
+use Rattle.mk_rules.specs.Prerequisites.{inputs_of, default_of}
 use Rattle.mk_rule_lines.specs.Rules.{has, places, recipe_places, targets_by, suffixes_of}
 use Rattle.mk_rule_lines.specs.Table.{named_at}
 use Rattle.mk_rule_lines.specs.declared.fault.RuleFault.{RuleFault}
@@ -26,7 +29,7 @@ returns-clause-found g c =
     if_ok c.numbered_names.result _ _
     (λ n found times now.
     subst (λ (gs : List (List ℕ)). AreFound (inputs_of lines entries times) gs n) goals_are
-    (subst (λ (ls : List RuleLine). AreFound (inputs_of ls entries times) goals n) c.deref-2.ensures.value (found times now)))
+    (subst (λ (ls : List RuleLine). AreFound (inputs_of ls entries times) goals n) c.deref-4.ensures.value (found times now)))
     c.numbered_names.ensures.found
 
 pub returns-clause-fault : goal.returns-clause-fault
@@ -39,7 +42,7 @@ returns-clause-fault g c =
     if_err c.numbered_names.result _ _
     (λ f meets times now.
     not_found (inputs_of lines entries times) refuses c.args.goals c.args.limit goals goals_are f
-    (subst (λ (ls : List RuleLine). IsFindingFault (inputs_of ls entries times) refuses goals c.args.limit f) c.deref-2.ensures.value (meets times now)))
+    (subst (λ (ls : List RuleLine). IsFindingFault (inputs_of ls entries times) refuses goals c.args.limit f) c.deref-4.ensures.value (meets times now)))
     c.numbered_names.ensures.fault
 
 pub returns-in_err-goals-clause-fault : goal.returns-in_err-goals-clause-fault
@@ -58,13 +61,21 @@ returns-in_err-goals-clause-fault g c =
 pub invariant_of-rules : goal.invariant_of-rules
 invariant_of-rules g c =
     let m = c.args.makefile.now in
-    let read = sym c.deref-2.ensures.value in
+    let read = sym c.deref-4.ensures.value in
     record {
       named = λ name. subst (λ (ls : List RuleLine). (named_at m.targets name).lines ≡ places (λ l. has name (targets_by false (suffixes_of ls) l)) 0 ls) read (m.table.named name);
       recipes = λ name. subst (λ (ls : List RuleLine). option_to_list (named_at m.targets name).recipe ≡ recipe_places (targets_by false (suffixes_of ls)) 0 ls name) read (m.table.recipe name);
-      all_forms = subst (λ (ls : List RuleLine). c.deref-3.result.now ≡ forms_of (suffixes_of ls) ls) read (c.deref-3.ensures.value ∙ m.all_forms);
-      few = c.steps_of.ensures ∙ ap steps_of (c.deref-4.ensures.value ∙ sym c.deref-2.ensures.value);
+      all_forms = subst (λ (ls : List RuleLine). c.deref-5.result.now ≡ forms_of (suffixes_of ls) ls) read (c.deref-5.ensures.value ∙ m.all_forms);
+      few = c.steps_of-steps.ensures ∙ ap steps_of (c.deref-2.ensures.value ∙ sym c.deref-4.ensures.value);
+      linked =
+          subst (λ (ls : List Bool). AreLinks c.deref-5.result.now ls) (sym c.deref-6.ensures.value)
+          (subst (λ (fs : List Form). AreLinks fs c.in_ok-links.links.items) (c.deref-3.ensures.value ∙ sym c.deref-5.ensures.value) c.in_ok-links.ensures);
+      left_over = c.default_of.ensures ∙ ap default_of (c.deref-7.ensures.value ∙ sym c.deref-4.ensures.value);
     }
 
 pub returns-in_err-goals-clause-asked : goal.returns-in_err-goals-clause-asked
 returns-in_err-goals-clause-asked g c = asked_none (λ _. true) (g.T.Tree.asked c.args.tree.now)
+
+pub default_of-requires : goal.default_of-requires
+default_of-requires g c =
+    c.args.makefile.now.table.recipe (codes ".DEFAULT") ∙ ap (λ (ls : List RuleLine). recipe_places (explicit_targets ls) 0 ls (codes ".DEFAULT")) (sym c.deref-7.ensures.value)

@@ -1,5 +1,6 @@
-use Rattle.std.proofs.Common.{◌≡◌, ◌<◌, ◌-◌, ◌++◌, ◌∷◌, ◌&&◌, List, ℕ, [], Bool, true, false, Some, refl, sym, ap, subst, ◌∙◌, arith}
-use Rattle.std.specs.Prelude.{is_some}
+use Rattle.std.proofs.Common.{◌≡◌, ◌<◌, ◌-◌, ◌++◌, ◌∷◌, ◌&&◌, List, ℕ, [], Bool, true, false, length, Some, refl, sym, ap, subst, ◌∙◌, arith}
+use Rattle.std.specs.Prelude.{is_some, slice_get}
+use Rattle.std.proofs.lemmas.Option.{slice_get_read}
 use Rattle.std.specs.List.{list_all}
 use Rattle.std.proofs.lemmas.List.{append_assoc, append-nil}
 use Rattle.mk_rule_lines.proofs.LineLemmas.{handed_on}
@@ -137,38 +138,41 @@ all_can_be-returns-in_err-can_be-clause-fault g t c =
 
 -- ---- the first candidate of whose names each can be
 
-pub first_that-loop-form-init : goal.first_that-loop-form-init
-first_that-loop-form-init g t c = record { none = λ times now. refl; looks = looks_none _ _ _ }
+pub first_that-loop-number-init : goal.first_that-loop-number-init
+first_that-loop-number-init g t c = record { none = λ times now. refl; looks = looks_none _ _ _ }
 
-pub first_that-loop-form-preserved : goal.first_that-loop-form-preserved
-first_that-loop-form-preserved g t c =
+pub first_that-loop-number-preserved : goal.first_that-loop-number-preserved
+first_that-loop-number-preserved g t c =
     let makers = c.args.makers.now in
     let forms = makers.forms.now in
     let taken = c.args.taken.now in
     let name = c.args.name.now in
     let form = c.form-item.result in
-    let k = c.loop-form.form-index in
+    let k = c.loop-number.number in
+    let few = c.steps_behind-steps.result in
+    let at : slice_get forms k ≡ Some form = slice_get_read forms (length forms) k form refl c.loop-number-test.true c.form-item.is in
     let stem : List ℕ × List ℕ = (c.in-Some.folder.now, c.in-Some.stem.now) in
-    let inv = c.loop-form.invariant in
+    let inv = c.loop-number.invariant in
     let tells = c.in_ok-all_can_be.ensures in
     record {
       none = λ times now.
           let can : ℕ → List ℕ → Bool = λ rule. can_be (is_there makers.targets.now times) forms c.args.steps (rule ∷ taken) in
           let no : list_all (can form.rule) (source_at form stem).names ≡ false
-          = ap (λ (s : Source). list_all (can form.rule) s.names) (sym c.in_ok-source.ensures)
-          ∙ ap (λ (rules : List ℕ). list_all (can_be (is_there makers.targets.now times) forms c.args.steps rules) c.in_ok-source.source.names) (sym (c.deref.ensures.value ∙ c.in_ok-taken.ensures))
+          = sym (c.steps_behind-steps.ensures.same (is_there makers.targets.now times) forms form makers.linked at stem (form.rule ∷ taken))
+          ∙ ap (λ (s : Source). list_all (can_be (is_there makers.targets.now times) forms few (form.rule ∷ taken)) s.names) (sym c.in_ok-source.ensures)
+          ∙ ap (λ (rules : List ℕ). list_all (can_be (is_there makers.targets.now times) forms few rules) c.in_ok-source.source.names) (sym (c.deref.ensures.value ∙ c.in_ok-taken.ensures))
           ∙ sym (tells.can_be times now) ∙ c.if-branch.false in
-          passed_more name c.args.any taken forms k form c.loop-form-test.true c.form-item.is can (inv.none times (tells.looks.narrows times now)) stem (sym c.in-Some.ensures) no;
+          passed_more name false taken forms k form c.loop-number-test.true c.form-item.is can (inv.none times (tells.looks.narrows times now)) stem (sym c.in-Some.ensures) no;
       looks = looks_on _ _ _ _ _ _ _ _ _ inv.looks tells.looks;
     }
 
-pub first_that-loop-form-preserved-in_default : goal.first_that-loop-form-preserved-in_default
-first_that-loop-form-preserved-in_default g t c =
+pub first_that-loop-number-preserved-in_default : goal.first_that-loop-number-preserved-in_default
+first_that-loop-number-preserved-in_default g t c =
     let makers = c.args.makers.now in
-    let inv = c.loop-form.invariant in
+    let inv = c.loop-number.invariant in
     record {
       none = λ times now.
-          unfit_more c.args.name.now c.args.any c.args.taken.now makers.forms.now c.loop-form.form-index c.form-item.result c.loop-form-test.true c.form-item.is
+          unfit_more c.args.name.now false c.args.taken.now makers.forms.now c.loop-number.number c.form-item.result c.loop-number-test.true c.form-item.is
           (λ rule. can_be (is_there makers.targets.now times) makers.forms.now c.args.steps (rule ∷ c.args.taken.now)) (inv.none times now) (sym c.in_default.ensures);
       looks = inv.looks;
     }
@@ -180,23 +184,26 @@ first_that-returns-then-branch-clause-source g t c = λ times now.
     let taken = c.args.taken.now in
     let name = c.args.name.now in
     let form = c.form-item.result in
-    let k = c.loop-form.form-index in
+    let k = c.loop-number.number in
+    let few = c.steps_behind-steps.result in
+    let at : slice_get forms k ≡ Some form = slice_get_read forms (length forms) k form refl c.loop-number-test.true c.form-item.is in
     let stem : List ℕ × List ℕ = (c.in-Some.folder.now, c.in-Some.stem.now) in
     let tells = c.in_ok-all_can_be.ensures in
     let can : ℕ → List ℕ → Bool = λ rule. can_be (is_there makers.targets.now times) forms c.args.steps (rule ∷ taken) in
     let yes : list_all (can form.rule) (source_at form stem).names ≡ true
-    = ap (λ (s : Source). list_all (can form.rule) s.names) (sym c.in_ok-source.ensures)
-    ∙ ap (λ (rules : List ℕ). list_all (can_be (is_there makers.targets.now times) forms c.args.steps rules) c.in_ok-source.source.names) (sym (c.deref.ensures.value ∙ c.in_ok-taken.ensures))
+    = sym (c.steps_behind-steps.ensures.same (is_there makers.targets.now times) forms form makers.linked at stem (form.rule ∷ taken))
+    ∙ ap (λ (s : Source). list_all (can_be (is_there makers.targets.now times) forms few (form.rule ∷ taken)) s.names) (sym c.in_ok-source.ensures)
+    ∙ ap (λ (rules : List ℕ). list_all (can_be (is_there makers.targets.now times) forms few rules) c.in_ok-source.source.names) (sym (c.deref.ensures.value ∙ c.in_ok-taken.ensures))
     ∙ sym (tells.can_be times now) ∙ c.if-branch.true in
     ap (λ (s : Source). Some s) c.in_ok-source.ensures
-    ∙ sym (taken_first name c.args.any taken forms k form c.loop-form-test.true c.form-item.is can
-    (c.loop-form.invariant.none times (tells.looks.narrows times now)) stem (sym c.in-Some.ensures) yes)
+    ∙ sym (taken_first name false taken forms k form c.loop-number-test.true c.form-item.is can
+    (c.loop-number.invariant.none times (tells.looks.narrows times now)) stem (sym c.in-Some.ensures) yes)
 
 pub first_that-returns-then-branch-clause-looks : goal.first_that-returns-then-branch-clause-looks
-first_that-returns-then-branch-clause-looks g t c = looks_on _ _ _ _ _ _ _ _ _ c.loop-form.invariant.looks c.in_ok-all_can_be.ensures.looks
+first_that-returns-then-branch-clause-looks g t c = looks_on _ _ _ _ _ _ _ _ _ c.loop-number.invariant.looks c.in_ok-all_can_be.ensures.looks
 
 pub first_that-returns-in_err-all_can_be-clause-looks : goal.first_that-returns-in_err-all_can_be-clause-looks
-first_that-returns-in_err-all_can_be-clause-looks g t c = looks_on _ _ _ _ _ _ _ _ _ c.loop-form.invariant.looks c.in_err-all_can_be.ensures.looks
+first_that-returns-in_err-all_can_be-clause-looks g t c = looks_on _ _ _ _ _ _ _ _ _ c.loop-number.invariant.looks c.in_err-all_can_be.ensures.looks
 
 pub first_that-returns-in_err-all_can_be-clause-fault : goal.first_that-returns-in_err-all_can_be-clause-fault
 first_that-returns-in_err-all_can_be-clause-fault g t c =
@@ -207,8 +214,9 @@ first_that-returns-in_err-all_can_be-clause-fault g t c =
     let form = c.form-item.result in
     let refuses = g.T.Tree.refuses c.all_can_be.new.tree in
     let stem : List ℕ × List ℕ = (c.in-Some.folder.now, c.in-Some.stem.now) in
-    let asked : List ℕ → List ℕ → List ℕ → Type 0 = λ rules. IsAskedIn forms c.args.steps rules in
-    let behind = IsBehind (λ rule. asked (rule ∷ taken)) (usable c.args.any taken forms) name in
+    let few = c.steps_behind-steps.result in
+    let asked : List ℕ → List ℕ → List ℕ → Type 0 = λ rules. IsAskedIn forms few rules in
+    let behind = IsBehind (λ rule. IsAskedIn forms c.args.steps (rule ∷ taken)) (usable false taken forms) name in
     let met : IsLedFault makers.targets.now refuses (IsAmong (asked (form.rule ∷ taken)) (source_at form stem).names) c.in_err-all_can_be.field-0.0
     = subst (λ (s : Source). IsLedFault makers.targets.now refuses (IsAmong (asked (form.rule ∷ taken)) s.names) c.in_err-all_can_be.field-0.0) c.in_ok-source.ensures
     (subst (λ (rules : List ℕ). IsLedFault makers.targets.now refuses (IsAmong (asked rules) c.in_ok-source.source.names) c.in_err-all_can_be.field-0.0) (c.deref.ensures.value ∙ c.in_ok-taken.ensures)
@@ -219,7 +227,13 @@ first_that-returns-in_err-all_can_be-clause-fault g t c =
       before = _;
       source = source_at form stem;
       behind = _;
-      is = candidates_at name c.args.any taken forms c.loop-form.form-index form c.loop-form-test.true c.form-item.is stem (sym c.in-Some.ensures);
-      lead = among;
+      is = candidates_at name false taken forms c.loop-number.number form c.loop-number-test.true c.form-item.is stem (sym c.in-Some.ensures);
+      lead = record {
+        before = among.before;
+        name = among.name;
+        behind = among.behind;
+        is = among.is;
+        lead = c.steps_behind-steps.ensures.asked forms (form.rule ∷ taken) among.name n among.lead;
+      };
     })
     c.in_err-all_can_be.field-0.0 met)

@@ -1,4 +1,4 @@
-use Rattle.std.proofs.Common.{◌≡◌, ◌+◌, ◌*◌, true, take, List, ◌∷◌, ◌++◌, ℕ, ℤ, Option, None}
+use Rattle.std.proofs.Common.{◌≡◌, ◌+◌, ◌*◌, true, false, take, List, ◌∷◌, ◌++◌, ℕ, ℤ, Option, None}
 use Rattle.std.specs.List.{list_all}
 use Rattle.mk_rules.specs.Chain.{can_be, usable, first_that}
 use Rattle.mk_rules.specs.Looks.{Looks}
@@ -22,9 +22,9 @@ invariant-all_can_be-loop-name g l = record {
   looks : Looks (g.T.Tree.allows l.fn.tree) (g.T.Tree.allows l.tree) (g.T.Tree.refuses l.fn.tree) (g.T.Tree.refuses l.tree) (g.T.Tree.asked l.fn.tree) (g.T.Tree.asked l.tree);
 }
 
-abbrev pub invariant-first_that-loop-form : goal.invariant-first_that-loop-form
-invariant-first_that-loop-form g l = record {
+abbrev pub invariant-first_that-loop-number : goal.invariant-first_that-loop-number
+invariant-first_that-loop-number g l = record {
   none : (times : List ℕ → Option ℤ) → g.T.Tree.allows l.tree times
-      → first_that (λ rule. can_be (is_there l.makers.targets.now times) l.forms l.steps (rule ∷ l.taken)) (usable l.any l.taken (take l.form-index l.forms)) l.name ≡ None;
+      → first_that (λ rule. can_be (is_there l.makers.targets.now times) l.makers.forms.now l.steps (rule ∷ l.taken)) (usable false l.taken (take l.number l.makers.forms.now)) l.name ≡ None;
   looks : Looks (g.T.Tree.allows l.fn.tree) (g.T.Tree.allows l.tree) (g.T.Tree.refuses l.fn.tree) (g.T.Tree.refuses l.tree) (g.T.Tree.asked l.fn.tree) (g.T.Tree.asked l.tree);
 }

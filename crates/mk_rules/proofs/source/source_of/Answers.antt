@@ -22,7 +22,7 @@ returns-then-branch-clause-source g c = λ times now.
     let at = from_form forms k form c.loop-form-test.true c.form-item.is in
     let fits : stem_of form name ≡ Some stem = sym c.in-Some.ensures in
     let yes : list_all there (source_at form stem).names ≡ true
-    = ap (λ (s : Source). list_all there s.names) (sym c.in_ok-source.ensures) ∙ sym (c.in_ok-all_there.ensures.there times now) ∙ c.if-branch.true in
+    = sym (c.in_ok-all_there.ensures.there times now) ∙ c.if-branch.true in
     let found = taken there form (drop (k + 1) forms) name stem fits yes in
     let none = c.loop-form.invariant.none times (c.in_ok-all_there.ensures.looks.narrows times now) in
     ap (λ (s : Source). Some s) c.in_ok-source.ensures ∙ sym found ∙ sym (source_of-behind there (take k forms) (form ∷ drop (k + 1) forms) name none)
@@ -42,7 +42,7 @@ loop-form-preserved g c =
           let there = is_there c.args.targets.now times in
           let fits : stem_of form name ≡ Some stem = sym c.in-Some.ensures in
           let no : list_all there (source_at form stem).names ≡ false
-          = ap (λ (s : Source). list_all there s.names) (sym c.in_ok-source.ensures) ∙ sym (tells.there times now) ∙ c.if-branch.false in
+          = sym (tells.there times now) ∙ c.if-branch.false in
           none_more there forms k form name c.loop-form-test.true c.form-item.is (inv.none times (tells.looks.narrows times now)) (passed there form [] name stem fits no);
       looks = looks_on _ _ _ _ _ _ _ _ _ inv.looks tells.looks;
     }
@@ -74,8 +74,8 @@ returns-in_err-all_there-clause-fault g c =
     let fits : stem_of form name ≡ Some stem = sym c.in-Some.ensures in
     let tells = c.in_err-all_there.ensures in
     let met : IsAllFault targets allowed refuses (source_at form stem).names fault
-    = subst (λ (s : Source). IsAllFault targets allowed refuses s.names fault) c.in_ok-source.ensures tells.fault in
-    handed_on _ (IsSourceFault targets allowed refuses forms name) fault (c.from_residual-in_err-all_there.ensures).1
+    = tells.fault in
+    handed_on _ (IsSourceFault targets allowed refuses forms name) fault (c.from_residual.ensures).1
     (reached_fault targets allowed refuses forms name c.loop-form.form-index form stem c.loop-form-test.true c.form-item.is
     fits (λ times now. c.loop-form.invariant.none times (tells.looks.narrows times now)) fault met)
 

@@ -1,4 +1,4 @@
-use Rattle.std.proofs.Common.{◌≡◌, ap, sym, ◌∙◌, rules, Vec, Global, ℕ}
+use Rattle.std.proofs.Common.{◌≡◌, ap, sym, ◌∙◌, rules, List, ℕ}
 use Rattle.std.specs.FinMap as map
 use Rattle.std.specs.Option.{unwrap_or}
 use Rattle.indexmap.specs.Entry.{map_with_value}
@@ -10,19 +10,19 @@ use Rattle.st_state.proofs.taking.set_unfinished.Goals as goal
 
 pub returns-in_err-entries-clause-memory : goal.returns-in_err-entries-clause-memory
 returns-in_err-entries-clause-memory c =
-    on_err _ (absent-by_name (λ k. k.items) c.args.name.items c.args.entries.now.entries (sym c.in_err-entries.ensures.absent))
+    on_err _ (absent-by_name (λ k. k) c.args.name c.args.entries.now.entries (sym c.in_err-entries.ensures.absent))
 
 pub returns-clause-ok : goal.returns-clause-ok
 returns-clause-ok c =
     let es = c.args.entries.now.entries in
     let left = c.leave_unfinished.new.known in
     let none : Entry = record { phase = c.args.phase; commands = c.empty.result; hidden = c.empty-2.result; explicit = Unknown } in
-    let hidden : c.or_insert-known.result.now.hidden ≡ known_hidden (by_name {K = Vec ℕ Global} (λ k. k.items) es) c.args.name.items =
+    let hidden : c.or_insert-known.result.now.hidden ≡ known_hidden (by_name {K = List ℕ} (λ k. k) es) c.args.name =
     ap (λ e. e.hidden) (c.or_insert-known.ensures.value ∙ ap (λ o. unwrap_or o none) c.in_ok-entries.ensures.value)
-    ∙ hidden_or_none (λ k. k.items) c.args.name.items es none c.empty-2.ensures in
-    let rest : by_name {K = Vec ℕ Global} (λ k. k.items) (map_with_value c.in_ok-entries.field-0 left).entries
-    ≡ map.insert (by_name {K = Vec ℕ Global} (λ k. k.items) es) c.args.name.items (unfinished c.args.phase (known_hidden (by_name {K = Vec ℕ Global} (λ k. k.items) es) c.args.name.items)) =
-    ap (by_name {K = Vec ℕ Global} (λ k. k.items)) (c.in_ok-entries.ensures.update.1 left)
-    ∙ by_name-insert_entry {K = Vec ℕ Global} (λ k. k.items) c.args.name left es
-    ∙ ap (map.insert (by_name {K = Vec ℕ Global} (λ k. k.items) es) c.args.name.items) (c.leave_unfinished.ensures ∙ ap (unfinished c.args.phase) hidden) in
+    ∙ hidden_or_none (λ k. k) c.args.name es none c.empty-2.ensures in
+    let rest : by_name {K = List ℕ} (λ k. k) (map_with_value c.in_ok-entries.field-0 left).entries
+    ≡ map.insert (by_name {K = List ℕ} (λ k. k) es) c.args.name (unfinished c.args.phase (known_hidden (by_name {K = List ℕ} (λ k. k) es) c.args.name)) =
+    ap (by_name {K = List ℕ} (λ k. k)) (c.in_ok-entries.ensures.update.1 left)
+    ∙ by_name-insert_entry {K = List ℕ} (λ k. k) c.args.name left es
+    ∙ ap (map.insert (by_name {K = List ℕ} (λ k. k) es) c.args.name) (c.leave_unfinished.ensures ∙ ap (unfinished c.args.phase) hidden) in
     search (rules, rest)

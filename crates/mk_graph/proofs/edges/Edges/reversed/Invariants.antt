@@ -4,6 +4,6 @@ use Rattle.mk_graph.proofs.edges.Edges.reversed.Given as goal
 
 abbrev pub invariant-loop-node : goal.invariant-loop-node
 invariant-loop-node l = record {
-  fills : Fills l.self l.node l.users.items l.ends.items l.left.items;
+  fills : Fills l.self l.node l.users.items l.ends.items l.next.items;
   size : length l.users.items ≡ length l.initial.users.items;
 }

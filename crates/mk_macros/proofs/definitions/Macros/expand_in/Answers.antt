@@ -8,12 +8,13 @@ use Rattle.mk_macros.specs.Reference.{first, front, nothing, plain, reference, u
 use Rattle.mk_macros.specs.Shown.{shown_piece, shown_use, inner_len}
 use Rattle.mk_macros.specs.Dynamic.{dynamic_value}
 use Rattle.mk_macros.specs.Ranks.{ranks_at, in_force, meaning_of}
-use Rattle.mk_macros.specs.Lookup.{Finds, progress_at, shown_progress}
+use Rattle.mk_macros.specs.Lookup.{Finds, known, progress_at, shown_progress}
 use Rattle.mk_macros.specs.Expansion.{adds_bytes, is_unclosed, is_nested, not_closed, dollar_in_brackets}
 use Rattle.mk_macros.specs.declared.lookup.Progress.TheVariants.{Opened, Known}
 use Rattle.mk_macros.proofs.LookupLemmas.{defined_from}
-use Rattle.mk_macros.proofs.ExpansionLemmas.{IsExpanding, ahead, at_text, at_piece, start, finish, step, enter, leave, enter_name, leave_name, piece_fault}
-use Rattle.mk_macros.proofs.StateLemmas.{left_shown, left_cost, awaited_shown, awaited_cost, waiting_of, stack_of, stack_of-push, progress-insert, unseen_cost-enter, unseen_cost-leave, callers_cost, callers_cost-push}
+use Rattle.mk_macros.proofs.ExpansionLemmas.{IsExpanding, ahead, at_text, at_piece, SetsProgress, start, finish, step, enter, leave, know, enter_name, leave_name, piece_fault}
+use Rattle.mk_macros.proofs.StateLemmas.{left_shown, left_cost, awaited_shown, awaited_cost, waiting_of, stack_of, stack_of-push, progress-insert, unseen_cost-enter, unseen_cost-leave, unseen_cost-know, callers_cost, callers_cost-push}
+use Rattle.mk_macros.proofs.PlainLemmas.{plain_expands_in}
 use Rattle.mk_macros.proofs.ArmLemmas.{append_fault, reference_step, reference_fault}
 use Rattle.mk_macros.proofs.definitions.Macros.expand_in.Goals as goal
 
@@ -232,7 +233,7 @@ pieces-smaller c =
     let f : Finds (meaning name) (state name) use_of name c.pieces.made.items made (Some (c.in-Some-2.name, c.in-Some-2.text)) =
     subst (λ found. Finds (meaning name) (state name) use_of name c.pieces.made.items made found) c.in-Some-2.is c.in_ok-append_reference-in-Some-Reference-default.ensures.ok in
     let has = ap (λ n. in_force (ranks_at c.args.self.now.texts n)) f.0 ∙ defined_from (dynamic_value c.args.line.now name) (in_force (ranks_at c.args.self.now.texts name)) c.in-Some-2.text.now f.1 in
-    let sets = progress-insert c.pieces.progress c.insert-in-Some-2.new.self c.in-Some-2.name Opened c.in_ok-insert-in-Some-2.ensures.updates in
+    let sets = progress-insert c.pieces.progress c.insert-in-Some-2.new.self c.in-Some-2.name Opened c.in_ok-insert-in-Some-2-2.ensures.updates in
     let unseen_falls = unseen_cost-enter state (progress_at c.insert-in-Some-2.new.self) c.in-Some-2.name.now c.in-Some-2.text.now (ap state f.0 ∙ f.2) sets c.args.self.now.texts has in
     let after : callers_cost c.push-in-Some-2.new.self.items ≡ callers_cost c.pieces.callers.items + (length c.in-Text.rest.now + 1) = ap callers_cost c.in_ok-push-in-Some-2.ensures.items ∙ callers_cost-push c.pieces.callers.items _ in
     let before : left_cost c.pieces.left ≡ length c.in-Text.rest.now = ap left_cost c.in-Text.is in
@@ -253,8 +254,45 @@ pieces-preserved c =
     sym c.in-Some-Reference-default.ensures.front ∙ ap (λ p. first (shown_piece p) after) c.in-Some-Reference-default.field-0-0-is ∙ ap (λ n. first (reference n use_of) after) (sym f.0) in
     let now : IsExpanding wide meaning c.args.text.now state (stack_of c.pieces.callers.items) c.pieces.made.items (at_text c.in-Text.rest.now) =
     subst (λ l. IsExpanding wide meaning c.args.text.now state (stack_of c.pieces.callers.items) c.pieces.made.items (left_shown l)) c.in-Text.is c.pieces.invariant in
-    let sets = progress-insert c.pieces.progress c.insert-in-Some-2.new.self c.in-Some-2.name Opened c.in_ok-insert-in-Some-2.ensures.updates in
+    let sets = progress-insert c.pieces.progress c.insert-in-Some-2.new.self c.in-Some-2.name Opened c.in_ok-insert-in-Some-2-2.ensures.updates in
     let stack = ap stack_of c.in_ok-push-in-Some-2.ensures.items ∙ stack_of-push c.pieces.callers.items _ in
     rw (stack, c.new-made-in-Some-2.ensures.items, f.3)
     (enter wide meaning c.args.text.now state (progress_at c.insert-in-Some-2.new.self) (stack_of c.pieces.callers.items) c.pieces.made.items (at_text c.in-Text.rest.now)
     c.in-Some-2.name.now use_of after c.in-Some-2.text.now now at (ap meaning f.0 ∙ f.1) (ap state f.0 ∙ f.2) sets)
+
+pub pieces-smaller-then-is_own_value : goal.pieces-smaller-then-is_own_value
+pieces-smaller-then-is_own_value c =
+    let meaning = meaning_of (ranks_at c.args.self.now.texts) c.args.line.now in
+    let name = c.in-Some-Reference-default.name.now in
+    let use_of = shown_use c.in-Some-Reference-default.use_of in
+    let state = progress_at c.pieces.progress in
+    let made = c.append_reference-in-Some-Reference-default.new.made.items in
+    let f : Finds (meaning name) (state name) use_of name c.pieces.made.items made (Some (c.in-Some-2.name, c.in-Some-2.text)) =
+    subst (λ found. Finds (meaning name) (state name) use_of name c.pieces.made.items made found) c.in-Some-2.is c.in_ok-append_reference-in-Some-Reference-default.ensures.ok in
+    let has = ap (λ n. in_force (ranks_at c.args.self.now.texts n)) f.0 ∙ defined_from (dynamic_value c.args.line.now name) (in_force (ranks_at c.args.self.now.texts name)) c.in-Some-2.text.now f.1 in
+    let kept = c.in_ok-value-in-Some-2.value in
+    let set = progress-insert c.pieces.progress c.insert-then-is_own_value.new.self c.in-Some-2.name (Known kept) c.in_ok-insert-in-Some-2.ensures.updates in
+    let sets = subst (λ v. SetsProgress state c.in-Some-2.name.now (known v) (progress_at c.insert-then-is_own_value.new.self)) c.in_ok-value-in-Some-2.ensures.items set in
+    let unseen_falls = unseen_cost-know state (progress_at c.insert-then-is_own_value.new.self) c.in-Some-2.name.now c.in-Some-2.text.now (ap state f.0 ∙ f.2) sets c.args.self.now.texts has in
+    let before : left_cost c.pieces.left ≡ length c.in-Text.rest.now = ap left_cost c.in-Text.is in
+    omega (arith, unseen_falls, before)
+
+pub pieces-preserved-then-is_own_value : goal.pieces-preserved-then-is_own_value
+pieces-preserved-then-is_own_value c =
+    let wide = is_wide c.args.profile in
+    let meaning = meaning_of (ranks_at c.args.self.now.texts) c.args.line.now in
+    let name = c.in-Some-Reference-default.name.now in
+    let use_of = shown_use c.in-Some-Reference-default.use_of in
+    let state = progress_at c.pieces.progress in
+    let made = c.append_reference-in-Some-Reference-default.new.made.items in
+    let f : Finds (meaning name) (state name) use_of name c.pieces.made.items made (Some (c.in-Some-2.name, c.in-Some-2.text)) =
+    subst (λ found. Finds (meaning name) (state name) use_of name c.pieces.made.items made found) c.in-Some-2.is c.in_ok-append_reference-in-Some-Reference-default.ensures.ok in
+    let now : IsExpanding wide meaning c.args.text.now state (stack_of c.pieces.callers.items) c.pieces.made.items (at_text c.in-Text.rest.now) =
+    subst (λ l. IsExpanding wide meaning c.args.text.now state (stack_of c.pieces.callers.items) c.pieces.made.items (left_shown l)) c.in-Text.is c.pieces.invariant in
+    let kept = c.in_ok-value-in-Some-2.value in
+    let set = progress-insert c.pieces.progress c.insert-then-is_own_value.new.self c.in-Some-2.name (Known kept) c.in_ok-insert-in-Some-2.ensures.updates in
+    let sets = subst (λ v. SetsProgress state c.in-Some-2.name.now (known v) (progress_at c.insert-then-is_own_value.new.self)) c.in_ok-value-in-Some-2.ensures.items set in
+    let own = c.is_own_value.ensures c.if-is_own_value.true in
+    rw f.3
+    (know wide meaning c.args.text.now state (progress_at c.insert-then-is_own_value.new.self) (stack_of c.pieces.callers.items) c.pieces.made.items (at_text c.in-Text.rest.now)
+    c.in-Some-2.name.now c.in-Some-2.text.now now (ap meaning f.0 ∙ f.1) (ap state f.0 ∙ f.2) (plain_expands_in wide meaning c.in-Some-2.text.now own.0 own.1) sets)

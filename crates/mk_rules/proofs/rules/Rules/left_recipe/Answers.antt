@@ -1,16 +1,19 @@
-use Rattle.std.proofs.Common.{◌&&◌, ◌||◌, false, None, cond, sym, ap, ◌∙◌}
+use Rattle.std.proofs.Common.{◌≡◌, ◌&&◌, ◌||◌, false, Some, None, cond, sym, ap, ◌∙◌}
 use Rattle.std.specs.FinMap as map
 use Rattle.std.specs.Option.{option_copied, option_map_or}
-use Rattle.std.specs.Prelude.{codes, is_none}
+use Rattle.std.specs.Prelude.{is_none}
 use Rattle.mk_reader.specs.Text.{is_empty}
 use Rattle.mk_rule_lines.specs.Explicit.{numbers_of}
 use Rattle.st_records.specs.declared.record.Entry.{Entry}
 use Rattle.mk_rules.specs.Prerequisites.{default_of, is_cut}
-use Rattle.mk_rules.proofs.LeftLemmas.{left_is}
+use Rattle.mk_rules.proofs.LeftLemmas.{left_is, none_left}
 use Rattle.mk_rules.proofs.rules.Rules.left_recipe.Goals as goal
 
-pub default_of-requires : goal.default_of-requires
-default_of-requires c = c.args.self.now.recipes (codes ".DEFAULT")
+pub returns-in_default : goal.returns-in_default
+returns-in_default c = λ inputs lines_are times_are entry_is.
+    let is = c.in_default.is in
+    let none : c.args.self.now.default ≡ None = cc in
+    none_left inputs c.args.name.now (ap default_of lines_are ∙ sym c.args.self.now.left_over ∙ none)
 
 pub returns-then-not-is_left : goal.returns-then-not-is_left
 returns-then-not-is_left c = λ inputs lines_are times_are entry_is.
@@ -30,5 +33,7 @@ returns c = λ inputs lines_are times_are entry_is.
     let told = c.is_left.ensures
     ∙ ap (λ ns. is_empty ns && (is_none c.args.stamp || option_map_or (λ (e : Entry). is_cut e.phase) (option_copied c.entry.result) false)) c.requires
     ∙ ap (λ e. is_empty (numbers_of lines name) && (is_none c.args.stamp || option_map_or (λ (e : Entry). is_cut e.phase) e false)) c.entry.ensures in
-    c.default_of.ensures ∙ ap default_of (sym lines_are)
+    let is = c.in-Some.is in
+    let line : Some c.in-Some.line ≡ c.args.self.now.default = cc in
+    line ∙ c.args.self.now.left_over ∙ ap default_of (sym lines_are)
     ∙ sym (ap (λ b. cond b (default_of inputs.lines) None) (sym (left_is inputs lines name c.args.stamp entry lines_are times_are entry_is) ∙ sym told ∙ c.if-not-is_left.false))

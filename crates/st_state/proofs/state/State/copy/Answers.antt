@@ -9,13 +9,13 @@ pub loop-name-init : goal.loop-name-init
 loop-name-init c =
     let es = c.self.inside.entries.entries in
     let all = c.into_iter-name-iterator.ensures.into_iter_gives ∙ c.iter-name-items.ensures.rest in
-    let apart = apart-map_keys (λ k. k.items) es c.iter-name-items.ensures.unique in
+    let apart = apart-map_keys (λ k. k) es c.iter-name-items.ensures.unique in
     let left : length c.into_iter-name-iterator.result ≡ map.len c.args.self.now =
-    ap length all ∙ sym (length-map es _) ∙ sym (len-from_entries (map_keys (λ k. k.items) es) apart) ∙ ap map.len c.self.view_is in
+    ap length all ∙ sym (length-map es _) ∙ sym (len-from_entries (map_keys (λ k. k) es) apart) ∙ ap map.len c.self.view_is in
     record {
-      whole = ap (λ m. with_entries m (map_keys (λ k. k.items) c.into_iter-name-iterator.result)) c.with_key-copied.ensures
-          ∙ ap (λ left. with_entries map.empty (map_keys (λ k. k.items) left)) all
-          ∙ with_entries-empty (map_keys (λ k. k.items) es) apart
+      whole = ap (λ m. with_entries m (map_keys (λ k. k) c.into_iter-name-iterator.result)) c.with_key-copied.ensures
+          ∙ ap (λ left. with_entries map.empty (map_keys (λ k. k) left)) all
+          ∙ with_entries-empty (map_keys (λ k. k) es) apart
           ∙ c.self.view_is;
       left = omega (arith, left);
     }

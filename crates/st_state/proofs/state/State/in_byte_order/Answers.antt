@@ -16,7 +16,7 @@ returns c =
     let es = c.self.inside.entries.entries in
     let in_order = c.sort_unstable_by_key.new.self.items in
     let beginning = c.in_ok-ranked.ensures.ranks.0 in
-    let moved : IsPermutation (map_keys (λ k. k.items) es) (list_map seen_ranked in_order) =
+    let moved : IsPermutation (map_keys (λ k. k) es) (list_map seen_ranked in_order) =
     subst (λ old. IsPermutation old (list_map seen_ranked in_order)) c.in_ok-ranked.ensures.all
     (IsPermutation-map seen_ranked _ _ c.sort_unstable_by_key.ensures.permutation) in
     let ranks : All (λ e. HasRank beginning e.name.now e.rank) in_order =
@@ -25,7 +25,7 @@ returns c =
     let up : NamesDontFall seen_ranked in_order =
     λ k d h. in_order-ranked beginning _ _ _ _ (ranks (k + 1) d h) (ranks k d (omega (arith, h))) (sorted k d (omega arith) h) in
     let entries : list_map seen_ranked in_order ≡ map.entries c.args.self.now =
-    entries-sorted seen_ranked (map_keys (λ k. k.items) es) in_order (apart-map_keys (λ k. k.items) es c.in_ok-ranked.ensures.unique) moved up
+    entries-sorted seen_ranked (map_keys (λ k. k) es) in_order (apart-map_keys (λ k. k) es c.in_ok-ranked.ensures.unique) moved up
     ∙ ap map.entries c.self.view_is in
     listed_entries c.without_ranks.result in_order (map.entries c.args.self.now)
     (subst (λ ranked. IfOk c.without_ranks.result (λ listed. listed.items ≡ list_map without_rank ranked)) c.as_slice.ensures.value c.without_ranks.ensures)

@@ -10,5 +10,5 @@ returns c =
     let es = c.self.inside.entries.entries in
     c.len.ensures.len
     ∙ sym (length-map es _)
-    ∙ sym (len-from_entries (map_keys (λ k. k.items) es) (apart-map_keys (λ k. k.items) es c.len.ensures.unique))
+    ∙ sym (len-from_entries (map_keys (λ k. k) es) (apart-map_keys (λ k. k) es c.len.ensures.unique))
     ∙ ap map.len c.self.view_is

@@ -9,7 +9,7 @@ pub loop-name-init : goal.loop-name-init
 loop-name-init c =
     let es = c.self.inside.entries.entries in
     let all = c.into_iter-name-iterator.ensures.into_iter_gives ∙ c.iter-name-items.ensures.rest in
-    let apart = apart-map_keys (λ k. k.items) es c.iter-name-items.ensures.unique in
-    let whole : kept_bytes c.args.self.now ≡ bytes_of (map_keys (λ k. k.items) c.into_iter-name-iterator.result) =
-    ap kept_bytes (sym c.self.view_is) ∙ bytes_from_entries (map_keys (λ k. k.items) es) apart ∙ ap (λ left. bytes_of (map_keys (λ k. k.items) left)) (sym all) in
+    let apart = apart-map_keys (λ k. k) es c.iter-name-items.ensures.unique in
+    let whole : kept_bytes c.args.self.now ≡ bytes_of (map_keys (λ k. k) c.into_iter-name-iterator.result) =
+    ap kept_bytes (sym c.self.view_is) ∙ bytes_from_entries (map_keys (λ k. k) es) apart ∙ ap (λ left. bytes_of (map_keys (λ k. k) left)) (sym all) in
     omega (arith, whole)

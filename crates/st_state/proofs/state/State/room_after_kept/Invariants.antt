@@ -6,4 +6,4 @@ use Rattle.st_state.proofs.state.State.room_after_kept.Given as goal
 
 -- what is left, and what the records of the entries so far take, is the room that there was
 abbrev pub invariant-loop-name : goal.invariant-loop-name
-invariant-loop-name l = l.left + kept_bytes l.self ≡ l.fn.room + bytes_of (map_keys (λ k. k.items) l.name-iterator)
+invariant-loop-name l = l.left + kept_bytes l.self ≡ l.fn.room + bytes_of (map_keys (λ k. k) l.name-iterator)

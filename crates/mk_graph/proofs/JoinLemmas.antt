@@ -1,0 +1,31 @@
+-- The rows of two graphs together.
+use Rattle.std.proofs.Common.{◌≡◌, ℕ, ◌-◌, List, [], ◌∷◌, ◌++◌, length, take, suc, zero, refl, ap, ◌∙◌, arith, append-nil}
+use Rattle.std.specs.Prelude.{slice_range}
+use Rattle.std.proofs.lemmas.List.{drop_all, take_all}
+use Rattle.byte_strings.specs.Pieces.{pieces}
+use Rattle.mk_graph.specs.Edges.{row}
+use Rattle.mk_graph.specs.Counted.{joined}
+
+pub length-joined : (hard soft : List (List ℕ)) → length (joined hard soft) ≡ length hard
+length-joined [] soft = refl
+length-joined (ns ∷ hard) [] = refl
+length-joined (ns ∷ hard) (ms ∷ soft) = ap suc (length-joined hard soft)
+
+pub row-joined : (hard soft : List (List ℕ)) → length soft ≡ length hard → (n : ℕ) → row (joined hard soft) n ≡ row hard n ++ row soft n
+row-joined [] [] same n = refl
+row-joined [] (ms ∷ soft) same n = absurd (omega arith)
+row-joined (ns ∷ hard) [] same n = absurd (omega arith)
+row-joined (ns ∷ hard) (ms ∷ soft) same zero = refl
+row-joined (ns ∷ hard) (ms ∷ soft) same (suc n) = row-joined hard soft (omega arith) n
+
+-- rows that have no numbers add none
+range_none : (numbers : List ℕ) (start end : ℕ) → length numbers ≡ 0 → slice_range numbers start end ≡ []
+range_none numbers start end none = ap (take (end - start)) (drop_all start numbers (omega arith)) ∙ take_all (end - start) [] (omega arith)
+
+pub joined_none : (first : List (List ℕ)) (numbers : List ℕ) (start : ℕ) (ends : List ℕ) → length numbers ≡ 0 → joined first (pieces numbers start ends) ≡ first
+joined_none [] numbers start ends none = refl
+joined_none (ns ∷ first) numbers start [] none = refl
+joined_none (ns ∷ first) numbers start (end ∷ ends) none =
+    let same : ns ++ slice_range numbers start end ≡ ns = ap (λ l. ns ++ l) (range_none numbers start end none) ∙ append-nil ns in
+    let rest = joined_none first numbers end ends none in
+    (λ i. same i ∷ rest i)

@@ -1,0 +1,16 @@
+use Rattle.std.proofs.lemmas.List.{drop_all}
+use Rattle.mk_plan.proofs.KeptLemmas.{next_raw, gives_more, gives_if_over}
+use Rattle.mk_plan.proofs.kept.gives_commands.Goals as goal
+
+pub returns-then-not-takes_first : goal.returns-then-not-takes_first
+returns-then-not-takes_first c = tt
+
+pub loop-raw-preserved : goal.loop-raw-preserved
+loop-raw-preserved c =
+    gives_more _ c.args.recipe.now c.args.commands c.loop-raw.raw-index c.raw-item.result c.loop-raw.left c.takes_first.new.commands
+    (next_raw c.args.recipe.now c.loop-raw.raw-index c.raw-item.result c.loop-raw-test.true c.raw-item.is) c.if-not-takes_first.ensures c.loop-raw.invariant
+
+pub returns : goal.returns
+returns c =
+    gives_if_over _ c.args.recipe.now c.args.commands c.loop-raw.raw-index c.loop-raw.left c.is_over.result
+    (drop_all c.loop-raw.raw-index c.args.recipe.now c.loop-raw-test.false) c.is_over.ensures c.loop-raw.invariant

@@ -1,0 +1,87 @@
+use Rattle.std.proofs.Common.{◌≡◌, true, List, [], ◌∷◌, ℕ, ℤ, Option, sym, subst}
+use Rattle.std.specs.FinMap as map
+use Rattle.mk_graph.specs.Numbering.{added}
+use Rattle.mk_rule_lines.specs.Rules.{has}
+use Rattle.mk_rule_lines.proofs.LineLemmas.{handed_on}
+use Rattle.mk_rules.specs.Hidden.{IsNamesFault}
+use Rattle.mk_rules.specs.LooksLaws.{looks_none, looks_on}
+use Rattle.mk_rules.specs.Prerequisites.{inputs_of, is_node}
+use Rattle.mk_rules.specs.Row.{named}
+use Rattle.mk_rules.proofs.HiddenLemmas.{TakenSoFar, taken_start, taken_step, taken_end, has_first, has_later}
+use Rattle.mk_rules.proofs.hidden.add_hidden.Goals as goal
+
+pub take_hidden-requires : goal.take_hidden-requires
+take_hidden-requires g c = record {
+  noted = c.loop-name.invariant.noted;
+  row = (c.requires.row.0, c.loop-name.invariant.row c.requires.row.0 c.requires.row.1);
+}
+
+pub loop-name-preserved : goal.loop-name-preserved
+loop-name-preserved g c =
+    let rules = c.args.rules.now in
+    let inv = c.loop-name.invariant in
+    let done = c.in_ok-take_hidden.ensures in
+    let name = c.in-Some.name.now in
+    let left = c.next.new.self in
+    let hard = named c.args.names.now c.args.mentioned.now.nodes in
+    let judged = inv.taken.0 in
+    record {
+      noted = done.noted;
+      row = λ start row. done.row start (inv.row start row);
+      taken = (
+        added judged name,
+        λ times now.
+            let p = is_node (inputs_of rules.lines.now (map.get rules.state.now) times) in
+            taken_step p hard c.args.hidden.now name left judged (named c.loop-name.names c.loop-name.mentioned.nodes) c.loop-name.mentioned.gone c.loop-name.mentioned.hidden.items
+            (subst (λ (ls : List (List ℕ)). TakenSoFar p hard c.args.hidden.now ls judged (named c.loop-name.names c.loop-name.mentioned.nodes) c.loop-name.mentioned.gone c.loop-name.mentioned.hidden.items)
+            c.in-Some.ensures.steps (inv.taken.1 times (done.looks.narrows times now)))
+            _ _ _ (done.taken times now),
+      );
+      within = λ n is. inv.within n (subst (λ (ls : List (List ℕ)). has n ls ≡ true) (sym c.in-Some.ensures.steps) (has_later n name left is));
+      looks = looks_on _ _ _ _ _ _ _ _ _ inv.looks done.looks;
+    }
+
+pub returns-in_err-take_hidden-clause-fault : goal.returns-in_err-take_hidden-clause-fault
+returns-in_err-take_hidden-clause-fault g c =
+    let name = c.in-Some.name.now in
+    let refuses = g.T.Tree.refuses c.take_hidden.new.tree in
+    let within = c.loop-name.invariant.within name
+    (subst (λ (ls : List (List ℕ)). has name ls ≡ true) (sym c.in-Some.ensures.steps) (has_first name c.next.new.self)) in
+    handed_on _ (IsNamesFault refuses c.args.hidden.now) c.in_err-take_hidden.field-0.0 (c.from_residual.ensures).1
+    (c.in_err-take_hidden.ensures.fault c.args.hidden.now within)
+
+pub returns-in_err-take_hidden-clause-looks : goal.returns-in_err-take_hidden-clause-looks
+returns-in_err-take_hidden-clause-looks g c = looks_on _ _ _ _ _ _ _ _ _ c.loop-name.invariant.looks c.in_err-take_hidden.ensures.looks
+
+pub loop-name-init : goal.loop-name-init
+loop-name-init g c =
+    let rules = c.args.rules.now in
+    let m = c.args.mentioned.now in
+    let hard = named c.args.names.now m.nodes in
+    let start : c.args.hidden.now ≡ c.into_iter-name-iterator.result = cc in
+    record {
+      noted = c.requires.noted;
+      row = λ start row. row;
+      taken = (
+        hard,
+        λ times now.
+            let p = is_node (inputs_of rules.lines.now (map.get rules.state.now) times) in
+            subst (λ (ls : List (List ℕ)). TakenSoFar p hard c.args.hidden.now ls hard hard m.gone m.hidden.items) start
+            (taken_start p hard c.args.hidden.now m.gone m.hidden.items c.requires.gone c.requires.none),
+      );
+      within = λ n is. subst (λ (ls : List (List ℕ)). has n ls ≡ true) (sym start) is;
+      looks = looks_none _ _ _;
+    }
+
+pub returns-clause-hidden : goal.returns-clause-hidden
+returns-clause-hidden g c =
+    let rules = c.args.rules.now in
+    let hard = named c.args.names.now c.args.mentioned.now.nodes in
+    let m = c.loop-name.mentioned in
+    let nodes = named c.loop-name.names m.nodes in
+    let ended : c.loop-name.name-iterator ≡ [] = (c.in-None.ensures.steps).0 in
+    let taken = c.loop-name.invariant.taken in
+    λ times now.
+    let p = is_node (inputs_of rules.lines.now (map.get rules.state.now) times) in
+    taken_end p hard c.args.hidden.now taken.0 nodes m.gone m.hidden.items
+    (subst (λ (ls : List (List ℕ)). TakenSoFar p hard c.args.hidden.now ls taken.0 nodes m.gone m.hidden.items) ended (taken.1 times now))

@@ -1,0 +1,107 @@
+//! The hidden prerequisites of a name, taken in behind the hard ones.
+ghost use Rattle.std.specs.Prelude.{◌≡◌, ◌<◌, ℕ, ℤ, List, Option, [], true, length, is_some, IfOk, IfErr, OnOk, MatchOption};
+ghost use Rattle.std.specs.FinMap as map;
+ghost use Rattle.mk_graph.specs.Numbering.{name_at, added};
+ghost use Rattle.mk_rule_lines.specs.Rules.{has};
+ghost use Rattle.mk_rules.specs.Prerequisites.{inputs_of, is_node, hidden_in};
+ghost use Rattle.mk_rules.specs.Looks.{Looks};
+ghost use Rattle.mk_rules.specs.NodeNotes.{AreKnownNodes};
+ghost use Rattle.mk_rules.specs.Row.{named, IsRow, IsSomeRow};
+ghost use Rattle.mk_rules.specs.Hidden.{Takes, HasHidden, IsNamesFault};
+
+use crate::lookup::is_node;
+use crate::mentioned::Mentioned;
+use crate::node_notes::NodeNotes;
+use crate::rules::Rules;
+use crate::tree::Tree;
+use byte_strings::ByteStrings;
+use mk_graph::Names;
+use mk_rule_lines::RuleFault;
+use std::alloc::Global;
+
+/// The number of a hidden prerequisite that is a node; None where it is gone.
+fn node_number<T: Tree>(
+    alloc: Global,
+    rules: &Rules,
+    tree: &mut T,
+    names: &mut Names,
+    notes: &mut NodeNotes,
+    name: &[u8],
+) -> Result<Option<usize>, RuleFault>
+    requires { (times : List ℕ → Option ℤ) → T.allows tree.old times
+        → AreKnownNodes (is_node (inputs_of rules.now.lines.now (map.get rules.now.state.now) times)) names.old notes.old.marks.items }
+    ensures number { IfOk result (λ number. MatchOption number (names.new ≡ names.old) (λ n.
+        (names.new ≡ added names.old name.now) × (n < length names.new) × (name_at names.new n ≡ name.now))) }
+    ensures node { IfOk result (λ number. (times : List ℕ → Option ℤ) → T.allows tree.new times
+        → is_some number ≡ is_node (inputs_of rules.now.lines.now (map.get rules.now.state.now) times) name.now) }
+    ensures noted { OnOk result ((times : List ℕ → Option ℤ) → T.allows tree.new times
+        → AreKnownNodes (is_node (inputs_of rules.now.lines.now (map.get rules.now.state.now) times)) names.new notes.new.marks.items) }
+    ensures looks { Looks (T.allows tree.old) (T.allows tree.new) (T.refuses tree.old) (T.refuses tree.new) (T.asked tree.old) (T.asked tree.new) }
+    ensures fault { IfErr result (λ fault. (hidden : List (List ℕ)) → has name.now hidden ≡ true → IsNamesFault (T.refuses tree.new) hidden fault) }
+{
+    if let Some(number) = notes.number_of(names, name) {
+        return Ok(Some(number));
+    }
+    if !is_node(alloc, rules, tree, name)? {
+        return Ok(None);
+    }
+    let number = notes.add(alloc, names, name)?;
+    Ok(Some(number))
+}
+
+/// Takes in one hidden prerequisite.
+fn take_hidden<T: Tree>(
+    alloc: Global,
+    rules: &Rules,
+    tree: &mut T,
+    names: &mut Names,
+    notes: &mut NodeNotes,
+    mentioned: &mut Mentioned,
+    name: &[u8],
+) -> Result<(), RuleFault>
+    requires noted { (times : List ℕ → Option ℤ) → T.allows tree.old times
+        → AreKnownNodes (is_node (inputs_of rules.now.lines.now (map.get rules.now.state.now) times)) names.old notes.old.marks.items }
+    requires row { IsSomeRow names.old mentioned.old.nodes }
+    ensures row { OnOk result ((start : List (List ℕ)) → IsRow start names.old mentioned.old.nodes → IsRow start names.new mentioned.new.nodes) }
+    ensures taken { OnOk result ((times : List ℕ → Option ℤ) → T.allows tree.new times
+        → Takes (is_node (inputs_of rules.now.lines.now (map.get rules.now.state.now) times)) name.now (named names.old mentioned.old.nodes)
+        (named names.new mentioned.new.nodes) mentioned.old.gone mentioned.new.gone mentioned.old.hidden.items mentioned.new.hidden.items) }
+    ensures noted { OnOk result ((times : List ℕ → Option ℤ) → T.allows tree.new times
+        → AreKnownNodes (is_node (inputs_of rules.now.lines.now (map.get rules.now.state.now) times)) names.new notes.new.marks.items) }
+    ensures looks { Looks (T.allows tree.old) (T.allows tree.new) (T.refuses tree.old) (T.refuses tree.new) (T.asked tree.old) (T.asked tree.new) }
+    ensures fault { IfErr result (λ fault. (hidden : List (List ℕ)) → has name.now hidden ≡ true → IsNamesFault (T.refuses tree.new) hidden fault) }
+{
+    let number = node_number(alloc, rules, tree, names, notes, name)?;
+    mentioned.add_hidden(alloc, names, name, number)?;
+    Ok(())
+}
+
+/// Takes in hidden prerequisites behind the hard ones.
+pub(crate) fn add_hidden<T: Tree>(
+    alloc: Global,
+    rules: &Rules,
+    tree: &mut T,
+    names: &mut Names,
+    notes: &mut NodeNotes,
+    mentioned: &mut Mentioned,
+    hidden: &ByteStrings,
+) -> Result<(), RuleFault>
+    requires noted { (times : List ℕ → Option ℤ) → T.allows tree.old times
+        → AreKnownNodes (is_node (inputs_of rules.now.lines.now (map.get rules.now.state.now) times)) names.old notes.old.marks.items }
+    requires row { IsSomeRow names.old mentioned.old.nodes }
+    requires gone { mentioned.old.gone ≡ [] }
+    requires none { mentioned.old.hidden.items ≡ [] }
+    ensures row { OnOk result ((start : List (List ℕ)) → IsRow start names.old mentioned.old.nodes → IsRow start names.new mentioned.new.nodes) }
+    ensures hidden { OnOk result ((times : List ℕ → Option ℤ) → T.allows tree.new times
+        → HasHidden (is_node (inputs_of rules.now.lines.now (map.get rules.now.state.now) times)) (named names.old mentioned.old.nodes) hidden.now
+        (named names.new mentioned.new.nodes) mentioned.new.hidden.items) }
+    ensures noted { OnOk result ((times : List ℕ → Option ℤ) → T.allows tree.new times
+        → AreKnownNodes (is_node (inputs_of rules.now.lines.now (map.get rules.now.state.now) times)) names.new notes.new.marks.items) }
+    ensures looks { Looks (T.allows tree.old) (T.allows tree.new) (T.refuses tree.old) (T.refuses tree.new) (T.asked tree.old) (T.asked tree.new) }
+    ensures fault { IfErr result (IsNamesFault (T.refuses tree.new) hidden.now) }
+{
+    for name in hidden.iter() {
+        take_hidden(alloc, rules, tree, names, notes, mentioned, name)?;
+    }
+    Ok(())
+}

@@ -1,0 +1,2 @@
+-- Written: what a name hands to a hasher.
+pub mod Written

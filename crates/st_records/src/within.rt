@@ -1,0 +1,102 @@
+//! Whether a record keeps all limits, by one pass over each of its strings. Nearly all records that are read do.
+
+ghost use Rattle.std.specs.Prelude.{◌≡◌, ◌+◌, false, None, nat_lt, length, IfSome, IsTrue};
+ghost use Rattle.std.specs.List.{list_any, flat_map};
+ghost use Rattle.st_records.specs.declared.version.Version.TheVariants as versions;
+ghost use Rattle.st_records.specs.Encoding.{string};
+ghost use Rattle.st_records.specs.Tests.{any_name, has_byte, is_empty_name, is_bad_name, is_long_name, has_bad_command, has_long_command, strings_length, fault_of};
+
+use crate::limits::MAX_COMMAND_BYTES;
+use crate::record::Record;
+use crate::version::Version;
+use byte_strings::Iter;
+
+impl Record {
+    /// The record is seen to have no fault. Where it isn't, it may still have none: explicit names are counted in each
+    /// version.
+    pub(crate) fn is_seen_within(&self, version: Version) -> bool
+        ensures { IsTrue result → fault_of version self.now ≡ None }
+    {
+        let room = version.max_record_bytes() - self.fixed_len(version);
+        self.room_after_good(version, room).is_some() && !self.has_too_many()
+    }
+
+    // What is left of `room` after names and commands that are all good; none where one isn't or they do not fit.
+    fn room_after_good(&self, version: Version, room: usize) -> Option<usize>
+        ensures room { IfSome result (λ left. left + strings_length versions.Two self.now ≡ room) }
+        ensures empty { IfSome result (λ _. any_name is_empty_name self.now ≡ false) }
+        ensures bad { IfSome result (λ _. any_name is_bad_name self.now ≡ false) }
+        ensures long { IfSome result (λ _. any_name (is_long_name version) self.now ≡ false) }
+        ensures bad_command { IfSome result (λ _. has_bad_command self.now ≡ false) }
+        ensures long_command { IfSome result (λ _. has_long_command self.now ≡ false) }
+    {
+        let target = self.target().as_slice();
+        if !is_good_name(target, version) {
+            return None;
+        }
+        let room = room.checked_sub(target.len())?;
+        let room = room_after_commands(self.commands(), room)?;
+        let room = room_after_names(self.hidden(), version, room)?;
+        room_after_names(self.explicit(), version, room)
+    }
+}
+
+fn room_after_names(names: Iter<'_>, version: Version, room: usize) -> Option<usize>
+    ensures room { IfSome result (λ left. left + length (flat_map string names.entry) ≡ room) }
+    ensures empty { IfSome result (λ _. list_any is_empty_name names.entry ≡ false) }
+    ensures bad { IfSome result (λ _. list_any is_bad_name names.entry ≡ false) }
+    ensures long { IfSome result (λ _. list_any (is_long_name version) names.entry ≡ false) }
+{
+    let mut left = room;
+    for name in names {
+        if !is_good_name(name, version) {
+            return None;
+        }
+        left = left.checked_sub(4)?.checked_sub(name.len())?;
+    }
+    Some(left)
+}
+
+fn room_after_commands(commands: Iter<'_>, room: usize) -> Option<usize>
+    ensures room { IfSome result (λ left. left + length (flat_map string commands.entry) ≡ room) }
+    ensures bad { IfSome result (λ _. list_any (λ command. has_byte 0 command) commands.entry ≡ false) }
+    ensures long { IfSome result (λ _. list_any (λ command. nat_lt MAX_COMMAND_BYTES (length command)) commands.entry ≡ false) }
+{
+    let mut left = room;
+    for command in commands {
+        if command.len() > MAX_COMMAND_BYTES || has_nul(command) {
+            return None;
+        }
+        left = left.checked_sub(4)?.checked_sub(command.len())?;
+    }
+    Some(left)
+}
+
+fn is_good_name(name: &[u8], version: Version) -> bool
+    ensures empty { IsTrue result → is_empty_name name.now ≡ false }
+    ensures bad { IsTrue result → is_bad_name name.now ≡ false }
+    ensures long { IsTrue result → is_long_name version name.now ≡ false }
+{
+    !name.is_empty() && name.len() <= version.max_name_bytes() && !has_nul_or_newline(name)
+}
+
+// Each byte is looked at, without an early end, so that many can be looked at together.
+fn has_nul_or_newline(name: &[u8]) -> bool
+    ensures { result ≡ is_bad_name name.now }
+{
+    let mut found = false;
+    for &byte in name {
+        found |= (byte == 0) | (byte == b'\n');
+    }
+    found
+}
+
+fn has_nul(command: &[u8]) -> bool
+    ensures { result ≡ has_byte 0 command.now }
+{
+    let mut found = false;
+    for &byte in command {
+        found |= byte == 0;
+    }
+    found
+}
