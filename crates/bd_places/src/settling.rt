@@ -61,7 +61,7 @@ fn look_at(tally: &Tally, links: &mut Links, ends: &mut [Option<End>], node: Nod
 {
     let users = tally.users.row(node.number());
     for user in users {
-        pass(tally, links, ends, Node::new(*user));
+        pass(tally, links, ends, Node::new(*user as usize));
     }
 }
 

@@ -28,22 +28,22 @@ pub(crate) struct Tally {
 }
 
 /// Counts each of the users down.
-fn count_down(users: &[usize], missing: &mut [usize])
+fn count_down(users: &[u32], missing: &mut [usize])
     requires { (u : ℕ) → times u users.now ≤ slice_index missing.old u }
     ensures { (u : ℕ) → slice_index missing.new u + times u users.now ≡ slice_index missing.old u }
 {
     for user in users {
-        missing[*user] -= 1;
+        missing[*user as usize] -= 1;
     }
 }
 
 /// Notes that the users can't be made.
-fn doom(users: &[usize], doomed: &mut [bool])
+fn doom(users: &[u32], doomed: &mut [bool])
     requires { (u : ℕ) → has users.now u ≡ true → u < length doomed.old }
     ensures { (u : ℕ) → slice_index_or doomed.new u false ≡ (slice_index_or doomed.old u false || has users.now u) }
 {
     for user in users {
-        doomed[*user] = true;
+        doomed[*user as usize] = true;
     }
 }
 

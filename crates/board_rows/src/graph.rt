@@ -12,16 +12,21 @@ use std::alloc::{AllocError, Global};
 /// Hard and soft prerequisites of each node.
 #[derive(Drop)]
 pub(crate) struct Graph {
-    hard: Vec<Vec<usize>>,
-    soft: Vec<Vec<usize>>,
+    hard: Vec<Vec<u32>>,
+    soft: Vec<Vec<u32>>,
+}
+
+/// A number of 32 bits, as rows have them.
+fn short(number: usize) -> Result<u32, AllocError> {
+    u32::try_from(number).map_err(|_| AllocError)
 }
 
 /// The numbers of the named nodes.
-fn row(alloc: Global, nodes: &Nodes<'_>, names: &str) -> Result<Vec<usize>, RowFault> {
+fn row(alloc: Global, nodes: &Nodes<'_>, names: &str) -> Result<Vec<u32>, RowFault> {
     let mut row = Vec::new(alloc);
     for word in names.split(' ') {
         if !word.is_empty() {
-            row.push(nodes.find(word)?.number())?;
+            row.push(short(nodes.find(word)?.number())?)?;
         }
     }
     Ok(row)
@@ -35,7 +40,7 @@ impl Graph {
         }
     }
 
-    fn push(&mut self, alloc: Global, hard: Vec<usize>) -> Result<(), AllocError> {
+    fn push(&mut self, alloc: Global, hard: Vec<u32>) -> Result<(), AllocError> {
         self.hard.push(hard)?;
         self.soft.push(Vec::new(alloc))?;
         Ok(())
@@ -52,6 +57,7 @@ impl Graph {
 
     /// A chain of so many nodes: each waits for the next one.
     pub(crate) fn add_chain(&mut self, alloc: Global, nodes: usize) -> Result<(), AllocError> {
+        let nodes = short(nodes)?;
         for node in 0..nodes {
             let mut row = Vec::new(alloc);
             if node + 1 < nodes {
@@ -64,10 +70,11 @@ impl Graph {
 
     /// So many nodes that wait for each of as many others.
     pub(crate) fn add_layers(&mut self, alloc: Global, nodes: usize) -> Result<(), AllocError> {
-        let twice = nodes.saturating_add(nodes);
+        let twice = short(nodes.saturating_add(nodes))?;
+        let nodes = short(nodes)?;
         for node in 0..twice {
             let below = if node < nodes { nodes } else { twice };
-            let row = (below..twice).collect::<Vec<usize>>(alloc)?;
+            let row = (below..twice).collect::<Vec<u32>>(alloc)?;
             self.push(alloc, row)?;
         }
         Ok(())

@@ -5,7 +5,7 @@ ghost use Rattle.mk_graph.specs.Edges.{row, times};
 use mk_graph::Edges;
 
 /// Each number is below the next one.
-fn ascends(numbers: &[usize]) -> bool
+fn ascends(numbers: &[u32]) -> bool
     ensures { IsTrue result → (n : ℕ) → times n numbers.now ≤ 1 }
 {
     for place in 1..numbers.len() {

@@ -79,7 +79,7 @@ pub(crate) fn write_state(
             out.push_str(", ")?;
         }
         let (name, entry) = entries[place];
-        write_entry(alloc, name, entry.phase, out)?;
+        write_entry(alloc, name, entry.phase(), out)?;
     }
     Ok(())
 }

@@ -1,3 +1,3 @@
-pub mod EqualLemmas
 pub mod PieceLemmas
+pub mod TextLemmas
 pub mod WordLemmas

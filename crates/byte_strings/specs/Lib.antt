@@ -3,3 +3,5 @@
 pub mod Blanks
 -- Pieces: which strings a text and their ends stand for.
 pub mod Pieces
+-- Texts: which strings lie in a text in which each stands behind its length.
+pub mod Texts

@@ -1,35 +1,61 @@
-//! A list of byte strings in two pieces of memory, however many strings it has.
-ghost use Rattle.std.specs.Prelude.{◌≡◌, ℕ, ◌≤◌, List, [], ◌∷◌, ◌++◌, length, IfOk, OnOk, OnErr, IsTrue, ◌↔◌, slice_get, slice_index, option_copied};
+//! A list of byte strings in one piece of memory, however many strings it has.
+ghost use Rattle.std.specs.Prelude.{◌≡◌, ℕ, ◌≤◌, List, [], ◌∷◌, ◌++◌, length, IfOk, OnOk, OnErr, IsTrue, ◌↔◌, slice_get, option_copied, drop, nat_eq};
+ghost use Rattle.std.specs.Cmp.Lexicographic.{pointwise};
 ghost use Rattle.std.specs.Iterator.{YieldsFirstRef, item_count};
-ghost use Rattle.byte_strings.specs.Pieces.{pieces, AreEnds};
+ghost use Rattle.byte_strings.specs.Texts.{size_of, first_text, behind_first, texts, AreTexts};
 
 use bstr::ByteSlice;
 use std::alloc::{AllocError, Global};
 use std::fmt;
 use std::marker::Model;
 
-/// Byte strings in their order, as the names or the commands of a target. The bytes of all of them are one allocation,
-/// and their ends another.
+/// So many bytes in front of a string have its length.
+const LENGTH_BYTES: usize = 4;
+
+/// Byte strings in their order, as the names or the commands of a target. They are one allocation, in which each stands behind
+/// its length.
 #[derive(Drop)]
 pub struct ByteStrings {
     bytes: Vec<u8>,
-    ends: Vec<usize>,
+    count: usize,
 }
 
 impl Model for ByteStrings {
     ghost Value = { List (List ℕ) };
 
-    ghost view = { λ s. pieces s.bytes.items 0 s.ends.items };
+    ghost view = { λ s. texts s.count s.bytes.items };
 
-    ghost invariant = { λ s. AreEnds (length s.bytes.items) 0 s.ends.items };
+    ghost invariant = { λ s. AreTexts s.count s.bytes.items };
 }
 
-/// Where the string at this place begins: at the end of the one before it.
-fn start_of(ends: &[usize], index: usize) -> usize
-    requires { index ≤ length ends.now }
-    ensures { result ≡ slice_index (0 ∷ ends.now) index }
+/// The string that stands first, behind its length, and what follows it.
+fn first_text(bytes: &[u8]) -> (&[u8], &[u8])
+    requires length { 4 ≤ length bytes.now }
+    requires string { size_of bytes.now ≤ length (drop 4 bytes.now) }
+    ensures string { result.0.now ≡ first_text bytes.now }
+    ensures behind { result.1.now ≡ behind_first bytes.now }
 {
-    if index == 0 { 0 } else { ends[index - 1] }
+    let (front, rest) = bytes.split_at(LENGTH_BYTES);
+    let len = u32::from_le_bytes([front[0], front[1], front[2], front[3]]);
+    rest.split_at(len as usize)
+}
+
+/// Whether both have the same strings left.
+fn are_same(strings: Iter<'_>, others: Iter<'_>) -> bool
+    ensures { result ≡ pointwise (pointwise nat_eq) strings.entry others.entry }
+{
+    let mut left = others;
+    for string in strings {
+        match left.next() {
+            None => return false,
+            Some(other) => {
+                if string != other {
+                    return false;
+                }
+            }
+        }
+    }
+    left.next().is_none()
 }
 
 impl ByteStrings {
@@ -39,7 +65,7 @@ impl ByteStrings {
     {
         ByteStrings {
             bytes: Vec::new(alloc),
-            ends: Vec::new(alloc),
+            count: 0,
         }
     }
 
@@ -51,45 +77,60 @@ impl ByteStrings {
     ) -> Result<ByteStrings, AllocError>
         ensures { IfOk result (λ s. s ≡ []) }
     {
+        let room = strings.saturating_mul(LENGTH_BYTES).saturating_add(bytes);
         Ok(ByteStrings {
-            bytes: Vec::with_capacity(alloc, bytes)?,
-            ends: Vec::with_capacity(alloc, strings)?,
+            bytes: Vec::with_capacity(alloc, room)?,
+            count: 0,
         })
     }
 
-    /// Adds a copy of the string at the end.
+    /// So many strings, which lie in these bytes, each behind its length, the lowest byte first: taken in by one copy.
+    pub fn of_texts(alloc: Global, count: usize, bytes: &[u8]) -> Result<ByteStrings, AllocError>
+        requires { AreTexts count bytes.now }
+        ensures { IfOk result (λ s. s ≡ texts count bytes.now) }
+    {
+        Ok(ByteStrings {
+            bytes: Vec::from_slice(alloc, bytes)?,
+            count,
+        })
+    }
+
+    /// Adds a copy of the string at the end. There is no memory for one of 2^32 bytes or more.
     pub fn push(&mut self, string: &[u8]) -> Result<(), AllocError>
         ensures ok { OnOk result (self.new ≡ self.old ++ string.now ∷ []) }
         ensures err { OnErr result (self.new ≡ self.old) }
     {
-        self.ends.reserve(1)?;
-        self.bytes.extend_from_slice(string)?;
-        self.ends.push(self.bytes.len()).unwrap();
+        let Ok(len) = u32::try_from(string.len()) else {
+            return Err(AllocError);
+        };
+        self.bytes.reserve(LENGTH_BYTES + string.len())?;
+        self.bytes.extend_from_slice(&len.to_le_bytes()).unwrap();
+        self.bytes.extend_from_slice(string).unwrap();
+        self.count += 1;
         Ok(())
     }
 
     pub fn len(&self) -> usize
         ensures { result ≡ length self.now }
     {
-        self.ends.len()
+        self.count
     }
 
     pub fn is_empty(&self) -> bool
         ensures { IsTrue result ↔ (self.now ≡ []) }
     {
-        self.ends.is_empty()
+        self.count == 0
     }
 
     /// The string at this place, counted from 0.
     pub fn get(&self, index: usize) -> Option<&[u8]>
         ensures { option_copied result ≡ slice_get self.now index }
     {
-        if index >= self.ends.len() {
-            return None;
+        let mut left = self.iter();
+        for _ in 0..index {
+            let _passed = left.next()?;
         }
-        let start = start_of(&self.ends, index);
-        let end = self.ends[index];
-        Some(&self.bytes[start..end])
+        left.next()
     }
 
     /// The strings in their order.
@@ -98,8 +139,7 @@ impl ByteStrings {
     {
         Iter {
             bytes: self.bytes.as_slice(),
-            start: 0,
-            ends: self.ends.as_slice(),
+            count: self.count,
         }
     }
 
@@ -108,7 +148,7 @@ impl ByteStrings {
     {
         Ok(ByteStrings {
             bytes: Vec::from_slice(alloc, self.bytes.as_slice())?,
-            ends: Vec::from_slice(alloc, self.ends.as_slice())?,
+            count: self.count,
         })
     }
 }
@@ -131,7 +171,7 @@ impl PartialEq for ByteStrings {
     ghost laws = { partial_equiv_from_equiv (lists_equiv nat_list_eq_equiv) };
 
     fn eq(&self, other: &ByteStrings) -> bool {
-        self.bytes == other.bytes && self.ends == other.ends
+        are_same(self.iter(), other.iter())
     }
 }
 
@@ -157,16 +197,15 @@ impl<'a> IntoIterator for &'a ByteStrings {
 #[derive(Drop)]
 pub struct Iter<'a> {
     bytes: &'a [u8],
-    start: usize,
-    ends: &'a [usize],
+    count: usize,
 }
 
 impl<'a> Model for Iter<'a> {
     ghost Value = { List (List ℕ) };
 
-    ghost view = { λ s. pieces s.bytes.now s.start s.ends.now };
+    ghost view = { λ s. texts s.count s.bytes.now };
 
-    ghost invariant = { λ s. AreEnds (length s.bytes.now) s.start s.ends.now };
+    ghost invariant = { λ s. AreTexts s.count s.bytes.now };
 }
 
 impl<'a> Iter<'a> {
@@ -176,8 +215,7 @@ impl<'a> Iter<'a> {
     {
         Iter {
             bytes: &[],
-            start: 0,
-            ends: &[],
+            count: 0,
         }
     }
 
@@ -185,7 +223,7 @@ impl<'a> Iter<'a> {
     pub fn len(&self) -> usize
         ensures { result ≡ length self.now }
     {
-        self.ends.len()
+        self.count
     }
 }
 
@@ -197,10 +235,12 @@ impl<'a> Iterator for Iter<'a> {
     ghost remaining = { item_count (λ s. s) };
 
     fn next(&mut self) -> Option<&'a [u8]> {
-        let (end, ends) = self.ends.split_first()?;
-        let string = &self.bytes[self.start..*end];
-        self.start = *end;
-        self.ends = ends;
+        if self.count == 0 {
+            return None;
+        }
+        let (string, bytes) = first_text(self.bytes);
+        self.bytes = bytes;
+        self.count -= 1;
         Some(string)
     }
 }

@@ -6,7 +6,7 @@ use byte_strings::ByteStrings;
 use dmk_drive::{FileCalls, FileStatus, FileTexts, FileTree};
 use jb_host::{DryShell, Written};
 use std::alloc::{AllocError, Global};
-use std::fs;
+use std::fs::{self, File};
 use std::io::{self, ErrorKind, Read, Write};
 use std::os::unix::fs::MetadataExt;
 
@@ -28,6 +28,21 @@ pub fn read_input(rt: HostRuntime) -> io::Result<Vec<u8>> {
     let mut input = Vec::new(rt.alloc());
     rt.stdin().read_to_end(&mut input)?;
     Ok(input)
+}
+
+/// Reads a file of about this length to its end. One byte more than that is room in which a last read finds the end.
+fn read_whole<R: Read>(alloc: Global, file: &mut R, length: u64) -> io::Result<Vec<u8>> {
+    let room = usize::try_from(length)
+        .unwrap_or(usize::MAX)
+        .saturating_add(1);
+    let mut text = vec![in alloc; 0; room]?;
+    let count = match file.read(text.as_mut_slice()) {
+        Err(error) if error.kind() == ErrorKind::Interrupted => 0,
+        read => read?,
+    };
+    text.truncate(count);
+    file.read_to_end(&mut text)?;
+    Ok(text)
 }
 
 impl<'a> HostFiles<'a> {
@@ -97,7 +112,9 @@ impl FileCalls for HostFiles<'_> {
         if let Some(input) = self.input_named(name) {
             return Ok(Vec::from_slice(alloc, input)?);
         }
-        fs::read(&self.rt, name)
+        let mut file = File::open(&self.rt, name)?;
+        let length = file.metadata()?.len();
+        read_whole(alloc, &mut file, length)
     }
 
     fn names(&mut self, alloc: Global, folder: &str) -> io::Result<ByteStrings> {

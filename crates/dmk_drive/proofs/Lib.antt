@@ -14,3 +14,4 @@ pub mod DefinitionLemmas
 pub mod BaseLemmas
 pub mod OnePlanLemmas
 pub mod StampLemmas
+pub mod KnownLemmas

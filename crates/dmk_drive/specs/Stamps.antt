@@ -1,20 +1,31 @@
 -- The times of files that are known so far.
-use Rattle.std.specs.Prelude.{◌≡◌, ℕ, ℤ, List, Option, Some, IfSome, bytes_eq, if◌then◌else◌}
-use Rattle.indexmap.specs.IndexMap.{get_by}
-use Rattle.dmk_drive.specs.declared.stamps.Stamps.{Stamps}
+use Rattle.std.specs.Prelude.{◌≡◌, ℕ, ℤ, List, [], ◌∷◌, length, Option, Some, None, IfSome, bytes_eq, if◌then◌else◌}
+use Rattle.std.specs.List.{IsDistinct}
+
+-- each name has a time, and stands there once
+pub record IsTable (names : List (List ℕ)) (times : List (Option ℤ)) : Type 0 where
+  pub once : IsDistinct bytes_eq names
+  pub paired : length names ≡ length times
+
+-- names, and what was told of each
+abbrev pub Known : Type 0
+Known = List (List ℕ) × List (Option ℤ)
+
+-- what was told of a name, where there is one: the times stand in the order of the names
+abbrev pub told_of : (names : List (List ℕ)) (times : List (Option ℤ)) (name : List ℕ) → Option (Option ℤ)
+told_of [] times name = None
+told_of (n ∷ names) [] name = None
+told_of (n ∷ names) (time ∷ times) name = if bytes_eq name n then Some time else told_of names times name
 
 -- what is known of a name: nothing, that it has no file, or its time
-abbrev pub known_stamp : Stamps → (name : List ℕ) → Option (Option ℤ)
-known_stamp stamps name = get_by (bytes_eq name) stamps.known
+abbrev pub known_stamp : Known → (name : List ℕ) → Option (Option ℤ)
+known_stamp known name = told_of known.0 known.1 name
 
 -- behind a call the name is known by this, and each other one as before
-abbrev pub Adds : (name : List ℕ) (stamp : Option ℤ) (before after : Stamps) → Type 0
+abbrev pub Adds : (name : List ℕ) (stamp : Option ℤ) (before after : Known) → Type 0
 Adds name stamp before after =
     (n : List ℕ) → known_stamp after n ≡ (if bytes_eq n name then Some stamp else known_stamp before n)
 
-abbrev pub KnowsTheSame : (before after : Stamps) → Type 0
-KnowsTheSame before after = after.known.entries ≡ before.known.entries
-
 -- what is known is what these times say
-abbrev pub AgreesWith : Stamps → (times : List ℕ → Option ℤ) → Type 0
-AgreesWith stamps times = (name : List ℕ) → IfSome (known_stamp stamps name) (λ stamp. times name ≡ stamp)
+abbrev pub AgreesWith : Known → (times : List ℕ → Option ℤ) → Type 0
+AgreesWith known times = (name : List ℕ) → IfSome (known_stamp known name) (λ stamp. times name ≡ stamp)

@@ -9,7 +9,7 @@ ghost use Rattle.dmk_drive.specs.Passing.{IsListing, IsListingFault, ListsNone, 
 
 use crate::always_run::{AlwaysRun, add_line, add_lines};
 use byte_strings::ByteStrings;
-use mk_plan::{Passed, RecipeFault, Telling, name_of, pass, told_lines};
+use mk_plan::{Passed, RecipeFault, Telling, has_text_names, name_of, pass_in, told_lines};
 use mk_recipe::Line;
 use mk_rules::Graph;
 use std::alloc::{AllocError, Global};
@@ -142,8 +142,9 @@ pub fn listing_of(
         lists_any: false,
         always: Vec::new(alloc),
     };
+    let texts = has_text_names(graph);
     for node in graph.order.as_slice() {
-        let passed = pass(alloc, keeping, graph, &marks, *node)?;
+        let passed = pass_in(alloc, keeping, texts, graph, &marks, *node)?;
         marks[*node] = passed.is_remade();
         listing.add(alloc, shows, graph, *node, &passed)?;
     }
@@ -158,11 +159,12 @@ pub fn unlisted(alloc: Global, keeping: bool, graph: &Graph) -> Option<Vec<bool>
     let Ok(mut marks) = vec![in alloc; false; graph.len()] else {
         return None;
     };
+    let texts = has_text_names(graph);
     for number in graph.order.as_slice() {
         if *number >= graph.len() {
             return None;
         }
-        let Ok(passed) = pass(alloc, keeping, graph, &marks, *number) else {
+        let Ok(passed) = pass_in(alloc, keeping, texts, graph, &marks, *number) else {
             return None;
         };
         if passed.is_listed() {

@@ -1,15 +1,28 @@
 //! The times that were told of names.
 ghost use Rattle.std.specs.Prelude.{◌≡◌, ℕ, List, None, OnOk, OnErr};
-ghost use Rattle.dmk_drive.specs.Stamps.{known_stamp, Adds, KnowsTheSame};
+ghost use Rattle.dmk_drive.specs.Stamps.{known_stamp, Adds};
 
-use indexmap::IndexMap;
-use name_keys::{Name, NameRef};
+use mk_graph::Names;
+use mk_rules::Stamp;
 use std::alloc::{AllocError, Global};
+use std::marker::Model;
 
-/// What was told of each name so far.
+/// What was told of each name so far. Contracts see the names and what was told of each.
 #[derive(Drop)]
 pub struct Stamps {
-    known: IndexMap<Name, Option<i128>>,
+    names: Names,
+    stamps: Vec<Stamp>,
+}
+
+impl Model for Stamps {
+    ghost use Rattle.std.specs.Prelude.{ℕ, ℤ, List, Option};
+    ghost use Rattle.dmk_drive.specs.Stamps.{IsTable};
+
+    ghost Value = { List (List ℕ) × List (Option ℤ) };
+
+    ghost view = { λ s. (s.names, s.stamps.items) };
+
+    ghost invariant = { λ s. IsTable s.names s.stamps.items };
 }
 
 impl Stamps {
@@ -17,7 +30,8 @@ impl Stamps {
         ensures { (name : List ℕ) → known_stamp result name ≡ None }
     {
         Stamps {
-            known: IndexMap::new(alloc),
+            names: Names::new(alloc),
+            stamps: Vec::new(alloc),
         }
     }
 
@@ -25,15 +39,22 @@ impl Stamps {
     pub fn get(&self, name: &[u8]) -> Option<Option<i128>>
         ensures { result ≡ known_stamp self.now name.now }
     {
-        self.known.get(NameRef { bytes: name }).copied()
+        match self.names.number_of(name) {
+            Some(number) => Some(self.stamps[number as usize].get()),
+            None => None,
+        }
     }
 
-    /// Takes in what was told of a name.
-    pub fn add(&mut self, alloc: Global, name: &[u8], stamp: Option<i128>) -> Result<(), AllocError>
-        ensures ok { OnOk result (Adds name.now stamp self.old self.new) }
-        ensures err { OnErr result (KnowsTheSame self.old self.new) }
+    /// Takes in what was told of a name, of which nothing is known.
+    pub fn add(&mut self, alloc: Global, name: &[u8], time: Option<i128>) -> Result<(), AllocError>
+        requires { known_stamp self.old name.now ≡ None }
+        ensures ok { OnOk result (Adds name.now time self.old self.new) }
+        ensures err { OnErr result (self.new ≡ self.old) }
     {
-        self.known.insert(Name::from_slice(alloc, name)?, stamp)?;
+        let stamp = Stamp::of(alloc, time)?;
+        self.stamps.reserve(1)?;
+        let _new = self.names.mention(alloc, name)?;
+        self.stamps.push(stamp).unwrap();
         Ok(())
     }
 }

@@ -1,6 +1,7 @@
 -- What a run leaves, by what its report says of the closed store.
 use Rattle.std.proofs.Common.{◌≡◌, ◌⊎◌, ℕ, zero, suc, Bool, true, false, List, [], ◌∷◌, length, map, Result, Ok, Err, IfOk, IsOk, IsTrue, refl, sym, ap, subst, ◌∙◌, inl, inr, arith}
 use Rattle.std.specs.List.{list_all}
+use Rattle.std.proofs.lemmas.List.{length-map}
 use Rattle.std.proofs.lemmas.Result.{IfOk-at_ok}
 use Rattle.st_disk.specs.Crash.{Sides}
 use Rattle.st_disk.specs.Moments.{Moments, now}
@@ -8,7 +9,9 @@ use Rattle.st_records.specs.declared.record.Record.{Record}
 use Rattle.st_state.specs.State.{StateMap}
 use Rattle.st_recovery.specs.Stored.{AllRecover}
 use Rattle.mk_rules.specs.declared.graph.Graph.{Graph}
+use Rattle.mk_rules.specs.declared.graph.Node.{Node}
 use Rattle.bd_places.specs.declared.end.End.{End}
+use Rattle.bd_places.specs.declared.end.End.TheVariants as end
 use Rattle.bd_flusher.specs.Site.{Facts}
 use Rattle.bd_flusher.specs.declared.site.receipt.Receipt.{Receipt}
 use Rattle.jb_closing.specs.declared.fault.RunFault.{RunFault}
@@ -18,8 +21,8 @@ use Rattle.jb_closing.specs.Closing.{IsBuilt, IsTrueOf, AreTrueOf}
 use Rattle.jb_closing.specs.Report.{ends_well}
 use Rattle.dmk_run.specs.Judged.{IsBorneOut}
 use Rattle.dmk_run.specs.Known.{IsTold}
-use Rattle.dmk_run.specs.Made.{IsMade}
-use Rattle.dmk_run.specs.Settled.{unbuilt_end, IsReportOfNone}
+use Rattle.dmk_run.specs.Made.{HasEnded, IsMade}
+use Rattle.dmk_run.specs.Settled.{IsNoneToRun}
 
 true_of : {told : List Record} {receipts : List Receipt} {wide narrow : Type 0} {sides : Sides} {name : List ℕ} → (narrow → wide) → IsTrueOf told receipts wide sides name → IsTrueOf told receipts narrow sides name
 true_of implies is = record {
@@ -79,39 +82,34 @@ borne_told graph counting keeping m found (Err fault) tells = tt
 
 -- ---- a run in which no recipe is to be run
 
-unbuilt_well : (remade : List Bool) → IsTrue (list_all ends_well (map unbuilt_end remade))
-unbuilt_well [] = refl
-unbuilt_well (true ∷ remade) = unbuilt_well remade
-unbuilt_well (false ∷ remade) = unbuilt_well remade
+-- each node is up to date
+abbrev up_to_date : (nodes : List Node) → List End
+up_to_date nodes = map (λ _. end.UpToDate) nodes
 
-count_unbuilt : (remade : List Bool) → length (map unbuilt_end remade) ≡ length remade
-count_unbuilt [] = refl
-count_unbuilt (m ∷ remade) = ap suc (count_unbuilt remade)
+up_to_date_well : (nodes : List Node) → IsTrue (list_all ends_well (up_to_date nodes))
+up_to_date_well [] = refl
+up_to_date_well (n ∷ nodes) = up_to_date_well nodes
 
-none_built : (remade : List Bool) (node : ℕ) → IsBuilt (map unbuilt_end remade) node → ⊥
+none_built : (nodes : List Node) (node : ℕ) → IsBuilt (up_to_date nodes) node → ⊥
 none_built [] node built = cc
-none_built (true ∷ remade) zero built = cc
-none_built (false ∷ remade) zero built = cc
-none_built (m ∷ remade) (suc node) built = none_built remade node built
-
-none_ends_built : (ends : List End) (remade : List Bool) → ends ≡ map unbuilt_end remade → (node : ℕ) → IsBuilt ends node → ⊥
-none_ends_built ends remade same node built = none_built remade node (subst (λ (e : List End). IsBuilt e node) same built)
-
-pub none_well : {counting keeping : Bool} {graph : Graph} {m : StateMap} {r : Report} → IsReportOfNone counting keeping graph m r → IsTrue (list_all ends_well r.ends.items)
-none_well is = subst (λ (e : List End). IsTrue (list_all ends_well e)) (sym is.ends) (unbuilt_well is.remade)
-
-pub none_count : {counting keeping : Bool} {graph : Graph} {m : StateMap} {r : Report} → IsReportOfNone counting keeping graph m r → length r.ends.items ≡ length graph.nodes.items
-none_count is = ap length is.ends ∙ count_unbuilt is.remade ∙ is.count
+none_built (n ∷ nodes) zero built = cc
+none_built (n ∷ nodes) (suc node) built = none_built nodes node built
 
 -- nothing was told, and no node ended as built
-pub none_made : (counting keeping : Bool) (graph : Graph) (m : StateMap) (r : Report) (honest : Type 0) (sides : Sides) → IsReportOfNone counting keeping graph m r → (honest → AllRecover m sides)
-    → keeping ≡ true → IsMade graph honest sides r.status r.ends.items
-none_made counting keeping graph m r honest sides is recovers kept = record {
-  told = [];
-  receipts = [];
-  are_those = λ ticket. refl;
-  are_true = λ node built. absurd (none_ends_built r.ends.items is.remade is.ends node built);
-  left = m;
-  recovers = recovers;
-  known = λ none. is.known kept;
+pub none_ended : (counting keeping : Bool) (graph : Graph) (m : StateMap) (honest : Type 0) (sides : Sides) → IsNoneToRun counting keeping graph m → (honest → AllRecover m sides)
+    → HasEnded graph counting keeping honest sides 0
+none_ended counting keeping graph m honest sides is recovers = record {
+  ends = up_to_date graph.nodes.items;
+  all = length-map graph.nodes.items _;
+  well = λ none. up_to_date_well graph.nodes.items;
+  borne_out = λ none. inl is.listing;
+  made = λ kept. record {
+    told = [];
+    receipts = [];
+    are_those = λ ticket. refl;
+    are_true = λ node built. absurd (none_built graph.nodes.items node built);
+    left = m;
+    recovers = recovers;
+    known = λ none. is.known kept;
+  };
 }

@@ -4,3 +4,4 @@ mod BuildingLemmas
 mod DriverLemmas
 mod TakingLemmas
 mod TrustingLemmas
+mod PlanningLemmas

@@ -6,6 +6,8 @@ pub mod Judged
 pub mod Made
 -- Opened: what a power cut may leave while a store is opened.
 pub mod Opened
+-- Planned: what a run is planned by.
+pub mod Planned
 -- Settled: a run in which no recipe is to be run.
 pub mod Settled
 -- Taken: which targets are taken as they are, and what is then recorded of them.

@@ -15,7 +15,6 @@ use crate::counting::tell_planned;
 use crate::driver::Means;
 use crate::judging::are_judged;
 use crate::known::are_known_done;
-use crate::settling::report_of_none;
 use crate::stop::Stop;
 use bd_flusher::{FlushFault, Receipt, Site};
 use bd_lists::Exec;
@@ -135,8 +134,7 @@ pub(crate) fn reported(found: Result<Report, RunFault>) -> Result<u8, Stop>
     }
 }
 
-/// Makes what the graph's goals need, with so many workers; with none, where no recipe is to be run. A report comes only with a
-/// store that isn't dead.
+/// Makes what the graph's goals need, with so many workers. A report comes only with a store that isn't dead.
 pub fn build<R, D, E, S, P, K>(
     rt: &R,
     alloc: Global,
@@ -173,12 +171,6 @@ where
 {
     if store.is_dead() {
         return dead(store);
-    }
-    if let Some(report) = report_of_none(alloc, &conduct, graph, store.state(), means.say) {
-        return Built {
-            found: Ok(report),
-            store,
-        };
     }
     tell_planned(alloc, conduct.counts_records, graph, means.say);
     let site = match Site::new(alloc, store) {

@@ -1,7 +1,7 @@
 //! How many recipes a run is to run, for whoever follows it.
 
 use jb_recipe::{Say, Step};
-use mk_plan::pass;
+use mk_plan::{has_text_names, pass_in};
 use mk_rules::Graph;
 use std::alloc::{AllocError, Global};
 
@@ -9,9 +9,10 @@ use std::alloc::{AllocError, Global};
 fn recipes_to_run(alloc: Global, counting: bool, graph: &Graph) -> Result<usize, AllocError> {
     let mut marks = vec![in alloc; false; graph.len()]?;
     let mut found: usize = 0;
+    let texts = has_text_names(graph);
     for node in graph.order.as_slice() {
         if *node < graph.len() && *node < marks.len() {
-            if let Ok(passed) = pass(alloc, counting, graph, &marks, *node) {
+            if let Ok(passed) = pass_in(alloc, counting, texts, graph, &marks, *node) {
                 if passed.is_listed() {
                     found = found.saturating_add(1);
                 }

@@ -6,14 +6,14 @@ ghost use Rattle.dmk_drive.specs.Keeping.{keeps, value_in};
 ghost use Rattle.dmk_drive.specs.Output.{AsksToRun};
 ghost use Rattle.dmk_drive.specs.Definitions.{first_defined};
 ghost use Rattle.dmk_drive.specs.Planned.{AreItems};
-ghost use Rattle.dmk_run.specs.Made.{HasEnded, Makes, MakesItems};
+ghost use Rattle.dmk_run.specs.Made.{Makes, MakesItems};
 ghost use Rattle.mk_eval.specs.Output.{World};
 
-use crate::building::{Built, build, reported};
 use crate::conducting::Wishes;
 use crate::guard::{Guard, hold_state};
+use crate::making::make;
 use crate::opening::{disk_of, open_store};
-use crate::planning::{Goals, Plan, planned};
+use crate::planning::{Goals, planned};
 use crate::printer::Printer;
 use crate::stop::Stop;
 use bd_flusher::Receipt;
@@ -43,35 +43,6 @@ pub struct Means<'a, E, S, P> {
     pub exec: &'a E,
     pub say: &'a S,
     pub place: &'a P,
-}
-
-/// Makes what was planned over an opened store. The disk comes back.
-fn make<R, E, O, W, P, K, D>(
-    rt: &R,
-    alloc: Global,
-    means: &Means<'_, E, Printer<'_, R, O, W>, P>,
-    wishes: &Wishes,
-    plan: Plan,
-    banks: &mut K,
-    store: Store<D>,
-) -> (Result<u8, Stop>, D)
-where
-    R: Threads + Wait + Sync,
-    E: Exec<Receipt> + Sync,
-    O: Write + Drop + Send,
-    W: Write + Drop + Send,
-    P: Place + Sync,
-    K: Banks,
-    K::End: Drop + Send,
-    D: Disk + Drop + Send,
-    ensures status { IfOk result.0 (λ s. s ≤ 2) }
-    ensures ended { IfOk result.0 (HasEnded plan.graph plan.conduct.counts_records plan.conduct.keeps_state D.honest (now (D.moments result.1))) }
-    ensures let_go { K.serves banks.old ≡ false → K.serves banks.new ≡ false }
-{
-    let Plan { graph, conduct } = plan;
-    let workers = wishes.workers(&graph.settings);
-    let Built { found, store } = build(rt, alloc, means, &graph, conduct, workers, banks, store);
-    (reported(found), disk_of(store))
 }
 
 /// Opens the store of a disk and makes the goals over it. The disk comes back.
@@ -104,11 +75,10 @@ where
     ensures times { (times : List ℕ → Option ℤ) → T.allows tree.new times → T.allows tree.old times }
     ensures let_go { K.serves banks.old ≡ false → K.serves banks.new ≡ false }
 {
-    let store = match open_store(alloc, means.key, disk) {
+    let Store { log, state } = match open_store(alloc, means.key, disk) {
         Ok(store) => store,
         Err((stop, disk)) => return (Err(stop), disk),
     };
-    let state = store.state();
     let environment = means.environment;
     match planned(
         alloc,
@@ -122,8 +92,8 @@ where
         items,
         state,
     ) {
-        Ok(plan) => make(rt, alloc, means, wishes, plan, banks, store),
-        Err(stop) => (Err(stop), disk_of(store)),
+        Ok(plan) => make(rt, alloc, means, wishes, plan, banks, log),
+        Err(stop) => (Err(stop), disk_of(log)),
     }
 }
 

@@ -6,11 +6,13 @@ use mk_rules::Graph;
 use st_records::Phase;
 use st_state::State;
 
-fn is_known_done(state: &State, target: &[u8]) -> bool
+/// Whether the state, which may have the target at that place, knows it as done.
+fn is_known_done(state: &State, target: &[u8], place: usize) -> bool
     ensures { IsTrue result ↔ IsKnownDone state.now target.now }
 {
-    match state.get(target) {
-        Some(entry) => matches!(entry.phase, Phase::Done),
+    let (known, _next) = state.near(target, place);
+    match known {
+        Some(entry) => matches!(entry.phase(), Phase::Done),
         None => false,
     }
 }
@@ -19,7 +21,8 @@ fn is_node_known_done(graph: &Graph, state: &State, node: usize) -> bool
     requires { node < length graph.now.nodes.items }
     ensures { IsTrue result ↔ IsNodeKnownDone graph.now state.now node }
 {
-    graph.nodes[node].recipe.is_none() || is_known_done(state, graph.names.name(node))
+    let it = &graph.nodes[node];
+    it.recipe.get().is_none() || is_known_done(state, graph.names.name(node), it.place as usize)
 }
 
 /// Whether the state knows each node of the graph that has a recipe as done.

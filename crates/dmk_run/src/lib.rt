@@ -9,6 +9,7 @@ mod following;
 mod guard;
 mod judging;
 mod known;
+mod making;
 mod opening;
 mod planning;
 mod printer;

@@ -28,11 +28,10 @@ use std::alloc::Global;
 /// A side that ends behind this is long: it is written anew when it is opened, if half of it can go.
 const LONG: usize = 1 << 20;
 
-/// The disk of a store that is let go.
-pub(crate) fn disk_of<D: Disk + Drop>(store: Store<D>) -> D
-    ensures { result ≡ store.log.disk }
+/// The disk of a log that is let go.
+pub(crate) fn disk_of<D: Disk + Drop>(log: Log<D>) -> D
+    ensures { result ≡ log.disk }
 {
-    let Store { log, state: _ } = store;
     let Log {
         disk,
         side: _,
@@ -42,6 +41,14 @@ pub(crate) fn disk_of<D: Disk + Drop>(store: Store<D>) -> D
         dead: _,
     } = log;
     disk
+}
+
+/// The disk of a store that is let go.
+pub(crate) fn disk_of_store<D: Disk + Drop>(store: Store<D>) -> D
+    ensures { result ≡ store.log.disk }
+{
+    let Store { log, state: _ } = store;
+    disk_of(log)
 }
 
 fn is_of_version_1(version: Version) -> bool
@@ -55,13 +62,8 @@ fn is_of_version_1(version: Version) -> bool
 fn is_compact(state: &State, end: usize) -> bool
     ensures { IsTrue result ↔ ((end ≤ 2 ^ 20) ⊎ (end < 2 * kept_bytes state.now)) }
 {
-    if end <= LONG {
-        return true;
-    }
-    match state.room_after_kept(end) {
-        Some(left) => left < end - left,
-        None => true,
-    }
+    // The room of half the side ends the count as soon as more than half would be kept.
+    end <= LONG || state.room_after_kept(end / 2).is_none()
 }
 
 /// What a refused compaction comes to: it is passed over, unless the device refused it or the side is of version 1, which has
@@ -128,6 +130,6 @@ pub fn open_store<D: Disk + Drop>(
     };
     match compact_at_opening(alloc, &mut store) {
         Ok(()) => Ok(store),
-        Err(fault) => Err((Stop::Run(fault), disk_of(store))),
+        Err(fault) => Err((Stop::Run(fault), disk_of_store(store))),
     }
 }

@@ -1,5 +1,5 @@
 //! What a run makes and how it goes, before anything is made.
-ghost use Rattle.std.specs.Prelude.{◌≡◌, ◌⊎◌, ◌||◌, ℕ, ℤ, List, Option, IfOk, IfErr};
+ghost use Rattle.std.specs.Prelude.{◌≡◌, ◌⊎◌, ◌||◌, ℕ, ℤ, List, Option, Some, None, true, false, unwrap_or, IfOk, IfErr};
 ghost use Rattle.std.specs.FinMap as finmap;
 ghost use Rattle.mk_rules.specs.Faults.{IsRuleFault};
 ghost use Rattle.mk_rules.specs.Limit.{node_limit};
@@ -8,6 +8,7 @@ ghost use Rattle.mk_rules.specs.declared.graph.Graph.{Graph as MadeGraph};
 ghost use Rattle.dmk_drive.specs.Definitions.{first_defined};
 ghost use Rattle.dmk_drive.specs.Planned.{IsGraphOf, judged_graph};
 ghost use Rattle.dmk_drive.specs.declared.fault.Fault.TheVariants as faults;
+ghost use Rattle.dmk_run.specs.Planned.{recorded_in};
 ghost use Rattle.dmk_run.specs.declared.stop.Stop.TheVariants as stops;
 
 use crate::conducting::Wishes;
@@ -22,7 +23,7 @@ use mk_reader::Item;
 use mk_rules::{Graph, Tree, node_limit};
 use st_records::HashKey;
 use st_state::State;
-use std::alloc::Global;
+use std::alloc::{AllocError, Global};
 use std::io::Write;
 use std::sync::Wait;
 
@@ -39,7 +40,47 @@ pub struct Goals {
 #[derive(Drop)]
 pub struct Plan {
     pub graph: Graph,
+    /// What is recorded, where the graph has forgotten it.
+    pub forgotten: Option<State>,
     pub conduct: Conduct,
+}
+
+impl Plan {
+    /// What is recorded, whatever the graph is judged by.
+    pub(crate) fn recorded(&self) -> &State
+        ensures { result.now ≡ recorded_in self.now }
+    {
+        match &self.forgotten {
+            Some(state) => state,
+            None => &self.graph.state,
+        }
+    }
+}
+
+/// A state of its own with what is recorded: what the graph has forgotten, or a copy of what it keeps.
+pub(crate) fn recorded_apart(
+    alloc: Global,
+    graph: &Graph,
+    forgotten: Option<State>,
+) -> Result<State, AllocError>
+    ensures { IfOk result (λ state. state ≡ unwrap_or forgotten graph.now.state) }
+{
+    match forgotten {
+        Some(state) => Ok(state),
+        None => graph.state.copy(alloc),
+    }
+}
+
+/// What the graph is to forget, where all is to be made.
+fn to_forget(alloc: Global, all: bool, state: &State) -> Result<Option<State>, AllocError>
+    ensures forgotten { IfOk result (λ kept. all ≡ true → kept ≡ Some state.now) }
+    ensures none { IfOk result (λ kept. all ≡ false → kept ≡ None) }
+{
+    if all {
+        Ok(Some(state.copy(alloc)?))
+    } else {
+        Ok(None)
+    }
 }
 
 /// The graph of what is to be made, by this state.
@@ -51,19 +92,19 @@ pub(crate) fn graph_of<T: Tree>(
     targets: ByteStrings,
     tree: &mut T,
     items: Vec<Item>,
-    state: &State,
+    state: State,
 ) -> Result<Graph, Stop>
     ensures graph { IfOk result (λ graph. (times : List ℕ → Option ℤ) → T.allows tree.new times
-        → IsGraphOf profile definitions.now environment.now targets times items.items state.now graph) }
+        → IsGraphOf profile definitions.now environment.now targets times items.items state graph) }
     ensures fault { IfErr result (λ stop. (stop ≡ stops.Before faults.OutOfMemory)
         ⊎ ((f : RulesFault) × (stop ≡ stops.Before (faults.Rules f))
         × ((times : List ℕ → Option ℤ) → T.allows tree.new times
         → IsRuleFault (first_defined profile definitions.now environment.now) items.items times
-        (finmap.get state.now) (T.refuses tree.new) targets (node_limit profile) f))) }
+        (finmap.get state) (T.refuses tree.new) targets (node_limit profile) f))) }
+    ensures state { IfOk result (λ graph. graph.state ≡ state) }
     ensures times { (times : List ℕ → Option ℤ) → T.allows tree.new times → T.allows tree.old times }
 {
     let macros = first_macros(alloc, profile, definitions, environment)?;
-    let state = state.copy(alloc)?;
     let limit = node_limit(profile);
     match mk_rules::build(alloc, items, macros, targets, tree, state, limit) {
         Ok(graph) => Ok(graph),
@@ -82,12 +123,13 @@ pub(crate) fn planned<R: Wait, T: Tree, O: Write + Drop, W: Write + Drop>(
     goals: Goals,
     tree: &mut T,
     items: Vec<Item>,
-    state: &State,
+    state: State,
 ) -> Result<Plan, Stop>
     ensures graph { IfOk result (λ plan. (times : List ℕ → Option ℤ) → T.allows tree.new times
-        → (graph : MadeGraph) × IsGraphOf goals.profile goals.definitions.items environment.now goals.targets times items.items state.now graph
+        → (graph : MadeGraph) × IsGraphOf goals.profile goals.definitions.items environment.now goals.targets times items.items state graph
         × (plan.graph ≡ judged_graph wishes.now.makes_all graph)) }
     ensures times { (times : List ℕ → Option ℤ) → T.allows tree.new times → T.allows tree.old times }
+    ensures state { IfOk result (λ plan. recorded_in plan ≡ state) }
     ensures keeping { IfOk result (λ plan. plan.conduct.keeps_state ≡ keeping) }
     ensures records { IfOk result (λ plan. plan.conduct.counts_records ≡ wishes.now.makes_all || keeping) }
 {
@@ -96,6 +138,7 @@ pub(crate) fn planned<R: Wait, T: Tree, O: Write + Drop, W: Write + Drop>(
         definitions,
         targets,
     } = goals;
+    let forgotten = to_forget(alloc, wishes.makes_all, &state)?;
     let graph = graph_of(
         alloc,
         profile,
@@ -111,5 +154,9 @@ pub(crate) fn planned<R: Wait, T: Tree, O: Write + Drop, W: Write + Drop>(
     }
     let conduct = wishes.conduct(alloc, keeping, definitions)?;
     let graph = judged_graph(alloc, key, wishes.makes_all, graph);
-    Ok(Plan { graph, conduct })
+    Ok(Plan {
+        graph,
+        forgotten,
+        conduct,
+    })
 }

@@ -17,7 +17,7 @@ ghost use Rattle.dmk_run.specs.declared.trusting.Trusted.TheVariants as trusteds
 
 use crate::driver::status_of;
 use crate::guard::{Guard, hold_state};
-use crate::opening::{disk_of, open_store};
+use crate::opening::{disk_of_store, open_store};
 use crate::planning::graph_of;
 use crate::printer::Printer;
 use crate::stop::Stop;
@@ -92,6 +92,7 @@ fn graph_asked<T: Tree>(
     ensures times { (times : List ℕ → Option ℤ) → T.allows tree.new times → T.allows tree.old times }
 {
     let targets = options.targets.copy(alloc)?;
+    let state = state.copy(alloc)?;
     let definitions = options.definitions.as_slice();
     graph_of(
         alloc,
@@ -157,7 +158,7 @@ fn trust_on<T: Tree, D: Disk + Drop>(
         Err((stop, disk)) => return (Err(stop), disk),
     };
     let found = trust_over(alloc, environment, options, tree, items, &mut store);
-    (found, disk_of(store))
+    (found, disk_of_store(store))
 }
 
 /// Takes targets as they are where a makefile that is read keeps state. The disk comes back.

@@ -42,8 +42,9 @@ fn list_file(rt: HostRuntime, file: &str) -> u8
     let key = HashKey::from_system(&rt);
     let mut reading = read_sides(rt, file);
     for _ in 1..MAX_READINGS {
-        let found = list_sides(rt, key, &reading.sides);
-        if !is_doubtful(&reading.sides, found) {
+        let void = are_void(&reading.sides);
+        let found = list_sides(rt, key, &mut reading.sides);
+        if !is_doubtful(void, found) {
             return match found {
                 Ok(()) => 0,
                 Err(fault) => refuse(file, fault, &mut rt.stderr()),
@@ -65,7 +66,10 @@ fn tell(rt: HostRuntime, key: HashKey, file: &str, reading: Reading) -> u8
     let Reading { sides, failed } = reading;
     let (out, err) = (&mut rt.stdout(), &mut rt.stderr());
     match sides {
-        Ok((a, b)) => show(rt.alloc(), key, file, &a, &b, out, err),
+        Ok((a, b)) => {
+            let (mut a, mut b) = (a, b);
+            show(rt.alloc(), key, file, &mut a, &mut b, out, err)
+        }
         Err(fault) => {
             let status = refuse(file, ListFault::Open(fault), err);
             if let Some(failed) = failed {
@@ -76,7 +80,7 @@ fn tell(rt: HostRuntime, key: HashKey, file: &str, reading: Reading) -> u8
     }
 }
 
-fn list_sides(rt: HostRuntime, key: HashKey, sides: &Sides) -> Result<(), ListFault> {
+fn list_sides(rt: HostRuntime, key: HashKey, sides: &mut Sides) -> Result<(), ListFault> {
     match sides {
         Ok((a, b)) => list(rt.alloc(), key, a, b, &mut rt.stdout()),
         Err(fault) => Err(ListFault::Open(*fault)),
@@ -84,11 +88,19 @@ fn list_sides(rt: HostRuntime, key: HashKey, sides: &Sides) -> Result<(), ListFa
 }
 
 // A reading that falls between two writes of a run may be refused, or find neither side's records; nothing was printed then.
-fn is_doubtful(sides: &Sides, found: Result<(), ListFault>) -> bool {
-    match (sides, found) {
-        (Ok((a, b)), Ok(())) => is_void(a) && is_void(b),
-        (_, Err(ListFault::Open(fault))) => fault != OpenFault::OutOfMemory,
-        _ => false,
+fn is_doubtful(void: bool, found: Result<(), ListFault>) -> bool {
+    match found {
+        Ok(()) => void,
+        Err(ListFault::Open(fault)) => fault != OpenFault::OutOfMemory,
+        Err(ListFault::Write) => false,
+    }
+}
+
+// Asked before the listing, which lets the bytes go.
+fn are_void(sides: &Sides) -> bool {
+    match sides {
+        Ok((a, b)) => is_void(a) && is_void(b),
+        Err(_) => false,
     }
 }
 

@@ -55,20 +55,20 @@ pub fn show<O: Write, E: Write>(
     alloc: Global,
     key: HashKey,
     file: &str,
-    a: &[u8],
-    b: &[u8],
+    a: &mut Vec<u8>,
+    b: &mut Vec<u8>,
     out: &mut O,
     err: &mut E,
 ) -> u8
     ensures status { (result ≡ 0) ⊎ (result ≡ 2) }
-    ensures listed { result ≡ 0 → (m : StateMap) × (Recovers a.now b.now m × Appends (O.contents out.old) (O.contents out.new) (listing m)) }
+    ensures listed { result ≡ 0 → (m : StateMap) × (Recovers a.old.items b.old.items m × Appends (O.contents out.old) (O.contents out.new) (listing m)) }
     ensures quiet { result ≡ 0 → err.new ≡ err.old }
-    ensures refused { (f : OpenFault) → RefusesWith a.now b.now f → (result ≡ 2) × Keeps (O.contents out.old) (O.contents out.new) }
+    ensures refused { (f : OpenFault) → RefusesWith a.old.items b.old.items f → (result ≡ 2) × Keeps (O.contents out.old) (O.contents out.new) }
 
     // Sides that aren't refused and have no records to be read are listed, whatever memory there is.
-    ensures cause { result ≡ 2 → ((f : OpenFault) × RefusesWith a.now b.now f) ⊎ PairComesToRecords a.now b.now }
+    ensures cause { result ≡ 2 → ((f : OpenFault) × RefusesWith a.old.items b.old.items f) ⊎ PairComesToRecords a.old.items b.old.items }
     // Where a state is recovered and the answer is 2, nothing or a part of its listing went out.
-    ensures part { (m : StateMap) → Recovers a.now b.now m → result ≡ 2 → Keeps (O.contents out.old) (O.contents out.new)
+    ensures part { (m : StateMap) → Recovers a.old.items b.old.items m → result ≡ 2 → Keeps (O.contents out.old) (O.contents out.new)
         ⊎ AppendsPart (O.contents out.old) (O.contents out.new) (listing m) }
 {
     match list(alloc, key, a, b, out) {

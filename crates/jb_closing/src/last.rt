@@ -22,7 +22,7 @@ fn set_place(names: &Names, places: &mut Vec<Option<usize>>, place: usize, note:
         → ArePlaces (notes ++ note.now ∷ []) names.now places.new.items }
 {
     if let Some(node) = names.number_of(note.target().as_slice()) {
-        places[node] = Some(place);
+        places[node as usize] = Some(place);
     }
 }
 

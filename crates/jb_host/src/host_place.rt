@@ -2,7 +2,7 @@
 
 use jb_recipe::{Place, PlaceFault};
 use std::alloc::Global;
-use std::fs::{self, File, OpenOptions};
+use std::fs::{self, File, Metadata, OpenOptions};
 use std::io::{self, ErrorKind};
 use std::os::unix::fs::MetadataExt;
 use std::process::{Command, Stdio};
@@ -30,6 +30,10 @@ fn if_there<T>(answer: io::Result<T>) -> io::Result<Option<T>> {
         Err(error) if is_passed_over(&error) => Ok(None),
         Err(error) => Err(error),
     }
+}
+
+fn is_kept(found: &Metadata) -> bool {
+    found.is_file() || found.is_dir()
 }
 
 fn not_ordinary() -> io::Error {
@@ -94,21 +98,25 @@ impl HostPlace {
 
     // Only an ordinary file or a folder is opened: a pipe would be waited for, and a device has nothing to be kept.
     fn sync_named(&self, name: &str) -> io::Result<()> {
-        match if_there(fs::metadata(&self.rt, name))? {
-            Some(found) if found.is_file() || found.is_dir() => {}
-            _ => return Ok(()),
+        match if_there(fs::symlink_metadata(&self.rt, name))? {
+            Some(found) if found.is_symlink() => self.sync_link(name),
+            Some(found) if is_kept(&found) => self.sync_in_folder(name),
+            _ => Ok(()),
         }
+    }
+
+    fn sync_in_folder(&self, name: &str) -> io::Result<()> {
         self.sync_path(name)?;
-        self.sync_path(HostPlace::folder_of(name))?;
-        self.sync_led_to(name)
+        self.sync_path(HostPlace::folder_of(name))
     }
 
     // Of a link, what it leads to stands in a folder of its own.
-    fn sync_led_to(&self, name: &str) -> io::Result<()> {
-        match if_there(fs::symlink_metadata(&self.rt, name))? {
-            Some(found) if found.is_symlink() => {}
+    fn sync_link(&self, name: &str) -> io::Result<()> {
+        match if_there(fs::metadata(&self.rt, name))? {
+            Some(found) if is_kept(&found) => {}
             _ => return Ok(()),
         }
+        self.sync_in_folder(name)?;
         match if_there(fs::canonicalize(&self.rt, name))? {
             Some(led_to) => {
                 let led_to = led_to.into_string();

@@ -4,6 +4,7 @@
 mod dry_shell;
 mod host_place;
 mod shell;
+mod surroundings;
 
 pub use dry_shell::{DryShell, Written};
 pub use host_place::HostPlace;

@@ -1,6 +1,8 @@
 //! Recipe lines run by the shell.
-ghost use Rattle.std.specs.Prelude.{◌≤◌};
+ghost use Rattle.std.specs.Prelude.{◌≡◌, ◌≤◌, ℕ, [], ◌∷◌, None, Some, pos, IfOk, codes};
+ghost use Rattle.std.specs.Process.{command_program, command_args, exit_code};
 
+use crate::surroundings::Surroundings;
 use bd_lists::{Clearance, Ended, Exec, ExecFault, Variable};
 use byte_strings::ByteString;
 use mk_recipe::Line;
@@ -30,6 +32,8 @@ pub struct Shell<'a> {
     alloc: Global,
     /// Set, where the run holds a lock, before the first line is run.
     held: &'a OnceLock<HeldLock>,
+    /// Read when the first line is run; None where lines inherit dmk's own environment as it is.
+    surroundings: OnceLock<Option<Surroundings>>,
 }
 
 /// A line's command can't be made: memory or a descriptor was refused, or a text isn't UTF-8.
@@ -52,7 +56,9 @@ impl From<io::Error> for NoCommand {
     }
 }
 
-fn text_of(bytes: &[u8]) -> Result<&str, NoCommand> {
+fn text_of(bytes: &[u8]) -> Result<&str, NoCommand>
+    ensures { IfOk result (λ text. text.now ≡ bytes.now) }
+{
     std::str::from_utf8(bytes).map_err(|_| NoCommand)
 }
 
@@ -68,27 +74,58 @@ fn set_variable(command: &mut Command, variable: &Variable) -> Result<(), NoComm
     Ok(())
 }
 
+fn set_variables(command: &mut Command, env: &[Variable]) -> Result<(), NoCommand> {
+    for variable in env {
+        set_variable(command, variable)?;
+    }
+    Ok(())
+}
+
+// The shell that runs a text in dmk's own environment.
+fn shell_of(alloc: Global, text: &[u8]) -> Result<Command, NoCommand>
+    ensures program { IfOk result (λ command. command_program command ≡ codes "/bin/sh") }
+    ensures args { IfOk result (λ command. command_args command ≡ codes "-c" ∷ text.now ∷ []) }
+{
+    let mut command = Command::new(alloc, "/bin/sh")?;
+    command.arg("-c")?.arg(text_of(text)?)?;
+    Ok(command)
+}
+
 /// The shell that runs a text, with these variables beside those of dmk's own environment.
 pub(crate) fn shell_command(
     alloc: Global,
     text: &[u8],
     env: &[Variable],
 ) -> Result<Command, NoCommand> {
-    let mut command = Command::new(alloc, "/bin/sh")?;
-    command.arg("-c")?.arg(text_of(text)?)?;
-    for variable in env {
-        set_variable(&mut command, variable)?;
-    }
+    let mut command = shell_of(alloc, text)?;
+    set_variables(&mut command, env)?;
     Ok(command)
 }
 
 impl<'a> Shell<'a> {
     pub fn new(rt: HostRuntime, alloc: Global, held: &'a OnceLock<HeldLock>) -> Shell<'a> {
-        Shell { rt, alloc, held }
+        Shell {
+            rt,
+            alloc,
+            held,
+            surroundings: OnceLock::new(),
+        }
+    }
+
+    // Where another line reads the environment just now, this one inherits it.
+    fn surroundings(&self) -> Option<&Surroundings> {
+        if self.surroundings.get().is_none() {
+            let _ = self.surroundings.try_set(Surroundings::read(self.rt));
+        }
+        self.surroundings.get()?.as_ref()
     }
 
     fn command(&self, line: &Line, env: &[Variable]) -> Result<Command, NoCommand> {
-        let mut command = shell_command(self.alloc, line.text.as_slice(), env)?;
+        let mut command = shell_of(self.alloc, line.text.as_slice())?;
+        if let Some(surroundings) = self.surroundings() {
+            surroundings.hand_to(&mut command)?;
+        }
+        set_variables(&mut command, env)?;
         self.hand_on(&mut command)?;
         Ok(command)
     }
@@ -110,7 +147,9 @@ impl<'a> Shell<'a> {
 
 // The status of a process as a state knows it: 256 where a signal ended it.
 pub(crate) fn status_of(code: Option<i32>) -> u32
-    ensures { result ≤ 256 }
+    ensures within { result ≤ 256 }
+    ensures ended { (number : ℕ) → code ≡ Some (pos number) → number ≤ 256 → result ≡ number }
+    ensures stopped { code ≡ None → result ≡ 256 }
 {
     match code {
         Some(code) => u32::try_from(code).map_or(256, |status| status.min(256)),
@@ -119,7 +158,10 @@ pub(crate) fn status_of(code: Option<i32>) -> u32
 }
 
 fn ended(output: Output) -> Ended
-    ensures { result.status ≤ 256 }
+    ensures within { result.status ≤ 256 }
+    ensures status { (number : ℕ) → exit_code output.status ≡ Some (pos number) → number ≤ 256 → result.status ≡ number }
+    ensures out { result.out ≡ output.stdout.items }
+    ensures err { result.err ≡ output.stderr.items }
 {
     Ended {
         status: status_of(output.status.code()),

@@ -81,7 +81,7 @@ fn known_of(alloc: Global, graph: &Graph, node: usize) -> Result<ByteStrings, Al
 {
     let mut names = ByteStrings::empty(alloc);
     for prerequisite in graph.hard.row(node) {
-        names.push(name_of(graph, *prerequisite))?;
+        names.push(name_of(graph, *prerequisite as usize))?;
     }
     Ok(names)
 }

@@ -13,6 +13,7 @@ use jb_recipe::{News, Place, Plan, Say, long_line};
 use jb_slots::Bank;
 use mk_plan::{Passed, RecipeFault, Why, line_place, pass, told_lines};
 use mk_recipe::Line;
+use mk_rules::ShortNumber;
 use st_disk::Disk;
 use std::alloc::Global;
 use std::sync::Wait;
@@ -31,16 +32,16 @@ fn mark_if_remade(marks: &mut Vec<bool>, board: &Board<Receipt>, node: usize) {
     }
 }
 
-fn mark_remade(marks: &mut Vec<bool>, board: &Board<Receipt>, nodes: &[usize]) {
+fn mark_remade(marks: &mut Vec<bool>, board: &Board<Receipt>, nodes: &[u32]) {
     for node in nodes {
-        mark_if_remade(marks, board, *node);
+        mark_if_remade(marks, board, *node as usize);
     }
 }
 
-fn mark_hidden(marks: &mut Vec<bool>, board: &Board<Receipt>, nodes: &[Option<usize>]) {
+fn mark_hidden(marks: &mut Vec<bool>, board: &Board<Receipt>, nodes: &[ShortNumber]) {
     for node in nodes {
-        if let Some(node) = node {
-            mark_if_remade(marks, board, *node);
+        if let Some(node) = node.get() {
+            mark_if_remade(marks, board, node);
         }
     }
 }

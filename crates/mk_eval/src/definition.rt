@@ -1,7 +1,8 @@
 //! Definitions that count by what stands above them.
-ghost use Rattle.std.specs.Prelude.{◌≡◌, [], ◌∷◌, IfOk};
+ghost use Rattle.std.specs.Prelude.{◌≡◌, List, [], ◌∷◌, ◌++◌, Ok, Err, IfOk, IfErr, OnOk};
 ghost use Rattle.mk_macros.specs.Ranks.{defined_by};
 ghost use Rattle.mk_eval.specs.Output.{World};
+ghost use Rattle.mk_reader.specs.declared.item.Item.{Item as One};
 ghost use Rattle.mk_eval.specs.Makefile.{behind, GivesItem, GivesItems, KindItems, ItemItems, FixedItems, OutputItems};
 
 use crate::doubled::doubled;
@@ -108,8 +109,33 @@ pub fn evaluate_definition<I: Includes>(
     }
 }
 
+/// Adds what an item gives, which is taken into the macros.
+pub fn add_item<I: Includes>(
+    alloc: Global,
+    item: Item,
+    macros: &mut Macros,
+    includes: &mut I,
+    items: &mut Vec<Item>,
+) -> Result<(), ReadFault>
+    ensures added { OnOk result ((front : List One) × (items.new.items ≡ items.old.items ++ front)
+        × (defined_by macros.new ≡ behind (defined_by macros.old) front)
+        × ((world : World) → I.allows includes.new world → ItemItems world item (defined_by macros.old) (Ok front))) }
+    ensures fault { IfErr result (λ fault. (world : World) → I.allows includes.new world
+        → GivesItems (Err fault) (ItemItems world item (defined_by macros.old))) }
+    ensures grows { (world : World) → I.allows includes.new world → I.allows includes.old world }
+{
+    // The strict profile takes each item as it stands, and has no references in the lines that are read next.
+    if !macros.profile().is_wide() {
+        items.push(item)?;
+        return Ok(());
+    }
+    let mut given = evaluate_item(alloc, item, macros, includes)?;
+    items.append(&mut given)?;
+    Ok(())
+}
+
 /// What an item gives, which is taken into the macros.
-pub fn evaluate_item<I: Includes>(
+fn evaluate_item<I: Includes>(
     alloc: Global,
     item: Item,
     macros: &mut Macros,

@@ -8,7 +8,7 @@ ghost use Rattle.mk_reader.specs.declared.item.Statement.TheVariants as statemen
 ghost use Rattle.mk_eval.specs.Output.{World};
 ghost use Rattle.mk_eval.specs.Makefile.{depth, behind, GivesItems, InOrder, StatementItems, IncludedItems, TextItems, missing_items};
 
-use crate::definition::{evaluate_definition, evaluate_item};
+use crate::definition::{add_item, evaluate_definition};
 use crate::includes::Includes;
 use crate::names::names_on;
 use crate::refuse::refuse;
@@ -79,12 +79,12 @@ fn evaluate_all<I: Includes>(
     ensures defined { IfOk result (λ items. defined_by macros.new ≡ behind (defined_by macros.old) items.items) }
     ensures grows { (world : World) → I.allows includes.new world → I.allows includes.old world }
 {
-    let mut items = Vec::new(alloc);
+    // Most statements give one item.
+    let mut items = Vec::with_capacity(alloc, statements.len())?;
     for statement in statements {
         match statement {
             Statement::Item(item) => {
-                let mut given = evaluate_item(alloc, item, macros, includes)?;
-                items.append(&mut given)?;
+                add_item(alloc, item, macros, includes, &mut items)?;
             }
             Statement::Definition(line) => {
                 let mut defined = evaluate_definition(alloc, line, macros, includes)?;

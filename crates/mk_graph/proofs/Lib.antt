@@ -11,3 +11,7 @@ pub mod EdgeLemmas
 pub mod UserLemmas
 pub mod SetLemmas
 pub mod JoinLemmas
+pub mod ChainLemmas
+pub mod LinkLemmas
+pub mod OwnRowLemmas
+pub mod PassedLemmas

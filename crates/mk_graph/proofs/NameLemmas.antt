@@ -1,5 +1,5 @@
 -- Names by first mention: what adding does to them, and that earlier numbers stay.
-use Rattle.std.proofs.Common.{◌≡◌, ℕ, ◌<◌, ◌≤◌, Bool, true, false, ◌||◌, nat_lt, List, [], ◌∷◌, ◌++◌, length, map, take, position, Some, suc, zero, refl, sym, ap, ◌∙◌, arith, lt-ltb, ltb-true, append_assoc, append-nil, length-append}
+use Rattle.std.proofs.Common.{◌≡◌, ◌≢◌, ℕ, ◌<◌, ◌≤◌, Bool, true, false, ◌||◌, nat_lt, List, [], ◌∷◌, ◌++◌, length, map, take, position, Some, suc, zero, refl, sym, ap, ◌∙◌, arith, lt-ltb, ltb-true, append_assoc, append-nil, length-append}
 use Rattle.std.proofs.lemmas.Bool.{and_parts}
 use Rattle.std.proofs.lemmas.List.{get_or_append_left}
 use Rattle.std.proofs.lemmas.List.Quantifiers.{position-Some}
@@ -84,6 +84,14 @@ same_bytes a b = (bytes_decides a b).0
 
 pub bytes_same : (a b : List ℕ) → a ≡ b → bytes_eq a b ≡ true
 bytes_same a b = (bytes_decides a b).1
+
+-- names with other bytes
+pub not_same : (a b : List ℕ) → a ≢ b → bytes_eq a b ≡ false
+not_same a b other = by (bytes_eq a b) refl
+  where
+    by : (t : Bool) → bytes_eq a b ≡ t → t ≡ false
+    by true e = absurd (other (same_bytes a b e))
+    by false e = refl
 
 pub has_name_at : (names : List (List ℕ)) (n : ℕ) → n < length names → has_name names (name_at names n) ≡ true
 has_name_at [] n h = absurd (omega arith)

@@ -50,7 +50,7 @@ module _ (ns ends : List ℕ) (made : ends ≡ ends_from 0 ns) where
   pub as_many : length ends ≡ length ns
   as_many = ap length made ∙ length-ends_from 0 ns
 
-  sized : AreEnds (sum ns) 0 ends
+  pub sized : AreEnds (sum ns) 0 ends
   sized = subst (AreEnds (sum ns) 0) (sym made) (are_ends 0 (sum ns) ns (omega arith))
 
   pub up_to : (size : ℕ) → size ≡ slice_index (0 ∷ ends) (length ends) → AreEnds size 0 ends

@@ -1,6 +1,9 @@
+pub mod Chains
 pub mod Counted
 pub mod Cycle
 pub mod Edges
+pub mod Hashing
+pub mod Links
 pub mod Numbering
 pub mod NumberingFault
 pub mod Order

@@ -2,7 +2,7 @@
 
 ghost use Rattle.std.specs.Prelude.{◌≡◌, ℕ, ◌<◌, ◌||◌, List, length, IfOk, IsTrue};
 ghost use Rattle.std.specs.List.Sorted.{IsNonDecreasing, IsStrictlyIncreasing};
-ghost use Rattle.mk_graph.specs.Edges.{row, has, is_closed};
+ghost use Rattle.mk_graph.specs.Edges.{row, has, is_closed, AreUsers};
 ghost use Rattle.mk_graph.specs.Cycle.{HasCycle};
 ghost use Rattle.mk_graph.specs.Counted.{joined, AreSets, AreCounted};
 ghost use Rattle.mk_graph.specs.Order.{IsCountedOrder};
@@ -31,7 +31,7 @@ struct Sets {
 }
 
 /// The numbers of a list that doesn't fall, each once.
-fn set_of(alloc: Global, numbers: &[usize]) -> Result<Vec<usize>, AllocError>
+fn set_of(alloc: Global, numbers: &[u32]) -> Result<Vec<u32>, AllocError>
     requires { IsNonDecreasing numbers.now }
     ensures members { IfOk result (λ set. (n : ℕ) → has set.items n ≡ has numbers.now n) }
     ensures ascending { IfOk result (λ set. IsStrictlyIncreasing set.items) }
@@ -46,14 +46,27 @@ fn without_repeats(alloc: Global, rows: Edges) -> Result<Edges, AllocError>
     requires { (n : ℕ) → IsNonDecreasing (row rows n) }
     ensures { IfOk result (AreSets rows) }
 {
-    if rows.ascends() {
-        return Ok(rows);
-    }
     let mut sets = Edges::with_capacity(alloc, rows.len())?;
     for node in 0..rows.len() {
         sets.push_row(&set_of(alloc, rows.row(node))?)?;
     }
     Ok(sets)
+}
+
+/// Rows without repeats and in order, by their users. Where no user stands twice, the rows keep their lengths.
+fn sets_by_users(alloc: Global, rows: Edges, users: Edges) -> Result<Sets, AllocError>
+    requires closed { IsTrue (is_closed rows) }
+    requires users { AreUsers rows users }
+    ensures sets { IfOk result (λ sets. AreSets rows sets.edges) }
+    ensures users { IfOk result (λ sets. HasUsers sets.edges sets.users) }
+{
+    if users.ascends() {
+        let edges = users.reversed_into(alloc, rows)?;
+        return Ok(Sets { edges, users });
+    }
+    let users = without_repeats(alloc, users)?;
+    let edges = users.reversed(alloc)?;
+    Ok(Sets { edges, users })
 }
 
 /// Rows without repeats and in order. The users of a graph's users are its own rows in order, so no row need be sorted by
@@ -67,9 +80,7 @@ fn sets_of(alloc: Global, rows: Edges) -> Result<Sets, AllocError>
     if rows.ascends() {
         return Ok(Sets { edges: rows, users });
     }
-    let users = without_repeats(alloc, users)?;
-    let edges = users.reversed(alloc)?;
-    Ok(Sets { edges, users })
+    sets_by_users(alloc, rows, users)
 }
 
 /// What orders the nodes where hard and soft edges together make a cycle.

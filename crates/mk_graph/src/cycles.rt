@@ -39,15 +39,15 @@ fn first_unmarked(marks: &[bool]) -> Option<usize>
 }
 
 /// The first of some nodes without a mark.
-fn unmarked_of(nodes: &[usize], marks: &[bool]) -> Option<usize>
+fn unmarked_of(nodes: &[u32], marks: &[bool]) -> Option<usize>
     requires { list_all (λ n. nat_lt n (length marks.now)) nodes.now ≡ true }
     ensures some { IfSome result (λ n. has nodes.now n ≡ true) }
     ensures unmarked { IfSome result (λ n. slice_index_or marks.now n false ≡ false) }
     ensures none { IfNone result (list_all (λ n. slice_index_or marks.now n false) nodes.now ≡ true) }
 {
     for node in nodes {
-        if !marks[*node] {
-            return Some(*node);
+        if !marks[*node as usize] {
+            return Some(*node as usize);
         }
     }
     None
@@ -161,9 +161,12 @@ pub(crate) fn order_by_users(
     ensures { IfOk result (IsOrder edges.now) }
 {
     let order = plan_by_users(alloc, edges, users)?;
+    if order.len() == edges.len() {
+        return Ok(Order::Plan(order));
+    }
     let passed = marks(alloc, edges.len(), &order)?;
     let Some(start) = first_unmarked(&passed) else {
-        return Ok(Order::Plan(order));
+        unreachable!()
     };
     let ring = walk(alloc, edges, &passed, start)?;
     Ok(Order::Cycle(from_least(alloc, &ring)?))

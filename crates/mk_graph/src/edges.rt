@@ -1,9 +1,10 @@
 //! A graph: the prerequisites of each node.
 
-ghost use Rattle.std.specs.Prelude.{◌≡◌, ℕ, ◌+◌, ◌<◌, ◌≤◌, true, [], ◌∷◌, ◌++◌, length, map, slice_index, IfOk, OnOk, OnErr, nat_lt};
+ghost use Rattle.std.specs.Prelude.{◌≡◌, ℕ, ◌+◌, ◌<◌, ◌≤◌, true, [], ◌∷◌, ◌++◌, length, map, slice_index, IfOk, IsTrue, OnOk, OnErr, nat_lt};
 ghost use Rattle.std.specs.List.Sorted.{IsStrictlyIncreasing};
 ghost use Rattle.mk_graph.specs.Edges.{row, is_closed, AreUsers};
 ghost use Rattle.mk_graph.specs.Counted.{joined};
+ghost use Rattle.mk_graph.specs.Users.{HasUsers};
 ghost use Rattle.std.specs.List.{list_all};
 
 use crate::users::{counted, ends_of, note_user, starts_of};
@@ -14,8 +15,8 @@ use std::marker::Model;
 /// allocation, and the rows' ends another.
 #[derive(Debug, Drop)]
 pub struct Edges {
-    numbers: Vec<usize>,
-    ends: Vec<usize>,
+    numbers: Vec<u32>,
+    ends: Vec<u32>,
 }
 
 impl Model for Edges {
@@ -30,26 +31,39 @@ impl Model for Edges {
 }
 
 /// Where the row of a node begins: at the end of the one before it.
-fn start_of(ends: &[usize], node: usize) -> usize
+fn start_of(ends: &[u32], node: usize) -> usize
     requires { node ≤ length ends.now }
     ensures { result ≡ slice_index (0 ∷ ends.now) node }
 {
-    if node == 0 { 0 } else { ends[node - 1] }
+    if node == 0 {
+        0
+    } else {
+        ends[node - 1] as usize
+    }
 }
 
-fn all_below(numbers: &[usize], limit: usize) -> bool
+/// A count of 32 bits. There is no memory for 2^32 or more.
+fn short(count: usize) -> Result<u32, AllocError>
+    ensures { IfOk result (λ short. short ≡ count) }
+{
+    u32::try_from(count).map_err(|_| AllocError)
+}
+
+fn all_below(numbers: &[u32], limit: usize) -> bool
     ensures { result ≡ list_all (λ n. nat_lt n limit) numbers.now }
 {
-    numbers.iter().all(|n| *n < limit)
+    numbers.iter().all(|n| (*n as usize) < limit)
 }
 
-fn is_ascending(numbers: &[usize]) -> bool
+fn is_ascending(numbers: &[u32]) -> bool
     ensures { result ≡ true → IsStrictlyIncreasing numbers.now }
 {
-    for place in 1..numbers.len() {
-        if numbers[place - 1] >= numbers[place] {
+    let mut last = 0;
+    for (place, number) in numbers.iter().enumerate() {
+        if place > 0 && *number <= last {
             return false;
         }
+        last = *number;
     }
     true
 }
@@ -76,7 +90,7 @@ impl Edges {
     }
 
     /// A node for each of these rows.
-    pub fn of_rows(alloc: Global, rows: &[Vec<usize>]) -> Result<Edges, AllocError>
+    pub fn of_rows(alloc: Global, rows: &[Vec<u32>]) -> Result<Edges, AllocError>
         ensures { IfOk result (λ e. e ≡ map (λ r. r.items) rows.now) }
     {
         let mut edges = Edges::with_capacity(alloc, rows.len())?;
@@ -100,19 +114,21 @@ impl Edges {
         for node in 0..first.len() {
             numbers.extend_from_slice(first.row(node))?;
             numbers.extend_from_slice(second.row(node))?;
-            ends.push(numbers.len())?;
+            let end = short(numbers.len())?;
+            ends.push(end)?;
         }
         Ok(Edges { numbers, ends })
     }
 
-    /// Adds the prerequisites of one more node.
-    pub fn push_row(&mut self, prerequisites: &[usize]) -> Result<(), AllocError>
+    /// Adds the prerequisites of one more node. There is no memory for 2^32 numbers or more.
+    pub fn push_row(&mut self, prerequisites: &[u32]) -> Result<(), AllocError>
         ensures ok { OnOk result (self.new ≡ self.old ++ prerequisites.now ∷ []) }
         ensures err { OnErr result (self.new ≡ self.old) }
     {
+        let end = short(self.numbers.len() + prerequisites.len())?;
         self.ends.reserve(1)?;
         self.numbers.extend_from_slice(prerequisites)?;
-        self.ends.push(self.numbers.len()).unwrap();
+        self.ends.push(end).unwrap();
         Ok(())
     }
 
@@ -124,13 +140,28 @@ impl Edges {
     }
 
     /// The prerequisites of a node.
-    pub fn row(&self, node: usize) -> &[usize]
+    #[inline(always)]
+    pub fn row(&self, node: usize) -> &[u32]
         requires { node < length self.now }
         ensures { result.now ≡ row self.now node }
     {
-        let end = self.ends[node];
+        let end = self.ends[node] as usize;
         let start = start_of(&self.ends, node);
         &self.numbers[start..end]
+    }
+
+    /// How many prerequisites each node has.
+    pub(crate) fn lengths(&self, alloc: Global) -> Result<Vec<usize>, AllocError>
+        ensures { IfOk result (λ lengths. lengths.items ≡ map length self.now) }
+    {
+        let ends = self.ends.as_slice();
+        let mut lengths = Vec::with_capacity(alloc, ends.len())?;
+        let mut start = 0;
+        for end in ends {
+            lengths.push((*end - start) as usize)?;
+            start = *end;
+        }
+        Ok(lengths)
     }
 
     /// Whether each number in a row is that of a node.
@@ -160,14 +191,39 @@ impl Edges {
         let counts = counted(alloc, &self.numbers, self.len())?;
         let ends = ends_of(alloc, &counts)?;
         let mut next = starts_of(alloc, &ends)?;
-        let mut users = Vec::from_elem(alloc, 0, start_of(&ends, ends.len()))?;
-        for node in 0..self.len() {
-            note_user(node, self.row(node), &ends, &mut next, &mut users);
+        // Each of these numbers is written over; copying them is cheaper than setting as many zeros one by one.
+        let mut users = Vec::from_slice(alloc, self.numbers.as_slice())?;
+        users.truncate(start_of(&ends, ends.len()));
+        let nodes = short(self.len())?;
+        for node in 0..nodes {
+            note_user(node, self.row(node as usize), &ends, &mut next, &mut users);
         }
         Ok(Edges {
             numbers: users,
             ends,
         })
+    }
+
+    /// The same of the users of a graph, whose own rows have just the room that is needed: each gets its numbers back, in
+    /// their order.
+    pub(crate) fn reversed_into(&self, alloc: Global, rows: Edges) -> Result<Edges, AllocError>
+        requires closed { IsTrue (is_closed rows) }
+        requires users { HasUsers rows self.now }
+        ensures { IfOk result (AreUsers self.now) }
+    {
+        let Edges { mut numbers, ends } = rows;
+        let mut next = starts_of(alloc, &ends)?;
+        let nodes = short(self.len())?;
+        for node in 0..nodes {
+            note_user(
+                node,
+                self.row(node as usize),
+                &ends,
+                &mut next,
+                &mut numbers,
+            );
+        }
+        Ok(Edges { numbers, ends })
     }
 
     /// The same rows.

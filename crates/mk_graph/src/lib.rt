@@ -2,12 +2,15 @@
 //! that order nodes. Nothing here knows what a node stands for.
 #![tactic(auto)]
 
+mod chains;
 mod counting;
 mod cycles;
 mod edges;
+mod hashing;
 mod names;
 mod numbering;
 mod planning;
+mod texts;
 mod users;
 mod waiting;
 

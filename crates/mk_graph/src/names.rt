@@ -2,26 +2,36 @@
 
 ghost use Rattle.std.specs.Prelude.{◌≡◌, ℕ, ◌<◌, ◌≤◌, List, [], ◌∷◌, ◌++◌, length, map, nat_lt, true, false, not, is_some, IfOk, IfSome, OnOk, OnErr, MatchOption};
 ghost use Rattle.std.specs.List.{list_all};
+ghost use Rattle.std.specs.Str.{bytes_eq};
+ghost use Rattle.mk_graph.specs.Hashing.{hash_of};
 ghost use Rattle.mk_graph.specs.Numbering.{name_at, has_name, added, all_added};
 
+use crate::chains::{Link, bucket_of, make_room, put_last};
+use crate::hashing::hash_of;
+use crate::texts::Texts;
 use byte_strings::ByteStrings;
-use indexmap::IndexSet;
-use name_keys::{Name, NameRef};
+use name_keys::NameRef;
 use std::alloc::{AllocError, Global};
 use std::marker::Model;
 
-/// Names, each with a number: the place of its first mention.
+/// Names, each with a number: the place of its first mention. Their bytes lie one behind the other, and a name is found
+/// by its hash.
 #[derive(Drop)]
 pub struct Names {
-    set: IndexSet<Name>,
+    names: Texts,
+    links: Vec<Link>,
+    heads: Vec<u32>,
 }
 
 impl Model for Names {
     ghost use Rattle.std.specs.Prelude.{ℕ, List};
+    ghost use Rattle.mk_graph.specs.Links.{AreFoundBy};
 
     ghost Value = { List (List ℕ) };
 
-    ghost view = { λ n. n.set.keys };
+    ghost view = { λ n. n.names };
+
+    ghost invariant = { λ n. AreFoundBy n.names n.links.items n.heads.items };
 }
 
 impl Names {
@@ -30,7 +40,9 @@ impl Names {
         ensures { result ≡ [] }
     {
         Names {
-            set: IndexSet::new(alloc),
+            names: Texts::empty(alloc),
+            links: Vec::new(alloc),
+            heads: Vec::new(alloc),
         }
     }
 
@@ -38,7 +50,7 @@ impl Names {
     pub fn len(&self) -> usize
         ensures { result ≡ length self.now }
     {
-        self.set.len()
+        self.names.len()
     }
 
     /// The name with a number.
@@ -46,25 +58,66 @@ impl Names {
         requires { number < length self.now }
         ensures { result.now ≡ name_at self.now number }
     {
-        self.set.get_index(number).unwrap().as_slice()
+        self.names.text(number)
     }
 
-    /// The number of a name; None where it has none.
-    pub fn number_of(&self, name: &[u8]) -> Option<usize>
+    /// Whether a number is that of a name with this hash.
+    fn is_at(&self, number: usize, name: &[u8], hash: u32) -> bool
+        requires number { number < length self.now }
+        requires hash { hash ≡ hash_of name.now }
+        ensures { result ≡ bytes_eq name.now (name_at self.now number) }
+    {
+        if self.links[number].hash != hash {
+            return false;
+        }
+        NameRef { bytes: name }
+            == NameRef {
+                bytes: self.name(number),
+            }
+    }
+
+    /// The number of a name with this hash; None where it has none.
+    fn find(&self, name: &[u8], hash: u32) -> Option<u32>
+        requires { hash ≡ hash_of name.now }
         ensures number { IfSome result (λ n. (n < length self.now) × (name_at self.now n ≡ name.now)) }
         ensures none { is_some result ≡ has_name self.now name.now }
     {
-        self.set.get_index_of(NameRef { bytes: name })
+        if self.heads.is_empty() {
+            return None;
+        }
+        let mut place = self.heads[bucket_of(hash, self.heads.len())];
+        while place > 0 {
+            let number = place - 1;
+            if self.is_at(number as usize, name, hash) {
+                return Some(number);
+            }
+            place = self.links[number as usize].before;
+        }
+        None
     }
 
-    /// Gives the next number to a name that has none.
-    fn push(&mut self, alloc: Global, name: &[u8]) -> Result<(), AllocError>
-        requires { has_name self.old name.now ≡ false }
+    /// The number of a name; None where it has none.
+    pub fn number_of(&self, name: &[u8]) -> Option<u32>
+        ensures number { IfSome result (λ n. (n < length self.now) × (name_at self.now n ≡ name.now)) }
+        ensures none { is_some result ≡ has_name self.now name.now }
+    {
+        self.find(name, hash_of(name))
+    }
+
+    /// Gives the next number to a name that has none, and answers it.
+    fn push(&mut self, alloc: Global, name: &[u8], hash: u32) -> Result<u32, AllocError>
+        requires { hash ≡ hash_of name.now }
+        ensures number { IfOk result (λ n. n ≡ length self.old) }
         ensures ok { OnOk result (self.new ≡ self.old ++ name.now ∷ []) }
         ensures err { OnErr result (self.new ≡ self.old) }
     {
-        let _new = self.set.insert(Name::from_slice(alloc, name)?)?;
-        Ok(())
+        make_room(alloc, &mut self.links, &mut self.heads)?;
+        self.links.reserve(1)?;
+        self.names.push(name)?;
+        let number = self.links.len() as u32;
+        let before = put_last(&mut self.heads, hash, number + 1);
+        self.links.push(Link { hash, before }).unwrap();
+        Ok(number)
     }
 
     /// Takes in that a name is mentioned, and tells whether it is new.
@@ -73,24 +126,26 @@ impl Names {
         ensures ok { OnOk result (self.new ≡ added self.old name.now) }
         ensures err { OnErr result (self.new ≡ self.old) }
     {
-        if self.number_of(name).is_some() {
+        let hash = hash_of(name);
+        if self.find(name, hash).is_some() {
             return Ok(false);
         }
-        self.push(alloc, name)?;
+        let _number = self.push(alloc, name, hash)?;
         Ok(true)
     }
 
-    /// The number of a name, which is given the next one where it has none.
-    pub fn numbered(&mut self, alloc: Global, name: &[u8]) -> Result<usize, AllocError>
+    /// The number of a name, which is given the next one where it has none. It fails only where there is no memory for
+    /// one more.
+    pub fn numbered(&mut self, alloc: Global, name: &[u8]) -> Result<u32, AllocError>
         ensures ok { IfOk result (λ n. (self.new ≡ added self.old name.now) × (n < length self.new) × (name_at self.new n ≡ name.now)) }
         ensures err { OnErr result (self.new ≡ self.old) }
+        ensures absent { OnErr result (has_name self.old name.now ≡ false) }
     {
-        if let Some(number) = self.number_of(name) {
+        let hash = hash_of(name);
+        if let Some(number) = self.find(name, hash) {
             return Ok(number);
         }
-        let number = self.len();
-        self.push(alloc, name)?;
-        Ok(number)
+        self.push(alloc, name, hash)
     }
 
     /// The number of a name, which is given the next one where it has none; None where that would be past the limit.
@@ -104,15 +159,15 @@ impl Names {
             (self.new ≡ added self.old name.now) × (n < length self.new) × (name_at self.new n ≡ name.now))) }
         ensures within { IfOk result (λ number. IfSome number (λ _. length self.old ≤ limit → length self.new ≤ limit)) }
     {
-        if let Some(number) = self.number_of(name) {
-            return Ok(Some(number));
+        let hash = hash_of(name);
+        if let Some(number) = self.find(name, hash) {
+            return Ok(Some(number as usize));
         }
-        let number = self.len();
-        if number >= limit {
+        if self.len() >= limit {
             return Ok(None);
         }
-        self.push(alloc, name)?;
-        Ok(Some(number))
+        let number = self.push(alloc, name, hash)?;
+        Ok(Some(number as usize))
     }
 
     /// The numbers of names, in turn; None where one would be past the limit.

@@ -16,7 +16,7 @@ use std::alloc::{AllocError, AllocFailed, Global};
 #[derive(Drop)]
 pub struct Found<N> {
     /// The numbers of its prerequisites, in order; one may stand there more than once.
-    pub prerequisites: Vec<usize>,
+    pub prerequisites: Vec<u32>,
     pub node: N,
 }
 

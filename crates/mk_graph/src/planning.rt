@@ -13,17 +13,6 @@ use crate::edges::Edges;
 use std::alloc::{AllocError, Global};
 use std::collections::BTreeSet;
 
-/// How many prerequisites each node has.
-fn counts(alloc: Global, edges: &Edges) -> Result<Vec<usize>, AllocError>
-    ensures { IfOk result (λ missing. missing.items ≡ map length edges.now) }
-{
-    let mut missing = Vec::with_capacity(alloc, edges.len())?;
-    for node in 0..edges.len() {
-        missing.push(edges.row(node).len())?;
-    }
-    Ok(missing)
-}
-
 /// The least node from a number on that lacks nothing.
 fn first_open(missing: &[usize], from: usize) -> Option<usize>
     ensures some { IfSome result (λ n. is_open missing.now from n ≡ true) }
@@ -63,7 +52,7 @@ fn next_ready(ready: &mut BTreeSet<usize>, from: &mut usize, missing: &[usize]) 
 
 /// Counts down what each user lacks, and notes those below `from` that lack nothing more.
 fn count_down(
-    users: &[usize],
+    users: &[u32],
     from: usize,
     missing: &mut [usize],
     ready: &mut BTreeSet<usize>,
@@ -74,7 +63,7 @@ fn count_down(
         ≡ (contains nat_cmp ready.old q || (nat_lt q from && (has users.now q && nat_eq (slice_index missing.new q) 0)))) }
 {
     for user in users {
-        let node = *user;
+        let node = *user as usize;
         let lacks = missing[node] - 1;
         missing[node] = lacks;
         if lacks == 0 && node < from {
@@ -106,7 +95,7 @@ pub(crate) fn plan_by_users(
     ensures once { IfOk result (λ order. IsDistinct nat_eq order.items) }
     ensures nodes { IfOk result (λ order. list_all (λ n. nat_lt n (length edges.now)) order.items ≡ true) }
 {
-    let mut missing = counts(alloc, edges)?;
+    let mut missing = edges.lengths(alloc)?;
     let mut ready = BTreeSet::new(alloc);
     let mut from = 0;
     let mut order = Vec::with_capacity(alloc, edges.len())?;

@@ -7,24 +7,29 @@ ghost use Rattle.mk_graph.specs.Users.{ends_from, filled};
 
 use std::alloc::{AllocError, Global};
 
-/// How often each number below `nodes` stands in a list.
-pub fn counted(alloc: Global, numbers: &[usize], nodes: usize) -> Result<Vec<usize>, AllocError>
+/// How often each number below `nodes` stands in a list. There is no memory for counts of 2^32 or more.
+pub fn counted(alloc: Global, numbers: &[u32], nodes: usize) -> Result<Vec<u32>, AllocError>
     ensures nodes { IfOk result (λ counts. length counts.items ≡ nodes) }
     ensures times { IfOk result (λ counts. (n : ℕ) → n < nodes → slice_index counts.items n ≡ times n numbers.now) }
     ensures sum { IfOk result (λ counts. sum counts.items ≤ length numbers.now) }
+    ensures few { IfOk result (λ counts. sum counts.items < 2 ^ 32) }
 {
+    if numbers.len() > u32::MAX as usize {
+        return Err(AllocError);
+    }
     let mut counts = Vec::from_elem(alloc, 0, nodes)?;
     for number in numbers {
-        if *number < nodes {
-            counts[*number] += 1;
+        let node = *number as usize;
+        if node < nodes {
+            counts[node] += 1;
         }
     }
     Ok(counts)
 }
 
 /// Where rows of these lengths end that lie one behind the other.
-pub fn ends_of(alloc: Global, lengths: &[usize]) -> Result<Vec<usize>, AllocError>
-    requires { sum lengths.now < 2 ^ 63 }
+pub fn ends_of(alloc: Global, lengths: &[u32]) -> Result<Vec<u32>, AllocError>
+    requires { sum lengths.now < 2 ^ 32 }
     ensures { IfOk result (λ ends. ends.items ≡ ends_from 0 lengths.now) }
 {
     let mut ends = Vec::with_capacity(alloc, lengths.len())?;
@@ -37,25 +42,23 @@ pub fn ends_of(alloc: Global, lengths: &[usize]) -> Result<Vec<usize>, AllocErro
 }
 
 /// Where the rows begin that end there.
-pub fn starts_of(alloc: Global, ends: &[usize]) -> Result<Vec<usize>, AllocError>
+pub fn starts_of(alloc: Global, ends: &[u32]) -> Result<Vec<u32>, AllocError>
     ensures { IfOk result (λ starts. starts.items ≡ take (length ends.now) (0 ∷ ends.now)) }
 {
-    let mut starts = Vec::with_capacity(alloc, ends.len())?;
-    let mut start = 0;
-    for end in ends {
-        starts.push(start)?;
-        start = *end;
-    }
+    let mut starts = Vec::with_capacity(alloc, ends.len() + 1)?;
+    starts.push(0)?;
+    starts.extend_from_slice(ends)?;
+    starts.truncate(ends.len());
     Ok(starts)
 }
 
 /// Notes a node where the next user of each of its prerequisites goes, as often as it names it.
 pub fn note_user(
-    node: usize,
-    prerequisites: &[usize],
-    ends: &[usize],
-    next: &mut [usize],
-    users: &mut [usize],
+    node: u32,
+    prerequisites: &[u32],
+    ends: &[u32],
+    next: &mut [u32],
+    users: &mut [u32],
 )
     requires ends { AreEnds (length users.old) 0 ends.now }
     requires nodes { length next.old ≡ length ends.now }
@@ -66,10 +69,10 @@ pub fn note_user(
         ≡ filled users.old ends.now next.old n ++ replicate (times n prerequisites.now) node }
 {
     for prerequisite in prerequisites {
-        let number = *prerequisite;
+        let number = *prerequisite as usize;
         if number < ends.len() {
             let place = next[number];
-            users[place] = node;
+            users[place as usize] = node;
             next[number] = place + 1;
         }
     }

@@ -9,9 +9,9 @@ use std::alloc::{AllocError, Global};
 
 /// Adds prerequisites to the rows of some nodes.
 fn add_to_rows(
-    rows: &mut Vec<Vec<usize>>,
-    nodes: &[usize],
-    prerequisites: &[usize],
+    rows: &mut Vec<Vec<u32>>,
+    nodes: &[u32],
+    prerequisites: &[u32],
 ) -> Result<(), AllocError>
     requires { list_all (λ n. nat_lt n (length rows.old.items)) nodes.now ≡ true }
     ensures nodes { OnOk result (length rows.new.items ≡ length rows.old.items) }
@@ -19,7 +19,7 @@ fn add_to_rows(
         ≡ (has (row (map (λ r. r.items) rows.old.items) n) m || (has nodes.now n && has prerequisites.now m))) }
 {
     for node in nodes {
-        let row = &mut rows[*node];
+        let row = &mut rows[*node as usize];
         row.extend_from_slice(prerequisites)?;
     }
     Ok(())
@@ -31,8 +31,8 @@ fn add_to_rows(
 /// Where memory is refused, some of them may have been added.
 pub fn add_waits(
     alloc: Global,
-    rows: &mut Vec<Vec<usize>>,
-    groups: &[Vec<usize>],
+    rows: &mut Vec<Vec<u32>>,
+    groups: &[Vec<u32>],
 ) -> Result<(), AllocError>
     requires { list_all (λ group. list_all (λ n. nat_lt n (length rows.old.items)) group.items) groups.now ≡ true }
     ensures nodes { OnOk result (length rows.new.items ≡ length rows.old.items) }

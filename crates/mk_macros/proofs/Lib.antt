@@ -8,6 +8,7 @@ pub mod OutcomeLemmas
 pub mod PartLemmas
 pub mod PatternLemmas
 pub mod PlainLemmas
+pub mod SimpleLemmas
 pub mod SomeOutcomeLemmas
 pub mod SpelledLemmas
 pub mod StateLemmas

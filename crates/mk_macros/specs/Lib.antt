@@ -13,6 +13,8 @@ pub mod Ranks
 pub mod Reference
 -- Shown: how the crate's own values are seen by the model.
 pub mod Shown
+-- Simple: what is looked at where an expansion is made without macros' values.
+pub mod Simple
 -- Spelled: how a text is spelled of the forms at its front.
 pub mod Spelled
 -- Words: how a reference changes each word of a value.

@@ -57,6 +57,9 @@ impl Macros {
         if !has_reference(text) {
             return expand_plain(alloc, text);
         }
+        if let Some(made) = self.expand_simply(alloc, text, line)? {
+            return Ok(made);
+        }
         self.expand_in(alloc, self.profile(), text, line)
     }
 

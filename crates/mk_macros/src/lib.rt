@@ -10,6 +10,7 @@ mod lookup;
 mod mention;
 mod plain;
 mod reference;
+mod simple;
 mod substitution;
 
 pub use definitions::{Macros, Rank};

@@ -96,7 +96,14 @@ fn subject_at(
 fn has_dollar(text: &[u8]) -> bool
     ensures { result ≡ list_any is_dollar text.now }
 {
-    text.contains(&b'$')
+    // No byte ends the loop, so that many can be looked at at once.
+    let mut is_found = false;
+    let mut at = 0;
+    while at < text.len() {
+        is_found |= text[at] == b'$';
+        at += 1;
+    }
+    is_found
 }
 
 impl Notes {
@@ -121,7 +128,34 @@ impl Notes {
         }
     }
 
+    /// Notes the references of a text that has some.
+    #[inline(never)]
+    fn note_references(
+        &mut self,
+        alloc: Global,
+        profile: Profile,
+        file: &[u8],
+        line: usize,
+        text: &[u8],
+    ) -> Result<(), AllocError>
+        ensures found { OnOk result (self.new.found.items ≡ all_noted file.now line (subjects_in profile false text.now) self.old.found.items) }
+        ensures suffixes { self.new.suffixes ≡ self.old.suffixes }
+        ensures defined { self.new.defined ≡ self.old.defined }
+    {
+        let mut rest = text;
+        let mut is_behind = false;
+        while let Some((byte, after)) = rest.split_first() {
+            if is_behind && *byte != b'$' {
+                self.note_reference(alloc, profile, file, line, *byte, after)?;
+            }
+            is_behind = *byte == b'$' && !is_behind;
+            rest = after;
+        }
+        Ok(())
+    }
+
     /// Notes the references of a text.
+    #[inline]
     pub(crate) fn note_text(
         &mut self,
         alloc: Global,
@@ -137,15 +171,6 @@ impl Notes {
         if !has_dollar(text) {
             return Ok(());
         }
-        let mut rest = text;
-        let mut is_behind = false;
-        while let Some((byte, after)) = rest.split_first() {
-            if is_behind && *byte != b'$' {
-                self.note_reference(alloc, profile, file, line, *byte, after)?;
-            }
-            is_behind = *byte == b'$' && !is_behind;
-            rest = after;
-        }
-        Ok(())
+        self.note_references(alloc, profile, file, line, text)
     }
 }

@@ -8,6 +8,7 @@ use Rattle.std.proofs.Math.Seq.{drop-cons}
 use Rattle.std.proofs.lemmas.List.{append-nil}
 use Rattle.std.proofs.lemmas.List.Folds.{list_all-append, list_all-map}
 use Rattle.std.proofs.lemmas.Slice.Eq.{bytes_eq-Decides}
+use Rattle.std.proofs.lemmas.Str.{IsUtf8-from_ascii, is_utf8-from_IsUtf8}
 use Rattle.mk_graph.specs.Edges.{row}
 use Rattle.mk_graph.specs.Numbering.{name_at}
 use Rattle.mk_recipe.proofs.RecordedLemmas.{recorded_by}
@@ -23,11 +24,12 @@ use Rattle.mk_verdict.specs.declared.verdict.Prerequisite.{Prerequisite}
 use Rattle.mk_verdict.specs.declared.verdict.Reason.{Reason}
 use Rattle.mk_verdict.specs.declared.verdict.Reason.TheVariants.{NoEntry, WasBegun, WasFailed, CommandsChanged, PrerequisitesChanged, Absent, Newer, HiddenGone, Remade}
 use Rattle.mk_verdict.specs.declared.verdict.Target.{Target}
-use Rattle.mk_plan.specs.Finished.{leaves_hard, leaves_hidden, leaves_all, are_names_of, is_explicit, is_done, is_kept, PartGives}
+use Rattle.mk_plan.specs.Finished.{leaves_hard, leaves_hidden, has_text_name, leaves_all, are_names_of, is_explicit, is_done, is_kept, PartGives}
 use Rattle.mk_plan.specs.Nodes.{node_at, stamp_of, made_of, entry_of, hidden_of, explicit_of, is_marked}
 use Rattle.mk_plan.specs.Parts.{language_of, is_part, parts_of, recipe_line, recipe_of}
 use Rattle.mk_plan.specs.Passage.{finished}
 use Rattle.mk_plan.specs.Passing.{Passes, is_up_to_date}
+use Rattle.mk_plan.specs.TextNames.{HasTextNames}
 use Rattle.mk_plan.specs.Target.{Seen, shown, seen_at, seen_hard, seen_of}
 use Rattle.st_records.specs.declared.record.Entry.{Entry}
 use Rattle.st_records.specs.declared.record.Explicit.{Explicit}
@@ -61,6 +63,18 @@ all_weaker p q each (x ∷ xs) all =
     let (here, rest) = both (p x) (list_all p xs) all in
     both_true (q x) (list_all q xs) (each x here) (all_weaker p q each xs rest)
 
+all_both : {X : Type 0} (p q : X → Bool) (xs : List X) → list_all p xs ≡ true → list_all q xs ≡ true → list_all (λ x. p x && q x) xs ≡ true
+all_both p q [] e f = refl
+all_both p q (x ∷ xs) e f =
+    let (p_here, p_rest) = both (p x) (list_all p xs) e in
+    let (q_here, q_rest) = both (q x) (list_all q xs) f in
+    both_true (p x && q x) (list_all (λ y. p y && q y) xs) (both_true (p x) (q x) p_here q_here) (all_both p q xs p_rest q_rest)
+
+all_unless : {X : Type 0} (keeping : Bool) (q : X → Bool) (xs : List X) → (not keeping || list_all q xs) ≡ true → list_all (λ x. not keeping || q x) xs ≡ true
+all_unless true q xs e = e
+all_unless false q [] e = refl
+all_unless false q (x ∷ xs) e = all_unless false q xs refl
+
 -- ---- prerequisites
 
 abbrev as_seen : Seen → Prerequisite
@@ -91,6 +105,12 @@ hidden_quiet false absent text true false false e = refl
 hidden_quiet false true true false true orders e = refl
 hidden_quiet false false true false true orders e = refl
 hidden_quiet false absent text false false orders e = refl
+
+in_turn : (a b c : Bool) → ((a && c) && b) ≡ true → (a && (b && c)) ≡ true
+in_turn a b c e =
+    let (first, second) = both (a && c) b e in
+    let (one, other) = both a c first in
+    both_true a (b && c) one (both_true b c second other)
 
 gone_quiet : (keeping : Bool) → not keeping ≡ true → (not (keeping && true) && true) ≡ true
 gone_quiet true e = absurd cc
@@ -174,15 +194,22 @@ module _ (keeping : Bool) (graph : Graph) (marks : List Bool) (n : ℕ) where
   hard_passes : (m : ℕ) → leaves_hard graph marks (made_of graph n) m ≡ true → tests (as_seen (seen_hard graph marks m)) ≡ true
   hard_passes m e = hard_quiet (is_later (stamp_of graph m) (made_of graph n)) (is_marked marks m) keeping (not graph.soft_dropped) e
 
-  hidden_passes : (hidden : Option ℕ) → leaves_hidden keeping graph marks (made_of graph n) hidden ≡ true → tests (as_seen (seen_at graph marks true hidden)) ≡ true
-  hidden_passes None e = gone_quiet keeping e
+  -- the hidden prerequisite is no reason
+  abbrev leaves_whole : Option ℕ → Bool
+  leaves_whole hidden = leaves_hidden keeping graph marks (made_of graph n) hidden && (not keeping || has_text_name graph hidden)
+
+  hidden_passes : (hidden : Option ℕ) → leaves_whole hidden ≡ true → tests (as_seen (seen_at graph marks true hidden)) ≡ true
+  hidden_passes None e = gone_quiet keeping (both (not keeping) (not keeping || true) e).0
   hidden_passes (Some m) e =
       hidden_quiet (is_later (stamp_of graph m) (made_of graph n)) (is_none (stamp_of graph m)) (is_utf8 (name_at graph.names m)) (is_marked marks m)
-      keeping (not graph.soft_dropped) e
+      keeping (not graph.soft_dropped)
+      (in_turn (not (is_later (stamp_of graph m) (made_of graph n))) (not keeping || is_utf8 (name_at graph.names m))
+      (not (is_marked marks m && not graph.soft_dropped)) e)
 
   all_pass : list_all (leaves_hard graph marks (made_of graph n)) (row graph.hard n) ≡ true →
-      list_all (leaves_hidden keeping graph marks (made_of graph n)) (hidden_of graph n) ≡ true → list_all tests prerequisites ≡ true
-  all_pass hard hidden =
+      list_all (leaves_hidden keeping graph marks (made_of graph n)) (hidden_of graph n) ≡ true →
+      (not keeping || list_all (has_text_name graph) (hidden_of graph n)) ≡ true → list_all tests prerequisites ≡ true
+  all_pass hard hidden texts =
       let hards : List Seen = map (seen_hard graph marks) (row graph.hard n) in
       let hiddens : List Seen = map (seen_at graph marks true) (hidden_of graph n) in
       let test : Seen → Bool = λ s. tests (as_seen s) in
@@ -191,7 +218,9 @@ module _ (keeping : Bool) (graph : Graph) (marks : List Bool) (n : ℕ) where
       (list_all-map test (seen_hard graph marks) (row graph.hard n)
       ∙ all_weaker (leaves_hard graph marks (made_of graph n)) (λ m. test (seen_hard graph marks m)) hard_passes (row graph.hard n) hard)
       (list_all-map test (seen_at graph marks true) (hidden_of graph n)
-      ∙ all_weaker (leaves_hidden keeping graph marks (made_of graph n)) (λ m. test (seen_at graph marks true m)) hidden_passes (hidden_of graph n) hidden)
+      ∙ all_weaker leaves_whole (λ m. test (seen_at graph marks true m)) hidden_passes (hidden_of graph n)
+      (all_both (leaves_hidden keeping graph marks (made_of graph n)) (λ m. not keeping || has_text_name graph m) (hidden_of graph n) hidden
+      (all_unless keeping (has_text_name graph) (hidden_of graph n) texts)))
 
   module _ (entry : Entry) (at : entry_of graph n ≡ Some entry) (kept : is_kept graph n entry ≡ true) (leaves : leaves_all keeping graph marks n ≡ true) where
     of_entry : (P : Entry → Type 0) → IsSomeAnd (entry_of graph n) P → P entry
@@ -203,8 +232,9 @@ module _ (keeping : Bool) (graph : Graph) (marks : List Bool) (n : ℕ) where
     passes : list_all tests prerequisites ≡ true
     passes =
         let rest = (both (is_some (made_of graph n)) _ leaves).1 in
-        let (hard, hidden) = both (list_all (leaves_hard graph marks (made_of graph n)) (row graph.hard n)) _ rest in
-        all_pass hard hidden
+        let (hard, others) = both (list_all (leaves_hard graph marks (made_of graph n)) (row graph.hard n)) _ rest in
+        let (hidden, texts) = both (list_all (leaves_hidden keeping graph marks (made_of graph n)) (hidden_of graph n)) _ others in
+        all_pass hard hidden texts
 
     is_over : entry.phase ≡ phase.Done
     is_over = done_is entry.phase (both (is_done entry.phase) (is_explicit graph n entry.explicit) kept).0
@@ -253,3 +283,22 @@ module _ (keeping : Bool) (graph : Graph) (marks : List Bool) (n : ℕ) where
           IfOk got (λ so. OnTrue so (Passes keeping graph marks n false (finished (name_at graph.names n) ∷ [])))
       finished_if commands same (Ok so) gives = finished_so so (subst (λ cs. OnTrue so (PartGives graph marks n l cs)) same gives)
       finished_if commands same (Err e) gives = tt
+
+-- ---- names that are all UTF-8
+
+text_at : (names : List (List ℕ)) → list_all is_utf8 names ≡ true → (n : ℕ) → is_utf8 (name_at names n) ≡ true
+text_at [] all n = is_utf8-from_IsUtf8 [] (IsUtf8-from_ascii [] (λ i. omega arith))
+text_at (name ∷ names) all zero = (both (is_utf8 name) (list_all is_utf8 names) all).0
+text_at (name ∷ names) all (suc n) = text_at names (both (is_utf8 name) (list_all is_utf8 names) all).1 n
+
+texts_at : (graph : Graph) → HasTextNames graph → (hidden : List (Option ℕ)) → list_all (has_text_name graph) hidden ≡ true
+texts_at graph texts [] = refl
+texts_at graph texts (None ∷ hidden) = texts_at graph texts hidden
+texts_at graph texts (Some m ∷ hidden) = both_true (is_utf8 (name_at graph.names m)) _ (text_at graph.names texts m) (texts_at graph texts hidden)
+
+or_true : (a b : Bool) → b ≡ true → true ≡ (a || b)
+or_true true b e = refl
+or_true false b e = sym e
+
+pub readable : (keeping : Bool) (graph : Graph) → HasTextNames graph → (hidden : List (Option ℕ)) → true ≡ (not keeping || list_all (has_text_name graph) hidden)
+readable keeping graph texts hidden = or_true (not keeping) (list_all (has_text_name graph) hidden) (texts_at graph texts hidden)

@@ -53,3 +53,10 @@ pub gives_if_over : (meanings : Meanings) (recipe : List RecipeLine) (commands :
     drop i recipe ≡ [] → OnTrue over (left ≡ []) → GivesSoFar meanings recipe commands i left → OnTrue over (GivesCommands meanings recipe commands)
 gives_if_over meanings recipe commands i left true none nothing before = gives_all meanings recipe commands i left none nothing before
 gives_if_over meanings recipe commands i left false none nothing before = tt
+
+-- the same, whatever names mean
+pub each_if_over : (recipe : List RecipeLine) (commands : List (List ℕ)) (i : ℕ) (left : List (List ℕ)) (over : Bool) →
+    drop i recipe ≡ [] → OnTrue over (left ≡ []) → ((meanings : Meanings) → GivesSoFar meanings recipe commands i left) →
+    OnTrue over ((meanings : Meanings) → GivesCommands meanings recipe commands)
+each_if_over recipe commands i left true none nothing before = λ meanings. gives_all meanings recipe commands i left none nothing (before meanings)
+each_if_over recipe commands i left false none nothing before = tt

@@ -16,11 +16,10 @@ use Rattle.mk_rules.specs.declared.graph.Node.{Node}
 use Rattle.mk_rules.specs.declared.graph.Graph.{Graph}
 use Rattle.mk_plan.specs.Known.{IsNodeOf}
 use Rattle.st_records.specs.declared.record.Entry.{Entry}
-use Rattle.mk_plan.specs.Nodes.{made_in, entry_of}
+use Rattle.mk_plan.specs.Nodes.{group_in, made_in, entry_of}
 use Rattle.mk_plan.specs.Parts.{language_of, parts_of}
 use Rattle.mk_rules.specs.Groups.{group_of}
 use Rattle.mk_rules.specs.declared.group.Group.{Group}
-use Rattle.std.specs.Global.{Box}
 use Rattle.mk_plan.specs.Words.{implied_names}
 use Rattle.mk_graph.proofs.NameLemmas.{all_added-append}
 use Rattle.mk_rules.proofs.FreshLemmas.{front_added}
@@ -32,11 +31,6 @@ or_map f (Some x) d = refl
 some_map : {A B : Type 0} (f : A → B) (o : Option A) → is_some (option_map f o) ≡ is_some o
 some_map f None = refl
 some_map f (Some x) = refl
-
--- what is said of a box is said of what it holds
-unboxed : {V : Type 0} (of : Group → V) (o : Option (Box Group)) (v : V) → option_map_or (λ b. of b.value) o v ≡ option_map_or of (option_map (λ b. b.value) o) v
-unboxed of None v = refl
-unboxed of (Some b) v = refl
 
 module _ (inputs : Inputs) (named : List (List ℕ)) (graph : Graph) (is : IsGraph inputs named graph) (n : ℕ) (within : n < length graph.nodes.items) where
   abbrev parts_at : List RuleLine → Option ℕ → Option (List RuleLine)
@@ -52,29 +46,28 @@ module _ (inputs : Inputs) (named : List (List ℕ)) (graph : Graph) (is : IsGra
       let front : take (length (distinct made)) (hard_of inputs name) ≡ distinct made
       = ap (take (length (distinct made))) (all_added-append [] made (names_written inputs.lines name)) ∙ front_added (distinct made) (names_written inputs.lines name) in
       let implied_are : implied_names graph n ≡ distinct made
-      = ap (λ o. map (name_at graph.names) (implied_in o hard)) at ∙ sym (take-map (name_at graph.names) node.implied hard)
-      ∙ ap (take node.implied) hard_is ∙ ap (λ k. take k (hard_of inputs name)) known.implied ∙ front in
+      = ap (λ o. map (name_at graph.names) (implied_in o hard)) at ∙ sym (take-map (name_at graph.names) node.rare.implied hard)
+      ∙ ap (take node.rare.implied) hard_is ∙ ap (λ k. take k (hard_of inputs name)) known.implied ∙ front in
       let entry_is : entry_of graph n ≡ inputs.entries name = ap (λ (f : List ℕ → Option Entry). f name) is.entries in
       record {
         stamp = ap (option_and_then (λ (m : Node). m.stamp)) at ∙ known.stamp;
         made =
-            ap (option_and_then made_in) at ∙ unboxed (λ (g : Group). g.made) node.group node.stamp
+            ap (option_and_then made_in) at
             ∙ ap (λ (g : Option Group). option_map_or (λ (m : Group). m.made) g node.stamp) known.group
             ∙ ap (option_map_or (λ (m : Group). m.made) (group_of inputs name)) known.stamp;
         made_too =
-            ap (λ o. option_map_or (λ (g : Box Group). g.value.others) (option_and_then (λ (m : Node). m.group) o) []) at
-            ∙ unboxed (λ (g : Group). g.others) node.group []
+            ap (λ o. option_map_or (λ (g : Group). g.others) (option_and_then group_in o) []) at
             ∙ ap (λ (g : Option Group). option_map_or (λ (m : Group). m.others) g []) known.group;
         entry = entry_is;
         stem =
-            ap (λ o. unwrap_or (option_and_then (λ (m : Node). m.stem) o) []) at ∙ ap (λ o. unwrap_or o []) known.stem
+            ap (λ o. unwrap_or (option_and_then (λ (m : Node). m.rare.stem) o) []) at ∙ ap (λ o. unwrap_or o []) known.stem
             ∙ or_map (λ s. s.stem) (implicit_source inputs name) [];
         implicit =
-            ap (λ o. is_some (option_and_then (λ (m : Node). m.stem) o)) at ∙ ap is_some known.stem
+            ap (λ o. is_some (option_and_then (λ (m : Node). m.rare.stem) o)) at ∙ ap is_some known.stem
             ∙ some_map (λ s. s.stem) (implicit_source inputs name);
         source =
             ap (λ o. option_map_or (name_at graph.names) (source_in o hard) []) at
-            ∙ sym (or_map (name_at graph.names) (source_by node.implied hard) []) ∙ ap (λ o. unwrap_or o []) known.source;
+            ∙ sym (or_map (name_at graph.names) (source_by node.rare.implied hard) []) ∙ ap (λ o. unwrap_or o []) known.source;
         recipe =
             ap (λ o. parts_at graph.lines.items (option_and_then (λ (m : Node). m.recipe) o)) at
             ∙ ap (parts_at graph.lines.items) known.recipe

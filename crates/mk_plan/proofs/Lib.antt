@@ -6,6 +6,7 @@ pub mod PassingLemmas
 pub mod KeptLemmas
 pub mod FinishedLemmas
 pub mod SameLemmas
+pub mod SimpleLemmas
 pub mod AlikeLemmas
 pub mod OneNodeLemmas
 pub mod TellingLemmas

@@ -54,10 +54,10 @@ module _ (graph : Graph) (n : ℕ) (past : length graph.nodes.items ≤ n) where
   no_hidden = ap (λ o. option_map_or (λ (node : Node). node.hidden.items) o []) none
 
   no_stem : stem_of graph n ≡ []
-  no_stem = ap (λ o. unwrap_or (option_and_then (λ (node : Node). node.stem) o) []) none
+  no_stem = ap (λ o. unwrap_or (option_and_then (λ (node : Node). node.rare.stem) o) []) none
 
   not_implicit : is_implicit graph n ≡ false
-  not_implicit = ap (λ o. is_some (option_and_then (λ (node : Node). node.stem) o)) none
+  not_implicit = ap (λ o. is_some (option_and_then (λ (node : Node). node.rare.stem) o)) none
 
   no_source : source_of graph n ≡ []
   no_source = ap (λ o. option_map_or (name_at graph.names) (source_in o (row graph.hard n)) []) none

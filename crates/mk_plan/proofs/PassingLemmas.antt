@@ -1,5 +1,5 @@
 -- What a verdict says of a node that is passed.
-use Rattle.std.proofs.Common.{◌≡◌, ◌∙◌, ℕ, Bool, true, false, List, [], ◌∷◌, Option, Some, None, Result, Ok, Err, IfOk, sym, subst}
+use Rattle.std.proofs.Common.{◌≡◌, ◌∙◌, ℕ, Bool, true, false, List, [], ◌∷◌, Option, Some, None, Result, Ok, Err, IfOk, option_map, ap, sym, subst}
 use Rattle.mk_graph.specs.Numbering.{name_at}
 use Rattle.mk_recipe.specs.declared.line.Line.{Line}
 use Rattle.mk_verdict.specs.Verdict.{IsVerdict, IsFirstReason, IsOutOfDate}
@@ -11,7 +11,7 @@ use Rattle.mk_rule_lines.specs.declared.rule_line.RuleLine.{RuleLine}
 use Rattle.mk_rules.specs.declared.graph.Graph.{Graph}
 use Rattle.st_records.specs.declared.record.Entry.{Entry}
 use Rattle.mk_plan.specs.Nodes.{entry_of}
-use Rattle.mk_plan.specs.Parts.{recipe_of}
+use Rattle.mk_plan.specs.Parts.{language_of, parts_of, recipe_line, recipe_of}
 use Rattle.mk_plan.specs.Passage.{to_make, finished, commands_of}
 use Rattle.mk_plan.specs.Tests.{ends_remade}
 use Rattle.mk_plan.specs.Recipe.{AreLinesOf}
@@ -63,3 +63,12 @@ pub passed_bare : (keeping : Bool) (graph : Graph) (marks : List Bool) (n : ℕ)
     recipe_of graph n ≡ None → remade ≡ ends_remade graph marks n → Passes keeping graph marks n remade []
 passed_bare keeping graph marks n true has is = has_no_recipe has ((ends_remade-decides graph marks n).0 (sym is))
 passed_bare keeping graph marks n false has is = is_left has (λ ends. let e : false ≡ true = is ∙ (ends_remade-decides graph marks n).1 ends in cc)
+
+-- a node whose recipe no line has has none, and one whose recipe this line has or begins has these parts
+pub no_recipe : (graph : Graph) (n : ℕ) → recipe_line graph n ≡ None → recipe_of graph n ≡ None
+no_recipe graph n none = ap (option_map (parts_of (language_of graph) graph.lines.items (name_at graph.names n))) none
+
+pub recipe_by : (graph : Graph) (n : ℕ) (l : RuleLine) (parts : List RuleLine) → recipe_line graph n ≡ Some l →
+    parts ≡ parts_of (language_of graph) graph.lines.items (name_at graph.names n) l → recipe_of graph n ≡ Some parts
+recipe_by graph n l parts first are =
+    ap (option_map (parts_of (language_of graph) graph.lines.items (name_at graph.names n))) first ∙ ap Some (sym are)

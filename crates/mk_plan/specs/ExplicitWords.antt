@@ -25,7 +25,7 @@ first_of names = slice_index_or names 0 []
 
 -- an implicit rule makes node n
 abbrev pub is_implicit : Graph → (n : ℕ) → Bool
-is_implicit graph n = is_some (option_and_then (λ node. node.stem) (node_at graph n))
+is_implicit graph n = is_some (option_and_then (λ node. node.rare.stem) (node_at graph n))
 
 -- its recipe is its own, and in the wide profile
 abbrev pub has_words : Graph → (n : ℕ) → Bool

@@ -25,18 +25,24 @@ use Rattle.st_records.specs.declared.record.Phase.TheVariants as phase
 abbrev pub leaves_hard : Graph → (marks : List Bool) → (made : Option ℤ) → (m : ℕ) → Bool
 leaves_hard graph marks made m = not (is_later (stamp_of graph m) made) && not (is_marked marks m)
 
--- nor is a hidden one
+-- nor is a hidden one, but for its name
 abbrev pub leaves_hidden : (keeping : Bool) → Graph → (marks : List Bool) → (made : Option ℤ) → Option ℕ → Bool
 leaves_hidden keeping graph marks made None = not keeping
 leaves_hidden keeping graph marks made (Some m) =
-    not (is_later (stamp_of graph m) made) && ((not keeping || is_utf8 (name_at graph.names m)) && not (is_marked marks m && not graph.soft_dropped))
+    not (is_later (stamp_of graph m) made) && not (is_marked marks m && not graph.soft_dropped)
+
+-- its name is UTF-8, where it is a node
+abbrev pub has_text_name : Graph → Option ℕ → Bool
+has_text_name graph None = true
+has_text_name graph (Some m) = is_utf8 (name_at graph.names m)
 
 -- node n has its files, and no prerequisite is a reason to make it
 abbrev pub leaves_all : (keeping : Bool) → Graph → (marks : List Bool) → (n : ℕ) → Bool
 leaves_all keeping graph marks n =
     is_some (made_of graph n)
     && (list_all (leaves_hard graph marks (made_of graph n)) (row graph.hard n)
-    && list_all (leaves_hidden keeping graph marks (made_of graph n)) (hidden_of graph n))
+    && (list_all (leaves_hidden keeping graph marks (made_of graph n)) (hidden_of graph n)
+    && (not keeping || list_all (has_text_name graph) (hidden_of graph n))))
 
 -- these are the names of the nodes, one by one
 abbrev pub are_names_of : Graph → (nodes : List ℕ) → (names : List (List ℕ)) → Bool

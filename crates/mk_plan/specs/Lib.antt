@@ -8,8 +8,10 @@ pub mod Parts
 pub mod Passage
 pub mod Passing
 pub mod Recipe
+pub mod Simple
 pub mod Target
 pub mod Telling
 pub mod Tests
+pub mod TextNames
 pub mod Why
 pub mod Words

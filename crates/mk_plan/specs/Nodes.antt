@@ -1,5 +1,5 @@
 -- What a graph has under a number. Past the end there is nothing.
-use Rattle.std.specs.Prelude.{◌≡◌, ◌⊎◌, ℕ, ℤ, Bool, false, IsTrue, List, [], ◌∷◌, map, slice_get, slice_index_or, Option, None, option_and_then, unwrap_or}
+use Rattle.std.specs.Prelude.{◌≡◌, ◌⊎◌, ℕ, ℤ, Bool, false, IsTrue, List, [], ◌∷◌, map, slice_get, slice_index_or, Option, None, option_map, option_and_then, unwrap_or}
 use Rattle.std.specs.FinMap as finmap
 use Rattle.std.specs.List.{Any}
 use Rattle.std.specs.Option.{option_map_or}
@@ -9,6 +9,7 @@ use Rattle.mk_verdict.specs.Verdict.{IsLater}
 use Rattle.mk_rules.specs.Node.{source_in, explicit_in}
 use Rattle.mk_rules.specs.declared.graph.Node.{Node}
 use Rattle.mk_rules.specs.declared.graph.Graph.{Graph}
+use Rattle.mk_rules.specs.declared.group.Group.{Group}
 use Rattle.st_records.specs.declared.record.Entry.{Entry}
 
 abbrev pub node_at : Graph → (n : ℕ) → Option Node
@@ -18,17 +19,21 @@ node_at graph n = slice_get graph.nodes.items n
 abbrev pub stamp_of : Graph → (n : ℕ) → Option ℤ
 stamp_of graph n = option_and_then (λ node. node.stamp) (node_at graph n)
 
+-- what its recipe makes beside it, where it is that of an implicit rule and makes more
+abbrev pub group_in : Node → Option Group
+group_in node = option_map (λ g. g.value) node.rare.group
+
 -- when all that its recipe makes was made: the time of its file, and where the recipe makes more, the earliest of all; none where a file
 -- is missing
 abbrev pub made_in : Node → Option ℤ
-made_in node = option_map_or (λ g. g.value.made) node.group node.stamp
+made_in node = option_map_or (λ g. g.made) (group_in node) node.stamp
 
 abbrev pub made_of : Graph → (n : ℕ) → Option ℤ
 made_of graph n = option_and_then made_in (node_at graph n)
 
 -- what its recipe makes beside it
 abbrev pub made_beside : Graph → (n : ℕ) → List (List ℕ)
-made_beside graph n = option_map_or (λ g. g.value.others) (option_and_then (λ node. node.group) (node_at graph n)) []
+made_beside graph n = option_map_or (λ g. g.others) (option_and_then group_in (node_at graph n)) []
 
 -- what the state has of its name
 abbrev pub entry_of : Graph → (n : ℕ) → Option Entry
@@ -40,7 +45,7 @@ hidden_of graph n = option_map_or (λ node. node.hidden.items) (node_at graph n)
 
 -- its stem, where an implicit rule makes it; else nothing
 abbrev pub stem_of : Graph → (n : ℕ) → List ℕ
-stem_of graph n = unwrap_or (option_and_then (λ node. node.stem) (node_at graph n)) []
+stem_of graph n = unwrap_or (option_and_then (λ node. node.rare.stem) (node_at graph n)) []
 
 -- the name of its implicit source; else nothing
 abbrev pub source_of : Graph → (n : ℕ) → List ℕ

@@ -17,7 +17,7 @@ fn is_implicit(graph: &Graph, node: usize) -> bool
     ensures { result ≡ is_implicit graph.now node }
 {
     match graph.nodes.get(node) {
-        Some(node) => node.stem.is_some(),
+        Some(node) => node.stem().is_some(),
         None => false,
     }
 }
@@ -43,7 +43,7 @@ fn first_hard(graph: &Graph, node: usize) -> &[u8]
     ensures { result.now ≡ first_of (once_of graph.now node) }
 {
     match graph.hard.row(node) {
-        [first, ..] => name_of(graph, *first),
+        [first, ..] => name_of(graph, *first as usize),
         [] => &[],
     }
 }

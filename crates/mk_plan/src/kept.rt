@@ -1,5 +1,5 @@
 //! Whether a recipe gives just the commands that the state has, without a list of what it gives.
-ghost use Rattle.std.specs.Prelude.{◌≡◌, ◌<◌, [], false, length, IfOk};
+ghost use Rattle.std.specs.Prelude.{◌≡◌, ◌<◌, false, length, IfOk};
 ghost use Rattle.std.specs.Bool.{OnTrue};
 ghost use Rattle.mk_macros.specs.Ranks.{defined_by, meanings_of};
 ghost use Rattle.mk_plan.specs.Finished.{GivesFirst, GivesCommands, PartGives};
@@ -7,13 +7,14 @@ ghost use Rattle.mk_plan.specs.Parts.{language_of, is_part};
 ghost use Rattle.mk_plan.specs.Recipe.{AreRecipeWords};
 
 use crate::recipe::names_for;
+use crate::simple::{gives_simply, is_over};
 use crate::words::{RecipeWords, explicit_names, recipe_words};
-use byte_strings::Iter;
 use mk_macros::{Dynamic, Macros};
 use mk_reader::RecipeLine;
 use mk_recipe::kept_text;
 use mk_rule_lines::RuleLine;
 use mk_rules::Graph;
+use st_records::Strings;
 use std::alloc::{AllocError, Global};
 
 /// Takes what a line gives the state to keep from the front of these commands; false where it doesn't stand there. A faulty line
@@ -23,7 +24,7 @@ fn takes_first(
     macros: &Macros,
     dynamic: &Dynamic<'_>,
     raw: &RecipeLine,
-    commands: &mut Iter<'_>,
+    commands: &mut Strings<'_>,
 ) -> bool
     ensures { OnTrue result (GivesFirst (meanings_of (defined_by macros.now) dynamic.now) raw.now commands.old commands.new) }
 {
@@ -40,20 +41,13 @@ fn takes_first(
     }
 }
 
-fn is_over(commands: Iter<'_>) -> bool
-    ensures { OnTrue result (commands.entry ≡ []) }
-{
-    let mut commands = commands;
-    commands.next().is_none()
-}
-
 /// Whether these are the commands that the lines give the state to keep.
 fn gives_commands(
     alloc: Global,
     macros: &Macros,
     dynamic: &Dynamic<'_>,
     recipe: &[RecipeLine],
-    commands: Iter<'_>,
+    commands: Strings<'_>,
 ) -> bool
     ensures { OnTrue result (GivesCommands (meanings_of (defined_by macros.now) dynamic.now) recipe.now commands.entry) }
 {
@@ -74,7 +68,7 @@ fn gives_with(
     node: usize,
     line: &RuleLine,
     words: &RecipeWords<'_>,
-    commands: Iter<'_>,
+    commands: Strings<'_>,
 ) -> bool
     requires node { node < length graph.now.nodes.items }
     requires words { AreRecipeWords graph.now marks.now node line.now words.now }
@@ -91,13 +85,13 @@ fn gives_with(
 }
 
 /// Whether these are the commands that the recipe gives the state to keep which a node has of this line alone.
-pub fn is_kept_so(
+fn is_expanded_so(
     alloc: Global,
     graph: &Graph,
     marks: &[bool],
     node: usize,
     line: &RuleLine,
-    commands: Iter<'_>,
+    commands: Strings<'_>,
 ) -> Result<bool, AllocError>
     requires node { node < length graph.now.nodes.items }
     requires alone { is_part (language_of graph.now) line.now ≡ false }
@@ -106,4 +100,23 @@ pub fn is_kept_so(
     let explicit = explicit_names(alloc, graph, node)?;
     let words = recipe_words(alloc, graph, marks, node, line, &explicit)?;
     Ok(gives_with(alloc, graph, marks, node, line, &words, commands))
+}
+
+/// As `is_expanded_so`. Most recipes that are up to date are found so without being expanded.
+pub fn is_kept_so(
+    alloc: Global,
+    graph: &Graph,
+    marks: &[bool],
+    node: usize,
+    line: &RuleLine,
+    commands: &Strings<'_>,
+) -> Result<bool, AllocError>
+    requires node { node < length graph.now.nodes.items }
+    requires alone { is_part (language_of graph.now) line.now ≡ false }
+    ensures { IfOk result (λ so. OnTrue so (PartGives graph.now marks.now node line.now commands.now)) }
+{
+    if gives_simply(line.recipe.lines(), commands.iter()) {
+        return Ok(true);
+    }
+    is_expanded_so(alloc, graph, marks, node, line, commands.iter())
 }

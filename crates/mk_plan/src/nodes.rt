@@ -11,7 +11,7 @@ ghost use Rattle.mk_plan.specs.Tests.{is_newer_word, newer_words, ends_remade};
 
 use byte_strings::ByteStrings;
 use mk_rules::Graph;
-use st_records::Entry;
+use st_records::PackedEntry;
 use std::alloc::{AllocError, Global};
 
 pub fn name_of(graph: &Graph, node: usize) -> &[u8]
@@ -29,7 +29,7 @@ pub fn stamp_of(graph: &Graph, node: usize) -> Option<i128>
     ensures { result ≡ stamp_of graph.now node }
 {
     match graph.nodes.get(node) {
-        Some(node) => node.stamp,
+        Some(node) => node.stamp.get(),
         None => None,
     }
 }
@@ -39,9 +39,9 @@ pub fn made_of(graph: &Graph, node: usize) -> Option<i128>
     ensures { result ≡ made_of graph.now node }
 {
     let node = graph.nodes.get(node)?;
-    match &node.group {
+    match node.group() {
         Some(group) => group.made,
-        None => node.stamp,
+        None => node.stamp.get(),
     }
 }
 
@@ -52,17 +52,28 @@ pub fn made_beside(alloc: Global, graph: &Graph, node: usize) -> Result<ByteStri
     let Some(node) = graph.nodes.get(node) else {
         return Ok(ByteStrings::empty(alloc));
     };
-    match &node.group {
+    match node.group() {
         Some(group) => group.others.copy(alloc),
         None => Ok(ByteStrings::empty(alloc)),
     }
 }
 
+/// Where the state may have a node's name.
+fn place_of(graph: &Graph, node: usize) -> usize {
+    match graph.nodes.get(node) {
+        Some(node) => node.place as usize,
+        None => 0,
+    }
+}
+
 /// What the state has of a node's name.
-pub fn entry_of(graph: &Graph, node: usize) -> Option<&Entry>
+pub fn entry_of(graph: &Graph, node: usize) -> Option<&PackedEntry>
     ensures { option_copied result ≡ entry_of graph.now node }
 {
-    graph.state.get(name_of(graph, node))
+    let (entry, _next) = graph
+        .state
+        .near(name_of(graph, node), place_of(graph, node));
+    entry
 }
 
 /// The stem of a node that an implicit rule makes, and else nothing.
@@ -70,7 +81,7 @@ pub fn stem_of(graph: &Graph, node: usize) -> &[u8]
     ensures { result.now ≡ stem_of graph.now node }
 {
     match graph.nodes.get(node) {
-        Some(node) => match &node.stem {
+        Some(node) => match node.stem() {
             Some(stem) => stem.as_slice(),
             None => &[],
         },
@@ -90,10 +101,10 @@ pub fn source_of(graph: &Graph, node: usize) -> &[u8]
 }
 
 /// How many bytes the names of these nodes have, as far as a number goes.
-fn size_of(graph: &Graph, nodes: &[usize]) -> usize {
+fn size_of(graph: &Graph, nodes: &[u32]) -> usize {
     let mut size = 0usize;
     for node in nodes {
-        size = size.saturating_add(name_of(graph, *node).len());
+        size = size.saturating_add(name_of(graph, *node as usize).len());
     }
     size
 }
@@ -106,7 +117,7 @@ pub fn explicit_of(alloc: Global, graph: &Graph, node: usize) -> Result<ByteStri
     let explicit = graph.explicit(node);
     let mut names = ByteStrings::with_capacity(alloc, explicit.len(), size_of(graph, explicit))?;
     for prerequisite in graph.explicit(node) {
-        names.push(name_of(graph, *prerequisite))?;
+        names.push(name_of(graph, *prerequisite as usize))?;
     }
     Ok(names)
 }
@@ -153,18 +164,18 @@ pub fn newer_words<'g>(
 {
     let mut words = Vec::new(alloc);
     for prerequisite in graph.hard.row(node) {
-        if is_newer_word(graph, marks, node, *prerequisite) {
-            words.push(name_of(graph, *prerequisite))?;
+        if is_newer_word(graph, marks, node, *prerequisite as usize) {
+            words.push(name_of(graph, *prerequisite as usize))?;
         }
     }
     Ok(words)
 }
 
 /// Whether some of the nodes is marked.
-fn is_any_marked(marks: &[bool], nodes: &[usize]) -> bool
+fn is_any_marked(marks: &[bool], nodes: &[u32]) -> bool
     ensures { result ≡ list_any (is_marked marks.now) nodes.now }
 {
-    nodes.iter().any(|node| is_marked(marks, *node))
+    nodes.iter().any(|node| is_marked(marks, *node as usize))
 }
 
 /// Whether a node without a recipe counts as remade.

@@ -74,8 +74,9 @@ fn newer_among<'g>(
 {
     let mut words = Vec::new(alloc);
     for prerequisite in graph.hard.row(node) {
-        let name = name_of(graph, *prerequisite);
-        if names.number_of(name).is_some() && is_newer_word(graph, marks, node, *prerequisite) {
+        let number = *prerequisite as usize;
+        let name = name_of(graph, number);
+        if names.number_of(name).is_some() && is_newer_word(graph, marks, node, number) {
             words.push(name)?;
         }
     }

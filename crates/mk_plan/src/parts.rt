@@ -5,7 +5,7 @@ ghost use Rattle.mk_graph.specs.Numbering.{name_at};
 ghost use Rattle.mk_rule_lines.specs.Doubles.{double_lines};
 ghost use Rattle.mk_rule_lines.specs.Explicit.{numbers_of};
 ghost use Rattle.mk_rule_lines.specs.Table.{named_at};
-ghost use Rattle.mk_plan.specs.Parts.{language_of, recipe_line, is_part, parts_of, recipe_of, file_of, line_place};
+ghost use Rattle.mk_plan.specs.Parts.{language_of, recipe_line, is_part, parts_of, file_of, line_place};
 
 use crate::nodes::name_of;
 use mk_rule_lines::{RuleLine, TargetTable, double_lines};
@@ -16,7 +16,7 @@ use std::alloc::{AllocError, Global};
 pub fn recipe_line(graph: &Graph, node: usize) -> Option<&RuleLine>
     ensures { option_copied result ≡ recipe_line graph.now node }
 {
-    let number = graph.nodes.get(node)?.recipe?;
+    let number = graph.nodes.get(node)?.recipe.get()?;
     graph.lines.get(number)
 }
 
@@ -48,8 +48,8 @@ fn one_part<'g>(alloc: Global, line: &'g RuleLine) -> Result<Vec<&'g RuleLine>, 
     Ok(parts)
 }
 
-/// The lines whose recipes make a node, where this one's does.
-fn parts_of<'g>(
+/// The lines whose recipes, one behind the other, are that of a node, where this one's is the first.
+pub fn parts_of<'g>(
     alloc: Global,
     graph: &'g Graph,
     node: usize,
@@ -63,20 +63,6 @@ fn parts_of<'g>(
             double_parts(alloc, &graph.lines, targets, name_of(graph, node))
         }
         _ => one_part(alloc, line),
-    }
-}
-
-/// The lines whose recipes, one behind the other, are that of a node.
-pub fn recipe_of<'g>(
-    alloc: Global,
-    graph: &'g Graph,
-    node: usize,
-) -> Result<Option<Vec<&'g RuleLine>>, AllocError>
-    ensures { IfOk result (λ found. option_map (λ parts. map (λ l. l.now) parts.items) found ≡ recipe_of graph.now node) }
-{
-    match recipe_line(graph, node) {
-        Some(line) => Ok(Some(parts_of(alloc, graph, node, line)?)),
-        None => Ok(None),
     }
 }
 

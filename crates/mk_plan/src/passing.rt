@@ -1,15 +1,16 @@
 //! One node of a graph passed: whether its recipe is to be run, and with which lines.
-ghost use Rattle.std.specs.Prelude.{◌≡◌, ◌<◌, ℕ, Some, length, map, IfOk, IfErr};
+ghost use Rattle.std.specs.Prelude.{◌≡◌, ◌<◌, ℕ, true, Some, length, map, IfOk, IfErr};
 ghost use Rattle.std.specs.List.{list_any};
 ghost use Rattle.mk_rules.specs.declared.graph.Graph.{Graph as Plan};
-ghost use Rattle.mk_plan.specs.Parts.{recipe_of};
+ghost use Rattle.mk_plan.specs.Parts.{recipe_of, recipe_line};
 ghost use Rattle.mk_plan.specs.Passage.{is_listed};
 ghost use Rattle.mk_plan.specs.Passing.{Passes, IsFaultAt, is_remade, told_in};
+ghost use Rattle.mk_plan.specs.TextNames.{HasTextNames};
 
 use crate::fault::RecipeFault;
 use crate::finished::is_finished;
 use crate::nodes::ends_remade;
-use crate::parts::recipe_of;
+use crate::parts::{parts_of, recipe_line};
 use crate::recipe::lines_of;
 use crate::target::judge_node;
 use crate::why::Why;
@@ -78,7 +79,52 @@ fn pass_recipe(
     }
 }
 
-/// Passes a node, where the marks are those of the nodes that were remade before it.
+/// Passes a node whose recipe this line has, or begins.
+fn pass_line(
+    alloc: Global,
+    keeping: bool,
+    texts: bool,
+    graph: &Graph,
+    marks: &[bool],
+    node: usize,
+    line: &RuleLine,
+) -> Result<Passed, RecipeFault>
+    requires node { node < length graph.now.nodes.items }
+    requires texts { texts ≡ true → HasTextNames graph.now }
+    requires line { recipe_line graph.now node ≡ Some line.now }
+    ensures passes { IfOk result (λ p. Passes keeping graph.now marks.now node (is_remade p) (told_in graph.now node p)) }
+    ensures fault { IfErr result (IsFaultAt graph.now marks.now node) }
+{
+    if is_finished(alloc, keeping, texts, graph, marks, node, line)? {
+        return Ok(Passed::UpToDate);
+    }
+    let recipe = parts_of(alloc, graph, node, line)?;
+    pass_recipe(alloc, keeping, graph, marks, node, &recipe)
+}
+
+/// Passes a node, where the marks are those of the nodes that were remade before it, and where it may be known that all names are
+/// UTF-8, which `has_text_names` tells.
+pub fn pass_in(
+    alloc: Global,
+    keeping: bool,
+    texts: bool,
+    graph: &Graph,
+    marks: &[bool],
+    node: usize,
+) -> Result<Passed, RecipeFault>
+    requires node { node < length graph.now.nodes.items }
+    requires texts { texts ≡ true → HasTextNames graph.now }
+    ensures passes { IfOk result (λ p. Passes keeping graph.now marks.now node (is_remade p) (told_in graph.now node p)) }
+    ensures fault { IfErr result (IsFaultAt graph.now marks.now node) }
+{
+    match recipe_line(graph, node) {
+        Some(line) => pass_line(alloc, keeping, texts, graph, marks, node, line),
+        None if ends_remade(graph, marks, node) => Ok(Passed::Remade),
+        None => Ok(Passed::Left),
+    }
+}
+
+/// As `pass_in`, of one node, where nothing is known of the names.
 pub fn pass(
     alloc: Global,
     keeping: bool,
@@ -90,12 +136,5 @@ pub fn pass(
     ensures passes { IfOk result (λ p. Passes keeping graph.now marks.now node (is_remade p) (told_in graph.now node p)) }
     ensures fault { IfErr result (IsFaultAt graph.now marks.now node) }
 {
-    if is_finished(alloc, keeping, graph, marks, node)? {
-        return Ok(Passed::UpToDate);
-    }
-    match recipe_of(alloc, graph, node)? {
-        Some(recipe) => pass_recipe(alloc, keeping, graph, marks, node, &recipe),
-        None if ends_remade(graph, marks, node) => Ok(Passed::Remade),
-        None => Ok(Passed::Left),
-    }
+    pass_in(alloc, keeping, false, graph, marks, node)
 }

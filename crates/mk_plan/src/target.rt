@@ -8,7 +8,7 @@ ghost use Rattle.mk_plan.specs.Why.{IsJudgedSo};
 use crate::nodes::{explicit_of, is_marked, made_of, name_of, stamp_of};
 use crate::why::{Why, why_of};
 use mk_recipe::{Line, Prerequisite, Target, recorded};
-use mk_rules::Graph;
+use mk_rules::{Graph, ShortNumber};
 use std::alloc::{AllocError, Global};
 
 /// A prerequisite that is a node. It has a file or a rule, or else it would be none.
@@ -41,7 +41,7 @@ fn hidden_seen<'g>(graph: &'g Graph, marks: &[bool], hidden: Option<usize>) -> P
 }
 
 /// The hidden prerequisites of a node that are no hard ones.
-pub fn hidden_of(graph: &Graph, node: usize) -> &[Option<usize>]
+pub fn hidden_of(graph: &Graph, node: usize) -> &[ShortNumber]
     ensures { result.now ≡ hidden_of graph.now node }
 {
     match graph.nodes.get(node) {
@@ -67,10 +67,10 @@ fn prerequisites_of<'g>(
         .saturating_add(hidden_of(graph, node).len());
     let mut found = Vec::with_capacity(alloc, count)?;
     for hard in graph.hard.row(node) {
-        found.push(node_seen(graph, marks, *hard, false))?;
+        found.push(node_seen(graph, marks, *hard as usize, false))?;
     }
     for hidden in hidden_of(graph, node) {
-        found.push(hidden_seen(graph, marks, *hidden))?;
+        found.push(hidden_seen(graph, marks, hidden.get()))?;
     }
     Ok(found)
 }

@@ -13,6 +13,7 @@ use crate::why::Why;
 use byte_strings::{ByteStrings, Iter};
 use mk_recipe::{Line, Reason, recorded};
 use mk_rules::Graph;
+use st_records::Strings;
 use std::alloc::{AllocError, Global};
 
 /// How much is told of targets with a recipe.
@@ -59,7 +60,7 @@ fn push_if_any(
 }
 
 /// The first texts in which two lists differ, of the one and of the other.
-fn difference<'s>(was: Iter<'s>, is: Iter<'s>) -> (Option<&'s [u8]>, Option<&'s [u8]>)
+fn difference<'s>(was: Strings<'s>, is: Iter<'s>) -> (Option<&'s [u8]>, Option<&'s [u8]>)
     ensures { (option_copied result.0, option_copied result.1) ≡ difference was.entry is.entry }
 {
     let mut others = is;
@@ -73,12 +74,12 @@ fn difference<'s>(was: Iter<'s>, is: Iter<'s>) -> (Option<&'s [u8]>, Option<&'s 
 }
 
 /// The commands that the state has of a node.
-fn known_commands(graph: &Graph, node: usize) -> Iter<'_>
+fn known_commands(graph: &Graph, node: usize) -> Strings<'_>
     ensures { result ≡ commands_of graph.now node }
 {
     match entry_of(graph, node) {
-        Some(entry) => entry.commands.iter(),
-        None => Iter::empty(),
+        Some(entry) => entry.commands(),
+        None => Strings::empty(),
     }
 }
 

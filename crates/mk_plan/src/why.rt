@@ -32,12 +32,12 @@ fn mention_nodes(
     alloc: Global,
     names: &mut Names,
     graph: &Graph,
-    nodes: &[usize],
+    nodes: &[u32],
 ) -> Result<(), AllocError>
     ensures { OnOk result (names.new ≡ all_added names.old (map (name_at graph.now.names) nodes.now)) }
 {
     for node in nodes {
-        let _is_new = names.mention(alloc, name_of(graph, *node))?;
+        let _is_new = names.mention(alloc, name_of(graph, *node as usize))?;
     }
     Ok(())
 }
@@ -51,7 +51,7 @@ fn mention_hidden(
     ensures { OnOk result (names.new ≡ all_added names.old (hidden_in (entry_of graph.now node))) }
 {
     if let Some(entry) = entry_of(graph, node) {
-        for name in entry.hidden.iter() {
+        for name in entry.hidden() {
             let _is_new = names.mention(alloc, name)?;
         }
     }

@@ -43,7 +43,7 @@ fn hard_words<'g>(alloc: Global, graph: &'g Graph, node: usize) -> Result<Vec<&'
 {
     let mut words = Vec::new(alloc);
     for prerequisite in graph.hard.row(node) {
-        words.push(name_of(graph, *prerequisite))?;
+        words.push(name_of(graph, *prerequisite as usize))?;
     }
     Ok(words)
 }
@@ -115,7 +115,7 @@ fn implied_words<'g>(
 {
     let mut words = Vec::new(alloc);
     for prerequisite in graph.implied(node) {
-        words.push(name_of(graph, *prerequisite))?;
+        words.push(name_of(graph, *prerequisite as usize))?;
     }
     Ok(words)
 }
@@ -179,7 +179,7 @@ fn words_behind_the_bar<'g>(
 {
     let mut words = Vec::new(alloc);
     for prerequisite in graph.order_only(node) {
-        words.push(name_of(graph, *prerequisite))?;
+        words.push(name_of(graph, *prerequisite as usize))?;
     }
     Ok(words)
 }

@@ -28,7 +28,7 @@ module _ (p : ℕ → Bool) where
       ap (λ t. cond t (1 + prefix_len p (bs ++ rest)) 0) parts.0 ∙ ap (λ n. 1 + n) (prefix_cut bs rest parts.1 e) ∙ more
 
   -- a text is cut behind the bytes that pass
-  prefix_parts : (text : List ℕ) → (list_all p (take (prefix_len p text) text) ≡ true) × (starts (drop (prefix_len p text) text) ≡ false)
+  pub prefix_parts : (text : List ℕ) → (list_all p (take (prefix_len p text) text) ≡ true) × (starts (drop (prefix_len p text) text) ≡ false)
   prefix_parts [] = (refl, refl)
   prefix_parts (b ∷ bs) =
       let more : 1 + prefix_len p bs ≡ suc (prefix_len p bs) = omega arith in

@@ -100,7 +100,7 @@ module _ (file : List ℕ) (number : ℕ) (profile : Profile) where
       (λ t. (content, has, inr (t, (trimmed content, trimmed_padded content, line_said (trimmed content)))))
       (λ f. (content, has, inl (f, refl)))
 
-  text_back : (text : List ℕ) (told : Told) → IsTextLine profile file number text told → statement_form profile file number text ≡ told
+  pub text_back : (text : List ℕ) (told : Told) → IsTextLine profile file number text told → statement_form profile file number text ≡ told
   unfolding statement_form content_form
   text_back text told (content, has, inl (bad, e)) =
       ap (λ c. cond (is_text c) (line_form profile file number (trimmed c)) (Err (refusal file number cause.NotText))) (content_is profile text content has)

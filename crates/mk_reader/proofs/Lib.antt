@@ -8,6 +8,7 @@ pub mod JoinedLemmas
 pub mod LinesLemmas
 pub mod OutsideLemmas
 pub mod PlaceLemmas
+pub mod PlainLemmas
 pub mod PrintedItemsLemmas
 pub mod PrintedLemmas
 pub mod ReferenceLemmas
@@ -17,4 +18,5 @@ pub mod SpelledLemmas
 pub mod SpellingLemmas
 pub mod SplitLemmas
 pub mod StatementLemmas
+pub mod TextLemmas
 pub mod WordLemmas

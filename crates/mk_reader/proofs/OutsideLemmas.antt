@@ -1,5 +1,5 @@
 -- A byte that stands before each dollar stands outside references.
-use Rattle.std.proofs.Common.{◌≡◌, ℕ, zero, suc, ◌+◌, ◌<◌, ◌≤◌, Bool, true, false, cond, ◌||◌, ◌==◌, List, length, drop, get_or, refl, sym, ap, ◌∙◌, arith, true≢false, Option, Some, None, option_map}
+use Rattle.std.proofs.Common.{◌≡◌, ℕ, zero, suc, ◌+◌, ◌≤◌, Bool, true, false, cond, ◌||◌, ◌==◌, List, length, drop, get_or, refl, sym, ap, ◌∙◌, arith, true≢false, Option, Some, None, option_map}
 use Rattle.memchr.specs.Find.{Nowhere, NoneBefore, Passes, is_byte3}
 use Rattle.mk_reader.specs.declared.form.Place.TheVariants.{Outside, Dollar}
 use Rattle.mk_reader.specs.Form.{next_place, first_outside}

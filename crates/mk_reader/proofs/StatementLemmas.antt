@@ -1,26 +1,28 @@
 -- The statements of a text: it has just one list of them, and what is gathered line by line comes to it.
-use Rattle.std.proofs.Common.{◌≡◌, ℕ, Bool, true, false, List, [], ◌∷◌, ◌++◌, refl, sym, ap, subst, ◌∙◌, Option, Some, None, is_some, Result, Ok, Err, IfOk, append_assoc, append-nil}
+use Rattle.std.proofs.Common.{◌≡◌, ℕ, ◌+◌, ◌-◌, Bool, true, false, List, [], ◌∷◌, ◌++◌, length, slice_index_or, slice_set, refl, sym, ap, subst, ◌∙◌, arith, Option, Some, None, is_some, Result, Ok, Err, IfSome, append_assoc, append-nil}
+use Rattle.std.proofs.lemmas.List.{length_push}
+use Rattle.std.proofs.Math.Seq.{get_or-append_seam, set-append_seam}
 use Rattle.mk_profile.specs.declared.profile.Profile.{Profile}
 use Rattle.mk_reader.specs.Lines.{logical_lines}
-use Rattle.mk_reader.specs.Form.{Gives, form_of}
+use Rattle.mk_reader.specs.Form.{form_of}
 use Rattle.mk_reader.specs.Grammar.{refusal, IsForm}
 use Rattle.mk_reader.specs.declared.fault.Cause.TheVariants.{TabFirst}
 use Rattle.mk_reader.specs.declared.item.RecipeLine.{RecipeLine}
 use Rattle.mk_reader.specs.declared.item.Definition.{Definition}
 use Rattle.mk_reader.specs.declared.item.DefinitionLine.{DefinitionLine}
 use Rattle.mk_reader.specs.declared.item.IncludeLine.{IncludeLine}
+use Rattle.mk_reader.specs.declared.item.Rule.{Rule}
+use Rattle.mk_reader.specs.declared.special.SpecialName.{SpecialName}
 use Rattle.mk_reader.specs.declared.item.Item.{Item}
 use Rattle.mk_reader.specs.declared.item.Item.TheVariants as item
 use Rattle.mk_reader.specs.declared.item.Statement.{Statement}
 use Rattle.mk_reader.specs.declared.item.Statement.TheVariants as statement
 use Rattle.mk_reader.specs.declared.fault.Refusal.{Refusal}
-use Rattle.mk_reader.specs.declared.fault.ReadFault.{ReadFault}
-use Rattle.mk_reader.specs.declared.fault.ReadFault.TheVariants.{Refused}
 use Rattle.mk_reader.specs.declared.line.LogicalLine.{LogicalLine}
 use Rattle.mk_reader.specs.declared.form.UnfinishedRule.{UnfinishedRule}
 use Rattle.mk_reader.specs.declared.form.Form.{Form}
 use Rattle.mk_reader.specs.declared.form.Form.TheVariants as form
-use Rattle.mk_reader.specs.Statements.{item_of, with_lines, recipe_from, RecipeBelow, Before, BelowRule, FormStatements, LineStatements, AreStatements, finished, RecipeLineTaken, ComesTo}
+use Rattle.mk_reader.specs.Statements.{item_of, with_line, with_lines, recipe_from, RecipeBelow, Before, BelowRule, FormStatements, LineStatements, AreStatements, finished, AddsLine, RecipeLineTaken, Taken, ComesTo, Comes}
 use Rattle.mk_reader.proofs.GrammarLemmas.{form_said, form_back}
 
 -- There is at most one list.
@@ -103,19 +105,15 @@ text_some profile file text = line_some profile file false (logical_lines 1 (Som
 
 -- What is gathered comes to it.
 
--- the form that the code finds is the line's
-pub is_form : (profile : Profile) (file : List ℕ) (line : LogicalLine) (told : Result Form Refusal) → form_of profile file line ≡ told → IsForm profile file line told
-is_form profile file line told e = subst (IsForm profile file line) e (form_said profile file line)
-
-pub told_refused : (told : Result Form Refusal) (fault : ReadFault) (refused : Refusal) → Gives {A = Form} (Err fault) told → fault ≡ Refused refused → told ≡ Err refused
-told_refused told fault refused g e = subst (λ f. Gives {A = Form} (Err f) told) e g
-
-pub if_ok : {A E : Type 0} (r : Result A E) (P Q : A → Type 0) → IfOk r P → ((x : A) → P x → Q x) → IfOk r Q
-if_ok (Ok x) P Q p h = h x p
-if_ok (Err e) P Q p h = tt
-
 false_true : false ≡ true → ⊥
 false_true e = cc
+
+-- the rule with one more line of its recipe
+abbrev with_text : UnfinishedRule → RecipeLine → UnfinishedRule
+with_text rule text = record rule { rule = record rule.rule { recipe = rule.rule.recipe ++ text ∷ [] } }
+
+with_text_is : (rule : UnfinishedRule) (text : RecipeLine) → with_lines rule (text ∷ []) ≡ with_lines (with_text rule text) []
+with_text_is rule text = ap (λ recipe. item_of rule.special (record rule.rule { recipe = recipe })) (sym (append-nil (rule.rule.recipe ++ text ∷ [])))
 
 module _ (profile : Profile) (file : List ℕ) (line : LogicalLine) (more : List LogicalLine) where
   -- what the line of this form, and what is left behind it, add to what was gathered
@@ -128,28 +126,20 @@ module _ (profile : Profile) (file : List ℕ) (line : LogicalLine) (more : List
   blank_more gathered unfinished is whole (below, lies, rest, r, e) =
       subst (ComesTo profile file gathered unfinished (line ∷ more)) (sym e) (one_more gathered unfinished (Ok form.Blank) is below lies rest r)
 
-  recipe_added : (old new : List Statement) (rule : UnfinishedRule) (now : Option UnfinishedRule) (ended : Bool) (text : RecipeLine) → IsForm profile file line (Ok (form.Recipe text)) → RecipeLineTaken file line.number text old (Some rule) new now ended →
-      (whole : List Statement) → ComesTo profile file new now more whole → ComesTo profile file old (Some rule) (line ∷ more) whole
-  recipe_added old new rule now ended text is (_, same, u) whole comes =
-      let next : UnfinishedRule = record rule { rule = record rule.rule { recipe = rule.rule.recipe ++ text ∷ [] } } in
-      let (below, lies, rest, r, e) = subst (λ s. ComesTo profile file s (Some next) more whole) same (subst (λ n. ComesTo profile file new n more whole) u comes) in
+  recipe_added : (old : List Statement) (rule : UnfinishedRule) (text : RecipeLine) → IsForm profile file line (Ok (form.Recipe text)) →
+      (whole : List Statement) → ComesTo profile file old (Some (with_text rule text)) more whole → ComesTo profile file old (Some rule) (line ∷ more) whole
+  recipe_added old rule text is whole (below, lies, rest, r, e) =
       let item : List RecipeLine → Item = λ recipe. item_of rule.special (record rule.rule { recipe = recipe }) in
-      let all : with_lines next below ≡ with_lines rule (text ∷ below) = ap item (append_assoc rule.rule.recipe (text ∷ []) below) in
+      let all : with_lines (with_text rule text) below ≡ with_lines rule (text ∷ below) = ap item (append_assoc rule.rule.recipe (text ∷ []) below) in
       subst (ComesTo profile file old (Some rule) (line ∷ more)) (ap (λ i. old ++ (statement.Item i ∷ []) ++ rest) (sym all) ∙ sym e)
       (one_more old (Some rule) (Ok (form.Recipe text)) is below lies rest r)
 
-  pub recipe_more : (old new : List Statement) (unfinished now : Option UnfinishedRule) (ended : Bool) (text : RecipeLine) → IsForm profile file line (Ok (form.Recipe text)) → RecipeLineTaken file line.number text old unfinished new now ended → ended ≡ false →
-      (whole : List Statement) → ComesTo profile file new now more whole → ComesTo profile file old unfinished (line ∷ more) whole
-  recipe_more old new None now ended text is taken f whole comes = absurd (false_true (sym f ∙ taken.0))
-  recipe_more old new (Some rule) now ended text is taken f whole comes = recipe_added old new rule now ended text is taken whole comes
-
-  pub recipe_ends : (old new : List Statement) (unfinished now : Option UnfinishedRule) (ended : Bool) (text : RecipeLine) → IsForm profile file line (Ok (form.Recipe text)) → RecipeLineTaken file line.number text old unfinished new now ended → ended ≡ true →
-      ComesTo profile file old unfinished (line ∷ more) new
-  recipe_ends old new None now ended text is taken t =
+  recipe_ends : (old new : List Statement) (text : RecipeLine) → IsForm profile file line (Ok (form.Recipe text)) → new ≡ old ++ statement.Refused (refusal file line.number TabFirst) ∷ [] →
+      ComesTo profile file old None (line ∷ more) new
+  recipe_ends old new text is n =
       let below = recipe_some profile file more in
-      subst (ComesTo profile file old None (line ∷ more)) (ap (λ xs. xs ++ statement.Refused (refusal file line.number TabFirst) ∷ []) (append-nil old) ∙ sym taken.1)
+      subst (ComesTo profile file old None (line ∷ more)) (ap (λ xs. xs ++ statement.Refused (refusal file line.number TabFirst) ∷ []) (append-nil old) ∙ sym n)
       (one_more old None (Ok (form.Recipe text)) is below.0 below.1 (statement.Refused (refusal file line.number TabFirst) ∷ []) refl)
-  recipe_ends old new (Some rule) now ended text is taken t = absurd (false_true (sym taken.0 ∙ t))
 
   -- a list with one more, and what is left behind it
   apart : (old done : List Statement) (one : Statement) (rest : List Statement) → (old ++ done ++ one ∷ []) ++ rest ≡ old ++ done ++ one ∷ rest
@@ -200,13 +190,93 @@ module _ (profile : Profile) (file : List ℕ) (line : LogicalLine) (more : List
       subst (ComesTo profile file old unfinished (line ∷ more)) (sym n)
       (one_more old unfinished (Err fault) is below.0 below.1 (statement.Refused fault ∷ []) refl)
 
+  -- A line that was taken in
+
+  below_open : (old new : List Statement) (now : Bool) (text : RecipeLine) → IsForm profile file line (Ok (form.Recipe text)) → AddsLine old text new → now ≡ true →
+      (whole : List Statement) → Comes profile file new now more whole → Comes profile file old true (line ∷ more) whole
+  below_open old new now text is adds n whole comes front None g o = absurd (false_true (sym o))
+  below_open old new now text is adds n whole comes front (Some rule) g o =
+      recipe_added front rule text is whole (comes front (Some (with_text rule text)) (adds front rule g ∙ ap (λ i. front ++ statement.Item i ∷ []) (with_text_is rule text)) n)
+
+  below_none : (old new : List Statement) (text : RecipeLine) → IsForm profile file line (Ok (form.Recipe text)) → new ≡ old ++ statement.Refused (refusal file line.number TabFirst) ∷ [] →
+      Comes profile file old false (line ∷ more) new
+  below_none old new text is n front None g o = recipe_ends front new text is (n ∙ ap (λ xs. xs ++ statement.Refused (refusal file line.number TabFirst) ∷ []) (g ∙ append-nil front))
+  below_none old new text is n front (Some rule) g o = absurd (false_true o)
+
+  recipe_goes : (old new : List Statement) (above now ended : Bool) (text : RecipeLine) → IsForm profile file line (Ok (form.Recipe text)) → RecipeLineTaken file line.number text old above new now ended → ended ≡ false →
+      (whole : List Statement) → Comes profile file new now more whole → Comes profile file old above (line ∷ more) whole
+  recipe_goes old new true now ended text is (f, adds, n) goes whole comes = below_open old new now text is adds n whole comes
+  recipe_goes old new false now ended text is (t, n) goes whole comes = absurd (false_true (sym goes ∙ t))
+
+  recipe_stops : (old new : List Statement) (above now ended : Bool) (text : RecipeLine) → IsForm profile file line (Ok (form.Recipe text)) → RecipeLineTaken file line.number text old above new now ended → ended ≡ true →
+      Comes profile file old above (line ∷ more) new
+  recipe_stops old new true now ended text is (f, adds, n) stops = absurd (false_true (sym f ∙ stops))
+  recipe_stops old new false now ended text is (t, n) stops = below_none old new text is n
+
+  -- what is left comes to the statements that the whole comes to
+  pub taken_goes : (told : Result Form Refusal) (old new : List Statement) (above now ended : Bool) → IsForm profile file line told → Taken file line.number told old above new now ended → ended ≡ false →
+      (whole : List Statement) → Comes profile file new now more whole → Comes profile file old above (line ∷ more) whole
+  taken_goes (Err fault) old new above now ended is (t, n) goes whole comes = absurd (false_true (sym goes ∙ t))
+  taken_goes (Ok form.Blank) old new above now ended is (f, same, also) goes whole comes = λ front unfinished g o. blank_more front unfinished is whole (comes front unfinished (same ∙ g) (also ∙ o))
+  taken_goes (Ok (form.Recipe text)) old new above now ended is taken goes whole comes = recipe_goes old new above now ended text is taken goes whole comes
+  taken_goes (Ok (form.Include include)) old new above now ended is (f, n, closed) goes whole comes = λ front unfinished g o.
+      include_more front new unfinished None include is (n ∙ ap (λ xs. xs ++ statement.Include include ∷ []) g) refl whole (comes new None (sym (append-nil new)) closed)
+  taken_goes (Ok (form.DefinitionLine definition)) old new above now ended is (f, n, closed) goes whole comes = λ front unfinished g o.
+      definition_line_more front new unfinished None definition is (n ∙ ap (λ xs. xs ++ statement.Definition definition ∷ []) g) refl whole (comes new None (sym (append-nil new)) closed)
+  taken_goes (Ok (form.Definition definition)) old new above now ended is (f, n, closed) goes whole comes = λ front unfinished g o.
+      definition_more front new unfinished None definition is (n ∙ ap (λ xs. xs ++ statement.Item (item.Definition definition) ∷ []) g) refl whole (comes new None (sym (append-nil new)) closed)
+  taken_goes (Ok (form.Rule rule)) old new above now ended is (f, n, opened) goes whole comes = λ front unfinished g o.
+      let done = front ++ finished unfinished [] in
+      rule_more front done unfinished (Some rule) rule is refl refl whole (comes done (Some rule) (n ∙ ap (λ xs. xs ++ statement.Item (with_lines rule []) ∷ []) g) opened)
+
+  -- the whole comes to what is gathered
+  pub taken_ends : (told : Result Form Refusal) (old new : List Statement) (above now ended : Bool) → IsForm profile file line told → Taken file line.number told old above new now ended → ended ≡ true →
+      Comes profile file old above (line ∷ more) new
+  taken_ends (Err fault) old new above now ended is (t, n) ends = λ front unfinished g o. refused_ends front new unfinished fault is (n ∙ ap (λ xs. xs ++ statement.Refused fault ∷ []) g)
+  taken_ends (Ok form.Blank) old new above now ended is (f, same, also) ends = absurd (false_true (sym f ∙ ends))
+  taken_ends (Ok (form.Recipe text)) old new above now ended is taken ends = recipe_stops old new above now ended text is taken ends
+  taken_ends (Ok (form.Include include)) old new above now ended is (f, n, closed) ends = absurd (false_true (sym f ∙ ends))
+  taken_ends (Ok (form.DefinitionLine definition)) old new above now ended is (f, n, closed) ends = absurd (false_true (sym f ∙ ends))
+  taken_ends (Ok (form.Definition definition)) old new above now ended is (f, n, closed) ends = absurd (false_true (sym f ∙ ends))
+  taken_ends (Ok (form.Rule rule)) old new above now ended is (f, n, opened) ends = absurd (false_true (sym f ∙ ends))
+
+-- a rule line that is read in one go is taken in
+pub plain_taken : (file : List ℕ) (number : ℕ) (told : Result Form Refusal) (found : Option Rule) (rule : Rule) → IfSome found (λ r. told ≡ Ok (form.Rule (record { special = None; rule = r }))) → found ≡ Some rule →
+    (old new : List Statement) (above now : Bool) → new ≡ old ++ statement.Item (item.Rule rule) ∷ [] → now ≡ true → Taken file number told old above new now false
+plain_taken file number told found rule is some old new above now n opened =
+    let read : told ≡ Ok (form.Rule (record { special = None; rule = rule })) = subst (λ o. IfSome o (λ r. told ≡ Ok (form.Rule (record { special = None; rule = r })))) some is in
+    let whole : item.Rule rule ≡ with_lines (record { special = None; rule = rule }) [] = ap (λ (recipe : List RecipeLine). item.Rule (record rule { recipe = recipe })) (sym (append-nil rule.recipe)) in
+    subst (λ t. Taken file number t old above new now false) (sym read) (refl, n ∙ ap (λ i. old ++ statement.Item i ∷ []) whole, opened)
+
+-- a line is added to the rule that stands last
+pub adds_at_last : (old : List Statement) (n : ℕ) (last new : Statement) (line : RecipeLine) → n ≡ length old → last ≡ slice_index_or old (n - 1) last → new ≡ with_line last line → AddsLine old line (slice_set old (n - 1) new)
+adds_at_last old n last new line count read written front rule e =
+    let one = statement.Item (with_lines rule []) in
+    let size : n ≡ length front + 1 = count ∙ ap length e ∙ length_push front one in
+    let place : n - 1 ≡ length front = omega (arith, size) in
+    let same : last ≡ one = read ∙ ap (λ i. slice_index_or old i last) place ∙ ap (λ xs. slice_index_or xs (length front) last) e ∙ get_or-append_seam front one [] last in
+    ap (λ i. slice_set old i new) place ∙ ap (λ xs. slice_set xs (length front) new) e ∙ set-append_seam front one [] new
+    ∙ ap (λ x. front ++ x ∷ []) (written ∙ ap (λ x. with_line x line) same ∙ line_in rule.special)
+  where
+    line_in : (special : Option SpecialName) → with_line (statement.Item (item_of special (record rule.rule { recipe = rule.rule.recipe ++ [] }))) line ≡ statement.Item (item_of special (record rule.rule { recipe = rule.rule.recipe ++ line ∷ [] }))
+    line_in None = ap (λ recipe. statement.Item (item.Rule (record rule.rule { recipe = recipe ++ line ∷ [] }))) (append-nil rule.rule.recipe)
+    line_in (Some name) = ap (λ recipe. statement.Item (item.Special (record { name = name; rule = record rule.rule { recipe = recipe ++ line ∷ [] } }))) (append-nil rule.rule.recipe)
+
+-- where nothing stands there is none
+pub adds_nothing : (old new : List Statement) (line : RecipeLine) → old ≡ [] → AddsLine old line new
+adds_nothing old new line none front rule e = absurd (no_more front (sym none ∙ e))
+  where
+    no_more : (xs : List Statement) → [] ≡ xs ++ statement.Item (with_lines rule []) ∷ [] → ⊥
+    no_more [] e = absurd (cc e)
+    no_more (x ∷ xs) e = absurd (cc e)
+
 -- at the start nothing is gathered
-pub comes_from_start : (profile : Profile) (file text : List ℕ) (gathered : List Statement) (unfinished : Option UnfinishedRule) → gathered ≡ [] → unfinished ≡ None → (whole : List Statement) →
-    ComesTo profile file gathered unfinished (logical_lines 1 (Some text)) whole → AreStatements profile file text whole
-comes_from_start profile file text gathered unfinished g u whole comes =
-    let (below, lies, rest, r, e) = subst (λ s. ComesTo profile file s None (logical_lines 1 (Some text)) whole) g (subst (λ x. ComesTo profile file gathered x (logical_lines 1 (Some text)) whole) u comes) in
+pub comes_from_start : (profile : Profile) (file text : List ℕ) (gathered : List Statement) (above : Bool) → gathered ≡ [] → above ≡ false → (whole : List Statement) →
+    Comes profile file gathered above (logical_lines 1 (Some text)) whole → AreStatements profile file text whole
+comes_from_start profile file text gathered above g f whole comes =
+    let (below, lies, rest, r, e) = comes [] None g f in
     subst (AreStatements profile file text) (sym e) r
 
 -- at the end no line is left
-pub comes_at_end : (profile : Profile) (file : List ℕ) (gathered new : List Statement) (unfinished : Option UnfinishedRule) → new ≡ gathered ++ finished unfinished [] → ComesTo profile file gathered unfinished [] new
-comes_at_end profile file gathered new unfinished n = ([], refl, [], refl, n ∙ sym (append-nil (gathered ++ finished unfinished [])))
+pub comes_at_end : (profile : Profile) (file : List ℕ) (gathered : List Statement) (above : Bool) → Comes profile file gathered above [] gathered
+comes_at_end profile file gathered above front unfinished g o = ([], refl, [], refl, g ∙ sym (append-nil (front ++ finished unfinished [])))

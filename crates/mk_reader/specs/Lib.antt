@@ -9,8 +9,12 @@ pub mod Form
 pub mod Grammar
 -- Lines: the physical and the logical lines of a text.
 pub mod Lines
+-- Plain: rule lines without any sign but a colon.
+pub mod Plain
 -- Printed: how plain items are printed.
 pub mod Printed
+-- Recipe: how the lines of a recipe are held.
+pub mod Recipe
 -- Special: the special names.
 pub mod Special
 -- Spelling: which lines and groups of lines are a text's.

@@ -12,6 +12,8 @@ use Rattle.mk_reader.specs.declared.item.Statement.{Statement}
 use Rattle.mk_reader.specs.declared.item.Statement.TheVariants as statement
 use Rattle.mk_reader.specs.declared.fault.Cause.TheVariants.{TabFirst}
 use Rattle.mk_reader.specs.declared.fault.Refusal.{Refusal}
+use Rattle.mk_reader.specs.declared.fault.ReadFault.{ReadFault}
+use Rattle.mk_reader.specs.declared.fault.ReadFault.TheVariants.{OutOfMemory, Refused}
 use Rattle.mk_reader.specs.declared.line.LogicalLine.{LogicalLine}
 use Rattle.mk_reader.specs.declared.form.UnfinishedRule.{UnfinishedRule}
 use Rattle.mk_reader.specs.declared.form.Form.{Form}
@@ -81,16 +83,51 @@ abbrev pub finished : Option UnfinishedRule → List RecipeLine → List Stateme
 finished None more = []
 finished (Some unfinished) more = statement.Item (with_lines unfinished more) ∷ []
 
--- a recipe line is added to the unfinished rule; where there is none, it is refused
-abbrev pub RecipeLineTaken : List ℕ → ℕ → RecipeLine → List Statement → Option UnfinishedRule → List Statement → Option UnfinishedRule → Bool → Type 0
-RecipeLineTaken file number line old None new unfinished ended =
-    (ended ≡ true) × (new ≡ old ++ statement.Refused (refusal file number TabFirst) ∷ [])
-RecipeLineTaken file number line old (Some rule) new unfinished ended =
-    (ended ≡ false) × (new ≡ old)
-    × (unfinished ≡ Some (record rule { rule = record rule.rule { recipe = rule.rule.recipe ++ line ∷ [] } }))
+-- the statement with one more line of its recipe, if it is a rule
+abbrev pub with_line : Statement → RecipeLine → Statement
+with_line (statement.Item (item.Rule rule)) line = statement.Item (item.Rule (record rule { recipe = rule.recipe ++ line ∷ [] }))
+with_line (statement.Item (item.Special special)) line =
+    statement.Item (item.Special (record special { rule = record special.rule { recipe = special.rule.recipe ++ line ∷ [] } }))
+with_line (statement.Item (item.Definition definition)) line = statement.Item (item.Definition definition)
+with_line (statement.Definition definition) line = statement.Definition definition
+with_line (statement.Include include) line = statement.Include include
+with_line (statement.Refused refused) line = statement.Refused refused
+
+-- a line is added to the recipe of the rule that stands last, if one does
+abbrev pub AddsLine : List Statement → RecipeLine → List Statement → Type 0
+AddsLine old line new =
+    (front : List Statement) (rule : UnfinishedRule) → old ≡ front ++ statement.Item (with_lines rule []) ∷ [] → new ≡ front ++ statement.Item (with_lines rule (line ∷ [])) ∷ []
+
+-- so a recipe line is taken below a rule; where none stands above, it is refused
+abbrev pub RecipeLineTaken : List ℕ → ℕ → RecipeLine → List Statement → Bool → List Statement → Bool → Bool → Type 0
+RecipeLineTaken file number line old true new now ended = (ended ≡ false) × AddsLine old line new × (now ≡ true)
+RecipeLineTaken file number line old false new now ended = (ended ≡ true) × (new ≡ old ++ statement.Refused (refusal file number TabFirst) ∷ [])
+
+-- a line that is refused for this is taken in, unless memory ran out
+abbrev pub IsFaultTaken : ReadFault → List Statement → List Statement → Bool → Type 0
+IsFaultTaken OutOfMemory old new ended = ⊥
+IsFaultTaken (Refused fault) old new ended = (ended ≡ true) × (new ≡ old ++ statement.Refused fault ∷ [])
+
+-- a line that was told as this form is taken in behind these statements, which end with a rule that recipe lines may be added to, or don't; it
+-- leaves these, which end so or not, and ends the file's statements or not
+abbrev pub Taken : List ℕ → ℕ → Result Form Refusal → List Statement → Bool → List Statement → Bool → Bool → Type 0
+Taken file number (Err fault) old above new now ended = (ended ≡ true) × (new ≡ old ++ statement.Refused fault ∷ [])
+Taken file number (Ok form.Blank) old above new now ended = (ended ≡ false) × (new ≡ old) × (now ≡ above)
+Taken file number (Ok (form.Recipe line)) old above new now ended = RecipeLineTaken file number line old above new now ended
+Taken file number (Ok (form.Include include)) old above new now ended = (ended ≡ false) × (new ≡ old ++ statement.Include include ∷ []) × (now ≡ false)
+Taken file number (Ok (form.DefinitionLine line)) old above new now ended = (ended ≡ false) × (new ≡ old ++ statement.Definition line ∷ []) × (now ≡ false)
+Taken file number (Ok (form.Definition definition)) old above new now ended =
+    (ended ≡ false) × (new ≡ old ++ statement.Item (item.Definition definition) ∷ []) × (now ≡ false)
+Taken file number (Ok (form.Rule rule)) old above new now ended = (ended ≡ false) × (new ≡ old ++ statement.Item (with_lines rule []) ∷ []) × (now ≡ true)
 
 -- where these statements and this rule were gathered and these lines are left, the file comes to these statements
 abbrev pub ComesTo : Profile → List ℕ → List Statement → Option UnfinishedRule → List LogicalLine → List Statement → Type 0
 ComesTo profile file gathered unfinished left whole =
     (below : List RecipeLine) × RecipeBelow profile file left below × (rest : List Statement)
     × LineStatements profile file (is_some unfinished) left rest × (whole ≡ gathered ++ finished unfinished below ++ rest)
+
+-- so it does where these statements were gathered, of which the last is a rule that recipe lines may be added to, or isn't
+abbrev pub Comes : Profile → List ℕ → List Statement → (above : Bool) → List LogicalLine → List Statement → Type 0
+Comes profile file gathered above left whole =
+    (old : List Statement) (unfinished : Option UnfinishedRule) → gathered ≡ old ++ finished unfinished [] → above ≡ is_some unfinished
+    → ComesTo profile file old unfinished left whole

@@ -1,5 +1,5 @@
 -- Bytes of a makefile that mean something, and what counts as text.
-use Rattle.std.specs.Prelude.{ℕ, ◌-◌, Bool, true, false, not, ◌&&◌, ◌==◌, List, [], ◌∷◌, take, drop, length, reverse, if◌then◌else◌}
+use Rattle.std.specs.Prelude.{ℕ, ◌-◌, Bool, true, false, not, ◌&&◌, ◌==◌, nat_le, List, [], ◌∷◌, take, drop, length, reverse, if◌then◌else◌}
 use Rattle.std.specs.List.{list_any}
 use Rattle.std.specs.Str.{is_utf8}
 
@@ -40,6 +40,10 @@ without_last bytes = take (length bytes - 1) bytes
 -- without a TAB that stands first
 unfoldable pub without_tab : List ℕ → List ℕ
 without_tab bytes = if begins_with 9 bytes then drop 1 bytes else bytes
+
+-- ASCII, and no NUL
+abbrev pub is_plain : ℕ → Bool
+is_plain b = nat_le 1 b && nat_le b 127
 
 -- UTF-8 without a NUL
 unfoldable pub is_text : List ℕ → Bool

@@ -4,6 +4,7 @@ use crate::special::SpecialName;
 use byte_strings::ByteString;
 use std::alloc::{AllocError, Global};
 use std::marker::Model;
+use std::{mem, slice};
 
 /// `NAME = VALUE`, or `NAME += VALUE`. Neither text is expanded.
 #[derive(Drop)]
@@ -28,19 +29,28 @@ pub struct RecipeLine {
     pub line: usize,
 }
 
+/// The lines of a recipe. Most recipes have one, which takes no vector.
+#[derive(Drop)]
+enum Lines {
+    One(RecipeLine),
+    Many(Vec<RecipeLine>),
+}
+
 /// The lines of a recipe, in order.
 #[derive(Drop)]
 pub struct Recipe {
-    lines: Vec<RecipeLine>,
+    alloc: Global,
+    lines: Lines,
 }
 
 impl Model for Recipe {
     ghost use Rattle.std.specs.Prelude.{List};
+    ghost use Rattle.mk_reader.specs.Recipe.{held_lines};
     ghost use Rattle.mk_reader.specs.declared.item.RecipeLine.{RecipeLine};
 
     ghost Value = { List RecipeLine };
 
-    ghost view = { λ r. r.lines.items };
+    ghost view = { λ r. held_lines r.lines };
 }
 
 impl Recipe {
@@ -50,7 +60,8 @@ impl Recipe {
         ensures { result ≡ [] }
     {
         Recipe {
-            lines: Vec::new(alloc),
+            alloc,
+            lines: Lines::Many(Vec::new(alloc)),
         }
     }
 
@@ -58,18 +69,39 @@ impl Recipe {
     pub fn push(&mut self, line: RecipeLine) -> Result<(), AllocError>
         ensures ok { OnOk result (self.new ≡ self.old ++ line ∷ []) }
     {
-        // Most recipes have one line.
-        if self.lines.is_empty() {
-            self.lines.reserve_exact(1)?;
+        match &mut self.lines {
+            Lines::One(_) => return self.push_second(line),
+            Lines::Many(lines) if lines.is_empty() => {}
+            Lines::Many(lines) => {
+                lines.push(line)?;
+                return Ok(());
+            }
         }
-        self.lines.push(line)?;
+        self.lines = Lines::One(line);
+        Ok(())
+    }
+
+    /// Adds a line behind the first.
+    fn push_second(&mut self, line: RecipeLine) -> Result<(), AllocError>
+        ensures { OnOk result (self.new ≡ self.old ++ line ∷ []) }
+    {
+        let mut lines = Vec::with_capacity(self.alloc, 2)?;
+        match mem::replace(&mut self.lines, Lines::Many(Vec::new(self.alloc))) {
+            Lines::One(first) => lines.push(first)?,
+            Lines::Many(mut front) => lines.append(&mut front)?,
+        }
+        lines.push(line)?;
+        self.lines = Lines::Many(lines);
         Ok(())
     }
 
     pub fn lines(&self) -> &[RecipeLine]
         ensures { result.now ≡ self.now }
     {
-        self.lines.as_slice()
+        match &self.lines {
+            Lines::One(line) => slice::from_ref(line),
+            Lines::Many(lines) => lines.as_slice(),
+        }
     }
 }
 

@@ -12,6 +12,7 @@ mod item;
 pub mod laws;
 mod line;
 mod lines;
+mod plain_line;
 mod reference;
 mod refuse;
 mod special;

@@ -1,5 +1,5 @@
 //! Reads a text line by line from its front: physical lines, and the logical lines that they are joined to.
-ghost use Rattle.std.specs.Prelude.{◌≡◌, ◌+◌, ◌<◌, ◌≤◌, ◌==◌, ◌∷◌, ◌++◌, [], length, take, drop, flat_map, IfOk, IfSome, OnOk, Some, option_copied};
+ghost use Rattle.std.specs.Prelude.{◌≡◌, false, ◌+◌, ◌<◌, ◌≤◌, ◌==◌, ◌∷◌, ◌++◌, [], length, take, drop, flat_map, IfOk, IfSome, OnOk, Some, option_copied};
 ghost use Rattle.std.specs.List.{suffix_len, position_or_len};
 ghost use Rattle.mk_reader.specs.Text.{is_newline, is_backslash, begins_with, ends_with, without_last, without_tab};
 ghost use Rattle.mk_reader.specs.Lines.{ended_line, goes_on, body, opening, joint, groups, lines_left, rest_of_group, after_group, logical_line, is_recipe, logical_lines, joined_lines, numbered, number_after, physical, size_left};
@@ -170,6 +170,7 @@ fn opening(is_recipe: bool, line: PhysicalLine<'_>) -> &[u8]
 }
 
 /// Adds the lines in which `first` goes on. Gives the number of the line behind them, and what is left there.
+#[inline(never)]
 fn join_rest<'a>(
     text: &mut Vec<u8>,
     is_recipe: bool,
@@ -200,6 +201,19 @@ fn join_rest<'a>(
     Ok((number, left))
 }
 
+/// How a line that doesn't go on begins the text of a logical line: it is all of that.
+#[tactic(auto, unfolding(crate::specs::Lines::opening, crate::specs::Lines::body))]
+fn alone(is_recipe: bool, line: PhysicalLine<'_>) -> &[u8]
+    requires { goes_on (physical line) ≡ false }
+    ensures { result.now ≡ opening is_recipe (physical line.entry) }
+{
+    if is_recipe {
+        without_first(line.text)
+    } else {
+        line.text
+    }
+}
+
 /// The text of the logical line that begins with `first`, the number of the line behind it, and what is left there.
 #[tactic(auto, using(crate::proofs::LinesLemmas::text_alone, crate::proofs::LinesLemmas::number_alone, crate::proofs::LinesLemmas::left_alone))]
 fn whole_text<'a>(
@@ -219,7 +233,7 @@ fn whole_text<'a>(
         size_left (option_copied found.2) ≤ size_left (option_copied left.entry)) }
 {
     if !goes_on(first) {
-        let text = LineText::part(opening(is_recipe, first));
+        let text = LineText::part(alone(is_recipe, first));
         return Ok((text, number.saturating_add(1), left));
     }
     let mut text = Vec::from_slice(alloc, opening(is_recipe, first))?;

@@ -6,6 +6,7 @@ use crate::line::LinePlace;
 use byte_strings::ByteString;
 
 /// The fault of a line; the file's name is copied.
+#[cold]
 pub fn refuse(place: LinePlace<'_>, cause: Cause) -> ReadFault
     ensures { Refuses result (refusal place.entry.file.now place.entry.number cause) }
 {

@@ -4,7 +4,7 @@ ghost use Rattle.std.specs.List.{list_any};
 ghost use Rattle.byte_strings.specs.Blanks.{trimmed_start};
 ghost use Rattle.mk_reader.specs.Text.{is_dollar, is_empty, is_text};
 ghost use Rattle.mk_reader.specs.Directive.{told_as};
-ghost use Rattle.mk_reader.specs.Form.{Gives, include_kind, include_form, prerequisites_of, recipe_of, judged_form, rule_form, begins_shell_definition, double_form, colon_form, decided_form, line_form, content_form, statement_form, recipe_form, form_of, first_outside};
+ghost use Rattle.mk_reader.specs.Form.{Gives, include_kind, include_form, prerequisites_of, recipe_of, judged_form, rule_form, begins_shell_definition, double_form, colon_form, decided_form, line_form, content_form, statement_form, first_outside};
 ghost use Rattle.mk_reader.specs.declared.form.Place.TheVariants.{Outside};
 
 use crate::comment::{before_comment, unescaped};
@@ -13,7 +13,7 @@ use crate::directive::told_refusal;
 use crate::fault::{Cause, Feature, ReadFault};
 use crate::form::{Form, UnfinishedRule};
 use crate::item::{DefinitionKind, IncludeLine, Recipe, RecipeLine, Rule};
-use crate::line::{LinePlace, LineText, LogicalLine};
+use crate::line::LinePlace;
 use crate::lines::{around, begins_with, ends_with, without_first};
 use crate::reference::first_outside;
 use crate::refuse::refuse;
@@ -31,7 +31,7 @@ fn has_dollar(bytes: &[u8]) -> bool
 
 /// Whether the files of an include line have to be there, by the word that begins it. Other words begin none.
 #[tactic(auto, unfolding(crate::specs::Form::include_kind))]
-fn include_kind(profile: Profile, word: &[u8]) -> Option<bool>
+pub fn include_kind(profile: Profile, word: &[u8]) -> Option<bool>
     ensures { result ≡ include_kind profile word.now }
 {
     if word == b"include".as_slice() {
@@ -247,8 +247,9 @@ fn content_form(place: LinePlace<'_>, content: &[u8]) -> Result<Form, ReadFault>
     line_form(place, trim(content))
 }
 
+/// The form of a line that is no recipe line.
 #[tactic(auto, using(crate::proofs::ContentLemmas::cut_is), unfolding(crate::specs::Form::statement_form))]
-fn statement_form(place: LinePlace<'_>, text: &[u8]) -> Result<Form, ReadFault>
+pub fn statement_form(place: LinePlace<'_>, text: &[u8]) -> Result<Form, ReadFault>
     ensures { Gives result (statement_form place.entry.profile place.entry.file.now place.entry.number text.now) }
 {
     let front = before_comment(text);
@@ -257,48 +258,4 @@ fn statement_form(place: LinePlace<'_>, text: &[u8]) -> Result<Form, ReadFault>
         return content_form(place, content.as_slice());
     }
     content_form(place, front)
-}
-
-#[tactic(auto, unfolding(crate::specs::Form::recipe_form))]
-fn recipe_form(place: LinePlace<'_>, text: LineText<'_>) -> Result<Form, ReadFault>
-    ensures { Gives result (recipe_form place.entry.file.now place.entry.number text.entry) }
-{
-    if !is_text(text.as_slice()) {
-        return Err(refuse(place, Cause::NotText));
-    }
-    if trim_start(text.as_slice()).is_empty() {
-        return Ok(Form::Blank);
-    }
-    Ok(Form::Recipe(RecipeLine {
-        text: text.into_string(place.alloc)?,
-        line: place.number,
-    }))
-}
-
-/// The form of a logical line of the file.
-#[tactic(auto, unfolding(crate::specs::Form::form_of))]
-pub fn form_of(
-    alloc: Global,
-    profile: Profile,
-    file: &[u8],
-    line: LogicalLine<'_>,
-) -> Result<Form, ReadFault>
-    ensures { Gives result (form_of profile file.now line.entry) }
-{
-    let LogicalLine {
-        number,
-        is_recipe,
-        text,
-    } = line;
-    let place = LinePlace {
-        alloc,
-        profile,
-        file,
-        number,
-    };
-    if is_recipe {
-        recipe_form(place, text)
-    } else {
-        statement_form(place, text.as_slice())
-    }
 }

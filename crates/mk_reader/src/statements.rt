@@ -8,6 +8,9 @@ use crate::lines::next_logical_line;
 use mk_profile::Profile;
 use std::alloc::{AllocError, Global};
 
+/// How long a statement may be expected to be, with its recipe: room that isn't used takes no memory.
+const STATEMENT_LEN: usize = 40;
+
 /// The statements of a text, in their order. The first line that is refused is the last of them.
 ///
 /// `file` is the name that statements and refusals give for the text. Files that it includes aren't read, and nothing
@@ -20,7 +23,7 @@ pub fn statements_of(
 ) -> Result<Vec<Statement>, AllocError>
     ensures { IfOk result (λ v. AreStatements profile file.now text.now v.items) }
 {
-    let mut gathered = Gathered::new(alloc);
+    let mut gathered = Gathered::with_capacity(alloc, text.len() / STATEMENT_LEN)?;
     let mut left = Some(text);
     let mut number = 1;
     while let Some(bytes) = left {
@@ -32,5 +35,5 @@ pub fn statements_of(
         left = after;
         number = next_number;
     }
-    Ok(gathered.into_statements()?)
+    Ok(gathered.statements)
 }

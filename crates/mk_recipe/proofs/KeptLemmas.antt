@@ -106,3 +106,12 @@ module _ (profile : Profile) (unexpanded expanded prefixes text : List ℕ) (in_
 
   pub kept_whole : exempt ≡ false → is_blank_text text ≡ false → IsKept profile unexpanded expanded (Some text)
   kept_whole no_exempt blank = subst (λ b. IsKept profile unexpanded expanded (if b || false then None else Some text)) no_exempt (kept false blank)
+
+-- where the unexpanded text has no reference to `$?`, the prefixes alone exempt a line
+pub exempt_by_prefixes : (prefixes unexpanded : List ℕ) (wide exempt : Bool) → (RefersToNewer wide unexpanded → ⊥) →
+    IsTrue exempt ↔ ((has 33 prefixes ≡ false) × IsTrue (has 63 prefixes)) →
+    IsTrue exempt ↔ ((has 33 prefixes ≡ false) × (IsTrue (has 63 prefixes) ⊎ RefersToNewer wide unexpanded))
+exempt_by_prefixes prefixes unexpanded wide exempt none is = (
+  (λ e. let (unforced, marked) = is.0 e in (unforced, inl marked)),
+  λ (unforced, why). elim why [ inl marked ↦ is.1 (unforced, marked) | inr refers ↦ absurd (none refers) ],
+)

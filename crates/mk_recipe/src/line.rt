@@ -1,7 +1,8 @@
 //! The lines of a recipe, and those that the state keeps.
-ghost use Rattle.std.specs.Prelude.{◌≡◌, ◌⊎◌, ◌↔◌, ◌≤◌, false, length, option_copied, IfOk, IsTrue};
+ghost use Rattle.std.specs.Prelude.{◌≡◌, ◌⊎◌, ◌↔◌, ◌≤◌, ℕ, List, false, length, option_copied, IfOk, IsTrue};
 ghost use Rattle.std.specs.List.{prefix_len};
 ghost use Rattle.mk_profile.specs.Profile.{is_wide};
+ghost use Rattle.mk_profile.specs.declared.profile.Profile.{Profile as Language};
 ghost use Rattle.mk_macros.specs.Mention.{RefersToNewer};
 ghost use Rattle.mk_recipe.specs.Line.{front, text_of, is_front, is_blank_text, has, StandsIn, CallsMake, IsLine, IsKept, Records};
 ghost use Rattle.mk_recipe.specs.Tests.{is_recorded};
@@ -127,6 +128,28 @@ pub fn kept_text<'e>(profile: Profile, unexpanded: &[u8], expanded: &'e [u8]) ->
         return None;
     }
     Some(text)
+}
+
+/// What stands in front of a line exempts it.
+fn is_front_exempt(front: &[u8]) -> bool
+    ensures { IsTrue result ↔ ((has 33 front.now ≡ false) × IsTrue (has 63 front.now)) }
+{
+    !has(front, b'!') && has(front, b'?')
+}
+
+/// What the state keeps of the line that an expanded text gives, where the unexpanded one has no reference to `$?`.
+pub fn kept_of_expanded<'e>(expanded: &'e [u8]) -> Option<&'e [u8]>
+    ensures { (profile : Language) (unexpanded : List ℕ) → (RefersToNewer (is_wide profile) unexpanded → ⊥)
+        → IsKept profile unexpanded expanded.now (option_copied result) }
+{
+    let (front, text) = parted(expanded);
+    if is_front_exempt(front) {
+        return None;
+    }
+    if !is_blank_text(text) {
+        return Some(text);
+    }
+    None
 }
 
 impl Line {

@@ -1,7 +1,7 @@
 -- Which lines have `::`, and what it means that a name is a target of both kinds of rules.
 use Rattle.std.specs.Bool.{Decides}
 use Rattle.std.specs.List.{Any, All, list_any, flat_map}
-use Rattle.std.proofs.Common.{◌≡◌, ◌∙◌, ◌<◌, ℕ, Bool, true, false, cond, ◌||◌, List, [], ◌∷◌, ◌++◌, length, filter, refl, sym, ap, subst, get_or, bytes_eq}
+use Rattle.std.proofs.Common.{◌≡◌, ◌∙◌, ◌<◌, ℕ, Bool, true, false, cond, ◌||◌, List, [], ◌∷◌, length, filter, refl, sym, ap, subst, get_or, bytes_eq}
 use Rattle.std.proofs.lemmas.Bool.{both_ways, or_left, or_right}
 use Rattle.std.proofs.lemmas.Slice.Eq.{bytes_eq-Decides}
 use Rattle.std.proofs.lemmas.List.Folds.{list_any-from_Any, list_any-append}
@@ -9,7 +9,6 @@ use Rattle.mk_graph.specs.Numbering.{has_name, all_added}
 use Rattle.mk_graph.proofs.NameLemmas.{all_added-append}
 use Rattle.mk_rule_lines.specs.Doubles.{IsDoubleOf, IsSingleOf, AreApart, HasBothKinds}
 use Rattle.mk_rule_lines.specs.Kinded.{double_targets, single_targets, all_single_targets}
-use Rattle.mk_rule_lines.specs.Kinds.{IsRule}
 use Rattle.mk_rule_lines.specs.Rules.{has, is_rule, is_double_recipe}
 use Rattle.mk_rule_lines.specs.declared.rule_line.RuleLine.{RuleLine}
 use Rattle.mk_rule_lines.proofs.KindLemmas.{any_decides, has_decides, rule_decides}

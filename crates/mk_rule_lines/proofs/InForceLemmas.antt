@@ -4,7 +4,7 @@ use Rattle.std.specs.Bool.{Decides}
 use Rattle.std.specs.List.{Any, list_any}
 use Rattle.std.specs.Option.{option_map_or}
 use Rattle.std.proofs.Common.{◌≡◌, ◌⊎◌, ◌∙◌, ℕ, Bool, true, false, not, cond, ◌&&◌, ◌||◌, List, [], ◌∷◌, ◌++◌, length, take, drop, reverse, inl, inr, Option, Some, None, refl, sym, ap, subst, bytes_eq}
-use Rattle.std.proofs.lemmas.Bool.{both_ways, false_from_ne_true, and_parts, and_from}
+use Rattle.std.proofs.lemmas.Bool.{both_ways, false_from_ne_true, and_parts, and_from, or_parts}
 use Rattle.std.proofs.lemmas.Bool.Decides.{Decides-and, Decides-or, Decides-like}
 use Rattle.std.proofs.lemmas.List.Folds.{list_any-append}
 use Rattle.std.proofs.lemmas.List.{append_assoc, append-nil, reverse-append, take-append-drop}
@@ -276,3 +276,14 @@ special_left is_it none s _ _ (goes {l = l} {lines = ls} {left = left} (inl is) 
     special_left is_it none s ls left more ∙ plain_gone is_it none l is.rule (has_special is_it ls)
 special_left is_it none s _ _ (goes {l = l} {lines = ls} {left = left} (inr (k, m, within, at, is)) more) =
     special_left is_it none s ls left more ∙ plain_gone is_it none l is.rule (has_special is_it ls)
+
+none_takes : (suffixes : List (List ℕ)) (l : RuleLine) (lines : List RuleLine) → list_any is_taking lines ≡ false → Any (Takes suffixes l) lines → ⊥
+none_takes suffixes l lines none (k, x, within, at, is) =
+    both_ways (list_any is_taking lines) none ((any_decides is_taking IsTaking taking_decides lines).1 (k, x, within, at, is.is_taking))
+
+-- where no line takes others away, all count
+pub all_left : (suffixes : List (List ℕ)) (lines : List RuleLine) → list_any is_taking lines ≡ false → AreLeft suffixes lines lines
+all_left suffixes [] none = no_lines
+all_left suffixes (l ∷ lines) none =
+    let parts = or_parts (is_taking l) (list_any is_taking lines) none in
+    counts (λ is. both_ways (is_taking l) parts.0 ((taking_decides l).1 is)) (none_takes suffixes l lines parts.1) (all_left suffixes lines parts.1)

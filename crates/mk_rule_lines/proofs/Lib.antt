@@ -9,11 +9,13 @@ pub mod KindLemmas
 pub mod LineLemmas
 pub mod MarkLemmas
 pub mod NameLemmas
+pub mod NumberedLemmas
 pub mod OwnGoalLemmas
 pub mod PlaceLemmas
 pub mod PlainLemmas
 pub mod RecipeLemmas
 pub mod ResultLemmas
+pub mod SettledLemmas
 pub mod SuffixLemmas
 pub mod SupportedLemmas
 pub mod TableLemmas

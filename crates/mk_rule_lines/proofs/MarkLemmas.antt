@@ -5,7 +5,7 @@ use Rattle.std.proofs.Common.{◌≡◌, ◌∙◌, ℕ, Bool, true, false, cond
 use Rattle.std.proofs.lemmas.Bool.Decides.{Decides-and, Decides-or}
 use Rattle.std.proofs.lemmas.List.Folds.{list_any-append}
 use Rattle.mk_graph.specs.Numbering.{has_name, added, all_added}
-use Rattle.mk_graph.proofs.NameLemmas.{same_bytes, all_added-append}
+use Rattle.mk_graph.proofs.NameLemmas.{same_bytes}
 use Rattle.mk_reader.specs.Text.{is_empty}
 use Rattle.mk_reader.specs.declared.special.SpecialName.{SpecialName}
 use Rattle.mk_reader.specs.declared.special.SpecialName.TheVariants as special
@@ -18,11 +18,11 @@ use Rattle.mk_rule_lines.proofs.KindLemmas.{any_decides, empty_decides, has_deci
 
 -- ---- names that are taken in once
 
-or_none : (a : Bool) → (a || false) ≡ a
+pub or_none : (a : Bool) → (a || false) ≡ a
 or_none true = refl
 or_none false = refl
 
-or_both : (a b c : Bool) → ((a || b) || c) ≡ (a || (b || c))
+pub or_both : (a b c : Bool) → ((a || b) || c) ≡ (a || (b || c))
 or_both true b c = refl
 or_both false b c = refl
 
@@ -42,13 +42,6 @@ has_all_added names (name ∷ more) target =
     ∙ or_both (has_name names target) (bytes_eq target name) (has_name more target)
 
 -- ---- lines
-
--- one more line is taken in
-pub lines_go_on : (m : Mark) (names next whole : List (List ℕ)) (l : RuleLine) (left rest : List RuleLine) → left ≡ l ∷ rest → next ≡ all_added names (names_in m l) →
-    all_added names (flat_map (names_in m) left) ≡ whole → all_added next (flat_map (names_in m) rest) ≡ whole
-lines_go_on m names next whole l left rest at e h =
-    ap (λ ns. all_added ns (flat_map (names_in m) rest)) e ∙ sym (all_added-append names (names_in m l) (flat_map (names_in m) rest))
-    ∙ ap (λ ls. all_added names (flat_map (names_in m) ls)) (sym at) ∙ h
 
 module _ (m : Mark) (target : List ℕ) where
   -- a line of the mark speaks of the target

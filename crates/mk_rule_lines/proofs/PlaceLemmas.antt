@@ -6,7 +6,8 @@ use Rattle.std.specs.Option.{option_map_or}
 use Rattle.std.proofs.lemmas.List.{append_assoc}
 use Rattle.std.proofs.lemmas.Bool.Decides.{nat_tests}
 use Rattle.mk_rule_lines.specs.Rules.{has, lacks_single, times, places, recipe_places}
-use Rattle.mk_rule_lines.specs.Table.{Named, named_at, IsTable, IsTableFault, IsAddFault, AddsLine, IsSecond, HasTwoRecipes, is_last, with_line}
+use Rattle.mk_rule_lines.specs.Named.{Named}
+use Rattle.mk_rule_lines.specs.Table.{named_at, IsTable, IsTableFault, IsAddFault, AddsLine, IsSecond, HasTwoRecipes, is_last, with_line}
 use Rattle.mk_rule_lines.specs.declared.table.TargetTable.{TargetTable}
 use Rattle.mk_rule_lines.specs.declared.fault.RuleFault.{RuleFault}
 use Rattle.mk_rule_lines.specs.declared.fault.RuleFault.TheVariants as fault

@@ -5,25 +5,10 @@ use Rattle.std.proofs.lemmas.Slice.Eq.{bytes_eq-Decides}
 use Rattle.mk_rule_lines.specs.Rules.{has, times}
 use Rattle.std.specs.Option.{option_map_or}
 use Rattle.std.specs.Str.{bytes_eq}
-use Rattle.mk_rule_lines.specs.Table.{AddsLine, IsSecond, is_last, with_line, with_target, Named, nothing_named, shown_target}
+use Rattle.mk_rule_lines.specs.Named.{Named, nothing_named, shown_target}
+use Rattle.mk_rule_lines.specs.Table.{AddsLine, IsSecond, is_last, with_line, with_target}
 use Rattle.mk_rule_lines.specs.declared.table.Target.{Target}
 use Rattle.mk_rule_lines.proofs.NameLemmas.{bytes_eq-same}
-
-abbrev pub named : Option Target → Named
-named found = option_map_or shown_target found nothing_named
-
-module _ (found after : List ℕ → Option Target) (name : List ℕ) (t : Target) (changed : Named → Named)
-    (adds : (n : List ℕ) → after n ≡ cond (bytes_eq n name) (Some t) (found n)) (is : shown_target t ≡ changed (named (found name))) where
-  named_at : (n : List ℕ) (b : Bool) → bytes_eq n name ≡ b → named (after n) ≡ cond (bytes_eq n name) (changed (named (found n))) (named (found n))
-  named_at n true e =
-      let same : n ≡ name = bytes_eq-same n name e in
-      let there : after n ≡ Some t = adds n ∙ simp e refl in
-      let made : shown_target t ≡ changed (named (found n)) = is ∙ ap (λ m. changed (named (found m))) (sym same) in
-      ap named there ∙ made ∙ simp e refl
-  named_at n false e = ap named (adds n) ∙ simp e refl
-
-  pub named_after : (n : List ℕ) → named (after n) ≡ cond (bytes_eq n name) (changed (named (found n))) (named (found n))
-  named_after n = named_at n (bytes_eq n name) refl
 
 -- a fact at Ok gives what follows from it
 pub on_ok : {T E : Type 0} (r : Result T E) (P Q : Type 0) → (P → Q) → OnOk r P → OnOk r Q

@@ -1,11 +1,12 @@
 -- Which bytes the words of a text have.
-use Rattle.std.proofs.Common.{◌≡◌, ℕ, Bool, true, false, ◌||◌, ◌==◌, List, [], ◌∷◌, filter, refl, sym, ap, ◌∙◌}
-use Rattle.std.specs.List.{list_any, slice_split, onto_first}
+use Rattle.std.proofs.Common.{◌≡◌, ℕ, Bool, true, false, not, ◌||◌, ◌==◌, List, [], ◌∷◌, filter, refl, sym, ap, ◌∙◌}
+use Rattle.std.specs.List.{list_all, list_any, slice_split, onto_first}
+use Rattle.mk_reader.specs.Text.{is_empty}
 use Rattle.std.proofs.Math.Bool.{or_assoc}
 use Rattle.std.proofs.lemmas.Bool.{eqb-true, or_parts}
 use Rattle.std.proofs.lemmas.List.Splits.{slice_split-cons_yes, slice_split-cons_no}
 use Rattle.byte_strings.specs.Blanks.{is_blank, is_nonempty, words}
-use Rattle.mk_rule_lines.specs.Tests.{is_sign}
+use Rattle.mk_rule_lines.specs.Signs.{is_sign}
 
 abbrev pub has_byte : (byte : ℕ) → List ℕ → Bool
 has_byte byte = list_any (λ b. b == byte)
@@ -64,3 +65,29 @@ signed byte sign b same = ap is_sign (eqb-true b byte same) ∙ sign
 pub none_in_words : (byte : ℕ) → is_sign byte ≡ true → is_blank byte ≡ false → (text : List ℕ) → list_any is_sign text ≡ false
     → list_any (list_any (λ b. b == byte)) (words text) ≡ false
 none_in_words byte sign plain text none = byte_in_words byte plain text ∙ none_in_text byte (signed byte sign) text none
+
+-- nor has the text
+pub no_dollar : (text : List ℕ) → list_any is_sign text ≡ false → list_any (λ b. b == 36) text ≡ false
+no_dollar = none_in_text 36 (signed 36 refl)
+
+pub from_not : (b : Bool) → not b ≡ false → b ≡ true
+from_not true none = refl
+from_not false none = cc
+
+-- a text of blanks alone has no words, and only such a text
+pub first_word_at : (b : ℕ) (parts : List (List ℕ)) → is_empty (filter is_nonempty (onto_first b parts)) ≡ false
+first_word_at b [] = refl
+first_word_at b (part ∷ parts) = refl
+
+blank_at : (b : ℕ) (text : List ℕ) (t : Bool) → is_blank b ≡ t → list_all is_blank text ≡ is_empty (words text)
+    → list_all is_blank (b ∷ text) ≡ is_empty (words (b ∷ text))
+unfolding words
+blank_at b text true e rest =
+    simp e rest ∙ ap (λ ps. is_empty (filter is_nonempty ps)) (sym (slice_split-cons_yes is_blank b text e))
+blank_at b text false e rest =
+    simp e refl ∙ sym (ap (λ ps. is_empty (filter is_nonempty ps)) (slice_split-cons_no is_blank b text e) ∙ first_word_at b (slice_split is_blank text))
+
+pub blanks_alone : (text : List ℕ) → list_all is_blank text ≡ is_empty (words text)
+unfolding words
+blanks_alone [] = refl
+blanks_alone (b ∷ text) = blank_at b text (is_blank b) refl (blanks_alone text)

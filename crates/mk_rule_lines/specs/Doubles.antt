@@ -1,6 +1,6 @@
 -- Lines with `::` (GNU make manual, "Double-Colon Rules"). The recipes of all of a name's are its recipe, one behind the other (own:
 -- GNU make runs those alone whose prerequisites are newer).
-use Rattle.std.specs.Prelude.{◌≡◌, ◌⊎◌, ℕ, Bool, true, false, List, [], filter, find, slice_get, Option, Contains}
+use Rattle.std.specs.Prelude.{◌≡◌, ◌⊎◌, ℕ, Bool, true, false, List, filter, find, slice_get, Option, Contains}
 use Rattle.std.specs.List.{Any}
 use Rattle.std.specs.Option.{option_map_or}
 use Rattle.mk_macros.specs.Spelled.{Lacks}

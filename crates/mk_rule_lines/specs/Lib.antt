@@ -11,7 +11,10 @@ pub mod Kinded
 pub mod Kinds
 pub mod Lines
 pub mod Marks
+pub mod Named
 pub mod Rules
+pub mod Settled
+pub mod Signs
 pub mod Source
 pub mod Suffixes
 pub mod Supported

@@ -1,39 +1,17 @@
 -- Which lines a name is a target of, as a table from names to lines.
-use Rattle.std.specs.Prelude.{◌≡◌, ℕ, ℤ, Bool, true, false, not, ◌||◌, ◌==◌, List, [], ◌∷◌, ◌++◌, Option, Some, None, option_map, option_to_list, bytes_eq, is_some, slice_get, length, ◌-◌, if◌then◌else◌}
+use Rattle.std.specs.Prelude.{◌≡◌, ℕ, ℤ, Bool, true, false, not, ◌||◌, ◌==◌, List, [], ◌∷◌, ◌++◌, Option, Some, option_map, option_to_list, is_some, slice_get, length, ◌-◌, if◌then◌else◌}
 use Rattle.std.specs.Option.{option_map_or}
-use Rattle.indexmap.specs.IndexMap.{get_by}
 use Rattle.mk_reader.specs.Text.{is_empty}
+use Rattle.mk_rule_lines.specs.Named.{Named, named_in}
 use Rattle.mk_rule_lines.specs.Rules.{has, places, times, recipe_places}
 use Rattle.mk_rule_lines.specs.declared.fault.RuleFault.{RuleFault}
 use Rattle.mk_rule_lines.specs.declared.fault.RuleFault.TheVariants as fault
 use Rattle.mk_rule_lines.specs.declared.rule_line.RuleLine.{RuleLine}
-use Rattle.mk_rule_lines.specs.declared.table.Numbers.{Numbers}
-use Rattle.mk_rule_lines.specs.declared.table.Numbers.TheVariants.{One, Many}
-use Rattle.mk_rule_lines.specs.declared.table.Target.{Target}
 use Rattle.mk_rule_lines.specs.declared.table.TargetTable.{TargetTable}
-
--- the lines that name a target, in order, and the line that has its recipe, if it isn't one with `::`
-pub record Named : Type 0 where
-  pub lines : List ℕ
-  pub recipe : Option ℕ
-
-abbrev pub nothing_named : Named
-nothing_named = record { lines = []; recipe = None }
-
-abbrev pub numbers_in : Numbers → List ℕ
-numbers_in (One number) = number ∷ []
-numbers_in (Many numbers) = numbers.items
-
-abbrev pub shown_target : Target → Named
-shown_target target = record { lines = numbers_in target.lines; recipe = target.recipe }
-
--- the table's entry of a name
-abbrev pub target_at : TargetTable → (name : List ℕ) → Option Target
-target_at table name = get_by (λ k. bytes_eq name k) table.targets
 
 -- what the table has of a name
 abbrev pub named_at : TargetTable → (name : List ℕ) → Named
-named_at table name = option_map_or shown_target (target_at table name) nothing_named
+named_at table name = named_in table.names table.named name
 
 -- the number is the last one of the list
 abbrev pub is_last : ℕ → List ℕ → Bool

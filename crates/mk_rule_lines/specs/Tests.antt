@@ -51,10 +51,6 @@ is_bracket b = b == 40
 abbrev pub has_bracket : (name : List ℕ) → Bool
 has_bracket name = list_any is_bracket name
 
--- one of the bytes without which nothing is refused of the targets of a rule with `:`
-abbrev pub is_sign : ℕ → Bool
-is_sign b = (b == 43) || ((b == 40) || (b == 37))
-
 -- just this name
 abbrev pub is_alone : (name : List ℕ) → (names : List (List ℕ)) → Bool
 is_alone name names = (length names == 1) && has name names

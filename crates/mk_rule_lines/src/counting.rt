@@ -144,7 +144,14 @@ fn left_over(
     Ok(left)
 }
 
+fn any_is_taking(lines: &[RuleLine]) -> bool
+    ensures { result ≡ list_any is_taking lines.now }
+{
+    lines.iter().any(|line| is_taking(line))
+}
+
 /// The lines that count in this profile.
+#[tactic(auto, using(crate::proofs::InForceLemmas::all_left))]
 pub fn in_force(
     alloc: Global,
     profile: Profile,
@@ -155,6 +162,10 @@ pub fn in_force(
     match profile {
         Profile::Strict => Ok(lines),
         Profile::Posix => {
+            // Few makefiles take a rule away.
+            if !any_is_taking(&lines) {
+                return Ok(lines);
+            }
             let suffixes = suffixes_of(alloc, &lines)?;
             left_over(alloc, &suffixes, lines)
         }

@@ -116,7 +116,7 @@ pub fn check_kinds(alloc: Global, lines: &[RuleLine]) -> Result<(), RuleFault>
     for line in lines {
         if let Some(target) = target_among(&names, line) {
             let name = ByteString::from_slice(alloc, target)?;
-            return Err(RuleFault::BothKinds(name, line.line));
+            return Err(RuleFault::BothKinds(name, line.line as usize));
         }
     }
     Ok(())

@@ -2,7 +2,7 @@
 ghost use Rattle.std.specs.Prelude.{◌≡◌, ◌<◌, true, [], ◌∷◌, ◌++◌, length, map, option_to_list, IfOk, OnOk, IfSome};
 ghost use Rattle.mk_macros.specs.Words.{place_of};
 ghost use Rattle.mk_rule_lines.specs.Kinds.{leaves_folders};
-ghost use Rattle.mk_rule_lines.specs.Rules.{targets_by};
+ghost use Rattle.mk_rule_lines.specs.Rules.{is_pattern_rule, targets_by};
 ghost use Rattle.mk_rule_lines.specs.Tests.{has_slash};
 ghost use Rattle.mk_rule_lines.specs.Table.{IsTable, recipes_in};
 ghost use Rattle.mk_rule_lines.specs.Forms.{before_percent, behind_percent, pattern_form, further_form, forms_of_names, forms_of_line, suffix_form, pair_forms, single_forms, forms_from, suffix_forms, pattern_forms, forms_of};
@@ -157,18 +157,16 @@ fn add_further_forms(
     Ok(())
 }
 
-/// Adds the forms of a line, where it is a pattern rule.
+/// Adds the forms of a pattern rule.
 fn add_forms_of_line(
     alloc: Global,
     forms: &mut Vec<Form>,
     rule: usize,
     line: &RuleLine,
 ) -> Result<(), AllocError>
+    requires { is_pattern_rule line.now ≡ true }
     ensures { OnOk result (forms.new.items ≡ forms.old.items ++ forms_of_line rule line.now) }
 {
-    if !line.is_pattern_rule() {
-        return Ok(());
-    }
     let mut words = line.targets.iter();
     let Some(target) = words.next() else {
         return Ok(());
@@ -187,6 +185,9 @@ fn add_pattern_forms(
     ensures { OnOk result (forms.new.items ≡ forms.old.items ++ pattern_forms 0 lines.now) }
 {
     for (i, line) in lines.iter().enumerate() {
+        if !line.is_pattern_rule() {
+            continue;
+        }
         add_forms_of_line(alloc, forms, i, line)?;
     }
     Ok(())

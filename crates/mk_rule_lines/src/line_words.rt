@@ -1,11 +1,11 @@
 //! The words of what a text of a rule line expands to.
 ghost use Rattle.std.specs.Prelude.{◌≡◌, ◌↔◌, ◌==◌, [], length, slice_get, option_copied, false, IfOk, IsTrue};
-ghost use Rattle.std.specs.List.{list_any};
+ghost use Rattle.std.specs.List.{list_all, list_any};
 ghost use Rattle.byte_strings.specs.Blanks.{is_blank, words};
 ghost use Rattle.mk_rule_lines.specs.Rules.{has};
-ghost use Rattle.mk_rule_lines.specs.Tests.{is_sign};
+ghost use Rattle.mk_rule_lines.specs.Signs.{is_sign};
 
-use byte_strings::{ByteStrings, Words};
+use byte_strings::{ByteStrings, Words, is_blank};
 use std::alloc::{AllocError, Global};
 use std::marker::Model;
 
@@ -13,27 +13,45 @@ use std::marker::Model;
 #[derive(Drop)]
 pub struct LineWords {
     text: Vec<u8>,
+    /// Whether no sign stands in the text, as in most: told once, since each line is asked for its signs several times.
+    is_plain: bool,
 }
 
 impl Model for LineWords {
-    ghost use Rattle.std.specs.Prelude.{ℕ, List};
+    ghost use Rattle.std.specs.Prelude.{◌≡◌, ℕ, List, true, false};
+    ghost use Rattle.std.specs.List.{list_any};
     ghost use Rattle.byte_strings.specs.Blanks.{words};
+    ghost use Rattle.mk_rule_lines.specs.Signs.{is_sign};
 
     ghost Value = { List (List ℕ) };
 
     ghost view = { λ w. words w.text.items };
+
+    ghost invariant = { λ w. w.is_plain ≡ true → list_any is_sign w.text.items ≡ false };
 }
 
+/// Whether the byte may mean something of its own in a text of a rule line.
 fn is_sign(byte: u8) -> bool
     ensures { result ≡ is_sign byte }
 {
-    byte == b'+' || byte == b'(' || byte == b'%'
+    (byte == b'$') | (byte == b'%') | (byte == b'(') | (byte == b'+') | (byte == b'|')
 }
 
-fn any_is_sign(text: &[u8]) -> bool
+/// Looks at all bytes, as most texts have no sign: without a way out many of them are looked at at once.
+pub(crate) fn any_is_sign(text: &[u8]) -> bool
     ensures { result ≡ list_any is_sign text.now }
 {
-    text.iter().any(|b| is_sign(*b))
+    let mut found = false;
+    for byte in text {
+        found = found | is_sign(*byte);
+    }
+    found
+}
+
+fn all_are_blank(text: &[u8]) -> bool
+    ensures { result ≡ list_all is_blank text.now }
+{
+    text.iter().all(|b| is_blank(*b))
 }
 
 impl LineWords {
@@ -41,7 +59,19 @@ impl LineWords {
     pub fn new(text: Vec<u8>) -> LineWords
         ensures { result ≡ words text.items }
     {
-        LineWords { text }
+        let is_plain = !any_is_sign(&text);
+        LineWords { text, is_plain }
+    }
+
+    /// The words of a text in which no sign stands.
+    pub(crate) fn plain(text: Vec<u8>) -> LineWords
+        requires { list_any is_sign text.items ≡ false }
+        ensures { result ≡ words text.items }
+    {
+        LineWords {
+            text,
+            is_plain: true,
+        }
     }
 
     /// No strings, with room for about as many as these words: about four bytes a word.
@@ -68,10 +98,7 @@ impl LineWords {
     pub fn is_empty(&self) -> bool
         ensures { IsTrue result ↔ (self.now ≡ []) }
     {
-        match self.iter().next() {
-            Some(_) => false,
-            None => true,
-        }
+        all_are_blank(&self.text)
     }
 
     /// Whether there is just one word.
@@ -90,6 +117,9 @@ impl LineWords {
         requires { is_blank byte ≡ false }
         ensures { result ≡ list_any (list_any (λ b. b == byte)) self.now }
     {
+        if self.is_plain && is_sign(byte) {
+            return false;
+        }
         self.text.contains(&byte)
     }
 
@@ -99,7 +129,7 @@ impl LineWords {
         ensures bracket { result ≡ false → list_any (list_any (λ b. b == 40)) self.now ≡ false }
         ensures percent { result ≡ false → list_any (list_any (λ b. b == 37)) self.now ≡ false }
     {
-        any_is_sign(&self.text)
+        !self.is_plain
     }
 
     /// Whether the name is one of the words.

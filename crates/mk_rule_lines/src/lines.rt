@@ -1,12 +1,14 @@
 //! The rule lines of a makefile's items.
 ghost use Rattle.std.specs.Prelude.{◌≡◌, ℕ, List, [], None, Some, false, IfOk, IfErr, OnOk, IsTrue};
+ghost use Rattle.std.specs.List.{list_any};
 ghost use Rattle.mk_reader.specs.declared.special.SpecialName.TheVariants.{Phony};
 ghost use Rattle.mk_macros.specs.Ranks.{defined_by, rule_meanings};
 ghost use Rattle.mk_rule_lines.specs.Lines.{behind, behind_items, AreWordsOf, IsRuleLine, AreRuleLines, AreTextsFault, IsRuleLineFault, IsLinesFault, IsToldAt, told_place, told_file};
 ghost use Rattle.mk_macros.specs.Expansion.{Meanings, ExpandsTo, ExpandsToFault, gives};
+ghost use Rattle.mk_rule_lines.specs.Signs.{is_sign};
 
 use crate::fault::{RuleFault, TextFault, TextPlace};
-use crate::line_words::LineWords;
+use crate::line_words::{LineWords, any_is_sign};
 use crate::rule_line::{RuleLine, is_phony_list};
 use byte_strings::ByteString;
 use mk_macros::{Dynamic, MAX_EXPANSION_BYTES, MacroFault, Macros, Rank};
@@ -45,22 +47,44 @@ fn fault_at(place: Option<TextPlace>, cause: MacroFault) -> RuleFault
 
 /// Whether the text is its own expansion, as most texts are: nothing in it is replaced, and it isn't too long.
 #[tactic(auto, using(crate::proofs::PlainLemmas::expands_to_itself))]
-fn is_plain(text: &[u8]) -> bool
+fn is_fixed(text: &[u8]) -> bool
     ensures { IsTrue result → (names : Meanings) → ExpandsTo names text.now (gives text.now) }
 {
     text.len() <= MAX_EXPANSION_BYTES && !text.contains(&b'$')
 }
 
+/// Whether that is told by a look at its bytes for any sign.
+#[tactic(auto, using(crate::proofs::PlainLemmas::expands_to_itself, crate::proofs::WordByteLemmas::no_dollar))]
+fn is_plain(text: &[u8]) -> bool
+    ensures expands { IsTrue result → (names : Meanings) → ExpandsTo names text.now (gives text.now) }
+    ensures signs { IsTrue result → list_any is_sign text.now ≡ false }
+{
+    text.len() <= MAX_EXPANSION_BYTES && !any_is_sign(text)
+}
+
+/// The words of what a text in which signs may stand expands to.
+#[inline(never)]
+fn expanded_words(alloc: Global, macros: &Macros, text: ByteString) -> Result<LineWords, MacroFault>
+    ensures words { IfOk result (λ words. AreWordsOf (defined_by macros.now) text words) }
+    ensures fault { IfErr result (ExpandsToFault (rule_meanings (defined_by macros.now)) text) }
+{
+    if is_fixed(text.as_slice()) {
+        return Ok(LineWords::new(text.into_vec()));
+    }
+    let expansion = macros.expand(alloc, text.as_slice(), &Dynamic::RuleLine)?;
+    Ok(LineWords::new(expansion))
+}
+
 /// The words of what the text of a rule line expands to.
+#[inline(always)]
 fn words_of(alloc: Global, macros: &Macros, text: ByteString) -> Result<LineWords, MacroFault>
     ensures words { IfOk result (λ words. AreWordsOf (defined_by macros.now) text words) }
     ensures fault { IfErr result (ExpandsToFault (rule_meanings (defined_by macros.now)) text) }
 {
     if is_plain(text.as_slice()) {
-        return Ok(LineWords::new(text.into_vec()));
+        return Ok(LineWords::plain(text.into_vec()));
     }
-    let expansion = macros.expand(alloc, text.as_slice(), &Dynamic::RuleLine)?;
-    Ok(LineWords::new(expansion))
+    expanded_words(alloc, macros, text)
 }
 
 /// The words of a rule's two texts.
@@ -83,7 +107,7 @@ fn both_words(
 fn phony_line(
     alloc: Global,
     file: Option<ByteString>,
-    line: usize,
+    line: u32,
     profile: Profile,
     names: LineWords,
 ) -> RuleLine
@@ -108,7 +132,8 @@ fn phony_line(
     }
 }
 
-/// The line of a rule, expanded.
+/// The line of a rule, expanded. There is no memory for one whose number is 2^32 or above.
+#[inline(always)]
 fn rule_line(
     alloc: Global,
     macros: &Macros,
@@ -132,6 +157,9 @@ fn rule_line(
             let place = told_place(macros.profile(), file, line);
             return Err(fault_at(place, cause));
         }
+    };
+    let Ok(line) = u32::try_from(line) else {
+        return Err(RuleFault::OutOfMemory);
     };
     let profile = macros.profile();
     let file = told_file(profile, file);
@@ -174,7 +202,7 @@ pub fn rule_lines(
     ensures macros { OnOk result (defined_by macros.new ≡ behind_items (defined_by macros.old) items.items) }
     ensures fault { IfErr result (IsLinesFault (defined_by macros.old) items.items) }
 {
-    let mut lines = Vec::new(alloc);
+    let mut lines = Vec::with_capacity(alloc, items.len())?;
     for item in items {
         match item {
             Item::Definition(definition) => define(alloc, macros, &definition)?,

@@ -1,8 +1,8 @@
 //! The targets that lines of a special name speak of.
-ghost use Rattle.std.specs.Prelude.{◌≡◌, IfOk, OnOk};
-ghost use Rattle.std.specs.List.{list_any};
+ghost use Rattle.std.specs.Prelude.{◌≡◌, OnOk};
 ghost use Rattle.mk_graph.specs.Numbering.{all_added};
-ghost use Rattle.mk_rule_lines.specs.Marks.{is_of, speaks_of_all, names_in, names_in_all, marked_by, has_mark};
+ghost use Rattle.mk_rule_lines.specs.Marks.{is_of, has_mark};
+ghost use Rattle.mk_rule_lines.specs.Settled.{nothing_marked, marked_with};
 
 use crate::rule_line::RuleLine;
 use mk_graph::Names;
@@ -37,60 +37,45 @@ fn is_of(mark: Mark, special: Option<SpecialName>) -> bool
     }
 }
 
-/// Whether a line of this mark names no targets, and so speaks of all.
-fn speaks_of_all(mark: Mark, line: &RuleLine) -> bool
-    ensures { result ≡ speaks_of_all mark line.now }
-{
-    is_of(mark, line.special) && line.prerequisites.is_empty()
-}
-
-fn any_speaks_of_all(mark: Mark, lines: &[RuleLine]) -> bool
-    ensures { result ≡ list_any (speaks_of_all mark) lines.now }
-{
-    lines.iter().any(|line| speaks_of_all(mark, line))
-}
-
-/// Takes in the names of a line, where it is of this mark.
-fn add_names(
-    alloc: Global,
-    mark: Mark,
-    names: &mut Names,
-    line: &RuleLine,
-) -> Result<(), AllocError>
-    ensures { OnOk result (names.new ≡ all_added names.old (names_in mark line.now)) }
-{
-    if !is_of(mark, line.special) {
-        return Ok(());
-    }
-    for word in line.prerequisites.iter() {
-        let _new = names.mention(alloc, word)?;
-    }
-    Ok(())
-}
-
-fn names_in_all(alloc: Global, mark: Mark, lines: &[RuleLine]) -> Result<Names, AllocError>
-    ensures { IfOk result (λ names. names ≡ names_in_all mark lines.now) }
-{
-    let mut names = Names::new(alloc);
-    for line in lines {
-        add_names(alloc, mark, &mut names, line)?;
-    }
-    Ok(names)
-}
-
 impl Marked {
-    /// The targets that these lines mark.
-    pub(crate) fn by_lines(
+    /// No targets.
+    pub(crate) fn none(alloc: Global) -> Marked
+        ensures { result ≡ nothing_marked }
+    {
+        Marked {
+            all: false,
+            names: Names::new(alloc),
+        }
+    }
+
+    /// Takes in the names of a line.
+    fn add_names(&mut self, alloc: Global, line: &RuleLine) -> Result<(), AllocError>
+        ensures all { self.new.all ≡ self.old.all }
+        ensures names { OnOk result (self.new.names ≡ all_added self.old.names line.now.prerequisites) }
+    {
+        for word in line.prerequisites.iter() {
+            let _new = self.names.mention(alloc, word)?;
+        }
+        Ok(())
+    }
+
+    /// Takes in what a line says, where it is of this mark.
+    pub(crate) fn take_in(
+        &mut self,
         alloc: Global,
         mark: Mark,
-        lines: &[RuleLine],
-    ) -> Result<Marked, AllocError>
-        ensures { IfOk result (λ marked. marked ≡ marked_by mark lines.now) }
+        line: &RuleLine,
+    ) -> Result<(), AllocError>
+        ensures { OnOk result (self.new ≡ marked_with mark self.old line.now) }
     {
-        Ok(Marked {
-            all: any_speaks_of_all(mark, lines),
-            names: names_in_all(alloc, mark, lines)?,
-        })
+        if !is_of(mark, line.special) {
+            return Ok(());
+        }
+        // A line that names no targets speaks of all.
+        if line.prerequisites.is_empty() {
+            self.all = true;
+        }
+        self.add_names(alloc, line)
     }
 
     pub fn has(&self, target: &[u8]) -> bool

@@ -16,16 +16,16 @@ pub struct RuleLine {
     /// The file that holds it, in the wide profile: in the strict one no place of its recipe is told.
     pub file: Option<ByteString>,
     /// The number of the line, from 1, in the file that holds it.
-    pub line: usize,
+    pub line: u32,
     /// The language that it is read in.
     pub profile: Profile,
     /// The special name that stands first, if one does.
     pub special: Option<SpecialName>,
+    /// Whether it is a rule with `::`, of which a name may have several with a recipe.
+    pub is_double: bool,
     pub targets: LineWords,
     pub prerequisites: LineWords,
     pub recipe: Recipe,
-    /// Whether it is a rule with `::`, of which a name may have several with a recipe.
-    pub is_double: bool,
 }
 
 /// Whether the name is one of these.
@@ -149,6 +149,7 @@ impl RuleLine {
         self.is_double_recipe() && self.prerequisites.is_empty()
     }
 
+    #[inline]
     pub(crate) fn may_be_suffix_rule(&self) -> bool
         ensures { result ≡ may_be_suffix_rule self.now }
     {
@@ -156,6 +157,7 @@ impl RuleLine {
     }
 
     /// Whether this target of the line is a suffix rule.
+    #[inline]
     pub fn is_suffix_target(&self, suffixes: &ByteStrings, name: &[u8]) -> bool
         ensures { result ≡ is_suffix_target suffixes.now self.now name.now }
     {
@@ -163,6 +165,7 @@ impl RuleLine {
     }
 
     /// Whether it may have targets that are suffix rules, or others.
+    #[inline]
     pub(crate) fn may_have_targets(&self, suffix_rules: bool) -> bool
         ensures { result ≡ ((not suffix_rules || may_be_suffix_rule self.now) && makes_targets self.now) }
     {

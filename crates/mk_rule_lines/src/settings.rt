@@ -1,6 +1,7 @@
 //! What the special targets of a makefile set.
-ghost use Rattle.std.specs.Prelude.{◌≡◌, IfOk};
-ghost use Rattle.mk_rule_lines.specs.Goals.{is_keep_state, is_no_parallel, is_delete_on_error, has_special, settings_of};
+ghost use Rattle.std.specs.Prelude.{◌≡◌, IfOk, OnOk};
+ghost use Rattle.mk_rule_lines.specs.Goals.{is_keep_state, is_no_parallel, is_delete_on_error, settings_of};
+ghost use Rattle.mk_rule_lines.specs.Settled.{nothing_set, settings_with};
 
 use crate::marked::{Mark, Marked};
 use crate::rule_line::RuleLine;
@@ -32,12 +33,6 @@ fn is_keep_state(line: &RuleLine) -> bool
     }
 }
 
-fn keeps_state(lines: &[RuleLine]) -> bool
-    ensures { result ≡ has_special is_keep_state lines.now }
-{
-    lines.iter().any(|line| is_keep_state(line))
-}
-
 fn is_no_parallel(line: &RuleLine) -> bool
     ensures { result ≡ is_no_parallel line.now.special }
 {
@@ -45,12 +40,6 @@ fn is_no_parallel(line: &RuleLine) -> bool
         Some(SpecialName::NoParallel | SpecialName::NotParallel) => true,
         _ => false,
     }
-}
-
-fn has_one_worker(lines: &[RuleLine]) -> bool
-    ensures { result ≡ has_special is_no_parallel lines.now }
-{
-    lines.iter().any(|line| is_no_parallel(line))
 }
 
 fn is_delete_on_error(line: &RuleLine) -> bool
@@ -62,24 +51,46 @@ fn is_delete_on_error(line: &RuleLine) -> bool
     }
 }
 
-fn deletes_on_error(lines: &[RuleLine]) -> bool
-    ensures { result ≡ has_special is_delete_on_error lines.now }
-{
-    lines.iter().any(|line| is_delete_on_error(line))
-}
-
 impl Settings {
+    /// Nothing set.
+    fn none(alloc: Global) -> Settings
+        ensures { result ≡ nothing_set }
+    {
+        Settings {
+            keeps_state: false,
+            has_one_worker: false,
+            deletes_on_error: false,
+            ignored: Marked::none(alloc),
+            silent: Marked::none(alloc),
+            precious: Marked::none(alloc),
+        }
+    }
+
+    /// Takes in what a line sets.
+    fn take_in(&mut self, alloc: Global, line: &RuleLine) -> Result<(), AllocError>
+        ensures { OnOk result (self.new ≡ settings_with self.old line.now) }
+    {
+        self.keeps_state = self.keeps_state || is_keep_state(line);
+        self.has_one_worker = self.has_one_worker || is_no_parallel(line);
+        self.deletes_on_error = self.deletes_on_error || is_delete_on_error(line);
+        self.ignored.take_in(alloc, Mark::Ignored, line)?;
+        self.silent.take_in(alloc, Mark::Silent, line)?;
+        self.precious.take_in(alloc, Mark::Precious, line)?;
+        Ok(())
+    }
+
     /// What the special rules among these lines set.
     pub fn of_lines(alloc: Global, lines: &[RuleLine]) -> Result<Settings, AllocError>
         ensures { IfOk result (λ settings. settings ≡ settings_of lines.now) }
     {
-        Ok(Settings {
-            keeps_state: keeps_state(lines),
-            has_one_worker: has_one_worker(lines),
-            deletes_on_error: deletes_on_error(lines),
-            ignored: Marked::by_lines(alloc, Mark::Ignored, lines)?,
-            silent: Marked::by_lines(alloc, Mark::Silent, lines)?,
-            precious: Marked::by_lines(alloc, Mark::Precious, lines)?,
-        })
+        let mut settings = Settings::none(alloc);
+        for line in lines {
+            // Most lines are rules, which set nothing.
+            if line.is_rule() {
+                continue;
+            }
+            settings.take_in(alloc, line)?;
+        }
+        Ok(settings)
     }
 }

@@ -197,7 +197,7 @@ pub fn check_lines(lines: &[RuleLine]) -> Result<(), RuleFault>
 {
     for line in lines {
         if let Some(what) = refusal(line) {
-            return Err(RuleFault::Unsupported(what, line.line));
+            return Err(RuleFault::Unsupported(what, line.line as usize));
         }
     }
     Ok(())

@@ -1,36 +1,53 @@
 //! Which rule lines a name is a target of.
-ghost use Rattle.std.specs.Prelude.{◌≡◌, ◌∷◌, ◌++◌, ℕ, List, [], None, OnOk, IfOk, IfErr, if◌then◌else◌, bytes_eq, is_some, ◌&&◌, not};
-ghost use Rattle.mk_rule_lines.specs.Table.{is_last, with_line, with_target, numbers_in, target_at, named_at, nothing_named, shown_target, AddsLine, IsAddFault, IsTable, IsTableFault, is_named};
+ghost use Rattle.std.specs.Prelude.{◌≡◌, ◌≢◌, ◌∷◌, ℕ, List, [], None, OnOk, IfOk, IfErr, if◌then◌else◌, bytes_eq, MatchOption, is_some, ◌&&◌, not};
+ghost use Rattle.mk_rule_lines.specs.Named.{shown_lines, shown_target, nothing_named};
+ghost use Rattle.mk_rule_lines.specs.Table.{is_last, with_line, with_target, named_at, AddsLine, IsAddFault, IsTable, IsTableFault, is_named};
 ghost use Rattle.mk_rule_lines.specs.Rules.{lacks_single, targets_by};
 
 use crate::fault::RuleFault;
 use crate::rule_line::RuleLine;
 use byte_strings::{ByteString, ByteStrings};
-use indexmap::IndexMap;
-use name_keys::{Name, NameRef};
+use mk_graph::Names;
 use std::alloc::{AllocError, Global};
+use std::marker::Model;
 use std::slice;
 
-/// Numbers in order. A target mostly has one line, whose number takes no memory of its own.
+/// The lines that name a target, by their numbers, from 0. A target mostly has one line, which takes no memory of its own.
 #[derive(Drop)]
-enum Numbers {
-    One(usize),
-    Many(Vec<usize>),
+enum Target {
+    /// One line, which has no recipe, or is one with `::`.
+    WithoutRecipe(usize),
+    /// One line, which has the recipe.
+    WithRecipe(usize),
+    Many(Box<ManyLines>),
 }
 
-/// The lines that name a target.
+/// Several lines that name a target.
 #[derive(Drop)]
-struct Target {
-    /// The numbers of these lines, from 0.
-    lines: Numbers,
+struct ManyLines {
+    numbers: Vec<usize>,
     /// The number of the line that has the recipe, if it isn't one with `::`.
     recipe: Option<usize>,
 }
 
-/// The targets of a makefile's rule lines.
+/// The targets of a makefile's rule lines, each at its name's number.
 #[derive(Drop)]
 pub struct TargetTable {
-    targets: IndexMap<Name, Target>,
+    names: Names,
+    targets: Vec<Target>,
+}
+
+impl Model for TargetTable {
+    ghost use Rattle.std.specs.Prelude.{◌≡◌, length, map};
+    ghost use Rattle.std.specs.List.{IsDistinct};
+    ghost use Rattle.std.specs.Str.{bytes_eq};
+    ghost use Rattle.mk_rule_lines.specs.Named.{NumberedTargets, shown_target};
+
+    ghost Value = { NumberedTargets };
+
+    ghost view = { λ t. record { names = t.names; named = map shown_target t.targets.items } };
+
+    ghost invariant = { λ t. IsDistinct bytes_eq t.names × (length t.names ≡ length t.targets.items) };
 }
 
 fn is_last(number: usize, numbers: &[usize]) -> bool
@@ -42,39 +59,37 @@ fn is_last(number: usize, numbers: &[usize]) -> bool
     }
 }
 
-impl Numbers {
-    fn as_slice(&self) -> &[usize]
-        ensures { result.now ≡ numbers_in self.now }
+impl ManyLines {
+    /// Takes in that a line names the target.
+    fn add(&mut self, line: usize, has_recipe: bool) -> Result<(), AllocError>
+        ensures { OnOk result (shown_lines self.new ≡ with_target line has_recipe (shown_lines self.old)) }
     {
-        match self {
-            Numbers::One(number) => slice::from_ref(number),
-            Numbers::Many(numbers) => numbers.as_slice(),
+        if !is_last(line, &self.numbers) {
+            self.numbers.push(line)?;
         }
-    }
-
-    fn push(&mut self, alloc: Global, number: usize) -> Result<(), AllocError>
-        ensures { OnOk result (numbers_in self.new ≡ numbers_in self.old ++ number ∷ []) }
-    {
-        let first = match self {
-            Numbers::One(first) => *first,
-            Numbers::Many(numbers) => {
-                numbers.push(number)?;
-                return Ok(());
-            }
-        };
-        *self = Numbers::Many(vec![in alloc; first, number]?);
+        if has_recipe {
+            self.recipe = Some(line);
+        }
         Ok(())
     }
+}
 
-    /// Adds the number, unless it is the last one.
-    fn add(&mut self, alloc: Global, number: usize) -> Result<(), AllocError>
-        ensures { OnOk result (numbers_in self.new ≡ with_line number (numbers_in self.old)) }
-    {
-        if is_last(number, self.as_slice()) {
-            return Ok(());
-        }
-        self.push(alloc, number)
-    }
+/// A line of a target, and another one behind it.
+fn two_lines(
+    alloc: Global,
+    first: usize,
+    recipe: Option<usize>,
+    line: usize,
+    has_recipe: bool,
+) -> Result<Target, AllocError>
+    requires { first ≢ line }
+    ensures { IfOk result (λ target. shown_target target ≡ with_target line has_recipe (record { lines = first ∷ []; recipe = recipe })) }
+{
+    let lines = ManyLines {
+        numbers: vec![in alloc; first, line]?,
+        recipe: if has_recipe { Some(line) } else { recipe },
+    };
+    Ok(Target::Many(Box::new(alloc, lines)?))
 }
 
 impl Target {
@@ -82,21 +97,52 @@ impl Target {
     fn new(line: usize, has_recipe: bool) -> Target
         ensures { shown_target result ≡ with_target line has_recipe nothing_named }
     {
-        Target {
-            lines: Numbers::One(line),
-            recipe: if has_recipe { Some(line) } else { None },
+        if has_recipe {
+            Target::WithRecipe(line)
+        } else {
+            Target::WithoutRecipe(line)
+        }
+    }
+
+    fn lines(&self) -> &[usize]
+        ensures { result.now ≡ (shown_target self.now).lines }
+    {
+        match self {
+            Target::WithoutRecipe(line) => slice::from_ref(line),
+            Target::WithRecipe(line) => slice::from_ref(line),
+            Target::Many(lines) => lines.numbers.as_slice(),
+        }
+    }
+
+    fn recipe(&self) -> Option<usize>
+        ensures { result ≡ (shown_target self.now).recipe }
+    {
+        match self {
+            Target::WithoutRecipe(_) => None,
+            Target::WithRecipe(line) => Some(*line),
+            Target::Many(lines) => lines.recipe,
         }
     }
 
     /// Takes in that a line names the target, and answers whether its recipe is a second one.
     fn add(&mut self, alloc: Global, line: usize, has_recipe: bool) -> Result<bool, AllocError>
-        ensures second { IfOk result (λ second. second ≡ (has_recipe && is_some self.old.recipe)) }
+        ensures second { IfOk result (λ second. second ≡ (has_recipe && is_some (shown_target self.old).recipe)) }
         ensures ok { OnOk result (shown_target self.new ≡ with_target line has_recipe (shown_target self.old)) }
     {
-        let is_second = has_recipe && self.recipe.is_some();
-        self.lines.add(alloc, line)?;
-        if has_recipe {
-            self.recipe = Some(line);
+        let recipe = self.recipe();
+        let is_second = has_recipe && recipe.is_some();
+        let first = match self {
+            Target::WithoutRecipe(first) => *first,
+            Target::WithRecipe(first) => *first,
+            Target::Many(lines) => {
+                lines.add(line, has_recipe)?;
+                return Ok(is_second);
+            }
+        };
+        if first != line {
+            *self = two_lines(alloc, first, recipe, line, has_recipe)?;
+        } else if has_recipe {
+            *self = Target::WithRecipe(line);
         }
         Ok(is_second)
     }
@@ -113,17 +159,26 @@ impl TargetTable {
     {
         let room = if suffix_rules { 0 } else { lines.len() };
         Ok(TargetTable {
-            targets: IndexMap::with_capacity(alloc, room)?,
+            names: Names::new(alloc),
+            targets: Vec::with_capacity(alloc, room)?,
         })
     }
 
+    fn target(&self, name: &[u8]) -> Option<&Target>
+        ensures { MatchOption result (named_at self.now name.now ≡ nothing_named) (λ target. named_at self.now name.now ≡ shown_target target.now) }
+    {
+        let number = self.names.number_of(name)?;
+        Some(&self.targets[number as usize])
+    }
+
     /// The numbers of the lines that name the target, in order, and of the one that has its recipe, if it isn't one with `::`.
+    #[inline]
     pub fn named(&self, name: &[u8]) -> (&[usize], Option<usize>)
         ensures lines { result.0.now ≡ (named_at self.now name.now).lines }
         ensures recipe { result.1 ≡ (named_at self.now name.now).recipe }
     {
-        match self.targets.get(NameRef { bytes: name }) {
-            Some(target) => (target.lines.as_slice(), target.recipe),
+        match self.target(name) {
+            Some(target) => (target.lines(), target.recipe()),
             None => (&[], None),
         }
     }
@@ -154,30 +209,14 @@ impl TargetTable {
         ensures ok { OnOk result ((n : List ℕ) → named_at self.new n
             ≡ (if bytes_eq n name.now then with_target line has_recipe (named_at self.old n) else named_at self.old n)) }
     {
-        match self.targets.get_mut(NameRef { bytes: name }) {
-            Some(target) => target.add(alloc, line, has_recipe),
-            None => {
-                self.add_new(alloc, name, line, has_recipe)?;
-                Ok(false)
-            }
+        self.targets.reserve(1)?;
+        let number = self.names.numbered(alloc, name)?;
+        let place = number as usize;
+        if place < self.targets.len() {
+            return self.targets[place].add(alloc, line, has_recipe);
         }
-    }
-
-    /// Takes in a name that no line above has among its targets.
-    fn add_new(
-        &mut self,
-        alloc: Global,
-        name: &[u8],
-        line: usize,
-        has_recipe: bool,
-    ) -> Result<(), AllocError>
-        requires { target_at self.old name.now ≡ None }
-        ensures { OnOk result ((n : List ℕ) → named_at self.new n
-            ≡ (if bytes_eq n name.now then with_target line has_recipe (named_at self.old n) else named_at self.old n)) }
-    {
-        let name = Name::from_slice(alloc, name)?;
-        self.targets.insert(name, Target::new(line, has_recipe))?;
-        Ok(())
+        self.targets.push(Target::new(line, has_recipe)).unwrap();
+        Ok(false)
     }
 
     /// Takes in the targets of the line of this number that are suffix rules, or those that are not.
@@ -204,7 +243,7 @@ impl TargetTable {
             let is_second = self.add(alloc, target, number, has_recipe)?;
             if is_second {
                 let name = ByteString::from_slice(alloc, target)?;
-                return Err(RuleFault::TwoRecipes(name, line.line));
+                return Err(RuleFault::TwoRecipes(name, line.line as usize));
             }
         }
         Ok(())
@@ -221,6 +260,9 @@ impl TargetTable {
         ensures fault { IfErr result (IsTableFault (targets_by suffix_rules suffixes.now) lines.now) }
     {
         let mut table = TargetTable::with_room(alloc, lines, suffix_rules)?;
+        if suffix_rules && suffixes.is_empty() {
+            return Ok(table);
+        }
         for (i, line) in lines.iter().enumerate() {
             table.add_line(alloc, i, line, suffixes, suffix_rules)?;
         }

@@ -1,7 +1,7 @@
 -- A graph of its parts.
 use Rattle.std.proofs.Common.{◌≡◌, ℕ, true, List, length, map, sym, ap, subst, ◌∙◌}
 use Rattle.std.specs.FinMap as finmap
-use Rattle.std.specs.Prelude.{unwrap_or}
+use Rattle.std.specs.Prelude.{slice_get, unwrap_or}
 use Rattle.st_state.specs.State.{StateMap}
 use Rattle.mk_graph.specs.Counted.{AreCounted}
 use Rattle.mk_graph.specs.Cycle.{HasCycle}
@@ -13,6 +13,7 @@ use Rattle.mk_rules.specs.Assembly.{IsPutTogether}
 use Rattle.mk_rules.specs.Found.{AreFound, IsUnmadeFault, IsGraphlessFault}
 use Rattle.mk_rule_lines.specs.Goals.{goals_of, settings_of}
 use Rattle.mk_rules.specs.Graph.{IsGraph, IsNode, AreMade, AreHard, AreRequired, AreSoft, required_in}
+use Rattle.mk_rules.specs.Nodes.{IsNamedOf}
 use Rattle.mk_rules.specs.Ordering.{IsCycleFault}
 use Rattle.mk_rules.specs.Prerequisites.{Inputs, prerequisites_of, is_made}
 use Rattle.mk_rules.specs.Rows.{EachRow, IsHardRow}
@@ -20,20 +21,25 @@ use Rattle.mk_rule_lines.specs.Taken.{AreTaken}
 use Rattle.mk_rule_lines.specs.declared.fault.RuleFault.{RuleFault}
 use Rattle.mk_rule_lines.specs.declared.fault.RuleFault.TheVariants as fault
 use Rattle.mk_rules.specs.declared.graph.Graph.{Graph}
-use Rattle.mk_rules.specs.declared.known.Known.{Known}
+use Rattle.mk_rules.specs.declared.graph.Node.{Node}
+use Rattle.mk_rules.specs.declared.nodes.Named.{Named}
 use Rattle.mk_rules.specs.declared.ordering.Ordered.{Ordered}
 use Rattle.mk_rule_lines.specs.declared.rule_line.RuleLine.{RuleLine}
 use Rattle.mk_rules.proofs.MadeLemmas.{has_at}
 use Rattle.mk_rules.proofs.NeededLemmas.{needed_is}
 use Rattle.mk_rules.proofs.RowLaws.{are_hard, nodes_are}
 
-module _ (inputs : Inputs) (named : List (List ℕ)) (lines : List RuleLine) (lines_are : inputs.lines ≡ lines) (n : Numbered Known)
+module _ (inputs : Inputs) (named : List (List ℕ)) (lines : List RuleLine) (lines_are : inputs.lines ≡ lines) (n : Numbered Node)
     (found : AreFound inputs (goals_of inputs.lines named) n) (node_count : length n.nodes.items ≡ length n.names) where
   module _ (o : Ordered) (hard_count : length o.hard ≡ length n.names) (rows : EachRow (IsHardRow n.rows n.nodes.items) o.hard) (taken : AreTaken lines)
       (made : AreMade inputs n.names) (required : AreRequired inputs n.names (unwrap_or o.required o.hard)) (soft : AreSoft inputs n.names o.soft)
       (counted : AreCounted (unwrap_or o.required o.hard) o.soft o.counted o.soft_dropped)
       (acyclic : HasCycle (unwrap_or o.required o.hard) → ⊥) (order : IsPlan o.counted o.order.items) (closed : is_closed n.rows ≡ true) (state : StateMap)
-      (entries : finmap.get state ≡ inputs.entries) (graph : Graph) (p : IsPutTogether lines n o state graph) where
+      (entries : finmap.get state ≡ inputs.entries) (graph : Graph)
+      (named_nodes : Named) (of : IsNamedOf n named_nodes) (p : IsPutTogether lines named_nodes o state graph) where
+    names_is : graph.names ≡ n.names
+    names_is = p.names ∙ of.names
+
     hard_is : AreHard inputs n.names o.hard
     hard_is = are_hard inputs n.names n.rows n.nodes.items found.rows_are found.known node_count o.hard (hard_count ∙ sym node_count) rows
 
@@ -52,17 +58,18 @@ module _ (inputs : Inputs) (named : List (List ℕ)) (lines : List RuleLine) (li
     assembled = record {
       lines = p.lines_are ∙ sym lines_are;
       taken = subst AreTaken (sym lines_are) taken;
-      names = subst (IsNumbering (prerequisites_of inputs) (goals_of inputs.lines named)) (sym p.names) found.names_are;
-      goals = ap (λ ns. map (name_at ns) graph.goals.items) p.names ∙ ap (map (name_at n.names)) p.goals ∙ found.goals_are;
-      made = subst (AreMade inputs) (sym p.names) made;
-      nodes = p.count ∙ node_count ∙ ap length (sym p.names);
+      names = subst (IsNumbering (prerequisites_of inputs) (goals_of inputs.lines named)) (sym names_is) found.names_are;
+      goals = ap (λ ns. map (name_at ns) graph.goals.items) names_is ∙ ap (map (name_at n.names)) (p.goals ∙ of.goals) ∙ found.goals_are;
+      made = subst (AreMade inputs) (sym names_is) made;
+      nodes = ap length p.nodes ∙ of.count ∙ node_count ∙ ap length (sym names_is);
       node = λ k node at.
-          subst (λ ns. IsNode inputs ns (row graph.hard k) (name_at ns k) node) (sym p.names)
+          subst (λ ns. IsNode inputs ns (row graph.hard k) (name_at ns k) node) (sym names_is)
           (subst (λ h. IsNode inputs n.names (row h k) (name_at n.names k) node) (sym p.hard)
-          (nodes_are inputs n.names n.rows n.nodes.items found.rows_are found.known node_count closed o.hard (hard_count ∙ sym node_count) rows graph.nodes.items p.nodes k node at));
-      hard = subst (λ ns. AreHard inputs ns graph.hard) (sym p.names) (subst (AreHard inputs n.names) (sym p.hard) hard_is);
-      required = subst (λ ns. AreRequired inputs ns (required_in graph)) (sym p.names) (subst (AreRequired inputs n.names) (sym required_is) required);
-      soft = subst (λ ns. AreSoft inputs ns graph.soft) (sym p.names) (subst (AreSoft inputs n.names) (sym p.soft) soft);
+          (nodes_are inputs n.names n.rows n.nodes.items found.rows_are found.known node_count closed o.hard (hard_count ∙ sym node_count) rows named_nodes.nodes.items of.nodes k node
+          (ap (λ ns. slice_get ns k) (sym p.nodes) ∙ at)));
+      hard = subst (λ ns. AreHard inputs ns graph.hard) (sym names_is) (subst (AreHard inputs n.names) (sym p.hard) hard_is);
+      required = subst (λ ns. AreRequired inputs ns (required_in graph)) (sym names_is) (subst (AreRequired inputs n.names) (sym required_is) required);
+      soft = subst (λ ns. AreSoft inputs ns graph.soft) (sym names_is) (subst (AreSoft inputs n.names) (sym p.soft) soft);
       counted = counted_is;
       acyclic = subst (λ h. HasCycle h → ⊥) (sym required_is) acyclic;
       order = subst (λ c. IsPlan c graph.order.items) (sym p.counted) (subst (IsPlan o.counted) (sym p.order) order);

@@ -16,7 +16,7 @@ use Rattle.mk_rule_lines.specs.Taken.{IsTakingFault}
 use Rattle.mk_rule_lines.specs.declared.fault.RuleFault.{RuleFault}
 use Rattle.mk_rule_lines.specs.declared.fault.RuleFault.TheVariants as fault
 use Rattle.mk_rules.specs.declared.graph.Graph.{Graph}
-use Rattle.mk_rules.specs.declared.known.Known.{Known}
+use Rattle.mk_rules.specs.declared.graph.Node.{Node}
 use Rattle.mk_rule_lines.specs.declared.rule_line.RuleLine.{RuleLine}
 use Rattle.mk_rules.proofs.FaultLemmas.{graph_fault}
 
@@ -41,7 +41,7 @@ module _ (given : Defined) (items : List Item) (times : (name : List ℕ) → Op
   are_inputs : AreInputs given items times entries (inputs_of lines entries times)
   are_inputs = record { lines = are; times_are = refl; entries_are = refl }
 
-  module _ (n : Numbered Known) (found : AreFound (inputs_of lines entries times) (goals_of lines named) n) where
+  module _ (n : Numbered Node) (found : AreFound (inputs_of lines entries times) (goals_of lines named) n) where
     pub built : (graph : Graph) →
         ((inputs : Inputs) (names : List (List ℕ)) → inputs.lines ≡ lines → entries ≡ inputs.entries → AreFound inputs (goals_of inputs.lines names) n → IsGraph inputs names graph) →
         (inputs : Inputs) × AreInputs given items times entries inputs × IsGraph inputs named graph

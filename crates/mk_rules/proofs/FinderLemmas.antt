@@ -4,10 +4,9 @@ use Rattle.std.specs.Prelude.{option_map, option_to_list, unwrap_or}
 use Rattle.mk_graph.specs.Numbering.{all_added}
 use Rattle.mk_graph.proofs.NameLemmas.{all_added-append}
 use Rattle.st_records.specs.declared.record.Entry.{Entry}
-use Rattle.mk_rule_lines.specs.Explicit.{explicit_of, is_phony}
+use Rattle.mk_rule_lines.specs.Explicit.{numbers_of, explicit_of, is_phony}
 use Rattle.mk_rule_lines.specs.Rules.{has}
 use Rattle.mk_rule_lines.specs.declared.rule_line.RuleLine.{RuleLine}
-use Rattle.mk_rules.proofs.RowLemmas.{distinct_again}
 use Rattle.mk_rules.specs.Hidden.{IsNamesFault}
 use Rattle.mk_rules.specs.Seen.{IsSeen, IsNumberedAs}
 use Rattle.mk_rules.specs.declared.known.Seen.{Seen}
@@ -22,28 +21,36 @@ use Rattle.mk_rule_lines.specs.declared.fault.RuleFault.{RuleFault}
 use Rattle.mk_rule_lines.specs.declared.fault.RuleFault.TheVariants as fault
 use Rattle.mk_rule_lines.specs.declared.form.Form.{Form}
 use Rattle.mk_rule_lines.specs.declared.form.Source.{Source}
-use Rattle.mk_rules.specs.declared.known.Known.{Known}
+use Rattle.mk_rules.specs.declared.graph.Node.{Node}
+use Rattle.mk_rules.specs.declared.rare.Rare.{Rare}
 use Rattle.mk_rule_lines.specs.declared.table.TargetTable.{TargetTable}
 
-module _ (inputs : Inputs) (name : List ℕ) (source : Option Source) (hard : List (List ℕ)) (source_is : source ≡ implicit_source inputs name)
-    (hard_is : hard ≡ distinct (made_from source ++ explicit_of inputs.lines name)) where
-  hard_are : hard ≡ hard_of inputs name
-  hard_are = hard_is ∙ ap (λ (s : Option Source). distinct (made_from s ++ explicit_of inputs.lines name)) source_is
+module _ (inputs : Inputs) (name : List ℕ) (source : Option Source) (made : List (List ℕ)) (source_is : source ≡ implicit_source inputs name)
+    (made_is : made ≡ made_from source) where
+  made_are : made ≡ made_from (implicit_source inputs name)
+  made_are = made_is ∙ ap made_from source_is
+
+  abbrev hard : List (List ℕ)
+  hard = made ++ explicit_of inputs.lines name
+
+  each_once : distinct hard ≡ hard_of inputs name
+  each_once = ap (λ m. distinct (m ++ explicit_of inputs.lines name)) made_are
 
   -- the hard prerequisites with the order-only ones are what the name isn't made without
   required_are : (listed : Option (List (List ℕ))) (order_only : List (List ℕ)) → order_only ≡ order_only_of inputs name →
-      unwrap_or listed hard ≡ all_added hard order_only → unwrap_or listed (hard_of inputs name) ≡ required_of inputs name
+      unwrap_or listed (distinct hard) ≡ all_added (distinct hard) order_only → unwrap_or listed (hard_of inputs name) ≡ required_of inputs name
   required_are listed order_only order_only_is said =
-      ap (unwrap_or listed) (sym hard_are) ∙ said ∙ ap (λ (h : List (List ℕ)). all_added h order_only) hard_are ∙ ap (all_added (hard_of inputs name)) order_only_is
+      ap (unwrap_or listed) (sym each_once) ∙ said ∙ ap (λ (h : List (List ℕ)). all_added h order_only) each_once ∙ ap (all_added (hard_of inputs name)) order_only_is
 
   -- what was found of the name is what the inputs say of it
-  pub seen_is : (s : Seen) (own left : Option ℕ) → left ≡ left_recipe inputs name → s.hard ≡ hard → s.order_only ≡ order_only_of inputs name → s.node.stamp ≡ inputs.times name →
-      s.node.stem ≡ option_map (λ s. s.stem) source → s.node.implied ≡ length (distinct (made_from source)) →
+  pub seen_is : (s : Seen) (own left : Option ℕ) → left ≡ left_recipe inputs name → s.lines.now ≡ numbers_of inputs.lines name → s.made ≡ made → s.order_only ≡ order_only_of inputs name → s.node.stamp ≡ inputs.times name →
+      s.node.rare.stem ≡ option_map (λ s. s.stem) source → s.node.rare.implied ≡ length (distinct (made_from source)) →
       s.node.recipe ≡ first_or (option_to_list own) (rule_or source left) → option_to_list own ≡ own_recipes inputs.lines name →
-      s.node.hard ≡ length hard → unwrap_or (listed_in s.node) hard ≡ all_added hard s.order_only →
-      option_map (λ g. g.value) s.node.group ≡ group_with inputs.times name (others_in source) → IsSeen inputs name s
-  seen_is s own left left_is same_hard order_only stamp stem given recipe own_is count required group = record {
-    hard_are = same_hard ∙ hard_are;
+      unwrap_or (listed_in s.node) (distinct hard) ≡ all_added (distinct hard) s.order_only →
+      option_map (λ g. g.value) s.node.rare.group ≡ group_with inputs.times name (others_in source) → IsSeen inputs name s
+  seen_is s own left left_is lines same_made order_only stamp stem given recipe own_is required group = record {
+    lines_are = lines;
+    made_are = same_made ∙ made_are;
     order_only_are = order_only;
     stamp = stamp;
     stem = stem ∙ ap (option_map (λ (s : Source). s.stem)) source_is;
@@ -53,15 +60,14 @@ module _ (inputs : Inputs) (name : List ℕ) (source : Option Source) (hard : Li
         ∙ ap (λ (s : Option Source). first_or (own_recipes inputs.lines name) (rule_or s left)) source_is
         ∙ ap (λ (l : Option ℕ). first_or (own_recipes inputs.lines name) (rule_or (implicit_source inputs name) l)) left_is;
     group = group ∙ ap (λ (s : Option Source). group_with inputs.times name (others_in s)) source_is;
-    count = count ∙ ap length (sym same_hard);
     required = required_are (listed_in s.node) s.order_only order_only required;
   }
 
 -- what was found of a name, once its prerequisites have numbers
-module _ (inputs : Inputs) (name : List ℕ) (seen : Seen) (is : IsSeen inputs name seen) (row : List (List ℕ)) (known : Known)
-    (numbered : IsNumberedAs (is_node inputs) seen (hidden_of inputs name) row known) where
-  distinct_hard : distinct seen.hard ≡ hard_of inputs name
-  distinct_hard = ap distinct is.hard_are ∙ distinct_again (made_from (implicit_source inputs name) ++ explicit_of inputs.lines name)
+module _ (inputs : Inputs) (name : List ℕ) (seen : Seen) (is : IsSeen inputs name seen) (row : List (List ℕ)) (known : Node)
+    (numbered : IsNumberedAs (is_node inputs) seen.node (seen.made ++ explicit_of inputs.lines name) (hidden_of inputs name) seen.order_only row known) where
+  distinct_hard : distinct (seen.made ++ explicit_of inputs.lines name) ≡ hard_of inputs name
+  distinct_hard = ap (λ m. distinct (m ++ explicit_of inputs.lines name)) is.made_are
 
   -- they are all prerequisites
   pub all_are : row ≡ prerequisites_of inputs name
@@ -71,17 +77,17 @@ module _ (inputs : Inputs) (name : List ℕ) (seen : Seen) (is : IsSeen inputs n
       ∙ sym (all_added-append (hard_of inputs name) (filter (is_node inputs) (hidden_of inputs name)) (order_only_of inputs name))
 
   count_is : known.hard ≡ length (hard_of inputs name)
-  count_is = numbered.as_seen.count ∙ is.count ∙ ap length is.hard_are
+  count_is = numbered.count ∙ ap length distinct_hard
 
   pub known_is : IsKnown inputs name known
   known_is = record {
     stamp = numbered.as_seen.stamp ∙ is.stamp;
-    stem = numbered.as_seen.stem ∙ is.stem;
-    implied = numbered.as_seen.implied ∙ is.implied;
+    stem = ap (λ (r : Rare). r.stem) numbered.as_seen.rare ∙ is.stem;
+    implied = ap (λ (r : Rare). r.implied) numbered.as_seen.rare ∙ is.implied;
     recipe = numbered.as_seen.recipe ∙ is.recipe;
-    group = ap (option_map (λ (g : Box Group). g.value)) numbered.as_seen.group ∙ is.group;
+    group = ap (λ (r : Rare). option_map (λ (g : Box Group). g.value) r.group) numbered.as_seen.rare ∙ is.group;
     hard = count_is;
-    required = ap (λ (r : Option (Box (List (List ℕ)))). unwrap_or (option_map (λ l. l.value) r) (hard_of inputs name)) numbered.as_seen.required ∙ is.required;
+    required = ap (λ (r : Rare). unwrap_or (option_map (λ l. l.value) r.required) (hard_of inputs name)) numbered.as_seen.rare ∙ is.required;
     hidden =
         numbered.among ∙ ap (λ (h : List (List ℕ)). map (is_node inputs) (drop (length h) (all_added h (hidden_of inputs name)))) distinct_hard
         ∙ ap (λ (n : ℕ). map (is_node inputs) (drop n (judged_of inputs name))) (sym count_is);

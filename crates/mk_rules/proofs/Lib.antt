@@ -4,6 +4,7 @@ pub mod BuildLemmas
 pub mod ChainLaws
 pub mod ChainLemmas
 pub mod DistinctLemmas
+pub mod ExplicitLemmas
 pub mod FaultLemmas
 pub mod FewLemmas
 pub mod FinderLemmas
@@ -18,7 +19,6 @@ pub mod LookupLemmas
 pub mod MadeLemmas
 pub mod NeededLemmas
 pub mod NodeLemmas
-pub mod NumberSetLemmas
 pub mod OneGraphLemmas
 pub mod OneNumberingLemmas
 pub mod OrderLemmas

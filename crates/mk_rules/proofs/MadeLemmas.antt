@@ -7,7 +7,7 @@ use Rattle.mk_rules.specs.Known.{IsKnown}
 use Rattle.mk_rules.specs.Prerequisites.{Inputs, default_of, is_target, implicit_source, is_made}
 use Rattle.mk_rule_lines.specs.Table.{is_named, named_at}
 use Rattle.mk_rule_lines.specs.declared.form.Source.{Source}
-use Rattle.mk_rules.specs.declared.known.Known.{Known}
+use Rattle.mk_rules.specs.declared.graph.Node.{Node}
 use Rattle.mk_rule_lines.specs.declared.rule_line.RuleLine.{RuleLine}
 use Rattle.mk_rule_lines.specs.declared.table.TargetTable.{TargetTable}
 use Rattle.std.proofs.lemmas.Slice.Eq.{bytes_eq-Decides}
@@ -39,15 +39,15 @@ no_default false m e = refl
 
 -- where there is none, what is known of a name tells whether something makes it
 pub made_is : (inputs : Inputs) (lines : List RuleLine) (targets : TargetTable) → inputs.lines ≡ lines → is_some (default_of lines) ≡ false →
-    ((name : List ℕ) → is_named (named_at targets name) ≡ is_target lines name) → (name : List ℕ) (k : Known) → IsKnown inputs name k →
-    (is_some k.stamp || (is_some k.stem || is_named (named_at targets name))) ≡ is_made inputs name
+    ((name : List ℕ) → is_named (named_at targets name) ≡ is_target lines name) → (name : List ℕ) (k : Node) → IsKnown inputs name k →
+    (is_some k.stamp || (is_some k.rare.stem || is_named (named_at targets name))) ≡ is_made inputs name
 made_is inputs lines targets lines_are none table name k is =
     let stamp : is_some k.stamp ≡ is_some (inputs.times name) = ap is_some is.stamp in
-    let stem : is_some k.stem ≡ is_some (implicit_source inputs name) = ap is_some is.stem ∙ some_stem (implicit_source inputs name) in
+    let stem : is_some k.rare.stem ≡ is_some (implicit_source inputs name) = ap is_some is.stem ∙ some_stem (implicit_source inputs name) in
     let target : is_named (named_at targets name) ≡ is_target inputs.lines name = table name ∙ ap (λ (ls : List RuleLine). is_target ls name) (sym lines_are) in
-    in_order (is_some k.stamp) (is_some k.stem) (is_named (named_at targets name))
-    ∙ ap (λ (t : Bool). (t || is_some k.stamp) || is_some k.stem) target
-    ∙ ap (λ (s : Bool). (is_target inputs.lines name || s) || is_some k.stem) stamp
+    in_order (is_some k.stamp) (is_some k.rare.stem) (is_named (named_at targets name))
+    ∙ ap (λ (t : Bool). (t || is_some k.stamp) || is_some k.rare.stem) target
+    ∙ ap (λ (s : Bool). (is_target inputs.lines name || s) || is_some k.rare.stem) stamp
     ∙ ap (λ (m : Bool). (is_target inputs.lines name || is_some (inputs.times name)) || m) stem
     ∙ no_default (is_some (default_of inputs.lines)) _ (ap (λ (ls : List RuleLine). is_some (default_of ls)) lines_are ∙ none)
 

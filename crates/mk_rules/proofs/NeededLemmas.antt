@@ -8,7 +8,7 @@ use Rattle.mk_rules.specs.Faults.{IsNeededBy}
 use Rattle.mk_rules.specs.Found.{HasItInItsRow}
 use Rattle.mk_rules.specs.Known.{IsKnown}
 use Rattle.mk_rules.specs.Prerequisites.{Inputs, prerequisites_of}
-use Rattle.mk_rules.specs.declared.known.Known.{Known}
+use Rattle.mk_rules.specs.declared.graph.Node.{Node}
 use Rattle.mk_rules.proofs.HiddenLemmas.{has_first, has_later}
 use Rattle.mk_rules.proofs.MadeLemmas.{has_at}
 use Rattle.mk_rules.proofs.RowLaws.{rows_count, row_at}
@@ -28,7 +28,7 @@ has_mapped names node (n ∷ numbers) is = by (has_mapped names node numbers) (n
         (rest (sym (ap (λ b. b || has_number numbers node) other) ∙ is))
 
 -- a name in whose row a node stands has the node's name among its prerequisites
-module _ (inputs : Inputs) (names : List (List ℕ)) (rows : List (List ℕ)) (known : List Known) (rows_are : map (map (name_at names)) rows ≡ map (prerequisites_of inputs) names)
+module _ (inputs : Inputs) (names : List (List ℕ)) (rows : List (List ℕ)) (known : List Node) (rows_are : map (map (name_at names)) rows ≡ map (prerequisites_of inputs) names)
     (described : AreDescribed (IsKnown inputs) names known) (count : length known ≡ length names) (node : ℕ) (name : List ℕ) (name_is : name ≡ name_at names node) where
   user_is : (user : List ℕ) → HasItInItsRow names rows node user → IsNeededBy inputs names name user
   user_is user is =

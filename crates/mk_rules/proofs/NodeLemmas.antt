@@ -1,57 +1,86 @@
--- Nodes made one by one.
-use Rattle.std.proofs.Common.{arith, ◌≡◌, ℕ, ◌+◌, ◌<◌, ◌≤◌, suc, zero, List, [], ◌∷◌, ◌++◌, length, drop, Some, refl, sym, ap, subst, ◌∙◌, ⊎_elim, length-append}
-use Rattle.std.specs.Prelude.{slice_get}
-use Rattle.std.proofs.Math.ListN.{get_or-append}
-use Rattle.std.proofs.lemmas.Bool.{cases_lt}
-use Rattle.std.proofs.lemmas.Option.{slice_get_within, slice_get-get_or}
+-- Hidden prerequisites get their numbers one by one, and nodes one by one.
+use Rattle.std.proofs.Common.{arith, ◌≡◌, ℕ, ◌+◌, ◌<◌, ◌≤◌, Bool, List, [], ◌∷◌, ◌++◌, length, map, take, drop, set, get_or, append_assoc, Option, Some, refl, sym, ap, subst, ◌∙◌, ⊎_elim}
+use Rattle.std.specs.Prelude.{slice_get, is_some}
+use Rattle.std.proofs.lemmas.Bool.{cases_eq}
+use Rattle.std.proofs.lemmas.List.{append-nil, take_all, drop_all, drop_more, take_more_set, drop-set-lt, length-set, get_or-set_same, get_or-set_other}
+use Rattle.std.proofs.lemmas.Option.{slice_get_within, slice_get-get_or, get_or_from_slice_get}
 use Rattle.mk_graph.specs.Edges.{row}
 use Rattle.mk_rules.specs.Nodes.{IsMadeOf, AreMadeOf}
+use Rattle.mk_rules.specs.Rows.{spread}
 use Rattle.mk_rules.specs.declared.graph.Node.{Node}
-use Rattle.mk_rules.specs.declared.known.Known.{Known}
 
--- the items behind the first k begin with the item of number k
-pub read_first : {A : Type 0} (xs : List A) (k : ℕ) (x : A) (rest : List A) → drop k xs ≡ x ∷ rest → slice_get xs k ≡ Some x
-read_first [] zero x rest e = cc
-read_first [] (suc k) x rest e = cc
-read_first (y ∷ ys) zero x rest e = cc
-read_first (y ∷ ys) (suc k) x rest e = read_first ys k x rest e
+-- the places that are filled so far, and the others as they are to be
+abbrev pub filled_from : (i : ℕ) (places : List (Option ℕ)) (left : List ℕ) → List (Option ℕ)
+filled_from i places left = take i places ++ spread (map is_some (drop i places)) left
 
-drop_suc : {A : Type 0} (xs : List A) (k : ℕ) (x : A) (rest : List A) → drop k xs ≡ x ∷ rest → drop (suc k) xs ≡ rest
-drop_suc [] zero x rest e = cc
-drop_suc [] (suc k) x rest e = cc
-drop_suc (y ∷ ys) zero x rest e = cc
-drop_suc (y ∷ ys) (suc k) x rest e = drop_suc ys k x rest e
+-- one place more is filled
+pub filled_more : (places : List (Option ℕ)) (i : ℕ) (d new : Option ℕ) (left rest : List ℕ) → i < length places →
+    ((more : List Bool) → spread (is_some (get_or places i d) ∷ more) left ≡ new ∷ spread more rest) →
+    filled_from (i + 1) (set places i new) rest ≡ filled_from i places left
+filled_more places i d new left rest within is =
+    let later : i < i + 1 = omega arith in
+    let behind = drop (i + 1) places in
+    ap (λ front. front ++ spread (map is_some (drop (i + 1) (set places i new))) rest) (take_more_set places i new within)
+    ∙ ap (λ after. (take i places ++ new ∷ []) ++ spread (map is_some after) rest) (drop-set-lt (i + 1) places i new later)
+    ∙ append_assoc (take i places) (new ∷ []) (spread (map is_some behind) rest)
+    ∙ ap (λ filled. take i places ++ filled) (sym (is (map is_some behind)))
+    ∙ ap (λ after. take i places ++ spread (map is_some after) left) (sym (drop_more places i d within))
 
-pub rest_behind : {A : Type 0} (xs : List A) (k : ℕ) (x : A) (rest : List A) → drop k xs ≡ x ∷ rest → drop (k + 1) xs ≡ rest
-rest_behind xs k x rest e = let next : k + 1 ≡ suc k = omega arith in ap (λ n. drop n xs) next ∙ drop_suc xs k x rest e
+-- none is left
+pub filled_all : (places : List (Option ℕ)) (i : ℕ) (left : List ℕ) → length places ≤ i → filled_from i places left ≡ places
+filled_all places i left past =
+    ap (λ front. front ++ spread (map is_some (drop i places)) left) (take_all i places past)
+    ∙ ap (λ after. places ++ spread (map is_some after) left) (drop_all i places past) ∙ append-nil places
 
-read_last : {A : Type 0} (xs : List A) (x : A) → slice_get (xs ++ x ∷ []) (length xs) ≡ Some x
-read_last [] x = refl
-read_last (y ∷ ys) x = read_last ys x
+-- a node is made of what is found of it, if its number is below i, and else it is what is found of it
+pub record IsMadeBelow (i : ℕ) (found : List Node) (rows : List (List ℕ)) (n : ℕ) (node : Node) : Type 0 where
+  pub from : Node
+  pub there : slice_get found n ≡ Some from
+  pub made : n < i → IsMadeOf from (row rows n) node
+  pub same : i ≤ n → node ≡ from
 
-read_before : {A : Type 0} (xs : List A) (x y : A) (n : ℕ) → n < length xs → slice_get (xs ++ x ∷ []) n ≡ Some y → slice_get xs n ≡ Some y
-read_before xs x y n within at =
-    slice_get-get_or xs n y within
-    ∙ ap Some (sym (get_or-append xs (x ∷ []) y n within))
-    ∙ sym (slice_get-get_or (xs ++ x ∷ []) n y (slice_get_within (xs ++ x ∷ []) n y at)) ∙ at
+abbrev pub AreMadeBelow : (i : ℕ) (found : List Node) (rows : List (List ℕ)) (nodes : List Node) → Type 0
+AreMadeBelow i found rows nodes = (n : ℕ) (node : Node) → slice_get nodes n ≡ Some node → IsMadeBelow i found rows n node
+
+pub none_made : (found : List Node) (rows : List (List ℕ)) → AreMadeBelow 0 found rows found
+none_made found rows n node at = record {
+  from = node;
+  there = at;
+  made = λ below. absurd (omega (arith, below));
+  same = λ _. refl;
+}
 
 -- one node more
-pub made_more : (known : List Known) (rows : List (List ℕ)) (nodes : List Node) (node : Node) (k : Known) → AreMadeOf known rows nodes →
-    slice_get known (length nodes) ≡ Some k → IsMadeOf k (row rows (length nodes)) node → AreMadeOf known rows (nodes ++ node ∷ [])
-made_more known rows nodes node k made at is n other there =
+pub made_more : (found : List Node) (rows : List (List ℕ)) (nodes : List Node) (i : ℕ) (d new : Node) → i < length nodes →
+    AreMadeBelow i found rows nodes → IsMadeOf (get_or nodes i d) (row rows i) new → AreMadeBelow (i + 1) found rows (set nodes i new)
+made_more found rows nodes i d new within made is n node at =
+    let inside : n < length nodes = subst (λ l. n < l) (length-set nodes i new) (slice_get_within (set nodes i new) n node at) in
+    let read : get_or (set nodes i new) n d ≡ node = get_or_from_slice_get (set nodes i new) n node d at in
     ⊎_elim
-    (λ (below : n < length nodes). made n other (read_before nodes node other n below there))
-    (λ (past : length nodes ≤ n).
-    let within = slice_get_within (nodes ++ node ∷ []) n other there in
-    let last : n ≡ length nodes = let l = length-append nodes (node ∷ []) in omega (arith, within, l, past) in
-    let read : slice_get (nodes ++ node ∷ []) n ≡ Some node = ap (slice_get (nodes ++ node ∷ [])) last ∙ read_last nodes node in
-    let same : node ≡ other = cc in
-    subst (λ (o : Node). (f : Known) × (slice_get known n ≡ Some f) × IsMadeOf f (row rows n) o) same
-    (subst (λ (m : ℕ). (f : Known) × (slice_get known m ≡ Some f) × IsMadeOf f (row rows m) node) (sym last) (k, at, is)))
-    (cases_lt n (length nodes))
+    (λ (same : n ≡ i).
+    let here = made i (get_or nodes i d) (slice_get-get_or nodes i d within) in
+    let now : new ≡ node = sym (get_or-set_same nodes i new d within) ∙ ap (λ m. get_or (set nodes i new) m d) (sym same) ∙ read in
+    let from_is : get_or nodes i d ≡ here.from = here.same (omega arith) in
+    let node_is : IsMadeOf (get_or nodes i d) (row rows i) node = subst (IsMadeOf (get_or nodes i d) (row rows i)) now is in
+    record {
+      from = here.from;
+      there = ap (slice_get found) same ∙ here.there;
+      made = λ _. subst (λ (m : ℕ). IsMadeOf here.from (row rows m) node) (sym same) (subst (λ (k : Node). IsMadeOf k (row rows i) node) from_is node_is);
+      same = λ past. absurd (omega (arith, past, same));
+    })
+    (λ other.
+    let before : get_or nodes n d ≡ node = sym (get_or-set_other nodes i n new d other) ∙ read in
+    let old = made n node (slice_get-get_or nodes n d inside ∙ ap Some before) in
+    record {
+      from = old.from;
+      there = old.there;
+      made = λ below. old.made (omega (arith, below, other));
+      same = λ past. old.same (omega (arith, past));
+    })
+    (cases_eq n i)
 
-pub none_made : (known : List Known) (rows : List (List ℕ)) (nodes : List Node) → nodes ≡ [] → AreMadeOf known rows nodes
-none_made known rows nodes none n node at =
-    let read : slice_get {X = Node} [] n ≡ Some node = ap (λ ns. slice_get ns n) (sym none) ∙ at in
-    let within = slice_get_within [] n node read in
-    absurd (omega (arith, within))
+pub all_made : (found : List Node) (rows : List (List ℕ)) (nodes : List Node) (i : ℕ) → length nodes ≤ i → AreMadeBelow i found rows nodes → AreMadeOf found rows nodes
+all_made found rows nodes i past made n node at =
+    let is = made n node at in
+    let inside = slice_get_within nodes n node at in
+    (is.from, is.there, is.made (omega (arith, inside, past)))

@@ -15,7 +15,7 @@ use Rattle.mk_rules.specs.Known.{IsKnown, listed_in}
 use Rattle.mk_rules.specs.Prerequisites.{Inputs, hard_of, hidden_of, is_node, order_only_of, prerequisites_of, required_of}
 use Rattle.mk_rules.specs.Required.{has_others, names_in_row, IsRequiredRow}
 use Rattle.mk_rules.specs.Rows.{EachRow}
-use Rattle.mk_rules.specs.declared.known.Known.{Known}
+use Rattle.mk_rules.specs.declared.graph.Node.{Node}
 use Rattle.mk_rules.proofs.FreshLemmas.{added_fresh}
 use Rattle.mk_rules.proofs.RowLaws.{known_at}
 use Rattle.mk_rules.proofs.WaitLemmas.{are_below}
@@ -116,14 +116,14 @@ or_parts : (a b : Bool) → (a || b) ≡ false → (a ≡ false) × (b ≡ false
 or_parts true b e = cc
 or_parts false b e = (refl, e)
 
-pub required_here : (names hard : List (List ℕ)) (known : List Known) (k : ℕ) (found : Known) (r : List ℕ) → slice_get known k ≡ Some found →
+pub required_here : (names hard : List (List ℕ)) (known : List Node) (k : ℕ) (found : Node) (r : List ℕ) → slice_get known k ≡ Some found →
     map (name_at names) r ≡ names_in_row names found (row hard k) → are_below names r ≡ true → IsRequiredRow names hard known k r
 required_here names hard known k found r at are below = record {
   names_are = λ other other_at. are ∙ ap (λ f. names_in_row names f (row hard k)) (same_some (sym at ∙ other_at));
   below = below;
 }
 
-module _ (names : List (List ℕ)) (hard : List (List ℕ)) (known : List Known) (required : List (List ℕ)) (count : length required ≡ length names)
+module _ (names : List (List ℕ)) (hard : List (List ℕ)) (known : List Node) (required : List (List ℕ)) (count : length required ≡ length names)
     (each : EachRow (IsRequiredRow names hard known) required) where
   pub closed_required : is_closed required ≡ true
   closed_required =
@@ -138,12 +138,12 @@ no_other None e = refl
 no_other (Some x) e = cc
 
 -- where none has others, the one at a place hasn't
-none_at : (known : List Known) (n : ℕ) (k : Known) → list_any has_others known ≡ false → slice_get known n ≡ Some k → has_others k ≡ false
+none_at : (known : List Node) (n : ℕ) (k : Node) → list_any has_others known ≡ false → slice_get known n ≡ Some k → has_others k ≡ false
 none_at [] n k none at = cc
 none_at (x ∷ known) zero k none at = ap has_others (sym (same_some at)) ∙ (or_parts (has_others x) (list_any has_others known) none).0
 none_at (x ∷ known) (suc n) k none at = none_at known n k (or_parts (has_others x) (list_any has_others known) none).1 at
 
-module _ (inputs : Inputs) (names : List (List ℕ)) (hard : List (List ℕ)) (known : List Known) (count : length known ≡ length names)
+module _ (inputs : Inputs) (names : List (List ℕ)) (hard : List (List ℕ)) (known : List Node) (count : length known ≡ length names)
     (described : AreDescribed (IsKnown inputs) names known) (are : AreHard inputs names hard) where
   in_row : (o : Option (List (List ℕ))) (h w : List (List ℕ)) → list_all (has_name names) w ≡ true → unwrap_or o h ≡ w → unwrap_or (option_map (filter (has_name names)) o) h ≡ w
   in_row None h w all e = e
@@ -172,6 +172,6 @@ module _ (inputs : Inputs) (names : List (List ℕ)) (hard : List (List ℕ)) (k
         let name = name_at names n in
         let k = known_at known n (subst (λ l. n < l) (sym count) within) in
         are.1 n within
-        ∙ ap (λ o. unwrap_or (option_map (λ l. l.value) o) (hard_of inputs name)) (sym (no_other k.0.required (none_at known n k.0 none k.1)))
+        ∙ ap (λ o. unwrap_or (option_map (λ l. l.value) o) (hard_of inputs name)) (sym (no_other k.0.rare.required (none_at known n k.0 none k.1)))
         ∙ (described n k.0 k.1).required;
   }

@@ -1,6 +1,6 @@
 -- What the rows of numbered names say of the names.
 use Rattle.std.proofs.Common.{arith, ◌≡◌, ℕ, ◌<◌, ◌≤◌, nat_eq, lt-ltb, suc, zero, true≢false, ⊎_elim, Bool, true, false, not, ◌&&◌, ◌||◌, cond, List, [], ◌∷◌, ◌++◌, length, map, take, drop, filter, get_or, Option, Some, None, refl, sym, ap, subst, ◌∙◌}
-use Rattle.std.specs.Prelude.{option_map, slice_get, bytes_eq, nat_lt}
+use Rattle.std.specs.Prelude.{option_map, is_some, slice_get, bytes_eq, nat_lt}
 use Rattle.std.specs.List.{list_all, flat_map, IsDistinct}
 use Rattle.std.proofs.lemmas.List.{map-append, take-map, drop-map, length-map}
 use Rattle.std.proofs.lemmas.Bool.{cases_lt, and_parts, and_from}
@@ -20,7 +20,7 @@ use Rattle.mk_rules.specs.Rows.{EachRow, IsHardRow, IsWaitedRow, spread}
 use Rattle.mk_rules.specs.Nodes.{AreMadeOf}
 use Rattle.mk_rule_lines.specs.Rules.{has}
 use Rattle.mk_rules.specs.declared.graph.Node.{Node}
-use Rattle.mk_rules.specs.declared.known.Known.{Known}
+use Rattle.mk_rules.specs.declared.rare.Rare.{Rare}
 use Rattle.mk_rules.proofs.HiddenLemmas.{has_first, has_later}
 use Rattle.mk_rules.proofs.PartsLaws.{source_is, explicit_is}
 use Rattle.mk_rules.proofs.WaitLemmas.{are_below, has_named}
@@ -83,7 +83,7 @@ and_second : (a b : Bool) → (a && b) ≡ true → b ≡ true
 and_second true b e = e
 and_second false b e = cc
 
-module _ (inputs : Inputs) (names : List (List ℕ)) (name : List ℕ) (k : Known) (is : IsKnown inputs name k) (r : List ℕ)
+module _ (inputs : Inputs) (names : List (List ℕ)) (name : List ℕ) (k : Node) (is : IsKnown inputs name k) (r : List ℕ)
     (row_is : map (name_at names) r ≡ prerequisites_of inputs name) where
   abbrev passed : List (List ℕ)
   passed = waited_for inputs name
@@ -113,21 +113,21 @@ module _ (inputs : Inputs) (names : List (List ℕ)) (name : List ℕ) (k : Know
       behind_names ∙ fresh-append (hard_of inputs name) present (order_only_of inputs name)
       ∙ ap (λ l. l ++ rest) (sym (filter_fresh (is_node inputs) (hard_of inputs name) (hidden_of inputs name)))
 
-  known_nodes : k.hidden.items ≡ map (is_node inputs) (fresh (hard_of inputs name) (hidden_of inputs name))
+  known_nodes : map is_some k.hidden.items ≡ map (is_node inputs) (fresh (hard_of inputs name) (hidden_of inputs name))
   known_nodes =
       is.hidden ∙ ap (λ n. nodes_among inputs n (judged_of inputs name)) is.hard
       ∙ ap (map (is_node inputs)) (behind_added (hard_of inputs name) (hidden_of inputs name))
 
   -- the prerequisites as they are judged
-  pub judged_names : map (option_map (name_at names)) (judged (take k.hard r) (spread k.hidden.items (drop k.hard r)))
+  pub judged_names : map (option_map (name_at names)) (judged (take k.hard r) (spread (map is_some k.hidden.items) (drop k.hard r)))
       ≡ map (judged_name inputs (hard_of inputs name)) (judged_of inputs name)
   judged_names =
       let new = fresh (hard_of inputs name) (hidden_of inputs name) in
-      map-append (option_map (name_at names)) (map Some (take k.hard r)) (spread k.hidden.items (drop k.hard r))
-      ∙ ap (λ l. l ++ map (option_map (name_at names)) (spread k.hidden.items (drop k.hard r))) (map-some (name_at names) (take k.hard r) ∙ ap (map Some) hard_names)
+      map-append (option_map (name_at names)) (map Some (take k.hard r)) (spread (map is_some k.hidden.items) (drop k.hard r))
+      ∙ ap (λ l. l ++ map (option_map (name_at names)) (spread (map is_some k.hidden.items) (drop k.hard r))) (map-some (name_at names) (take k.hard r) ∙ ap (map Some) hard_names)
       ∙ ap (λ l. map Some (hard_of inputs name) ++ l)
-      (map-spread (name_at names) k.hidden.items (drop k.hard r)
-      ∙ ap (λ l. spread_names k.hidden.items l) gone_or_not
+      (map-spread (name_at names) (map is_some k.hidden.items) (drop k.hard r)
+      ∙ ap (λ l. spread_names (map is_some k.hidden.items) l) gone_or_not
       ∙ ap (λ bs. spread_names bs (filter (is_node inputs) new ++ rest)) known_nodes
       ∙ spread-filter (is_node inputs) rest new
       ∙ sym (behind_judged inputs (hard_of inputs name) new (λ q there. and_second (has q (hidden_of inputs name)) (not (has q (hard_of inputs name))) (sym (has_fresh (hard_of inputs name) q (hidden_of inputs name)) ∙ there))))
@@ -165,22 +165,22 @@ closed_within g rows same within closed =
     (λ (past : length rows ≤ n). absurd (true≢false (sym (subst (λ l. has_number l m ≡ true) (get_or_past rows n [] past) there))))
     (cases_lt n (length rows)))
 
-abbrev pub IsRead : (known : List Known) (n : ℕ) → Type 0
-IsRead known n = (k : Known) × (slice_get known n ≡ Some k)
+abbrev pub IsRead : (known : List Node) (n : ℕ) → Type 0
+IsRead known n = (k : Node) × (slice_get known n ≡ Some k)
 
 -- there is something known of each number below
-pub known_at : (known : List Known) (n : ℕ) → n < length known → IsRead known n
+pub known_at : (known : List Node) (n : ℕ) → n < length known → IsRead known n
 known_at [] n within = absurd (omega arith)
 known_at (k ∷ known) n within = (get_or (k ∷ known) n k, slice_get-get_or (k ∷ known) n k within)
 
-pub closed_hard : (g : List (List ℕ)) (known : List Known) (hard : List (List ℕ)) → length g ≡ length known → length hard ≡ length known →
+pub closed_hard : (g : List (List ℕ)) (known : List Node) (hard : List (List ℕ)) → length g ≡ length known → length hard ≡ length known →
     EachRow (IsHardRow g known) hard → is_closed g ≡ true → is_closed hard ≡ true
 closed_hard g known hard rows count each closed =
     closed_within g hard (count ∙ sym rows) (λ n m inside there.
     let k = known_at known n (subst (λ l. n < l) count inside) in
     has_take k.0.hard (row g n) m (subst (λ l. has_number l m ≡ true) (each n inside k.0 k.1) there)) closed
 
-pub closed_waited : (g : List (List ℕ)) (known : List Known) (hidden : List (List ℕ)) → length g ≡ length known → length hidden ≡ length known →
+pub closed_waited : (g : List (List ℕ)) (known : List Node) (hidden : List (List ℕ)) → length g ≡ length known → length hidden ≡ length known →
     EachRow (IsWaitedRow g known) hidden → is_closed g ≡ true → is_closed hidden ≡ true
 closed_waited g known hidden rows count each closed =
     closed_within g hidden (count ∙ sym rows) (λ n m inside there.
@@ -189,7 +189,7 @@ closed_waited g known hidden rows count each closed =
 
 -- ---- the rows of a graph's names
 
-module _ (inputs : Inputs) (names : List (List ℕ)) (g : List (List ℕ)) (known : List Known) (rows_are : map (map (name_at names)) g ≡ map (prerequisites_of inputs) names)
+module _ (inputs : Inputs) (names : List (List ℕ)) (g : List (List ℕ)) (known : List Node) (rows_are : map (map (name_at names)) g ≡ map (prerequisites_of inputs) names)
     (described : AreDescribed (IsKnown inputs) names known) (count : length known ≡ length names) where
   pub rows_count : length g ≡ length names
   rows_count = sym (length-map g (map (name_at names))) ∙ ap length rows_are ∙ length-map names (prerequisites_of inputs)
@@ -223,8 +223,8 @@ module _ (inputs : Inputs) (names : List (List ℕ)) (g : List (List ℕ)) (know
       ∙ soft_members inputs names (name_at names n) k.0 (described n k.0 k.1) (row g n) (row_at n n_in) (name_at names m)
 
   -- the prerequisites of a node as they are judged
-  pub node_judged : (n : ℕ) (k : Known) → n < length names → slice_get known n ≡ Some k →
-      map (option_map (name_at names)) (judged (take k.hard (row g n)) (spread k.hidden.items (drop k.hard (row g n))))
+  pub node_judged : (n : ℕ) (k : Node) → n < length names → slice_get known n ≡ Some k →
+      map (option_map (name_at names)) (judged (take k.hard (row g n)) (spread (map is_some k.hidden.items) (drop k.hard (row g n))))
       ≡ map (judged_name inputs (hard_of inputs (name_at names n))) (judged_of inputs (name_at names n))
   node_judged n k within at = judged_names inputs names (name_at names n) k (described n k at) (row g n) (row_at n within)
 
@@ -265,7 +265,7 @@ cycle_below g closed cycle is =
     let first = and_parts (nat_lt is.first (length g)) true parts.1 in
     ap (list_all (λ m. nat_lt m (length g))) is.whole ∙ and_from (nat_lt is.first (length g)) (list_all (λ m. nat_lt m (length g)) (is.between ++ is.first ∷ [])) first.0 behind
 
-module _ (inputs : Inputs) (names : List (List ℕ)) (g : List (List ℕ)) (known : List Known) (rows_are : map (map (name_at names)) g ≡ map (prerequisites_of inputs) names)
+module _ (inputs : Inputs) (names : List (List ℕ)) (g : List (List ℕ)) (known : List Node) (rows_are : map (map (name_at names)) g ≡ map (prerequisites_of inputs) names)
     (described : AreDescribed (IsKnown inputs) names known) (count : length known ≡ length names) (closed : is_closed g ≡ true) where
   row_below : (n : ℕ) → n < length names → are_all_below (length names) (row g n) ≡ true
   row_below n within =
@@ -285,18 +285,18 @@ module _ (inputs : Inputs) (names : List (List ℕ)) (g : List (List ℕ)) (know
       let hard_is : row hard n ≡ take k.hard (row g n) = each n (subst (λ l. n < l) (sym rows) within) k from.1 in
       record {
         stamp = is.stamp ∙ known_is.stamp;
-        stem = is.stem ∙ known_is.stem;
-        implied = is.implied ∙ known_is.implied;
-        source = source_is inputs names (name_at names n) node.implied (is.implied ∙ known_is.implied) (row hard n) row_is;
-        explicit = explicit_is inputs names (name_at names n) node.implied (is.implied ∙ known_is.implied) (row hard n) row_is;
+        stem = ap (λ (r : Rare). r.stem) is.rare ∙ known_is.stem;
+        implied = ap (λ (r : Rare). r.implied) is.rare ∙ known_is.implied;
+        source = source_is inputs names (name_at names n) node.rare.implied (ap (λ (r : Rare). r.implied) is.rare ∙ known_is.implied) (row hard n) row_is;
+        explicit = explicit_is inputs names (name_at names n) node.rare.implied (ap (λ (r : Rare). r.implied) is.rare ∙ known_is.implied) (row hard n) row_is;
         recipe = is.recipe ∙ known_is.recipe;
-        group = ap (option_map (λ g. g.value)) is.group ∙ known_is.group;
+        group = ap (λ (r : Rare). option_map (λ g. g.value) r.group) is.rare ∙ known_is.group;
         prerequisites =
             ap (λ r. map (option_map (name_at names)) (judged r node.hidden.items)) hard_is
             ∙ ap (λ h. map (option_map (name_at names)) (judged (take k.hard (row g n)) h)) is.hidden
             ∙ node_judged inputs names g known rows_are described count n k (subst (λ l. n < l) count within) from.1;
         numbered =
             ap (list_all (is_numbered (length names))) is.hidden
-            ∙ spread_numbered (length names) k.hidden.items (drop k.hard (row g n))
+            ∙ spread_numbered (length names) (map is_some k.hidden.items) (drop k.hard (row g n))
             (drop_below (length names) k.hard (row g n) (row_below n (subst (λ l. n < l) count within)));
       }

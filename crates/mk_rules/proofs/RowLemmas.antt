@@ -3,7 +3,7 @@ use Rattle.std.proofs.Common.{◌≡◌, ℕ, ◌<◌, Bool, true, false, cond, 
 use Rattle.std.specs.List.{list_all, IsDistinct}
 use Rattle.std.proofs.lemmas.Bool.{and_parts}
 use Rattle.std.specs.Str.{bytes_eq}
-use Rattle.std.proofs.lemmas.List.{map-append, get_or_push, get_or_append_left}
+use Rattle.std.proofs.lemmas.List.{length-map, map-append, get_or_push, get_or_append_left}
 use Rattle.std.proofs.lemmas.List.Folds.{list_all-append}
 use Rattle.std.proofs.Math.Seq.{take-append_seam}
 use Rattle.mk_graph.specs.Edges.{has}
@@ -14,6 +14,9 @@ use Rattle.mk_rules.specs.NodeNotes.{AreKnownNodes}
 use Rattle.mk_rules.specs.Row.{named, IsRow, IsSomeRow}
 use Rattle.mk_rule_lines.proofs.NameLemmas.{bytes_eq-same}
 use Rattle.mk_rules.proofs.WaitLemmas.{has_named}
+
+pub same_name : (a b : List ℕ) → bytes_eq a b ≡ true → a ≡ b
+same_name a b same = bytes_eq-same a b same
 
 -- the row that no name is in yet
 pub row_start : (names : List (List ℕ)) → IsDistinct bytes_eq names → IsRow names names []
@@ -129,25 +132,6 @@ known_added is_node names names' name marks is known = λ n marked.
     let inside = (known n marked).0 in
     (omega (arith, inside, longer), ap is_node (name_at-begins names names' n begins inside) ∙ (known n marked).1)
 
--- ---- names that are distinct are their own first mentions
-
-own_mentions : (front behind : List (List ℕ)) → IsDistinct bytes_eq (front ++ behind) → all_added front behind ≡ front ++ behind
-own_mentions front [] distinct = sym (append-nil front)
-own_mentions front (x ∷ behind) distinct =
-    let whole = front ++ x ∷ behind in
-    let k = length front in
-    let longer = length-append front (x ∷ behind) in
-    let at : name_at whole k ≡ x = get_or_behind front x behind in
-    let none : has_name front x ≡ false
-    = ap (λ l. has_name l x) (sym (take-append_seam front (x ∷ behind))) ∙ ap (has_name (take k whole)) (sym at) ∙ new_at whole k distinct (omega (arith, longer)) in
-    let new : added front x ≡ front ++ x ∷ [] = ap (λ (b : Bool). cond b front (front ++ x ∷ [])) none in
-    ap (λ l. all_added l behind) new
-    ∙ own_mentions (front ++ x ∷ []) behind (subst (IsDistinct bytes_eq) (sym (append_assoc front (x ∷ []) behind)) distinct)
-    ∙ append_assoc front (x ∷ []) behind
-  where
-    get_or_behind : (front : List (List ℕ)) (x : List ℕ) (behind : List (List ℕ)) → name_at (front ++ x ∷ behind) (length front) ≡ x
-    get_or_behind [] x behind = refl
-    get_or_behind (y ∷ front) x behind = get_or_behind front x behind
-
-pub distinct_again : (mentioned : List (List ℕ)) → all_added [] (all_added [] mentioned) ≡ all_added [] mentioned
-distinct_again mentioned = own_mentions [] (all_added [] mentioned) (distinct_all_added [] mentioned distinct_none)
+-- as many numbers are in a row as there are names
+pub row_count : (names : List (List ℕ)) (numbers : List ℕ) (mentioned : List (List ℕ)) → named names numbers ≡ all_added [] mentioned → length numbers ≡ length (all_added [] mentioned)
+row_count names numbers mentioned is = sym (length-map numbers (name_at names)) ∙ ap length is

@@ -1,13 +1,12 @@
 -- Rows, one more at a time.
-use Rattle.std.proofs.Common.{arith, ◌≡◌, ◌≤◌, ◌<◌, ◌+◌, ℕ, List, [], ◌∷◌, ◌++◌, length, map, take, drop, Some, sym, ap, subst, ◌∙◌, ⊎_elim, length-append}
+use Rattle.std.proofs.Common.{arith, ◌≡◌, ◌≤◌, ◌<◌, ◌+◌, ℕ, List, [], ◌∷◌, ◌++◌, length, take, drop, Some, sym, ap, subst, ◌∙◌, ⊎_elim, length-append}
 use Rattle.std.specs.Prelude.{slice_get}
 use Rattle.std.proofs.lemmas.Bool.{cases_lt}
-use Rattle.std.proofs.lemmas.List.{map-append, length-map}
 use Rattle.std.proofs.Math.Seq.{get_or-append_seam}
 use Rattle.std.proofs.Math.ListN.{get_or-append}
 use Rattle.mk_graph.specs.Edges.{row}
 use Rattle.mk_rules.specs.Rows.{EachRow, IsHardRow, IsWaitedRow}
-use Rattle.mk_rules.specs.declared.known.Known.{Known}
+use Rattle.mk_rules.specs.declared.graph.Node.{Node}
 
 at_end : (n : ℕ) (rows : List (List ℕ)) (r : List ℕ) → n < length (rows ++ r ∷ []) → length rows ≤ n → n ≡ length rows
 at_end n rows r within past = let l = length-append rows (r ∷ []) in omega arith
@@ -22,23 +21,16 @@ each_more is rows r each here n within =
     subst (λ (m : ℕ). is m (row (rows ++ r ∷ []) m)) (sym at) (subst (is (length rows)) (sym (get_or-append_seam rows r [] [])) here))
     (cases_lt n (length rows))
 
-pub each_pushed : {V : Type 0} (f : V → List ℕ) (is : (n : ℕ) → List ℕ → Type 0) (vs : List V) (v : V) (k : ℕ) → k ≡ length vs → EachRow is (map f vs) → is k (f v) →
-    EachRow is (map f (vs ++ v ∷ []))
-each_pushed f is vs v k count each here =
-    let whole : map f (vs ++ v ∷ []) ≡ map f vs ++ f v ∷ [] = map-append f vs (v ∷ []) in
-    let at : k ≡ length (map f vs) = count ∙ sym (length-map vs f) in
-    subst (EachRow is) (sym whole) (each_more is (map f vs) (f v) each (subst (λ (n : ℕ). is n (f v)) at here))
-
 -- the row that is made for a node
-pub hard_here : (g : List (List ℕ)) (known : List Known) (n : ℕ) (found : Known) (r : List ℕ) → slice_get known n ≡ Some found → r ≡ take found.hard (row g n) → IsHardRow g known n r
+pub hard_here : (g : List (List ℕ)) (known : List Node) (n : ℕ) (found : Node) (r : List ℕ) → slice_get known n ≡ Some found → r ≡ take found.hard (row g n) → IsHardRow g known n r
 hard_here g known n found r at is k read =
     let same : found ≡ k = cc in
-    is ∙ ap (λ (f : Known). take f.hard (row g n)) same
+    is ∙ ap (λ (f : Node). take f.hard (row g n)) same
 
-pub waited_here : (g : List (List ℕ)) (known : List Known) (n : ℕ) (found : Known) (r : List ℕ) → slice_get known n ≡ Some found → r ≡ drop found.hard (row g n) → IsWaitedRow g known n r
+pub waited_here : (g : List (List ℕ)) (known : List Node) (n : ℕ) (found : Node) (r : List ℕ) → slice_get known n ≡ Some found → r ≡ drop found.hard (row g n) → IsWaitedRow g known n r
 waited_here g known n found r at is k read =
     let same : found ≡ k = cc in
-    is ∙ ap (λ (f : Known). drop f.hard (row g n)) same
+    is ∙ ap (λ (f : Node). drop f.hard (row g n)) same
 
 -- one item more
 pub more_items : {V : Type 0} (vs : List V) (v : V) (after : List V) (k : ℕ) → after ≡ vs ++ v ∷ [] → length vs ≡ k → length after ≡ k + 1

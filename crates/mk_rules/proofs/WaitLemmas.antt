@@ -2,7 +2,7 @@
 use Rattle.std.proofs.Common.{◌≡◌, ℕ, ◌<◌, Bool, true, false, ◌&&◌, ◌||◌, nat_lt, nat_eq, List, [], ◌∷◌, ◌++◌, length, map, filter, refl, sym, ap, subst, ◌∙◌, ⊎_elim, arith, eq-eqb, ne_eqb, ltb-true, lt-ltb, true≢false, append_assoc, append-nil}
 use Rattle.std.specs.Prelude.{bytes_eq, ◌==◌, Result, Ok, Err, OnOk}
 use Rattle.std.specs.List.{list_any, list_all, flat_map, IsDistinct}
-use Rattle.std.proofs.lemmas.Bool.{cases_order, and_parts, and_from, or_parts, or_cases}
+use Rattle.std.proofs.lemmas.Bool.{cases_order, and_parts, and_from, and_right, or_parts, or_from, or_cases}
 use Rattle.std.proofs.lemmas.List.{map-append}
 use Rattle.std.proofs.lemmas.List.Elements.{filter-append}
 use Rattle.std.proofs.lemmas.List.Folds.{list_all-append}
@@ -17,8 +17,8 @@ use Rattle.mk_graph.proofs.RowLemmas.{list_all-has}
 use Rattle.mk_profile.specs.declared.profile.Profile.{Profile}
 use Rattle.mk_rule_lines.specs.Explicit.{is_wait, is_bar, before_bar, behind_bar, words_by}
 use Rattle.mk_rule_lines.specs.declared.rule_line.RuleLine.{RuleLine}
-use Rattle.mk_rule_lines.specs.Rules.{has}
-use Rattle.mk_rules.specs.Waits.{before_first, groups_of, orders}
+use Rattle.mk_rule_lines.specs.Rules.{has, targets_by}
+use Rattle.mk_rules.specs.Waits.{before_first, groups_of, orders, waits_in, line_orders}
 use Rattle.mk_rule_lines.proofs.NameLemmas.{bytes_eq-same}
 
 -- a group that is begun, and the groups that go on with it
@@ -220,6 +220,15 @@ pub no_orders : (l : RuleLine) → list_any is_wait l.prerequisites ≡ false �
 no_orders l none a b =
     ap (λ c. c || orders (groups_of (words_by true l)) a b) (one_group (words_by false l) (none_before l.profile l.prerequisites none) a b)
     ∙ one_group (words_by true l) (none_behind l.profile l.prerequisites none) a b
+
+-- lines without a `.WAIT` order nothing
+pub no_line_orders : (names suffixes : List (List ℕ)) (p q : List ℕ) (lines : List RuleLine) → list_any waits_in lines ≡ false → list_any (line_orders names suffixes p q) lines ≡ false
+no_line_orders names suffixes p q [] none = refl
+no_line_orders names suffixes p q (l ∷ ls) none =
+    let parts = or_parts (waits_in l) (list_any waits_in ls) none in
+    or_from (line_orders names suffixes p q l) (list_any (line_orders names suffixes p q) ls)
+    (and_right (list_any (has_name names) (targets_by false suffixes l)) _ (no_orders l parts.0 p q))
+    (no_line_orders names suffixes p q ls parts.1)
 
 -- two groups: the one stands before the other
 pub two_groups : (g h : List (List ℕ)) (a b : List ℕ) → orders (g ∷ h ∷ []) a b ≡ (has a g && has b h)

@@ -1,21 +1,18 @@
 -- A graph and the parts that it is put together from.
-use Rattle.std.specs.Prelude.{◌≡◌, List, length}
-use Rattle.mk_graph.specs.declared.numbering.Numbered.{Numbered}
+use Rattle.std.specs.Prelude.{◌≡◌, List}
 use Rattle.mk_rule_lines.specs.Goals.{settings_of}
-use Rattle.mk_rules.specs.Nodes.{AreMadeOf}
 use Rattle.st_state.specs.State.{StateMap}
 use Rattle.mk_rules.specs.declared.graph.Graph.{Graph}
-use Rattle.mk_rules.specs.declared.known.Known.{Known}
+use Rattle.mk_rules.specs.declared.nodes.Named.{Named}
 use Rattle.mk_rules.specs.declared.ordering.Ordered.{Ordered}
 use Rattle.mk_rule_lines.specs.declared.rule_line.RuleLine.{RuleLine}
 
--- the graph has these lines, names and edges and this state, and its nodes are made of what is known of the names
-pub record IsPutTogether (lines : List RuleLine) (n : Numbered Known) (o : Ordered) (state : StateMap) (graph : Graph) : Type 0 where
+-- the graph has these lines, names, nodes and edges and this state
+pub record IsPutTogether (lines : List RuleLine) (n : Named) (o : Ordered) (state : StateMap) (graph : Graph) : Type 0 where
   pub lines_are : graph.lines.items ≡ lines
   pub names : graph.names ≡ n.names
   pub goals : graph.goals.items ≡ n.goals.items
-  pub count : length graph.nodes.items ≡ length n.nodes.items
-  pub nodes : AreMadeOf n.nodes.items n.rows graph.nodes.items
+  pub nodes : graph.nodes.items ≡ n.nodes.items
   pub hard : graph.hard ≡ o.hard
   pub required : graph.required ≡ o.required
   pub soft : graph.soft ≡ o.soft

@@ -1,11 +1,8 @@
--- Numbers that are looked for in two ways.
-use Rattle.std.specs.Prelude.{◌≡◌, ◌⊎◌, ℕ, List, []}
+-- Numbers that are looked for by their marks.
+use Rattle.std.specs.Prelude.{◌≡◌, ℕ, Bool, List}
 use Rattle.mk_graph.specs.Edges.{has}
+use Rattle.mk_rules.specs.NodeNotes.{is_marked}
 
--- a number is in both lists or in none
-abbrev pub HaveTheSame : (numbers others : List ℕ) → Type 0
-HaveTheSame numbers others = (n : ℕ) → has numbers n ≡ has others n
-
--- the set has no number, or those of the list
-abbrev pub IsSetOf : (set list : List ℕ) → Type 0
-IsSetOf set list = (set ≡ []) ⊎ HaveTheSame set list
+-- a number is marked where it is in the list
+abbrev pub AreMarksOf : (marks : List Bool) (list : List ℕ) → Type 0
+AreMarksOf marks list = (n : ℕ) → is_marked marks n ≡ has list n

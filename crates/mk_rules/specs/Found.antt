@@ -9,10 +9,10 @@ use Rattle.mk_rules.specs.Prerequisites.{Inputs, prerequisites_of, is_made}
 use Rattle.mk_rule_lines.specs.declared.fault.Unmade.{Unmade}
 use Rattle.mk_rule_lines.specs.declared.fault.RuleFault.{RuleFault}
 use Rattle.mk_rule_lines.specs.declared.fault.RuleFault.TheVariants as fault
-use Rattle.mk_rules.specs.declared.known.Known.{Known}
+use Rattle.mk_rules.specs.declared.graph.Node.{Node}
 
 -- the names that the goals lead to by these inputs, with their prerequisites by number, and what the inputs say of each
-pub record AreFound (inputs : Inputs) (goals : List (List ℕ)) (n : Numbered Known) : Type 0 where
+pub record AreFound (inputs : Inputs) (goals : List (List ℕ)) (n : Numbered Node) : Type 0 where
   pub names_are : IsNumbering (prerequisites_of inputs) goals n.names
   pub rows_are : map (map (name_at n.names)) n.rows ≡ map (prerequisites_of inputs) n.names
   pub goals_are : map (name_at n.names) n.goals.items ≡ goals

@@ -34,12 +34,12 @@ is_numbered count hidden = option_map_or (λ n. nat_lt n count) hidden true
 -- what is known of a name: the row is that of its hard prerequisites
 pub record IsNode (inputs : Inputs) (names : List (List ℕ)) (hard : List ℕ) (name : List ℕ) (node : Node) : Type 0 where
   pub stamp : node.stamp ≡ inputs.times name
-  pub stem : node.stem ≡ option_map (λ s. s.stem) (implicit_source inputs name)
-  pub implied : node.implied ≡ length (distinct (made_from (implicit_source inputs name)))
-  pub source : option_map (name_at names) (source_by node.implied hard) ≡ source_name (implicit_source inputs name)
-  pub explicit : map (name_at names) (explicit_by node.implied hard) ≡ explicit_names inputs name
+  pub stem : node.rare.stem ≡ option_map (λ s. s.stem) (implicit_source inputs name)
+  pub implied : node.rare.implied ≡ length (distinct (made_from (implicit_source inputs name)))
+  pub source : option_map (name_at names) (source_by node.rare.implied hard) ≡ source_name (implicit_source inputs name)
+  pub explicit : map (name_at names) (explicit_by node.rare.implied hard) ≡ explicit_names inputs name
   pub recipe : node.recipe ≡ recipe_of inputs name
-  pub group : option_map (λ g. g.value) node.group ≡ group_of inputs name
+  pub group : option_map (λ g. g.value) node.rare.group ≡ group_of inputs name
   pub prerequisites :
       map (option_map (name_at names)) (judged hard node.hidden.items)
       ≡ map (judged_name inputs (hard_of inputs name)) (judged_of inputs name)

@@ -1,9 +1,13 @@
 -- The hidden prerequisites of a name, taken in behind the hard ones.
-use Rattle.std.specs.Prelude.{◌≡◌, ℕ, Bool, not, ◌||◌, ◌&&◌, if◌then◌else◌, List, [], ◌∷◌, ◌++◌, length, map, drop, filter}
+use Rattle.std.specs.Prelude.{◌≡◌, ℕ, Bool, not, ◌||◌, ◌&&◌, if◌then◌else◌, List, [], ◌∷◌, ◌++◌, length, map, drop, filter, is_some, Option}
 use Rattle.mk_graph.specs.Numbering.{has_name, added, all_added}
 use Rattle.mk_rules.specs.Prerequisites.{IsTextAmong}
 use Rattle.mk_rule_lines.specs.declared.fault.RuleFault.{RuleFault}
 use Rattle.mk_rule_lines.specs.declared.fault.RuleFault.TheVariants as fault
+
+-- which hidden prerequisites are nodes: those with a number
+abbrev pub are_nodes : (hidden : List (Option ℕ)) → List Bool
+are_nodes hidden = map is_some hidden
 
 -- one hidden prerequisite more is taken in: it is one of the nodes, or one that is gone, and where it wasn't mentioned before, it is
 -- noted which of both

@@ -1,11 +1,11 @@
 -- What is found of a name while names are numbered.
-use Rattle.std.specs.Prelude.{◌≡◌, ◌⊎◌, ℕ, ℤ, Bool, true, false, List, [], length, map, drop, Option, Some, option_map, unwrap_or}
+use Rattle.std.specs.Prelude.{◌≡◌, ◌⊎◌, ℕ, ℤ, Bool, true, false, List, [], length, map, drop, is_some, Option, Some, option_map, unwrap_or}
 use Rattle.st_records.specs.declared.record.Entry.{Entry}
 use Rattle.mk_rules.specs.Prerequisites.{Inputs, IsTextAmong, inputs_of, own_recipes, found_source, implicit_source, hidden_in, made_from, distinct, recipe_of, hard_of, judged_of, is_node, prerequisites_of, required_of}
 use Rattle.mk_rules.specs.Search.{IsSearched}
 use Rattle.mk_rules.specs.Groups.{others_in, group_of}
 use Rattle.mk_rule_lines.specs.declared.rule_line.RuleLine.{RuleLine}
-use Rattle.mk_rules.specs.declared.known.Known.{Known}
+use Rattle.mk_rules.specs.declared.graph.Node.{Node}
 use Rattle.mk_rule_lines.specs.Explicit.{is_phony}
 use Rattle.mk_rule_lines.specs.Rules.{has}
 use Rattle.mk_rule_lines.specs.declared.form.Form.{Form}
@@ -19,23 +19,23 @@ abbrev pub nodes_among : (inputs : Inputs) (hard : ℕ) (judged : List (List ℕ
 nodes_among inputs hard judged = map (is_node inputs) (drop hard judged)
 
 -- the names that are listed of what a name can't be made without
-abbrev pub listed_in : Known → Option (List (List ℕ))
-listed_in known = option_map (λ names. names.value) known.required
+abbrev pub listed_in : Node → Option (List (List ℕ))
+listed_in known = option_map (λ names. names.value) known.rare.required
 
 -- what a name with these hard prerequisites can't be made without: these, where no names are listed
-abbrev pub required_by : Known → (hard : List (List ℕ)) → List (List ℕ)
+abbrev pub required_by : Node → (hard : List (List ℕ)) → List (List ℕ)
 required_by known hard = unwrap_or (listed_in known) hard
 
 -- what is found of a name is what the inputs say of it
-pub record IsKnown (inputs : Inputs) (name : List ℕ) (known : Known) : Type 0 where
+pub record IsKnown (inputs : Inputs) (name : List ℕ) (known : Node) : Type 0 where
   pub stamp : known.stamp ≡ inputs.times name
-  pub stem : known.stem ≡ option_map (λ s. s.stem) (implicit_source inputs name)
-  pub implied : known.implied ≡ length (distinct (made_from (implicit_source inputs name)))
+  pub stem : known.rare.stem ≡ option_map (λ s. s.stem) (implicit_source inputs name)
+  pub implied : known.rare.implied ≡ length (distinct (made_from (implicit_source inputs name)))
   pub recipe : known.recipe ≡ recipe_of inputs name
-  pub group : option_map (λ g. g.value) known.group ≡ group_of inputs name
+  pub group : option_map (λ g. g.value) known.rare.group ≡ group_of inputs name
   pub hard : known.hard ≡ length (hard_of inputs name)
   pub required : required_by known (hard_of inputs name) ≡ required_of inputs name
-  pub hidden : known.hidden.items ≡ nodes_among inputs known.hard (judged_of inputs name)
+  pub hidden : map is_some known.hidden.items ≡ nodes_among inputs known.hard (judged_of inputs name)
 
 -- where no line has a recipe for a name and it isn't phony, the search for its source reaches n
 abbrev pub IsSourceAsked : TargetTable → (allowed : (List ℕ → Option ℤ) → Type 0) → List Form → (steps : ℕ) → List RuleLine → (name n : List ℕ) → Type 0

@@ -17,11 +17,14 @@ pub mod NodeNotes
 pub mod Nodes
 pub mod Ordering
 pub mod Prerequisites
+pub mod Rare
 pub mod Required
 pub mod Row
 pub mod Rows
 pub mod Search
 pub mod Seen
+pub mod ShortNumber
 pub mod Source
+pub mod Stamp
 pub mod Tree
 pub mod Waits

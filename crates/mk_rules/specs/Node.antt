@@ -25,13 +25,13 @@ explicit_by implied hard = if implied == 0 then hard else later_numbers hard
 -- the source of a node: the first of its hard prerequisites, where an implicit rule gives it some
 abbrev pub source_in : Option Node → (hard : List ℕ) → Option ℕ
 source_in None hard = None
-source_in (Some node) hard = source_by node.implied hard
+source_in (Some node) hard = source_by node.rare.implied hard
 
 -- the prerequisites of a node by name: the hard ones without the source
 abbrev pub explicit_in : Option Node → (hard : List ℕ) → List ℕ
 explicit_in None hard = hard
-explicit_in (Some node) hard = explicit_by node.implied hard
+explicit_in (Some node) hard = explicit_by node.rare.implied hard
 
 -- the prerequisites that an implicit rule gives a node: the first so many of the hard ones
 abbrev pub implied_in : Option Node → (hard : List ℕ) → List ℕ
-implied_in node hard = take (option_map_or (λ n. n.implied) node 0) hard
+implied_in node hard = take (option_map_or (λ n. n.rare.implied) node 0) hard

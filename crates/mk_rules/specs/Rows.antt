@@ -1,19 +1,19 @@
 -- The rows of numbered names: their first numbers are those of hard prerequisites, the others those of hidden and order-only ones.
 use Rattle.std.specs.Prelude.{◌≡◌, ℕ, ◌<◌, Bool, true, false, List, [], ◌∷◌, length, take, drop, Option, Some, None, slice_get}
 use Rattle.mk_graph.specs.Edges.{row}
-use Rattle.mk_rules.specs.declared.known.Known.{Known}
+use Rattle.mk_rules.specs.declared.graph.Node.{Node}
 
 -- each row has a property that speaks of its number too
 abbrev pub EachRow : (is : (n : ℕ) → List ℕ → Type 0) → (rows : List (List ℕ)) → Type 0
 EachRow is rows = (n : ℕ) → n < length rows → is n (row rows n)
 
 -- the row holds the hard prerequisites of node n
-abbrev pub IsHardRow : (g : List (List ℕ)) (known : List Known) (n : ℕ) (r : List ℕ) → Type 0
-IsHardRow g known n r = (k : Known) → slice_get known n ≡ Some k → r ≡ take k.hard (row g n)
+abbrev pub IsHardRow : (g : List (List ℕ)) (known : List Node) (n : ℕ) (r : List ℕ) → Type 0
+IsHardRow g known n r = (k : Node) → slice_get known n ≡ Some k → r ≡ take k.hard (row g n)
 
 -- the row holds what node n waits for besides: hidden prerequisites that are nodes, and order-only ones
-abbrev pub IsWaitedRow : (g : List (List ℕ)) (known : List Known) (n : ℕ) (r : List ℕ) → Type 0
-IsWaitedRow g known n r = (k : Known) → slice_get known n ≡ Some k → r ≡ drop k.hard (row g n)
+abbrev pub IsWaitedRow : (g : List (List ℕ)) (known : List Node) (n : ℕ) (r : List ℕ) → Type 0
+IsWaitedRow g known n r = (k : Node) → slice_get known n ≡ Some k → r ≡ drop k.hard (row g n)
 
 -- a number for each that is a node, in order
 abbrev pub spread : (are_nodes : List Bool) (numbers : List ℕ) → List (Option ℕ)

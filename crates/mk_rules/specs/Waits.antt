@@ -21,6 +21,10 @@ abbrev pub orders : (groups : List (List (List ℕ))) → (p q : List ℕ) → B
 orders [] p q = false
 orders (group ∷ groups) p q = (has p group && has q (flat_map (λ g. g) groups)) || orders groups p q
 
+-- a `.WAIT` is among the prerequisites of the line
+abbrev pub waits_in : RuleLine → Bool
+waits_in l = list_any is_wait l.prerequisites
+
 -- in this line p stands before a `.WAIT` and q behind it, both among the prerequisites or both among the order-only ones, and the line
 -- makes one of these names
 abbrev pub line_orders : (names suffixes : List (List ℕ)) → (p q : List ℕ) → RuleLine → Bool

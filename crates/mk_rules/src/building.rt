@@ -9,7 +9,7 @@ ghost use Rattle.mk_graph.specs.Numbering.{AreDescribed, name_at};
 ghost use Rattle.mk_rules.specs.Found.{AreFound, IsFindingFault, IsGraphlessFault};
 ghost use Rattle.mk_rules.specs.Known.{IsKnown};
 ghost use Rattle.mk_rules.specs.Node.{EachHasOneNumber};
-ghost use Rattle.mk_rules.specs.Nodes.{AreMadeOf};
+ghost use Rattle.mk_rules.specs.Nodes.{IsNamedOf};
 ghost use Rattle.mk_rules.specs.Assembly.{IsPutTogether};
 ghost use Rattle.mk_rules.specs.Looks.{Looks};
 ghost use Rattle.mk_rule_lines.specs.Table.{is_named, named_at};
@@ -29,10 +29,9 @@ ghost use Rattle.mk_rules.specs.Faults.{AreInputs, IsGraphFault, IsRuleFault};
 use crate::chain::steps_of;
 use crate::finder::Finder;
 use crate::graph::{Graph, Node};
-use crate::known::Known;
 use crate::left_over::default_of;
 use crate::links::links_of;
-use crate::nodes::nodes_of;
+use crate::nodes::{Named, named_nodes};
 use crate::ordering::{Ordered, hard_edges, ordered_by};
 use crate::required::required_edges;
 use crate::rules::Rules;
@@ -40,7 +39,7 @@ use crate::soft::soft_edges;
 use crate::tree::Tree;
 use crate::unmade::check_made;
 use byte_strings::ByteStrings;
-use mk_graph::{Names, Numbered, NumberingFault, number};
+use mk_graph::{Numbered, NumberingFault, number};
 use mk_macros::Macros;
 use mk_profile::Profile;
 use mk_reader::Item;
@@ -54,7 +53,7 @@ fn found_names<T: Tree>(
     finder: &mut Finder<T>,
     goals: &ByteStrings,
     limit: usize,
-) -> Result<Numbered<Known>, RuleFault>
+) -> Result<Numbered<Node>, RuleFault>
     ensures found { IfOk result (λ n. (times : List ℕ → Option ℤ) → T.allows finder.new.tree.now times
         → AreFound (inputs_of finder.old.rules.lines.now (finmap.get finder.old.rules.state.now) times) goals.now n) }
     ensures row_count { IfOk result (λ n. length n.rows ≡ length n.names) }
@@ -84,7 +83,7 @@ fn numbered_names<T: Tree>(
     tree: &mut T,
     goals: &ByteStrings,
     limit: usize,
-) -> Result<Numbered<Known>, RuleFault>
+) -> Result<Numbered<Node>, RuleFault>
     ensures found { IfOk result (λ n. (times : List ℕ → Option ℤ) → T.allows tree.new times
         → AreFound (inputs_of rules.entry.lines.now (finmap.get rules.entry.state.now) times) goals.now n) }
     ensures row_count { IfOk result (λ n. length n.rows ≡ length n.names) }
@@ -102,27 +101,6 @@ fn numbered_names<T: Tree>(
     found_names(alloc, &mut finder, goals, limit)
 }
 
-/// The names that were found, the numbers of the goals, and the node of each name.
-fn named_nodes(
-    alloc: Global,
-    numbered: Numbered<Known>,
-) -> Result<(Names, Vec<usize>, Vec<Node>), AllocError>
-    requires { length numbered.rows ≡ length numbered.nodes.items }
-    ensures names { IfOk result (λ of. of.0 ≡ numbered.names) }
-    ensures goals { IfOk result (λ of. of.1.items ≡ numbered.goals.items) }
-    ensures count { IfOk result (λ of. length of.2.items ≡ length numbered.nodes.items) }
-    ensures nodes { IfOk result (λ of. AreMadeOf numbered.nodes.items numbered.rows of.2.items) }
-{
-    let Numbered {
-        names,
-        goals,
-        rows,
-        nodes,
-    } = numbered;
-    let nodes = nodes_of(alloc, &rows, nodes)?;
-    Ok((names, goals, nodes))
-}
-
 /// The graph of names that were found and ordered.
 fn put_together(
     alloc: Global,
@@ -130,18 +108,17 @@ fn put_together(
     targets: Option<TargetTable>,
     suffixes: ByteStrings,
     macros: Macros,
-    numbered: Numbered<Known>,
+    named: Named,
     ordered: Ordered,
     state: State,
 ) -> Result<Graph, AllocError>
-    requires names { EachHasOneNumber numbered.names }
-    requires row_count { length numbered.rows ≡ length numbered.names }
-    requires node_count { length numbered.nodes.items ≡ length numbered.names }
-    requires hard_count { length ordered.hard ≡ length numbered.names }
-    requires soft_count { length ordered.soft ≡ length numbered.names }
-    requires counted_count { length ordered.counted ≡ length numbered.names }
+    requires names { EachHasOneNumber named.names }
+    requires node_count { length named.nodes.items ≡ length named.names }
+    requires hard_count { length ordered.hard ≡ length named.names }
+    requires soft_count { length ordered.soft ≡ length named.names }
+    requires counted_count { length ordered.counted ≡ length named.names }
     requires hard_closed { IsTrue (is_closed ordered.hard) }
-    requires required_count { length (unwrap_or ordered.required ordered.hard) ≡ length numbered.names }
+    requires required_count { length (unwrap_or ordered.required ordered.hard) ≡ length named.names }
     requires required_closed { IsTrue (is_closed (unwrap_or ordered.required ordered.hard)) }
     requires soft_closed { IsTrue (is_closed ordered.soft) }
     requires counted_closed { IsTrue (is_closed ordered.counted) }
@@ -149,12 +126,16 @@ fn put_together(
     requires kept { is_some targets ≡ is_wide (defined_by macros).language }
     requires suffixes { suffixes ≡ suffixes_of lines.items }
     requires table { IfSome targets (λ t. (name : List ℕ) → (named_at t name).lines ≡ numbers_of lines.items name) }
-    ensures graph { IfOk result (IsPutTogether lines.items numbered ordered state) }
-    ensures count { IfOk result (λ graph. length graph.nodes.items ≡ length numbered.names) }
+    ensures graph { IfOk result (IsPutTogether lines.items named ordered state) }
+    ensures count { IfOk result (λ graph. length graph.nodes.items ≡ length named.names) }
     ensures macros { IfOk result (λ graph. graph.macros ≡ macros) }
 {
     let settings = Settings::of_lines(alloc, &lines)?;
-    let (names, goals, nodes) = named_nodes(alloc, numbered)?;
+    let Named {
+        names,
+        goals,
+        nodes,
+    } = named;
     let Ordered {
         hard,
         required,
@@ -182,42 +163,47 @@ fn put_together(
     })
 }
 
-/// The edges of the names that were found, each of which has something that makes it, and the order that they make.
+/// The nodes of the names that were found, each of which has something that makes it, their edges, and the order that they make.
 fn order_found(
     alloc: Global,
     lines: &[RuleLine],
     suffixes: &ByteStrings,
-    numbered: &Numbered<Known>,
-) -> Result<Ordered, RuleFault>
-    requires names { IsDistinct bytes_eq numbered.now.names }
-    requires row_count { length numbered.now.rows ≡ length numbered.now.names }
-    requires node_count { length numbered.now.nodes.items ≡ length numbered.now.names }
-    requires closed { IsTrue (is_closed numbered.now.rows) }
+    numbered: Numbered<Node>,
+) -> Result<(Named, Ordered), RuleFault>
+    requires names { IsDistinct bytes_eq numbered.names }
+    requires row_count { length numbered.rows ≡ length numbered.names }
+    requires node_count { length numbered.nodes.items ≡ length numbered.names }
+    requires closed { IsTrue (is_closed numbered.rows) }
     requires suffixes { suffixes.now ≡ suffixes_of lines.now }
     requires taken { AreTaken lines.now }
     requires made { (inputs : Inputs) → inputs.lines ≡ lines.now
-        → AreDescribed (IsKnown inputs) numbered.now.names numbered.now.nodes.items → AreMade inputs numbered.now.names }
-    ensures hard_count { IfOk result (λ ordered. length ordered.hard ≡ length numbered.now.names) }
-    ensures soft_count { IfOk result (λ ordered. length ordered.soft ≡ length numbered.now.names) }
-    ensures counted_count { IfOk result (λ ordered. length ordered.counted ≡ length numbered.now.names) }
-    ensures hard_closed { IfOk result (λ ordered. IsTrue (is_closed ordered.hard)) }
-    ensures required_count { IfOk result (λ ordered. length (unwrap_or ordered.required ordered.hard) ≡ length numbered.now.names) }
-    ensures required_closed { IfOk result (λ ordered. IsTrue (is_closed (unwrap_or ordered.required ordered.hard))) }
-    ensures soft_closed { IfOk result (λ ordered. IsTrue (is_closed ordered.soft)) }
-    ensures counted_closed { IfOk result (λ ordered. IsTrue (is_closed ordered.counted)) }
-    ensures counted_ascending { IfOk result (λ ordered. (n : ℕ) → IsStrictlyIncreasing (row ordered.counted n)) }
+        → AreDescribed (IsKnown inputs) numbered.names numbered.nodes.items → AreMade inputs numbered.names }
+    ensures named { IfOk result (λ of. IsNamedOf numbered of.0) }
+    ensures node_count { IfOk result (λ of. length of.0.nodes.items ≡ length of.0.names) }
+    ensures hard_count { IfOk result (λ of. length of.1.hard ≡ length of.0.names) }
+    ensures soft_count { IfOk result (λ of. length of.1.soft ≡ length of.0.names) }
+    ensures counted_count { IfOk result (λ of. length of.1.counted ≡ length of.0.names) }
+    ensures hard_closed { IfOk result (λ of. IsTrue (is_closed of.1.hard)) }
+    ensures required_count { IfOk result (λ of. length (unwrap_or of.1.required of.1.hard) ≡ length of.0.names) }
+    ensures required_closed { IfOk result (λ of. IsTrue (is_closed (unwrap_or of.1.required of.1.hard))) }
+    ensures soft_closed { IfOk result (λ of. IsTrue (is_closed of.1.soft)) }
+    ensures counted_closed { IfOk result (λ of. IsTrue (is_closed of.1.counted)) }
+    ensures counted_ascending { IfOk result (λ of. (n : ℕ) → IsStrictlyIncreasing (row of.1.counted n)) }
 
     // What is put together of them is the graph.
-    ensures graph { IfOk result (λ ordered. (inputs : Inputs) (named : List (List ℕ)) → inputs.lines ≡ lines.now
-        → AreFound inputs (goals_of inputs.lines named) numbered.now → (state : StateMap) → finmap.get state ≡ inputs.entries
-        → (graph : Graph) → IsPutTogether lines.now numbered.now ordered state graph → IsGraph inputs named graph) }
+    ensures graph { IfOk result (λ of. (inputs : Inputs) (named : List (List ℕ)) → inputs.lines ≡ lines.now
+        → AreFound inputs (goals_of inputs.lines named) numbered → (state : StateMap) → finmap.get state ≡ inputs.entries
+        → (graph : Graph) → IsPutTogether lines.now of.0 of.1 state graph → IsGraph inputs named graph) }
     ensures fault { IfErr result (λ fault. (inputs : Inputs) (named : List (List ℕ)) → inputs.lines ≡ lines.now
-        → AreFound inputs (goals_of inputs.lines named) numbered.now → IsGraphlessFault inputs named fault) }
+        → AreFound inputs (goals_of inputs.lines named) numbered → IsGraphlessFault inputs named fault) }
 {
-    let hard = hard_edges(alloc, numbered)?;
+    let hard = hard_edges(alloc, &numbered)?;
     let required = required_edges(alloc, &hard, &numbered.names, &numbered.nodes)?;
-    let soft = soft_edges(alloc, numbered, lines, suffixes)?;
-    ordered_by(alloc, &numbered.names, hard, required, soft)
+    let soft = soft_edges(alloc, &numbered, lines, suffixes)?;
+    // The rows are let go before the order takes memory.
+    let named = named_nodes(numbered)?;
+    let ordered = ordered_by(alloc, &named.names, hard, required, soft)?;
+    Ok((named, ordered))
 }
 
 /// The lines of a makefile, in the wide profile which of them make each name, and the suffixes.
@@ -248,7 +234,7 @@ fn graph_of(
     alloc: Global,
     makefile: Makefile,
     macros: Macros,
-    numbered: Numbered<Known>,
+    numbered: Numbered<Node>,
     state: State,
 ) -> Result<Graph, RuleFault>
     requires names { IsDistinct bytes_eq numbered.names }
@@ -272,9 +258,9 @@ fn graph_of(
     )?;
     // The table is let go where nothing asks for it later, before the order takes memory.
     let (lines, targets, suffixes) = parts_of(makefile, profile);
-    let ordered = order_found(alloc, &lines, &suffixes, &numbered)?;
+    let (named, ordered) = order_found(alloc, &lines, &suffixes, numbered)?;
     Ok(put_together(
-        alloc, lines, targets, suffixes, macros, numbered, ordered, state,
+        alloc, lines, targets, suffixes, macros, named, ordered, state,
     )?)
 }
 
@@ -286,7 +272,7 @@ fn reached<T: Tree>(
     tree: &mut T,
     state: &State,
     limit: usize,
-) -> Result<Numbered<Known>, RuleFault>
+) -> Result<Numbered<Node>, RuleFault>
     ensures found { IfOk result (λ n. (times : List ℕ → Option ℤ) → T.allows tree.new times
         → AreFound (inputs_of makefile.now.lines.items (finmap.get state.now) times) (goals_of makefile.now.lines.items goals) n) }
     ensures row_count { IfOk result (λ n. length n.rows ≡ length n.names) }

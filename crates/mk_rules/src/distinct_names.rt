@@ -42,15 +42,6 @@ fn set_of(alloc: Global, list: &ByteStrings) -> Result<Names, AllocError>
     Ok(set)
 }
 
-/// How many bytes they have, as far as a number goes.
-fn size_of(list: &ByteStrings) -> usize {
-    let mut size = 0usize;
-    for name in list.iter() {
-        size = size.saturating_add(name.len());
-    }
-    size
-}
-
 impl DistinctNames {
     /// No names, which takes no memory.
     pub fn new(alloc: Global) -> DistinctNames
@@ -60,26 +51,6 @@ impl DistinctNames {
             list: ByteStrings::empty(alloc),
             set: Names::new(alloc),
         }
-    }
-
-    /// The names of a list that has each once.
-    pub fn of_list(alloc: Global, list: ByteStrings) -> DistinctNames
-        ensures { result ≡ list }
-    {
-        DistinctNames {
-            list,
-            set: Names::new(alloc),
-        }
-    }
-
-    /// No names, with room for so many names of a list as it has.
-    pub fn with_room(alloc: Global, list: &ByteStrings) -> Result<DistinctNames, AllocError>
-        ensures { IfOk result (λ names. names ≡ []) }
-    {
-        Ok(DistinctNames {
-            list: ByteStrings::with_capacity(alloc, list.len(), size_of(list))?,
-            set: Names::new(alloc),
-        })
     }
 
     /// How many names there are.

@@ -1,20 +1,24 @@
 //! Names looked up one by one while they are numbered.
-ghost use Rattle.std.specs.Prelude.{◌≡◌, ◌<◌, ℕ, ℤ, List, Option, [], length, map, nat_lt, true, IfOk, IfErr, OnOk};
+ghost use Rattle.std.specs.Prelude.{◌≡◌, ◌<◌, ◌++◌, ℕ, ℤ, Bool, List, Option, [], length, map, is_some, nat_lt, true, IfOk, IfErr, OnOk};
 ghost use Rattle.std.specs.FinMap as finmap;
 ghost use Rattle.std.specs.List.{list_all, IsDistinct};
 ghost use Rattle.std.specs.Option.{option_copied};
 ghost use Rattle.std.specs.Str.{bytes_eq};
 ghost use Rattle.mk_rules.specs.Prerequisites.{inputs_of, is_node, hidden_in, prerequisites_of};
 ghost use Rattle.mk_graph.specs.Numbering.{name_at, all_added};
+ghost use Rattle.mk_rule_lines.specs.Explicit.{numbers_of, explicit_of};
 ghost use Rattle.mk_rules.specs.Looks.{Looks};
-ghost use Rattle.mk_rules.specs.Hidden.{HasHidden, IsNamesFault};
+ghost use Rattle.mk_rules.specs.Hidden.{are_nodes, HasHidden, IsNamesFault};
 ghost use Rattle.mk_rules.specs.Known.{IsKnown, IsLookUpFault};
 ghost use Rattle.mk_rules.specs.NodeNotes.{AreKnownNodes};
 ghost use Rattle.mk_rules.specs.Row.{named, IsRow, IsSomeRow};
 ghost use Rattle.mk_rules.specs.Seen.{IsAsSeen, IsNumberedAs};
 
+use crate::distinct_numbers::DistinctNumbers;
+use crate::explicit::mention_explicit;
+use crate::graph::Node;
 use crate::hidden::add_hidden;
-use crate::known::{Known, Seen};
+use crate::known::Seen;
 use crate::mentioned::{Mentioned, mention_names};
 use crate::node_notes::NodeNotes;
 use crate::rules::Rules;
@@ -22,8 +26,8 @@ use crate::seen::seen_of;
 use crate::tree::Tree;
 use mk_graph::{Dependencies, Found, Names};
 use mk_rule_lines::RuleFault;
-use st_records::Entry;
-use std::alloc::Global;
+use st_records::PackedEntry;
+use std::alloc::{AllocError, Global};
 
 /// Takes in the hidden prerequisites that are recorded of a name behind the hard ones.
 fn add_recorded<T: Tree>(
@@ -33,7 +37,7 @@ fn add_recorded<T: Tree>(
     names: &mut Names,
     notes: &mut NodeNotes,
     mentioned: &mut Mentioned,
-    recorded: Option<&Entry>,
+    recorded: Option<&PackedEntry>,
 ) -> Result<(), RuleFault>
     requires noted { (times : List ℕ → Option ℤ) → T.allows tree.old times
         → AreKnownNodes (is_node (inputs_of rules.now.lines.now (finmap.get rules.now.state.now) times)) names.old notes.old.marks.items }
@@ -43,31 +47,74 @@ fn add_recorded<T: Tree>(
     ensures row { OnOk result ((start : List (List ℕ)) → IsRow start names.old mentioned.old.nodes → IsRow start names.new mentioned.new.nodes) }
     ensures hidden { OnOk result ((times : List ℕ → Option ℤ) → T.allows tree.new times
         → HasHidden (is_node (inputs_of rules.now.lines.now (finmap.get rules.now.state.now) times)) (named names.old mentioned.old.nodes) (hidden_in (option_copied recorded.entry))
-        (named names.new mentioned.new.nodes) mentioned.new.hidden.items) }
+        (named names.new mentioned.new.nodes) (are_nodes mentioned.new.hidden.items)) }
     ensures noted { OnOk result ((times : List ℕ → Option ℤ) → T.allows tree.new times
         → AreKnownNodes (is_node (inputs_of rules.now.lines.now (finmap.get rules.now.state.now) times)) names.new notes.new.marks.items) }
     ensures looks { Looks (T.allows tree.old) (T.allows tree.new) (T.refuses tree.old) (T.refuses tree.new) (T.asked tree.old) (T.asked tree.new) }
     ensures fault { IfErr result (IsNamesFault (T.refuses tree.new) (hidden_in (option_copied recorded.entry))) }
 {
     match recorded {
-        Some(entry) => add_hidden(alloc, rules, tree, names, notes, mentioned, &entry.hidden),
+        Some(entry) => {
+            let hidden = entry.hidden();
+            mentioned.hidden = Vec::with_capacity(alloc, hidden.len())?;
+            add_hidden(alloc, rules, tree, names, notes, mentioned, &hidden)
+        }
         None => Ok(()),
     }
 }
 
 /// What was found of a name, with its row and its hidden prerequisites.
-fn completed(mentioned: Mentioned, node: Known) -> Found<Known>
-    ensures prerequisites { result.prerequisites.items ≡ mentioned.nodes }
-    ensures hidden { result.node.hidden.items ≡ mentioned.hidden.items }
-    ensures node { IsAsSeen node result.node }
+fn completed(
+    alloc: Global,
+    notes: &mut NodeNotes,
+    mentioned: Mentioned,
+    hard: usize,
+    node: Node,
+) -> Result<Found<Node>, AllocError>
+    ensures prerequisites { IfOk result (λ found. found.prerequisites.items ≡ mentioned.nodes) }
+    ensures hidden { IfOk result (λ found. found.node.hidden.items ≡ mentioned.hidden.items) }
+    ensures hard { IfOk result (λ found. found.node.hard ≡ hard) }
+    ensures node { IfOk result (λ found. IsAsSeen node found.node) }
+    ensures marks { notes.new.marks.items ≡ notes.old.marks.items }
 {
     let Mentioned { nodes, hidden, .. } = mentioned;
     let mut node = node;
     node.hidden = hidden;
-    Found {
-        prerequisites: nodes.into_list(),
+    node.hard = hard;
+    node.place = u32::try_from(notes.place.saturating_sub(1)).unwrap_or(0);
+    let prerequisites = nodes.to_list(alloc)?;
+    notes.row = nodes;
+    Ok(Found {
+        prerequisites,
         node,
-    }
+    })
+}
+
+/// Mentions the hard prerequisites of a name.
+fn mention_hard(
+    alloc: Global,
+    rules: &Rules,
+    names: &mut Names,
+    notes: &mut NodeNotes,
+    numbers: &mut DistinctNumbers,
+    seen: &Seen,
+) -> Result<(), AllocError>
+    requires { IsSomeRow names.old numbers.old }
+    ensures row { OnOk result ((start : List (List ℕ)) → IsRow start names.old numbers.old → IsRow start names.new numbers.new) }
+    ensures known { OnOk result ((is_node : List ℕ → Bool) → AreKnownNodes is_node names.old notes.old.marks.items → AreKnownNodes is_node names.new notes.new.marks.items) }
+    ensures named { OnOk result ((name : List ℕ) → seen.now.lines.now ≡ numbers_of rules.now.lines.now name
+        → named names.new numbers.new ≡ all_added (named names.old numbers.old) (seen.now.made ++ explicit_of rules.now.lines.now name)) }
+{
+    mention_names(alloc, names, &mut notes.followers, numbers, &seen.made)?;
+    mention_explicit(
+        alloc,
+        names,
+        &mut notes.followers,
+        numbers,
+        rules.lines,
+        seen.lines,
+    )?;
+    Ok(())
 }
 
 /// What was found of a name, once its prerequisites have numbers.
@@ -78,25 +125,44 @@ fn numbered<T: Tree>(
     names: &mut Names,
     notes: &mut NodeNotes,
     seen: Seen,
-    recorded: Option<&Entry>,
-) -> Result<Found<Known>, RuleFault>
+    recorded: Option<&PackedEntry>,
+) -> Result<Found<Node>, RuleFault>
     requires noted { (times : List ℕ → Option ℤ) → T.allows tree.old times
         → AreKnownNodes (is_node (inputs_of rules.now.lines.now (finmap.get rules.now.state.now) times)) names.old notes.old.marks.items }
     requires distinct { IsDistinct bytes_eq names.old }
     ensures row { IfOk result (λ found. IsRow names.old names.new found.prerequisites.items) }
     ensures prerequisites { IfOk result (λ found. (times : List ℕ → Option ℤ) → T.allows tree.new times
-        → IsNumberedAs (is_node (inputs_of rules.now.lines.now (finmap.get rules.now.state.now) times)) seen (hidden_in (option_copied recorded.entry))
+        → (name : List ℕ) → seen.entry.lines.now ≡ numbers_of rules.now.lines.now name
+        → IsNumberedAs (is_node (inputs_of rules.now.lines.now (finmap.get rules.now.state.now) times)) seen.entry.node
+        (seen.entry.made ++ explicit_of rules.now.lines.now name) (hidden_in (option_copied recorded.entry)) seen.entry.order_only
         (named names.new found.prerequisites.items) found.node) }
     ensures noted { OnOk result ((times : List ℕ → Option ℤ) → T.allows tree.new times
         → AreKnownNodes (is_node (inputs_of rules.now.lines.now (finmap.get rules.now.state.now) times)) names.new notes.new.marks.items) }
     ensures looks { Looks (T.allows tree.old) (T.allows tree.new) (T.refuses tree.old) (T.refuses tree.new) (T.asked tree.old) (T.asked tree.new) }
     ensures fault { IfErr result (IsNamesFault (T.refuses tree.new) (hidden_in (option_copied recorded.entry))) }
 {
-    let mut mentioned = Mentioned::new(alloc);
-    mention_names(alloc, names, &mut mentioned.nodes, &seen.hard)?;
+    let mut mentioned = Mentioned::new(alloc, notes.take_row(alloc));
+    mention_hard(alloc, rules, names, notes, &mut mentioned.nodes, &seen)?;
+    let hard = mentioned.nodes.len();
     add_recorded(alloc, rules, tree, names, notes, &mut mentioned, recorded)?;
-    mention_names(alloc, names, &mut mentioned.nodes, &seen.order_only)?;
-    Ok(completed(mentioned, seen.node))
+    mention_names(
+        alloc,
+        names,
+        &mut notes.followers,
+        &mut mentioned.nodes,
+        &seen.order_only,
+    )?;
+    Ok(completed(alloc, notes, mentioned, hard, seen.node)?)
+}
+
+/// What the state has of the name.
+fn recorded<'m>(rules: &Rules<'m>, notes: &mut NodeNotes, name: &[u8]) -> Option<&'m PackedEntry>
+    ensures entry { option_copied result ≡ finmap.get rules.now.state.now name.now }
+    ensures marks { notes.new.marks.items ≡ notes.old.marks.items }
+{
+    let (entry, place) = rules.state.near(name, notes.place);
+    notes.place = place;
+    entry
 }
 
 /// What the rules, the state and a tree say of the name with this number.
@@ -107,7 +173,7 @@ fn look_up<T: Tree>(
     names: &mut Names,
     notes: &mut NodeNotes,
     number: usize,
-) -> Result<Found<Known>, RuleFault>
+) -> Result<Found<Node>, RuleFault>
     requires number { number < length names.old }
     requires noted { (times : List ℕ → Option ℤ) → T.allows tree.old times
         → AreKnownNodes (is_node (inputs_of rules.now.lines.now (finmap.get rules.now.state.now) times)) names.old notes.old.marks.items }
@@ -127,7 +193,7 @@ fn look_up<T: Tree>(
 {
     let name = names.name(number);
     let seen = seen_of(alloc, rules, tree, name)?;
-    let entry = rules.entry(name);
+    let entry = recorded(rules, notes, name);
     numbered(alloc, rules, tree, names, notes, seen, entry)
 }
 
@@ -146,7 +212,7 @@ impl<'m, 't, T: Tree> Dependencies for Finder<'m, 't, T> {
 
     type Fault = RuleFault;
 
-    type Node = Known;
+    type Node = Node;
 
     type Notes = NodeNotes;
 
@@ -177,7 +243,7 @@ impl<'m, 't, T: Tree> Dependencies for Finder<'m, 't, T> {
         names: &mut Names,
         notes: &mut NodeNotes,
         number: usize,
-    ) -> Result<Found<Known>, RuleFault> {
+    ) -> Result<Found<Node>, RuleFault> {
         look_up(alloc, &self.rules, self.tree, names, notes, number)
     }
 

@@ -1,6 +1,6 @@
 //! The graph of a makefile's names: what each is made from, and what the state and the files say of it.
 ghost use Rattle.std.proofs.Props.{props};
-ghost use Rattle.std.specs.Prelude.{◌≡◌, ℕ, List, ◌<◌, drop, length, option_copied, slice_index, slice_get, is_some, unwrap_or, IsTrue, IfSome};
+ghost use Rattle.std.specs.Prelude.{◌≡◌, ℕ, List, ◌<◌, drop, length, option_copied, option_map, slice_index, slice_get, is_some, unwrap_or, IsTrue, IfSome};
 ghost use Rattle.std.specs.List.Sorted.{IsStrictlyIncreasing};
 ghost use Rattle.mk_graph.specs.Edges.{row, is_closed};
 ghost use Rattle.mk_macros.specs.Ranks.{defined_by};
@@ -11,30 +11,55 @@ ghost use Rattle.mk_rule_lines.specs.Table.{named_at};
 ghost use Rattle.mk_rules.specs.Node.{EachHasOneNumber, source_in, explicit_in, implied_in};
 
 use crate::group::Group;
+use crate::rare::RareParts;
 use crate::rows::{behind, front};
+use crate::short_number::ShortNumber;
+use crate::stamp::Stamp;
 use byte_strings::{ByteString, ByteStrings};
 use mk_graph::{Edges, Names};
 use mk_macros::Macros;
 use mk_rule_lines::{RuleLine, Settings, TargetTable};
 use st_state::State;
-use std::boxed::Box;
 
 /// A name of the graph.
 #[derive(Drop)]
 pub struct Node {
-    /// When its file was last changed, in nanoseconds since 1970; None where there is no file.
-    pub stamp: Option<i128>,
-    /// The stem, where an implicit rule makes it.
-    pub stem: Option<ByteString>,
-    /// How many of the hard prerequisites that rule gives: those that come first, of which the first is the source.
-    pub implied: usize,
-    /// The number of the rule line whose recipe makes it.
-    pub recipe: Option<usize>,
-    /// What that recipe makes beside it, where it is that of an implicit rule and makes more.
-    pub group: Option<Box<Group>>,
+    /// When its file was last changed.
+    pub stamp: Stamp,
     /// The hidden prerequisites that aren't hard ones, in the order in which they were recorded: the number of a node, or
-    /// None where there is neither a file nor a rule.
-    pub hidden: Vec<Option<usize>>,
+    /// none where there is neither a file nor a rule.
+    pub hidden: Vec<ShortNumber>,
+    /// What it has of an implicit rule and of order-only prerequisites.
+    pub rare: RareParts,
+    /// How many of its prerequisites are hard: those that come first.
+    pub hard: usize,
+    /// The number of the rule line whose recipe makes it.
+    pub recipe: ShortNumber,
+    /// Where the state may have it, which is tried first.
+    pub place: u32,
+}
+
+impl Node {
+    /// The stem, where an implicit rule makes it.
+    pub fn stem(&self) -> Option<&ByteString>
+        ensures { option_copied result ≡ self.now.rare.stem }
+    {
+        self.rare.stem()
+    }
+
+    /// How many of the hard prerequisites that rule gives: those that come first, of which the first is the source.
+    pub fn implied(&self) -> usize
+        ensures { result ≡ self.now.rare.implied }
+    {
+        self.rare.implied()
+    }
+
+    /// What its recipe makes beside it, where it is that of an implicit rule and makes more.
+    pub fn group(&self) -> Option<&Group>
+        ensures { option_copied result ≡ option_map (λ g. g.value) self.now.rare.group }
+    {
+        self.rare.group()
+    }
 }
 
 /// The names that the goals lead to, numbered by first mention, with what orders them.
@@ -101,10 +126,13 @@ impl Graph {
         requires { node < length self.now.nodes.items }
         ensures { result ≡ source_in (slice_get self.now.nodes.items node) (row self.now.hard node) }
     {
-        if self.nodes[node].implied == 0 {
+        if self.nodes[node].implied() == 0 {
             return None;
         }
-        self.hard.row(node).first().copied()
+        match self.hard.row(node) {
+            [source, ..] => Some(*source as usize),
+            [] => None,
+        }
     }
 
     /// What each node isn't made without: its hard prerequisites and its order-only ones.
@@ -118,7 +146,7 @@ impl Graph {
     }
 
     /// The order-only prerequisites of a node that are no hard ones, each once.
-    pub fn order_only(&self, node: usize) -> &[usize]
+    pub fn order_only(&self, node: usize) -> &[u32]
         requires { node < length self.now.nodes.items }
         ensures { result.now ≡ drop (length (row self.now.hard node)) (row (unwrap_or self.now.required self.now.hard) node) }
     {
@@ -126,12 +154,12 @@ impl Graph {
     }
 
     /// The prerequisites of a node by name, each once, without its source: what is recorded of it.
-    pub fn explicit(&self, node: usize) -> &[usize]
+    pub fn explicit(&self, node: usize) -> &[u32]
         requires { node < length self.now.nodes.items }
         ensures { result.now ≡ explicit_in (slice_get self.now.nodes.items node) (row self.now.hard node) }
     {
         let hard = self.hard.row(node);
-        if self.nodes[node].implied == 0 {
+        if self.nodes[node].implied() == 0 {
             return hard;
         }
         match hard {
@@ -140,10 +168,10 @@ impl Graph {
         }
     }
     /// The prerequisites that an implicit rule gives a node, each once.
-    pub fn implied(&self, node: usize) -> &[usize]
+    pub fn implied(&self, node: usize) -> &[u32]
         requires { node < length self.now.nodes.items }
         ensures { result.now ≡ implied_in (slice_get self.now.nodes.items node) (row self.now.hard node) }
     {
-        front(self.hard.row(node), self.nodes[node].implied)
+        front(self.hard.row(node), self.nodes[node].implied())
     }
 }

@@ -8,7 +8,7 @@ ghost use Rattle.mk_rule_lines.specs.Table.{named_at};
 ghost use Rattle.mk_rules.specs.Prerequisites.{default_of, is_cut, run_by, rule_or};
 
 use mk_rule_lines::{RuleLine, Source, TargetTable, is_default_at};
-use st_records::{Entry, Phase};
+use st_records::{PackedEntry, Phase};
 
 /// The line of this number, where it is one of `.DEFAULT`.
 fn default_at(lines: &[RuleLine], number: usize) -> Option<usize>
@@ -42,17 +42,17 @@ fn is_cut(phase: Phase) -> bool
 }
 
 /// Whether the state says that a recipe wasn't run to its end.
-fn is_unfinished(entry: Option<&Entry>) -> bool
+fn is_unfinished(entry: Option<&PackedEntry>) -> bool
     ensures { result ≡ option_map_or (λ e. is_cut e.phase) (option_copied entry.entry) false }
 {
     match entry {
-        Some(entry) => is_cut(entry.phase),
+        Some(entry) => is_cut(entry.phase()),
         None => false,
     }
 }
 
 /// Whether a name is left to `.DEFAULT`, which the lines of these numbers make.
-pub(crate) fn is_left(numbers: &[usize], stamp: Option<i128>, entry: Option<&Entry>) -> bool
+pub(crate) fn is_left(numbers: &[usize], stamp: Option<i128>, entry: Option<&PackedEntry>) -> bool
     ensures { result ≡ (is_empty numbers.now && (is_none stamp || option_map_or (λ e. is_cut e.phase) (option_copied entry.entry) false)) }
 {
     numbers.is_empty() && (stamp.is_none() || is_unfinished(entry))

@@ -1,5 +1,5 @@
 //! Parts of lists of names.
-ghost use Rattle.std.specs.Prelude.{◌≡◌, ◌++◌, drop, slice_get, option_to_list, IfOk, OnOk};
+ghost use Rattle.std.specs.Prelude.{◌≡◌, ◌++◌, take, drop, slice_get, option_to_list, IfOk, OnOk};
 
 use byte_strings::ByteStrings;
 use std::alloc::{AllocError, Global};
@@ -12,6 +12,21 @@ fn push_at(list: &mut ByteStrings, names: &ByteStrings, number: usize) -> Result
         Some(name) => list.push(name),
         None => Ok(()),
     }
+}
+
+/// The first so many names.
+pub(crate) fn names_before(
+    alloc: Global,
+    names: &ByteStrings,
+    count: usize,
+) -> Result<ByteStrings, AllocError>
+    ensures { IfOk result (λ before. before ≡ take count names.now) }
+{
+    let mut before = ByteStrings::empty(alloc);
+    for number in 0..count {
+        push_at(&mut before, names, number)?;
+    }
+    Ok(before)
 }
 
 /// The names behind the first so many.

@@ -1,9 +1,10 @@
 //! What a name is made from by rules, each name once.
-ghost use Rattle.std.specs.Prelude.{◌≡◌, ◌++◌, length, take, slice_get, option_to_list, IfOk, OnOk};
+ghost use Rattle.std.specs.Prelude.{◌≡◌, length, take, slice_get, option_to_list, IfOk, OnOk};
 ghost use Rattle.mk_graph.specs.Numbering.{all_added};
 ghost use Rattle.mk_rules.specs.Prerequisites.{made_names, made_from, distinct};
 
 use crate::distinct_names::DistinctNames;
+use crate::listed::names_before;
 use byte_strings::ByteStrings;
 use mk_rule_lines::Source;
 use std::alloc::{AllocError, Global};
@@ -52,49 +53,28 @@ fn mention_front(
     Ok(())
 }
 
-/// Mentions what a name with this source is made from.
-fn mention_made(alloc: Global, names: &mut DistinctNames, source: &Source) -> Result<(), AllocError>
-    ensures { OnOk result (names.new ≡ all_added names.old (made_names source.now)) }
+/// What a name with this source is made from.
+fn made_names(alloc: Global, source: &Source) -> Result<ByteStrings, AllocError>
+    ensures { IfOk result (λ names. names ≡ made_names source.now) }
 {
     match &source.leader {
         Some(leader) => {
-            let _is_new = names.mention(alloc, leader.as_slice())?;
-            Ok(())
+            let mut names = ByteStrings::empty(alloc);
+            names.push(leader.as_slice())?;
+            Ok(names)
         }
-        None => mention_front(alloc, names, &source.names, source.ordinary),
+        None => names_before(alloc, &source.names, source.ordinary),
     }
 }
 
-/// Mentions what an implicit rule makes a name from.
-fn mention_source(
-    alloc: Global,
-    names: &mut DistinctNames,
-    source: &Option<Source>,
-) -> Result<(), AllocError>
-    ensures { OnOk result (names.new ≡ all_added names.old (made_from source.now)) }
+/// What an implicit rule makes a name from, if one does.
+pub(crate) fn made_from(alloc: Global, source: &Option<Source>) -> Result<ByteStrings, AllocError>
+    ensures { IfOk result (λ names. names ≡ made_from source.now) }
 {
     match source {
-        Some(source) => mention_made(alloc, names, source),
-        None => Ok(()),
+        Some(source) => made_names(alloc, source),
+        None => Ok(ByteStrings::empty(alloc)),
     }
-}
-
-/// What an implicit rule makes a name from and the prerequisites by name, each at its first mention.
-pub(crate) fn hard_names(
-    alloc: Global,
-    source: &Option<Source>,
-    explicit: ByteStrings,
-) -> Result<DistinctNames, AllocError>
-    ensures { IfOk result (λ names. names ≡ distinct (made_from source.now ++ explicit)) }
-{
-    // One name stands there once, so that its list is taken as it is.
-    if source.is_none() && explicit.len() < 2 {
-        return Ok(DistinctNames::of_list(alloc, explicit));
-    }
-    let mut names = DistinctNames::with_room(alloc, &explicit)?;
-    mention_source(alloc, &mut names, source)?;
-    mention_all(alloc, &mut names, &explicit)?;
-    Ok(names)
 }
 
 /// How many names the first so many are, each once.

@@ -4,10 +4,12 @@ ghost use Rattle.mk_graph.specs.Edges.{has};
 ghost use Rattle.mk_graph.specs.Numbering.{name_at, has_name, added, all_added};
 ghost use Rattle.mk_rules.specs.NodeNotes.{AreKnownNodes};
 ghost use Rattle.mk_rules.specs.Row.{named, IsRow, IsSomeRow};
-ghost use Rattle.mk_rules.specs.Hidden.{Takes};
+ghost use Rattle.mk_rules.specs.Hidden.{are_nodes, Takes};
 
 use crate::distinct_names::DistinctNames;
 use crate::distinct_numbers::DistinctNumbers;
+use crate::followers::Followers;
+use crate::short_number::ShortNumber;
 use byte_strings::ByteStrings;
 use mk_graph::Names;
 use std::alloc::{AllocError, Global};
@@ -19,14 +21,15 @@ pub(crate) struct Mentioned {
     pub nodes: DistinctNumbers,
     /// The hidden ones that are gone.
     pub gone: DistinctNames,
-    /// Of each hidden one that wasn't mentioned before, whether it is a node.
-    pub hidden: Vec<bool>,
+    /// Each hidden one that wasn't mentioned before: the number of a node, or none where it is gone.
+    pub hidden: Vec<ShortNumber>,
 }
 
 /// Gives a name its number, and mentions that.
-fn mention_name(
+pub(crate) fn mention_name(
     alloc: Global,
     names: &mut Names,
+    followers: &mut Followers,
     numbers: &mut DistinctNumbers,
     name: &[u8],
 ) -> Result<(), AllocError>
@@ -34,8 +37,8 @@ fn mention_name(
     ensures known { OnOk result ((is_node : List ℕ → Bool) (marks : List Bool) → AreKnownNodes is_node names.old marks → AreKnownNodes is_node names.new marks) }
     ensures named { OnOk result (IsSomeRow names.old numbers.old → named names.new numbers.new ≡ added (named names.old numbers.old) name.now) }
 {
-    let number = names.numbered(alloc, name)?;
-    let _is_new = numbers.mention(alloc, number)?;
+    let number = followers.numbered(alloc, names, name)?;
+    let _is_new = numbers.mention(number)?;
     Ok(())
 }
 
@@ -43,6 +46,7 @@ fn mention_name(
 pub(crate) fn mention_names(
     alloc: Global,
     names: &mut Names,
+    followers: &mut Followers,
     numbers: &mut DistinctNumbers,
     mentioned: &ByteStrings,
 ) -> Result<(), AllocError>
@@ -51,8 +55,13 @@ pub(crate) fn mention_names(
     ensures known { OnOk result ((is_node : List ℕ → Bool) (marks : List Bool) → AreKnownNodes is_node names.old marks → AreKnownNodes is_node names.new marks) }
     ensures named { OnOk result (named names.new numbers.new ≡ all_added (named names.old numbers.old) mentioned.now) }
 {
+    followers.start();
+    // Most names have none of these.
+    if mentioned.is_empty() {
+        return Ok(());
+    }
     for name in mentioned.iter() {
-        mention_name(alloc, names, numbers, name)?;
+        mention_name(alloc, names, followers, numbers, name)?;
     }
     Ok(())
 }
@@ -68,28 +77,28 @@ fn has_named(names: &Names, numbers: &DistinctNumbers, name: &[u8]) -> bool
 }
 
 impl Mentioned {
-    /// No prerequisites, which takes no memory.
-    pub fn new(alloc: Global) -> Mentioned
-        ensures nodes { result.nodes ≡ [] }
+    /// No prerequisites beside these nodes.
+    pub fn new(alloc: Global, nodes: DistinctNumbers) -> Mentioned
+        ensures nodes { result.nodes ≡ nodes }
         ensures gone { result.gone ≡ [] }
         ensures hidden { result.hidden.items ≡ [] }
     {
         Mentioned {
-            nodes: DistinctNumbers::new(alloc),
+            nodes,
             gone: DistinctNames::new(alloc),
             hidden: Vec::new(alloc),
         }
     }
 
     /// Takes in the number of a hidden prerequisite that is a node.
-    fn add_node(&mut self, alloc: Global, number: usize) -> Result<(), AllocError>
+    fn add_node(&mut self, number: u32) -> Result<(), AllocError>
         ensures nodes { OnOk result (self.new.nodes ≡ (if has self.old.nodes number then self.old.nodes else self.old.nodes ++ number ∷ [])) }
         ensures gone { OnOk result (self.new.gone ≡ self.old.gone) }
-        ensures hidden { OnOk result (self.new.hidden.items
-            ≡ (if has self.old.nodes number then self.old.hidden.items else self.old.hidden.items ++ true ∷ [])) }
+        ensures hidden { OnOk result (are_nodes self.new.hidden.items
+            ≡ (if has self.old.nodes number then are_nodes self.old.hidden.items else are_nodes self.old.hidden.items ++ true ∷ [])) }
     {
-        if self.nodes.mention(alloc, number)? {
-            self.hidden.push(true)?;
+        if self.nodes.mention(number)? {
+            self.hidden.push(ShortNumber::of(Some(number as usize))?)?;
         }
         Ok(())
     }
@@ -98,14 +107,14 @@ impl Mentioned {
     fn add_gone(&mut self, alloc: Global, is_hard: bool, name: &[u8]) -> Result<(), AllocError>
         ensures nodes { OnOk result (self.new.nodes ≡ self.old.nodes) }
         ensures gone { OnOk result (self.new.gone ≡ (if is_hard then self.old.gone else added self.old.gone name.now)) }
-        ensures hidden { OnOk result (self.new.hidden.items
-            ≡ (if is_hard || has_name self.old.gone name.now then self.old.hidden.items else self.old.hidden.items ++ false ∷ [])) }
+        ensures hidden { OnOk result (are_nodes self.new.hidden.items
+            ≡ (if is_hard || has_name self.old.gone name.now then are_nodes self.old.hidden.items else are_nodes self.old.hidden.items ++ false ∷ [])) }
     {
         if is_hard {
             return Ok(());
         }
         if self.gone.mention(alloc, name)? {
-            self.hidden.push(false)?;
+            self.hidden.push(ShortNumber::of(None)?)?;
         }
         Ok(())
     }
@@ -116,17 +125,17 @@ impl Mentioned {
         alloc: Global,
         names: &Names,
         name: &[u8],
-        number: Option<usize>,
+        number: Option<u32>,
     ) -> Result<(), AllocError>
         ensures { OnOk result ((before : List (List ℕ)) → IsSomeRow before self.old.nodes
             → MatchOption number (names.now ≡ before) (λ n. (names.now ≡ added before name.now) × (n < length names.now) × (name_at names.now n ≡ name.now))
             → ((start : List (List ℕ)) → IsRow start before self.old.nodes → IsRow start names.now self.new.nodes)
             × Takes (λ _. is_some number) name.now (named before self.old.nodes) (named names.now self.new.nodes) self.old.gone self.new.gone
-            self.old.hidden.items self.new.hidden.items) }
+            (are_nodes self.old.hidden.items) (are_nodes self.new.hidden.items)) }
     {
         match number {
             Some(number) => {
-                self.add_node(alloc, number)?;
+                self.add_node(number)?;
                 Ok(())
             }
             None => {

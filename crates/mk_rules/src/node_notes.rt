@@ -1,73 +1,82 @@
-//! Which names are known to be nodes, so that a hidden prerequisite is looked for once.
+//! What is noted of names while they are numbered, so that a hidden prerequisite is looked for once.
 ghost use Rattle.std.specs.Prelude.{◌≡◌, ◌<◌, ◌⊎◌, ℕ, Bool, List, [], true, length, IfOk, IfSome, OnOk};
 ghost use Rattle.mk_graph.specs.Numbering.{name_at, added};
 ghost use Rattle.mk_rules.specs.NodeNotes.{is_marked, AreKnownNodes};
 
+use crate::distinct_numbers::DistinctNumbers;
+use crate::followers::Followers;
+use crate::marks::{is_marked, make_room};
 use mk_graph::Names;
 use std::alloc::{AllocError, Global};
+use std::mem;
 
-/// Marks of names by their numbers: those that were found to be nodes as hidden prerequisites.
+/// What is kept from the prerequisites of one name to those of the next.
 #[derive(Drop)]
 pub(crate) struct NodeNotes {
+    /// Of each number, whether its name was found to be a node as a hidden prerequisite.
     pub marks: Vec<bool>,
+    /// A row that is done with, for its room.
+    pub row: DistinctNumbers,
+    pub followers: Followers,
+    /// Where the state may have the next name, since names are mostly asked for in its order.
+    pub place: usize,
 }
 
 impl NodeNotes {
-    /// No marks, which takes no memory.
+    /// No notes, which takes no memory.
     pub fn new(alloc: Global) -> NodeNotes
         ensures { result.marks.items ≡ [] }
     {
         NodeNotes {
             marks: Vec::new(alloc),
+            row: DistinctNumbers::new(alloc),
+            followers: Followers::new(alloc),
+            place: 0,
         }
     }
 
-    fn has(&self, number: usize) -> bool
-        ensures { result ≡ is_marked self.now.marks.items number }
+    /// A row without numbers, with the room of the one that is done with.
+    pub fn take_row(&mut self, alloc: Global) -> DistinctNumbers
+        ensures row { result ≡ [] }
+        ensures marks { self.new.marks.items ≡ self.old.marks.items }
     {
-        match self.marks.get(number) {
-            Some(mark) => *mark,
-            None => false,
-        }
+        let mut row = mem::replace(&mut self.row, DistinctNumbers::new(alloc));
+        row.clear();
+        row
     }
 
-    /// Marks the name with a number below the count.
-    fn mark(&mut self, count: usize, number: usize) -> Result<(), AllocError>
-        requires { number < count }
+    /// Marks the name with this number.
+    fn mark(&mut self, number: u32) -> Result<(), AllocError>
         ensures { OnOk result ((n : ℕ) → is_marked self.new.marks.items n ≡ true → (is_marked self.old.marks.items n ≡ true) ⊎ (n ≡ number)) }
     {
-        if self.marks.len() < count {
-            self.marks.resize(count, false)?;
-        }
-        self.marks[number] = true;
+        make_room(&mut self.marks, number as usize)?;
+        self.marks[number as usize] = true;
         Ok(())
     }
 
     /// The number of a name that is known to be a node.
-    pub fn number_of(&self, names: &Names, name: &[u8]) -> Option<usize>
-        ensures name { IfSome result (λ n. (n < length names.now) × (name_at names.now n ≡ name.now)) }
-        ensures marked { IfSome result (λ n. is_marked self.now.marks.items n ≡ true) }
+    pub fn number_of(&mut self, names: &Names, name: &[u8]) -> Result<Option<u32>, AllocError>
+        ensures name { IfOk result (λ of. IfSome of (λ n. (n < length names.now) × (name_at names.now n ≡ name.now))) }
+        ensures marked { IfOk result (λ of. IfSome of (λ n. is_marked self.old.marks.items n ≡ true)) }
+        ensures same { self.new.marks.items ≡ self.old.marks.items }
     {
-        let number = names.number_of(name)?;
-        if !self.has(number) {
-            return None;
+        let Some(number) = self.followers.number_of(names, name)? else {
+            return Ok(None);
+        };
+        if !is_marked(&self.marks, number as usize) {
+            return Ok(None);
         }
-        Some(number)
+        Ok(Some(number))
     }
 
     /// The number of a name that was found to be a node.
-    pub fn add(
-        &mut self,
-        alloc: Global,
-        names: &mut Names,
-        name: &[u8],
-    ) -> Result<usize, AllocError>
+    pub fn add(&mut self, alloc: Global, names: &mut Names, name: &[u8]) -> Result<u32, AllocError>
         ensures name { IfOk result (λ n. (names.new ≡ added names.old name.now) × (n < length names.new) × (name_at names.new n ≡ name.now)) }
         ensures known { OnOk result ((is_node : List ℕ → Bool) → is_node name.now ≡ true → AreKnownNodes is_node names.old self.old.marks.items
             → AreKnownNodes is_node names.new self.new.marks.items) }
     {
-        let number = names.numbered(alloc, name)?;
-        self.mark(names.len(), number)?;
+        let number = self.followers.numbered(alloc, names, name)?;
+        self.mark(number)?;
         Ok(number)
     }
 }

@@ -10,7 +10,7 @@ ghost use Rattle.mk_graph.specs.Plan.{IsPlan};
 ghost use Rattle.mk_rules.specs.Ordering.{IsCycleFault};
 ghost use Rattle.mk_rules.specs.Rows.{EachRow, IsHardRow};
 
-use crate::known::Known;
+use crate::graph::Node;
 use crate::rows::hard_rows;
 use byte_strings::ByteStrings;
 use mk_graph::{Counted, Edges, Names, Numbered, Order, count_edges};
@@ -29,7 +29,7 @@ pub(crate) struct Ordered {
 }
 
 /// The hard prerequisites of each node.
-pub(crate) fn hard_edges(alloc: Global, numbered: &Numbered<Known>) -> Result<Edges, AllocError>
+pub(crate) fn hard_edges(alloc: Global, numbered: &Numbered<Node>) -> Result<Edges, AllocError>
     requires row_count { length numbered.now.rows ≡ length numbered.now.names }
     requires node_count { length numbered.now.nodes.items ≡ length numbered.now.names }
     requires closed { IsTrue (is_closed numbered.now.rows) }

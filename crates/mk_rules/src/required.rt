@@ -9,25 +9,25 @@ ghost use Rattle.mk_rules.specs.Prerequisites.{Inputs, prerequisites_of};
 ghost use Rattle.mk_rules.specs.Required.{has_others, names_in_row, IsRequiredRow};
 ghost use Rattle.mk_rules.specs.Rows.{EachRow};
 
-use crate::known::Known;
+use crate::graph::Node;
 use byte_strings::ByteStrings;
 use mk_graph::{Edges, Names};
 use std::alloc::{AllocError, Global};
 
-fn has_others(known: &Known) -> bool
+fn has_others(known: &Node) -> bool
     ensures { result ≡ has_others known.now }
 {
-    known.required.is_some()
+    known.rare.required().is_some()
 }
 
-fn any_has_others(known: &[Known]) -> bool
+fn any_has_others(known: &[Node]) -> bool
     ensures { result ≡ list_any has_others known.now }
 {
     known.iter().any(|found| has_others(found))
 }
 
 /// The numbers of these names. A name without a number is passed over.
-fn numbers_of(alloc: Global, names: &Names, listed: &ByteStrings) -> Result<Vec<usize>, AllocError>
+fn numbers_of(alloc: Global, names: &Names, listed: &ByteStrings) -> Result<Vec<u32>, AllocError>
     ensures numbers { IfOk result (λ numbers. map (name_at names.now) numbers.items ≡ filter (has_name names.now) listed.now) }
     ensures nodes { IfOk result (λ numbers. list_all (λ n. nat_lt n (length names.now)) numbers.items ≡ true) }
 {
@@ -43,15 +43,15 @@ fn numbers_of(alloc: Global, names: &Names, listed: &ByteStrings) -> Result<Vec<
 /// The numbers of the names that are listed of a node, or its hard prerequisites where none are listed.
 fn required_row(
     alloc: Global,
-    hard: &[usize],
+    hard: &[u32],
     names: &Names,
-    found: &Known,
-) -> Result<Vec<usize>, AllocError>
+    found: &Node,
+) -> Result<Vec<u32>, AllocError>
     requires { list_all (λ n. nat_lt n (length names.now)) hard.now ≡ true }
     ensures names { IfOk result (λ numbers. map (name_at names.now) numbers.items ≡ names_in_row names.now found.now hard.now) }
     ensures nodes { IfOk result (λ numbers. list_all (λ n. nat_lt n (length names.now)) numbers.items ≡ true) }
 {
-    match &found.required {
+    match found.rare.required() {
         Some(listed) => numbers_of(alloc, names, listed),
         None => Vec::from_slice(alloc, hard),
     }
@@ -62,7 +62,7 @@ fn required_rows(
     alloc: Global,
     hard: &Edges,
     names: &Names,
-    known: &[Known],
+    known: &[Node],
 ) -> Result<Edges, AllocError>
     requires nodes { length hard.now ≡ length names.now }
     requires known { length known.now ≡ length names.now }
@@ -84,7 +84,7 @@ pub(crate) fn required_edges(
     alloc: Global,
     hard: &Edges,
     names: &Names,
-    known: &[Known],
+    known: &[Node],
 ) -> Result<Option<Edges>, AllocError>
     requires nodes { length hard.now ≡ length names.now }
     requires known { length known.now ≡ length names.now }

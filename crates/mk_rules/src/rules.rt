@@ -21,7 +21,7 @@ use mk_rule_lines::{
     Form, RuleFault, RuleLine, Source, TargetTable, explicit_of, first_double, is_phony,
     order_only_of,
 };
-use st_records::Entry;
+use st_records::PackedEntry;
 use st_state::State;
 use std::alloc::{AllocError, Global};
 
@@ -140,7 +140,7 @@ impl<'m> Rules<'m> {
     }
 
     /// What the state has of the name.
-    pub fn entry(&self, name: &[u8]) -> Option<&Entry>
+    pub fn entry(&self, name: &[u8]) -> Option<&PackedEntry>
         ensures { option_copied result ≡ map.get self.now.state.now name.now }
     {
         self.state.get(name)

@@ -9,9 +9,9 @@ ghost use Rattle.mk_rules.specs.Known.{IsKnown};
 ghost use Rattle.mk_rules.specs.Prerequisites.{Inputs, prerequisites_of};
 ghost use Rattle.mk_rule_lines.specs.Rules.{suffixes_of};
 
-use crate::known::Known;
+use crate::graph::Node;
 use crate::rows::waited_rows;
-use crate::waits::add_all_waits;
+use crate::waits::with_waits;
 use byte_strings::ByteStrings;
 use mk_graph::{Edges, Numbered};
 use mk_rule_lines::RuleLine;
@@ -20,7 +20,7 @@ use std::alloc::{AllocError, Global};
 /// The soft edges: what nodes wait for beside hard prerequisites, and what `.WAIT`s say.
 pub(crate) fn soft_edges(
     alloc: Global,
-    numbered: &Numbered<Known>,
+    numbered: &Numbered<Node>,
     lines: &[RuleLine],
     suffixes: &ByteStrings,
 ) -> Result<Edges, AllocError>
@@ -35,7 +35,6 @@ pub(crate) fn soft_edges(
         → map (map (name_at numbered.now.names)) numbered.now.rows ≡ map (prerequisites_of inputs) numbered.now.names
         → AreDescribed (IsKnown inputs) numbered.now.names numbered.now.nodes.items → AreSoft inputs numbered.now.names soft) }
 {
-    let mut soft = waited_rows(alloc, &numbered.rows, &numbered.nodes)?;
-    add_all_waits(alloc, &mut soft, &numbered.names, suffixes, lines)?;
-    Edges::of_rows(alloc, &soft)
+    let waited = waited_rows(alloc, &numbered.rows, &numbered.nodes)?;
+    with_waits(alloc, waited, &numbered.names, suffixes, lines)
 }

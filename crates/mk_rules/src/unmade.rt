@@ -10,7 +10,7 @@ ghost use Rattle.mk_rules.specs.Graph.{AreMade};
 ghost use Rattle.mk_rules.specs.Known.{IsKnown};
 ghost use Rattle.mk_rules.specs.Prerequisites.{Inputs, is_target};
 
-use crate::known::Known;
+use crate::graph::Node;
 use crate::left_over::default_of;
 use byte_strings::ByteString;
 use mk_graph::Numbered;
@@ -19,22 +19,22 @@ use mk_rule_lines::{RuleFault, RuleLine, TargetTable, Unmade};
 use std::alloc::{AllocError, Global};
 
 /// Whether something is known to make a name: a file, an implicit rule, or a line.
-fn is_made(targets: &TargetTable, name: &[u8], known: &Known) -> bool
-    ensures { result ≡ (is_some known.now.stamp || (is_some known.now.stem || is_named (named_at targets.now name.now))) }
+fn is_made(targets: &TargetTable, name: &[u8], known: &Node) -> bool
+    ensures { result ≡ (is_some known.now.stamp || (is_some known.now.rare.stem || is_named (named_at targets.now name.now))) }
 {
-    known.stamp.is_some() || known.stem.is_some() || targets.is_target(name)
+    known.stamp.is_some() || known.stem().is_some() || targets.is_target(name)
 }
 
-fn has(numbers: &[usize], node: usize) -> bool
+fn has(numbers: &[u32], node: usize) -> bool
     ensures { result ≡ has numbers.now node }
 {
-    numbers.iter().any(|number| node == *number)
+    numbers.iter().any(|number| node == *number as usize)
 }
 
 /// The first name in number order that has this node as a prerequisite.
 fn user_of(
     alloc: Global,
-    numbered: &Numbered<Known>,
+    numbered: &Numbered<Node>,
     node: usize,
 ) -> Result<Option<ByteString>, AllocError>
     requires { length numbered.now.rows ≡ length numbered.now.names }
@@ -53,7 +53,7 @@ fn user_of(
 fn unmade_at(
     alloc: Global,
     profile: Profile,
-    numbered: &Numbered<Known>,
+    numbered: &Numbered<Node>,
     node: usize,
 ) -> Result<Unmade, AllocError>
     requires count { length numbered.now.rows ≡ length numbered.now.names }
@@ -75,7 +75,7 @@ pub(crate) fn check_made(
     profile: Profile,
     lines: &[RuleLine],
     targets: &TargetTable,
-    numbered: &Numbered<Known>,
+    numbered: &Numbered<Node>,
 ) -> Result<(), RuleFault>
     requires table { (name : List ℕ) → is_named (named_at targets.now name) ≡ is_target lines.now name }
     requires recipes { option_to_list (named_at targets.now (codes ".DEFAULT")).recipe ≡ recipe_places (explicit_targets lines.now) 0 lines.now (codes ".DEFAULT") }

@@ -5,10 +5,11 @@ ghost use Rattle.std.specs.Str.{bytes_eq};
 ghost use Rattle.mk_graph.specs.Edges.{row, is_closed, has as has_number};
 ghost use Rattle.mk_graph.specs.Numbering.{has_name, name_at};
 ghost use Rattle.mk_rule_lines.specs.Explicit.{is_wait};
-ghost use Rattle.mk_rules.specs.Waits.{groups_of, orders, line_orders};
+ghost use Rattle.mk_rules.specs.Waits.{groups_of, orders, line_orders, waits_in};
 
+use crate::rows::apart;
 use byte_strings::ByteStrings;
-use mk_graph::{Names, add_waits};
+use mk_graph::{Edges, Names, add_waits};
 use mk_rule_lines::{LineWords, RuleLine, is_wait, words_by};
 use std::alloc::{AllocError, Global};
 
@@ -18,6 +19,13 @@ fn any_wait(words: &LineWords) -> bool
     ensures { result ≡ list_any is_wait words.now }
 {
     words.has_byte(b'W') && words.iter().any(|word| is_wait(word))
+}
+
+/// Whether a line has a `.WAIT` among its prerequisites.
+fn any_line_waits(lines: &[RuleLine]) -> bool
+    ensures { result ≡ list_any waits_in lines.now }
+{
+    lines.iter().any(|line| any_wait(&line.prerequisites))
 }
 
 fn any_number(names: &Names, words: &ByteStrings) -> bool
@@ -31,7 +39,7 @@ fn number_groups(
     alloc: Global,
     names: &Names,
     words: &ByteStrings,
-) -> Result<Vec<Vec<usize>>, AllocError>
+) -> Result<Vec<Vec<u32>>, AllocError>
     ensures groups { IfOk result (λ groups. map (map (name_at names.now)) (map (λ g. g.items) groups.items)
         ≡ map (filter (has_name names.now)) (groups_of words.now)) }
     ensures nodes { IfOk result (λ groups. list_all (λ g. list_all (λ n. nat_lt n (length names.now)) g.items) groups.items ≡ true) }
@@ -53,9 +61,9 @@ fn number_groups(
 /// Adds that the nodes of a group wait for those of the groups before it: the groups are told by name.
 fn add_groups(
     alloc: Global,
-    rows: &mut Vec<Vec<usize>>,
+    rows: &mut Vec<Vec<u32>>,
     names: &Names,
-    groups: &[Vec<usize>],
+    groups: &[Vec<u32>],
 ) -> Result<(), AllocError>
     requires nodes { length rows.old.items ≡ length names.now }
     requires names { IsDistinct bytes_eq names.now }
@@ -74,7 +82,7 @@ fn add_groups(
 /// Adds what the `.WAIT`s among these words say.
 fn add_word_waits(
     alloc: Global,
-    rows: &mut Vec<Vec<usize>>,
+    rows: &mut Vec<Vec<u32>>,
     names: &Names,
     words: &ByteStrings,
 ) -> Result<(), AllocError>
@@ -94,7 +102,7 @@ fn add_word_waits(
 /// Adds what a line's `.WAIT`s say, where the line makes a node by name.
 fn add_line_waits(
     alloc: Global,
-    rows: &mut Vec<Vec<usize>>,
+    rows: &mut Vec<Vec<u32>>,
     names: &Names,
     suffixes: &ByteStrings,
     line: &RuleLine,
@@ -122,9 +130,9 @@ fn add_line_waits(
 }
 
 /// Adds what the `.WAIT`s of all lines say.
-pub(crate) fn add_all_waits(
+fn add_all_waits(
     alloc: Global,
-    rows: &mut Vec<Vec<usize>>,
+    rows: &mut Vec<Vec<u32>>,
     names: &Names,
     suffixes: &ByteStrings,
     lines: &[RuleLine],
@@ -142,4 +150,28 @@ pub(crate) fn add_all_waits(
         add_line_waits(alloc, rows, names, suffixes, line)?;
     }
     Ok(())
+}
+
+/// These edges, and what the `.WAIT`s of all lines say. Most makefiles have none, so that the rows aren't parted.
+pub(crate) fn with_waits(
+    alloc: Global,
+    edges: Edges,
+    names: &Names,
+    suffixes: &ByteStrings,
+    lines: &[RuleLine],
+) -> Result<Edges, AllocError>
+    requires nodes { length edges ≡ length names.now }
+    requires names { IsDistinct bytes_eq names.now }
+    ensures nodes { IfOk result (λ more. length more ≡ length edges) }
+    ensures members { IfOk result (λ more. (n m : ℕ) → n < length names.now → m < length names.now
+        → has_number (row more n) m
+        ≡ (has_number (row edges n) m || list_any (line_orders names.now suffixes.now (name_at names.now m) (name_at names.now n)) lines.now)) }
+    ensures closed { IfOk result (λ more. is_closed edges ≡ true → is_closed more ≡ true) }
+{
+    if !any_line_waits(lines) {
+        return Ok(edges);
+    }
+    let mut rows = apart(alloc, &edges)?;
+    add_all_waits(alloc, &mut rows, names, suffixes, lines)?;
+    Edges::of_rows(alloc, &rows)
 }

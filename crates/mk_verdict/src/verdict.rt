@@ -6,7 +6,7 @@ ghost use Rattle.mk_verdict.specs.Tests.{is_newer, is_gone, gone_at, counts_as_r
 
 use byte_strings::ByteStrings;
 use mk_reader::is_utf8;
-use st_records::{Entry, Explicit, Phase};
+use st_records::{PackedEntry, Phase};
 
 /// A prerequisite as it is now.
 #[derive(Clone, Copy)]
@@ -98,16 +98,16 @@ fn phase_reason(phase: Phase) -> Option<Reason>
 }
 
 /// What has changed since the recipe was run to its end.
-fn changed_reason(entry: &Entry, target: &Target<'_>) -> Option<Reason>
+fn changed_reason(entry: &PackedEntry, target: &Target<'_>) -> Option<Reason>
     ensures { result ≡ changed_reason entry.now target.now }
 {
-    if entry.commands != *target.commands {
+    if !entry.commands().are(target.commands) {
         return Some(Reason::CommandsChanged);
     }
-    match &entry.explicit {
-        Explicit::Unknown => None,
-        Explicit::Known(names) => {
-            if *names == *target.explicit {
+    match entry.explicit() {
+        None => None,
+        Some(names) => {
+            if names.are(target.explicit) {
                 None
             } else {
                 Some(Reason::PrerequisitesChanged)
@@ -117,13 +117,13 @@ fn changed_reason(entry: &Entry, target: &Target<'_>) -> Option<Reason>
 }
 
 /// The first of the reasons that the state alone gives.
-fn recorded_reason(entry: Option<&Entry>, target: &Target<'_>) -> Option<Reason>
+fn recorded_reason(entry: Option<&PackedEntry>, target: &Target<'_>) -> Option<Reason>
     ensures { result ≡ recorded_reason (option_copied entry.entry) target.now }
 {
     let Some(entry) = entry else {
         return Some(Reason::NoEntry);
     };
-    match phase_reason(entry.phase) {
+    match phase_reason(entry.phase()) {
         Some(reason) => Some(reason),
         None => changed_reason(entry, target),
     }
@@ -184,7 +184,7 @@ fn present_reason(keeping: bool, target: &Target<'_>) -> Option<Reason>
 }
 
 /// The first of all reasons.
-fn first_reason(keeping: bool, entry: Option<&Entry>, target: &Target<'_>) -> Option<Reason>
+fn first_reason(keeping: bool, entry: Option<&PackedEntry>, target: &Target<'_>) -> Option<Reason>
     ensures { result ≡ first_reason keeping (option_copied entry.entry) target.now }
 {
     if keeping {
@@ -199,7 +199,7 @@ fn first_reason(keeping: bool, entry: Option<&Entry>, target: &Target<'_>) -> Op
 ///
 /// `keeping` says that state is kept in this run; without it what the state says doesn't count. `entry` is what the
 /// state has about the target. A target whose recipe was begun or failed is out of date whatever the times of files.
-pub fn judge(keeping: bool, entry: Option<&Entry>, target: &Target<'_>) -> Verdict
+pub fn judge(keeping: bool, entry: Option<&PackedEntry>, target: &Target<'_>) -> Verdict
     ensures { IsVerdict keeping (option_copied entry.entry) target.now result }
 {
     match first_reason(keeping, entry, target) {

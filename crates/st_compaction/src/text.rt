@@ -13,7 +13,7 @@ ghost use Rattle.st_compaction.specs.Compacted.{one_batch, compacted_bytes};
 ghost use Rattle.st_compaction.specs.Named.{records_of_names};
 
 use st_file::{CommitFault, HEADER_BYTES, MAX_BODY_BYTES, new_header};
-use st_records::{Entry, append_kept};
+use st_records::{PackedEntry, append_kept};
 use st_state::State;
 use std::alloc::{AllocError, Global};
 
@@ -81,7 +81,7 @@ fn with_header(text: Vec<u8>, generation: u64) -> Result<Vec<u8>, AllocError>
 /// The text with one batch behind it: an open gate and a kept record for each name. Without names it stays as it is.
 fn with_batch(
     text: Vec<u8>,
-    named: &[(&[u8], &Entry)],
+    named: &[(&[u8], &PackedEntry)],
     body_length: usize,
 ) -> Result<Vec<u8>, AllocError>
     requires good { AllByRecursion (IsGood versions.Two) (records_of_names named.now) }
@@ -101,7 +101,7 @@ fn with_batch(
 }
 
 /// The text with a kept record for each name behind it.
-fn with_records(text: Vec<u8>, named: &[(&[u8], &Entry)]) -> Result<Vec<u8>, AllocError>
+fn with_records(text: Vec<u8>, named: &[(&[u8], &PackedEntry)]) -> Result<Vec<u8>, AllocError>
     requires { AllByRecursion (IsGood versions.Two) (records_of_names named.now) }
     ensures { IfOk result (λ longer. longer.items ≡ text.items ++ body versions.Two (records_of_names named.now)) }
 {

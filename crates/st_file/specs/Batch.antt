@@ -4,7 +4,7 @@ use Rattle.std.specs.Prelude.{◌≡◌, ℕ, ◌<◌, ◌≤◌, ◌^◌, Bool,
 use Rattle.std.specs.List.{flat_map, AllByRecursion}
 use Rattle.st_records.specs.declared.version.Version.{Version}
 use Rattle.st_records.specs.declared.record.Record.{Record}
-use Rattle.st_records.specs.declared.record.Record.TheVariants as records
+pub use Rattle.st_records.specs.Parts.{is_kept}
 use Rattle.st_records.specs.Encoding.{encoding, number}
 use Rattle.st_records.specs.Limits.{IsGood}
 use Rattle.st_records.specs.Faults.{HasWholeTarget}
@@ -16,11 +16,6 @@ body v rs = flat_map (encoding v) rs
 -- what stands behind a batch's gate: the length of the body, the number of records and the body
 abbrev pub framed : Version → List Record → List ℕ
 framed v rs = number (length (body v rs)) ++ (number (length rs) ++ body v rs)
-
--- a record that holds a whole entry, as a compaction writes it
-abbrev pub is_kept : Record → Bool
-is_kept (records.Kept _ _) = true
-is_kept _ = false
 
 -- a kept record stands in a side's first batch alone
 abbrev pub may_stand : Bool → Record → Bool

@@ -11,7 +11,7 @@ ghost use Rattle.st_file.specs.Batch.{may_stand, framed, FillBatch, IsBody, IsFr
 
 use crate::layout::u32_of;
 use crate::sink::RecordSink;
-use st_records::{DecodeFault, Record, Version, decode};
+use st_records::{DecodeFault, PackedRecord, Version, decode};
 use std::alloc::{AllocError, Global};
 
 /// The bytes that the body of a batch may have.
@@ -46,7 +46,7 @@ fn record_of(
     alloc: Global,
     version: Version,
     bytes: &[u8],
-) -> Result<Option<(Record, &[u8])>, AllocError>
+) -> Result<Option<(PackedRecord, &[u8])>, AllocError>
     ensures found { IfOk result (λ o. IfSome o (λ f. IsGood version f.0
         × (bytes.now ≡ encoding version f.0 ++ f.1.now))) }
     ensures none { IfOk result (λ o. IfNone o ((r : Record) (rest : List ℕ) → IsGood version r
@@ -68,10 +68,10 @@ fn record_of(
 }
 
 /// Whether this record may stand in a batch, a side's first or a later one.
-fn is_allowed(first: bool, event: &Record) -> bool
+fn is_allowed(first: bool, event: &PackedRecord) -> bool
     ensures { result ≡ may_stand first event.now }
 {
-    first || !matches!(event, Record::Kept { .. })
+    first || !event.is_kept()
 }
 
 /// Reads all of a body and hands its records on. False where the body isn't just so many records that may stand there.
@@ -127,4 +127,23 @@ pub(crate) fn read_batch<'a, S: RecordSink>(
         return Ok(None);
     }
     Ok(Some(rest))
+}
+
+// A record of an empty text has as many.
+const LEAST_RECORD_BYTES: usize = 5;
+
+/// How many records the batches say that they have, as far as their bodies bear it out. It only decides how much memory
+/// is taken at once.
+pub(crate) fn records_in(batches: &[u8]) -> usize {
+    let mut total: usize = 0;
+    let mut rest = batches;
+    while !rest.is_empty() && rest[0] != 0 {
+        let (_gate, behind) = rest.split_at(1);
+        let Some((count, body, after)) = frame_of(behind) else {
+            return total;
+        };
+        total = total.saturating_add((count as usize).min(body.len() / LEAST_RECORD_BYTES));
+        rest = after;
+    }
+    total
 }

@@ -1,6 +1,6 @@
 //! The bytes of a side, as its disk gives them.
 
-ghost use Rattle.std.specs.Prelude.{◌≡◌, ◌⊎◌, ◌<◌, length, IfSome, IfOk, IfErr, OnOk, IsErrOf};
+ghost use Rattle.std.specs.Prelude.{◌≡◌, ◌⊎◌, ◌<◌, length, IfSome, IfOk, IfErr, OnOk, OnErr, IsErrOf};
 ghost use Rattle.st_disk.specs.Faults.{Rises};
 ghost use Rattle.st_file.specs.declared.fault.OpenFault.TheVariants as faults;
 ghost use Rattle.st_file.specs.Side.{IsRefused, Reads};
@@ -9,7 +9,9 @@ ghost use Rattle.st_file.specs.Answer.{reading_of};
 use crate::fault::OpenFault;
 use crate::side::{Side, side_of};
 use st_disk::{Disk, Which};
-use std::alloc::Global;
+use std::alloc::{AllocError, Global};
+
+const BLOCK_BYTES: usize = 4096;
 
 /// All the bytes of a side. The fault is `Device` or `OutOfMemory`, of an empty side `Device` alone.
 pub fn read_whole<D: Disk>(alloc: Global, disk: &mut D, side: Which) -> Result<Vec<u8>, OpenFault>
@@ -22,9 +24,22 @@ pub fn read_whole<D: Disk>(alloc: Global, disk: &mut D, side: Which) -> Result<V
     ensures causes { IfErr result (λ fault. (fault ≡ faults.Device) ⊎ (fault ≡ faults.OutOfMemory)) }
 {
     let len = disk.len(side)?;
-    let mut bytes = Vec::new(alloc);
-    bytes.resize(len, 0)?; // says when it may fail, as vec! doesn't
+    let mut bytes = zeros(alloc, len)?;
     disk.read(side, 0, &mut bytes)?;
+    Ok(bytes)
+}
+
+// So many zeros, copied by the block, where `vec!` and `resize` set one after the other.
+fn zeros(alloc: Global, len: usize) -> Result<Vec<u8>, AllocError>
+    ensures len { IfOk result (λ bytes. length bytes.items ≡ len) }
+    ensures memory { OnErr result (0 < len) }
+{
+    let block = [0; BLOCK_BYTES];
+    let mut bytes = Vec::with_capacity(alloc, len)?;
+    while bytes.len() < len {
+        let more = (len - bytes.len()).min(BLOCK_BYTES);
+        bytes.extend_from_slice(&block[..more])?;
+    }
     Ok(bytes)
 }
 

@@ -6,7 +6,7 @@ ghost use Rattle.st_records.specs.declared.record.Record.{Record};
 ghost use Rattle.st_state.specs.State.{replay};
 ghost use Rattle.st_file.specs.Sink.{AddsRecords};
 
-use st_records::Record;
+use st_records::{PackedRecord, Record};
 use st_state::State;
 use std::alloc::{AllocError, Global};
 
@@ -15,8 +15,12 @@ pub trait RecordSink {
     /// It has taken in just these records, in their order.
     ghost has_taken: { Self → List Record → Type 0 };
 
+    /// Takes room for as many more records, where there is memory for it.
+    fn make_room(&mut self, records: usize)
+        ensures { (taken : List Record) → has_taken self.old taken → has_taken self.new taken };
+
     /// Takes in one more record.
-    fn take(&mut self, alloc: Global, event: Record) -> Result<(), AllocError>
+    fn take(&mut self, alloc: Global, event: PackedRecord) -> Result<(), AllocError>
         ensures { OnOk result (AddsRecords has_taken self.old self.new (event ∷ [])) };
 }
 
@@ -24,8 +28,12 @@ pub trait RecordSink {
 impl RecordSink for Vec<Record> {
     ghost has_taken = { λ v rs. v.items ≡ rs };
 
-    fn take(&mut self, _alloc: Global, event: Record) -> Result<(), AllocError> {
-        self.push(event)?;
+    fn make_room(&mut self, records: usize) {
+        let _ = self.reserve(records);
+    }
+
+    fn take(&mut self, alloc: Global, event: PackedRecord) -> Result<(), AllocError> {
+        self.push(event.unpack(alloc)?)?;
         Ok(())
     }
 }
@@ -34,7 +42,11 @@ impl RecordSink for Vec<Record> {
 impl RecordSink for State {
     ghost has_taken = { λ m rs. m ≡ replay map.empty rs };
 
-    fn take(&mut self, alloc: Global, event: Record) -> Result<(), AllocError> {
+    fn make_room(&mut self, records: usize) {
+        self.reserve(records);
+    }
+
+    fn take(&mut self, alloc: Global, event: PackedRecord) -> Result<(), AllocError> {
         self.apply_owned(alloc, event)
     }
 }

@@ -39,31 +39,49 @@ impl From<AllocError> for ListFault {
     }
 }
 
-/// Writes the listing of the state that the bytes of the two sides recover.
+/// Writes the listing of the state that the bytes of the two sides recover. Where names are listed, the bytes are let go
+/// first, so that they and the text of the listing aren't in memory together.
 pub fn list<W: Write>(
     alloc: Global,
     key: HashKey,
-    a: &[u8],
-    b: &[u8],
+    a: &mut Vec<u8>,
+    b: &mut Vec<u8>,
     writer: &mut W,
 ) -> Result<(), ListFault>
     // A state that is recovered is listed, but for want of memory and the writer's faults.
-    ensures listed { (m : StateMap) → Recovers a.now b.now m → MatchResult result
+    ensures listed { (m : StateMap) → Recovers a.old.items b.old.items m → MatchResult result
         (λ _. Appends (W.contents writer.old) (W.contents writer.new) (listing m)) IsOfMachine }
-    ensures refused { (f : OpenFault) → RefusesWith a.now b.now f → MatchResult result (λ _. ⊥)
+    ensures refused { (f : OpenFault) → RefusesWith a.old.items b.old.items f → MatchResult result (λ _. ⊥)
         (λ g. (g ≡ faults.Open f) ⊎ (g ≡ faults.Open open_faults.OutOfMemory)) }
 
     // What is listed was recovered, and what is answered as a fault is so.
     ensures found { MatchResult result
-        (λ _. (m : StateMap) × (Recovers a.now b.now m × Appends (W.contents writer.old) (W.contents writer.new) (listing m)))
-        (IsCause a.now b.now) }
-    ensures memory { IsErrOf result (faults.Open open_faults.OutOfMemory) → PairComesToRecords a.now b.now }
+        (λ _. (m : StateMap) × (Recovers a.old.items b.old.items m × Appends (W.contents writer.old) (W.contents writer.new) (listing m)))
+        (IsCause a.old.items b.old.items) }
+    ensures memory { IsErrOf result (faults.Open open_faults.OutOfMemory) → PairComesToRecords a.old.items b.old.items }
 
-    ensures left { IfErr result (λ f. LeavesWriter a.now b.now f (W.contents writer.old) (W.contents writer.new)) }
+    ensures left { IfErr result (λ f. LeavesWriter a.old.items b.old.items f (W.contents writer.old) (W.contents writer.new)) }
+
+    // Bytes that are refused, or list nothing, are still there: they may have to be compared with another reading.
+    ensures kept { (f : OpenFault) → RefusesWith a.old.items b.old.items f → (a.new ≡ a.old) × (b.new ≡ b.old) }
+    ensures kept_empty { (m : StateMap) → Recovers a.old.items b.old.items m → map.len m ≡ 0 → (a.new ≡ a.old) × (b.new ≡ b.old) }
 {
     match recover(alloc, key, a, b) {
-        Ok(state) => write_listing(alloc, &state, writer),
+        Ok(state) => {
+            let_go(alloc, &state, a, b);
+            write_listing(alloc, &state, writer)
+        }
         Err(fault) => Err(ListFault::Open(fault)),
+    }
+}
+
+// Lets the bytes of both sides go, where the state that they recover has names.
+fn let_go(alloc: Global, state: &State, a: &mut Vec<u8>, b: &mut Vec<u8>)
+    ensures { map.len state.now ≡ 0 → (a.new ≡ a.old) × (b.new ≡ b.old) }
+{
+    if state.len() > 0 {
+        *a = Vec::new(alloc);
+        *b = Vec::new(alloc);
     }
 }
 

@@ -2,10 +2,9 @@
 
 ghost use Rattle.std.specs.Prelude.{◌≡◌, ◌++◌, OnOk, IfOk};
 ghost use Rattle.std.specs.List.{flat_map};
-ghost use Rattle.st_records.specs.Parts.{names_known};
-ghost use Rattle.st_listing.specs.Listing.{listing, entry_lines, phase_text, command_text, explicit_text, line, continued};
+ghost use Rattle.st_listing.specs.Listing.{listing, entry_lines, phase_text, command_text, hidden_text, explicit_text, line, continued};
 
-use st_records::{ByteStrings, Entry, Explicit, Phase};
+use st_records::{PackedEntry, Phase, Strings};
 use st_state::State;
 use std::alloc::{AllocError, Global};
 
@@ -28,7 +27,7 @@ pub fn listing_text(alloc: Global, state: &State) -> Result<Vec<u8>, AllocError>
 fn append_blocks(
     alloc: Global,
     text: &mut Vec<u8>,
-    entries: &[(&[u8], &Entry)],
+    entries: &[(&[u8], &PackedEntry)],
 ) -> Result<(), AllocError>
     ensures { OnOk result (text.new.items ≡ text.old.items ++ flat_map (λ e. entry_lines (e.0.now, e.1.now)) entries.now) }
 {
@@ -44,7 +43,7 @@ fn append_blocks(
 fn append_block(
     alloc: Global,
     text: &mut Vec<u8>,
-    block: &[(&[u8], &Entry)],
+    block: &[(&[u8], &PackedEntry)],
 ) -> Result<(), AllocError>
     ensures { OnOk result (text.new.items ≡ text.old.items ++ flat_map (λ e. entry_lines (e.0.now, e.1.now)) block.now) }
 {
@@ -59,16 +58,16 @@ fn append_block(
 //
 // Names and entries lie all over memory, and to fetch one takes longer than to write its lines. Looked at here one right
 // after another, many are fetched at a time; the first byte of a name is read for that alone.
-fn usual_len(block: &[(&[u8], &Entry)]) -> usize {
+fn usual_len(block: &[(&[u8], &PackedEntry)]) -> usize {
     let mut len: usize = 0;
     for (name, entry) in block.iter() {
-        let mark = match entry.phase {
+        let mark = match entry.phase() {
             Phase::Begun => 7,
             Phase::Done => 6,
             Phase::Failed(_) => 10,
         };
         let first = usize::from(name.first() == Some(&b'/'));
-        let below = entry.commands.len().saturating_add(entry.hidden.len());
+        let below = entry.commands().len().saturating_add(entry.hidden().len());
         len = len
             .saturating_add(mark + first)
             .saturating_add(name.len())
@@ -81,14 +80,31 @@ fn append_entry(
     alloc: Global,
     text: &mut Vec<u8>,
     name: &[u8],
-    entry: &Entry,
+    entry: &PackedEntry,
 ) -> Result<(), AllocError>
     ensures { OnOk result (text.new.items ≡ text.old.items ++ entry_lines (name.now, entry.now)) }
 {
-    append_phase(alloc, text, name, entry.phase)?;
-    append_commands(text, &entry.commands)?;
-    append_names(text, b"    < ", &entry.hidden)?;
-    append_explicit(text, &entry.explicit)
+    let (commands, hidden, names) = (entry.commands(), entry.hidden(), entry.names());
+    append_lines(alloc, text, name, entry.phase(), &commands, &hidden, &names)
+}
+
+fn append_lines(
+    alloc: Global,
+    text: &mut Vec<u8>,
+    name: &[u8],
+    phase: Phase,
+    commands: &Strings<'_>,
+    hidden: &Strings<'_>,
+    names: &Strings<'_>,
+) -> Result<(), AllocError>
+    ensures { OnOk result (text.new.items ≡ text.old.items
+        ++ (line (phase_text name.now phase) ++ flat_map (λ c. line (command_text c)) commands.now ++ flat_map (λ h. line (hidden_text h)) hidden.now
+        ++ flat_map (λ n. line (explicit_text n)) names.now)) }
+{
+    append_phase(alloc, text, name, phase)?;
+    append_commands(text, commands)?;
+    append_names(text, b"    < ", hidden)?;
+    append_names(text, b"    : ", names)
 }
 
 fn append_phase(
@@ -119,7 +135,7 @@ fn append_phase(
     Ok(())
 }
 
-fn append_commands(text: &mut Vec<u8>, commands: &ByteStrings) -> Result<(), AllocError>
+fn append_commands(text: &mut Vec<u8>, commands: &Strings<'_>) -> Result<(), AllocError>
     ensures { OnOk result (text.new.items ≡ text.old.items ++ flat_map (λ c. line (command_text c)) commands.now) }
 {
     for command in commands.iter() {
@@ -142,18 +158,8 @@ fn append_continued(text: &mut Vec<u8>, command: &[u8]) -> Result<(), AllocError
     Ok(())
 }
 
-fn append_explicit(text: &mut Vec<u8>, explicit: &Explicit) -> Result<(), AllocError>
-    ensures { OnOk result (text.new.items ≡ text.old.items
-        ++ flat_map (λ n. line (explicit_text n)) (names_known explicit.now)) }
-{
-    match explicit {
-        Explicit::Unknown => Ok(()),
-        Explicit::Known(names) => append_names(text, b"    : ", names),
-    }
-}
-
 // One line for each name, the mark before it.
-fn append_names(text: &mut Vec<u8>, mark: &[u8], names: &ByteStrings) -> Result<(), AllocError>
+fn append_names(text: &mut Vec<u8>, mark: &[u8], names: &Strings<'_>) -> Result<(), AllocError>
     ensures { OnOk result (text.new.items ≡ text.old.items ++ flat_map (λ n. line (mark.now ++ n)) names.now) }
 {
     for name in names.iter() {

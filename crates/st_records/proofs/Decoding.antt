@@ -7,9 +7,9 @@ use Rattle.st_records.specs.declared.decoder.DecodeFault.TheVariants.{OutOfMemor
 use Rattle.st_records.specs.declared.record.Record.{Record}
 use Rattle.st_records.specs.Encoding.{encoding}
 use Rattle.st_records.specs.Limits.{IsGood, Encodes}
-use Rattle.st_records.specs.Reading.{Fails, good_at}
+use Rattle.st_records.specs.Reading.{Fails, record_at, good_at}
 use Rattle.st_records.proofs.Fields.{IsBytes, ok_is}
-use Rattle.st_records.proofs.Records.{good_reads}
+use Rattle.st_records.proofs.Records.{record_reads, good_reads}
 
 -- a record that was read, by the bytes that are left
 pub record IsRead (version : Version) (bytes rest : List ℕ) (r : Record) (n : ℕ) : Type 0 where
@@ -29,6 +29,12 @@ read_is version bytes rest r fits e =
       front = record { good = t.1; bytes_are = ap (take (length bytes - length rest)) t.0.parts ∙ take_at (encoding version r) rest (length bytes - length rest) n };
       back = ap (drop (length bytes - length rest)) t.0.parts ∙ drop_at (encoding version r) rest (length bytes - length rest) n;
     }
+
+-- the bytes of a record that was read, good or not
+pub record_is : (version : Version) (bytes rest : List ℕ) (r : Record) → IsBytes bytes → record_at version bytes ≡ Ok (r, rest) → length bytes ≡ length (encoding version r) + length rest
+record_is version bytes rest r fits e =
+    let t = (record_reads version).takes bytes (r, rest) fits e in
+    ap length t.0.parts ∙ length-append (encoding version r) rest
 
 -- a good record that stands at the front is read
 pub is_read : (version : Version) (bytes : List ℕ) (r : Record) (n : ℕ) → Encodes version r (take n bytes) → good_at version bytes ≡ Ok (r, drop n bytes)

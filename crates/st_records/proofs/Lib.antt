@@ -8,3 +8,8 @@ pub mod Decoding
 pub mod Unfinished
 pub mod Stops
 pub mod FaultLemmas
+mod Texts
+mod Low
+mod Clean
+pub mod PackedLemmas
+mod TargetLemmas

@@ -12,3 +12,9 @@ pub mod Faults
 pub mod Tests
 -- reading from the left
 pub mod Reading
+-- strings that could be names, as they are passed over
+pub mod Clean
+-- lists of strings in one piece of memory
+pub mod Packed
+-- a record as it is read
+pub mod Event

@@ -1,5 +1,5 @@
 -- The parts of a record, whatever its kind.
-use Rattle.std.specs.Prelude.{ℕ, List, [], ◌∷◌, ◌++◌}
+use Rattle.std.specs.Prelude.{ℕ, Bool, true, false, List, [], ◌∷◌, ◌++◌}
 use Rattle.st_records.specs.declared.record.Phase.{Phase}
 use Rattle.st_records.specs.declared.record.Phase.TheVariants as phases
 use Rattle.st_records.specs.declared.record.Explicit.{Explicit}
@@ -56,3 +56,10 @@ status_of (records.Begun target) = 0
 status_of (records.Done target commands hidden explicit) = 0
 status_of (records.Failed target status) = status
 status_of (records.Kept target entry) = phase_status entry.phase
+
+-- a record that says all that was known of its target
+abbrev pub is_kept : Record → Bool
+is_kept (records.Begun target) = false
+is_kept (records.Done target commands hidden explicit) = false
+is_kept (records.Failed target status) = false
+is_kept (records.Kept target entry) = true

@@ -1,18 +1,25 @@
 //! From bytes to the record at their front, field by field from the left.
 
-ghost use Rattle.std.specs.Prelude.{◌≡◌, ◌≤◌, ◌⊎◌, ℕ, length, take, IfOk, IfErr, IsOk, IsErrOf, Ok, Err};
+ghost use Rattle.std.specs.Prelude.{◌≡◌, ◌≤◌, ◌⊎◌, ℕ, false, List, length, take, IsTrue, IfOk, IfErr, IsOk, IsErrOf, Ok, Err};
 ghost use Rattle.st_records.specs.declared.decoder.DecodeFault.{DecodeFault};
 ghost use Rattle.st_records.specs.declared.decoder.DecodeFault.TheVariants as faults;
 ghost use Rattle.st_records.specs.declared.record.Record.{Record};
 ghost use Rattle.st_records.specs.declared.record.Record.TheVariants as records;
 ghost use Rattle.st_records.specs.Limits.{Encodes};
 ghost use Rattle.st_records.specs.Faults.{HasFault, HasWholeTarget};
-ghost use Rattle.st_records.specs.Reading.{Gives, made_at, then_at, lists_at, target_at, number_at, string_at, items_at, strings_at, no_status_at, status_at, phase_at, done_explicit_at, kept_explicit_at, entry_at, record_at, good_at};
+ghost use Rattle.st_records.specs.Clean.{is_unclean, AreClean, IsCleanEntry, IsClean};
+ghost use Rattle.st_records.specs.Parts.{names_known};
+ghost use Rattle.st_records.specs.Packed.{explicit_from};
+ghost use Rattle.st_records.specs.Reading.{Gives, Fails, made_at, then_at, lists_at, target_at, number_at, string_at, items_at, strings_at, no_status_at, status_at, phase_at, done_explicit_at, kept_explicit_at, entry_at, record_at, good_at};
 
 use crate::limits::RecordFault;
-use crate::record::{Entry, Explicit, Phase, Record};
+use crate::packed::PackedEntry;
+use crate::packed_record::{Event, PackedRecord};
+use crate::record::Phase;
+use crate::strings::Strings;
 use crate::version::Version;
-use byte_strings::{ByteString, ByteStrings};
+use crate::within::still_clean;
+use byte_strings::ByteString;
 use std::alloc::{AllocError, Global};
 use thiserror::Error;
 
@@ -44,7 +51,11 @@ impl From<AllocError> for DecodeFault {
 ///
 /// Fields are read from the left, and the check by the version's limits comes last. A length or a count is compared with
 /// the bytes that are there before memory is taken for it.
-pub fn decode(alloc: Global, version: Version, bytes: &[u8]) -> Result<(Record, usize), DecodeFault>
+pub fn decode(
+    alloc: Global,
+    version: Version,
+    bytes: &[u8],
+) -> Result<(PackedRecord, usize), DecodeFault>
     // What is read stands there.
     ensures found { IfOk result (λ x. (x.1 ≤ length bytes.now) × Encodes version x.0 (take x.1 bytes.now)) }
     // What stands there is read, unless memory runs out.
@@ -60,125 +71,158 @@ pub fn decode(alloc: Global, version: Version, bytes: &[u8]) -> Result<(Record, 
 }
 
 #[tactic(auto, unfolding(crate::specs::Reading::good_at))]
-fn good_of(alloc: Global, version: Version, bytes: &[u8]) -> Result<(Record, &[u8]), DecodeFault>
+fn good_of(
+    alloc: Global,
+    version: Version,
+    bytes: &[u8],
+) -> Result<(PackedRecord, &[u8]), DecodeFault>
     ensures gives { Gives (λ x. (x.0, x.1.now)) result (good_at version bytes.now) }
     ensures memory { IsErrOf result faults.OutOfMemory → IsOk (target_at bytes.now) }
 {
-    let (record, rest) = record_of(alloc, version, bytes)?;
-    match record.fault(version) {
+    let mut clean = true;
+    let (record, rest) = record_of(alloc, version, &mut clean, bytes)?;
+    match record.fault_within(alloc, version, clean, bytes.len() - rest.len())? {
         None => Ok((record, rest)),
         Some(fault) => Err(DecodeFault::Check(fault)),
     }
 }
 
 #[tactic(auto, unfolding(crate::specs::Reading::record_at, crate::specs::Reading::target_at))]
-fn record_of(alloc: Global, version: Version, bytes: &[u8]) -> Result<(Record, &[u8]), DecodeFault>
+fn record_of<'a>(
+    alloc: Global,
+    version: Version,
+    clean: &mut bool,
+    bytes: &'a [u8],
+) -> Result<(PackedRecord, &'a [u8]), DecodeFault>
     ensures gives { Gives (λ x. (x.0, x.1.now)) result (record_at version bytes.now) }
+    ensures clean { IfOk result (λ x. IsTrue clean.new → IsTrue clean.old × IsClean version x.0) }
     ensures memory { IsErrOf result faults.OutOfMemory → IsOk (target_at bytes.now) }
 {
     match bytes {
         [] => Err(DecodeFault::Short),
-        [1, rest @ ..] => begun_of(alloc, rest),
-        [2, rest @ ..] => done_of(alloc, version, rest),
-        [3, rest @ ..] => failed_of(alloc, rest),
-        [4, rest @ ..] => kept_of(alloc, version, rest),
+        [1, rest @ ..] => begun_of(alloc, version, clean, rest),
+        [2, rest @ ..] => done_of(alloc, version, clean, rest),
+        [3, rest @ ..] => failed_of(alloc, version, clean, rest),
+        [4, rest @ ..] => kept_of(alloc, version, clean, rest),
         [_, ..] => Err(DecodeFault::BadKind),
     }
 }
 
-fn begun_of(alloc: Global, bytes: &[u8]) -> Result<(Record, &[u8]), DecodeFault>
+fn begun_of<'a>(
+    alloc: Global,
+    version: Version,
+    clean: &mut bool,
+    bytes: &'a [u8],
+) -> Result<(PackedRecord, &'a [u8]), DecodeFault>
     ensures gives { Gives (λ x. (x.0, x.1.now)) result (made_at records.Begun string_at bytes.now) }
+    ensures clean { IfOk result (λ x. IsTrue clean.new → IsTrue clean.old × IsClean version x.0) }
     ensures memory { IsErrOf result faults.OutOfMemory → IsOk (string_at bytes.now) }
 {
-    let (target, rest) = string_of(alloc, bytes)?;
-    Ok((Record::Begun { target }, rest))
+    let (target, rest) = string_of(alloc, version, clean, bytes)?;
+    Ok((PackedRecord::new(target, Event::Begun), rest))
 }
 
-fn done_of(alloc: Global, version: Version, bytes: &[u8]) -> Result<(Record, &[u8]), DecodeFault>
+fn done_of<'a>(
+    alloc: Global,
+    version: Version,
+    clean: &mut bool,
+    bytes: &'a [u8],
+) -> Result<(PackedRecord, &'a [u8]), DecodeFault>
     ensures gives { Gives (λ x. (x.0, x.1.now)) result (made_at (λ x. records.Done x.0 x.1.0 x.1.1.0 x.1.1.1) (then_at string_at (lists_at (done_explicit_at version))) bytes.now) }
+    ensures clean { IfOk result (λ x. IsTrue clean.new → IsTrue clean.old × IsClean version x.0) }
     ensures memory { IsErrOf result faults.OutOfMemory → IsOk (string_at bytes.now) }
 {
-    let (target, rest) = string_of(alloc, bytes)?;
-    let (commands, rest) = strings_of(alloc, rest)?;
-    let (hidden, rest) = strings_of(alloc, rest)?;
-    let (explicit, rest) = done_explicit_of(alloc, version, rest)?;
-    let record = Record::Done {
-        target,
-        commands,
-        hidden,
-        explicit,
-    };
-    Ok((record, rest))
+    let (target, rest) = string_of(alloc, version, clean, bytes)?;
+    let (commands, rest) = strings_of(version, clean, rest)?;
+    let (hidden, rest) = strings_of(version, clean, rest)?;
+    let (explicit, rest) = done_explicit_of(version, clean, rest)?;
+    let entry = PackedEntry::pack(alloc, Phase::Done, commands, hidden, explicit)?;
+    Ok((PackedRecord::new(target, Event::Done(entry)), rest))
 }
 
-fn failed_of(alloc: Global, bytes: &[u8]) -> Result<(Record, &[u8]), DecodeFault>
+fn failed_of<'a>(
+    alloc: Global,
+    version: Version,
+    clean: &mut bool,
+    bytes: &'a [u8],
+) -> Result<(PackedRecord, &'a [u8]), DecodeFault>
     ensures gives { Gives (λ x. (x.0, x.1.now)) result (made_at (λ x. records.Failed x.0 x.1) (then_at string_at status_at) bytes.now) }
+    ensures clean { IfOk result (λ x. IsTrue clean.new → IsTrue clean.old × IsClean version x.0) }
     ensures memory { IsErrOf result faults.OutOfMemory → IsOk (string_at bytes.now) }
 {
-    let (target, rest) = string_of(alloc, bytes)?;
+    let (target, rest) = string_of(alloc, version, clean, bytes)?;
     let (status, rest) = status_of(rest)?;
-    Ok((Record::Failed { target, status }, rest))
+    Ok((PackedRecord::new(target, Event::Failed(status)), rest))
 }
 
-fn kept_of(alloc: Global, version: Version, bytes: &[u8]) -> Result<(Record, &[u8]), DecodeFault>
+fn kept_of<'a>(
+    alloc: Global,
+    version: Version,
+    clean: &mut bool,
+    bytes: &'a [u8],
+) -> Result<(PackedRecord, &'a [u8]), DecodeFault>
     ensures gives { Gives (λ x. (x.0, x.1.now)) result (made_at (λ x. records.Kept x.0 x.1) (then_at string_at (entry_at version)) bytes.now) }
+    ensures clean { IfOk result (λ x. IsTrue clean.new → IsTrue clean.old × IsClean version x.0) }
     ensures memory { IsErrOf result faults.OutOfMemory → IsOk (string_at bytes.now) }
 {
-    let (target, rest) = string_of(alloc, bytes)?;
-    let (entry, rest) = entry_of(alloc, version, rest)?;
-    Ok((Record::Kept { target, entry }, rest))
+    let (target, rest) = string_of(alloc, version, clean, bytes)?;
+    let (entry, rest) = entry_of(alloc, version, clean, rest)?;
+    Ok((PackedRecord::new(target, Event::Kept(entry)), rest))
 }
 
 #[tactic(auto, unfolding(crate::specs::Reading::entry_at))]
-fn entry_of(alloc: Global, version: Version, bytes: &[u8]) -> Result<(Entry, &[u8]), DecodeFault>
-    ensures { Gives (λ x. (x.0, x.1.now)) result (entry_at version bytes.now) }
+fn entry_of<'a>(
+    alloc: Global,
+    version: Version,
+    clean: &mut bool,
+    bytes: &'a [u8],
+) -> Result<(PackedEntry, &'a [u8]), DecodeFault>
+    ensures gives { Gives (λ x. (x.0, x.1.now)) result (entry_at version bytes.now) }
+    ensures clean { IfOk result (λ x. IsTrue clean.new → IsTrue clean.old × IsCleanEntry version x.0) }
 {
     let (phase, rest) = phase_of(bytes)?;
-    let (commands, rest) = strings_of(alloc, rest)?;
-    let (hidden, rest) = strings_of(alloc, rest)?;
-    let (explicit, rest) = kept_explicit_of(alloc, version, rest)?;
-    let entry = Entry {
-        phase,
-        commands,
-        hidden,
-        explicit,
-    };
+    let (commands, rest) = strings_of(version, clean, rest)?;
+    let (hidden, rest) = strings_of(version, clean, rest)?;
+    let (explicit, rest) = kept_explicit_of(version, clean, rest)?;
+    let entry = PackedEntry::pack(alloc, phase, commands, hidden, explicit)?;
     Ok((entry, rest))
 }
 
 #[tactic(auto, unfolding(crate::specs::Reading::done_explicit_at))]
-fn done_explicit_of(
-    alloc: Global,
+fn done_explicit_of<'a>(
     version: Version,
-    bytes: &[u8],
-) -> Result<(Explicit, &[u8]), DecodeFault>
-    ensures { Gives (λ x. (x.0, x.1.now)) result (done_explicit_at version bytes.now) }
+    clean: &mut bool,
+    bytes: &'a [u8],
+) -> Result<(Option<Strings<'a>>, &'a [u8]), DecodeFault>
+    ensures gives { Gives (λ x. (explicit_from x.0, x.1.now)) result (done_explicit_at version bytes.now) }
+    ensures clean { IfOk result (λ x. IsTrue clean.new → IsTrue clean.old × AreClean version (names_known (explicit_from x.0))) }
 {
     match version {
-        Version::One => Ok((Explicit::Unknown, bytes)),
+        Version::One => Ok((None, bytes)),
         Version::Two => {
-            let (names, rest) = strings_of(alloc, bytes)?;
-            Ok((Explicit::Known(names), rest))
+            let (names, rest) = strings_of(version, clean, bytes)?;
+            Ok((Some(names), rest))
         }
     }
 }
 
 #[tactic(auto, unfolding(crate::specs::Reading::kept_explicit_at))]
-fn kept_explicit_of(
-    alloc: Global,
+fn kept_explicit_of<'a>(
     version: Version,
-    bytes: &[u8],
-) -> Result<(Explicit, &[u8]), DecodeFault>
-    ensures { Gives (λ x. (x.0, x.1.now)) result (kept_explicit_at version bytes.now) }
+    clean: &mut bool,
+    bytes: &'a [u8],
+) -> Result<(Option<Strings<'a>>, &'a [u8]), DecodeFault>
+    ensures gives { Gives (λ x. (explicit_from x.0, x.1.now)) result (kept_explicit_at version bytes.now) }
+    ensures clean { IfOk result (λ x. IsTrue clean.new → IsTrue clean.old × AreClean version (names_known (explicit_from x.0))) }
 {
     match version {
-        Version::One => Ok((Explicit::Unknown, bytes)),
+        Version::One => Ok((None, bytes)),
         Version::Two => match bytes {
             [] => Err(DecodeFault::Short),
-            [0, rest @ ..] => Ok((Explicit::Unknown, rest)),
+            [0, rest @ ..] => Ok((None, rest)),
             [1, rest @ ..] => {
-                let (names, rest) = strings_of(alloc, rest)?;
-                Ok((Explicit::Known(names), rest))
+                let (names, rest) = strings_of(version, clean, rest)?;
+                Ok((Some(names), rest))
             }
             [_, ..] => Err(DecodeFault::BadKind),
         },
@@ -224,52 +268,72 @@ fn status_of(bytes: &[u8]) -> Result<(u32, &[u8]), DecodeFault>
     Ok((status, rest))
 }
 
-#[tactic(auto, unfolding(crate::specs::Reading::strings_at))]
-fn strings_of(alloc: Global, bytes: &[u8]) -> Result<(ByteStrings, &[u8]), DecodeFault>
-    ensures { Gives (λ x. (x.0, x.1.now)) result (strings_at bytes.now) }
+#[tactic(auto, unfolding(crate::specs::Reading::strings_at, crate::specs::Reading::items_at))]
+fn strings_of<'a>(
+    version: Version,
+    clean: &mut bool,
+    bytes: &'a [u8],
+) -> Result<(Strings<'a>, &'a [u8]), DecodeFault>
+    ensures gives { Gives (λ x. (x.0, x.1.now)) result (strings_at bytes.now) }
+    ensures clean { IfOk result (λ x. IsTrue clean.new → IsTrue clean.old × AreClean version x.0) }
 {
     let (count, rest) = number_of(bytes)?;
-    // Each string has at least the four bytes of its length.
-    if rest.len() / 4 < count as usize {
-        return Err(DecodeFault::Short);
+    if count == 0 {
+        return Ok((Strings::empty(), rest));
     }
-    items_of(alloc, count, rest)
+    items_of(version, clean, count, rest)
 }
 
-// How many bytes so many strings have in all, as far as they are there. It only decides how much memory is taken at once.
-fn bytes_in_all(count: u32, bytes: &[u8]) -> usize {
-    let mut total: usize = 0;
-    let mut rest = bytes;
-    for _ in 0..count {
-        let Ok((item, after)) = text_of(rest) else {
-            return total;
-        };
-        total = total.saturating_add(item.len());
-        rest = after;
-    }
-    total
-}
-
-fn items_of(alloc: Global, count: u32, bytes: &[u8]) -> Result<(ByteStrings, &[u8]), DecodeFault>
-    ensures { Gives (λ x. (x.0, x.1.now)) result (items_at count bytes.now) }
+/// So many strings, as they lie in the bytes.
+fn items_of<'a>(
+    version: Version,
+    clean: &mut bool,
+    count: u32,
+    bytes: &'a [u8],
+) -> Result<(Strings<'a>, &'a [u8]), DecodeFault>
+    ensures gives { Gives (λ x. (x.0, x.1.now)) result (items_at count bytes.now) }
+    ensures clean { IfOk result (λ x. IsTrue clean.new → IsTrue clean.old × AreClean version x.0) }
 {
-    let room = bytes_in_all(count, bytes);
-    let mut items = ByteStrings::with_capacity(alloc, count as usize, room)?;
+    let (found, behind) = behind_items(version, *clean, count, bytes)?;
+    let (items, rest) = bytes.split_at(bytes.len() - behind.len());
+    *clean = found;
+    Ok((Strings::new(count, items), rest))
+}
+
+/// The bytes behind so many strings, and whether all is clean with them.
+fn behind_items(
+    version: Version,
+    clean: bool,
+    count: u32,
+    bytes: &[u8],
+) -> Result<(bool, &[u8]), DecodeFault>
+    ensures items { IfOk result (λ x. (items : List (List ℕ)) × (items_at count bytes.now ≡ Ok (items, x.1.now))
+        × (IsTrue x.0 → IsTrue clean × AreClean version items)) }
+    ensures fault { IfErr result (λ fault. Fails fault (items_at count bytes.now)) }
+{
+    let mut found = clean;
     let mut rest = bytes;
     for _ in 0..count {
         let (item, after) = text_of(rest)?;
-        items.push(item)?;
+        found = still_clean(found, version, item);
         rest = after;
     }
-    Ok((items, rest))
+    Ok((found, rest))
 }
 
 #[tactic(auto, unfolding(crate::specs::Reading::string_at))]
-fn string_of(alloc: Global, bytes: &[u8]) -> Result<(ByteString, &[u8]), DecodeFault>
+fn string_of<'a>(
+    alloc: Global,
+    version: Version,
+    clean: &mut bool,
+    bytes: &'a [u8],
+) -> Result<(ByteString, &'a [u8]), DecodeFault>
     ensures gives { Gives (λ x. (x.0, x.1.now)) result (string_at bytes.now) }
+    ensures clean { IfOk result (λ x. IsTrue clean.new → IsTrue clean.old × (is_unclean version x.0 ≡ false)) }
     ensures memory { IsErrOf result faults.OutOfMemory → IsOk (string_at bytes.now) }
 {
     let (text, rest) = text_of(bytes)?;
+    *clean = still_clean(*clean, version, text);
     Ok((ByteString::from_slice(alloc, text)?, rest))
 }
 

@@ -67,7 +67,7 @@ fn put_record(out: &mut Vec<u8>, of: &Record) -> Result<(), AllocError>
 }
 
 /// The kept record of this name and this entry.
-pub(crate) fn put_kept(out: &mut Vec<u8>, name: &[u8], entry: &Entry) -> Result<(), AllocError>
+fn put_kept(out: &mut Vec<u8>, name: &[u8], entry: &Entry) -> Result<(), AllocError>
     requires { FitsRecord versions.Two (records.Kept name.now entry.now) }
     ensures ok { OnOk result (out.new.items ≡ out.old.items ++ encoding versions.Two (records.Kept name.now entry.now)) }
     ensures full { OnErr result (vec_capacity out.old < vec_len out.old + length (encoding versions.Two (records.Kept name.now entry.now))) }
@@ -79,7 +79,7 @@ pub(crate) fn put_kept(out: &mut Vec<u8>, name: &[u8], entry: &Entry) -> Result<
 }
 
 /// The byte of a record's kind, and its target.
-fn put_front(out: &mut Vec<u8>, kind: u8, target: &[u8]) -> Result<(), AllocError>
+pub(crate) fn put_front(out: &mut Vec<u8>, kind: u8, target: &[u8]) -> Result<(), AllocError>
     requires { FitsString target.now }
     ensures ok { OnOk result (out.new.items ≡ out.old.items ++ (kind ∷ string target.now)) }
     ensures len { OnOk result (vec_len out.new ≡ vec_len out.old + 1 + length (string target.now)) }
@@ -120,7 +120,7 @@ fn put_kept_explicit(out: &mut Vec<u8>, of: &Explicit) -> Result<(), AllocError>
     }
 }
 
-fn put_phase(out: &mut Vec<u8>, of: Phase) -> Result<(), AllocError>
+pub(crate) fn put_phase(out: &mut Vec<u8>, of: Phase) -> Result<(), AllocError>
     ensures ok { OnOk result (out.new.items ≡ out.old.items ++ phase_fields of) }
     ensures len { OnOk result (vec_len out.new ≡ vec_len out.old + 5) }
     ensures room { vec_capacity out.old ≤ vec_capacity out.new }
@@ -168,7 +168,7 @@ fn put_strings(out: &mut Vec<u8>, items: Iter<'_>) -> Result<(), AllocError>
     Ok(())
 }
 
-fn put_string(out: &mut Vec<u8>, bytes: &[u8]) -> Result<(), AllocError>
+pub(crate) fn put_string(out: &mut Vec<u8>, bytes: &[u8]) -> Result<(), AllocError>
     requires { FitsString bytes.now }
     ensures ok { OnOk result (out.new.items ≡ out.old.items ++ string bytes.now) }
     ensures len { OnOk result (vec_len out.new ≡ vec_len out.old + length (string bytes.now)) }
@@ -180,7 +180,7 @@ fn put_string(out: &mut Vec<u8>, bytes: &[u8]) -> Result<(), AllocError>
     out.extend_from_slice(bytes)
 }
 
-fn put_number(out: &mut Vec<u8>, n: u32) -> Result<(), AllocError>
+pub(crate) fn put_number(out: &mut Vec<u8>, n: u32) -> Result<(), AllocError>
     ensures ok { OnOk result (out.new.items ≡ out.old.items ++ number n) }
     ensures len { OnOk result (vec_len out.new ≡ vec_len out.old + 4) }
     ensures room { vec_capacity out.old ≤ vec_capacity out.new }

@@ -8,7 +8,11 @@ mod kept;
 mod laws;
 mod limits;
 mod measure;
+mod packed;
+mod packed_encoder;
+mod packed_record;
 mod record;
+mod strings;
 mod version;
 mod within;
 
@@ -21,5 +25,8 @@ pub use limits::{
     MAX_COMMAND_BYTES, MAX_COMMANDS, MAX_EXPLICIT_NAMES, MAX_HIDDEN_NAMES, MAX_NAME_BYTES,
     MAX_NAME_BYTES_IN_ONE, MAX_RECORD_BYTES, MAX_RECORD_BYTES_IN_ONE, RecordFault,
 };
+pub use packed::PackedEntry;
+pub use packed_record::{Event, PackedRecord};
 pub use record::{Entry, Explicit, Phase, Record};
+pub use strings::Strings;
 pub use version::Version;

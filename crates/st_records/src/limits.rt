@@ -144,7 +144,7 @@ impl Record {
         any_longer(self.commands(), MAX_COMMAND_BYTES)
     }
 
-    pub(crate) fn has_too_many(&self) -> bool
+    fn has_too_many(&self) -> bool
         ensures { result ≡ has_too_many self.now }
     {
         self.commands().len() > MAX_COMMANDS

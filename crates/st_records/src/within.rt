@@ -3,22 +3,23 @@
 ghost use Rattle.std.specs.Prelude.{◌≡◌, ◌+◌, false, None, nat_lt, length, IfSome, IsTrue};
 ghost use Rattle.std.specs.List.{list_any, flat_map};
 ghost use Rattle.st_records.specs.declared.version.Version.TheVariants as versions;
+ghost use Rattle.st_records.specs.Clean.{is_unclean};
 ghost use Rattle.st_records.specs.Encoding.{string};
-ghost use Rattle.st_records.specs.Tests.{any_name, has_byte, is_empty_name, is_bad_name, is_long_name, has_bad_command, has_long_command, strings_length, fault_of};
+ghost use Rattle.st_records.specs.Tests.{any_name, has_byte, is_empty_name, is_bad_name, is_long_name, has_bad_command, has_long_command, has_too_many, strings_length, fault_of};
 
-use crate::limits::MAX_COMMAND_BYTES;
+use crate::limits::{MAX_COMMAND_BYTES, MAX_COMMANDS, MAX_EXPLICIT_NAMES, MAX_HIDDEN_NAMES};
 use crate::record::Record;
 use crate::version::Version;
 use byte_strings::Iter;
 
 impl Record {
     /// The record is seen to have no fault. Where it isn't, it may still have none: explicit names are counted in each
-    /// version.
+    /// version, and a low byte of a name may be one that it may hold.
     pub(crate) fn is_seen_within(&self, version: Version) -> bool
         ensures { IsTrue result → fault_of version self.now ≡ None }
     {
         let room = version.max_record_bytes() - self.fixed_len(version);
-        self.room_after_good(version, room).is_some() && !self.has_too_many()
+        self.room_after_good(version, room).is_some()
     }
 
     // What is left of `room` after names and commands that are all good; none where one isn't or they do not fit.
@@ -29,16 +30,32 @@ impl Record {
         ensures long { IfSome result (λ _. any_name (is_long_name version) self.now ≡ false) }
         ensures bad_command { IfSome result (λ _. has_bad_command self.now ≡ false) }
         ensures long_command { IfSome result (λ _. has_long_command self.now ≡ false) }
+        ensures many { IfSome result (λ _. has_too_many self.now ≡ false) }
     {
         let target = self.target().as_slice();
         if !is_good_name(target, version) {
             return None;
         }
+        let (commands, hidden, explicit) = (self.commands(), self.hidden(), self.explicit());
+        if commands.len() > MAX_COMMANDS
+            || hidden.len() > MAX_HIDDEN_NAMES
+            || explicit.len() > MAX_EXPLICIT_NAMES
+        {
+            return None;
+        }
         let room = room.checked_sub(target.len())?;
-        let room = room_after_commands(self.commands(), room)?;
-        let room = room_after_names(self.hidden(), version, room)?;
-        room_after_names(self.explicit(), version, room)
+        let room = room_after_commands(commands, room)?;
+        let room = room_after_names(hidden, version, room)?;
+        room_after_names(explicit, version, room)
     }
+}
+
+/// Whether all is clean with this string: it could be a name. Nearly all commands could.
+#[tactic(auto, using(crate::proofs::Clean::clean_from))]
+pub(crate) fn still_clean(clean: bool, version: Version, string: &[u8]) -> bool
+    ensures { IsTrue result → IsTrue clean × (is_unclean version string.now ≡ false) }
+{
+    clean && is_good_name(string, version)
 }
 
 fn room_after_names(names: Iter<'_>, version: Version, room: usize) -> Option<usize>
@@ -72,21 +89,23 @@ fn room_after_commands(commands: Iter<'_>, room: usize) -> Option<usize>
     Some(left)
 }
 
+#[tactic(auto, using(crate::proofs::Low::none_bad))]
 fn is_good_name(name: &[u8], version: Version) -> bool
     ensures empty { IsTrue result → is_empty_name name.now ≡ false }
     ensures bad { IsTrue result → is_bad_name name.now ≡ false }
     ensures long { IsTrue result → is_long_name version name.now ≡ false }
 {
-    !name.is_empty() && name.len() <= version.max_name_bytes() && !has_nul_or_newline(name)
+    !name.is_empty() && name.len() <= version.max_name_bytes() && !has_low_byte(name)
 }
 
-// Each byte is looked at, without an early end, so that many can be looked at together.
-fn has_nul_or_newline(name: &[u8]) -> bool
-    ensures { result ≡ is_bad_name name.now }
+// Whether a byte is a newline or one of those before it, NUL among them. It is one comparison a byte, and each byte is
+// looked at, without an early end, so that many can be looked at together.
+fn has_low_byte(name: &[u8]) -> bool
+    ensures { result ≡ list_any (λ byte. nat_lt byte 11) name.now }
 {
     let mut found = false;
     for &byte in name {
-        found |= (byte == 0) | (byte == b'\n');
+        found |= byte < 11;
     }
     found
 }

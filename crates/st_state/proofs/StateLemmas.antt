@@ -23,6 +23,7 @@ use Rattle.std.proofs.lemmas.Map.Entries.{place_from_lookup, lookup_from_place}
 use Rattle.std.proofs.lemmas.Map.Keys.{sorted_head, sorted_tail, sorted_from_all_adjacent, apart_from_distinct, IsDistinct-IsPermutation, IsDistinct-head, IsDistinct-tail, IsDistinct-cons}
 use Rattle.std.proofs.lemmas.Map.Lookups.{map_keys}
 use Rattle.std.proofs.lemmas.Map.Text.{is_eq-slice_cmp}
+use Rattle.std.proofs.lemmas.Slice.Eq.{bytes_eq-Decides}
 use Rattle.st_state.specs.State.{by_name, StateMap, hidden_in, known_hidden}
 use Rattle.st_records.specs.declared.record.Entry.{Entry}
 
@@ -68,6 +69,10 @@ never q x y a b apart =
 both : (a b : Bool) → T a → T b → T (a && b)
 both true b _ h = h
 both false b h _ = absurd h
+
+-- a name that passes the test of another one is that name
+pub asked_is : (same : Bool) (x y : List ℕ) → same ≡ bytes_eq x y → same ≡ true → x ≡ y
+asked_is same x y is passed = (bytes_eq-Decides x y).0 (sym is ∙ passed)
 
 pub some_of : {A : Type 0} (o : Option A) (x : A) → Some x ≡ o → IsSome o
 some_of o x e = subst IsSome e refl

@@ -9,7 +9,7 @@ ghost use Rattle.indexmap.specs.IndexMap.{IsUnique};
 ghost use Rattle.st_state.specs.Ranks.{HasRank, number_from, rank};
 
 use crate::state::Entries;
-use st_records::Entry;
+use st_records::PackedEntry;
 use std::alloc::{AllocError, Global};
 
 // How many names show what most of them begin with.
@@ -20,7 +20,7 @@ const SAMPLES: usize = 16;
 pub(crate) struct Ranked<'a> {
     pub rank: u64,
     pub name: &'a [u8],
-    pub entry: &'a Entry,
+    pub entry: &'a PackedEntry,
 }
 
 /// Each name with its rank, in the order of the map.
@@ -42,7 +42,7 @@ pub(crate) fn with_ranks(alloc: Global, entries: &Entries) -> Result<Vec<Ranked<
 pub(crate) fn without_ranks<'a>(
     alloc: Global,
     ranked: &[Ranked<'a>],
-) -> Result<Vec<(&'a [u8], &'a Entry)>, AllocError>
+) -> Result<Vec<(&'a [u8], &'a PackedEntry)>, AllocError>
     ensures { IfOk result (λ listed. listed.items ≡ list_map (λ e. (e.name, e.entry)) ranked.now) }
 {
     ranked

@@ -8,7 +8,7 @@ ghost use Rattle.st_state.specs.State.{by_name, apply_record, known_hidden, repl
 
 use crate::state::{Entries, State};
 use crate::taking::take_in;
-use st_records::Record;
+use st_records::PackedRecord;
 
 /// A state and a batch of records that it is about to take in.
 ///
@@ -16,7 +16,7 @@ use st_records::Record;
 #[derive(Debug, Drop)]
 pub struct Staged {
     pub(crate) entries: Entries,
-    pub(crate) events: Vec<Record>,
+    pub(crate) events: Vec<PackedRecord>,
     ghost room: { length events.items ≤ spare entries },
 }
 
@@ -44,7 +44,7 @@ impl Staged {
     }
 }
 
-fn put_all(entries: &mut Entries, events: Vec<Record>)
+fn put_all(entries: &mut Entries, events: Vec<PackedRecord>)
     requires { length events.items ≤ spare entries.old }
     ensures { by_name (λ k. k) entries.new.entries ≡ replay (by_name (λ k. k) entries.old.entries) events.items }
 {

@@ -1,6 +1,6 @@
 //! The state: what the records so far say of each target, as a map from names to entries.
 
-ghost use Rattle.std.specs.Prelude.{◌≡◌, ◌+◌, ◌<◌, ◌⊎◌, None, OnOk, OnErr, IfOk, MatchOption, length, map as list_map};
+ghost use Rattle.std.specs.Prelude.{◌≡◌, ◌+◌, ◌<◌, ◌⊎◌, None, Some, OnOk, OnErr, IfOk, IfSome, MatchOption, length, map as list_map};
 ghost use Rattle.std.specs.Option.{option_copied};
 ghost use Rattle.std.specs.FinMap as map;
 ghost use Rattle.st_state.specs.Keepable.{kept_bytes};
@@ -10,15 +10,15 @@ ghost use Rattle.st_state.specs.State.{SetsEntry, apply_record, known_hidden, un
 use crate::name_order::{with_ranks, without_ranks};
 use crate::staged::Staged;
 use crate::taking::take_in;
-use byte_strings::ByteStrings;
-use indexmap::IndexMap;
+use indexmap::{Equivalent, IndexMap};
 use name_keys::{Name, NameRef};
-use st_records::{Entry, Explicit, HashKey, Phase, Record, room_after_kept};
+use st_records::{HashKey, PackedEntry, PackedRecord, Phase, Record, room_after_kept};
+use st_unfinished::leave_unfinished;
 use std::alloc::{AllocError, Global};
 use std::marker::Model;
 
 // Each name with its entry. Names are hashed under a key, so that a file's writer can't choose names that collide.
-pub(crate) type Entries = IndexMap<Name, Entry, HashKey>;
+pub(crate) type Entries = IndexMap<Name, PackedEntry, HashKey>;
 
 /// What is known of each target. Contracts see it as a finite map from names to entries.
 ///
@@ -60,6 +60,13 @@ impl State {
         }
     }
 
+    /// Takes room for as many more names, where there is memory for it.
+    pub fn reserve(&mut self, names: usize)
+        ensures { self.new ≡ self.old }
+    {
+        let _ = self.entries.reserve(names);
+    }
+
     /// How many names the state knows.
     pub fn len(&self) -> usize
         ensures { result ≡ map.len self.now }
@@ -68,14 +75,40 @@ impl State {
     }
 
     /// What the state knows of `name`.
-    pub fn get(&self, name: &[u8]) -> Option<&Entry>
+    pub fn get(&self, name: &[u8]) -> Option<&PackedEntry>
         ensures { option_copied result ≡ map.get self.now name.now }
     {
         self.entries.get(NameRef { bytes: name })
     }
 
+    /// What the state knows of `name`, and the place to hand over with the next name. The entry at `place` is tried first,
+    /// so that names asked for in the order in which they were first seen are found without a search.
+    pub fn near(&self, name: &[u8], place: usize) -> (Option<&PackedEntry>, usize)
+        ensures { option_copied result.0 ≡ map.get self.now name.now }
+    {
+        if let Some(entry) = self.entry_at(name, place) {
+            return (Some(entry), place.saturating_add(1));
+        }
+        match self.entries.get_full(NameRef { bytes: name }) {
+            Some((found, _, entry)) => (Some(entry), found.saturating_add(1)),
+            None => (None, place),
+        }
+    }
+
+    /// The entry at a place, if it is that of `name`.
+    fn entry_at(&self, name: &[u8], place: usize) -> Option<&PackedEntry>
+        ensures { IfSome result (λ entry. map.get self.now name.now ≡ Some entry.now) }
+    {
+        let (known, entry) = self.entries.get_index(place)?;
+        let asked = NameRef { bytes: name };
+        if !asked.equivalent(known) {
+            return None;
+        }
+        Some(entry)
+    }
+
     /// Each name with what is known of it, in byte order of the names.
-    pub fn in_byte_order(&self, alloc: Global) -> Result<Vec<(&[u8], &Entry)>, AllocError>
+    pub fn in_byte_order(&self, alloc: Global) -> Result<Vec<(&[u8], &PackedEntry)>, AllocError>
         ensures { IfOk result (λ listed. list_map (λ e. (e.0.now, e.1.now)) listed.items ≡ map.entries self.now) }
     {
         let mut ranked = with_ranks(alloc, &self.entries)?;
@@ -142,26 +175,22 @@ impl State {
                 hidden,
                 explicit,
             } => {
-                let entry = Entry {
-                    phase: Phase::Done,
-                    commands: commands.copy(alloc)?,
-                    hidden: hidden.copy(alloc)?,
-                    explicit: explicit.copy(alloc)?,
-                };
+                let entry = PackedEntry::of(alloc, Phase::Done, commands, hidden, explicit)?;
                 self.set(alloc, target.as_slice(), entry)
             }
             Record::Failed { target, status } => {
                 self.set_unfinished(alloc, target.as_slice(), Phase::Failed(*status))
             }
             Record::Kept { target, entry } => {
-                self.set(alloc, target.as_slice(), entry.copy(alloc)?)
+                let entry = PackedEntry::of_entry(alloc, entry)?;
+                self.set(alloc, target.as_slice(), entry)
             }
         }
     }
 
     /// Takes in one more record as `apply` does, with the strings of the record in place of copies. Without memory the
     /// state stays as it was, and the record is let go.
-    pub fn apply_owned(&mut self, alloc: Global, event: Record) -> Result<(), AllocError>
+    pub fn apply_owned(&mut self, alloc: Global, event: PackedRecord) -> Result<(), AllocError>
         ensures ok { OnOk result (self.new ≡ apply_record self.old event) }
         ensures err { OnErr result (self.new ≡ self.old) }
         // Any record takes memory for a new target alone.
@@ -190,21 +219,13 @@ impl State {
         ensures memory { OnErr result (map.get self.old name.now ≡ None) }
     {
         if let Some(known) = self.entries.get_mut(NameRef { bytes: name }) {
-            known.phase = phase;
-            known.commands = ByteStrings::empty(alloc);
-            known.explicit = Explicit::Unknown;
+            leave_unfinished(known, phase);
             return Ok(());
         }
-        let entry = Entry {
-            phase,
-            commands: ByteStrings::empty(alloc),
-            hidden: ByteStrings::empty(alloc),
-            explicit: Explicit::Unknown,
-        };
-        self.add(alloc, name, entry)
+        self.add(alloc, name, PackedEntry::new(alloc, phase))
     }
 
-    fn set(&mut self, alloc: Global, name: &[u8], entry: Entry) -> Result<(), AllocError>
+    fn set(&mut self, alloc: Global, name: &[u8], entry: PackedEntry) -> Result<(), AllocError>
         ensures ok { OnOk result (self.new ≡ map.insert self.old name.now entry) }
         ensures err { OnErr result (self.new ≡ self.old) }
         ensures memory { OnErr result (map.get self.old name.now ≡ None) }
@@ -216,7 +237,7 @@ impl State {
         self.add(alloc, name, entry)
     }
 
-    fn add(&mut self, alloc: Global, name: &[u8], entry: Entry) -> Result<(), AllocError>
+    fn add(&mut self, alloc: Global, name: &[u8], entry: PackedEntry) -> Result<(), AllocError>
         ensures ok { OnOk result (self.new ≡ map.insert self.old name.now entry) }
         ensures err { OnErr result (self.new ≡ self.old) }
     {
@@ -225,13 +246,13 @@ impl State {
     }
 }
 
-fn copies(alloc: Global, events: &[Record]) -> Result<Vec<Record>, AllocError>
+fn copies(alloc: Global, events: &[Record]) -> Result<Vec<PackedRecord>, AllocError>
     ensures equal { IfOk result (λ copied. copied.items ≡ events.now) }
     ensures memory { OnErr result (0 < length events.now) }
 {
     let mut copied = Vec::with_capacity(alloc, events.len())?;
     for event in events {
-        copied.push(event.copy(alloc)?)?;
+        copied.push(PackedRecord::of(alloc, event)?)?;
     }
     Ok(copied)
 }

@@ -4,43 +4,49 @@ ghost use Rattle.std.specs.Prelude.{◌≡◌, ◌+◌, ◌<◌, ◌≤◌, None
 ghost use Rattle.std.specs.FinMap as map;
 ghost use Rattle.indexmap.specs.IndexMap.{spare};
 ghost use Rattle.st_records.specs.Parts.{target_of};
+ghost use Rattle.st_records.specs.Event.{record_from};
 ghost use Rattle.st_state.specs.State.{by_name, apply_record, known_hidden, unfinished};
 
 use crate::state::Entries;
-use byte_strings::{ByteString, ByteStrings};
+use byte_strings::ByteString;
 use name_keys::Name;
-use st_records::{Entry, Explicit, Phase, Record};
+use st_records::{Event, PackedEntry, PackedRecord, Phase};
 use st_unfinished::leave_unfinished;
 use std::alloc::{AllocError, Global};
 
 /// Takes in one record. Without memory for a new name the map stays as it was, and the record is let go.
-pub(crate) fn take_in(alloc: Global, entries: &mut Entries, event: Record) -> Result<(), AllocError>
+pub(crate) fn take_in(
+    alloc: Global,
+    entries: &mut Entries,
+    event: PackedRecord,
+) -> Result<(), AllocError>
     ensures ok { OnOk result (by_name (λ k. k) entries.new.entries ≡ apply_record (by_name (λ k. k) entries.old.entries) event) }
     ensures err { OnErr result (by_name (λ k. k) entries.new.entries ≡ by_name (λ k. k) entries.old.entries) }
     ensures memory { OnErr result (map.get (by_name (λ k. k) entries.old.entries) (target_of event) ≡ None) }
     ensures succeeds { 0 < spare entries.old → IsOk result }
     ensures room { spare entries.old ≤ spare entries.new + 1 }
 {
+    let (target, event) = event.into_parts();
+    take_event(alloc, entries, name_of(target), event)
+}
+
+fn take_event(
+    alloc: Global,
+    entries: &mut Entries,
+    name: Name,
+    event: Event,
+) -> Result<(), AllocError>
+    ensures ok { OnOk result (by_name (λ k. k) entries.new.entries ≡ apply_record (by_name (λ k. k) entries.old.entries) (record_from name event)) }
+    ensures err { OnErr result (by_name (λ k. k) entries.new.entries ≡ by_name (λ k. k) entries.old.entries) }
+    ensures memory { OnErr result (map.get (by_name (λ k. k) entries.old.entries) (target_of (record_from name event)) ≡ None) }
+    ensures succeeds { 0 < spare entries.old → IsOk result }
+    ensures room { spare entries.old ≤ spare entries.new + 1 }
+{
     match event {
-        Record::Begun { target } => set_unfinished(alloc, entries, name_of(target), Phase::Begun),
-        Record::Done {
-            target,
-            commands,
-            hidden,
-            explicit,
-        } => {
-            let entry = Entry {
-                phase: Phase::Done,
-                commands,
-                hidden,
-                explicit,
-            };
-            set_entry(entries, name_of(target), entry)
-        }
-        Record::Failed { target, status } => {
-            set_unfinished(alloc, entries, name_of(target), Phase::Failed(status))
-        }
-        Record::Kept { target, entry } => set_entry(entries, name_of(target), entry),
+        Event::Begun => set_unfinished(alloc, entries, name, Phase::Begun),
+        Event::Done(entry) => set_entry(entries, name, entry.done()),
+        Event::Failed(status) => set_unfinished(alloc, entries, name, Phase::Failed(status)),
+        Event::Kept(entry) => set_entry(entries, name, entry),
     }
 }
 
@@ -50,7 +56,7 @@ fn name_of(target: ByteString) -> Name
     Name::new(target.into_vec())
 }
 
-fn set_entry(entries: &mut Entries, name: Name, entry: Entry) -> Result<(), AllocError>
+fn set_entry(entries: &mut Entries, name: Name, entry: PackedEntry) -> Result<(), AllocError>
     ensures ok { OnOk result (by_name (λ k. k) entries.new.entries ≡ map.insert (by_name (λ k. k) entries.old.entries) name entry) }
     ensures err { OnErr result (by_name (λ k. k) entries.new.entries ≡ by_name (λ k. k) entries.old.entries) }
     ensures memory { OnErr result (map.get (by_name (λ k. k) entries.old.entries) name ≡ None) }
@@ -75,12 +81,9 @@ fn set_unfinished(
     ensures succeeds { 0 < spare entries.old → IsOk result }
     ensures room { spare entries.old ≤ spare entries.new + 1 }
 {
-    let known = entries.entry(name)?.or_insert(Entry {
-        phase,
-        commands: ByteStrings::empty(alloc),
-        hidden: ByteStrings::empty(alloc),
-        explicit: Explicit::Unknown,
-    });
-    leave_unfinished(alloc, known, phase);
+    let known = entries
+        .entry(name)?
+        .or_insert(PackedEntry::new(alloc, phase));
+    leave_unfinished(known, phase);
     Ok(())
 }

@@ -4,15 +4,11 @@
 ghost use Rattle.std.specs.Prelude.{◌≡◌};
 ghost use Rattle.st_unfinished.specs.Unfinished.{unfinished};
 
-use byte_strings::ByteStrings;
-use st_records::{Entry, Explicit, Phase};
-use std::alloc::Global;
+use st_records::{PackedEntry, Phase};
 
 /// A recipe that began or failed: no commands and no explicit names count any more, the hidden names stay as last known.
-pub fn leave_unfinished(alloc: Global, known: &mut Entry, phase: Phase)
+pub fn leave_unfinished(known: &mut PackedEntry, phase: Phase)
     ensures { known.new ≡ unfinished phase known.old.hidden }
 {
-    known.phase = phase;
-    known.commands = ByteStrings::empty(alloc);
-    known.explicit = Explicit::Unknown;
+    known.leave_unfinished(phase);
 }

@@ -115,7 +115,10 @@ fn say_record(
     bytes: &[u8],
 ) -> Result<(), AllocError> {
     match decode(alloc, version, bytes) {
-        Ok((record, len)) => write!(said, "{len}: {record:?}"),
+        Ok((record, len)) => {
+            let record = record.unpack(alloc)?;
+            write!(said, "{len}: {record:?}")
+        }
         Err(fault) => write!(said, "{fault:?}"),
     }
 }
@@ -143,7 +146,7 @@ fn good_of(alloc: Global, bytes: &[u8]) -> Result<Record, DecodeFault>
     ensures { IfOk result (λ r. IsGood versions.Two r) }
 {
     let (record, _len) = decode(alloc, Version::Two, bytes)?;
-    Ok(record)
+    Ok(record.unpack(alloc)?)
 }
 
 fn encoded(alloc: Global, bytes: &[u8]) -> Result<Vec<u8>, DecodeFault> {

@@ -1,11 +1,10 @@
 //! States as text: each entry in byte order of the names, written as a record of `notation`, with a `;` behind it.
-use byte_strings::Iter;
 use row_files::bytes;
-use st_records::{Entry, Explicit, Phase};
+use st_records::{PackedEntry, Phase, Strings};
 use st_state::State;
 use std::alloc::{AllocError, Global};
 
-fn say_marked(said: &mut String, mark: &str, items: Iter<'_>) -> Result<(), AllocError> {
+fn say_marked(said: &mut String, mark: &str, items: Strings<'_>) -> Result<(), AllocError> {
     for item in items {
         said.push_str(mark)?;
         bytes::say(said, item)?;
@@ -14,10 +13,10 @@ fn say_marked(said: &mut String, mark: &str, items: Iter<'_>) -> Result<(), Allo
 }
 
 /// What stands for explicit names that are known to be none.
-fn no_names(explicit: &Explicit) -> &'static str {
+fn no_names(explicit: Option<Strings<'_>>) -> &'static str {
     match explicit {
-        Explicit::Known(names) => { if names.is_empty() { " :" } else { "" } }
-        Explicit::Unknown => "",
+        Some(names) => { if names.len() == 0 { " :" } else { "" } }
+        None => "",
     }
 }
 
@@ -36,18 +35,18 @@ fn say_status(said: &mut String, phase: Phase) -> Result<(), AllocError> {
     }
 }
 
-fn say_entry(said: &mut String, name: &[u8], entry: &Entry) -> Result<(), AllocError> {
-    said.push_str(kind(entry.phase))?;
+fn say_entry(said: &mut String, name: &[u8], entry: &PackedEntry) -> Result<(), AllocError> {
+    said.push_str(kind(entry.phase()))?;
     bytes::say(said, name)?;
-    say_status(said, entry.phase)?;
-    say_marked(said, " $", entry.commands.iter())?;
-    say_marked(said, " <", entry.hidden.iter())?;
-    say_marked(said, " :", entry.explicit.names())?;
-    said.push_str(no_names(&entry.explicit))?;
+    say_status(said, entry.phase())?;
+    say_marked(said, " $", entry.commands())?;
+    say_marked(said, " <", entry.hidden())?;
+    say_marked(said, " :", entry.names())?;
+    said.push_str(no_names(entry.explicit()))?;
     said.push(';')
 }
 
-fn say_entries(said: &mut String, entries: &[(&[u8], &Entry)]) -> Result<(), AllocError> {
+fn say_entries(said: &mut String, entries: &[(&[u8], &PackedEntry)]) -> Result<(), AllocError> {
     for (name, entry) in entries {
         say_entry(said, name, entry)?;
     }

@@ -3,7 +3,7 @@ use crate::notation::records_of;
 use crate::shown::{say_once, say_state};
 use byte_strings::ByteString;
 use row_files::{RowFault, bytes};
-use st_records::Record;
+use st_records::{PackedRecord, Record};
 use st_state::{Staged, State};
 use std::alloc::{AllocError, Global};
 
@@ -15,10 +15,10 @@ fn applied(alloc: Global, records: &[Record]) -> Result<State, AllocError> {
     Ok(state)
 }
 
-fn taken_over(alloc: Global, records: Vec<Record>) -> Result<State, AllocError> {
+fn taken_over(alloc: Global, records: &[Record]) -> Result<State, AllocError> {
     let mut state = State::new(alloc);
     for record in records {
-        state.apply_owned(alloc, record)?;
+        state.apply_owned(alloc, PackedRecord::of(alloc, record)?)?;
     }
     Ok(state)
 }
@@ -53,7 +53,7 @@ pub(crate) fn replay(alloc: Global, said: &mut String, text: &str) -> Result<(),
     let records = records_of(alloc, text)?;
     say_applied(alloc, said, records.as_slice())?;
     say_staged(alloc, said, records.as_slice())?;
-    let state = taken_over(alloc, records)?;
+    let state = taken_over(alloc, records.as_slice())?;
     Ok(say_unlike(alloc, said, &state)?)
 }
 
@@ -85,7 +85,8 @@ pub(crate) fn batch(
 
 fn begin(alloc: Global, state: &mut State, name: &str) -> Result<(), RowFault> {
     let target = ByteString::new(bytes::read(alloc, name)?);
-    Ok(state.apply_owned(alloc, Record::Begun { target })?)
+    let begun = Record::Begun { target };
+    Ok(state.apply_owned(alloc, PackedRecord::of(alloc, &begun)?)?)
 }
 
 fn say_names(alloc: Global, said: &mut String, state: &State) -> Result<(), AllocError> {

@@ -28,7 +28,7 @@ const PAIR: Way = Way {
 /// Whether the state knows a target whose recipe was run: as begun or failed where memory was refused, else as done.
 fn knows(came: &Came<MemDisk>, target: &[u8]) -> bool {
     match came.state().get(target) {
-        Some(entry) => came.status() != 0 || entry.phase == Phase::Done,
+        Some(entry) => came.status() != 0 || entry.phase() == Phase::Done,
         None => false,
     }
 }

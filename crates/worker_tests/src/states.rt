@@ -1,11 +1,11 @@
 //! Stores, and their states as texts.
 
 use bd_flusher::Site;
-use byte_strings::{ByteString, Iter};
+use byte_strings::ByteString;
 use st_disk::Disk;
 use st_file::OpenFault;
 use st_memory::MemDisk;
-use st_records::{HashKey, Phase};
+use st_records::{HashKey, Phase, Strings};
 use st_recovery::{Store, open};
 use st_state::State;
 use std::alloc::{AllocError, Global};
@@ -48,7 +48,7 @@ fn push_lines(
     alloc: Global,
     text: &mut String,
     sign: char,
-    strings: Iter<'_>,
+    strings: Strings<'_>,
 ) -> Result<(), AllocError> {
     for string in strings {
         let string = ByteString::from_slice(alloc, string)?;
@@ -62,10 +62,10 @@ fn push_lines(
 pub fn listing(alloc: Global, state: &State) -> Result<String, AllocError> {
     let mut text = String::new(alloc);
     for (name, entry) in state.in_byte_order(alloc)? {
-        text.push_str(phase_line(alloc, name, entry.phase)?.as_str())?;
-        push_lines(alloc, &mut text, '$', entry.commands.iter())?;
-        push_lines(alloc, &mut text, '<', entry.hidden.iter())?;
-        push_lines(alloc, &mut text, ':', entry.explicit.names())?;
+        text.push_str(phase_line(alloc, name, entry.phase())?.as_str())?;
+        push_lines(alloc, &mut text, '$', entry.commands())?;
+        push_lines(alloc, &mut text, '<', entry.hidden())?;
+        push_lines(alloc, &mut text, ':', entry.names())?;
     }
     Ok(text)
 }

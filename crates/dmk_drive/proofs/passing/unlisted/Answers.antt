@@ -14,13 +14,13 @@ loop-number-preserved c =
     let i = c.loop-number.number-index in
     let read = c.as_slice-number-items.result.now in
     let n = get_or read i 0 in
-    let passed = c.in-Ok-pass.passed in
+    let passed = c.in-Ok-pass_in.passed in
     let front = told_in graph n passed in
     let at : drop i read ≡ n ∷ drop (i + 1) read = drop-cons read i 0 c.loop-number-test.true ∙ rw add-one refl in
     let here : drop i graph.order.items ≡ n ∷ drop (i + 1) graph.order.items =
     subst (λ (nodes : List ℕ). drop i nodes ≡ n ∷ drop (i + 1) nodes) c.as_slice-number-items.ensures.value at in
     let by_marks : Passes keeping graph marks n (is_remade passed) front =
-    subst (λ (ms : List Bool). Passes keeping graph ms n (is_remade passed) front) c.deref.ensures.value c.in-Ok-pass.ensures.passes in
+    subst (λ (ms : List Bool). Passes keeping graph ms n (is_remade passed) front) c.deref.ensures.value c.in-Ok-pass_in.ensures.passes in
     let passes : Passes keeping graph marks n c.is_remade.result front =
     subst (λ (remade : Bool). Passes keeping graph marks n remade front) (sym c.is_remade.ensures) by_marks in
     let (listed, before, none) = c.loop-number.invariant.none_so_far in

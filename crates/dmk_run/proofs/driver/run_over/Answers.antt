@@ -1,6 +1,8 @@
-use Rattle.std.proofs.Common.{true, subst}
+use Rattle.std.proofs.Common.{true, sym, subst}
 use Rattle.st_disk.specs.Moments.{now}
-use Rattle.dmk_drive.specs.Planned.{IsGraphOf}
+use Rattle.st_state.specs.State.{StateMap}
+use Rattle.st_state.specs.Keepable.{AllCanBeKept}
+use Rattle.st_recovery.specs.Stored.{IsStoredOn}
 use Rattle.dmk_drive.proofs.AllowedLemmas.{each_ok}
 use Rattle.dmk_run.specs.Made.{MakesItems}
 use Rattle.dmk_run.proofs.DriverLemmas.{made_items}
@@ -21,6 +23,15 @@ returns-in-Ok-planned-clause-makes g c =
     (λ times may.
     let (graph, is_graph, is_judged) = c.in-Ok-planned.ensures.graph times may in
     made_items profile definitions environment targets c.args.wishes.now.makes_all times items true c.args.keeping g.D.Disk.honest seen sides c.in-Ok.store.state
-    graph plan.graph plan.conduct.counts_records plan.conduct.keeps_state c.in-Ok.ensures.found
-    (subst (λ s. IsGraphOf profile definitions environment targets times items s graph) c.state-state.ensures is_graph)
-    is_judged c.in-Ok-planned.ensures.records c.in-Ok-planned.ensures.keeping c.make.result.0 c.make.ensures.ended)
+    graph plan.graph plan.conduct.counts_records plan.conduct.keeps_state c.in-Ok.ensures.found is_graph is_judged c.in-Ok-planned.ensures.records c.in-Ok-planned.ensures.keeping c.make.result.0 c.make.ensures.ended)
+
+-- what is recorded by the plan is the state of the store that was opened
+pub make-requires-clause-stored : goal.make-requires-clause-stored
+make-requires-clause-stored g c = λ lifetimes outlives honest alive.
+    let store = c.in-Ok.store in
+    let disk = store.log.disk in
+    subst (λ (m : StateMap). IsStoredOn (g.D.Disk.seen disk) (now (g.D.Disk.moments disk)) store.log.side store.log.version store.log.generation store.log.end m)
+    (sym c.in-Ok-planned.ensures.state) (store.stored honest alive)
+
+pub make-requires-clause-keepable : goal.make-requires-clause-keepable
+make-requires-clause-keepable g c = λ lifetimes outlives. subst AllCanBeKept (sym c.in-Ok-planned.ensures.state) c.in-Ok.store.keepable

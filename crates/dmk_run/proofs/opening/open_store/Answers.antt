@@ -28,14 +28,14 @@ returns-in-Ok-compact_at_opening-clause-recovers g c = λ honest.
 
 pub returns-in-Err-compact_at_opening-clause-any_moment_refused : goal.returns-in-Err-compact_at_opening-clause-any_moment_refused
 returns-in-Err-compact_at_opening-clause-any_moment_refused g c = λ honest.
-    rw c.disk_of.ensures
+    rw c.disk_of_store.ensures
     (then_compacted (g.D.Disk.seen c.args.disk) (now (g.D.Disk.moments c.args.disk)) c.in-Ok.store.state (c.in-Ok.ensures.any_moment honest) (c.in-Ok.ensures.found honest)
     (c.compact_at_opening.ensures.any_moment honest))
 
 pub returns-in-Err-compact_at_opening-clause-refused : goal.returns-in-Err-compact_at_opening-clause-refused
 returns-in-Err-compact_at_opening-clause-refused g c =
     let seen = g.D.Disk.seen c.args.disk in
-    rw c.disk_of.ensures
+    rw c.disk_of_store.ensures
     (told_not_compacted c.in-Err-compact_at_opening.fault
     (λ stands honest. (c.compact_at_opening.new.store.state, subst (λ (m : StateMap). Recovers (seen which.A) (seen which.B) m) (sym c.compact_at_opening.ensures.state) (c.in-Ok.ensures.found honest), stands honest))
     c.in-Err-compact_at_opening.ensures.refused)

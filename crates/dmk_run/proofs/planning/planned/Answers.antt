@@ -1,15 +1,21 @@
 use Rattle.std.proofs.Common.{subst}
 use Rattle.dmk_drive.specs.Planned.{IsGraphOf}
+use Rattle.dmk_run.proofs.PlanningLemmas.{recorded_so}
 use Rattle.dmk_run.proofs.planning.planned.Goals as goal
 
 pub returns-clause-graph : goal.returns-clause-graph
 returns-clause-graph g c = λ times may.
     let made = c.in_ok-graph.graph in (
       made,
-      subst (λ d. IsGraphOf c.args.goals.profile d c.args.environment.now c.args.goals.targets times c.args.items.items c.args.state.now made)
+      subst (λ d. IsGraphOf c.args.goals.profile d c.args.environment.now c.args.goals.targets times c.args.items.items c.args.state made)
           c.deref.ensures.value (c.in_ok-graph.ensures.graph times may),
       c.judged_graph-graph.ensures,
     )
+
+pub returns-clause-state : goal.returns-clause-state
+returns-clause-state g c =
+    recorded_so c.args.wishes.now.makes_all c.in_ok-graph.graph c.judged_graph-graph.result c.in_ok-forgotten.forgotten c.args.state
+    c.judged_graph-graph.ensures c.in_ok-forgotten.ensures.forgotten c.in_ok-forgotten.ensures.none c.in_ok-graph.ensures.state
 
 pub invariant_of-graph-clause-distinct : goal.invariant_of-graph-clause-distinct
 invariant_of-graph-clause-distinct g c = c.in_ok-graph.graph.distinct

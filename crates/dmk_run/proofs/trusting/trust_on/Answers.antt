@@ -13,7 +13,7 @@ returns-in-Err-clause-any_moment g c = λ honest times may.
 pub returns-clause-any_moment : goal.returns-clause-any_moment
 returns-clause-any_moment g c = λ honest times may.
     let options = c.args.options.now in
-    rw c.disk_of.ensures
+    rw c.disk_of_store.ensures
     (then_trusted (IsGraphOf options.profile options.definitions.items c.args.environment.now options.targets times c.args.items.items map.empty)
     (g.D.Disk.seen c.args.disk) (now (g.D.Disk.moments c.args.disk)) c.in-Ok.store.state (c.in-Ok.ensures.any_moment honest) (c.in-Ok.ensures.found honest)
     (c.trust_over-found.ensures.any_moment honest times may))
@@ -21,7 +21,7 @@ returns-clause-any_moment g c = λ honest times may.
 pub returns-clause-left : goal.returns-clause-left
 returns-clause-left g c =
     let options = c.args.options.now in
-    rw c.disk_of.ensures
+    rw c.disk_of_store.ensures
     (leaves g.D.Disk.honest (g.T.Tree.allows c.trust_over-found.new.tree)
     (λ times. IsGraphOf options.profile options.definitions.items c.args.environment.now options.targets times c.args.items.items map.empty)
     (g.D.Disk.seen c.args.disk) (now (g.D.Disk.moments c.trust_over-found.new.store.log.disk)) c.trust_over-found.result c.in-Ok.store.state

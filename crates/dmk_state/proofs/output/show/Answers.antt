@@ -9,8 +9,8 @@ returns-in-Err-clause-refused g c = λ f h. (c.refuse.ensures, kept_at_refusal _
 
 pub returns-in-Err-clause-cause : goal.returns-in-Err-clause-cause
 returns-in-Err-clause-cause g c =
-    λ e. cause_of_fault c.args.a.now c.args.b.now _ _ c.in-Err.fault c.in-Err.ensures.found c.in-Err.ensures.memory c.in-Err.ensures.left
+    λ e. cause_of_fault c.args.a.now.items c.args.b.now.items _ _ c.in-Err.fault c.in-Err.ensures.found c.in-Err.ensures.memory c.in-Err.ensures.left
 
 pub returns-in-Err-clause-part : goal.returns-in-Err-clause-part
 returns-in-Err-clause-part g c =
-    λ m found e. part_at_fault c.args.a.now c.args.b.now m _ _ c.in-Err.fault found c.in-Err.ensures.left
+    λ m found e. part_at_fault c.args.a.now.items c.args.b.now.items m _ _ c.in-Err.fault found c.in-Err.ensures.left

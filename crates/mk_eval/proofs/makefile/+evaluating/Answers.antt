@@ -109,13 +109,13 @@ evaluate_all-loop-statement-init g t c =
       left = count ∙ sym (ap length gives.0);
       gathered = λ world now.
           let one = StatementItems world (IncludedItems world c.args.levels c.args.file.now) c.args.file.now in
-          subst (λ (left : List Statement). Reaches behind one start all start c.new-items.result.items left) (sym gives.0) (none_gathered behind one start all c.new-items.result.items c.new-items.ensures.items);
-      defined = sym (ap (behind start) c.new-items.ensures.items ∙ behind_nothing start);
+          subst (λ (left : List Statement). Reaches behind one start all start c.in_ok-items.items.items left) (sym gives.0) (none_gathered behind one start all c.in_ok-items.items.items c.in_ok-items.ensures.items);
+      defined = sym (ap (behind start) c.in_ok-items.ensures.items ∙ behind_nothing start);
       grows = λ world now. now;
     }
 
-pub evaluate_all-returns-in_err-given-in-Item-clause-items : goal.evaluate_all-returns-in_err-given-in-Item-clause-items
-evaluate_all-returns-in_err-given-in-Item-clause-items g t c = λ world allowed.
+pub evaluate_all-returns-in_err-add_item-in-Item-clause-items : goal.evaluate_all-returns-in_err-add_item-in-Item-clause-items
+evaluate_all-returns-in_err-add_item-in-Item-clause-items g t c = λ world allowed.
     let now = c.loop-statement in
     let st = c.in-Some.ensures.steps in
     let more = into_iter_items c.next.new.self in
@@ -123,37 +123,36 @@ evaluate_all-returns-in_err-given-in-Item-clause-items g t c = λ world allowed.
     let here = defined_by now.macros in
     let said = statement.Item c.in-Item.item in
     let at : into_iter_items now.statement-iterator ≡ said ∷ more = st.0 ∙ ap (λ (s : Statement). s ∷ more) c.in-Item.is in
-    let p = err_from_is_err_and c.from_residual.result c.from_residual.ensures.1 in
+    let p = err_from_is_err_and c.from_residual-in_err-add_item-in-Item.result c.from_residual-in_err-add_item-in-Item.ensures.1 in
     let one = StatementItems world (IncludedItems world c.args.levels c.args.file.now) c.args.file.now in
-    let told = fault_passed_on c.in_err-given-in-Item.field-0.0 (one here said) (InOrder behind one start c.args.statements.items)
-    (c.in_err-given-in-Item.ensures.items world allowed)
-    (λ fault h. reach_fault behind one start c.args.statements.items here now.items.items _ more said fault (now.invariant.gathered world (c.evaluate_item.ensures.grows world allowed)) at h) in
+    let told = fault_passed_on c.in_err-add_item-in-Item.field-0.0 (one here said) (InOrder behind one start c.args.statements.items)
+    (c.in_err-add_item-in-Item.ensures.fault world allowed)
+    (λ fault h. reach_fault behind one start c.args.statements.items here now.items.items _ more said fault (now.invariant.gathered world (c.add_item.ensures.grows world allowed)) at h) in
     rw (p.1, p.2) told
 
-pub evaluate_all-loop-statement-preserved-in-Item : goal.evaluate_all-loop-statement-preserved-in-Item
-evaluate_all-loop-statement-preserved-in-Item g t c =
+pub evaluate_all-loop-statement-preserved-in-Continue-branch-2 : goal.evaluate_all-loop-statement-preserved-in-Continue-branch-2
+evaluate_all-loop-statement-preserved-in-Continue-branch-2 g t c =
     let now = c.loop-statement in
     let st = c.in-Some.ensures.steps in
     let more = into_iter_items c.next.new.self in
     let start = defined_by c.args.macros.now in
     let here = defined_by now.macros in
-    let next = defined_by c.evaluate_item.new.macros in
+    let next = defined_by c.add_item.new.macros in
     let said = statement.Item c.in-Item.item in
     let at : into_iter_items now.statement-iterator ≡ said ∷ more = st.0 ∙ ap (λ (s : Statement). s ∷ more) c.in-Item.is in
-    let front = c.in_ok-given-in-Item.given.items in
+    let (front, added, defined, told) = c.in_ok-add_item-in-Item.ensures.added in
     record {
       left = one_fewer _ _ c.in-Some.statement (into_iter_len now.statement-iterator) (into_iter_len c.next.new.self) st.0 st.1 now.invariant.left;
       gathered = λ world allowed.
           let one = StatementItems world (IncludedItems world c.args.levels c.args.file.now) c.args.file.now in
           reach_more behind one start c.args.statements.items here next now.items.items _ front _ more said
-          (now.invariant.gathered world (c.evaluate_item.ensures.grows world allowed)) at
-          (c.in_ok-given-in-Item.ensures.items world allowed) c.in_ok-given-in-Item.ensures.defined c.in_ok-append-in-Item.ensures.items;
-      defined = behind_more start here next now.items.items _ front now.invariant.defined c.in_ok-given-in-Item.ensures.defined c.in_ok-append-in-Item.ensures.items;
-      grows = λ world allowed. now.invariant.grows world (c.evaluate_item.ensures.grows world allowed);
+          (now.invariant.gathered world (c.add_item.ensures.grows world allowed)) at (told world allowed) defined added;
+      defined = behind_more start here next now.items.items _ front now.invariant.defined defined added;
+      grows = λ world allowed. now.invariant.grows world (c.add_item.ensures.grows world allowed);
     }
 
-pub evaluate_all-returns-in_err-given-in-Item-clause-grows : goal.evaluate_all-returns-in_err-given-in-Item-clause-grows
-evaluate_all-returns-in_err-given-in-Item-clause-grows g t c = λ world allowed. c.loop-statement.invariant.grows world (c.evaluate_item.ensures.grows world allowed)
+pub evaluate_all-returns-in_err-add_item-in-Item-clause-grows : goal.evaluate_all-returns-in_err-add_item-in-Item-clause-grows
+evaluate_all-returns-in_err-add_item-in-Item-clause-grows g t c = λ world allowed. c.loop-statement.invariant.grows world (c.add_item.ensures.grows world allowed)
 
 pub evaluate_all-returns-in_err-defined-in-Definition-clause-items : goal.evaluate_all-returns-in_err-defined-in-Definition-clause-items
 evaluate_all-returns-in_err-defined-in-Definition-clause-items g t c = λ world allowed.

@@ -1,20 +1,32 @@
-use Rattle.std.proofs.Common.{◌≡◌, ℕ, ◌<◌, Bool, false, List, length, get_or, nat_eq, sym, ap, ◌∙◌, subst, arith}
+use Rattle.std.proofs.Common.{◌≡◌, ℕ, ◌<◌, Bool, true, false, List, length, get_or, nat_eq, sym, ap, ◌∙◌, subst, arith}
 use Rattle.std.specs.List.{IsDistinct, list_all}
 use Rattle.mk_graph.specs.Edges.{row, has}
 use Rattle.mk_graph.specs.Ring.{IsRing}
 use Rattle.mk_graph.proofs.CycleLemmas.{no_cycle, onward, cycle_from_ring}
+use Rattle.mk_graph.proofs.PlanLemmas.{length_of_passed}
+use Rattle.mk_graph.proofs.PassedLemmas.{all_of_as_many, as_many_of_all}
 use Rattle.mk_graph.proofs.cycles.order_by_users.Goals as goal
 
-pub returns-in_default : goal.returns-in_default
-returns-in_default c = (
-  no_cycle c.args.edges.now c.in_ok-order.order.items c.in_ok-order.ensures.plan
-      (λ q lt.
-      ap (λ l. has l q) (sym c.deref.ensures.value)
-      ∙ sym (c.in_ok-passed.ensures.set q (omega arith))
-      ∙ ap (λ l. get_or l q false) (sym c.deref-2.ensures.value)
-      ∙ c.in_default.ensures.none q (let e : length c.deref-2.result.now ≡ length c.args.edges.now = ap length c.deref-2.ensures.value ∙ c.in_ok-passed.ensures.len ∙ c.len.ensures in omega arith)),
-  c.in_ok-order.ensures.plan,
-)
+pub returns-then-len : goal.returns-then-len
+returns-then-len c =
+    let g = c.args.edges.now in
+    let order = c.in_ok-order.order.items in
+    let many : length order ≡ length g = omega arith in
+    (no_cycle g order c.in_ok-order.ensures.plan (all_of_as_many (length g) order c.in_ok-order.ensures.once c.in_ok-order.ensures.nodes many), c.in_ok-order.ensures.plan)
+
+pub unreachable-requires : goal.unreachable-requires
+unreachable-requires c =
+    let g = c.args.edges.now in
+    let order = c.in_ok-order.order.items in
+    let all : (q : ℕ) → q < length g → has order q ≡ true
+    = λ q lt.
+    ap (λ l. has l q) (sym c.deref.ensures.value)
+    ∙ sym (c.in_ok-passed.ensures.set q (omega arith))
+    ∙ ap (λ l. get_or l q false) (sym c.deref-2.ensures.value)
+    ∙ c.in_default.ensures.none q (let e : length c.deref-2.result.now ≡ length g = ap length c.deref-2.ensures.value ∙ c.in_ok-passed.ensures.len ∙ c.len-3.ensures in omega arith) in
+    let many = as_many_of_all (length g) order c.in_ok-order.ensures.nodes all in
+    let few = length_of_passed g order c.in_ok-order.ensures.once c.in_ok-order.ensures.nodes in
+    omega (arith, many, few)
 
 pub walk-requires-clause-onward : goal.walk-requires-clause-onward
 walk-requires-clause-onward c =

@@ -1,4 +1,4 @@
-use Rattle.std.proofs.Common.{◌≡◌, ℕ, ◌+◌, ◌<◌, ◌≤◌, ◌∷◌, List, length, get_or, take, set, slice_index, sym, ap, ◌∙◌, subst, rules}
+use Rattle.std.proofs.Common.{◌≡◌, ℕ, ◌+◌, ◌<◌, ◌≤◌, ◌∷◌, List, length, get_or, take, set, slice_index, sym, ap, ◌∙◌, subst, rules, arith}
 use Rattle.byte_strings.specs.Pieces.{AreEnds}
 use Rattle.mk_graph.specs.Edges.{times}
 use Rattle.mk_graph.specs.Users.{filled}
@@ -69,3 +69,12 @@ bounds-users-place c =
     place_within c.args.prerequisites.now c.loop-prerequisite.next c.args.next.now c.args.ends.now c.loop-prerequisite.users c.loop-prerequisite.prerequisite-index c.loop-prerequisite-test.true
     c.loop-prerequisite.invariant.counted c.requires.rows c.requires.room (subst (λ k. AreEnds k 0 c.args.ends.now) (sym c.loop-prerequisite.auto.users) c.requires.ends)
     (c.loop-prerequisite.auto.next ∙ c.requires.nodes) c.if-number-ends.true
+
+pub overflow_add-next : goal.overflow_add-next
+overflow_add-next c =
+    let ends = c.args.ends.now in
+    let p = get_or c.args.prerequisites.now c.loop-prerequisite.prerequisite-index 0 in
+    let room = some_room c.args.prerequisites.now c.loop-prerequisite.next c.args.next.now (length ends) c.loop-prerequisite.prerequisite-index c.loop-prerequisite-test.true
+    c.loop-prerequisite.invariant.counted ends c.requires.room c.if-number-ends.true in
+    let fits = c.type_inv.ends p in
+    omega (arith, room, fits)

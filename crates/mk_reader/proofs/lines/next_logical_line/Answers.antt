@@ -1,4 +1,4 @@
-use Rattle.std.proofs.Common.{◌≡◌, ◌∷◌, ◌∙◌, ap, Some, option_copied}
+use Rattle.std.proofs.Common.{◌∷◌, ◌∙◌, ap, Some, option_copied}
 use Rattle.mk_reader.specs.Lines.{physical, logical_lines}
 use Rattle.mk_reader.proofs.LinesLemmas.{logical_lines-cons, logical_line-is}
 use Rattle.mk_reader.proofs.lines.next_logical_line.Goals as goal

@@ -1,12 +1,12 @@
 use Rattle.std.proofs.Common.{List, option_copied}
 use Rattle.mk_reader.specs.Lines.{logical_lines, size_left}
-use Rattle.mk_reader.specs.Statements.{AreStatements, ComesTo}
+use Rattle.mk_reader.specs.Statements.{AreStatements, Comes}
 use Rattle.mk_reader.specs.declared.item.Statement.{Statement}
 use Rattle.mk_reader.proofs.statements.statements_of.Given as goal
 
 abbrev pub invariant-loop-left : goal.invariant-loop-left
 invariant-loop-left l = (whole : List Statement)
-    → ComesTo l.profile l.file l.gathered.statements.items l.gathered.unfinished (logical_lines l.number (option_copied l.left)) whole
+    → Comes l.profile l.file l.gathered.statements.items l.gathered.is_open (logical_lines l.number (option_copied l.left)) whole
     → AreStatements l.profile l.file l.text whole
 
 abbrev pub decreases-loop-left : goal.decreases-loop-left

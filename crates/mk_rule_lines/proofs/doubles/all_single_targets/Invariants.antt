@@ -1,4 +1,4 @@
-use Rattle.std.proofs.Common.{◌≡◌, [], drop}
+use Rattle.std.proofs.Common.{◌≡◌, drop}
 use Rattle.std.specs.List.{flat_map}
 use Rattle.mk_graph.specs.Numbering.{all_added}
 use Rattle.mk_rule_lines.specs.Kinded.{single_targets, all_single_targets}

@@ -13,7 +13,7 @@ loop-item-init c =
     let count : into_iter_len c.into_iter-item-iterator.result ≡ length c.args.items.items = search rules in
     record {
       left = count ∙ sym (ap length gives.0);
-      so_far = rw (gives.0, c.new-lines.ensures.items) (so_far_start (defined_by c.args.macros.now) c.args.items.items);
+      so_far = rw (gives.0, c.in_ok-lines.ensures.items) (so_far_start (defined_by c.args.macros.now) c.args.items.items);
     }
 
 pub loop-item-preserved-in-Definition : goal.loop-item-preserved-in-Definition

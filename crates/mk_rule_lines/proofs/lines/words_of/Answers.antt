@@ -9,6 +9,6 @@ returns-then-is_plain-clause-words c =
     let names = rule_meanings (defined_by c.args.macros.now) in
     record {
       expansion = c.args.text;
-      expands = subst (λ (t : List ℕ). ExpandsTo names t (gives t)) c.as_slice.ensures (c.if-is_plain.ensures refl names);
-      cut = c.new.ensures ∙ ap words c.into_vec.ensures;
+      expands = subst (λ (t : List ℕ). ExpandsTo names t (gives t)) c.as_slice.ensures (c.if-is_plain.ensures.expands refl names);
+      cut = c.plain.ensures ∙ ap words c.into_vec.ensures;
     }

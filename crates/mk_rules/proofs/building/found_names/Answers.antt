@@ -1,7 +1,7 @@
 use Rattle.std.proofs.Common.{◌<◌, ℕ, ℤ, List, Option, length, ap, subst, refl}
 use Rattle.std.specs.FinMap as map
 use Rattle.mk_graph.specs.Numbering.{IsNumbering}
-use Rattle.mk_rules.specs.declared.known.Known.{Known}
+use Rattle.mk_rules.specs.declared.graph.Node.{Node}
 use Rattle.mk_rules.specs.Found.{AreFound, IsFindingFault}
 use Rattle.mk_rules.specs.Known.{IsKnown, IsAllowed, IsLookUpFault}
 use Rattle.mk_rules.specs.Prerequisites.{Inputs, inputs_of, prerequisites_of}
@@ -20,7 +20,7 @@ returns-in-Ok-clause-found g c = λ times now.
       names_are = e.names of (record { times = times; now = now; is = refl });
       rows_are = e.rows of (record { times = times; now = now; is = refl });
       goals_are = e.goals;
-      known = described_at (λ name (known : Known). (any : List ℕ → Option ℤ) → g.T.Tree.allows c.number.new.source.tree.now any → IsKnown (inputs_of ends.lines.now (map.get ends.state.now) any) name known)
+      known = described_at (λ name (known : Node). (any : List ℕ → Option ℤ) → g.T.Tree.allows c.number.new.source.tree.now any → IsKnown (inputs_of ends.lines.now (map.get ends.state.now) any) name known)
           (IsKnown inputs) _ _ (λ name node is. is times now) e.described;
     })
 

@@ -6,6 +6,7 @@ use Rattle.mk_rule_lines.specs.Rules.{recipe_places}
 use Rattle.mk_rule_lines.specs.Goals.{goals_of}
 use Rattle.mk_rule_lines.specs.Taken.{AreTaken}
 use Rattle.mk_rule_lines.specs.declared.rule_line.RuleLine.{RuleLine}
+use Rattle.mk_rules.specs.Node.{EachHasOneNumber}
 use Rattle.mk_rules.specs.Prerequisites.{Inputs, is_target}
 use Rattle.mk_rule_lines.specs.declared.fault.RuleFault.TheVariants.{OutOfMemory}
 use Rattle.mk_rules.proofs.AssemblyLemmas.{unmade_fault}
@@ -43,14 +44,14 @@ order_found-requires-clause-made c = λ inputs are known.
     let same : c.deref-2.result.now ≡ c.deref.result.now = cc in
     c.in_ok-check_made.ensures.made inputs (are ∙ same) known
 
-pub returns-in_err-ordered-clause-fault : goal.returns-in_err-ordered-clause-fault
-returns-in_err-ordered-clause-fault c =
+pub returns-in_err-named-clause-fault : goal.returns-in_err-named-clause-fault
+returns-in_err-named-clause-fault c =
     let lines = c.args.makefile.lines.items in
     let n = c.args.numbered in
     handed_on _
     (λ f. (inputs : Inputs) → (named : List (List ℕ)) → inputs.lines ≡ lines → AreFound inputs (goals_of inputs.lines named) n → IsGraphlessFault inputs named f)
-    c.in_err-ordered.field-0.0 (c.from_residual-in_err-ordered.ensures).1
-    (λ inputs named are found. let same : lines ≡ c.deref-2.result.now = cc in c.in_err-ordered.ensures.fault inputs named (are ∙ same) found)
+    c.in_err-named.field-0.0 (c.from_residual-in_err-named.ensures).1
+    (λ inputs named are found. let same : lines ≡ c.deref-2.result.now = cc in c.in_err-named.ensures.fault inputs named (are ∙ same) found)
 
 pub returns-in_err-put_together-clause-fault : goal.returns-in_err-put_together-clause-fault
 returns-in_err-put_together-clause-fault c =
@@ -63,8 +64,8 @@ returns-in_err-put_together-clause-fault c =
 pub returns-clause-graph : goal.returns-clause-graph
 returns-clause-graph c = λ inputs named are entries found.
     let same : c.args.makefile.lines.items ≡ c.deref-2.result.now = cc in
-    c.in_ok-ordered.ensures.graph inputs named (are ∙ same) found c.args.state entries c.in_ok-put_together.field-0
+    c.in_ok-named.ensures.graph inputs named (are ∙ same) found c.args.state entries c.in_ok-put_together.field-0
     (rw (sym c.deref-2.ensures.value) at c.in_ok-put_together.ensures.graph)
 
 pub put_together-requires-clause-names : goal.put_together-requires-clause-names
-put_together-requires-clause-names c = distinct_numbers c.args.numbered.names c.requires.names
+put_together-requires-clause-names c = subst EachHasOneNumber (sym c.in_ok-named.ensures.named.names) (distinct_numbers c.args.numbered.names c.requires.names)

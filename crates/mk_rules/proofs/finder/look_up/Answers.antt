@@ -1,5 +1,6 @@
-use Rattle.std.proofs.Common.{ℕ, ℤ, List, Option, ap, subst, ◌∙◌}
+use Rattle.std.proofs.Common.{ℕ, ℤ, List, Option, ◌++◌, ap, subst, ◌∙◌}
 use Rattle.std.specs.FinMap as map
+use Rattle.mk_rule_lines.specs.Explicit.{explicit_of}
 use Rattle.mk_rule_lines.proofs.LineLemmas.{handed_on}
 use Rattle.mk_rule_lines.proofs.ResultLemmas.{if_ok, if_err}
 use Rattle.mk_rules.specs.Hidden.{IsNamesFault}
@@ -13,7 +14,7 @@ use Rattle.mk_rules.proofs.finder.look_up.Goals as goal
 
 pub numbered-requires : goal.numbered-requires
 numbered-requires g c = record {
-  noted = λ times now. c.requires.noted times (c.in_ok-seen.ensures.looks.narrows times now);
+  noted = λ times now. rw c.recorded-entry.ensures.marks (c.requires.noted times (c.in_ok-seen.ensures.looks.narrows times now));
   distinct = c.requires.distinct;
 }
 
@@ -31,8 +32,11 @@ returns-clause-prerequisites g c =
     (λ found are times now.
     let inputs = inputs_of rules.lines.now (map.get rules.state.now) times in
     let row = named c.numbered.new.names found.prerequisites.items in
-    all_are inputs name c.in_ok-seen.seen (c.in_ok-seen.ensures.seen times (c.numbered.ensures.looks.narrows times now)) row found.node
-    (subst (λ (h : List (List ℕ)). IsNumberedAs (is_node inputs) c.in_ok-seen.seen h row found.node) (ap hidden_in c.entry-entry.ensures) (are times now))
+    let seen = c.in_ok-seen.seen in
+    let is = c.in_ok-seen.ensures.seen times (c.numbered.ensures.looks.narrows times now) in
+    all_are inputs name seen is row found.node
+    (subst (λ (h : List (List ℕ)). IsNumberedAs (is_node inputs) seen.node (seen.made ++ explicit_of rules.lines.now name) h seen.order_only row found.node)
+    (ap hidden_in c.recorded-entry.ensures.entry) (are times now name is.lines_are))
     ∙ ap (prerequisites_of inputs) c.name-name.ensures)
     c.numbered.ensures.prerequisites
 
@@ -44,9 +48,12 @@ returns-clause-node g c =
     (λ found are times now.
     let inputs = inputs_of rules.lines.now (map.get rules.state.now) times in
     let row = named c.numbered.new.names found.prerequisites.items in
+    let seen = c.in_ok-seen.seen in
+    let is = c.in_ok-seen.ensures.seen times (c.numbered.ensures.looks.narrows times now) in
     subst (λ (n : List ℕ). IsKnown inputs n found.node) c.name-name.ensures
-    (known_is inputs name c.in_ok-seen.seen (c.in_ok-seen.ensures.seen times (c.numbered.ensures.looks.narrows times now)) row found.node
-    (subst (λ (h : List (List ℕ)). IsNumberedAs (is_node inputs) c.in_ok-seen.seen h row found.node) (ap hidden_in c.entry-entry.ensures) (are times now))))
+    (known_is inputs name seen is row found.node
+    (subst (λ (h : List (List ℕ)). IsNumberedAs (is_node inputs) seen.node (seen.made ++ explicit_of rules.lines.now name) h seen.order_only row found.node)
+    (ap hidden_in c.recorded-entry.ensures.entry) (are times now name is.lines_are))))
     c.numbered.ensures.prerequisites
 
 pub returns-clause-looks : goal.returns-clause-looks
@@ -62,7 +69,7 @@ returns-clause-fault g c =
     (λ f meets.
     subst (λ (n : List ℕ). IsLookUpFault rules.targets.now allowed refuses rules.forms.now rules.steps rules.lines.now entries n f) c.name-name.ensures
     (hidden_look rules.targets.now allowed refuses rules.forms.now rules.steps rules.lines.now c.name-name.result.now entries f
-    (subst (λ (h : List (List ℕ)). IsNamesFault refuses h f) (ap hidden_in c.entry-entry.ensures) meets)))
+    (subst (λ (h : List (List ℕ)). IsNamesFault refuses h f) (ap hidden_in c.recorded-entry.ensures.entry) meets)))
     c.numbered.ensures.fault
 
 pub returns-in_err-seen-clause-fault : goal.returns-in_err-seen-clause-fault

@@ -1,26 +1,44 @@
-use Rattle.std.proofs.Common.{◌≡◌, ℕ, ℤ, List, Option, true, sym, ap, ◌∙◌}
+use Rattle.std.proofs.Common.{◌≡◌, ◌<◌, ℕ, ℤ, List, Option, length, true, sym, ap, subst, ◌∙◌}
+use Rattle.std.specs.Prelude.{IfSome}
 use Rattle.std.specs.FinMap as map
+use Rattle.mk_graph.specs.Numbering.{name_at}
 use Rattle.mk_rule_lines.proofs.LineLemmas.{handed_on}
 use Rattle.mk_rules.specs.Prerequisites.{inputs_of, is_node}
 use Rattle.mk_rules.specs.Hidden.{IsNamesFault}
 use Rattle.mk_rules.specs.LooksLaws.{looks_none}
+use Rattle.mk_rules.specs.NodeNotes.{is_marked, AreKnownNodes}
 use Rattle.mk_rules.proofs.RowLemmas.{added_known}
 use Rattle.mk_rules.proofs.HiddenLemmas.{names_fault, text_where_refused}
 use Rattle.mk_rules.proofs.hidden.node_number.Goals as goal
 
 pub returns-in-Some-clause-number : goal.returns-in-Some-clause-number
 returns-in-Some-clause-number g c =
-    let is = c.in-Some.ensures.name in
-    (added_known c.args.names.now c.args.name.now c.in-Some.number is.0 is.1, is.0, is.1)
+    let names = c.args.names.now in
+    let name = c.args.name.now in
+    let is = subst (λ (o : Option ℕ). IfSome o (λ (n : ℕ). (n < length names) × (name_at names n ≡ name))) c.in-Some.is c.in_ok-known.ensures.name in
+    (added_known names name c.in-Some.number is.0 is.1, is.0, is.1)
 
 pub returns-in-Some-clause-node : goal.returns-in-Some-clause-node
 returns-in-Some-clause-node g c = λ times now.
     let rules = c.args.rules.now in
+    let names = c.args.names.now in
+    let name = c.args.name.now in
     let p = is_node (inputs_of rules.lines.now (map.get rules.state.now) times) in
-    sym (ap p (sym c.in-Some.ensures.name.1) ∙ (c.requires times now c.in-Some.number c.in-Some.ensures.marked).1)
+    let is = subst (λ (o : Option ℕ). IfSome o (λ (n : ℕ). (n < length names) × (name_at names n ≡ name))) c.in-Some.is c.in_ok-known.ensures.name in
+    let marked = subst (λ (o : Option ℕ). IfSome o (λ (n : ℕ). is_marked c.args.notes.now.marks.items n ≡ true)) c.in-Some.is c.in_ok-known.ensures.marked in
+    sym (ap p (sym is.1) ∙ (c.requires times now c.in-Some.number marked).1)
+
+pub returns-in-Some-clause-noted : goal.returns-in-Some-clause-noted
+returns-in-Some-clause-noted g c = λ times now.
+    let rules = c.args.rules.now in
+    let p = is_node (inputs_of rules.lines.now (map.get rules.state.now) times) in
+    subst (AreKnownNodes p c.args.names.now) (sym c.in_ok-known.ensures.same) (c.requires times now)
 
 pub returns-then-not-branch-clause-noted : goal.returns-then-not-branch-clause-noted
-returns-then-not-branch-clause-noted g c = λ times now. c.requires times (c.in_ok-is_node.ensures.looks.narrows times now)
+returns-then-not-branch-clause-noted g c = λ times now.
+    let rules = c.args.rules.now in
+    let p = is_node (inputs_of rules.lines.now (map.get rules.state.now) times) in
+    subst (AreKnownNodes p c.args.names.now) (sym c.in_ok-known.ensures.same) (c.requires times (c.in_ok-is_node.ensures.looks.narrows times now))
 
 pub returns-clause-noted : goal.returns-clause-noted
 returns-clause-noted g c = λ times now.
@@ -28,4 +46,5 @@ returns-clause-noted g c = λ times now.
     let p = is_node (inputs_of rules.lines.now (map.get rules.state.now) times) in
     let told = c.in_ok-is_node.ensures.node times now in
     let yes : p c.args.name.now ≡ true = cc in
-    c.in_ok-number.ensures.known p yes (c.requires times (c.in_ok-is_node.ensures.looks.narrows times now))
+    c.in_ok-number.ensures.known p yes
+    (subst (AreKnownNodes p c.args.names.now) (sym c.in_ok-known.ensures.same) (c.requires times (c.in_ok-is_node.ensures.looks.narrows times now)))

@@ -1,16 +1,38 @@
-use Rattle.std.proofs.lemmas.Result.{err_from_is_err_and}
-use Rattle.st_records.specs.Reading.{items_at}
-use Rattle.st_records.proofs.Items.{goes_on, ends, is_done}
+use Rattle.std.proofs.Common.{◌≡◌, ◌-◌, ◌∙◌, ℕ, List, length, take, drop, Ok, ap, sym, subst, arith}
+use Rattle.byte_strings.specs.Texts.{texts, AreTexts}
+use Rattle.st_records.specs.Clean.{AreClean}
+use Rattle.st_records.proofs.Texts.{are_read}
 use Rattle.st_records.proofs.decoder.items_of.Goals as goal
 
-pub returns-in_err-item : goal.returns-in_err-item
-returns-in_err-item c =
-    let p = err_from_is_err_and c.from_residual-in_err-item.result c.from_residual-in_err-item.ensures.1 in
-    rw (p.1, p.2) (ends c.in_err-item.field-0.0 c.loop.items c.args.count c.loop.counter c.loop.rest.now (items_at c.args.count c.args.bytes.now) c.loop-test.true c.in_err-item.ensures.gives c.loop.invariant)
+pub overflow_sub-bytes : goal.overflow_sub-bytes
+overflow_sub-bytes c =
+    let has = c.in_ok-found.ensures.items in
+    let read = are_read c.args.count c.args.bytes.now (has.0, c.in_ok-found.behind.now) has.1 in
+    omega (arith, read.1)
 
-pub loop-preserved : goal.loop-preserved
-loop-preserved c =
-    rw c.in_ok-push.ensures.ok (goes_on c.loop.items c.args.count c.loop.counter c.loop.rest.now c.in_ok-item.item.now c.in_ok-item.after.now (items_at c.args.count c.args.bytes.now) c.loop-test.true c.in_ok-item.ensures.gives c.loop.invariant)
+pub new-requires : goal.new-requires
+new-requires c =
+    let has = c.in_ok-found.ensures.items in
+    let read = are_read c.args.count c.args.bytes.now (has.0, c.in_ok-found.behind.now) has.1 in
+    let cut : length c.args.bytes.now - length c.in_ok-found.behind.now ≡ read.0 = omega (arith, read.1) in
+    let front : c.split_at.result.0.now ≡ take read.0 c.args.bytes.now = c.split_at.ensures.front ∙ ap (λ (n : ℕ). take n c.args.bytes.now) cut in
+    subst (AreTexts c.args.count) (sym front) read.2
 
-pub returns : goal.returns
-returns c = is_done c.loop.items c.args.count c.loop.counter c.loop.rest.now (items_at c.args.count c.args.bytes.now) c.loop-test.false c.loop.invariant
+pub returns-clause-gives : goal.returns-clause-gives
+returns-clause-gives c =
+    let has = c.in_ok-found.ensures.items in
+    let read = are_read c.args.count c.args.bytes.now (has.0, c.in_ok-found.behind.now) has.1 in
+    let cut : length c.args.bytes.now - length c.in_ok-found.behind.now ≡ read.0 = omega (arith, read.1) in
+    let front : c.split_at.result.0.now ≡ take read.0 c.args.bytes.now = c.split_at.ensures.front ∙ ap (λ (n : ℕ). take n c.args.bytes.now) cut in
+    let items : has.0 ≡ c.new.result = read.3 ∙ ap (texts c.args.count) (sym front) ∙ sym c.new.ensures in
+    let rest : c.in_ok-found.behind.now ≡ c.split_at.result.1.now = read.4 ∙ ap (λ (n : ℕ). drop n c.args.bytes.now) (sym cut) ∙ sym c.split_at.ensures.back in
+    has.1 ∙ ap (λ (x : List (List ℕ)). Ok (x, c.in_ok-found.behind.now)) items ∙ ap (λ (y : List ℕ). Ok (c.new.result, y)) rest
+
+pub returns-clause-clean : goal.returns-clause-clean
+returns-clause-clean c =
+    let has = c.in_ok-found.ensures.items in
+    let read = are_read c.args.count c.args.bytes.now (has.0, c.in_ok-found.behind.now) has.1 in
+    let cut : length c.args.bytes.now - length c.in_ok-found.behind.now ≡ read.0 = omega (arith, read.1) in
+    let front : c.split_at.result.0.now ≡ take read.0 c.args.bytes.now = c.split_at.ensures.front ∙ ap (λ (n : ℕ). take n c.args.bytes.now) cut in
+    let items : has.0 ≡ c.new.result = read.3 ∙ ap (texts c.args.count) (sym front) ∙ sym c.new.ensures in
+    λ found. (let before = has.2 found in (before.0, subst (AreClean c.args.version) items before.1))

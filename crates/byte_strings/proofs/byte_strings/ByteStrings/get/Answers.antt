@@ -1,33 +1,18 @@
-use Rattle.std.proofs.Common.{◌≡◌, ◌∷◌, get_or, sym, rules, arith}
-use Rattle.std.proofs.lemmas.Option.{slice_get_past}
-use Rattle.byte_strings.specs.Pieces.{pieces}
-use Rattle.byte_strings.proofs.PieceLemmas.{found_at, length-pieces}
+use Rattle.std.proofs.Common.{◌≡◌, List, ℕ, drop, sym, ap, ◌∙◌, rules}
+use Rattle.std.specs.Prelude.{slice_get}
+use Rattle.byte_strings.proofs.TextLemmas.{one_passed, none_left, first_left, next_left}
 use Rattle.byte_strings.proofs.byte_strings.ByteStrings.get.Goals as goal
 
-pub returns-then-index-len : goal.returns-then-index-len
-returns-then-index-len c =
-    let past = slice_get_past (pieces c.self.inside.bytes.items 0 c.self.inside.ends.items) c.args.index (omega (arith, length-pieces c.self.inside.bytes.items 0 c.self.inside.ends.items)) in
-    rw (← c.self.view_is) (sym past)
+pub returns-in_err-_passed : goal.returns-in_err-_passed
+returns-in_err-_passed c =
+    let none = none_left c.args.self.now c.loop.counter c.args.index c.loop-test.true (sym c.loop.invariant ∙ c.in_err-_passed.ensures.steps.0) in
+    rw c.from_residual.ensures (sym none)
 
-pub slice_bounds-result-count : goal.slice_bounds-result-count
-slice_bounds-result-count c =
-    let start : c.start_of-start.result ≡ get_or (0 ∷ c.self.inside.ends.items) c.args.index 0 = rw c.deref.ensures.value at c.start_of-start.ensures in
-    (found_at c.self.inside.bytes.items c.self.inside.ends.items c.args.index _ _ c.self.invariant (omega arith) start c.index-end.ensures).0
-
-pub slice_bounds-result-start : goal.slice_bounds-result-start
-slice_bounds-result-start c =
-    let start : c.start_of-start.result ≡ get_or (0 ∷ c.self.inside.ends.items) c.args.index 0 = rw c.deref.ensures.value at c.start_of-start.ensures in
-    let found = found_at c.self.inside.bytes.items c.self.inside.ends.items c.args.index c.start_of-start.result c.index-end.result.now c.self.invariant (omega arith) start c.index-end.ensures in
-    search (rules, found.0, found.1)
-
-pub slice_bounds-result-end : goal.slice_bounds-result-end
-slice_bounds-result-end c =
-    let start : c.start_of-start.result ≡ get_or (0 ∷ c.self.inside.ends.items) c.args.index 0 = rw c.deref.ensures.value at c.start_of-start.ensures in
-    let found = found_at c.self.inside.bytes.items c.self.inside.ends.items c.args.index c.start_of-start.result c.index-end.result.now c.self.invariant (omega arith) start c.index-end.ensures in
-    search (rules, found.0, found.1)
+pub loop-preserved : goal.loop-preserved
+loop-preserved c = one_passed c.args.self.now c.next.new.self c.loop.counter c.in_ok-_passed._passed.now (sym c.loop.invariant ∙ c.in_ok-_passed.ensures.steps)
 
 pub returns : goal.returns
 returns c =
-    let start : c.start_of-start.result ≡ get_or (0 ∷ c.self.inside.ends.items) c.args.index 0 = rw c.deref.ensures.value at c.start_of-start.ensures in
-    let found = found_at c.self.inside.bytes.items c.self.inside.ends.items c.args.index c.start_of-start.result c.index-end.result.now c.self.invariant (omega arith) start c.index-end.ensures in
-    rw (c.deref-2.ensures.value, ← c.self.view_is) (sym found.2)
+    let at : c.loop.counter ≡ c.args.index = search rules in
+    let left : c.loop.left ≡ drop c.args.index c.args.self.now = rw at at c.loop.invariant in
+    next_left c.loop.left c.next-2.new.self c.next-2.result c.next-2.ensures.steps ∙ ap (λ (l : List (List ℕ)). slice_get l 0) left ∙ first_left c.args.self.now c.args.index

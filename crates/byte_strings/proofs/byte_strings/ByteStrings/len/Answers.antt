@@ -1,6 +1,6 @@
-use Rattle.std.proofs.Common.{arith}
-use Rattle.byte_strings.proofs.PieceLemmas.{length-pieces}
+use Rattle.std.proofs.Common.{sym}
+use Rattle.byte_strings.proofs.TextLemmas.{length-texts}
 use Rattle.byte_strings.proofs.byte_strings.ByteStrings.len.Goals as goal
 
 pub returns : goal.returns
-returns c = rw (← c.self.view_is) (omega (arith, length-pieces c.self.inside.bytes.items 0 c.self.inside.ends.items))
+returns c = rw (← c.self.view_is) (sym (length-texts c.self.inside.count c.self.inside.bytes.items))

@@ -19,11 +19,11 @@ loop-node-preserved c =
     let longer : c.extend_from_slice-in-loop-node.new.self.items ≡ numbers ++ both
     = c.in_ok-extend_from_slice-2.ensures.items ∙ ap (λ l. l ++ c.row-in-loop-node.result.now) c.in_ok-extend_from_slice.ensures.items
     ∙ append_assoc numbers c.row.result.now c.row-in-loop-node.result.now ∙ ap (λ l. numbers ++ (l ++ c.row-in-loop-node.result.now)) c.row.ensures ∙ ap (λ l. numbers ++ (row first node ++ l)) c.row-in-loop-node.ensures in
-    let size : c.len-in-loop-node.result ≡ length (numbers ++ both) = omega (arith, ap length longer) in
+    let size : c.in_ok-end.end ≡ length (numbers ++ both) = omega (arith, c.in_ok-end.ensures, ap length longer) in
     record {
-      ends = rw (longer, c.in_ok-push.ensures.items) (AreEnds-push numbers both c.len-in-loop-node.result 0 ends c.loop-node.invariant.ends size);
+      ends = rw (longer, c.in_ok-push.ensures.items) (AreEnds-push numbers both c.in_ok-end.end 0 ends c.loop-node.invariant.ends size);
       rows = rw (longer, c.in_ok-push.ensures.items)
-          (pieces-push numbers both c.len-in-loop-node.result 0 ends c.loop-node.invariant.ends size
+          (pieces-push numbers both c.in_ok-end.end 0 ends c.loop-node.invariant.ends size
           ∙ ap (λ l. l ++ both ∷ []) c.loop-node.invariant.rows
           ∙ ap (λ r. take node (joined first second) ++ r ∷ []) (sym (row-joined first second c.requires node))
           ∙ sym (take_more (joined first second) node [] (let l = length-joined first second in omega arith)));

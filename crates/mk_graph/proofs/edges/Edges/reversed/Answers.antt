@@ -1,10 +1,9 @@
-use Rattle.std.proofs.Common.{◌≡◌, ℕ, ◌+◌, ◌<◌, ◌∷◌, List, length, slice_index, sum_by, take, sym, ap, ◌∙◌, arith, rules}
-use Rattle.std.proofs.lemmas.List.{with_items_is}
-use Rattle.std.proofs.lemmas.Grind.{common_steps}
+use Rattle.std.proofs.Common.{◌≡◌, ℕ, ◌+◌, ◌<◌, ◌≤◌, ◌∷◌, List, length, slice_index, sum, sum_by, take, sym, ap, ◌∙◌, subst, arith, rules}
+use Rattle.std.proofs.lemmas.List.{with_items_is, length-take-le}
 use Rattle.byte_strings.specs.Pieces.{pieces, AreEnds}
 use Rattle.mk_graph.specs.Edges.{times}
 use Rattle.mk_graph.specs.Users.{ends_from}
-use Rattle.mk_graph.proofs.UserLemmas.{Fills, times-pieces, as_many, up_to, row_end, fills_none, room_left, within_rows, fills_more, refilled, all_noted}
+use Rattle.mk_graph.proofs.UserLemmas.{Fills, times-pieces, as_many, up_to, row_end, fills_none, room_left, within_rows, fills_more, refilled, all_noted, last_end, sized}
 use Rattle.mk_graph.proofs.edges.Edges.reversed.Goals as goal
 
 -- how many users each node has
@@ -17,6 +16,14 @@ row_ends : (counts ends : List ℕ) (g : List (List ℕ)) → ends ≡ ends_from
     → (n : ℕ) → n < length g → slice_index ends n ≡ slice_index (0 ∷ ends) n + sum_by (times n) g
 row_ends counts ends g made same all n below = row_end counts ends made n (omega arith) ∙ ap (λ k. slice_index (0 ∷ ends) n + k) (all n below)
 
+-- how long the users are once the rest is cut off
+cut_to_size : (counts ends numbers users : List ℕ) (limit last : ℕ) → ends ≡ ends_from 0 counts → sum counts ≤ length numbers
+    → limit ≡ slice_index (0 ∷ ends) last → last ≡ length ends → users ≡ take limit numbers → length users ≡ slice_index (0 ∷ ends) (length ends)
+cut_to_size counts ends numbers users limit last made few at end cut =
+    let whole : slice_index (0 ∷ ends) (length ends) ≡ sum counts = last_end (sum counts) 0 ends (sized counts ends made) in
+    let same : limit ≡ slice_index (0 ∷ ends) (length ends) = at ∙ ap (slice_index (0 ∷ ends)) end in
+    ap length cut ∙ length-take-le limit numbers (omega arith) ∙ same
+
 pub loop-node-init : goal.loop-node-init
 loop-node-init c =
     let g = c.args.self.now in
@@ -25,7 +32,7 @@ loop-node-init c =
     let made : ends ≡ ends_from 0 counts = c.in_ok-ends.ensures ∙ ap (ends_from 0) c.deref-2.ensures.value in
     let many : length ends ≡ length g = as_many counts ends made ∙ c.in_ok-counts.ensures.nodes ∙ c.len.ensures in
     record {
-      fills = fills_none g c.in_ok-users.users.items ends c.in_ok-next.next.items many (c.in_ok-next.ensures ∙ ap (λ l. take (length l) (0 ∷ l)) c.deref-3.ensures.value);
+      fills = fills_none g c.truncate.new.self.items ends c.in_ok-next.next.items many (c.in_ok-next.ensures ∙ ap (λ l. take (length l) (0 ∷ l)) c.deref-3.ensures.value);
       size = search rules;
     }
 
@@ -35,9 +42,11 @@ note_user-requires-clause-ends c =
     let ends = c.in_ok-ends.ends.items in
     let made : ends ≡ ends_from 0 counts = c.in_ok-ends.ensures ∙ ap (ends_from 0) c.deref-2.ensures.value in
     let many : c.len-2.result ≡ length ends = omega arith in
-    let made_long : length c.in_ok-users.users.items ≡ c.start_of.result = grind (arith, common_steps, c.in_ok-users.ensures.len) in
-    let size : length c.in_ok-users.users.items ≡ slice_index (0 ∷ ends) (length ends)
-    = made_long ∙ c.start_of.ensures ∙ ap (λ l. slice_index (0 ∷ l) c.len-2.result) c.deref-4.ensures.value ∙ ap (slice_index (0 ∷ ends)) many in
+    let few : sum counts ≤ length c.self.inside.numbers.items = subst (λ l. sum counts ≤ length l) c.deref.ensures.value c.in_ok-counts.ensures.sum in
+    let size : length c.truncate.new.self.items ≡ slice_index (0 ∷ ends) (length ends)
+    = cut_to_size counts ends c.self.inside.numbers.items c.truncate.new.self.items c.start_of.result c.len-2.result made few
+    (c.start_of.ensures ∙ ap (λ l. slice_index (0 ∷ l) c.len-2.result) c.deref-4.ensures.value) many
+    (c.truncate.ensures.items ∙ ap (take c.start_of.result) (c.in_ok-users.ensures.items ∙ c.as_slice.ensures.value)) in
     rw (c.deref_mut-in-loop-node.ensures.value, c.deref-in-loop-node.ensures.value) (up_to counts ends made (length c.loop-node.users.items) (c.loop-node.invariant.size ∙ size))
 
 pub note_user-requires-clause-nodes : goal.note_user-requires-clause-nodes
@@ -106,9 +115,11 @@ invariant_of-result c =
     let ends = c.in_ok-ends.ends.items in
     let made : ends ≡ ends_from 0 counts = c.in_ok-ends.ensures ∙ ap (ends_from 0) c.deref-2.ensures.value in
     let many : c.len-2.result ≡ length ends = omega arith in
-    let made_long : length c.in_ok-users.users.items ≡ c.start_of.result = grind (arith, common_steps, c.in_ok-users.ensures.len) in
-    let size : length c.in_ok-users.users.items ≡ slice_index (0 ∷ ends) (length ends)
-    = made_long ∙ c.start_of.ensures ∙ ap (λ l. slice_index (0 ∷ l) c.len-2.result) c.deref-4.ensures.value ∙ ap (slice_index (0 ∷ ends)) many in
+    let few : sum counts ≤ length c.self.inside.numbers.items = subst (λ l. sum counts ≤ length l) c.deref.ensures.value c.in_ok-counts.ensures.sum in
+    let size : length c.truncate.new.self.items ≡ slice_index (0 ∷ ends) (length ends)
+    = cut_to_size counts ends c.self.inside.numbers.items c.truncate.new.self.items c.start_of.result c.len-2.result made few
+    (c.start_of.ensures ∙ ap (λ l. slice_index (0 ∷ l) c.len-2.result) c.deref-4.ensures.value) many
+    (c.truncate.ensures.items ∙ ap (take c.start_of.result) (c.in_ok-users.ensures.items ∙ c.as_slice.ensures.value)) in
     up_to counts ends made (length c.loop-node.users.items) (c.loop-node.invariant.size ∙ size)
 
 pub returns : goal.returns

@@ -9,8 +9,8 @@ start_of-start-requires c =
     let v = ap length c.self.view_is in
     rw c.deref.ensures.value (omega (arith, c.requires, e, v))
 
-pub index-end-requires : goal.index-end-requires
-index-end-requires c =
+pub index-requires : goal.index-requires
+index-requires c =
     let e = length-pieces c.self.inside.numbers.items 0 c.self.inside.ends.items in
     let v = ap length c.self.view_is in
     let within : c.args.node < length c.self.inside.ends.items = omega (arith, c.requires, e, v) in
@@ -21,14 +21,14 @@ slice_bounds-result-count c =
     let e = length-pieces c.self.inside.numbers.items 0 c.self.inside.ends.items in
     let v = ap length c.self.view_is in
     let start : c.start_of-start.result ≡ get_or (0 ∷ c.self.inside.ends.items) c.args.node 0 = rw c.deref.ensures.value at c.start_of-start.ensures in
-    (row_at c.self.inside.numbers.items c.self.inside.ends.items c.args.node _ _ c.self.invariant (omega (arith, c.requires, e, v)) start c.index-end.ensures).0
+    (row_at c.self.inside.numbers.items c.self.inside.ends.items c.args.node _ _ c.self.invariant (omega (arith, c.requires, e, v)) start c.index.ensures).0
 
 pub slice_bounds-result-start : goal.slice_bounds-result-start
 slice_bounds-result-start c =
     let e = length-pieces c.self.inside.numbers.items 0 c.self.inside.ends.items in
     let v = ap length c.self.view_is in
     let start : c.start_of-start.result ≡ get_or (0 ∷ c.self.inside.ends.items) c.args.node 0 = rw c.deref.ensures.value at c.start_of-start.ensures in
-    let found = row_at c.self.inside.numbers.items c.self.inside.ends.items c.args.node c.start_of-start.result c.index-end.result.now c.self.invariant (omega (arith, c.requires, e, v)) start c.index-end.ensures in
+    let found = row_at c.self.inside.numbers.items c.self.inside.ends.items c.args.node c.start_of-start.result c.index.result.now c.self.invariant (omega (arith, c.requires, e, v)) start c.index.ensures in
     search (rules, found.0)
 
 pub offset_bounds-deref-start : goal.offset_bounds-deref-start
@@ -36,7 +36,7 @@ offset_bounds-deref-start c =
     let e = length-pieces c.self.inside.numbers.items 0 c.self.inside.ends.items in
     let v = ap length c.self.view_is in
     let start : c.start_of-start.result ≡ get_or (0 ∷ c.self.inside.ends.items) c.args.node 0 = rw c.deref.ensures.value at c.start_of-start.ensures in
-    let found = row_at c.self.inside.numbers.items c.self.inside.ends.items c.args.node c.start_of-start.result c.index-end.result.now c.self.invariant (omega (arith, c.requires, e, v)) start c.index-end.ensures in
+    let found = row_at c.self.inside.numbers.items c.self.inside.ends.items c.args.node c.start_of-start.result c.index.result.now c.self.invariant (omega (arith, c.requires, e, v)) start c.index.ensures in
     search (rules, found.0, found.1)
 
 pub slice_bounds-result-end : goal.slice_bounds-result-end
@@ -44,7 +44,7 @@ slice_bounds-result-end c =
     let e = length-pieces c.self.inside.numbers.items 0 c.self.inside.ends.items in
     let v = ap length c.self.view_is in
     let start : c.start_of-start.result ≡ get_or (0 ∷ c.self.inside.ends.items) c.args.node 0 = rw c.deref.ensures.value at c.start_of-start.ensures in
-    let found = row_at c.self.inside.numbers.items c.self.inside.ends.items c.args.node c.start_of-start.result c.index-end.result.now c.self.invariant (omega (arith, c.requires, e, v)) start c.index-end.ensures in
+    let found = row_at c.self.inside.numbers.items c.self.inside.ends.items c.args.node c.start_of-start.result c.index.result.now c.self.invariant (omega (arith, c.requires, e, v)) start c.index.ensures in
     search (rules, found.0, found.1)
 
 pub returns : goal.returns
@@ -52,5 +52,5 @@ returns c =
     let e = length-pieces c.self.inside.numbers.items 0 c.self.inside.ends.items in
     let v = ap length c.self.view_is in
     let start : c.start_of-start.result ≡ get_or (0 ∷ c.self.inside.ends.items) c.args.node 0 = rw c.deref.ensures.value at c.start_of-start.ensures in
-    let found = row_at c.self.inside.numbers.items c.self.inside.ends.items c.args.node c.start_of-start.result c.index-end.result.now c.self.invariant (omega (arith, c.requires, e, v)) start c.index-end.ensures in
+    let found = row_at c.self.inside.numbers.items c.self.inside.ends.items c.args.node c.start_of-start.result c.index.result.now c.self.invariant (omega (arith, c.requires, e, v)) start c.index.ensures in
     rw (c.deref-2.ensures.value, ← c.self.view_is) found.2

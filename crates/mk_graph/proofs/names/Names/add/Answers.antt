@@ -9,7 +9,7 @@ returns-clause-ok c =
     let names = c.args.self.now in
     let name = c.args.name.now in
     let absent : has_name names name ≡ false = sym c.in_default.ensures.none in
-    let last = c.in_ok-push.ensures.ok in
-    let number : length names ≡ c.len-number.result = sym c.len-number.ensures in
+    let last = c.in_ok-number.ensures.ok in
+    let number : length names ≡ c.in_ok-number.number = sym c.in_ok-number.ensures.number in
     let longer : length c.push.new.self ≡ length names + 1 = ap length last ∙ length-append names (name ∷ []) in
-    (last ∙ sym (added_new names name absent), (omega (arith, longer, number)), ap (λ l. name_at l c.len-number.result) last ∙ get_or_push names name [] c.len-number.result number)
+    (last ∙ sym (added_new names name absent), (omega (arith, longer, number)), ap (λ l. name_at l c.in_ok-number.number) last ∙ get_or_push names name [] c.in_ok-number.number number)

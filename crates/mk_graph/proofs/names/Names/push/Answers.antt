@@ -1,12 +1,22 @@
-use Rattle.std.proofs.Common.{ap, ◌∙◌}
-use Rattle.mk_graph.specs.Numbering.{added}
-use Rattle.mk_graph.proofs.NameLemmas.{added_new}
+use Rattle.std.proofs.Common.{◌≡◌, ℕ, ◌+◌, List, [], ◌∷◌, ◌++◌, length, set, ap, ◌∙◌, arith, length-set}
+use Rattle.std.proofs.lemmas.List.{with_items_is}
+use Rattle.mk_graph.specs.Chains.{bucket}
+use Rattle.mk_graph.specs.declared.chains.Link.{Link}
+use Rattle.mk_graph.proofs.LinkLemmas.{linked_push}
 use Rattle.mk_graph.proofs.names.Names.push.Goals as goal
 
-pub returns-clause-ok : goal.returns-clause-ok
-returns-clause-ok c =
-    let names = c.args.self.now in
-    c.in_ok-_new.ensures.keys
-    ∙ ap (λ l. added l c.in_ok-from_slice.field-0) c.self.view_is
-    ∙ ap (added names) c.in_ok-from_slice.ensures
-    ∙ added_new names c.args.name.now c.requires
+pub invariant_of-self-2 : goal.invariant_of-self-2
+invariant_of-self-2 c =
+    let links : List Link = c.make_room.new.links.items in
+    let heads : List ℕ = c.make_room.new.heads.items in
+    let heads' : List ℕ = c.put_last-before.new.heads in
+    let link : Link = record { hash = c.args.hash; before = c.put_last-before.result } in
+    let was = rw c.deref_mut.ensures.value at c.put_last-before.ensures.before in
+    let put = rw c.deref_mut.ensures.value at c.put_last-before.ensures.heads in
+    let longer : c.push-2.new.self.items ≡ links ++ link ∷ [] = rw c.unwrap.ensures at c.push-2.ensures.items ∙ ap (λ (l : List Link). l ++ link ∷ []) c.reserve.ensures.items in
+    let place : c.len-number.result ≡ length links = omega (arith, ap length c.reserve.ensures.items) in
+    let many : length heads' ≡ length heads = ap length put ∙ length-set heads _ _ in
+    let same = with_items_is c.make_room.new.heads heads' (grind arith) in
+    linked_push c.self.inside.names links heads c.args.name.now link c.push.new.self c.push-2.new.self.items _
+    (c.make_room.ensures.same ∙ c.self.invariant.hashed) c.make_room.ensures.chained c.in_ok-make_room.ensures.room c.requires was c.in_ok-push.ensures.ok longer
+    (same ∙ put ∙ ap (λ k. set heads (bucket (length heads) c.args.hash) (k + 1)) place)

@@ -1,12 +1,13 @@
-use Rattle.std.proofs.Common.{◌≡◌, ◌+◌, List, Some, not, drop, subst, refl}
+use Rattle.std.proofs.Common.{◌≡◌, ◌+◌, Bool, List, [], Some, not, drop, subst, sym, refl}
 use Rattle.std.specs.Prelude.{slice_get}
 use Rattle.std.proofs.lemmas.List.{drop_all}
 use Rattle.std.proofs.lemmas.Option.{slice_get_read}
 use Rattle.mk_rule_lines.specs.Rules.{lacks_single, targets_by}
-use Rattle.mk_rule_lines.specs.Table.{named_at, IsTableFault}
+use Rattle.mk_rule_lines.specs.Table.{named_at, IsTable, IsTableFault}
 use Rattle.mk_rule_lines.specs.declared.rule_line.RuleLine.{RuleLine}
 use Rattle.mk_rule_lines.proofs.LineLemmas.{handed_on}
 use Rattle.mk_rule_lines.proofs.PlaceLemmas.{LinesGo, lines_go_on, lines_go_start, lines_go_end, line_fault, from_line}
+use Rattle.mk_rule_lines.proofs.TargetLemmas.{no_suffix_rules}
 use Rattle.mk_rule_lines.proofs.table.TargetTable.of_lines.Goals as goal
 
 pub returns-in_err-add_line-clause-fault : goal.returns-in_err-add_line-clause-fault
@@ -43,3 +44,9 @@ returns-clause-table c =
     let none = drop_all c.loop-i.i lines c.loop-i-test.false in
     lines_go_end targets c.loop-i.i lines c.loop-i.table
     (λ name. subst (λ (left : List RuleLine). LinesGo targets c.loop-i.i left lines name (named_at c.loop-i.table name)) none (c.loop-i.invariant name))
+
+pub returns-then-is_empty-clause-table : goal.returns-then-is_empty-clause-table
+returns-then-is_empty-clause-table c =
+    let none : c.args.suffixes.now ≡ [] = c.is_empty.ensures.0 c.if-is_empty.true in
+    subst (λ (b : Bool). IsTable (targets_by b c.args.suffixes.now) c.args.lines.now c.in_ok-table.table) (sym c.if-suffix_rules.true)
+    (no_suffix_rules c.args.suffixes.now c.args.lines.now c.in_ok-table.table none c.in_ok-table.ensures)

@@ -1,9 +1,8 @@
-use Rattle.std.proofs.Common.{ap, sym, subst, ◌∙◌, ◌≡◌, None, OnOk, []}
+use Rattle.std.proofs.Common.{ap, sym, subst, ◌∙◌, ◌≡◌, None, OnOk, [], List, ℕ}
 use Rattle.std.specs.Option.{option_copied_mut}
 use Rattle.std.specs.Str.{bytes_eq}
 use Rattle.std.specs.Map.{lookup}
 use Rattle.std.specs.FinMap as map
-use Rattle.st_records.specs.declared.record.Explicit.TheVariants.{Unknown}
 use Rattle.st_state.specs.State.{by_name, known_hidden, unfinished}
 use Rattle.st_state.proofs.StateLemmas.{by_name-set_value, some_of, known_hidden-some, known_hidden-none, on_err, absent-by_name}
 use Rattle.st_state.proofs.state.State.set_unfinished.Goals as goal
@@ -11,23 +10,22 @@ use Rattle.st_state.proofs.state.State.set_unfinished.Goals as goal
 pub returns-in-Some-clause-ok : goal.returns-in-Some-clause-ok
 returns-in-Some-clause-ok c =
     let es = c.self.inside.entries.entries in
-    let kept : known_hidden (by_name (λ k. k) es) c.args.name.now ≡ c.in-Some.known.now.hidden =
+    let kept : known_hidden (by_name {K = List ℕ} (λ k. k) es) c.args.name.now ≡ c.in-Some.known.now.hidden =
     known_hidden-some (λ k. k) c.args.name.now es c.in-Some.known.now c.in-Some.ensures.value in
-    let left = unfinished c.args.phase (known_hidden (by_name (λ k. k) es) c.args.name.now) in
-    ap (by_name (λ k. k)) (c.get_mut.follows.holds (record { phase = c.args.phase; commands = c.empty.result; hidden = c.in-Some.known.now.hidden; explicit = Unknown })).0
+    ap (by_name (λ k. k)) (c.get_mut.follows.holds c.leave_unfinished.new.known).0
     ∙ by_name-set_value (λ k. k) c.args.name.now _ es (some_of _ _ c.in-Some.ensures.value)
-    ∙ (λ i. map.insert (by_name (λ k. k) es) c.args.name.now (record { phase = c.args.phase; commands = c.empty.ensures i; hidden = sym kept i; explicit = Unknown }))
+    ∙ ap (map.insert (by_name {K = List ℕ} (λ k. k) es) c.args.name.now) (c.leave_unfinished.ensures ∙ ap (unfinished c.args.phase) (sym kept))
     ∙ ap (λ m. map.insert m c.args.name.now (unfinished c.args.phase (known_hidden m c.args.name.now))) c.self.view_is
 
 pub returns-clause-ok : goal.returns-clause-ok
 returns-clause-ok c =
     let es = c.self.inside.entries.entries in
     let missing : None ≡ lookup (λ k. bytes_eq c.args.name.now k) es = ap option_copied_mut (sym c.in_default.is) ∙ c.get_mut.ensures.value in
-    let none_kept : known_hidden (by_name (λ k. k) es) c.args.name.now ≡ [] = known_hidden-none (λ k. k) c.args.name.now es missing in
-    let left : map.insert (by_name (λ k. k) c.get_mut.follows.lender-at-none.entries) c.args.name.now (record { phase = c.args.phase; commands = c.empty-2.result; hidden = c.empty-3.result; explicit = Unknown })
+    let none_kept : known_hidden (by_name {K = List ℕ} (λ k. k) es) c.args.name.now ≡ [] = known_hidden-none (λ k. k) c.args.name.now es missing in
+    let left : map.insert (by_name (λ k. k) c.get_mut.follows.lender-at-none.entries) c.args.name.now c.new.result
     ≡ map.insert c.args.self.now c.args.name.now (unfinished c.args.phase (known_hidden c.args.self.now c.args.name.now)) =
-    ap (λ m. map.insert (by_name (λ k. k) m.entries) c.args.name.now (record { phase = c.args.phase; commands = c.empty-2.result; hidden = c.empty-3.result; explicit = Unknown })) c.get_mut.follows.holds-at-none
-    ∙ (λ i. map.insert (by_name (λ k. k) es) c.args.name.now (record { phase = c.args.phase; commands = c.empty-2.ensures i; hidden = (c.empty-3.ensures ∙ sym none_kept) i; explicit = Unknown }))
+    ap (λ m. map.insert (by_name (λ k. k) m.entries) c.args.name.now c.new.result) c.get_mut.follows.holds-at-none
+    ∙ ap (map.insert (by_name {K = List ℕ} (λ k. k) es) c.args.name.now) (c.new.ensures ∙ ap (unfinished c.args.phase) (sym none_kept))
     ∙ ap (λ m. map.insert m c.args.name.now (unfinished c.args.phase (known_hidden m c.args.name.now))) c.self.view_is
     in subst (λ m. OnOk c.add.result (c.add.new.self ≡ m)) left c.add.ensures.ok
 

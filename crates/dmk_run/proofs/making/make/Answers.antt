@@ -1,0 +1,15 @@
+use Rattle.std.proofs.Common.{sym, ◌∙◌}
+use Rattle.st_disk.specs.Moments.{now}
+use Rattle.st_recovery.proofs.StoredLemmas.{all_recover}
+use Rattle.dmk_run.specs.Planned.{recorded_in}
+use Rattle.dmk_run.proofs.BuildingLemmas.{none_ended}
+use Rattle.dmk_run.proofs.making.make.Goals as goal
+
+pub returns-clause-ended : goal.returns-clause-ended
+returns-clause-ended g c =
+    let plan = c.args.plan in
+    let log = c.args.log in
+    let sides = now (g.D.Disk.moments log.disk) in
+    rw c.disk_of.ensures
+    (none_ended plan.conduct.counts_records plan.conduct.keeps_state plan.graph (recorded_in plan) g.D.Disk.honest sides (c.is_none_to_run.ensures c.if-not-is_none_to_run.false)
+    (λ honest. all_recover log.side sides (c.requires.stored honest c.requires.alive)))

@@ -1,0 +1,44 @@
+use Rattle.std.proofs.Common.{sym, subst}
+use Rattle.st_disk.specs.Moments.{now}
+use Rattle.st_state.specs.State.{StateMap}
+use Rattle.st_state.specs.Keepable.{AllCanBeKept}
+use Rattle.st_recovery.specs.Stored.{IsStoredOn}
+use Rattle.dmk_run.proofs.DriverLemmas.{has_ended, status_of_report}
+use Rattle.dmk_run.proofs.making.make_listed.Goals as goal
+
+pub returns-clause-ended : goal.returns-clause-ended
+returns-clause-ended g c =
+    rw c.disk_of-disk.ensures
+    (has_ended c.args.plan.graph c.args.plan.conduct.counts_records c.args.plan.conduct.keeps_state g.D.Disk.honest (now (g.D.Disk.moments c.build-found.result.store.log.disk)) c.build-found.result.found
+    c.reported.result c.reported.ensures c.build-found.ensures.ends c.build-found.ensures.well c.build-found.ensures.borne_out c.build-found.ensures.made)
+
+pub returns-clause-status : goal.returns-clause-status
+returns-clause-status g c = status_of_report c.build-found.result.found c.reported.result c.reported.ensures c.build-found.ensures.status
+
+pub invariant_of-graph : goal.invariant_of-graph
+invariant_of-graph g c = record {
+  named = c.args.plan.graph.named;
+  distinct = c.args.plan.graph.distinct;
+  hard_rows = c.args.plan.graph.hard_rows;
+  required_rows = c.args.plan.graph.required_rows;
+  required_closed = c.args.plan.graph.required_closed;
+  soft_rows = c.args.plan.graph.soft_rows;
+  counted_rows = c.args.plan.graph.counted_rows;
+  hard_closed = c.args.plan.graph.hard_closed;
+  soft_closed = c.args.plan.graph.soft_closed;
+  counted_closed = c.args.plan.graph.counted_closed;
+  counted_ascending = c.args.plan.graph.counted_ascending;
+  suffixes_are = c.args.plan.graph.suffixes_are;
+  kept = c.args.plan.graph.kept;
+  table = c.args.plan.graph.table;
+}
+
+-- the store is put together again, with an equal state
+pub invariant_of-store-clause-stored : goal.invariant_of-store-clause-stored
+invariant_of-store-clause-stored g c = λ honest alive.
+    let log = c.args.log in
+    subst (λ (m : StateMap). IsStoredOn (g.D.Disk.seen log.disk) (now (g.D.Disk.moments log.disk)) log.side log.version log.generation log.end m)
+    (sym c.in-Ok.ensures) (c.requires.stored honest alive)
+
+pub invariant_of-store-clause-keepable : goal.invariant_of-store-clause-keepable
+invariant_of-store-clause-keepable g c = subst AllCanBeKept (sym c.in-Ok.ensures) c.requires.keepable

@@ -1,0 +1,109 @@
+//! What was planned, made over the log of a store whose state the plan holds.
+ghost use Rattle.std.specs.Prelude.{◌≡◌, ◌≤◌, false, IfOk};
+ghost use Rattle.st_disk.specs.Moments.{now};
+ghost use Rattle.st_state.specs.Keepable.{AllCanBeKept};
+ghost use Rattle.st_recovery.specs.Stored.{IsStoredOn};
+ghost use Rattle.dmk_run.specs.Made.{HasEnded};
+ghost use Rattle.dmk_run.specs.Planned.{recorded_in};
+
+use crate::building::{Built, build, reported};
+use crate::conducting::Wishes;
+use crate::driver::Means;
+use crate::opening::disk_of;
+use crate::planning::{Plan, recorded_apart};
+use crate::printer::Printer;
+use crate::settling::is_none_to_run;
+use crate::stop::Stop;
+use bd_flusher::Receipt;
+use bd_lists::Exec;
+use jb_recipe::Place;
+use jb_slots::Banks;
+use st_disk::Disk;
+use st_file::Log;
+use st_recovery::Store;
+use std::alloc::Global;
+use std::io::Write;
+use std::mem;
+use std::sync::Wait;
+use std::thread::Threads;
+
+/// Makes what was planned, some recipe of which may be to be run. The store is put together for that: the graph keeps its state,
+/// so the store's is a copy, or what the graph has forgotten.
+fn make_listed<R, O, W, E, P, K, D>(
+    rt: &R,
+    alloc: Global,
+    means: &Means<'_, E, Printer<'_, R, O, W>, P>,
+    wishes: &Wishes,
+    plan: Plan,
+    banks: &mut K,
+    log: Log<D>,
+) -> (Result<u8, Stop>, D)
+where
+    R: Threads + Wait + Sync,
+    E: Exec<Receipt> + Sync,
+    O: Write + Drop + Send,
+    W: Write + Drop + Send,
+    P: Place + Sync,
+    K: Banks,
+    K::End: Drop + Send,
+    D: Disk + Drop + Send,
+    requires stored { D.honest → log.dead ≡ false → IsStoredOn (D.seen log.disk) (now (D.moments log.disk)) log.side
+        log.version log.generation log.end (recorded_in plan) }
+    requires keepable { AllCanBeKept (recorded_in plan) }
+    ensures status { IfOk result.0 (λ s. s ≤ 2) }
+    ensures ended { IfOk result.0 (HasEnded plan.graph plan.conduct.counts_records plan.conduct.keeps_state D.honest (now (D.moments result.1))) }
+    ensures let_go { K.serves banks.old ≡ false → K.serves banks.new ≡ false }
+{
+    let Plan {
+        graph,
+        forgotten,
+        conduct,
+    } = plan;
+    let state = match recorded_apart(alloc, &graph, forgotten) {
+        Ok(state) => state,
+        Err(error) => return (Err(Stop::from(error)), disk_of(log)),
+    };
+    let workers = wishes.workers(&graph.settings);
+    let store = Store { log, state };
+    let Built { found, store } = build(rt, alloc, means, &graph, conduct, workers, banks, store);
+    let Store { log, state } = store;
+    mem::forget(graph);
+    mem::forget(state);
+    let disk = disk_of(log);
+    (reported(found), disk)
+}
+
+/// Makes what was planned over an opened store's log. The disk comes back.
+pub(crate) fn make<R, O, W, E, P, K, D>(
+    rt: &R,
+    alloc: Global,
+    means: &Means<'_, E, Printer<'_, R, O, W>, P>,
+    wishes: &Wishes,
+    plan: Plan,
+    banks: &mut K,
+    log: Log<D>,
+) -> (Result<u8, Stop>, D)
+where
+    R: Threads + Wait + Sync,
+    E: Exec<Receipt> + Sync,
+    O: Write + Drop + Send,
+    W: Write + Drop + Send,
+    P: Place + Sync,
+    K: Banks,
+    K::End: Drop + Send,
+    D: Disk + Drop + Send,
+    requires alive { log.dead ≡ false }
+    requires stored { D.honest → log.dead ≡ false → IsStoredOn (D.seen log.disk) (now (D.moments log.disk)) log.side
+        log.version log.generation log.end (recorded_in plan) }
+    requires keepable { AllCanBeKept (recorded_in plan) }
+    ensures status { IfOk result.0 (λ s. s ≤ 2) }
+    ensures ended { IfOk result.0 (HasEnded plan.graph plan.conduct.counts_records plan.conduct.keeps_state D.honest (now (D.moments result.1))) }
+    ensures let_go { K.serves banks.old ≡ false → K.serves banks.new ≡ false }
+{
+    if !is_none_to_run(alloc, &plan, means.say) {
+        return make_listed(rt, alloc, means, wishes, plan, banks, log);
+    }
+    // It is millions of small pieces of memory. The run ends here, and the system takes all of them back at once.
+    mem::forget(plan);
+    (Ok(0), disk_of(log))
+}

@@ -1,0 +1,22 @@
+//! The hash by which a name is found. Its seed is fixed: names that were made to collide are found slowly.
+
+ghost use Rattle.std.specs.Prelude.{◌≡◌};
+ghost use Rattle.mk_graph.specs.Hashing.{stirred, hash_of};
+
+/// Takes in one byte.
+fn stirred(state: u64, byte: u8) -> u64
+    ensures { result ≡ stirred state byte }
+{
+    (state ^ byte as u64).wrapping_mul(0x9e37_79b9_7f4a_7c15)
+}
+
+/// The hash of a name.
+pub(crate) fn hash_of(name: &[u8]) -> u32
+    ensures { result ≡ hash_of name.now }
+{
+    let mut state = 0xcbf2_9ce4_8422_2325;
+    for byte in name {
+        state = stirred(state, *byte);
+    }
+    (state >> 32) as u32
+}

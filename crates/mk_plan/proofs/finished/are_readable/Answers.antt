@@ -1,0 +1,5 @@
+use Rattle.mk_plan.proofs.FinishedLemmas.{readable}
+use Rattle.mk_plan.proofs.finished.are_readable.Goals as goal
+
+pub returns-then-texts : goal.returns-then-texts
+returns-then-texts c = readable c.args.keeping c.args.graph.now (c.requires c.if-texts.true) c.args.nodes.now

@@ -1,0 +1,75 @@
+-- What special rules set, taken in one line after the other, is what all lines set.
+use Rattle.std.specs.List.{list_any, flat_map}
+use Rattle.std.specs.Prelude.{is_none}
+use Rattle.std.proofs.Common.{◌≡◌, ◌∙◌, ℕ, Bool, true, false, ◌||◌, List, [], ◌∷◌, ◌++◌, Option, Some, None, refl, sym, ap}
+use Rattle.mk_graph.specs.Numbering.{all_added}
+use Rattle.mk_graph.proofs.NameLemmas.{all_added-append}
+use Rattle.mk_reader.specs.declared.special.SpecialName.{SpecialName}
+use Rattle.mk_rule_lines.specs.Goals.{is_keep_state, is_no_parallel, is_delete_on_error, has_special, settings_of}
+use Rattle.mk_rule_lines.specs.Marks.{speaks_of_all, names_in}
+use Rattle.mk_rule_lines.specs.Rules.{is_rule}
+use Rattle.mk_rule_lines.specs.Settled.{nothing_set, marked_with, settings_with, settings_behind}
+use Rattle.mk_rule_lines.specs.declared.marked.Mark.{Mark}
+use Rattle.mk_rule_lines.specs.declared.marked.Mark.TheVariants.{Ignored, Silent, Precious}
+use Rattle.mk_rule_lines.specs.declared.marked.Marked.{Marked}
+use Rattle.mk_rule_lines.specs.declared.rule_line.RuleLine.{RuleLine}
+use Rattle.mk_rule_lines.specs.declared.settings.Settings.{Settings}
+use Rattle.mk_rule_lines.proofs.MarkLemmas.{or_none, or_both}
+
+-- the targets of a mark with those of these lines
+abbrev marked_behind : Mark → Marked → List RuleLine → Marked
+marked_behind m marked lines = record { all = marked.all || list_any (speaks_of_all m) lines; names = all_added marked.names (flat_map (names_in m) lines) }
+
+marked-more : (m : Mark) (marked : Marked) (l : RuleLine) (lines : List RuleLine) → marked_behind m (marked_with m marked l) lines ≡ marked_behind m marked (l ∷ lines)
+marked-more m marked l lines =
+    let all = or_both marked.all (speaks_of_all m l) (list_any (speaks_of_all m) lines) in
+    let names = all_added-append marked.names (names_in m l) (flat_map (names_in m) lines) in
+    cc
+
+-- the settings with what these lines set
+abbrev all_behind : Settings → List RuleLine → Settings
+all_behind s lines = record {
+  keeps_state = s.keeps_state || has_special is_keep_state lines;
+  has_one_worker = s.has_one_worker || has_special is_no_parallel lines;
+  deletes_on_error = s.deletes_on_error || has_special is_delete_on_error lines;
+  ignored = marked_behind Ignored s.ignored lines;
+  silent = marked_behind Silent s.silent lines;
+  precious = marked_behind Precious s.precious lines;
+}
+
+settings-none : (s : Settings) → s ≡ all_behind s []
+settings-none s = simp or_none refl
+
+settings-more : (s : Settings) (l : RuleLine) (lines : List RuleLine) → all_behind (settings_with s l) lines ≡ all_behind s (l ∷ lines)
+settings-more s l lines =
+    let keeps = or_both s.keeps_state (is_keep_state l.special) (has_special is_keep_state lines) in
+    let one = or_both s.has_one_worker (is_no_parallel l.special) (has_special is_no_parallel lines) in
+    let deletes = or_both s.deletes_on_error (is_delete_on_error l.special) (has_special is_delete_on_error lines) in
+    let ignored = marked-more Ignored s.ignored l lines in
+    let silent = marked-more Silent s.silent l lines in
+    let precious = marked-more Precious s.precious l lines in
+    cc
+
+settings_behind-all : (s : Settings) (lines : List RuleLine) → settings_behind s lines ≡ all_behind s lines
+settings_behind-all s [] = settings-none s
+settings_behind-all s (l ∷ lines) = settings_behind-all (settings_with s l) lines ∙ settings-more s l lines
+
+-- all lines are taken in
+pub settings-are : (lines : List RuleLine) → settings_behind nothing_set lines ≡ settings_of lines
+settings-are lines = settings_behind-all nothing_set lines
+
+-- one more line is taken in
+pub settings-next : (s next whole : Settings) (l : RuleLine) (left rest : List RuleLine) → left ≡ l ∷ rest → next ≡ settings_with s l →
+    settings_behind s left ≡ whole → settings_behind next rest ≡ whole
+settings-next s next whole l left rest at e h = ap (λ n. settings_behind n rest) e ∙ ap (settings_behind s) (sym at) ∙ h
+
+sets_nothing : (s : Settings) (l : RuleLine) → l.special ≡ None → settings_with s l ≡ s
+sets_nothing s l e = simp (e, or_none) refl
+
+no_special : (o : Option SpecialName) → is_none o ≡ true → o ≡ None
+no_special None e = refl
+no_special (Some name) e = absurd cc
+
+-- a line that is no special rule sets nothing
+pub settings-rule : (s : Settings) (l : RuleLine) → is_rule l ≡ true → s ≡ settings_with s l
+settings-rule s l e = sym (sets_nothing s l (no_special l.special e))

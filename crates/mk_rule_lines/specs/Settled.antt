@@ -1,0 +1,43 @@
+-- What special rules set, taken in one line after the other.
+use Rattle.std.specs.Prelude.{List, [], ◌∷◌, false, ◌||◌}
+use Rattle.mk_graph.specs.Numbering.{all_added}
+use Rattle.mk_rule_lines.specs.Goals.{is_keep_state, is_no_parallel, is_delete_on_error}
+use Rattle.mk_rule_lines.specs.Marks.{speaks_of_all, names_in}
+use Rattle.mk_rule_lines.specs.declared.marked.Mark.{Mark}
+use Rattle.mk_rule_lines.specs.declared.marked.Mark.TheVariants.{Ignored, Silent, Precious}
+use Rattle.mk_rule_lines.specs.declared.marked.Marked.{Marked}
+use Rattle.mk_rule_lines.specs.declared.rule_line.RuleLine.{RuleLine}
+use Rattle.mk_rule_lines.specs.declared.settings.Settings.{Settings}
+
+abbrev pub nothing_marked : Marked
+nothing_marked = record { all = false; names = [] }
+
+-- the targets of a mark with those of one more line
+abbrev pub marked_with : Mark → Marked → RuleLine → Marked
+marked_with m marked l = record { all = marked.all || speaks_of_all m l; names = all_added marked.names (names_in m l) }
+
+abbrev pub nothing_set : Settings
+nothing_set = record {
+  keeps_state = false;
+  has_one_worker = false;
+  deletes_on_error = false;
+  ignored = nothing_marked;
+  silent = nothing_marked;
+  precious = nothing_marked;
+}
+
+-- what is set with one more line
+abbrev pub settings_with : Settings → RuleLine → Settings
+settings_with s l = record {
+  keeps_state = s.keeps_state || is_keep_state l.special;
+  has_one_worker = s.has_one_worker || is_no_parallel l.special;
+  deletes_on_error = s.deletes_on_error || is_delete_on_error l.special;
+  ignored = marked_with Ignored s.ignored l;
+  silent = marked_with Silent s.silent l;
+  precious = marked_with Precious s.precious l;
+}
+
+-- what is set behind these lines
+abbrev pub settings_behind : Settings → List RuleLine → Settings
+settings_behind s [] = s
+settings_behind s (l ∷ lines) = settings_behind (settings_with s l) lines

@@ -1,0 +1,14 @@
+use Rattle.std.proofs.Common.{◌≡◌, ℕ, Bool, List}
+use Rattle.mk_graph.specs.Numbering.{all_added}
+use Rattle.mk_rule_lines.specs.Explicit.{names_in}
+use Rattle.mk_rules.specs.NodeNotes.{AreKnownNodes}
+use Rattle.mk_rules.specs.Row.{named, IsRow}
+use Rattle.mk_rules.proofs.ExplicitLemmas.{left_in}
+use Rattle.mk_rules.proofs.explicit.mention_line.Given as goal
+
+abbrev pub invariant-loop-word : goal.invariant-loop-word
+invariant-loop-word l = record {
+  row : (start : List (List ℕ)) → IsRow start l.fn.names l.fn.numbers → IsRow start l.names l.numbers;
+  known : (is_node : List ℕ → Bool) (marks : List Bool) → AreKnownNodes is_node l.fn.names marks → AreKnownNodes is_node l.names marks;
+  names : all_added (named l.names l.numbers) (left_in l.line.profile l.word-iterator) ≡ all_added (named l.fn.names l.fn.numbers) (names_in l.line);
+}

@@ -1,0 +1,106 @@
+//! Which name followed another one the last time, so that a list that comes again isn't looked up name by name.
+ghost use Rattle.std.specs.Prelude.{◌≡◌, ◌<◌, length, IfOk, IfSome};
+ghost use Rattle.std.specs.Str.{bytes_eq};
+ghost use Rattle.mk_graph.specs.Numbering.{name_at, added};
+
+use mk_graph::Names;
+use name_keys::NameRef;
+use std::alloc::{AllocError, Global};
+
+/// Most guesses are right, and most names are short.
+fn are_same(a: &[u8], b: &[u8]) -> bool
+    ensures { result ≡ bytes_eq a.now b.now }
+{
+    NameRef { bytes: a } == NameRef { bytes: b }
+}
+
+/// Guesses of names by the one before them. Each is compared with the name, so that a wrong one costs time alone.
+#[derive(Drop)]
+pub(crate) struct Followers {
+    /// Of each number, that of the name that followed it the last time, or any other.
+    next: Vec<u32>,
+    /// The number of the name before the next one, if there is one in its list.
+    before: Option<u32>,
+}
+
+impl Followers {
+    /// No guesses, which takes no memory.
+    pub fn new(alloc: Global) -> Followers {
+        Followers {
+            next: Vec::new(alloc),
+            before: None,
+        }
+    }
+
+    /// Another list begins.
+    pub fn start(&mut self) {
+        self.before = None;
+    }
+
+    /// The number that followed the last time, where it is that of the name.
+    #[tactic(auto, using(crate::proofs::RowLemmas::same_name))]
+    fn guess(&self, names: &Names, name: &[u8]) -> Option<u32>
+        ensures { IfSome result (λ n. (n < length names.now) × (name_at names.now n ≡ name.now)) }
+    {
+        let number = *self.next.get(self.before? as usize)?;
+        if (number as usize) < names.len() && are_same(names.name(number as usize), name) {
+            Some(number)
+        } else {
+            None
+        }
+    }
+
+    /// Notes what follows this number.
+    fn set_next(&mut self, before: usize, number: u32) -> Result<(), AllocError> {
+        if before < self.next.len() {
+            self.next[before] = number;
+            return Ok(());
+        }
+        self.next.resize(before, number)?;
+        self.next.push(number)?;
+        Ok(())
+    }
+
+    /// Notes that the name of this number comes next.
+    fn follow(&mut self, number: u32) -> Result<(), AllocError> {
+        if let Some(before) = self.before {
+            self.set_next(before as usize, number)?;
+        }
+        self.before = Some(number);
+        Ok(())
+    }
+
+    /// The number of a name, if it has one.
+    pub fn number_of(&mut self, names: &Names, name: &[u8]) -> Result<Option<u32>, AllocError>
+        ensures { IfOk result (λ of. IfSome of (λ n. (n < length names.now) × (name_at names.now n ≡ name.now))) }
+    {
+        if let Some(number) = self.guess(names, name) {
+            self.before = Some(number);
+            return Ok(Some(number));
+        }
+        let Some(number) = names.number_of(name) else {
+            return Ok(None);
+        };
+        self.follow(number)?;
+        Ok(Some(number))
+    }
+
+    /// The number of a name, which is given the next one where it has none.
+    #[tactic(auto, using(crate::proofs::RowLemmas::added_known))]
+    pub fn numbered(
+        &mut self,
+        alloc: Global,
+        names: &mut Names,
+        name: &[u8],
+    ) -> Result<u32, AllocError>
+        ensures { IfOk result (λ n. (names.new ≡ added names.old name.now) × (n < length names.new) × (name_at names.new n ≡ name.now)) }
+    {
+        if let Some(number) = self.guess(names, name) {
+            self.before = Some(number);
+            return Ok(number);
+        }
+        let number = names.numbered(alloc, name)?;
+        self.follow(number)?;
+        Ok(number)
+    }
+}

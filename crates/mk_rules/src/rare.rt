@@ -1,0 +1,94 @@
+//! What few nodes have, for which the others spend no memory.
+ghost use Rattle.std.specs.Prelude.{◌≡◌, true, option_map, IfOk};
+ghost use Rattle.std.specs.Option.{option_copied};
+ghost use Rattle.mk_rules.specs.Rare.{no_parts};
+
+use crate::group::Group;
+use byte_strings::{ByteString, ByteStrings};
+use std::alloc::{AllocError, Global};
+use std::boxed::Box;
+use std::marker::Model;
+
+/// What a node has of an implicit rule and of order-only prerequisites.
+#[derive(Drop)]
+pub struct Rare {
+    /// The stem, where an implicit rule makes it.
+    pub stem: Option<ByteString>,
+    /// How many of the hard prerequisites that rule gives: those that come first, of which the first is the source.
+    pub implied: usize,
+    /// What the recipe that makes it makes beside it, where it is that of an implicit rule and makes more.
+    pub group: Option<Box<Group>>,
+    /// What it can't be made without, by name: the hard prerequisites and the order-only ones; None where there are none of these.
+    pub required: Option<Box<ByteStrings>>,
+}
+
+/// The rare parts of a node, which most nodes haven't.
+#[derive(Drop)]
+pub struct RareParts {
+    kept: Option<Box<Rare>>,
+}
+
+impl Model for RareParts {
+    ghost use Rattle.mk_rules.specs.Rare.{parts_kept};
+    ghost use Rattle.mk_rules.specs.declared.rare.Rare.{Rare};
+
+    ghost Value = { Rare };
+
+    ghost view = { λ r. parts_kept r.kept };
+}
+
+/// Whether no part is there.
+fn are_none(rare: &Rare) -> bool
+    ensures { result ≡ true → rare.now ≡ no_parts }
+{
+    rare.stem.is_none() && rare.implied == 0 && rare.group.is_none() && rare.required.is_none()
+}
+
+impl RareParts {
+    pub fn of(alloc: Global, rare: Rare) -> Result<RareParts, AllocError>
+        ensures { IfOk result (λ parts. parts ≡ rare) }
+    {
+        if are_none(&rare) {
+            return Ok(RareParts { kept: None });
+        }
+        Ok(RareParts {
+            kept: Some(Box::new(alloc, rare)?),
+        })
+    }
+
+    pub fn stem(&self) -> Option<&ByteString>
+        ensures { option_copied result ≡ self.now.stem }
+    {
+        match &self.kept {
+            Some(rare) => rare.stem.as_ref(),
+            None => None,
+        }
+    }
+
+    pub fn implied(&self) -> usize
+        ensures { result ≡ self.now.implied }
+    {
+        match &self.kept {
+            Some(rare) => rare.implied,
+            None => 0,
+        }
+    }
+
+    pub fn group(&self) -> Option<&Group>
+        ensures { option_copied result ≡ option_map (λ g. g.value) self.now.group }
+    {
+        match &self.kept {
+            Some(rare) => rare.group.as_deref(),
+            None => None,
+        }
+    }
+
+    pub fn required(&self) -> Option<&ByteStrings>
+        ensures { option_copied result ≡ option_map (λ names. names.value) self.now.required }
+    {
+        match &self.kept {
+            Some(rare) => rare.required.as_deref(),
+            None => None,
+        }
+    }
+}

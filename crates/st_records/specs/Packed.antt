@@ -1,0 +1,32 @@
+-- Lists of strings that lie one behind the other in one text: where each of them lies, and which still count.
+use Rattle.std.specs.Prelude.{ℕ, ◌≤◌, List, [], Option, None, Some, length, take, drop}
+use Rattle.byte_strings.specs.Texts.{AreTexts}
+use Rattle.st_records.specs.declared.record.Explicit.{Explicit}
+use Rattle.st_records.specs.declared.record.Explicit.TheVariants.{Unknown, Known}
+use Rattle.st_records.specs.declared.packed.Counted.{Counted}
+use Rattle.st_records.specs.declared.packed.Counted.TheVariants.{All, Unnamed, HiddenAlone}
+
+-- explicit names from strings or none
+abbrev pub explicit_from : Option (List (List ℕ)) → Explicit
+explicit_from None = Unknown
+explicit_from (Some names) = Known names
+
+-- the commands that count
+abbrev pub commands_in : Counted → List (List ℕ) → List (List ℕ)
+commands_in All commands = commands
+commands_in Unnamed commands = commands
+commands_in HiddenAlone commands = []
+
+-- what is said of the explicit names
+abbrev pub explicit_in : Counted → List (List ℕ) → Explicit
+explicit_in All names = Known names
+explicit_in Unnamed names = Unknown
+explicit_in HiddenAlone names = Unknown
+
+-- so many commands have the first bytes, so many hidden names the next ones, and so many explicit names the last
+pub record AreLists (commands hidden explicit command_bytes hidden_bytes : ℕ) (bytes : List ℕ) : Type 0 where
+  pub commands_fit : command_bytes ≤ length bytes
+  pub hidden_fit : hidden_bytes ≤ length (drop command_bytes bytes)
+  pub commands_lie : AreTexts commands (take command_bytes bytes)
+  pub hidden_lie : AreTexts hidden (take hidden_bytes (drop command_bytes bytes))
+  pub explicit_lie : AreTexts explicit (drop hidden_bytes (drop command_bytes bytes))

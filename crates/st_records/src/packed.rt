@@ -1,0 +1,324 @@
+//! An entry whose strings stand in one piece of memory: what the state keeps of each target.
+
+ghost use Rattle.std.specs.Prelude.{◌≡◌, ◌||◌, ℕ, List, [], IfOk, OnOk, nat_lt, length, ◌++◌};
+ghost use Rattle.std.specs.Int.{w32, from_le_bytes};
+ghost use Rattle.byte_strings.specs.Texts.{texts, AreTexts};
+ghost use Rattle.st_records.specs.declared.record.Explicit.TheVariants as explicits;
+ghost use Rattle.st_records.specs.declared.record.Phase.TheVariants as phases;
+ghost use Rattle.st_records.specs.Parts.{names_known};
+ghost use Rattle.st_records.specs.Packed.{explicit_from, commands_in, explicit_in};
+
+use crate::limits::{MAX_COMMANDS, MAX_EXPLICIT_NAMES, MAX_HIDDEN_NAMES};
+use crate::record::{Entry, Explicit, Phase};
+use crate::strings::Strings;
+use byte_strings::{ByteStrings, Iter};
+use std::alloc::{AllocError, Global};
+use std::marker::Model;
+
+/// Which of the lists in a piece of memory still count.
+#[derive(Clone, Copy, Debug, PartialEq, Eq)]
+enum Counted {
+    All,
+    /// Not the explicit names, which aren't known.
+    Unnamed,
+    /// Neither commands nor explicit names: the recipe began again, or failed.
+    HiddenAlone,
+}
+
+/// What the state knows of a target. Contracts see it as the entry.
+///
+/// Commands, hidden names and explicit ones stand one behind the other in one allocation, each string behind its length. An
+/// entry without strings has none.
+#[derive(Debug, Drop)]
+pub struct PackedEntry {
+    phase: Phase,
+    counted: Counted,
+    commands: u32,
+    hidden: u32,
+    explicit: u32,
+    command_bytes: u32,
+    hidden_bytes: u32,
+    bytes: Vec<u8>,
+}
+
+impl Model for PackedEntry {
+    ghost use Rattle.std.specs.Prelude.{take, drop};
+    ghost use Rattle.byte_strings.specs.Texts.{texts};
+    ghost use Rattle.st_records.specs.declared.record.Entry.{Entry};
+
+    ghost Value = { Entry };
+
+    ghost use Rattle.st_records.specs.Packed.{commands_in, explicit_in, AreLists};
+
+    ghost view = { λ e. record {
+      phase = e.phase;
+      commands = commands_in e.counted (texts e.commands (take e.command_bytes e.bytes.items));
+      hidden = texts e.hidden (take e.hidden_bytes (drop e.command_bytes e.bytes.items));
+      explicit = explicit_in e.counted (texts e.explicit (drop e.hidden_bytes (drop e.command_bytes e.bytes.items)));
+    } };
+
+    ghost invariant = { λ e. AreLists e.commands e.hidden e.explicit e.command_bytes e.hidden_bytes e.bytes.items };
+}
+
+impl PackedEntry {
+    /// An entry of a target of which nothing but this phase is known. It takes no memory.
+    pub fn new(alloc: Global, phase: Phase) -> PackedEntry
+        ensures { result ≡ record { phase = phase; commands = []; hidden = []; explicit = explicits.Unknown } }
+    {
+        PackedEntry {
+            phase,
+            counted: Counted::HiddenAlone,
+            commands: 0,
+            hidden: 0,
+            explicit: 0,
+            command_bytes: 0,
+            hidden_bytes: 0,
+            bytes: Vec::new(alloc),
+        }
+    }
+
+    /// An entry of these strings, which are copied as they lie; None stands for explicit names that aren't known.
+    pub(crate) fn pack(
+        alloc: Global,
+        phase: Phase,
+        commands: Strings<'_>,
+        hidden: Strings<'_>,
+        explicit: Option<Strings<'_>>,
+    ) -> Result<PackedEntry, AllocError>
+        ensures { IfOk result (λ e. e ≡ record { phase = phase; commands = commands.entry; hidden = hidden.entry; explicit = explicit_from explicit.entry }) }
+    {
+        match explicit {
+            None => {
+                let none = Strings::empty();
+                PackedEntry::of_lists(alloc, phase, Counted::Unnamed, commands, hidden, none)
+            }
+            Some(names) => {
+                PackedEntry::of_lists(alloc, phase, Counted::All, commands, hidden, names)
+            }
+        }
+    }
+
+    fn of_lists(
+        alloc: Global,
+        phase: Phase,
+        counted: Counted,
+        commands: Strings<'_>,
+        hidden: Strings<'_>,
+        explicit: Strings<'_>,
+    ) -> Result<PackedEntry, AllocError>
+        ensures { IfOk result (λ e. e ≡ record { phase = phase; commands = commands_in counted commands.entry; hidden = hidden.entry; explicit = explicit_in counted explicit.entry }) }
+    {
+        let (commands, command_texts) = commands.parts();
+        let (hidden, hidden_texts) = hidden.parts();
+        let (explicit, explicit_texts) = explicit.parts();
+        let Ok(command_bytes) = u32::try_from(command_texts.len()) else {
+            return Err(AllocError);
+        };
+        let Ok(hidden_bytes) = u32::try_from(hidden_texts.len()) else {
+            return Err(AllocError);
+        };
+        let bytes = joined(alloc, command_texts, hidden_texts, explicit_texts)?;
+        Ok(PackedEntry {
+            phase,
+            counted,
+            commands,
+            hidden,
+            explicit,
+            command_bytes,
+            hidden_bytes,
+            bytes,
+        })
+    }
+
+    /// An entry of strings that stand in lists of their own.
+    pub fn of(
+        alloc: Global,
+        phase: Phase,
+        commands: &ByteStrings,
+        hidden: &ByteStrings,
+        explicit: &Explicit,
+    ) -> Result<PackedEntry, AllocError>
+        ensures { IfOk result (λ e. e ≡ record { phase = phase; commands = commands.now; hidden = hidden.now; explicit = explicit.now }) }
+    {
+        let (command_count, commands) = texts_of(alloc, commands.iter())?;
+        let (hidden_count, hidden) = texts_of(alloc, hidden.iter())?;
+        let commands = Strings::new(command_count, commands.as_slice());
+        let hidden = Strings::new(hidden_count, hidden.as_slice());
+        match explicit {
+            Explicit::Unknown => PackedEntry::pack(alloc, phase, commands, hidden, None),
+            Explicit::Known(names) => {
+                let (count, names) = texts_of(alloc, names.iter())?;
+                let names = Strings::new(count, names.as_slice());
+                PackedEntry::pack(alloc, phase, commands, hidden, Some(names))
+            }
+        }
+    }
+
+    /// The entry with its strings in one piece of memory.
+    pub fn of_entry(alloc: Global, entry: &Entry) -> Result<PackedEntry, AllocError>
+        ensures { IfOk result (λ e. e ≡ entry.now) }
+    {
+        PackedEntry::of(
+            alloc,
+            entry.phase,
+            &entry.commands,
+            &entry.hidden,
+            &entry.explicit,
+        )
+    }
+
+    pub fn phase(&self) -> Phase
+        ensures { result ≡ self.now.phase }
+    {
+        self.phase
+    }
+
+    /// The commands that were run, each as one text.
+    pub fn commands(&self) -> Strings<'_>
+        ensures { result ≡ self.now.commands }
+    {
+        match self.counted {
+            Counted::HiddenAlone => Strings::empty(),
+            _ => {
+                let bytes = self.bytes.as_slice();
+                let (commands, _behind) = bytes.split_at(self.command_bytes as usize);
+                Strings::new(self.commands, commands)
+            }
+        }
+    }
+
+    /// Files that the commands read beside the prerequisites which the makefile names.
+    pub fn hidden(&self) -> Strings<'_>
+        ensures { result ≡ self.now.hidden }
+    {
+        let (_commands, behind) = self.bytes.as_slice().split_at(self.command_bytes as usize);
+        let (hidden, _explicit) = behind.split_at(self.hidden_bytes as usize);
+        Strings::new(self.hidden, hidden)
+    }
+
+    /// The prerequisites that the makefile named, in order; None where they aren't known.
+    pub fn explicit(&self) -> Option<Strings<'_>>
+        ensures { explicit_from result ≡ self.now.explicit }
+    {
+        match self.counted {
+            Counted::HiddenAlone => None,
+            Counted::Unnamed => None,
+            Counted::All => {
+                let (_commands, behind) = self
+                    .bytes
+                    .as_slice()
+                    .split_at(self.command_bytes as usize);
+                let (_hidden, explicit) = behind.split_at(self.hidden_bytes as usize);
+                Some(Strings::new(self.explicit, explicit))
+            }
+        }
+    }
+
+    /// There are more commands, hidden names or explicit ones than a record may have.
+    pub(crate) fn has_too_many(&self) -> bool
+        ensures { result ≡ (nat_lt MAX_COMMANDS (length self.now.commands)
+            || (nat_lt MAX_HIDDEN_NAMES (length self.now.hidden) || nat_lt MAX_EXPLICIT_NAMES (length (names_known self.now.explicit)))) }
+    {
+        self.commands().len() > MAX_COMMANDS
+            || self.hidden().len() > MAX_HIDDEN_NAMES
+            || self.names().len() > MAX_EXPLICIT_NAMES
+    }
+
+    /// The explicit names in order, none where they aren't known.
+    pub fn names(&self) -> Strings<'_>
+        ensures { result ≡ names_known self.now.explicit }
+    {
+        match self.explicit() {
+            None => Strings::empty(),
+            Some(names) => names,
+        }
+    }
+
+    /// A recipe that began or failed: no commands and no explicit names count any more, the hidden names stay as last known.
+    pub fn leave_unfinished(&mut self, phase: Phase)
+        ensures { self.new ≡ record { phase = phase; commands = []; hidden = self.old.hidden; explicit = explicits.Unknown } }
+    {
+        self.phase = phase;
+        self.counted = Counted::HiddenAlone;
+    }
+
+    /// The same strings of a recipe that was run to its end.
+    pub fn done(self) -> PackedEntry
+        ensures { result ≡ record { phase = phases.Done; commands = self.commands; hidden = self.hidden; explicit = self.explicit } }
+    {
+        let mut done = self;
+        done.phase = Phase::Done;
+        done
+    }
+
+    pub fn copy(&self, alloc: Global) -> Result<PackedEntry, AllocError>
+        ensures { IfOk result (λ copied. copied ≡ self.now) }
+    {
+        Ok(PackedEntry {
+            phase: self.phase,
+            counted: self.counted,
+            commands: self.commands,
+            hidden: self.hidden,
+            explicit: self.explicit,
+            command_bytes: self.command_bytes,
+            hidden_bytes: self.hidden_bytes,
+            bytes: Vec::from_slice(alloc, self.bytes.as_slice())?,
+        })
+    }
+
+    /// The entry with its strings in lists of their own.
+    pub fn unpack(&self, alloc: Global) -> Result<Entry, AllocError>
+        ensures { IfOk result (λ entry. entry ≡ self.now) }
+    {
+        Ok(Entry {
+            phase: self.phase(),
+            commands: self.commands().copy(alloc)?,
+            hidden: self.hidden().copy(alloc)?,
+            explicit: match self.explicit() {
+                None => Explicit::Unknown,
+                Some(names) => Explicit::Known(names.copy(alloc)?),
+            },
+        })
+    }
+}
+
+/// The three texts one behind the other.
+fn joined(alloc: Global, first: &[u8], second: &[u8], third: &[u8]) -> Result<Vec<u8>, AllocError>
+    ensures { IfOk result (λ whole. whole.items ≡ first.now ++ (second.now ++ third.now)) }
+{
+    let room = first
+        .len()
+        .saturating_add(second.len())
+        .saturating_add(third.len());
+    let mut whole = Vec::with_capacity(alloc, room)?;
+    whole.extend_from_slice(first)?;
+    whole.extend_from_slice(second)?;
+    whole.extend_from_slice(third)?;
+    Ok(whole)
+}
+
+/// How many strings there are, and a text in which they lie.
+fn texts_of(alloc: Global, items: Iter<'_>) -> Result<(u32, Vec<u8>), AllocError>
+    ensures lie { IfOk result (λ x. AreTexts x.0 x.1.items) }
+    ensures same { IfOk result (λ x. texts x.0 x.1.items ≡ items.entry) }
+{
+    let Ok(count) = u32::try_from(items.len()) else {
+        return Err(AllocError);
+    };
+    let mut text = Vec::new(alloc);
+    for item in items {
+        push_text(&mut text, item)?;
+    }
+    Ok((count, text))
+}
+
+/// Adds the string behind its length. There is no memory for one of 2^32 bytes or more.
+fn push_text(text: &mut Vec<u8>, string: &[u8]) -> Result<(), AllocError>
+    ensures { OnOk result ((front : List ℕ) × (length front ≡ 4) × (from_le_bytes w32 front ≡ length string.now) × (text.new.items ≡ text.old.items ++ (front ++ string.now))) }
+{
+    let Ok(len) = u32::try_from(string.len()) else {
+        return Err(AllocError);
+    };
+    text.extend_from_slice(&len.to_le_bytes())?;
+    text.extend_from_slice(string)
+}
