@@ -1,5 +1,5 @@
 //! Bytes that own themselves. Clauses see the list of the bytes, and nothing of where they lie in memory.
-ghost use Rattle.std.specs.Prelude.{◌≡◌, List, ℕ, Some, IfOk, encode_utf8_all, nat_eq};
+ghost use Rattle.std.specs.Prelude.{◌≡◌, ◌≤◌, List, ℕ, Some, length, IfOk, IsOk, encode_utf8_all, nat_eq};
 ghost use Rattle.std.specs.Cmp.Lexicographic.{pointwise};
 ghost use Rattle.bstr.specs.Utf8.{lossy_chars};
 
@@ -8,16 +8,42 @@ use std::alloc::{AllocError, Global};
 use std::fmt;
 use std::marker::Model;
 
-/// A name, a command, or a piece of a text: any bytes, which needn't be UTF-8.
+// As many as leave a string 32 bytes: one says which form it has, one how long it is.
+const MAX_SHORT_BYTES: usize = 30;
+
+#[derive(Drop)]
+enum Bytes {
+    Short(u8, [u8; MAX_SHORT_BYTES]),
+    Long(Vec<u8>),
+}
+
+/// A name, a command, or a piece of a text: any bytes, which needn't be UTF-8. Most are short, and stand in the value itself.
 #[derive(Drop)]
 pub struct ByteString {
-    bytes: Vec<u8>,
+    bytes: Bytes,
 }
 
 impl Model for ByteString {
+    ghost use Rattle.std.specs.Prelude.{List, ℕ};
+    ghost use Rattle.byte_strings.specs.Held.{held, IsHeld};
+
     ghost Value = { List ℕ };
 
-    ghost view = { λ s. s.bytes.items };
+    ghost view = { λ s. held s.bytes };
+
+    ghost invariant = { λ s. IsHeld s.bytes };
+}
+
+/// The bytes of a slice that has few, in a value.
+fn short(bytes: &[u8]) -> ByteString
+    requires { length bytes.now ≤ 30 }
+    ensures { result ≡ bytes.now }
+{
+    let mut kept = [0; MAX_SHORT_BYTES];
+    kept[..bytes.len()].copy_from_slice(bytes);
+    ByteString {
+        bytes: Bytes::Short(bytes.len() as u8, kept),
+    }
 }
 
 impl ByteString {
@@ -25,29 +51,31 @@ impl ByteString {
     pub fn new(bytes: Vec<u8>) -> ByteString
         ensures { result ≡ bytes.items }
     {
-        ByteString { bytes }
+        ByteString {
+            bytes: Bytes::Long(bytes),
+        }
     }
 
-    /// A copy of the bytes of a slice.
+    /// A copy of the bytes of a slice, which takes no memory where there are at most 30 of them.
     pub fn from_slice(alloc: Global, bytes: &[u8]) -> Result<ByteString, AllocError>
-        ensures { IfOk result (λ s. s ≡ bytes.now) }
+        ensures ok { IfOk result (λ s. s ≡ bytes.now) }
+        ensures short { length bytes.now ≤ 30 → IsOk result }
     {
+        if bytes.len() <= MAX_SHORT_BYTES {
+            return Ok(short(bytes));
+        }
         let bytes = Vec::from_slice(alloc, bytes)?;
-        Ok(ByteString { bytes })
+        Ok(ByteString::new(bytes))
     }
 
-    /// The bytes as a vector, which takes no memory.
-    pub fn into_vec(self) -> Vec<u8>
-        ensures { result.items ≡ self }
-    {
-        let ByteString { bytes } = self;
-        bytes
-    }
-
+    #[inline(always)]
     pub fn as_slice(&self) -> &[u8]
         ensures { result.now ≡ self.now }
     {
-        self.bytes.as_slice()
+        match &self.bytes {
+            Bytes::Short(len, bytes) => &bytes[..*len as usize],
+            Bytes::Long(bytes) => bytes.as_slice(),
+        }
     }
 
     pub fn copy(&self, alloc: Global) -> Result<ByteString, AllocError>

@@ -1,16 +1,12 @@
 //! A list of byte strings in one piece of memory, however many strings it has.
-ghost use Rattle.std.specs.Prelude.{◌≡◌, ℕ, ◌≤◌, List, [], ◌∷◌, ◌++◌, length, IfOk, OnOk, OnErr, IsTrue, ◌↔◌, slice_get, option_copied, drop, nat_eq};
-ghost use Rattle.std.specs.Cmp.Lexicographic.{pointwise};
-ghost use Rattle.std.specs.Iterator.{YieldsFirstRef, item_count};
-ghost use Rattle.byte_strings.specs.Texts.{size_of, first_text, behind_first, texts, AreTexts};
+ghost use Rattle.std.specs.Prelude.{◌≡◌, ℕ, List, [], ◌∷◌, ◌++◌, length, IfOk, OnOk, OnErr, IsTrue, ◌↔◌, slice_get, option_copied};
+ghost use Rattle.byte_strings.specs.Texts.{texts, AreTexts};
 
+use crate::iter::{Iter, LENGTH_BYTES};
 use bstr::ByteSlice;
 use std::alloc::{AllocError, Global};
 use std::fmt;
 use std::marker::Model;
-
-/// So many bytes in front of a string have its length.
-const LENGTH_BYTES: usize = 4;
 
 /// Byte strings in their order, as the names or the commands of a target. They are one allocation, in which each stands behind
 /// its length.
@@ -26,36 +22,6 @@ impl Model for ByteStrings {
     ghost view = { λ s. texts s.count s.bytes.items };
 
     ghost invariant = { λ s. AreTexts s.count s.bytes.items };
-}
-
-/// The string that stands first, behind its length, and what follows it.
-fn first_text(bytes: &[u8]) -> (&[u8], &[u8])
-    requires length { 4 ≤ length bytes.now }
-    requires string { size_of bytes.now ≤ length (drop 4 bytes.now) }
-    ensures string { result.0.now ≡ first_text bytes.now }
-    ensures behind { result.1.now ≡ behind_first bytes.now }
-{
-    let (front, rest) = bytes.split_at(LENGTH_BYTES);
-    let len = u32::from_le_bytes([front[0], front[1], front[2], front[3]]);
-    rest.split_at(len as usize)
-}
-
-/// Whether both have the same strings left.
-fn are_same(strings: Iter<'_>, others: Iter<'_>) -> bool
-    ensures { result ≡ pointwise (pointwise nat_eq) strings.entry others.entry }
-{
-    let mut left = others;
-    for string in strings {
-        match left.next() {
-            None => return false,
-            Some(other) => {
-                if string != other {
-                    return false;
-                }
-            }
-        }
-    }
-    left.next().is_none()
 }
 
 impl ByteStrings {
@@ -137,19 +103,13 @@ impl ByteStrings {
     pub fn iter(&self) -> Iter<'_>
         ensures { result ≡ self.now }
     {
-        Iter {
-            bytes: self.bytes.as_slice(),
-            count: self.count,
-        }
+        Iter::of_texts(self.count, self.bytes.as_slice())
     }
 
     pub fn copy(&self, alloc: Global) -> Result<ByteStrings, AllocError>
         ensures { IfOk result (λ s. s ≡ self.now) }
     {
-        Ok(ByteStrings {
-            bytes: Vec::from_slice(alloc, self.bytes.as_slice())?,
-            count: self.count,
-        })
+        self.iter().copy(alloc)
     }
 }
 
@@ -171,7 +131,7 @@ impl PartialEq for ByteStrings {
     ghost laws = { partial_equiv_from_equiv (lists_equiv nat_list_eq_equiv) };
 
     fn eq(&self, other: &ByteStrings) -> bool {
-        are_same(self.iter(), other.iter())
+        self.iter().are(other.iter())
     }
 }
 
@@ -190,57 +150,5 @@ impl<'a> IntoIterator for &'a ByteStrings {
 
     fn into_iter(self) -> Iter<'a> {
         self.iter()
-    }
-}
-
-/// The strings that are left. Contracts see them as the list of these.
-#[derive(Drop)]
-pub struct Iter<'a> {
-    bytes: &'a [u8],
-    count: usize,
-}
-
-impl<'a> Model for Iter<'a> {
-    ghost Value = { List (List ℕ) };
-
-    ghost view = { λ s. texts s.count s.bytes.now };
-
-    ghost invariant = { λ s. AreTexts s.count s.bytes.now };
-}
-
-impl<'a> Iter<'a> {
-    /// No strings.
-    pub fn empty() -> Iter<'a>
-        ensures { result ≡ [] }
-    {
-        Iter {
-            bytes: &[],
-            count: 0,
-        }
-    }
-
-    /// How many strings are left.
-    pub fn len(&self) -> usize
-        ensures { result ≡ length self.now }
-    {
-        self.count
-    }
-}
-
-impl<'a> Iterator for Iter<'a> {
-    type Item = &'a [u8];
-
-    ghost next_gives = { YieldsFirstRef (λ s. s) };
-
-    ghost remaining = { item_count (λ s. s) };
-
-    fn next(&mut self) -> Option<&'a [u8]> {
-        if self.count == 0 {
-            return None;
-        }
-        let (string, bytes) = first_text(self.bytes);
-        self.bytes = bytes;
-        self.count -= 1;
-        Some(string)
     }
 }

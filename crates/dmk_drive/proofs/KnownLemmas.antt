@@ -1,11 +1,15 @@
 -- What was told of names that stand in a table.
-use Rattle.std.proofs.Common.{◌≡◌, true≢false, ℕ, zero, suc, ◌<◌, Bool, true, false, ◌||◌, cond, List, [], ◌∷◌, ◌++◌, length, get_or, Option, Some, None, refl, sym, ap, ◌∙◌, arith}
+use Rattle.std.proofs.Common.{◌≡◌, true≢false, ℕ, zero, suc, ◌<◌, ◌≤◌, Bool, true, false, ◌||◌, cond, List, [], ◌∷◌, ◌++◌, length, get_or, slice_set, Option, None, IsSome, refl, sym, ap, subst, ◌∙◌, arith}
 use Rattle.std.specs.Prelude.{ℤ, bytes_eq}
 use Rattle.std.specs.List.{IsDistinct}
 use Rattle.std.proofs.lemmas.Map.Keys.{IsDistinct-tail}
-use Rattle.mk_graph.specs.Numbering.{name_at, has_name}
-use Rattle.mk_graph.proofs.NameLemmas.{same_bytes, bytes_same, new_at}
+use Rattle.mk_graph.specs.Numbering.{name_at, has_name, added}
+use Rattle.mk_graph.proofs.NameLemmas.{same_bytes, bytes_same, new_at, begins_added, length_from_begins}
 use Rattle.dmk_drive.specs.Stamps.{told_of}
+
+-- what is told of one name
+abbrev pub Told : Type 0
+Told = Option (Option ℤ)
 
 first_of : (a b : Bool) → (a || b) ≡ false → a ≡ false
 first_of true b e = e
@@ -15,51 +19,102 @@ second_of : (a b : Bool) → (a || b) ≡ false → b ≡ false
 second_of true b e = absurd (true≢false e)
 second_of false b e = e
 
--- the time at the number of a name
-pub told_at : (names : List (List ℕ)) (times : List (Option ℤ)) (n : ℕ) → IsDistinct bytes_eq names → n < length names → length names ≡ length times →
-    told_of names times (name_at names n) ≡ Some (get_or times n None)
-told_at [] times n once h paired = absurd (omega arith)
-told_at (x ∷ names) [] n once h paired = absurd (omega arith)
-told_at (x ∷ names) (time ∷ times) zero once h paired = ap (λ b. cond b (Some time) (told_of names times x)) (bytes_same x x refl)
-told_at (x ∷ names) (time ∷ times) (suc n) once h paired =
-    let other : bytes_eq (name_at names n) x ≡ false = first_of (bytes_eq (name_at names n) x) _ (new_at (x ∷ names) (suc n) once h) in
-    ap (λ b. cond b (Some time) (told_of names times (name_at names n))) other
-    ∙ told_at names times n (IsDistinct-tail bytes_eq x names once) (omega arith) (omega arith)
+-- the names behind the first have other bytes
+other_first : (x : List ℕ) (names : List (List ℕ)) (n : ℕ) → IsDistinct bytes_eq (x ∷ names) → n < length names → bytes_eq (name_at names n) x ≡ false
+other_first x names n once h = first_of (bytes_eq (name_at names n) x) _ (new_at (x ∷ names) (suc n) once (omega arith))
+
+-- nothing is told of any name
+told_nothing : (names : List (List ℕ)) (name : List ℕ) → told_of names [] name ≡ None
+told_nothing [] name = refl
+told_nothing (x ∷ names) name = refl
+
+-- what is told at the number of a name
+pub told_at : (names : List (List ℕ)) (told : List Told) (n : ℕ) → IsDistinct bytes_eq names → n < length names →
+    told_of names told (name_at names n) ≡ get_or told n None
+told_at [] told n once h = absurd (omega arith)
+told_at (x ∷ names) [] n once h = refl
+told_at (x ∷ names) (time ∷ told) zero once h = ap (λ b. cond b time (told_of names told x)) (bytes_same x x refl)
+told_at (x ∷ names) (time ∷ told) (suc n) once h =
+    ap (λ b. cond b time (told_of names told (name_at names n))) (other_first x names n once (omega arith))
+    ∙ told_at names told n (IsDistinct-tail bytes_eq x names once) (omega arith)
+
+past_end : (told : List Told) (n : ℕ) → length told ≤ n → get_or told n None ≡ None
+past_end [] n h = refl
+past_end (time ∷ told) zero h = absurd (omega arith)
+past_end (time ∷ told) (suc n) h = past_end told n (omega arith)
+
+-- nothing at a number past the end
+pub told_past : (names : List (List ℕ)) (told : List Told) (n : ℕ) → IsDistinct bytes_eq names → n < length names → length told ≤ n →
+    told_of names told (name_at names n) ≡ None
+told_past names told n once h past = told_at names told n once h ∙ past_end told n past
 
 -- nothing of other names
-pub told_none : (names : List (List ℕ)) (times : List (Option ℤ)) (name : List ℕ) → has_name names name ≡ false → told_of names times name ≡ None
-told_none [] times name absent = refl
+told_none : (names : List (List ℕ)) (told : List Told) (name : List ℕ) → has_name names name ≡ false → told_of names told name ≡ None
+told_none [] told name absent = refl
 told_none (x ∷ names) [] name absent = refl
-told_none (x ∷ names) (time ∷ times) name absent =
-    ap (λ b. cond b (Some time) (told_of names times name)) (first_of (bytes_eq name x) (has_name names name) absent)
-    ∙ told_none names times name (second_of (bytes_eq name x) (has_name names name) absent)
+told_none (x ∷ names) (time ∷ told) name absent =
+    ap (λ b. cond b time (told_of names told name)) (first_of (bytes_eq name x) (has_name names name) absent)
+    ∙ told_none names told name (second_of (bytes_eq name x) (has_name names name) absent)
 
-absent_at : (names : List (List ℕ)) (name x : List ℕ) (time : Option ℤ) (rest : Option (Option ℤ)) → (rest ≡ None → has_name names name ≡ false) →
-    (t : Bool) → bytes_eq name x ≡ t → cond t (Some time) rest ≡ None → (t || has_name names name) ≡ false
-absent_at names name x time rest ih true e none = cc
-absent_at names name x time rest ih false e none = ih none
+-- a name of which something is told isn't missing
+pub never_absent : (names : List (List ℕ)) (told : List Told) (name : List ℕ) → IsSome (told_of names told name) → has_name names name ≡ false → ⊥
+never_absent names told name some absent = true≢false (sym (subst (λ (t : Told). IsSome t) (told_none names told name absent) some))
 
--- a name of which nothing was told isn't there
-pub absent : (names : List (List ℕ)) (times : List (Option ℤ)) (name : List ℕ) → length names ≡ length times → told_of names times name ≡ None → has_name names name ≡ false
-absent [] times name paired none = refl
-absent (x ∷ names) [] name paired none = absurd (omega arith)
-absent (x ∷ names) (time ∷ times) name paired none =
-    absent_at names name x time (told_of names times name) (absent names times name (omega arith)) (bytes_eq name x) refl none
+-- so it is not added
+pub known_stays : (names : List (List ℕ)) (told : List Told) (name : List ℕ) → IsSome (told_of names told name) → added names name ≡ names
+known_stays names told name some = by (has_name names name) refl
+  where
+    by : (b : Bool) → has_name names name ≡ b → cond b names (names ++ name ∷ []) ≡ names
+    by true e = refl
+    by false e = absurd (never_absent names told name some e)
 
-added_at : (x y n : List ℕ) (time s : Option ℤ) (rest more : Option (Option ℤ)) → bytes_eq x y ≡ false → more ≡ cond (bytes_eq n x) (Some time) rest →
-    (t u : Bool) → bytes_eq n y ≡ t → bytes_eq n x ≡ u → cond t (Some s) more ≡ cond u (Some time) (cond t (Some s) rest)
-added_at x y n time s rest more apart ih true true e f =
-    let same : bytes_eq x y ≡ true = bytes_same x y (sym (same_bytes n x f) ∙ same_bytes n y e) in absurd (true≢false (sym same ∙ apart))
-added_at x y n time s rest more apart ih true false e f = refl
-added_at x y n time s rest more apart ih false true e f = ih ∙ ap (λ b. cond b (Some time) rest) f
-added_at x y n time s rest more apart ih false false e f = ih ∙ ap (λ b. cond b (Some time) rest) f
+told_behind : (names : List (List ℕ)) (told : List Told) (x name : List ℕ) → length told ≤ length names →
+    told_of (names ++ x ∷ []) told name ≡ told_of names told name
+told_behind [] [] x name within = refl
+told_behind [] (time ∷ told) x name within = absurd (omega arith)
+told_behind (y ∷ names) [] x name within = refl
+told_behind (y ∷ names) (time ∷ told) x name within = ap (λ t. cond (bytes_eq name y) time t) (told_behind names told x name (omega arith))
 
--- one more name
-pub told_more : (names : List (List ℕ)) (times : List (Option ℤ)) (x : List ℕ) (time : Option ℤ) (n : List ℕ) → length names ≡ length times → has_name names x ≡ false →
-    told_of (names ++ x ∷ []) (times ++ time ∷ []) n ≡ cond (bytes_eq n x) (Some time) (told_of names times n)
-told_more [] [] x time n paired new = refl
-told_more [] (s ∷ times) x time n paired new = absurd (omega arith)
-told_more (y ∷ names) [] x time n paired new = absurd (omega arith)
-told_more (y ∷ names) (s ∷ times) x time n paired new =
-    added_at x y n time s (told_of names times n) (told_of (names ++ x ∷ []) (times ++ time ∷ []) n) (first_of (bytes_eq x y) (has_name names x) new)
-    (told_more names times x time n (omega arith) (second_of (bytes_eq x y) (has_name names x) new)) (bytes_eq n y) (bytes_eq n x) refl refl
+-- nothing is told of a new name
+pub told_before : (names : List (List ℕ)) (told : List Told) (x name : List ℕ) → length told ≤ length names →
+    told_of (added names x) told name ≡ told_of names told name
+told_before names told x name within = by (has_name names x)
+  where
+    by : (b : Bool) → told_of (cond b names (names ++ x ∷ [])) told name ≡ told_of names told name
+    by true = refl
+    by false = told_behind names told x name within
+
+pub within_added : (names : List (List ℕ)) (told : List Told) (x : List ℕ) → length told ≤ length names → length told ≤ length (added names x)
+within_added names told x within = let longer = length_from_begins names (added names x) (begins_added names x) in omega arith
+
+nothing_either : (b : Bool) (t : Told) → t ≡ None → cond b None t ≡ None
+nothing_either true t e = refl
+nothing_either false t e = e
+
+-- nothing more is told where the list gets longer
+pub told_longer : (names : List (List ℕ)) (told : List Told) (name : List ℕ) → told_of names (told ++ None ∷ []) name ≡ told_of names told name
+told_longer [] told name = refl
+told_longer (x ∷ names) [] name = nothing_either (bytes_eq name x) (told_of names [] name) (told_nothing names name)
+told_longer (x ∷ names) (time ∷ told) name = ap (λ t. cond (bytes_eq name x) time t) (told_longer names told name)
+
+set_first : (b : Bool) (one before rest : Told) → cond b one rest ≡ cond b one (cond b before rest)
+set_first true one before rest = refl
+set_first false one before rest = refl
+
+set_later : (x y name : List ℕ) (time one rest more : Told) → bytes_eq y x ≡ false → more ≡ cond (bytes_eq name y) one rest →
+    (t u : Bool) → bytes_eq name x ≡ t → bytes_eq name y ≡ u → cond t time more ≡ cond u one (cond t time rest)
+set_later x y name time one rest more apart ih true true e f =
+    let same : bytes_eq y x ≡ true = bytes_same y x (sym (same_bytes name y f) ∙ same_bytes name x e) in absurd (true≢false (sym same ∙ apart))
+set_later x y name time one rest more apart ih true false e f = refl
+set_later x y name time one rest more apart ih false true e f = ih ∙ ap (λ b. cond b one rest) f
+set_later x y name time one rest more apart ih false false e f = ih ∙ ap (λ b. cond b one rest) f
+
+-- what is told of the name with a number is written over
+pub told_set : (names : List (List ℕ)) (told : List Told) (k : ℕ) (one : Told) (name : List ℕ) → IsDistinct bytes_eq names → k < length names → k < length told →
+    told_of names (slice_set told k one) name ≡ cond (bytes_eq name (name_at names k)) one (told_of names told name)
+told_set [] told k one name once h g = absurd (omega arith)
+told_set (x ∷ names) [] k one name once h g = absurd (omega arith)
+told_set (x ∷ names) (time ∷ told) zero one name once h g = set_first (bytes_eq name x) one time (told_of names told name)
+told_set (x ∷ names) (time ∷ told) (suc k) one name once h g =
+    set_later x (name_at names k) name time one (told_of names told name) (told_of names (slice_set told k one) name) (other_first x names k once (omega arith))
+    (told_set names told k one name (IsDistinct-tail bytes_eq x names once) (omega arith) (omega arith)) (bytes_eq name x) (bytes_eq name (name_at names k)) refl refl

@@ -31,16 +31,16 @@ some_is o other none same is told = sym (ap is_some same) ∙ is ∙ ap not told
 
 -- the file is `makefile`
 pub first_is : (world : World) (times : List ℕ → Option ℤ) (found : Option Makefile) (m : Makefile) → found ≡ Some m →
-    IfSome found (λ x. x.file ≡ first_name) → world.files first_name ≡ option_map (λ x. x.text.items) found → IsUsualMakefile world times m.file m.text.items
+    IfSome found (λ x. x.file ≡ first_name) → world.files first_name ≡ option_map (λ x. x.text.value.items) found → IsUsualMakefile world times m.file m.text.value.items
 first_is world times found m is file read =
-    inl (subst (λ o. IfSome o (λ x. x.file ≡ first_name)) is file, read ∙ ap (option_map (λ (x : Makefile). x.text.items)) is)
+    inl (subst (λ o. IfSome o (λ x. x.file ≡ first_name)) is file, read ∙ ap (option_map (λ (x : Makefile). x.text.value.items)) is)
 
 -- it is `Makefile`
 pub second_is : (world : World) (times : List ℕ → Option ℤ) (found : Option Makefile) (m : Makefile) → found ≡ Some m →
     world.files first_name ≡ None → times first_name ≡ None → IfSome found (λ x. x.file ≡ second_name) →
-    world.files second_name ≡ option_map (λ x. x.text.items) found → IsUsualMakefile world times m.file m.text.items
+    world.files second_name ≡ option_map (λ x. x.text.value.items) found → IsUsualMakefile world times m.file m.text.value.items
 second_is world times found m is none absent file read =
-    inr (subst (λ o. IfSome o (λ x. x.file ≡ second_name)) is file, (none, (absent, read ∙ ap (option_map (λ (x : Makefile). x.text.items)) is)))
+    inr (subst (λ o. IfSome o (λ x. x.file ≡ second_name)) is file, (none, (absent, read ∙ ap (option_map (λ (x : Makefile). x.text.value.items)) is)))
 
 module _ (world : World) (times : List ℕ → Option ℤ) (given : Defined)
     (file name text bytes : List ℕ) (is_file : name ≡ file) (is_text : bytes ≡ text) (is_makefile : IsUsualMakefile world times file text) where

@@ -1,6 +1,6 @@
 -- What is known of names once one more is known: the times of their files, or anything else.
-use Rattle.std.proofs.Common.{◌≡◌, ℕ, Bool, true, false, cond, List, Option, Some, None, refl, sym, ap, subst, ◌∙◌}
-use Rattle.std.specs.Prelude.{IfSome}
+use Rattle.std.proofs.Common.{◌≡◌, true≢false, ℕ, Bool, true, false, cond, List, Option, Some, None, refl, sym, ap, subst, ◌∙◌}
+use Rattle.std.specs.Prelude.{IfSome, IsSome}
 use Rattle.std.specs.Str.{bytes_eq}
 use Rattle.std.proofs.lemmas.Slice.Eq.{bytes_eq-Decides}
 use Rattle.mk_rule_lines.proofs.NameLemmas.{bytes_eq-same}
@@ -10,6 +10,14 @@ use Rattle.dmk_drive.specs.Fits.{Fits}
 pub found_is : {V : Type 0} (known : List ℕ → Option V) (name : List ℕ) (stamp : V) → known name ≡ Some stamp →
     (times : List ℕ → V) → Fits known times → stamp ≡ times name
 found_is {V} known name stamp is times fits = sym (subst (λ (found : Option V). IfSome found (λ s. times name ≡ s)) is (fits name))
+
+-- what fits later fits before, where no more is known
+pub fits_alike : {V : Type 0} (known after : List ℕ → Option V) (times : List ℕ → V) → ((n : List ℕ) → after n ≡ known n) → Fits after times → Fits known times
+fits_alike {V} known after times same fits n = subst (λ (found : Option V). IfSome found (λ s. times n ≡ s)) (same n) (fits n)
+
+-- of what isn't known later nothing was known before
+pub unknown_before : {V : Type 0} (known after : List ℕ → Option V) (name : List ℕ) → ((n : List ℕ) → after n ≡ known n) → after name ≡ None → IsSome (known name) → ⊥
+unknown_before {V} known after name same none some = true≢false (sym (subst (λ (found : Option V). IsSome found) (sym (same name) ∙ none) some))
 
 module _ {V : Type 0} (known after : List ℕ → Option V) (name : List ℕ) (stamp : V)
     (adds : (n : List ℕ) → after n ≡ cond (bytes_eq n name) (Some stamp) (known n)) (times : List ℕ → V) where

@@ -16,7 +16,7 @@ IsMissing kind = (kind ≡ NotFound) ⊎ ((kind ≡ NotADirectory) ⊎ (kind ≡
 
 -- what was read of a name: nothing, that its file can't be read, or its text
 abbrev pub known_text : Texts → (name : List ℕ) → Option (Option (List ℕ))
-known_text texts name = option_map (option_map (λ text. text.items)) (get_by (λ k. bytes_eq name k.items) texts.known)
+known_text texts name = option_map (option_map (λ text. text.value.items)) (get_by (λ k. bytes_eq name k.items) texts.known)
 
 -- behind a call the name is known by this, and each other one as before
 abbrev pub Adds : (name : List ℕ) (text : Option (List ℕ)) (before after : Texts) → Type 0

@@ -30,5 +30,7 @@ pub mod Commands
 pub mod Listings
 -- Stamps: the times of files that are known so far.
 pub mod Stamps
+-- Told: what is told of a file by what is kept of it.
+pub mod Told
 -- Fits: what is known of names, and what it may come from.
 pub mod Fits

@@ -18,6 +18,7 @@ use mk_reader::Statement;
 use std::alloc::{AllocError, Global};
 use std::fmt;
 use std::io::{self, ErrorKind};
+use std::rc::Rc;
 
 /// A file that is there and couldn't be read, by the system's own error.
 #[derive(Drop)]
@@ -107,11 +108,22 @@ fn names_of<C: FileCalls>(
     }
 }
 
-fn copy_of(alloc: Global, text: &Option<Vec<u8>>) -> Result<Option<Vec<u8>>, AllocError>
-    ensures { IfOk result (λ copy. option_map (λ v. v.items) copy ≡ option_map (λ v. v.items) text.now) }
+/// A text that others may hold too.
+fn to_share(alloc: Global, text: Option<Vec<u8>>) -> Result<Option<Rc<Vec<u8>>>, AllocError>
+    ensures { IfOk result (λ shared. option_map (λ text. text.value.items) shared ≡ option_map (λ text. text.items) text) }
 {
     match text {
-        Some(text) => Ok(Some(Vec::from_slice(alloc, text.as_slice())?)),
+        Some(text) => Ok(Some(Rc::new(alloc, text)?)),
+        None => Ok(None),
+    }
+}
+
+/// The same text for one more that holds it.
+fn shared(text: &Option<Rc<Vec<u8>>>) -> Result<Option<Rc<Vec<u8>>>, AllocError>
+    ensures { IfOk result (λ shared. option_map (λ text. text.value.items) shared ≡ option_map (λ text. text.value.items) text.now) }
+{
+    match text {
+        Some(text) => Ok(Some(text.clone()?)),
         None => Ok(None),
     }
 }
@@ -153,20 +165,21 @@ impl<C: FileCalls + Drop> FileTexts<C> {
     }
 
     /// The text of this name. The file is read where the name isn't known.
-    fn text(&mut self, alloc: Global, name: &[u8]) -> Result<Option<Vec<u8>>, AllocError>
+    fn text(&mut self, alloc: Global, name: &[u8]) -> Result<Option<Rc<Vec<u8>>>, AllocError>
         ensures text { IfOk result (λ answer. (world : World) → Agree self.new.texts self.new.commands world
-            → option_map (λ text. text.items) answer ≡ world.files name.now) }
+            → option_map (λ text. text.value.items) answer ≡ world.files name.now) }
         ensures grows { (world : World) → Agree self.new.texts self.new.commands world → Agree self.old.texts self.old.commands world }
         ensures known { IsSome (known_text self.old.texts name.now) → self.new ≡ self.old }
         ensures listings { self.new.listings ≡ self.old.listings }
     {
         if let Some(known) = self.texts.get(name) {
-            return copy_of(alloc, known);
+            return shared(known);
         }
-        let text = text_of(alloc, &mut self.calls, &mut self.unread, name)?;
-        let copy = copy_of(alloc, &text)?;
+        let read = text_of(alloc, &mut self.calls, &mut self.unread, name)?;
+        let text = to_share(alloc, read)?;
+        let answer = shared(&text)?;
         self.texts.add(alloc, name, text)?;
-        Ok(copy)
+        Ok(answer)
     }
 
     /// What the command writes. It is run where that isn't known.
@@ -218,7 +231,7 @@ impl<C: FileCalls + Drop> Includes for FileTexts<C> {
 
     ghost allows = { λ source world. Agree source.texts source.commands world × AgreeIn source.listings world.folders };
 
-    fn read(&mut self, alloc: Global, name: &[u8]) -> Result<Option<Vec<u8>>, AllocError> {
+    fn read(&mut self, alloc: Global, name: &[u8]) -> Result<Option<Rc<Vec<u8>>>, AllocError> {
         self.text(alloc, name)
     }
 

@@ -85,11 +85,14 @@ impl<C: FileCalls + Drop> FileTree<C> {
         ensures found { IsSome (known_stamp self.old.stamps name.now) → IsOk result }
         ensures fault { IfErr result (IsTreeFault (Unit {0})) }
     {
-        if let Some(known) = self.stamps.get(name) {
+        let Ok(number) = self.stamps.numbered(alloc, name) else {
+            return Err(TreeFault::OutOfMemory);
+        };
+        if let Some(known) = self.stamps.get(number) {
             return Ok(known);
         }
         let stamp = time_of(&mut self.calls, name)?;
-        match self.stamps.add(alloc, name, stamp) {
+        match self.stamps.set(alloc, number, stamp) {
             Ok(()) => Ok(stamp),
             Err(_) => Err(TreeFault::OutOfMemory),
         }

@@ -28,6 +28,7 @@ mod recovered;
 mod stamps;
 mod state_name;
 mod texts;
+mod told;
 
 pub use always_run::AlwaysRun;
 pub use base::base_of;

@@ -22,6 +22,7 @@ use mk_profile::Profile;
 use mk_reader::Item;
 use mk_rules::{Tree, TreeFault};
 use std::alloc::Global;
+use std::rc::Rc;
 
 const FIRST_NAME: &[u8] = b"makefile";
 
@@ -31,7 +32,7 @@ const SECOND_NAME: &[u8] = b"Makefile";
 #[derive(Drop)]
 struct Makefile {
     file: ByteString,
-    text: Vec<u8>,
+    text: Rc<Vec<u8>>,
 }
 
 /// The file of this name as the makefile.
@@ -41,7 +42,7 @@ fn file_named<I: Includes>(
     includes: &mut I,
 ) -> Result<Option<Makefile>, Fault>
     ensures read { IfOk result (λ found. (world : World) → I.allows includes.new world
-        → world.files name.now ≡ option_map (λ m. m.text.items) found) }
+        → world.files name.now ≡ option_map (λ m. m.text.value.items) found) }
     ensures name { IfOk result (λ found. IfSome found (λ m. m.file ≡ name.now)) }
     ensures files { (world : World) → I.allows includes.new world → I.allows includes.old world }
     ensures fault { IfErr result (λ fault. fault ≡ OutOfMemory) }
@@ -78,7 +79,7 @@ fn usual_makefile<T: Tree, I: Includes>(
     includes: &mut I,
 ) -> Result<Makefile, Fault>
     ensures makefile { IfOk result (λ m. (world : World) (times : List ℕ → Option ℤ) → I.allows includes.new world → T.allows tree.new times
-        → IsUsualMakefile world times m.file m.text.items) }
+        → IsUsualMakefile world times m.file m.text.value.items) }
     ensures fault { IfErr result (λ fault. (world : World) (times : List ℕ → Option ℤ) (given : Defined) → I.allows includes.new world → T.allows tree.new times
         → IsOwnFault world times (T.refuses tree.new) [] given fault) }
     ensures files { (world : World) → I.allows includes.new world → I.allows includes.old world }

@@ -4,11 +4,12 @@ ghost use Rattle.dmk_drive.specs.Files.{known_text, Adds, KnowsTheSame};
 
 use indexmap::IndexMap;
 use std::alloc::{AllocError, Global};
+use std::rc::Rc;
 
 /// What was read of each name so far.
 #[derive(Drop)]
 pub struct Texts {
-    known: IndexMap<Vec<u8>, Option<Vec<u8>>>,
+    known: IndexMap<Vec<u8>, Option<Rc<Vec<u8>>>>,
 }
 
 impl Texts {
@@ -19,8 +20,8 @@ impl Texts {
     }
 
     /// What is known of a name: nothing, that its file can't be read, or its text.
-    pub fn get(&self, name: &[u8]) -> Option<&Option<Vec<u8>>>
-        ensures { option_map (λ found. option_map (λ text. text.items) found.now) result ≡ known_text self.now name.now }
+    pub fn get(&self, name: &[u8]) -> Option<&Option<Rc<Vec<u8>>>>
+        ensures { option_map (λ found. option_map (λ text. text.value.items) found.now) result ≡ known_text self.now name.now }
     {
         self.known.get(name)
     }
@@ -30,9 +31,9 @@ impl Texts {
         &mut self,
         alloc: Global,
         name: &[u8],
-        text: Option<Vec<u8>>,
+        text: Option<Rc<Vec<u8>>>,
     ) -> Result<(), AllocError>
-        ensures ok { OnOk result (Adds name.now (option_map (λ v. v.items) text) self.old self.new) }
+        ensures ok { OnOk result (Adds name.now (option_map (λ text. text.value.items) text) self.old self.new) }
         ensures err { OnErr result (KnowsTheSame self.old self.new) }
     {
         self.known.insert(Vec::from_slice(alloc, name)?, text)?;

@@ -13,7 +13,7 @@ use jb_recipe::{News, Place, Plan, Say, long_line};
 use jb_slots::Bank;
 use mk_plan::{Passed, RecipeFault, Why, line_place, pass, told_lines};
 use mk_recipe::Line;
-use mk_rules::ShortNumber;
+use mk_rules::HiddenNumbers;
 use st_disk::Disk;
 use std::alloc::Global;
 use std::sync::Wait;
@@ -38,9 +38,9 @@ fn mark_remade(marks: &mut Vec<bool>, board: &Board<Receipt>, nodes: &[u32]) {
     }
 }
 
-fn mark_hidden(marks: &mut Vec<bool>, board: &Board<Receipt>, nodes: &[ShortNumber]) {
-    for node in nodes {
-        if let Some(node) = node.get() {
+fn mark_hidden(marks: &mut Vec<bool>, board: &Board<Receipt>, hidden: HiddenNumbers<'_>) {
+    for node in hidden {
+        if let Some(node) = node {
             mark_if_remade(marks, board, node);
         }
     }
@@ -53,7 +53,7 @@ impl<D: Disk + Drop, E: Exec<Receipt>, S: Say, P: Place> Shop<'_, D, E, S, P> {
     {
         let board = self.flusher.board.lock(rt);
         mark_remade(marks, &*board, self.graph.hard.row(number));
-        mark_hidden(marks, &*board, &self.graph.nodes[number].hidden);
+        mark_hidden(marks, &*board, self.graph.hidden(number));
         drop(board);
     }
 

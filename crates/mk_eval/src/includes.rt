@@ -6,6 +6,7 @@ use byte_strings::ByteStrings;
 use mk_profile::Profile;
 use mk_reader::Statement;
 use std::alloc::{AllocError, Global};
+use std::rc::Rc;
 
 /// Gives the files that a makefile includes, runs the commands of its definitions, and lists folders. An answer narrows what is still
 /// possible and never widens it.
@@ -14,9 +15,9 @@ pub trait Includes {
     ghost allows: { Self → World → Type 0 };
 
     /// The content of the file, or `None` where it can't be read. Names are as they stand in the makefile.
-    fn read(&mut self, alloc: Global, name: &[u8]) -> Result<Option<Vec<u8>>, AllocError>
+    fn read(&mut self, alloc: Global, name: &[u8]) -> Result<Option<Rc<Vec<u8>>>, AllocError>
         ensures content { IfOk result (λ answer. (world : World) → allows self.new world
-            → option_map (λ text. text.items) answer ≡ world.files name.now) }
+            → option_map (λ text. text.value.items) answer ≡ world.files name.now) }
         ensures grows { (world : World) → allows self.new world → allows self.old world };
 
     /// What the command writes that the definition in this line of this file runs.

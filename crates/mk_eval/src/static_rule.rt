@@ -45,7 +45,7 @@ fn rule_for(
 {
     let prerequisites = prerequisites_with(alloc, stem, patterns)?;
     Ok(Rule {
-        file: rule.file.copy(alloc)?,
+        file: rule.file.share()?,
         line: rule.line,
         is_double: rule.is_double,
         targets: ByteString::new(doubled(alloc, target)?),

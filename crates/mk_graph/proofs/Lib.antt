@@ -9,8 +9,10 @@ pub mod ReadyLemmas
 pub mod WholeLemmas
 pub mod EdgeLemmas
 pub mod UserLemmas
+pub mod FillLemmas
 pub mod SetLemmas
 pub mod JoinLemmas
+pub mod PartLemmas
 pub mod ChainLemmas
 pub mod LinkLemmas
 pub mod OwnRowLemmas

@@ -8,7 +8,7 @@ use Rattle.std.proofs.lemmas.List.Sums.{sum_by-cons, sum_by_more}
 use Rattle.byte_strings.specs.Pieces.{pieces, AreEnds}
 use Rattle.byte_strings.proofs.PieceLemmas.{length-pieces}
 use Rattle.mk_graph.specs.Edges.{row, times, is_closed}
-use Rattle.mk_graph.specs.Users.{HasUsers}
+use Rattle.mk_graph.specs.Users.{HasUsers, AreStarts, HasRoom}
 use Rattle.mk_graph.proofs.RowLemmas.{times-cons}
 use Rattle.mk_graph.proofs.EdgeLemmas.{row_at}
 use Rattle.mk_graph.proofs.CycleLemmas.{closed_row}
@@ -80,3 +80,13 @@ own_room rows g numbers ends are shown closed users n inside =
     = ap (sum_by (times n)) (sym (take_all (length g) g (omega arith))) ∙ named ∙ ap (λ k. below k (row rows n)) nodes in
     let rising = found.0 in
     omega arith
+
+pub room_of_own : (rows g : List (List ℕ)) (numbers ends starts : List ℕ) → AreEnds (length numbers) 0 ends → pieces numbers 0 ends ≡ rows → is_closed rows ≡ true → HasUsers rows g
+    → AreStarts ends starts → HasRoom g (length numbers) starts
+room_of_own rows g numbers ends starts are shown closed users starts_are = record {
+  ends = ends;
+  are_ends = are;
+  nodes = sym (length-pieces numbers 0 ends) ∙ ap length shown ∙ sym users.nodes;
+  rooms = own_room rows g numbers ends are shown closed users;
+  are_starts = starts_are;
+}

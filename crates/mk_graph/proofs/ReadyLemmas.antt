@@ -1,8 +1,6 @@
 -- Which nodes can be passed next, while the open ones are found by a walk.
 use Rattle.std.proofs.Common.{◌≡◌, ℕ, ◌+◌, ◌<◌, ◌≤◌, Bool, true, false, not, ◌&&◌, ◌||◌, nat_eq, nat_lt, nat_le, List, length, slice_index, refl, sym, ap, ◌∙◌, ⊎_elim, arith, eq-eqb, ne_eqb, eqb-true, ltb-true, lt-ltb, leb-true, le-leb, true≢false}
 use Rattle.std.proofs.lemmas.Bool.{cases_order, cases_lt, and_parts, false_from_ne_true}
-use Rattle.std.specs.Ordering.{nat_cmp}
-use Rattle.std.specs.BTreeSet.{BTreeSet, contains}
 use Rattle.mk_graph.specs.Edges.{has, times}
 use Rattle.mk_graph.specs.Ready.{is_open, are_ready, IsBelow}
 use Rattle.mk_graph.proofs.RowLemmas.{times_from_has, times_without_has, below_from_positive}
@@ -69,9 +67,9 @@ left_of_set true o false past = refl
 left_of_set false o false past = sym (and_true o)
 
 -- the least of the set is taken out
-module _ (ready left : BTreeSet ℕ) (from : ℕ) (missing : List ℕ) (n : ℕ) (below : IsBelow ready from) (member : contains nat_cmp ready n ≡ true)
-    (least : (m : ℕ) → m < n → contains nat_cmp ready m ≡ false)
-    (taken : (q : ℕ) → contains nat_cmp left q ≡ (contains nat_cmp ready q && not (nat_eq q n))) where
+module _ (ready left : ℕ → Bool) (from : ℕ) (missing : List ℕ) (n : ℕ) (below : IsBelow ready from) (member : ready n ≡ true)
+    (least : (m : ℕ) → m < n → ready m ≡ false)
+    (taken : (q : ℕ) → left q ≡ (ready q && not (nat_eq q n))) where
   pub set_some : are_ready ready from missing n ≡ true
   set_some = rw member refl
 
@@ -81,14 +79,14 @@ module _ (ready left : BTreeSet ℕ) (from : ℕ) (missing : List ℕ) (n : ℕ)
   pub set_others : (q : ℕ) → are_ready left from missing q ≡ (are_ready ready from missing q && not (nat_eq q n))
   set_others q =
       ap (λ b. b || is_open missing from q) (taken q)
-      ∙ left_of_set (contains nat_cmp ready q) (is_open missing from q) (nat_eq q n)
+      ∙ left_of_set (ready q) (is_open missing from q) (nat_eq q n)
       (λ e. let same = eqb-true q n e in let b = below n member in closed_below missing from q (omega arith))
 
   pub set_below : IsBelow left from
-  set_below q is = below q (and_parts (contains nat_cmp ready q) (not (nat_eq q n)) (sym (taken q) ∙ is)).0
+  set_below q is = below q (and_parts (ready q) (not (nat_eq q n)) (sym (taken q) ∙ is)).0
 
 -- the set has nothing
-module _ (ready : BTreeSet ℕ) (from : ℕ) (missing : List ℕ) (none : (q : ℕ) → contains nat_cmp ready q ≡ false) where
+module _ (ready : ℕ → Bool) (from : ℕ) (missing : List ℕ) (none : (q : ℕ) → ready q ≡ false) where
   pub only_open : (q : ℕ) → are_ready ready from missing q ≡ is_open missing from q
   only_open q = ap (λ b. b || is_open missing from q) (none q)
 
@@ -114,26 +112,26 @@ counted_at false false true in_end false z z' split some within same = rw (same 
 lt_or_le : (q from : ℕ) → nat_lt q from ≡ not (nat_le from q)
 lt_or_le q from = ⊎_elim (λ lt. rw (lt-ltb q from lt, not_le from q lt) refl) (λ le. rw (not_lt q from le, le-leb from q le) refl) (cases_lt q from)
 
-module _ (before after : BTreeSet ℕ) (from : ℕ) (ms ms' us : List ℕ) (same : length ms' ≡ length ms)
+module _ (before after : ℕ → Bool) (from : ℕ) (ms ms' us : List ℕ) (same : length ms' ≡ length ms)
     (counted : (q : ℕ) → slice_index ms' q + times q us ≡ slice_index ms q)
-    (noted : (q : ℕ) → contains nat_cmp after q ≡ (contains nat_cmp before q || (nat_lt q from && (has us q && nat_eq (slice_index ms' q) 0)))) where
+    (noted : (q : ℕ) → after q ≡ (before q || (nat_lt q from && (has us q && nat_eq (slice_index ms' q) 0)))) where
   positive : (q : ℕ) → has us q ≡ true → 1 ≤ slice_index ms q
   positive q used = let t = times_from_has q us used in let c = counted q in omega arith
 
   pub ready_counted : (q : ℕ) → are_ready after from ms' q ≡ (are_ready before from ms q || (has us q && nat_eq (slice_index ms' q) 0))
   ready_counted q =
       ap (λ b. b || is_open ms' from q) (noted q)
-      ∙ ap (λ k. (contains nat_cmp before q || (nat_lt q from && (has us q && nat_eq (slice_index ms' q) 0))) || (nat_le from q && (nat_lt q k && nat_eq (slice_index ms' q) 0))) same
-      ∙ counted_at (contains nat_cmp before q) (nat_lt q from) (nat_le from q) (nat_lt q (length ms)) (has us q) (nat_eq (slice_index ms q) 0) (nat_eq (slice_index ms' q) 0)
+      ∙ ap (λ k. (before q || (nat_lt q from && (has us q && nat_eq (slice_index ms' q) 0))) || (nat_le from q && (nat_lt q k && nat_eq (slice_index ms' q) 0))) same
+      ∙ counted_at (before q) (nat_lt q from) (nat_le from q) (nat_lt q (length ms)) (has us q) (nat_eq (slice_index ms q) 0) (nat_eq (slice_index ms' q) 0)
       (lt_or_le q from)
       (λ used. ne_eqb (slice_index ms q) 0 (λ z. let p = positive q used in absurd (omega arith)))
       (λ used. lt-ltb q (length ms) (below_from_positive ms q (positive q used)))
       (λ unused. let t = times_without_has q us unused in let c = counted q in let e : slice_index ms' q ≡ slice_index ms q = omega arith in ap (λ k. nat_eq k 0) e)
 
   pub counted_below : IsBelow before from → IsBelow after from
-  counted_below below q is = by (contains nat_cmp before q) refl (nat_lt q from) refl
+  counted_below below q is = by (before q) refl (nat_lt q from) refl
     where
-      by : (c : Bool) → contains nat_cmp before q ≡ c → (lt : Bool) → nat_lt q from ≡ lt → q < from
+      by : (c : Bool) → before q ≡ c → (lt : Bool) → nat_lt q from ≡ lt → q < from
       by true e lt f = below q e
       by false e true f = ltb-true q from f
       by false e false f = absurd (true≢false (sym is ∙ noted q ∙ rw (e, f) refl))

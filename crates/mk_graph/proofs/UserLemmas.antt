@@ -1,14 +1,14 @@
 -- Rows of known lengths, filled from their starts on.
-use Rattle.std.proofs.Common.{◌≡◌, ◌≢◌, ℕ, zero, suc, ◌+◌, ◌-◌, ◌<◌, ◌≤◌, ◌⊎◌, inl, inr, cond, nat_eq, List, [], ◌∷◌, ◌++◌, length, get_or, take, drop, set, replicate, sum, sum_by, slice_index, get_or-set_same, get_or-set_other, append_assoc, refl, sym, ap, ◌∙◌, subst, ⊎_elim, arith, eq-eqb, ne_eqb}
+use Rattle.std.proofs.Common.{◌≡◌, ◌≢◌, ℕ, zero, suc, ◌+◌, ◌-◌, ◌<◌, ◌≤◌, ◌^◌, ◌⊎◌, inl, inr, cond, nat_eq, List, [], ◌∷◌, ◌++◌, length, get_or, take, drop, set, replicate, sum, sum_by, slice_index, get_or-set_same, get_or-set_other, append_assoc, refl, sym, ap, ◌∙◌, subst, ⊎_elim, arith, eq-eqb, ne_eqb}
 use Rattle.std.specs.Prelude.{slice_range}
 use Rattle.std.proofs.lemmas.Bool.{cases_eq, cases_order}
-use Rattle.std.proofs.lemmas.List.{replicate-append-replicate, drop-drop, drop_all, take-append-drop, take_all, take_more, take_more_set, get_or-take, length-take-le}
+use Rattle.std.proofs.lemmas.List.{replicate-append-replicate, drop-drop, drop_all, take-append-drop, take_all, take_more_set}
 use Rattle.std.proofs.lemmas.List.Sums.{sum_by-append, sum_by-cons, sum_by-take-le, sum_by_more, sum_by-set, count_by-le-length}
 use Rattle.std.proofs.lemmas.Option.{get_or_from_slice_get}
 use Rattle.byte_strings.specs.Pieces.{pieces, AreEnds}
 use Rattle.byte_strings.proofs.PieceLemmas.{AreEnds-at, pieces-get, length-pieces}
 use Rattle.mk_graph.specs.Edges.{row, times, AreUsers}
-use Rattle.mk_graph.specs.Users.{ends_from, filled}
+use Rattle.mk_graph.specs.Users.{ends_from, filled, AreStarts}
 use Rattle.mk_graph.proofs.RowLemmas.{times-more, times_room, Rises, rises_none, counts_more, rises_in_row, ascending_everywhere}
 
 -- the ends of rows
@@ -33,32 +33,35 @@ end_of_row start [] n h = absurd (omega arith)
 end_of_row start (m ∷ ns) zero h = refl
 end_of_row start (m ∷ ns) (suc n) h = end_of_row (start + m) ns n (omega arith)
 
-pub ends_more : (ns : List ℕ) (i end : ℕ) → i < length ns → end ≡ sum (take i ns)
-    → ends_from 0 (take i ns) ++ (end + get_or ns i 0) ∷ [] ≡ ends_from 0 (take (i + 1) ns)
-ends_more ns i end within so_far =
-    let e : end + get_or ns i 0 ≡ 0 + sum (take i ns) + get_or ns i 0 = omega arith in
-    ap (λ k. ends_from 0 (take i ns) ++ k ∷ []) e
-    ∙ sym (ends_from-push 0 (take i ns) (get_or ns i 0)) ∙ ap (ends_from 0) (sym (take_more ns i 0 within))
+-- where a row starts
+pub start_of_row : (start : ℕ) (ns : List ℕ) (n : ℕ) → n < length ns → slice_index (start ∷ ends_from start ns) n ≡ start + sum (take n ns)
+start_of_row start [] n h = absurd (omega arith)
+start_of_row start (m ∷ ns) zero h = let s : sum (take 0 (m ∷ ns)) ≡ 0 = refl in omega arith
+start_of_row start (m ∷ ns) (suc n) h =
+    let s = sum_by-cons (λ x. x) m (take n ns) in
+    let rest = start_of_row (start + m) ns n (omega arith) in
+    omega arith
+
+-- one more place at which the start is written
+module _ (ends now : List ℕ) (row start : ℕ) (within : row < length now) (here : start ≡ slice_index (0 ∷ ends) row) where
+  pub starts_more : ((n : ℕ) → n < row → slice_index now n ≡ slice_index (0 ∷ ends) n)
+      → (n : ℕ) → n < row + 1 → slice_index (set now row start) n ≡ slice_index (0 ∷ ends) n
+  starts_more before n below = ⊎_elim there (λ apart. get_or-set_other now row n start 0 apart ∙ before n (omega arith)) (cases_eq n row)
+    where
+      there : n ≡ row → slice_index (set now row start) n ≡ slice_index (0 ∷ ends) n
+      there e = ap (slice_index (set now row start)) e ∙ get_or-set_same now row start 0 within ∙ here ∙ ap (slice_index (0 ∷ ends)) (sym e)
+
+pub rest_still : (old now : List ℕ) (row start : ℕ) → ((n : ℕ) → row ≤ n → slice_index now n ≡ slice_index old n)
+    → (n : ℕ) → row + 1 ≤ n → slice_index (set now row start) n ≡ slice_index old n
+rest_still old now row start behind n past = get_or-set_other now row n start 0 (λ e. absurd (omega arith)) ∙ behind n (omega arith)
 
 -- the last row ends at the size
 pub last_end : (size start : ℕ) (ends : List ℕ) → AreEnds size start ends → slice_index (start ∷ ends) (length ends) ≡ size
 last_end size start [] h = h
 last_end size start (end ∷ ends) h = last_end size end ends h.1
 
--- of ends that were made of lengths
-module _ (ns ends : List ℕ) (made : ends ≡ ends_from 0 ns) where
-  pub as_many : length ends ≡ length ns
-  as_many = ap length made ∙ length-ends_from 0 ns
-
-  pub sized : AreEnds (sum ns) 0 ends
-  sized = subst (AreEnds (sum ns) 0) (sym made) (are_ends 0 (sum ns) ns (omega arith))
-
-  pub up_to : (size : ℕ) → size ≡ slice_index (0 ∷ ends) (length ends) → AreEnds size 0 ends
-  up_to size e = subst (λ k. AreEnds k 0 ends) (sym (e ∙ last_end (sum ns) 0 ends sized)) sized
-
-  pub row_end : (n : ℕ) → n < length ns → slice_index ends n ≡ slice_index (0 ∷ ends) n + slice_index ns n
-  row_end n below =
-      ap (λ l. slice_index l n) made ∙ end_of_row 0 ns n below ∙ ap (λ l. slice_index (0 ∷ l) n + slice_index ns n) (sym made)
+pub few_numbers : (size : ℕ) (ends : List ℕ) → AreEnds size 0 ends → slice_index (0 ∷ ends) (length ends) < 2 ^ 32 → size < 2 ^ 32
+few_numbers size ends are few = let e = last_end size 0 ends are in omega arith
 
 -- a row starts where the one before it ends, or behind that
 pub starts_behind : (size start : ℕ) (ends : List ℕ) (m n : ℕ) → AreEnds size start ends → m < n → n < length ends
@@ -268,21 +271,12 @@ pub record Fills (g : List (List ℕ)) (k : ℕ) (users ends next : List ℕ) : 
   pub counts : (n m : ℕ) → m < length g → times n (filled users ends next m) ≡ times m (row (take k g) n)
   pub rises : (m : ℕ) → m < length g → Rises k (filled users ends next m)
 
-pub refilled : (g : List (List ℕ)) (k : ℕ) (ends users users' next next' : List ℕ) → users' ≡ users → next' ≡ next
-    → Fills g k users ends next → Fills g k users' ends next'
-refilled g k ends users users' next next' same_users same_next fills =
-    subst (λ u. Fills g k u ends next') (sym same_users) (subst (λ l. Fills g k users ends l) (sym same_next) fills)
-
--- the rows begin where those before them end
-pub starts_at : (ends next : List ℕ) → next ≡ take (length ends) (0 ∷ ends) → (n : ℕ) → n < length ends → slice_index next n ≡ slice_index (0 ∷ ends) n
-starts_at ends next e n below = ap (λ l. slice_index l n) e ∙ get_or-take (length ends) (0 ∷ ends) n 0 below
-
-pub fills_none : (g : List (List ℕ)) (users ends next : List ℕ) → length ends ≡ length g → next ≡ take (length ends) (0 ∷ ends) → Fills g 0 users ends next
+pub fills_none : (g : List (List ℕ)) (users ends next : List ℕ) → length ends ≡ length g → AreStarts ends next → Fills g 0 users ends next
 fills_none g users ends next same starts = record {
-  nodes = ap length starts ∙ length-take-le (length ends) (0 ∷ ends) (omega arith) ∙ same;
-  places = λ n below. let s = starts_at ends next starts n (omega arith) in omega arith;
-  counts = λ n m below. ap (times n) (filled_none users ends next m (starts_at ends next starts m (omega arith)));
-  rises = λ m below. rises_none (filled users ends next m) (filled_none users ends next m (starts_at ends next starts m (omega arith)));
+  nodes = starts.nodes ∙ same;
+  places = λ n below. let s = starts.places n (omega arith) in omega arith;
+  counts = λ n m below. ap (times n) (filled_none users ends next m (starts.places m (omega arith)));
+  rises = λ m below. rises_none (filled users ends next m) (filled_none users ends next m (starts.places m (omega arith)));
 }
 
 module _ (g : List (List ℕ)) (k : ℕ) (users ends next : List ℕ) (fills : Fills g k users ends next) (as_many : length ends ≡ length g)

@@ -1,10 +1,10 @@
 -- Groups that wait, group by group, and rows that take more numbers.
-use Rattle.std.proofs.Common.{◌≡◌, ◌≢◌, ℕ, ◌+◌, ◌<◌, Bool, true, false, ◌&&◌, ◌||◌, nat_eq, List, [], ◌∷◌, ◌++◌, length, get_or, set, take, refl, sym, ap, ◌∙◌, ⊎_elim, eq-eqb, ne_eqb, get_or-set_same, get_or-set_other, append-nil}
+use Rattle.std.proofs.Common.{append_assoc, ◌≡◌, ◌≢◌, ℕ, ◌+◌, ◌<◌, Bool, true, false, ◌&&◌, ◌||◌, nat_eq, List, [], ◌∷◌, ◌++◌, length, get_or, set, take, refl, sym, ap, ◌∙◌, ⊎_elim, eq-eqb, ne_eqb, get_or-set_same, get_or-set_other, append-nil}
 use Rattle.std.proofs.lemmas.Bool.{cases_eq}
 use Rattle.std.proofs.lemmas.Grind.{flat_map-append}
 use Rattle.std.proofs.lemmas.List.Folds.{list_any-append}
 use Rattle.mk_graph.specs.Edges.{row, has}
-use Rattle.mk_graph.specs.Waits.{all_of, waits}
+use Rattle.mk_graph.specs.Waits.{BeginWith, all_of, waits}
 use Rattle.mk_graph.proofs.RowLemmas.{has-more}
 
 pub has-append : (xs ys : List ℕ) (n : ℕ) → has (xs ++ ys) n ≡ (has xs n || has ys n)
@@ -70,3 +70,22 @@ module _ (base rows : List (List ℕ)) (nodes : List ℕ) (i : ℕ) (more : List
           or_false : (b : Bool) → (b || false) ≡ b
           or_false true = refl
           or_false false = refl
+
+-- rows that begin so
+pub begin_same : (g : List (List ℕ)) → BeginWith g g
+begin_same g n = ([], sym (append-nil (row g n)))
+
+pub begin_through : (g more all : List (List ℕ)) → BeginWith g more → BeginWith more all → BeginWith g all
+begin_through g more all first then n =
+    ((first n).0 ++ (then n).0, (then n).1 ∙ ap (λ l. l ++ (then n).0) (first n).1 ∙ append_assoc (row g n) (first n).0 (then n).0)
+
+-- one row that takes more numbers
+module _ (rows : List (List ℕ)) (p : ℕ) (more : List ℕ) (place : p < length rows) where
+  pub begin_added : BeginWith rows (set rows p (row rows p ++ more))
+  begin_added n = ⊎_elim same other (cases_eq n p)
+    where
+      same : n ≡ p → (behind : List ℕ) × (row (set rows p (row rows p ++ more)) n ≡ row rows n ++ behind)
+      same e = (more, ap (row (set rows p (row rows p ++ more))) e ∙ get_or-set_same rows p (row rows p ++ more) [] place ∙ ap (λ k. row rows k ++ more) (sym e))
+
+      other : n ≢ p → (behind : List ℕ) × (row (set rows p (row rows p ++ more)) n ≡ row rows n ++ behind)
+      other apart = ([], get_or-set_other rows p n (row rows p ++ more) [] apart ∙ sym (append-nil (row rows n)))

@@ -7,6 +7,7 @@ pub mod Links
 pub mod Numbering
 pub mod NumberingFault
 pub mod Order
+pub mod Parts
 pub mod Plan
 pub mod Ready
 pub mod Ring

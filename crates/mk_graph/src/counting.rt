@@ -61,7 +61,7 @@ fn sets_by_users(alloc: Global, rows: Edges, users: Edges) -> Result<Sets, Alloc
     ensures users { IfOk result (λ sets. HasUsers sets.edges sets.users) }
 {
     if users.ascends() {
-        let edges = users.reversed_into(alloc, rows)?;
+        let edges = users.reversed_into(rows)?;
         return Ok(Sets { edges, users });
     }
     let users = without_repeats(alloc, users)?;

@@ -1,13 +1,16 @@
 //! A graph: the prerequisites of each node.
 
-ghost use Rattle.std.specs.Prelude.{◌≡◌, ℕ, ◌+◌, ◌<◌, ◌≤◌, true, [], ◌∷◌, ◌++◌, length, map, slice_index, IfOk, IsTrue, OnOk, OnErr, nat_lt};
+ghost use Rattle.std.specs.Prelude.{◌≡◌, ℕ, ◌+◌, ◌<◌, ◌≤◌, ◌^◌, true, [], ◌∷◌, ◌++◌, length, map, take, drop, slice_index, IfOk, IsTrue, OnOk, OnErr, nat_lt};
 ghost use Rattle.std.specs.List.Sorted.{IsStrictlyIncreasing};
 ghost use Rattle.mk_graph.specs.Edges.{row, is_closed, AreUsers};
 ghost use Rattle.mk_graph.specs.Counted.{joined};
-ghost use Rattle.mk_graph.specs.Users.{HasUsers};
+ghost use Rattle.mk_graph.specs.Parts.{fronts, backs};
+ghost use Rattle.mk_graph.specs.Users.{HasRoom, HasUsers};
+ghost use Rattle.byte_strings.specs.Pieces.{pieces, AreEnds};
 ghost use Rattle.std.specs.List.{list_all};
 
-use crate::users::{counted, ends_of, note_user, starts_of};
+use crate::room::{append, make_room, push};
+use crate::users::{counted, note_user, starts_behind, starts_of};
 use std::alloc::{AllocError, Global};
 use std::marker::Model;
 
@@ -42,6 +45,17 @@ fn start_of(ends: &[u32], node: usize) -> usize
     }
 }
 
+/// The first numbers of a row, as many as the count says, and those behind them.
+fn parted_at(row: &[u32], count: usize) -> (&[u32], &[u32])
+    ensures front { result.0.now ≡ take count row.now }
+    ensures back { result.1.now ≡ drop count row.now }
+{
+    if count >= row.len() {
+        return (row, &[]);
+    }
+    row.split_at(count)
+}
+
 /// A count of 32 bits. There is no memory for 2^32 or more.
 fn short(count: usize) -> Result<u32, AllocError>
     ensures { IfOk result (λ short. short ≡ count) }
@@ -68,6 +82,15 @@ fn is_ascending(numbers: &[u32]) -> bool
     true
 }
 
+/// The rows of a graph, parted in two.
+#[derive(Drop)]
+pub struct Parts {
+    /// The first numbers of each row.
+    pub fronts: Edges,
+    /// The numbers behind them.
+    pub backs: Edges,
+}
+
 impl Edges {
     /// No nodes, which takes no memory.
     pub fn empty(alloc: Global) -> Edges
@@ -85,6 +108,16 @@ impl Edges {
     {
         Ok(Edges {
             numbers: Vec::new(alloc),
+            ends: Vec::with_capacity(alloc, nodes)?,
+        })
+    }
+
+    /// No nodes, with room for so many and for so many numbers.
+    fn with_room(alloc: Global, nodes: usize, numbers: usize) -> Result<Edges, AllocError>
+        ensures { IfOk result (λ e. e ≡ []) }
+    {
+        Ok(Edges {
+            numbers: Vec::with_capacity(alloc, numbers)?,
             ends: Vec::with_capacity(alloc, nodes)?,
         })
     }
@@ -112,24 +145,40 @@ impl Edges {
         let mut numbers = Vec::with_capacity(alloc, room)?;
         let mut ends = Vec::with_capacity(alloc, first.len())?;
         for node in 0..first.len() {
-            numbers.extend_from_slice(first.row(node))?;
-            numbers.extend_from_slice(second.row(node))?;
-            let end = short(numbers.len())?;
-            ends.push(end)?;
+            append(&mut numbers, first.row(node))?;
+            append(&mut numbers, second.row(node))?;
+            push(&mut ends, short(numbers.len())?)?;
         }
         Ok(Edges { numbers, ends })
     }
 
     /// Adds the prerequisites of one more node. There is no memory for 2^32 numbers or more.
+    #[inline(always)]
     pub fn push_row(&mut self, prerequisites: &[u32]) -> Result<(), AllocError>
         ensures ok { OnOk result (self.new ≡ self.old ++ prerequisites.now ∷ []) }
         ensures err { OnErr result (self.new ≡ self.old) }
     {
         let end = short(self.numbers.len() + prerequisites.len())?;
-        self.ends.reserve(1)?;
-        self.numbers.extend_from_slice(prerequisites)?;
-        self.ends.push(end).unwrap();
+        make_room(&mut self.ends, 1)?;
+        append(&mut self.numbers, prerequisites)?;
+        self.ends.push_reserved(end);
         Ok(())
+    }
+
+    /// The first numbers of each row, as many as its count says, and those behind them.
+    pub fn parted(&self, alloc: Global, counts: &[usize]) -> Result<Parts, AllocError>
+        requires { length counts.now ≡ length self.now }
+        ensures fronts { IfOk result (λ parts. parts.fronts ≡ fronts counts.now self.now) }
+        ensures backs { IfOk result (λ parts. parts.backs ≡ backs counts.now self.now) }
+    {
+        let mut fronts = Edges::with_room(alloc, self.len(), self.numbers.len())?;
+        let mut backs = Edges::with_room(alloc, self.len(), self.numbers.len())?;
+        for (node, count) in counts.iter().enumerate() {
+            let (front, back) = parted_at(self.row(node), *count);
+            fronts.push_row(front)?;
+            backs.push_row(back)?;
+        }
+        Ok(Parts { fronts, backs })
     }
 
     /// The number of nodes.
@@ -151,14 +200,14 @@ impl Edges {
     }
 
     /// How many prerequisites each node has.
-    pub(crate) fn lengths(&self, alloc: Global) -> Result<Vec<usize>, AllocError>
+    pub(crate) fn lengths(&self, alloc: Global) -> Result<Vec<u32>, AllocError>
         ensures { IfOk result (λ lengths. lengths.items ≡ map length self.now) }
     {
         let ends = self.ends.as_slice();
         let mut lengths = Vec::with_capacity(alloc, ends.len())?;
         let mut start = 0;
         for end in ends {
-            lengths.push((*end - start) as usize)?;
+            push(&mut lengths, *end - start)?;
             start = *end;
         }
         Ok(lengths)
@@ -183,46 +232,51 @@ impl Edges {
         true
     }
 
+    /// Notes each node where the next users of its prerequisites go: from where their rows start to where these end, which
+    /// is where the rows behind them started.
+    fn note_users(&self, next: &mut [u32], users: &mut [u32]) -> Result<(), AllocError>
+        requires room { HasRoom self.now (length users.old) next.old }
+        requires few { length users.old < 2 ^ 32 }
+        ensures ends { OnOk result (AreEnds (length users.old) 0 next.new) }
+        ensures users { OnOk result (AreUsers self.now (pieces users.new 0 next.new)) }
+    {
+        let nodes = short(self.len())?;
+        for node in 0..nodes {
+            note_user(node, self.row(node as usize), next, users);
+        }
+        Ok(())
+    }
+
     /// The users of each node in their order: a node has one for each time that a row names it. Numbers past the end
     /// have none.
     pub fn reversed(&self, alloc: Global) -> Result<Edges, AllocError>
         ensures { IfOk result (AreUsers self.now) }
     {
-        let counts = counted(alloc, &self.numbers, self.len())?;
-        let ends = ends_of(alloc, &counts)?;
-        let mut next = starts_of(alloc, &ends)?;
+        let mut next = counted(alloc, &self.numbers, self.len())?;
+        let size = starts_of(&mut next);
         // Each of these numbers is written over; copying them is cheaper than setting as many zeros one by one.
         let mut users = Vec::from_slice(alloc, self.numbers.as_slice())?;
-        users.truncate(start_of(&ends, ends.len()));
-        let nodes = short(self.len())?;
-        for node in 0..nodes {
-            note_user(node, self.row(node as usize), &ends, &mut next, &mut users);
-        }
+        users.truncate(size as usize);
+        self.note_users(&mut next, &mut users)?;
         Ok(Edges {
             numbers: users,
-            ends,
+            ends: next,
         })
     }
 
     /// The same of the users of a graph, whose own rows have just the room that is needed: each gets its numbers back, in
     /// their order.
-    pub(crate) fn reversed_into(&self, alloc: Global, rows: Edges) -> Result<Edges, AllocError>
+    pub(crate) fn reversed_into(&self, rows: Edges) -> Result<Edges, AllocError>
         requires closed { IsTrue (is_closed rows) }
         requires users { HasUsers rows self.now }
         ensures { IfOk result (AreUsers self.now) }
     {
-        let Edges { mut numbers, ends } = rows;
-        let mut next = starts_of(alloc, &ends)?;
-        let nodes = short(self.len())?;
-        for node in 0..nodes {
-            note_user(
-                node,
-                self.row(node as usize),
-                &ends,
-                &mut next,
-                &mut numbers,
-            );
-        }
+        let Edges {
+            mut numbers,
+            mut ends,
+        } = rows;
+        starts_behind(&mut ends);
+        self.note_users(&mut ends, &mut numbers)?;
         Ok(Edges { numbers, ends })
     }
 

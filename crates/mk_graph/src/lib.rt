@@ -10,14 +10,16 @@ mod hashing;
 mod names;
 mod numbering;
 mod planning;
+mod ready;
+mod room;
 mod texts;
 mod users;
 mod waiting;
 
 pub use counting::{Counted, count_edges};
 pub use cycles::{Order, order_nodes};
-pub use edges::Edges;
+pub use edges::{Edges, Parts};
 pub use names::Names;
-pub use numbering::{Dependencies, Found, Numbered, NumberingFault, distinct_names, number};
+pub use numbering::{Dependencies, Numbered, NumberingFault, distinct_names, number};
 pub use planning::{one_plan, plan, whole_plan};
 pub use waiting::add_waits;

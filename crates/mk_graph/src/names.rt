@@ -8,6 +8,7 @@ ghost use Rattle.mk_graph.specs.Numbering.{name_at, has_name, added, all_added};
 
 use crate::chains::{Link, bucket_of, make_room, put_last};
 use crate::hashing::hash_of;
+use crate::room;
 use crate::texts::Texts;
 use byte_strings::ByteStrings;
 use name_keys::NameRef;
@@ -54,6 +55,7 @@ impl Names {
     }
 
     /// The name with a number.
+    #[inline(always)]
     pub fn name(&self, number: usize) -> &[u8]
         requires { number < length self.now }
         ensures { result.now ≡ name_at self.now number }
@@ -112,11 +114,11 @@ impl Names {
         ensures err { OnErr result (self.new ≡ self.old) }
     {
         make_room(alloc, &mut self.links, &mut self.heads)?;
-        self.links.reserve(1)?;
+        room::make_room(&mut self.links, 1)?;
         self.names.push(name)?;
         let number = self.links.len() as u32;
         let before = put_last(&mut self.heads, hash, number + 1);
-        self.links.push(Link { hash, before }).unwrap();
+        self.links.push_reserved(Link { hash, before });
         Ok(number)
     }
 

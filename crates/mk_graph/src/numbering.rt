@@ -12,14 +12,6 @@ use crate::names::Names;
 use byte_strings::ByteStrings;
 use std::alloc::{AllocError, AllocFailed, Global};
 
-/// What is found of a name.
-#[derive(Drop)]
-pub struct Found<N> {
-    /// The numbers of its prerequisites, in order; one may stand there more than once.
-    pub prerequisites: Vec<u32>,
-    pub node: N,
-}
-
 /// What gives the prerequisites of a name. It is asked for a name once at most.
 pub trait Dependencies {
     /// Why prerequisites can't be given.
@@ -28,7 +20,8 @@ pub trait Dependencies {
     /// What is found of a name beside its prerequisites.
     type Node: Drop;
 
-    /// What the source notes of names by their numbers, so that it needn't look them up again.
+    /// What the source notes of names by their numbers, so that it needn't look them up again, with the prerequisites of the
+    /// name that was asked for last.
     type Notes: Drop;
 
     /// Which functions from a name to its prerequisites agree with all that was answered so far.
@@ -49,30 +42,37 @@ pub trait Dependencies {
     /// That what is noted holds of the names with these numbers.
     ghost fits: { Self → (names : List (List ℕ)) → Self.Notes → Type 0 };
 
+    /// The numbers of the prerequisites of the name that was asked for last, in order; one may stand there more than once.
+    ghost row: { Self.Notes → List ℕ };
+
     /// No notes, which fit any names.
     fn notes(&self, alloc: Global) -> Self::Notes
         ensures { (names : List (List ℕ)) → fits self.now names result };
 
-    /// The prerequisites of the name with this number, and its node. The names that have no number are given the next ones, in turn.
-    /// An answer narrows what is still possible and never widens it.
+    /// The row of the name that was asked for last, as it stands in the notes.
+    fn row_in<'n>(&self, notes: &'n Self::Notes) -> &'n [u32]
+        ensures { result.now ≡ row notes.now };
+
+    /// The node of the name with this number; its prerequisites come into the notes. The names that have no number are given the
+    /// next ones, in turn. An answer narrows what is still possible and never widens it.
     fn prerequisites(
         &mut self,
         alloc: Global,
         names: &mut Names,
         notes: &mut Self::Notes,
         number: usize,
-    ) -> Result<Found<Self::Node>, Self::Fault>
+    ) -> Result<Self::Node, Self::Fault>
         requires number { number < length names.old }
         requires distinct { IsDistinct bytes_eq names.old }
         requires noted { fits self.old names.old notes.old }
         requires unasked { ¬ (asked self.old (name_at names.old number)) }
-        ensures names { IfOk result (λ found. names.new ≡ all_added names.old (map (name_at names.new) found.prerequisites.items)) }
-        ensures numbers { IfOk result (λ found. list_all (λ n. nat_lt n (length names.new)) found.prerequisites.items ≡ true) }
-        ensures list { IfOk result (λ found. (of : List ℕ → List (List ℕ)) → allows self.new of
-            → map (name_at names.new) found.prerequisites.items ≡ of (name_at names.old number)) }
+        ensures names { OnOk result (names.new ≡ all_added names.old (map (name_at names.new) (row notes.new))) }
+        ensures numbers { OnOk result (list_all (λ n. nat_lt n (length names.new)) (row notes.new) ≡ true) }
+        ensures list { OnOk result ((of : List ℕ → List (List ℕ)) → allows self.new of
+            → map (name_at names.new) (row notes.new) ≡ of (name_at names.old number)) }
         ensures noted { OnOk result (fits self.new names.new notes.new) }
         ensures grows { (of : List ℕ → List (List ℕ)) → allows self.new of → allows self.old of }
-        ensures node { IfOk result (λ found. describes self.new (name_at names.old number) found.node) }
+        ensures node { IfOk result (λ node. describes self.new (name_at names.old number) node) }
         ensures kept { (other : List ℕ) (node : Self.Node) → describes self.old other node → describes self.new other node }
         ensures asks { (other : List ℕ) → asked self.new other → (asked self.old other) ⊎ (other ≡ name_at names.old number) }
         ensures follows { follows self.old (is_ok result) self.new }
@@ -160,11 +160,11 @@ impl<N: Drop> Numbered<N> {
         })
     }
 
-    /// Takes in what was found of the first name that has no row yet, once its prerequisites have numbers.
-    fn take_in<F>(&mut self, found: Found<N>, limit: usize) -> Result<(), NumberingFault<F>>
+    /// Takes in the row and the node of the first name that has no row yet, once its prerequisites have numbers.
+    fn take_in<F>(&mut self, row: &[u32], node: N, limit: usize) -> Result<(), NumberingFault<F>>
         ensures names { OnOk result (self.new.names ≡ self.old.names) }
-        ensures rows { OnOk result (self.new.rows ≡ self.old.rows ++ found.prerequisites.items ∷ []) }
-        ensures node { OnOk result (self.new.nodes.items ≡ self.old.nodes.items ++ found.node ∷ []) }
+        ensures rows { OnOk result (self.new.rows ≡ self.old.rows ++ row.now ∷ []) }
+        ensures node { OnOk result (self.new.nodes.items ≡ self.old.nodes.items ++ node ∷ []) }
         ensures goals { OnOk result (self.new.goals ≡ self.old.goals) }
         ensures within { OnOk result (length self.new.names ≤ limit) }
         ensures fault { IfErr result (IsLimitFault limit self.old.names) }
@@ -172,8 +172,8 @@ impl<N: Drop> Numbered<N> {
         if self.names.len() > limit {
             return Err(NumberingFault::TooMany);
         }
-        self.rows.push_row(&found.prerequisites)?;
-        self.nodes.push(found.node)?;
+        self.rows.push_row(row)?;
+        self.nodes.push(node)?;
         Ok(())
     }
 }
@@ -214,7 +214,7 @@ pub fn number<R: Dependencies>(
     while numbered.rows.len() < numbered.names.len() {
         let number = numbered.rows.len();
         match source.prerequisites(alloc, &mut numbered.names, &mut notes, number) {
-            Ok(found) => numbered.take_in(found, limit)?,
+            Ok(node) => numbered.take_in(source.row_in(&notes), node, limit)?,
             Err(cause) => return Err(NumberingFault::Source(cause)),
         }
     }

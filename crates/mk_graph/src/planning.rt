@@ -2,19 +2,18 @@
 
 ghost use Rattle.std.specs.Prelude.{◌≡◌, ℕ, ◌+◌, ◌<◌, ◌≤◌, ◌||◌, ◌&&◌, [], true, false, not, length, map, IfOk, IfSome, IfNone, OnOk, nat_eq, nat_lt, slice_index};
 ghost use Rattle.std.specs.List.{IsDistinct, list_all};
-ghost use Rattle.std.specs.Ordering.{nat_cmp};
-ghost use Rattle.std.specs.BTreeSet.{contains};
 ghost use Rattle.mk_graph.specs.Edges.{row, has, times};
 ghost use Rattle.mk_graph.specs.Plan.{IsPlan, OnePlan, WholePlan};
-ghost use Rattle.mk_graph.specs.Ready.{is_open, are_ready, IsBelow};
+ghost use Rattle.mk_graph.specs.Ready.{is_in, is_open, are_ready, IsBelow};
 ghost use Rattle.mk_graph.specs.Users.{HasUsers};
 
 use crate::edges::Edges;
+use crate::ready::ReadyNodes;
+use crate::room::push;
 use std::alloc::{AllocError, Global};
-use std::collections::BTreeSet;
 
 /// The least node from a number on that lacks nothing.
-fn first_open(missing: &[usize], from: usize) -> Option<usize>
+fn first_open(missing: &[u32], from: usize) -> Option<usize>
     ensures some { IfSome result (λ n. is_open missing.now from n ≡ true) }
     ensures least { IfSome result (λ n. (m : ℕ) → m < n → is_open missing.now from m ≡ false) }
     ensures none { IfNone result ((q : ℕ) → is_open missing.now from q ≡ false) }
@@ -29,14 +28,14 @@ fn first_open(missing: &[usize], from: usize) -> Option<usize>
 
 /// Takes out the least of the nodes that are ready: those below `from` stand in a set, and of the others each that lacks
 /// nothing is one. So the set stays small where most nodes lack nothing at the start.
-fn next_ready(ready: &mut BTreeSet<usize>, from: &mut usize, missing: &[usize]) -> Option<usize>
-    requires below { IsBelow ready.old from.old }
-    ensures below { IsBelow ready.new from.new }
-    ensures some { IfSome result (λ n. are_ready ready.old from.old missing.now n ≡ true) }
-    ensures least { IfSome result (λ n. (m : ℕ) → m < n → are_ready ready.old from.old missing.now m ≡ false) }
-    ensures others { IfSome result (λ n. (q : ℕ) → are_ready ready.new from.new missing.now q
-        ≡ (are_ready ready.old from.old missing.now q && not (nat_eq q n))) }
-    ensures none { IfNone result ((q : ℕ) → are_ready ready.old from.old missing.now q ≡ false) }
+fn next_ready(ready: &mut ReadyNodes, from: &mut usize, missing: &[u32]) -> Option<usize>
+    requires below { IsBelow (is_in ready.old) from.old }
+    ensures below { IsBelow (is_in ready.new) from.new }
+    ensures some { IfSome result (λ n. are_ready (is_in ready.old) from.old missing.now n ≡ true) }
+    ensures least { IfSome result (λ n. (m : ℕ) → m < n → are_ready (is_in ready.old) from.old missing.now m ≡ false) }
+    ensures others { IfSome result (λ n. (q : ℕ) → are_ready (is_in ready.new) from.new missing.now q
+        ≡ (are_ready (is_in ready.old) from.old missing.now q && not (nat_eq q n))) }
+    ensures none { IfNone result ((q : ℕ) → are_ready (is_in ready.old) from.old missing.now q ≡ false) }
 {
     if let Some(node) = ready.pop_first() {
         return Some(node);
@@ -54,13 +53,13 @@ fn next_ready(ready: &mut BTreeSet<usize>, from: &mut usize, missing: &[usize]) 
 fn count_down(
     users: &[u32],
     from: usize,
-    missing: &mut [usize],
-    ready: &mut BTreeSet<usize>,
+    missing: &mut [u32],
+    ready: &mut ReadyNodes,
 ) -> Result<(), AllocError>
     requires { (q : ℕ) → times q users.now ≤ slice_index missing.old q }
     ensures missing { OnOk result ((q : ℕ) → slice_index missing.new q + times q users.now ≡ slice_index missing.old q) }
-    ensures ready { OnOk result ((q : ℕ) → contains nat_cmp ready.new q
-        ≡ (contains nat_cmp ready.old q || (nat_lt q from && (has users.now q && nat_eq (slice_index missing.new q) 0)))) }
+    ensures ready { OnOk result ((q : ℕ) → is_in ready.new q
+        ≡ (is_in ready.old q || (nat_lt q from && (has users.now q && nat_eq (slice_index missing.new q) 0)))) }
 {
     for user in users {
         let node = *user as usize;
@@ -96,11 +95,11 @@ pub(crate) fn plan_by_users(
     ensures nodes { IfOk result (λ order. list_all (λ n. nat_lt n (length edges.now)) order.items ≡ true) }
 {
     let mut missing = edges.lengths(alloc)?;
-    let mut ready = BTreeSet::new(alloc);
+    let mut ready = ReadyNodes::new(alloc);
     let mut from = 0;
     let mut order = Vec::with_capacity(alloc, edges.len())?;
     while let Some(node) = next_ready(&mut ready, &mut from, &missing) {
-        order.push(node)?;
+        push(&mut order, node)?;
         count_down(users.row(node), from, &mut missing, &mut ready)?;
     }
     Ok(order)

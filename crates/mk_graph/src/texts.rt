@@ -2,6 +2,7 @@
 
 ghost use Rattle.std.specs.Prelude.{◌≡◌, ◌<◌, ◌≤◌, [], ◌∷◌, ◌++◌, length, OnOk, OnErr, slice_index, slice_index_or};
 
+use crate::room::make_room;
 use std::alloc::{AllocError, Global};
 use std::marker::Model;
 
@@ -54,9 +55,9 @@ impl Texts {
         let Ok(end) = u32::try_from(self.bytes.len() + string.len()) else {
             return Err(AllocError);
         };
-        self.ends.reserve(1)?;
+        make_room(&mut self.ends, 1)?;
         self.bytes.extend_from_slice(string)?;
-        self.ends.push(end).unwrap();
+        self.ends.push_reserved(end);
         Ok(())
     }
 

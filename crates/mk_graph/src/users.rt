@@ -1,9 +1,8 @@
 //! Rows of users, filled once it is known how many each node has.
 
-ghost use Rattle.std.specs.Prelude.{◌≡◌, ℕ, ◌+◌, ◌<◌, ◌≤◌, ◌^◌, ◌∷◌, ◌++◌, length, take, replicate, slice_index, sum, IfOk};
-ghost use Rattle.byte_strings.specs.Pieces.{AreEnds};
+ghost use Rattle.std.specs.Prelude.{◌≡◌, ℕ, ◌+◌, ◌<◌, ◌≤◌, ◌^◌, List, ◌∷◌, ◌++◌, length, replicate, slice_index, sum, IfOk};
 ghost use Rattle.mk_graph.specs.Edges.{times};
-ghost use Rattle.mk_graph.specs.Users.{ends_from, filled};
+ghost use Rattle.mk_graph.specs.Users.{ends_from, filled, AreStarts, CanTake};
 
 use std::alloc::{AllocError, Global};
 
@@ -27,50 +26,46 @@ pub fn counted(alloc: Global, numbers: &[u32], nodes: usize) -> Result<Vec<u32>,
     Ok(counts)
 }
 
-/// Where rows of these lengths end that lie one behind the other.
-pub fn ends_of(alloc: Global, lengths: &[u32]) -> Result<Vec<u32>, AllocError>
-    requires { sum lengths.now < 2 ^ 32 }
-    ensures { IfOk result (λ ends. ends.items ≡ ends_from 0 lengths.now) }
+/// Makes of the lengths of rows that lie one behind the other where each starts. Gives where the last one ends.
+pub fn starts_of(lengths: &mut [u32]) -> u32
+    requires { sum lengths.old < 2 ^ 32 }
+    ensures starts { AreStarts (ends_from 0 lengths.old) lengths.new }
+    ensures end { result ≡ sum lengths.old }
 {
-    let mut ends = Vec::with_capacity(alloc, lengths.len())?;
-    let mut end = 0;
-    for length in lengths {
-        end += *length;
-        ends.push(end)?;
+    let mut start = 0;
+    for row in 0..lengths.len() {
+        let end = start + lengths[row];
+        lengths[row] = start;
+        start = end;
     }
-    Ok(ends)
+    start
 }
 
-/// Where the rows begin that end there.
-pub fn starts_of(alloc: Global, ends: &[u32]) -> Result<Vec<u32>, AllocError>
-    ensures { IfOk result (λ starts. starts.items ≡ take (length ends.now) (0 ∷ ends.now)) }
+/// Makes of the ends of rows where each starts.
+pub fn starts_behind(ends: &mut [u32])
+    ensures starts { AreStarts ends.old ends.new }
+    ensures few { slice_index (0 ∷ ends.old) (length ends.old) < 2 ^ 32 }
 {
-    let mut starts = Vec::with_capacity(alloc, ends.len() + 1)?;
-    starts.push(0)?;
-    starts.extend_from_slice(ends)?;
-    starts.truncate(ends.len());
-    Ok(starts)
+    let mut start = 0;
+    for row in 0..ends.len() {
+        let end = ends[row];
+        ends[row] = start;
+        start = end;
+    }
 }
 
-/// Notes a node where the next user of each of its prerequisites goes, as often as it names it.
-pub fn note_user(
-    node: u32,
-    prerequisites: &[u32],
-    ends: &[u32],
-    next: &mut [u32],
-    users: &mut [u32],
-)
-    requires ends { AreEnds (length users.old) 0 ends.now }
-    requires nodes { length next.old ≡ length ends.now }
-    requires rows { (n : ℕ) → n < length ends.now → slice_index (0 ∷ ends.now) n ≤ slice_index next.old n }
-    requires room { (n : ℕ) → n < length ends.now → slice_index next.old n + times n prerequisites.now ≤ slice_index ends.now n }
-    ensures next { (n : ℕ) → n < length ends.now → slice_index next.new n ≡ slice_index next.old n + times n prerequisites.now }
-    ensures rows { (n : ℕ) → n < length ends.now → filled users.new ends.now next.new n
-        ≡ filled users.old ends.now next.old n ++ replicate (times n prerequisites.now) node }
+/// Notes a node where the next user of each of its prerequisites goes, as often as it names it. Numbers past the end have no
+/// users.
+pub fn note_user(node: u32, prerequisites: &[u32], next: &mut [u32], users: &mut [u32])
+    requires room { (n : ℕ) → n < length next.old → slice_index next.old n + times n prerequisites.now ≤ length users.old }
+    requires few { length users.old < 2 ^ 32 }
+    ensures next { (n : ℕ) → n < length next.old → slice_index next.new n ≡ slice_index next.old n + times n prerequisites.now }
+    ensures rows { (ends : List ℕ) → CanTake (length users.old) ends next.old prerequisites.now → (n : ℕ) → n < length ends
+        → filled users.new ends next.new n ≡ filled users.old ends next.old n ++ replicate (times n prerequisites.now) node }
 {
     for prerequisite in prerequisites {
         let number = *prerequisite as usize;
-        if number < ends.len() {
+        if number < next.len() {
             let place = next[number];
             users[place as usize] = node;
             next[number] = place + 1;

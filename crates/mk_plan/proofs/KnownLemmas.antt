@@ -10,7 +10,7 @@ use Rattle.mk_rule_lines.specs.Explicit.{explicit_of as names_written}
 use Rattle.mk_rule_lines.specs.declared.rule_line.RuleLine.{RuleLine}
 use Rattle.mk_rule_lines.specs.Rules.{is_default_rule}
 use Rattle.mk_rules.specs.Graph.{IsNode, IsGraph, judged, required_in}
-use Rattle.mk_rules.specs.Node.{source_by, source_in, explicit_in, implied_in}
+use Rattle.mk_rules.specs.Node.{source_by, source_in, explicit_in, implied_in, hidden_in as hidden_at}
 use Rattle.mk_rules.specs.Prerequisites.{Inputs, implicit_source, made_from, recipe_of as rule_of, hard_of, hidden_in, distinct, required_of}
 use Rattle.mk_rules.specs.declared.graph.Node.{Node}
 use Rattle.mk_rules.specs.declared.graph.Graph.{Graph}
@@ -40,7 +40,7 @@ module _ (inputs : Inputs) (named : List (List ℕ)) (graph : Graph) (is : IsGra
   of_node node at =
       let name : List ℕ = name_at graph.names n in
       let hard : List ℕ = row graph.hard n in
-      let known : IsNode inputs graph.names hard name node = is.node n node at in
+      let known : IsNode inputs graph.names hard (row graph.soft n) name node = is.node n node at in
       let hard_is : map (name_at graph.names) hard ≡ hard_of inputs name = is.hard.1 n (omega (arith, is.nodes)) in
       let made : List (List ℕ) = made_from (implicit_source inputs name) in
       let front : take (length (distinct made)) (hard_of inputs name) ≡ distinct made
@@ -87,7 +87,7 @@ module _ (inputs : Inputs) (named : List (List ℕ)) (graph : Graph) (is : IsGra
             ∙ ap (drop (length hard)) (is.required.rows n (omega (arith, is.nodes)))
             ∙ ap (λ k. drop k (required_of inputs name)) (sym (length-map hard (name_at graph.names)) ∙ ap length hard_is);
         prerequisites =
-            ap (λ o. map (option_map (name_at graph.names)) (judged hard (option_map_or (λ (m : Node). m.hidden.items) o []))) at
+            ap (λ o. map (option_map (name_at graph.names)) (judged hard (hidden_at o (row graph.soft n)))) at
             ∙ known.prerequisites;
       }
 

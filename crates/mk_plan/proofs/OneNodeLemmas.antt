@@ -16,7 +16,7 @@ use Rattle.mk_profile.specs.declared.profile.Profile.{Profile}
 use Rattle.mk_rule_lines.specs.declared.rule_line.RuleLine.{RuleLine}
 use Rattle.mk_rule_lines.specs.Rules.{is_default_rule}
 use Rattle.mk_rules.specs.Graph.{IsGraph, is_numbered, judged, judged_name, required_in}
-use Rattle.mk_rules.specs.Node.{source_in, explicit_in, implied_in}
+use Rattle.mk_rules.specs.Node.{source_in, explicit_in, implied_in, hidden_in}
 use Rattle.mk_rules.specs.Groups.{made_time}
 use Rattle.mk_rules.specs.Prerequisites.{Inputs, hard_of, judged_of, distinct, implicit_source, made_from, source_name, recipe_of as rule_of, explicit_names, required_of}
 use Rattle.mk_rules.specs.declared.graph.Node.{Node}
@@ -51,7 +51,7 @@ module _ (graph : Graph) (n : ℕ) (past : length graph.nodes.items ≤ n) where
   no_made = ap (option_and_then made_in) none
 
   no_hidden : hidden_of graph n ≡ []
-  no_hidden = ap (λ o. option_map_or (λ (node : Node). node.hidden.items) o []) none
+  no_hidden = ap (λ o. hidden_in o (row graph.soft n)) none
 
   no_stem : stem_of graph n ≡ []
   no_stem = ap (λ o. unwrap_or (option_and_then (λ (node : Node). node.rare.stem) o) []) none
@@ -100,7 +100,7 @@ module _ (inputs : Inputs) (named : List (List ℕ)) (graph : Graph) (is : IsGra
       elim (slice_get_cases graph.nodes.items n).1 [
         | inl there ↦
             let (node, inside, at, same) = there in
-            ap (λ o. list_all (is_numbered (length graph.names)) (option_map_or (λ (m : Node). m.hidden.items) o [])) at ∙ (is.node n node at).numbered
+            ap (λ o. list_all (is_numbered (length graph.names)) (hidden_in o (row graph.soft n))) at ∙ (is.node n node at).numbered
         | inr beyond ↦ let (past, none) = beyond in absurd (omega arith)
       ]
 

@@ -6,7 +6,7 @@ use Rattle.std.specs.Option.{option_map_or}
 use Rattle.mk_graph.specs.Edges.{row}
 use Rattle.mk_graph.specs.Numbering.{name_at}
 use Rattle.mk_verdict.specs.Verdict.{IsLater}
-use Rattle.mk_rules.specs.Node.{source_in, explicit_in}
+use Rattle.mk_rules.specs.Node.{source_in, explicit_in, hidden_in}
 use Rattle.mk_rules.specs.declared.graph.Node.{Node}
 use Rattle.mk_rules.specs.declared.graph.Graph.{Graph}
 use Rattle.mk_rules.specs.declared.group.Group.{Group}
@@ -41,7 +41,7 @@ entry_of graph n = finmap.get graph.state (name_at graph.names n)
 
 -- its hidden prerequisites that are no hard ones; None where one is gone
 abbrev pub hidden_of : Graph → (n : ℕ) → List (Option ℕ)
-hidden_of graph n = option_map_or (λ node. node.hidden.items) (node_at graph n) []
+hidden_of graph n = hidden_in (node_at graph n) (row graph.soft n)
 
 -- its stem, where an implicit rule makes it; else nothing
 abbrev pub stem_of : Graph → (n : ℕ) → List ℕ

@@ -4,6 +4,7 @@ ghost use Rattle.std.specs.Bool.{OnTrue};
 ghost use Rattle.std.specs.List.{list_all};
 ghost use Rattle.mk_graph.specs.Numbering.{name_at};
 ghost use Rattle.mk_plan.specs.Finished.{leaves_hard, leaves_hidden, has_text_name, leaves_all, are_names_of, is_explicit, is_done, is_kept};
+ghost use Rattle.mk_plan.specs.Nodes.{hidden_of};
 ghost use Rattle.mk_plan.specs.Passage.{finished};
 ghost use Rattle.mk_plan.specs.Parts.{recipe_line};
 ghost use Rattle.mk_plan.specs.Passing.{Passes};
@@ -14,11 +15,11 @@ use crate::kept::is_kept_so;
 use crate::nodes::{entry_of, is_later, is_marked, made_of, name_of, stamp_of};
 use crate::parts::is_part;
 use crate::same::is_same;
-use crate::target::hidden_of;
 use crate::text_names::is_text_name;
+use byte_strings::Iter;
 use mk_rule_lines::RuleLine;
-use mk_rules::{Graph, ShortNumber};
-use st_records::{PackedEntry, Phase, Strings};
+use mk_rules::Graph;
+use st_records::{PackedEntry, Phase};
 use std::alloc::{AllocError, Global};
 
 /// Whether a hard prerequisite is no reason to make again what was made then.
@@ -56,17 +57,23 @@ fn leave_hard(graph: &Graph, marks: &[bool], made: Option<i128>, nodes: &[u32]) 
         .all(|node| leaves_hard(graph, marks, made, *node as usize))
 }
 
-/// Whether none of these hidden prerequisites is one.
+/// Whether none of the hidden prerequisites of a node is one.
 fn leave_hidden(
     keeping: bool,
     graph: &Graph,
     marks: &[bool],
     made: Option<i128>,
-    nodes: &[ShortNumber],
+    node: usize,
 ) -> bool
-    ensures { result ≡ list_all (leaves_hidden keeping graph.now marks.now made) nodes.now }
+    requires { node < length graph.now.nodes.items }
+    ensures { result ≡ list_all (leaves_hidden keeping graph.now marks.now made) (hidden_of graph.now node) }
 {
-    nodes.iter().all(|node| leaves_hidden(keeping, graph, marks, made, node.get()))
+    for hidden in graph.hidden(node) {
+        if !leaves_hidden(keeping, graph, marks, made, hidden) {
+            return false;
+        }
+    }
+    true
 }
 
 /// Whether the name of a hidden prerequisite is UTF-8, where it is a node.
@@ -79,21 +86,28 @@ fn has_text_name(graph: &Graph, hidden: Option<usize>) -> bool
     }
 }
 
-fn have_text_names(graph: &Graph, nodes: &[ShortNumber]) -> bool
-    ensures { result ≡ list_all (has_text_name graph.now) nodes.now }
+fn have_text_names(graph: &Graph, node: usize) -> bool
+    requires { node < length graph.now.nodes.items }
+    ensures { result ≡ list_all (has_text_name graph.now) (hidden_of graph.now node) }
 {
-    nodes.iter().all(|node| has_text_name(graph, node.get()))
+    for hidden in graph.hidden(node) {
+        if !has_text_name(graph, hidden) {
+            return false;
+        }
+    }
+    true
 }
 
-/// Whether the names of these hidden prerequisites are no reason, where it may be known that all names are UTF-8.
-fn are_readable(keeping: bool, texts: bool, graph: &Graph, nodes: &[ShortNumber]) -> bool
-    requires { texts ≡ true → HasTextNames graph.now }
-    ensures { result ≡ (not keeping || list_all (has_text_name graph.now) nodes.now) }
+/// Whether the names of the hidden prerequisites of a node are no reason, where it may be known that all names are UTF-8.
+fn are_readable(keeping: bool, texts: bool, graph: &Graph, node: usize) -> bool
+    requires node { node < length graph.now.nodes.items }
+    requires texts { texts ≡ true → HasTextNames graph.now }
+    ensures { result ≡ (not keeping || list_all (has_text_name graph.now) (hidden_of graph.now node)) }
 {
     if texts {
         return true;
     }
-    !keeping || have_text_names(graph, nodes)
+    !keeping || have_text_names(graph, node)
 }
 
 /// Whether a node has its files, and no prerequisite is a reason to make it.
@@ -105,12 +119,12 @@ fn leaves_all(keeping: bool, texts: bool, graph: &Graph, marks: &[bool], node: u
     let made = made_of(graph, node);
     made.is_some()
         && leave_hard(graph, marks, made, graph.hard.row(node))
-        && leave_hidden(keeping, graph, marks, made, hidden_of(graph, node))
-        && are_readable(keeping, texts, graph, hidden_of(graph, node))
+        && leave_hidden(keeping, graph, marks, made, node)
+        && are_readable(keeping, texts, graph, node)
 }
 
 /// Whether these are the names of the nodes, one by one.
-fn are_names_of(graph: &Graph, nodes: &[u32], names: Strings<'_>) -> bool
+fn are_names_of(graph: &Graph, nodes: &[u32], names: Iter<'_>) -> bool
     ensures { result ≡ are_names_of graph.now nodes.now names.entry }
 {
     let mut left = names;
@@ -128,7 +142,7 @@ fn are_names_of(graph: &Graph, nodes: &[u32], names: Strings<'_>) -> bool
 }
 
 /// Whether the explicit prerequisites of a node are those that are recorded, where they are.
-fn is_explicit(graph: &Graph, node: usize, explicit: Option<Strings<'_>>) -> bool
+fn is_explicit(graph: &Graph, node: usize, explicit: Option<Iter<'_>>) -> bool
     requires { node < length graph.now.nodes.items }
     ensures { result ≡ is_explicit graph.now node (explicit_from explicit.entry) }
 {

@@ -9,12 +9,12 @@ ghost use Rattle.mk_plan.specs.Recipe.{AreRecipeWords};
 use crate::recipe::names_for;
 use crate::simple::{gives_simply, is_over};
 use crate::words::{RecipeWords, explicit_names, recipe_words};
+use byte_strings::Iter;
 use mk_macros::{Dynamic, Macros};
 use mk_reader::RecipeLine;
 use mk_recipe::kept_text;
 use mk_rule_lines::RuleLine;
 use mk_rules::Graph;
-use st_records::Strings;
 use std::alloc::{AllocError, Global};
 
 /// Takes what a line gives the state to keep from the front of these commands; false where it doesn't stand there. A faulty line
@@ -24,7 +24,7 @@ fn takes_first(
     macros: &Macros,
     dynamic: &Dynamic<'_>,
     raw: &RecipeLine,
-    commands: &mut Strings<'_>,
+    commands: &mut Iter<'_>,
 ) -> bool
     ensures { OnTrue result (GivesFirst (meanings_of (defined_by macros.now) dynamic.now) raw.now commands.old commands.new) }
 {
@@ -47,7 +47,7 @@ fn gives_commands(
     macros: &Macros,
     dynamic: &Dynamic<'_>,
     recipe: &[RecipeLine],
-    commands: Strings<'_>,
+    commands: Iter<'_>,
 ) -> bool
     ensures { OnTrue result (GivesCommands (meanings_of (defined_by macros.now) dynamic.now) recipe.now commands.entry) }
 {
@@ -68,7 +68,7 @@ fn gives_with(
     node: usize,
     line: &RuleLine,
     words: &RecipeWords<'_>,
-    commands: Strings<'_>,
+    commands: Iter<'_>,
 ) -> bool
     requires node { node < length graph.now.nodes.items }
     requires words { AreRecipeWords graph.now marks.now node line.now words.now }
@@ -91,7 +91,7 @@ fn is_expanded_so(
     marks: &[bool],
     node: usize,
     line: &RuleLine,
-    commands: Strings<'_>,
+    commands: Iter<'_>,
 ) -> Result<bool, AllocError>
     requires node { node < length graph.now.nodes.items }
     requires alone { is_part (language_of graph.now) line.now ≡ false }
@@ -109,7 +109,7 @@ pub fn is_kept_so(
     marks: &[bool],
     node: usize,
     line: &RuleLine,
-    commands: &Strings<'_>,
+    commands: &Iter<'_>,
 ) -> Result<bool, AllocError>
     requires node { node < length graph.now.nodes.items }
     requires alone { is_part (language_of graph.now) line.now ≡ false }

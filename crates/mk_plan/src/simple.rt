@@ -7,10 +7,10 @@ ghost use Rattle.mk_plan.specs.Finished.{GivesFirst, GivesCommands};
 ghost use Rattle.mk_plan.specs.Simple.{KeepsFirst, IsItsOwn};
 
 use crate::same::is_same;
+use byte_strings::Iter;
 use mk_macros::MAX_EXPANSION_BYTES;
 use mk_reader::RecipeLine;
 use mk_recipe::kept_of_expanded;
-use st_records::Strings;
 
 fn has_reference(text: &[u8]) -> bool
     ensures { result ≡ list_any (λ b. b == 36) text.now }
@@ -27,7 +27,7 @@ fn is_its_own(text: &[u8]) -> bool
 }
 
 /// Takes what the state keeps of an expanded line from the front of these commands; false where it doesn't stand there.
-fn takes_kept(expanded: &[u8], commands: &mut Strings<'_>) -> bool
+fn takes_kept(expanded: &[u8], commands: &mut Iter<'_>) -> bool
     ensures { OnTrue result (KeepsFirst expanded.now commands.old commands.new) }
 {
     match kept_of_expanded(expanded) {
@@ -40,14 +40,14 @@ fn takes_kept(expanded: &[u8], commands: &mut Strings<'_>) -> bool
 }
 
 /// As `takes_kept`, of a line that has no reference; false where it has one.
-fn takes_first(raw: &RecipeLine, commands: &mut Strings<'_>) -> bool
+fn takes_first(raw: &RecipeLine, commands: &mut Iter<'_>) -> bool
     ensures { OnTrue result ((meanings : Meanings) → GivesFirst meanings raw.now commands.old commands.new) }
 {
     let text = raw.text.as_slice();
     is_its_own(text) && takes_kept(text, commands)
 }
 
-pub fn is_over(commands: Strings<'_>) -> bool
+pub fn is_over(commands: Iter<'_>) -> bool
     ensures { OnTrue result (commands.entry ≡ []) }
 {
     let mut commands = commands;
@@ -55,7 +55,7 @@ pub fn is_over(commands: Strings<'_>) -> bool
 }
 
 /// Whether these are the commands that the lines give the state to keep, of which none has a reference.
-pub fn gives_simply(recipe: &[RecipeLine], commands: Strings<'_>) -> bool
+pub fn gives_simply(recipe: &[RecipeLine], commands: Iter<'_>) -> bool
     ensures { OnTrue result ((meanings : Meanings) → GivesCommands meanings recipe.now commands.entry) }
 {
     let mut left = commands;

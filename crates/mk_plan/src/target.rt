@@ -1,14 +1,13 @@
 //! A node of a graph as it is judged.
 ghost use Rattle.std.specs.Prelude.{◌≡◌, ◌<◌, Some, None, true, false, length, map, IfOk};
 ghost use Rattle.mk_verdict.specs.declared.verdict.Target.{Target as Judged};
-ghost use Rattle.mk_plan.specs.Nodes.{hidden_of};
 ghost use Rattle.mk_plan.specs.Target.{shown, seen_at, seen_of, IsTargetOf};
 ghost use Rattle.mk_plan.specs.Why.{IsJudgedSo};
 
 use crate::nodes::{explicit_of, is_marked, made_of, name_of, stamp_of};
 use crate::why::{Why, why_of};
 use mk_recipe::{Line, Prerequisite, Target, recorded};
-use mk_rules::{Graph, ShortNumber};
+use mk_rules::Graph;
 use std::alloc::{AllocError, Global};
 
 /// A prerequisite that is a node. It has a file or a rule, or else it would be none.
@@ -40,16 +39,6 @@ fn hidden_seen<'g>(graph: &'g Graph, marks: &[bool], hidden: Option<usize>) -> P
     }
 }
 
-/// The hidden prerequisites of a node that are no hard ones.
-pub fn hidden_of(graph: &Graph, node: usize) -> &[ShortNumber]
-    ensures { result.now ≡ hidden_of graph.now node }
-{
-    match graph.nodes.get(node) {
-        Some(node) => node.hidden.as_slice(),
-        None => &[],
-    }
-}
-
 /// The prerequisites of a node: the hard ones, then the hidden ones.
 fn prerequisites_of<'g>(
     alloc: Global,
@@ -60,17 +49,14 @@ fn prerequisites_of<'g>(
     requires { node < length graph.now.nodes.items }
     ensures { IfOk result (λ found. map shown found.items ≡ seen_of graph.now marks.now node) }
 {
-    let count = graph
-        .hard
-        .row(node)
-        .len()
-        .saturating_add(hidden_of(graph, node).len());
-    let mut found = Vec::with_capacity(alloc, count)?;
+    let hard = graph.hard.row(node).len();
+    let hidden = graph.nodes[node].hidden as usize;
+    let mut found = Vec::with_capacity(alloc, hard.saturating_add(hidden))?;
     for hard in graph.hard.row(node) {
         found.push(node_seen(graph, marks, *hard as usize, false))?;
     }
-    for hidden in hidden_of(graph, node) {
-        found.push(hidden_seen(graph, marks, hidden.get()))?;
+    for hidden in graph.hidden(node) {
+        found.push(hidden_seen(graph, marks, hidden))?;
     }
     Ok(found)
 }

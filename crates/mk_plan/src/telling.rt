@@ -13,7 +13,6 @@ use crate::why::Why;
 use byte_strings::{ByteStrings, Iter};
 use mk_recipe::{Line, Reason, recorded};
 use mk_rules::Graph;
-use st_records::Strings;
 use std::alloc::{AllocError, Global};
 
 /// How much is told of targets with a recipe.
@@ -60,7 +59,7 @@ fn push_if_any(
 }
 
 /// The first texts in which two lists differ, of the one and of the other.
-fn difference<'s>(was: Strings<'s>, is: Iter<'s>) -> (Option<&'s [u8]>, Option<&'s [u8]>)
+fn difference<'s>(was: Iter<'s>, is: Iter<'s>) -> (Option<&'s [u8]>, Option<&'s [u8]>)
     ensures { (option_copied result.0, option_copied result.1) ≡ difference was.entry is.entry }
 {
     let mut others = is;
@@ -74,12 +73,12 @@ fn difference<'s>(was: Strings<'s>, is: Iter<'s>) -> (Option<&'s [u8]>, Option<&
 }
 
 /// The commands that the state has of a node.
-fn known_commands(graph: &Graph, node: usize) -> Strings<'_>
+fn known_commands(graph: &Graph, node: usize) -> Iter<'_>
     ensures { result ≡ commands_of graph.now node }
 {
     match entry_of(graph, node) {
         Some(entry) => entry.commands(),
-        None => Strings::empty(),
+        None => Iter::empty(),
     }
 }
 

@@ -27,7 +27,7 @@ fn are_text_names(names: &Names) -> bool
 }
 
 fn has_hidden(graph: &Graph) -> bool {
-    graph.nodes.iter().any(|node| !node.hidden.is_empty())
+    graph.nodes.iter().any(|node| node.hidden > 0)
 }
 
 /// Whether it is known that all names of a graph are UTF-8, for passing its nodes. It is found out only where there are hidden

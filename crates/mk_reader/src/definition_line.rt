@@ -33,7 +33,7 @@ fn defined_as(
     ensures { IfOk result (λ d. d ≡ defined_as place.entry.file.now place.entry.number name.now append value.now) }
 {
     Ok(Definition {
-        file: ByteString::from_slice(place.alloc, place.file)?,
+        file: place.file.share()?,
         line: place.number,
         name: ByteString::from_slice(place.alloc, name)?,
         append,

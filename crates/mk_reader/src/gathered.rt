@@ -4,6 +4,7 @@ ghost use Rattle.mk_reader.specs.Form.{recipe_form, statement_form, form_of};
 ghost use Rattle.mk_reader.specs.Statements.{with_lines, with_line, AddsLine, RecipeLineTaken, IsFaultTaken, Taken};
 
 use crate::fault::{Cause, ReadFault};
+use crate::file_name::FileName;
 use crate::form::{Form, UnfinishedRule};
 use crate::item::{Item, RecipeLine, Special, Statement};
 use crate::line::{LinePlace, LineText, LogicalLine};
@@ -176,7 +177,7 @@ impl Gathered {
         &mut self,
         alloc: Global,
         profile: Profile,
-        file: &[u8],
+        file: &FileName,
         line: LogicalLine<'_>,
     ) -> Result<bool, AllocError>
         ensures { IfOk result (λ ended. Taken file.now line.entry.number (form_of profile file.now line.entry)

@@ -1,5 +1,8 @@
 //! What a makefile holds: definitions, rules and special rules, each with its file and line.
+ghost use Rattle.std.specs.Prelude.{◌≡◌, [], ◌∷◌, IfOk};
+
 use crate::fault::Refusal;
+use crate::file_name::FileName;
 use crate::special::SpecialName;
 use byte_strings::ByteString;
 use std::alloc::{AllocError, Global};
@@ -9,8 +12,7 @@ use std::{mem, slice};
 /// `NAME = VALUE`, or `NAME += VALUE`. Neither text is expanded.
 #[derive(Drop)]
 pub struct Definition {
-    /// The file's name as it was given, or as it stands on the include line.
-    pub file: ByteString,
+    pub file: FileName,
     /// The number of the first physical line, from 1.
     pub line: usize,
     pub name: ByteString,
@@ -34,6 +36,24 @@ pub struct RecipeLine {
 enum Lines {
     One(RecipeLine),
     Many(Vec<RecipeLine>),
+}
+
+/// A line that is taken out of its place, and one behind it. After an `Err` it stands there still.
+fn two_lines(
+    alloc: Global,
+    first: &mut RecipeLine,
+    second: RecipeLine,
+) -> Result<Vec<RecipeLine>, AllocError>
+    ensures { IfOk result (λ lines. lines.items ≡ first.old ∷ second ∷ []) }
+{
+    let mut lines = Vec::with_capacity(alloc, 2)?;
+    let nothing = RecipeLine {
+        text: ByteString::new(Vec::new(alloc)),
+        line: 0,
+    };
+    lines.push(mem::replace(first, nothing))?;
+    lines.push(second)?;
+    Ok(lines)
 }
 
 /// The lines of a recipe, in order.
@@ -70,28 +90,10 @@ impl Recipe {
         ensures ok { OnOk result (self.new ≡ self.old ++ line ∷ []) }
     {
         match &mut self.lines {
-            Lines::One(_) => return self.push_second(line),
-            Lines::Many(lines) if lines.is_empty() => {}
-            Lines::Many(lines) => {
-                lines.push(line)?;
-                return Ok(());
-            }
+            Lines::One(first) => self.lines = Lines::Many(two_lines(self.alloc, first, line)?),
+            Lines::Many(lines) if lines.is_empty() => self.lines = Lines::One(line),
+            Lines::Many(lines) => lines.push(line)?,
         }
-        self.lines = Lines::One(line);
-        Ok(())
-    }
-
-    /// Adds a line behind the first.
-    fn push_second(&mut self, line: RecipeLine) -> Result<(), AllocError>
-        ensures { OnOk result (self.new ≡ self.old ++ line ∷ []) }
-    {
-        let mut lines = Vec::with_capacity(self.alloc, 2)?;
-        match mem::replace(&mut self.lines, Lines::Many(Vec::new(self.alloc))) {
-            Lines::One(first) => lines.push(first)?,
-            Lines::Many(mut front) => lines.append(&mut front)?,
-        }
-        lines.push(line)?;
-        self.lines = Lines::Many(lines);
         Ok(())
     }
 
@@ -109,7 +111,7 @@ impl Recipe {
 /// are read they have no blanks at their ends.
 #[derive(Drop)]
 pub struct Rule {
-    pub file: ByteString,
+    pub file: FileName,
     /// The number of the first physical line, from 1.
     pub line: usize,
     /// Whether `::` stands there, which the wide profile has.

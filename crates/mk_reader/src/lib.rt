@@ -6,6 +6,7 @@ mod comment;
 mod definition_line;
 mod directive;
 mod fault;
+mod file_name;
 mod form;
 mod gathered;
 mod item;
@@ -22,6 +23,7 @@ mod text;
 
 pub use directive::Directive;
 pub use fault::{Cause, Feature, MacroCause, ReadFault, Refusal, StaticCause};
+pub use file_name::FileName;
 pub use item::{
     Definition, DefinitionKind, DefinitionLine, IncludeLine, Item, Recipe, RecipeLine, Rule,
     Special, Statement,

@@ -1,4 +1,5 @@
 //! Physical and logical lines, as values.
+use crate::file_name::FileName;
 use byte_strings::ByteString;
 use mk_profile::Profile;
 use std::alloc::{AllocError, Global};
@@ -88,6 +89,6 @@ pub struct LogicalLine<'a> {
 pub struct LinePlace<'a> {
     pub alloc: Global,
     pub profile: Profile,
-    pub file: &'a [u8],
+    pub file: &'a FileName,
     pub number: usize,
 }

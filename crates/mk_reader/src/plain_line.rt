@@ -107,7 +107,7 @@ pub fn plain_rule(place: LinePlace<'_>, text: &[u8]) -> Result<Option<Rule>, All
         return Ok(None);
     };
     Ok(Some(Rule {
-        file: ByteString::from_slice(place.alloc, place.file)?,
+        file: place.file.share()?,
         line: place.number,
         is_double: false,
         targets: ByteString::from_slice(place.alloc, targets)?,

@@ -10,7 +10,7 @@ use byte_strings::ByteString;
 pub fn refuse(place: LinePlace<'_>, cause: Cause) -> ReadFault
     ensures { Refuses result (refusal place.entry.file.now place.entry.number cause) }
 {
-    match ByteString::from_slice(place.alloc, place.file) {
+    match ByteString::from_slice(place.alloc, place.file.as_slice()) {
         Ok(file) => ReadFault::Refused(Refusal {
             file,
             line: place.number,

@@ -76,7 +76,7 @@ fn judged_form(
             let place = LinePlace {
                 alloc,
                 profile,
-                file: rule.file.as_slice(),
+                file: &rule.file,
                 number: rule.line,
             };
             return Err(refuse(place, cause));
@@ -128,7 +128,7 @@ fn rule_form(
     }
     let semicolon = first_outside(right, b';', b';');
     let rule = Rule {
-        file: ByteString::from_slice(place.alloc, place.file)?,
+        file: place.file.share()?,
         line: place.number,
         is_double,
         targets: ByteString::from_slice(place.alloc, targets)?,

@@ -2,6 +2,7 @@
 ghost use Rattle.mk_reader.specs.Statements.{AreStatements};
 ghost use Rattle.std.specs.Prelude.{IfOk};
 
+use crate::file_name::FileName;
 use crate::gathered::Gathered;
 use crate::item::Statement;
 use crate::lines::next_logical_line;
@@ -11,14 +12,11 @@ use std::alloc::{AllocError, Global};
 /// How long a statement may be expected to be, with its recipe: room that isn't used takes no memory.
 const STATEMENT_LEN: usize = 40;
 
-/// The statements of a text, in their order. The first line that is refused is the last of them.
-///
-/// `file` is the name that statements and refusals give for the text. Files that it includes aren't read, and nothing
-/// is expanded.
-pub fn statements_of(
+/// The statements of a text, each with this name of its file.
+fn statements_in(
     alloc: Global,
     profile: Profile,
-    file: &[u8],
+    file: &FileName,
     text: &[u8],
 ) -> Result<Vec<Statement>, AllocError>
     ensures { IfOk result (λ v. AreStatements profile file.now text.now v.items) }
@@ -36,4 +34,20 @@ pub fn statements_of(
         number = next_number;
     }
     Ok(gathered.statements)
+}
+
+/// The statements of a text, in their order. The first line that is refused is the last of them.
+///
+/// `file` is the name that statements and refusals give for the text. Files that it includes aren't read, and nothing
+/// is expanded.
+pub fn statements_of(
+    alloc: Global,
+    profile: Profile,
+    file: &[u8],
+    text: &[u8],
+) -> Result<Vec<Statement>, AllocError>
+    ensures { IfOk result (λ v. AreStatements profile file.now text.now v.items) }
+{
+    let file = FileName::new(alloc, file)?;
+    statements_in(alloc, profile, &file, text)
 }

@@ -8,7 +8,7 @@ use Rattle.mk_reader.specs.declared.special.SpecialName.{SpecialName}
 use Rattle.mk_rule_lines.specs.Goals.{is_keep_state, is_no_parallel, is_delete_on_error, has_special, settings_of}
 use Rattle.mk_rule_lines.specs.Marks.{speaks_of_all, names_in}
 use Rattle.mk_rule_lines.specs.Rules.{is_rule}
-use Rattle.mk_rule_lines.specs.Settled.{nothing_set, marked_with, settings_with, settings_behind}
+use Rattle.mk_rule_lines.specs.Settled.{nothing_set, marked_with, settings_with}
 use Rattle.mk_rule_lines.specs.declared.marked.Mark.{Mark}
 use Rattle.mk_rule_lines.specs.declared.marked.Mark.TheVariants.{Ignored, Silent, Precious}
 use Rattle.mk_rule_lines.specs.declared.marked.Marked.{Marked}
@@ -49,6 +49,11 @@ settings-more s l lines =
     let silent = marked-more Silent s.silent l lines in
     let precious = marked-more Precious s.precious l lines in
     cc
+
+-- what is set behind these lines
+abbrev pub settings_behind : Settings → List RuleLine → Settings
+settings_behind s [] = s
+settings_behind s (l ∷ lines) = settings_behind (settings_with s l) lines
 
 settings_behind-all : (s : Settings) (lines : List RuleLine) → settings_behind s lines ≡ all_behind s lines
 settings_behind-all s [] = settings-none s

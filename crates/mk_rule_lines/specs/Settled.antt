@@ -1,5 +1,5 @@
 -- What special rules set, taken in one line after the other.
-use Rattle.std.specs.Prelude.{List, [], ◌∷◌, false, ◌||◌}
+use Rattle.std.specs.Prelude.{[], false, ◌||◌}
 use Rattle.mk_graph.specs.Numbering.{all_added}
 use Rattle.mk_rule_lines.specs.Goals.{is_keep_state, is_no_parallel, is_delete_on_error}
 use Rattle.mk_rule_lines.specs.Marks.{speaks_of_all, names_in}
@@ -36,8 +36,3 @@ settings_with s l = record {
   silent = marked_with Silent s.silent l;
   precious = marked_with Precious s.precious l;
 }
-
--- what is set behind these lines
-abbrev pub settings_behind : Settings → List RuleLine → Settings
-settings_behind s [] = s
-settings_behind s (l ∷ lines) = settings_behind (settings_with s l) lines

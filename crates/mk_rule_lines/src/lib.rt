@@ -23,7 +23,8 @@ mod table;
 pub use counting::in_force;
 pub use doubles::{double_lines, first_double};
 pub use explicit::{
-    explicit_of, is_bar, is_default_at, is_phony, is_wait, names_in, order_only_of, words_by,
+    explicit_of, is_bar, is_default_at, is_phony, is_wait, may_have_bar, names_in, order_only_of,
+    words_by,
 };
 pub use fault::{CycleNames, RuleFault, TextFault, TextPlace, Unmade, Unsupported};
 pub use form::{Form, Source};

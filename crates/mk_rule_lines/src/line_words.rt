@@ -5,14 +5,14 @@ ghost use Rattle.byte_strings.specs.Blanks.{is_blank, words};
 ghost use Rattle.mk_rule_lines.specs.Rules.{has};
 ghost use Rattle.mk_rule_lines.specs.Signs.{is_sign};
 
-use byte_strings::{ByteStrings, Words, is_blank};
+use byte_strings::{ByteString, ByteStrings, Words, is_blank};
 use std::alloc::{AllocError, Global};
 use std::marker::Model;
 
 /// The words of a text, which is all that is kept of them: a list of words takes twice the room. Contracts see the list.
 #[derive(Drop)]
 pub struct LineWords {
-    text: Vec<u8>,
+    text: ByteString,
     /// Whether no sign stands in the text, as in most: told once, since each line is asked for its signs several times.
     is_plain: bool,
 }
@@ -25,9 +25,9 @@ impl Model for LineWords {
 
     ghost Value = { List (List ℕ) };
 
-    ghost view = { λ w. words w.text.items };
+    ghost view = { λ w. words w.text };
 
-    ghost invariant = { λ w. w.is_plain ≡ true → list_any is_sign w.text.items ≡ false };
+    ghost invariant = { λ w. w.is_plain ≡ true → list_any is_sign w.text ≡ false };
 }
 
 /// Whether the byte may mean something of its own in a text of a rule line.
@@ -43,7 +43,7 @@ pub(crate) fn any_is_sign(text: &[u8]) -> bool
 {
     let mut found = false;
     for byte in text {
-        found = found | is_sign(*byte);
+        found |= is_sign(*byte);
     }
     found
 }
@@ -56,17 +56,17 @@ fn all_are_blank(text: &[u8]) -> bool
 
 impl LineWords {
     /// The words of this text, which takes no memory.
-    pub fn new(text: Vec<u8>) -> LineWords
-        ensures { result ≡ words text.items }
+    pub fn new(text: ByteString) -> LineWords
+        ensures { result ≡ words text }
     {
-        let is_plain = !any_is_sign(&text);
+        let is_plain = !any_is_sign(text.as_slice());
         LineWords { text, is_plain }
     }
 
     /// The words of a text in which no sign stands.
-    pub(crate) fn plain(text: Vec<u8>) -> LineWords
-        requires { list_any is_sign text.items ≡ false }
-        ensures { result ≡ words text.items }
+    pub(crate) fn plain(text: ByteString) -> LineWords
+        requires { list_any is_sign text ≡ false }
+        ensures { result ≡ words text }
     {
         LineWords {
             text,
@@ -78,7 +78,7 @@ impl LineWords {
     pub(crate) fn room(&self, alloc: Global) -> Result<ByteStrings, AllocError>
         ensures { IfOk result (λ strings. strings ≡ []) }
     {
-        let bytes = self.text.len();
+        let bytes = self.text.as_slice().len();
         ByteStrings::with_capacity(alloc, bytes / 4, bytes)
     }
 
@@ -86,7 +86,7 @@ impl LineWords {
     pub fn iter(&self) -> Words<'_>
         ensures { result ≡ self.now }
     {
-        Words::new(&self.text)
+        Words::new(self.text.as_slice())
     }
 
     pub fn first(&self) -> Option<&[u8]>
@@ -98,7 +98,7 @@ impl LineWords {
     pub fn is_empty(&self) -> bool
         ensures { IsTrue result ↔ (self.now ≡ []) }
     {
-        all_are_blank(&self.text)
+        all_are_blank(self.text.as_slice())
     }
 
     /// Whether there is just one word.
@@ -120,7 +120,7 @@ impl LineWords {
         if self.is_plain && is_sign(byte) {
             return false;
         }
-        self.text.contains(&byte)
+        self.text.as_slice().contains(&byte)
     }
 
     /// Whether one of the words has a `+`, a `(` or a `%`, told in the same way. Only where it is so something of them may be refused.

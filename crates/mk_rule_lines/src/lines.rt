@@ -13,23 +13,28 @@ use crate::rule_line::{RuleLine, is_phony_list};
 use byte_strings::ByteString;
 use mk_macros::{Dynamic, MAX_EXPANSION_BYTES, MacroFault, Macros, Rank};
 use mk_profile::Profile;
-use mk_reader::{Definition, Item, Recipe, Rule, Special, SpecialName};
+use mk_reader::{Definition, FileName, Item, Recipe, Rule, Special, SpecialName};
 use std::alloc::{AllocError, Global};
 
 /// The place of a line as it is told in this language.
 #[tactic(auto, unfolding(crate::specs::Lines::told_place))]
-fn told_place(profile: Profile, file: ByteString, line: usize) -> Option<TextPlace>
-    ensures { result ≡ told_place profile file line }
+fn told_place(
+    alloc: Global,
+    profile: Profile,
+    file: &FileName,
+    line: usize,
+) -> Result<Option<TextPlace>, AllocError>
+    ensures { IfOk result (λ place. place ≡ told_place profile file.now line) }
 {
-    if profile.is_wide() {
-        Some(TextPlace { file, line })
-    } else {
-        None
+    if !profile.is_wide() {
+        return Ok(None);
     }
+    let file = ByteString::from_slice(alloc, file.as_slice())?;
+    Ok(Some(TextPlace { file, line }))
 }
 
 /// The file of a line as it is told in this language.
-fn told_file(profile: Profile, file: ByteString) -> Option<ByteString>
+fn told_file(profile: Profile, file: FileName) -> Option<FileName>
     ensures { result ≡ told_file profile file }
 {
     if profile.is_wide() { Some(file) } else { None }
@@ -69,10 +74,10 @@ fn expanded_words(alloc: Global, macros: &Macros, text: ByteString) -> Result<Li
     ensures fault { IfErr result (ExpandsToFault (rule_meanings (defined_by macros.now)) text) }
 {
     if is_fixed(text.as_slice()) {
-        return Ok(LineWords::new(text.into_vec()));
+        return Ok(LineWords::new(text));
     }
     let expansion = macros.expand(alloc, text.as_slice(), &Dynamic::RuleLine)?;
-    Ok(LineWords::new(expansion))
+    Ok(LineWords::new(ByteString::new(expansion)))
 }
 
 /// The words of what the text of a rule line expands to.
@@ -82,7 +87,7 @@ fn words_of(alloc: Global, macros: &Macros, text: ByteString) -> Result<LineWord
     ensures fault { IfErr result (ExpandsToFault (rule_meanings (defined_by macros.now)) text) }
 {
     if is_plain(text.as_slice()) {
-        return Ok(LineWords::plain(text.into_vec()));
+        return Ok(LineWords::plain(text));
     }
     expanded_words(alloc, macros, text)
 }
@@ -106,7 +111,7 @@ fn both_words(
 /// The line of `.PHONY` as a rule line for the names that it lists.
 fn phony_line(
     alloc: Global,
-    file: Option<ByteString>,
+    file: Option<FileName>,
     line: u32,
     profile: Profile,
     names: LineWords,
@@ -126,7 +131,7 @@ fn phony_line(
         profile,
         special: Some(SpecialName::Phony),
         targets: names,
-        prerequisites: LineWords::new(Vec::new(alloc)),
+        prerequisites: LineWords::new(ByteString::new(Vec::new(alloc))),
         recipe: Recipe::new(alloc),
         is_double: false,
     }
@@ -154,7 +159,7 @@ fn rule_line(
     let (targets, prerequisites) = match both_words(alloc, macros, targets, prerequisites) {
         Ok(both) => both,
         Err(cause) => {
-            let place = told_place(macros.profile(), file, line);
+            let place = told_place(alloc, macros.profile(), &file, line)?;
             return Err(fault_at(place, cause));
         }
     };
@@ -179,8 +184,8 @@ fn rule_line(
 }
 
 /// Takes a definition of the makefile into the macros. Without memory each name has what it had.
-fn define(alloc: Global, macros: &mut Macros, definition: &Definition) -> Result<(), AllocError>
-    ensures { OnOk result (defined_by macros.new ≡ behind (defined_by macros.old) definition.now) }
+fn define(alloc: Global, macros: &mut Macros, definition: Definition) -> Result<(), AllocError>
+    ensures { OnOk result (defined_by macros.new ≡ behind (defined_by macros.old) definition) }
 {
     macros.define(
         alloc,
@@ -205,7 +210,7 @@ pub fn rule_lines(
     let mut lines = Vec::with_capacity(alloc, items.len())?;
     for item in items {
         match item {
-            Item::Definition(definition) => define(alloc, macros, &definition)?,
+            Item::Definition(definition) => define(alloc, macros, definition)?,
             Item::Rule(rule) => lines.push(rule_line(alloc, macros, None, rule)?)?,
             Item::Special(special) => {
                 let Special { name, rule } = special;

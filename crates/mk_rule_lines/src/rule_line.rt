@@ -5,16 +5,16 @@ ghost use Rattle.mk_reader.specs.Text.{is_empty};
 ghost use Rattle.mk_rule_lines.specs.Rules.{has, has_percent, is_rule, is_pattern_rule, is_phony_list, is_default_rule, makes_targets, is_suffix_list, joins, is_suffix_name, lacks_single, is_double_recipe, is_always, may_be_suffix_rule, is_suffix_target, comes_out, targets_by};
 
 use crate::line_words::LineWords;
-use byte_strings::{ByteString, ByteStrings};
+use byte_strings::ByteStrings;
 use mk_profile::Profile;
-use mk_reader::{Recipe, SpecialName};
+use mk_reader::{FileName, Recipe, SpecialName};
 use std::alloc::{AllocError, Global};
 
 /// A rule line, or the line of a special rule. That of `.PHONY` has the names that it lists as its targets.
 #[derive(Drop)]
 pub struct RuleLine {
     /// The file that holds it, in the wide profile: in the strict one no place of its recipe is told.
-    pub file: Option<ByteString>,
+    pub file: Option<FileName>,
     /// The number of the line, from 1, in the file that holds it.
     pub line: u32,
     /// The language that it is read in.

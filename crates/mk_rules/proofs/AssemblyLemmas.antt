@@ -16,7 +16,7 @@ use Rattle.mk_rules.specs.Graph.{IsGraph, IsNode, AreMade, AreHard, AreRequired,
 use Rattle.mk_rules.specs.Nodes.{IsNamedOf}
 use Rattle.mk_rules.specs.Ordering.{IsCycleFault}
 use Rattle.mk_rules.specs.Prerequisites.{Inputs, prerequisites_of, is_made}
-use Rattle.mk_rules.specs.Rows.{EachRow, IsHardRow}
+use Rattle.mk_rules.specs.Rows.{EachRow, IsHardRow, IsSoftRow}
 use Rattle.mk_rule_lines.specs.Taken.{AreTaken}
 use Rattle.mk_rule_lines.specs.declared.fault.RuleFault.{RuleFault}
 use Rattle.mk_rule_lines.specs.declared.fault.RuleFault.TheVariants as fault
@@ -34,7 +34,8 @@ module _ (inputs : Inputs) (named : List (List ℕ)) (lines : List RuleLine) (li
   module _ (o : Ordered) (hard_count : length o.hard ≡ length n.names) (rows : EachRow (IsHardRow n.rows n.nodes.items) o.hard) (taken : AreTaken lines)
       (made : AreMade inputs n.names) (required : AreRequired inputs n.names (unwrap_or o.required o.hard)) (soft : AreSoft inputs n.names o.soft)
       (counted : AreCounted (unwrap_or o.required o.hard) o.soft o.counted o.soft_dropped)
-      (acyclic : HasCycle (unwrap_or o.required o.hard) → ⊥) (order : IsPlan o.counted o.order.items) (closed : is_closed n.rows ≡ true) (state : StateMap)
+      (acyclic : HasCycle (unwrap_or o.required o.hard) → ⊥) (order : IsPlan o.counted o.order.items) (soft_count : length o.soft ≡ length n.names)
+      (soft_rows : EachRow (IsSoftRow n.rows n.nodes.items) o.soft) (closed : is_closed o.soft ≡ true) (state : StateMap)
       (entries : finmap.get state ≡ inputs.entries) (graph : Graph)
       (named_nodes : Named) (of : IsNamedOf n named_nodes) (p : IsPutTogether lines named_nodes o state graph) where
     names_is : graph.names ≡ n.names
@@ -61,12 +62,14 @@ module _ (inputs : Inputs) (named : List (List ℕ)) (lines : List RuleLine) (li
       names = subst (IsNumbering (prerequisites_of inputs) (goals_of inputs.lines named)) (sym names_is) found.names_are;
       goals = ap (λ ns. map (name_at ns) graph.goals.items) names_is ∙ ap (map (name_at n.names)) (p.goals ∙ of.goals) ∙ found.goals_are;
       made = subst (AreMade inputs) (sym names_is) made;
-      nodes = ap length p.nodes ∙ of.count ∙ node_count ∙ ap length (sym names_is);
+      nodes = ap length (p.nodes ∙ of.nodes) ∙ node_count ∙ ap length (sym names_is);
       node = λ k node at.
-          subst (λ ns. IsNode inputs ns (row graph.hard k) (name_at ns k) node) (sym names_is)
-          (subst (λ h. IsNode inputs n.names (row h k) (name_at n.names k) node) (sym p.hard)
-          (nodes_are inputs n.names n.rows n.nodes.items found.rows_are found.known node_count closed o.hard (hard_count ∙ sym node_count) rows named_nodes.nodes.items of.nodes k node
-          (ap (λ ns. slice_get ns k) (sym p.nodes) ∙ at)));
+          subst (λ ns. IsNode inputs ns (row graph.hard k) (row graph.soft k) (name_at ns k) node) (sym names_is)
+          (subst (λ h. IsNode inputs n.names (row h k) (row graph.soft k) (name_at n.names k) node) (sym p.hard)
+          (subst (λ s. IsNode inputs n.names (row o.hard k) (row s k) (name_at n.names k) node) (sym p.soft)
+          (nodes_are inputs n.names n.rows n.nodes.items found.rows_are found.known node_count o.hard (hard_count ∙ sym node_count) rows
+          o.soft (soft_count ∙ sym node_count) soft_rows closed k node
+          (ap (λ ns. slice_get ns k) (sym (p.nodes ∙ of.nodes)) ∙ at))));
       hard = subst (λ ns. AreHard inputs ns graph.hard) (sym names_is) (subst (AreHard inputs n.names) (sym p.hard) hard_is);
       required = subst (λ ns. AreRequired inputs ns (required_in graph)) (sym names_is) (subst (AreRequired inputs n.names) (sym required_is) required);
       soft = subst (λ ns. AreSoft inputs ns graph.soft) (sym names_is) (subst (AreSoft inputs n.names) (sym p.soft) soft);

@@ -1,8 +1,8 @@
 -- The hidden prerequisites of a name, one at a time.
-use Rattle.std.proofs.Common.{arith, ◌≡◌, ◌≤◌, ℕ, Bool, true, false, not, cond, List, [], ◌∷◌, ◌++◌, length, map, drop, filter, refl, sym, ap, ◌∙◌, length-append}
+use Rattle.std.proofs.Common.{arith, ◌≡◌, ◌≤◌, ℕ, Bool, true, false, not, cond, List, [], ◌∷◌, ◌++◌, length, map, drop, filter, Option, refl, sym, ap, ◌∙◌, length-append}
 use Rattle.std.specs.Prelude.{◌||◌, ◌&&◌, bytes_eq}
 use Rattle.std.specs.Str.{is_utf8}
-use Rattle.std.proofs.lemmas.List.{drop-append-le, map-append}
+use Rattle.std.proofs.lemmas.List.{drop-append-le, drop_all, map-append}
 use Rattle.std.proofs.lemmas.List.Folds.{list_any-append}
 use Rattle.mk_graph.specs.Numbering.{has_name, added, all_added}
 use Rattle.mk_rule_lines.specs.Rules.{has}
@@ -264,3 +264,12 @@ or_later false c e = e
 
 pub has_later : (n name : List ℕ) (left : List (List ℕ)) → has n left ≡ true → has n (name ∷ left) ≡ true
 has_later n name left e = or_later (bytes_eq n name) (has n left) e
+
+-- where none is recorded, the row stays
+pub none_hidden : (p : List ℕ → Bool) (hard hidden : List (List ℕ)) (among : List Bool) → length hidden ≡ 0 → among ≡ [] →
+    HasHidden p hard hidden hard among
+none_hidden p hard [] among none is = record {
+  nodes_are = refl;
+  among_are = let all : length hard ≤ length hard = omega arith in is ∙ sym (ap (map p) (drop_all (length hard) hard all));
+}
+none_hidden p hard (h ∷ hs) among none is = absurd (omega (arith, none))

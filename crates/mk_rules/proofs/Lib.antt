@@ -17,11 +17,12 @@ pub mod LinkLemmas
 pub mod LookLemmas
 pub mod LookupLemmas
 pub mod MadeLemmas
+pub mod MarkLemmas
 pub mod NeededLemmas
-pub mod NodeLemmas
 pub mod OneGraphLemmas
 pub mod OneNumberingLemmas
 pub mod OrderLemmas
+pub mod OrderOnlyLemmas
 pub mod PartsLaws
 pub mod PlaceLemmas
 pub mod RequiredLemmas

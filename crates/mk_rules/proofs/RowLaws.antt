@@ -1,6 +1,6 @@
 -- What the rows of numbered names say of the names.
-use Rattle.std.proofs.Common.{arith, ◌≡◌, ℕ, ◌<◌, ◌≤◌, nat_eq, lt-ltb, suc, zero, true≢false, ⊎_elim, Bool, true, false, not, ◌&&◌, ◌||◌, cond, List, [], ◌∷◌, ◌++◌, length, map, take, drop, filter, get_or, Option, Some, None, refl, sym, ap, subst, ◌∙◌}
-use Rattle.std.specs.Prelude.{option_map, is_some, slice_get, bytes_eq, nat_lt}
+use Rattle.std.proofs.Common.{arith, ◌≡◌, ℕ, ◌<◌, ◌≤◌, nat_eq, lt-ltb, suc, zero, true≢false, ⊎_elim, Bool, true, false, not, ◌&&◌, ◌||◌, cond, List, [], ◌∷◌, ◌++◌, length, map, take, drop, filter, get_or, append_assoc, Option, Some, None, refl, sym, ap, subst, ◌∙◌}
+use Rattle.std.specs.Prelude.{option_map, slice_get, bytes_eq, nat_lt}
 use Rattle.std.specs.List.{list_all, flat_map, IsDistinct}
 use Rattle.std.proofs.lemmas.List.{map-append, take-map, drop-map, length-map}
 use Rattle.std.proofs.lemmas.Bool.{cases_lt, and_parts, and_from}
@@ -16,11 +16,11 @@ use Rattle.mk_graph.specs.Numbering.{name_at, all_added, AreDescribed, IsNumberi
 use Rattle.mk_rules.specs.Graph.{judged, judged_name, is_numbered, AreHard, IsNode}
 use Rattle.mk_rules.specs.Known.{IsKnown, nodes_among}
 use Rattle.mk_rules.specs.Prerequisites.{Inputs, prerequisites_of, waited_for, judged_of, hard_of, hidden_of, soft_names, is_node, order_only_of}
-use Rattle.mk_rules.specs.Rows.{EachRow, IsHardRow, IsWaitedRow, spread}
-use Rattle.mk_rules.specs.Nodes.{AreMadeOf}
+use Rattle.mk_rules.specs.Hidden.{spread}
+use Rattle.mk_rules.specs.Node.{hidden_marks, hidden_by}
+use Rattle.mk_rules.specs.Rows.{EachRow, IsHardRow, IsWaitedRow, IsSoftRow}
 use Rattle.mk_rule_lines.specs.Rules.{has}
 use Rattle.mk_rules.specs.declared.graph.Node.{Node}
-use Rattle.mk_rules.specs.declared.rare.Rare.{Rare}
 use Rattle.mk_rules.proofs.HiddenLemmas.{has_first, has_later}
 use Rattle.mk_rules.proofs.PartsLaws.{source_is, explicit_is}
 use Rattle.mk_rules.proofs.WaitLemmas.{are_below, has_named}
@@ -108,32 +108,39 @@ module _ (inputs : Inputs) (names : List (List ℕ)) (name : List ℕ) (k : Node
       ap (has q) behind_names ∙ has_fresh (hard_of inputs name) q passed
       ∙ sym (has_filtered (λ h. not (has h (hard_of inputs name))) q passed)
 
-  gone_or_not : map (name_at names) (drop k.hard r) ≡ filter (is_node inputs) (fresh (hard_of inputs name) (hidden_of inputs name)) ++ rest
-  gone_or_not =
-      behind_names ∙ fresh-append (hard_of inputs name) present (order_only_of inputs name)
-      ∙ ap (λ l. l ++ rest) (sym (filter_fresh (is_node inputs) (hard_of inputs name) (hidden_of inputs name)))
-
-  known_nodes : map is_some k.hidden.items ≡ map (is_node inputs) (fresh (hard_of inputs name) (hidden_of inputs name))
+  known_nodes : hidden_marks k ≡ map (is_node inputs) (fresh (hard_of inputs name) (hidden_of inputs name))
   known_nodes =
       is.hidden ∙ ap (λ n. nodes_among inputs n (judged_of inputs name)) is.hard
       ∙ ap (map (is_node inputs)) (behind_added (hard_of inputs name) (hidden_of inputs name))
 
-  -- the prerequisites as they are judged
-  pub judged_names : map (option_map (name_at names)) (judged (take k.hard r) (spread (map is_some k.hidden.items) (drop k.hard r)))
-      ≡ map (judged_name inputs (hard_of inputs name)) (judged_of inputs name)
-  judged_names =
-      let new = fresh (hard_of inputs name) (hidden_of inputs name) in
-      map-append (option_map (name_at names)) (map Some (take k.hard r)) (spread (map is_some k.hidden.items) (drop k.hard r))
-      ∙ ap (λ l. l ++ map (option_map (name_at names)) (spread (map is_some k.hidden.items) (drop k.hard r))) (map-some (name_at names) (take k.hard r) ∙ ap (map Some) hard_names)
-      ∙ ap (λ l. map Some (hard_of inputs name) ++ l)
-      (map-spread (name_at names) (map is_some k.hidden.items) (drop k.hard r)
-      ∙ ap (λ l. spread_names (map is_some k.hidden.items) l) gone_or_not
-      ∙ ap (λ bs. spread_names bs (filter (is_node inputs) new ++ rest)) known_nodes
-      ∙ spread-filter (is_node inputs) rest new
-      ∙ sym (behind_judged inputs (hard_of inputs name) new (λ q there. and_second (has q (hidden_of inputs name)) (not (has q (hard_of inputs name))) (sym (has_fresh (hard_of inputs name) q (hidden_of inputs name)) ∙ there))))
-      ∙ ap (λ l. l ++ map (judged_name inputs (hard_of inputs name)) new) (sym (hard_judged inputs (hard_of inputs name) (hard_of inputs name) (λ q there. there)))
-      ∙ sym (map-append (judged_name inputs (hard_of inputs name)) (hard_of inputs name) new)
-      ∙ ap (map (judged_name inputs (hard_of inputs name))) (sym (added_fresh (hard_of inputs name) (hidden_of inputs name)))
+  -- whatever stands behind them
+  module _ (behind : List ℕ) where
+    abbrev soft : List ℕ
+    soft = drop k.hard r ++ behind
+
+    gone_or_not : map (name_at names) soft ≡ filter (is_node inputs) (fresh (hard_of inputs name) (hidden_of inputs name)) ++ (rest ++ map (name_at names) behind)
+    gone_or_not =
+        map-append (name_at names) (drop k.hard r) behind
+        ∙ ap (λ l. l ++ map (name_at names) behind)
+        (behind_names ∙ fresh-append (hard_of inputs name) present (order_only_of inputs name)
+        ∙ ap (λ l. l ++ rest) (sym (filter_fresh (is_node inputs) (hard_of inputs name) (hidden_of inputs name))))
+        ∙ append_assoc (filter (is_node inputs) (fresh (hard_of inputs name) (hidden_of inputs name))) rest (map (name_at names) behind)
+
+    -- the prerequisites as they are judged
+    pub judged_names : map (option_map (name_at names)) (judged (take k.hard r) (hidden_by k soft)) ≡ map (judged_name inputs (hard_of inputs name)) (judged_of inputs name)
+    judged_names =
+        let new = fresh (hard_of inputs name) (hidden_of inputs name) in
+        map-append (option_map (name_at names)) (map Some (take k.hard r)) (hidden_by k soft)
+        ∙ ap (λ l. l ++ map (option_map (name_at names)) (hidden_by k soft)) (map-some (name_at names) (take k.hard r) ∙ ap (map Some) hard_names)
+        ∙ ap (λ l. map Some (hard_of inputs name) ++ l)
+        (map-spread (name_at names) (hidden_marks k) soft
+        ∙ ap (λ l. spread_names (hidden_marks k) l) gone_or_not
+        ∙ ap (λ bs. spread_names bs (filter (is_node inputs) new ++ (rest ++ map (name_at names) behind))) known_nodes
+        ∙ spread-filter (is_node inputs) (rest ++ map (name_at names) behind) new
+        ∙ sym (behind_judged inputs (hard_of inputs name) new (λ q there. and_second (has q (hidden_of inputs name)) (not (has q (hard_of inputs name))) (sym (has_fresh (hard_of inputs name) q (hidden_of inputs name)) ∙ there))))
+        ∙ ap (λ l. l ++ map (judged_name inputs (hard_of inputs name)) new) (sym (hard_judged inputs (hard_of inputs name) (hard_of inputs name) (λ q there. there)))
+        ∙ sym (map-append (judged_name inputs (hard_of inputs name)) (hard_of inputs name) new)
+        ∙ ap (map (judged_name inputs (hard_of inputs name))) (sym (added_fresh (hard_of inputs name) (hidden_of inputs name)))
 
 -- ---- rows whose numbers stand in other rows
 
@@ -222,21 +229,10 @@ module _ (inputs : Inputs) (names : List (List ℕ)) (g : List (List ℕ)) (know
       ∙ ap (λ r. has (name_at names m) (map (name_at names) r)) (each n inside k.0 k.1)
       ∙ soft_members inputs names (name_at names n) k.0 (described n k.0 k.1) (row g n) (row_at n n_in) (name_at names m)
 
-  -- the prerequisites of a node as they are judged
-  pub node_judged : (n : ℕ) (k : Node) → n < length names → slice_get known n ≡ Some k →
-      map (option_map (name_at names)) (judged (take k.hard (row g n)) (spread (map is_some k.hidden.items) (drop k.hard (row g n))))
-      ≡ map (judged_name inputs (hard_of inputs (name_at names n))) (judged_of inputs (name_at names n))
-  node_judged n k within at = judged_names inputs names (name_at names n) k (described n k at) (row g n) (row_at n within)
-
 -- ---- the numbers of hidden prerequisites
 
 abbrev are_all_below : (count : ℕ) → List ℕ → Bool
 are_all_below count ns = list_all (λ n. nat_lt n count) ns
-
-drop_below : (count k : ℕ) (ns : List ℕ) → are_all_below count ns ≡ true → are_all_below count (drop k ns) ≡ true
-drop_below count zero ns all = all
-drop_below count (suc k) [] all = all
-drop_below count (suc k) (n ∷ ns) all = drop_below count k ns ((and_parts (nat_lt n count) (are_all_below count ns) all).1)
 
 spread_numbered : (count : ℕ) (bs : List Bool) (ns : List ℕ) → are_all_below count ns ≡ true → list_all (is_numbered count) (spread bs ns) ≡ true
 spread_numbered count [] ns all = refl
@@ -266,37 +262,33 @@ cycle_below g closed cycle is =
     ap (list_all (λ m. nat_lt m (length g))) is.whole ∙ and_from (nat_lt is.first (length g)) (list_all (λ m. nat_lt m (length g)) (is.between ++ is.first ∷ [])) first.0 behind
 
 module _ (inputs : Inputs) (names : List (List ℕ)) (g : List (List ℕ)) (known : List Node) (rows_are : map (map (name_at names)) g ≡ map (prerequisites_of inputs) names)
-    (described : AreDescribed (IsKnown inputs) names known) (count : length known ≡ length names) (closed : is_closed g ≡ true) where
-  row_below : (n : ℕ) → n < length names → are_all_below (length names) (row g n) ≡ true
-  row_below n within =
-      let same : length g ≡ length names = rows_count inputs names g known rows_are described count in
-      ap (λ l. are_all_below l (row g n)) (sym same) ∙ closed_row g closed n (subst (λ l. n < l) (sym same) within)
-
-  -- the nodes that are made of what is known of all names
-  pub nodes_are : (hard : List (List ℕ)) → length hard ≡ length known → EachRow (IsHardRow g known) hard → (nodes : List Node) → AreMadeOf known g nodes →
-      (n : ℕ) (node : Node) → slice_get nodes n ≡ Some node → IsNode inputs names (row hard n) (name_at names n) node
-  nodes_are hard rows each nodes made n node at =
-      let from = made n node at in
-      let k = from.0 in
-      let is = from.2 in
-      let known_is = described n k from.1 in
-      let within : n < length known = slice_get_within known n k from.1 in
-      let row_is : map (name_at names) (row hard n) ≡ hard_of inputs (name_at names n) = (are_hard inputs names g known rows_are described count hard rows each).1 n (subst (λ l. n < l) count within) in
-      let hard_is : row hard n ≡ take k.hard (row g n) = each n (subst (λ l. n < l) (sym rows) within) k from.1 in
+    (described : AreDescribed (IsKnown inputs) names known) (count : length known ≡ length names) where
+  -- the nodes by their rows of hard prerequisites and of what they wait for besides
+  pub nodes_are : (hard : List (List ℕ)) → length hard ≡ length known → EachRow (IsHardRow g known) hard →
+      (soft : List (List ℕ)) → length soft ≡ length known → EachRow (IsSoftRow g known) soft → is_closed soft ≡ true →
+      (n : ℕ) (node : Node) → slice_get known n ≡ Some node → IsNode inputs names (row hard n) (row soft n) (name_at names n) node
+  nodes_are hard rows each soft soft_rows each_soft closed n node at =
+      let is = described n node at in
+      let within : n < length known = slice_get_within known n node at in
+      let n_in : n < length names = subst (λ l. n < l) count within in
+      let name = name_at names n in
+      let row_is : map (name_at names) (row hard n) ≡ hard_of inputs name = (are_hard inputs names g known rows_are described count hard rows each).1 n n_in in
+      let hard_is : row hard n ≡ take node.hard (row g n) = each n (subst (λ l. n < l) (sym rows) within) node at in
+      let inside : n < length soft = subst (λ l. n < l) (sym soft_rows) within in
+      let begins = each_soft n inside node at in
       record {
-        stamp = is.stamp ∙ known_is.stamp;
-        stem = ap (λ (r : Rare). r.stem) is.rare ∙ known_is.stem;
-        implied = ap (λ (r : Rare). r.implied) is.rare ∙ known_is.implied;
-        source = source_is inputs names (name_at names n) node.rare.implied (ap (λ (r : Rare). r.implied) is.rare ∙ known_is.implied) (row hard n) row_is;
-        explicit = explicit_is inputs names (name_at names n) node.rare.implied (ap (λ (r : Rare). r.implied) is.rare ∙ known_is.implied) (row hard n) row_is;
-        recipe = is.recipe ∙ known_is.recipe;
-        group = ap (λ (r : Rare). option_map (λ g. g.value) r.group) is.rare ∙ known_is.group;
+        stamp = is.stamp;
+        stem = is.stem;
+        implied = is.implied;
+        source = source_is inputs names name node.rare.implied is.implied (row hard n) row_is;
+        explicit = explicit_is inputs names name node.rare.implied is.implied (row hard n) row_is;
+        recipe = is.recipe;
+        group = is.group;
         prerequisites =
-            ap (λ r. map (option_map (name_at names)) (judged r node.hidden.items)) hard_is
-            ∙ ap (λ h. map (option_map (name_at names)) (judged (take k.hard (row g n)) h)) is.hidden
-            ∙ node_judged inputs names g known rows_are described count n k (subst (λ l. n < l) count within) from.1;
+            ap (λ r. map (option_map (name_at names)) (judged r (hidden_by node (row soft n)))) hard_is
+            ∙ ap (λ r. map (option_map (name_at names)) (judged (take node.hard (row g n)) (hidden_by node r))) begins.1
+            ∙ judged_names inputs names name node is (row g n) (row_at inputs names g known rows_are described count n n_in) begins.0;
         numbered =
-            ap (list_all (is_numbered (length names))) is.hidden
-            ∙ spread_numbered (length names) (map is_some k.hidden.items) (drop k.hard (row g n))
-            (drop_below (length names) k.hard (row g n) (row_below n (subst (λ l. n < l) count within)));
+            spread_numbered (length names) (hidden_marks node) (row soft n)
+            (ap (λ l. are_all_below l (row soft n)) (sym (soft_rows ∙ count)) ∙ closed_row soft closed n inside);
       }

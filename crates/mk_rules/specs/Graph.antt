@@ -8,7 +8,7 @@ use Rattle.mk_rule_lines.specs.Rules.{suffixes_of, has}
 use Rattle.mk_rule_lines.specs.Taken.{AreTaken}
 use Rattle.mk_rule_lines.specs.Goals.{goals_of, settings_of}
 use Rattle.mk_rules.specs.Groups.{group_of}
-use Rattle.mk_rules.specs.Node.{source_by, explicit_by}
+use Rattle.mk_rules.specs.Node.{source_by, explicit_by, hidden_by}
 use Rattle.mk_rules.specs.Prerequisites.{Inputs, implicit_source, made_from, source_name, distinct, explicit_names, recipe_of, hard_of, is_node, prerequisites_of, judged_of, is_made, required_of, soft_names}
 use Rattle.mk_rules.specs.Waits.{line_orders}
 use Rattle.mk_graph.specs.Plan.{IsPlan}
@@ -31,8 +31,8 @@ judged_name inputs hard name = if has name hard || is_node inputs name then Some
 abbrev pub is_numbered : (count : ℕ) → (hidden : Option ℕ) → Bool
 is_numbered count hidden = option_map_or (λ n. nat_lt n count) hidden true
 
--- what is known of a name: the row is that of its hard prerequisites
-pub record IsNode (inputs : Inputs) (names : List (List ℕ)) (hard : List ℕ) (name : List ℕ) (node : Node) : Type 0 where
+-- what is known of a name: the rows are those of its hard prerequisites and of what it waits for besides
+pub record IsNode (inputs : Inputs) (names : List (List ℕ)) (hard soft : List ℕ) (name : List ℕ) (node : Node) : Type 0 where
   pub stamp : node.stamp ≡ inputs.times name
   pub stem : node.rare.stem ≡ option_map (λ s. s.stem) (implicit_source inputs name)
   pub implied : node.rare.implied ≡ length (distinct (made_from (implicit_source inputs name)))
@@ -41,9 +41,9 @@ pub record IsNode (inputs : Inputs) (names : List (List ℕ)) (hard : List ℕ) 
   pub recipe : node.recipe ≡ recipe_of inputs name
   pub group : option_map (λ g. g.value) node.rare.group ≡ group_of inputs name
   pub prerequisites :
-      map (option_map (name_at names)) (judged hard node.hidden.items)
+      map (option_map (name_at names)) (judged hard (hidden_by node soft))
       ≡ map (judged_name inputs (hard_of inputs name)) (judged_of inputs name)
-  pub numbered : list_all (is_numbered (length names)) node.hidden.items ≡ true
+  pub numbered : list_all (is_numbered (length names)) (hidden_by node soft) ≡ true
 
 -- p comes before q where it may: q waits for it and it is no hard prerequisite, or some line's `.WAIT` says so
 abbrev pub is_soft : Inputs → (names : List (List ℕ)) → (q p : List ℕ) → Bool
@@ -86,7 +86,7 @@ pub record IsGraph (inputs : Inputs) (named : List (List ℕ)) (graph : Graph) :
   pub made : AreMade inputs graph.names
   pub nodes : length graph.nodes.items ≡ length graph.names
   pub node : (n : ℕ) (node : Node) → slice_get graph.nodes.items n ≡ Some node →
-      IsNode inputs graph.names (row graph.hard n) (name_at graph.names n) node
+      IsNode inputs graph.names (row graph.hard n) (row graph.soft n) (name_at graph.names n) node
   pub hard : AreHard inputs graph.names graph.hard
   pub required : AreRequired inputs graph.names (required_in graph)
   pub soft : AreSoft inputs graph.names graph.soft

@@ -1,13 +1,21 @@
 -- The hidden prerequisites of a name, taken in behind the hard ones.
-use Rattle.std.specs.Prelude.{◌≡◌, ℕ, Bool, not, ◌||◌, ◌&&◌, if◌then◌else◌, List, [], ◌∷◌, ◌++◌, length, map, drop, filter, is_some, Option}
+use Rattle.std.specs.Prelude.{◌≡◌, ℕ, Bool, not, ◌||◌, ◌&&◌, if◌then◌else◌, List, [], ◌∷◌, ◌++◌, length, map, drop, filter, replicate, true, false, Option, Some, None, Vec, option_map, unwrap_or}
+use Rattle.std.specs.Global.{Box, Global}
 use Rattle.mk_graph.specs.Numbering.{has_name, added, all_added}
 use Rattle.mk_rules.specs.Prerequisites.{IsTextAmong}
 use Rattle.mk_rule_lines.specs.declared.fault.RuleFault.{RuleFault}
 use Rattle.mk_rule_lines.specs.declared.fault.RuleFault.TheVariants as fault
 
--- which hidden prerequisites are nodes: those with a number
-abbrev pub are_nodes : (hidden : List (Option ℕ)) → List Bool
-are_nodes hidden = map is_some hidden
+-- of each of so many hidden prerequisites, whether it is a node: all are, where no marks are kept
+abbrev pub marks_kept : (count : ℕ) → Option (Box (Vec Bool Global)) → List Bool
+marks_kept count marks = unwrap_or (option_map (λ m. m.value.items) marks) (replicate count true)
+
+-- the number of each that is a node, in turn from these, and none where one is gone
+abbrev pub spread : (marks : List Bool) (numbers : List ℕ) → List (Option ℕ)
+spread [] ns = []
+spread (false ∷ bs) ns = None ∷ spread bs ns
+spread (true ∷ bs) [] = None ∷ spread bs []
+spread (true ∷ bs) (n ∷ ns) = Some n ∷ spread bs ns
 
 -- one hidden prerequisite more is taken in: it is one of the nodes, or one that is gone, and where it wasn't mentioned before, it is
 -- noted which of both

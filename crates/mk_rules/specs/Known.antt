@@ -1,9 +1,10 @@
 -- What is found of a name while names are numbered.
-use Rattle.std.specs.Prelude.{◌≡◌, ◌⊎◌, ℕ, ℤ, Bool, true, false, List, [], length, map, drop, is_some, Option, Some, option_map, unwrap_or}
+use Rattle.std.specs.Prelude.{◌≡◌, ◌⊎◌, ℕ, ℤ, Bool, true, false, List, [], length, map, drop, Option, Some, option_map, unwrap_or}
 use Rattle.st_records.specs.declared.record.Entry.{Entry}
 use Rattle.mk_rules.specs.Prerequisites.{Inputs, IsTextAmong, inputs_of, own_recipes, found_source, implicit_source, hidden_in, made_from, distinct, recipe_of, hard_of, judged_of, is_node, prerequisites_of, required_of}
 use Rattle.mk_rules.specs.Search.{IsSearched}
 use Rattle.mk_rules.specs.Groups.{others_in, group_of}
+use Rattle.mk_rules.specs.Node.{hidden_marks}
 use Rattle.mk_rule_lines.specs.declared.rule_line.RuleLine.{RuleLine}
 use Rattle.mk_rules.specs.declared.graph.Node.{Node}
 use Rattle.mk_rule_lines.specs.Explicit.{is_phony}
@@ -35,7 +36,7 @@ pub record IsKnown (inputs : Inputs) (name : List ℕ) (known : Node) : Type 0 w
   pub group : option_map (λ g. g.value) known.rare.group ≡ group_of inputs name
   pub hard : known.hard ≡ length (hard_of inputs name)
   pub required : required_by known (hard_of inputs name) ≡ required_of inputs name
-  pub hidden : map is_some known.hidden.items ≡ nodes_among inputs known.hard (judged_of inputs name)
+  pub hidden : hidden_marks known ≡ nodes_among inputs known.hard (judged_of inputs name)
 
 -- where no line has a recipe for a name and it isn't phony, the search for its source reaches n
 abbrev pub IsSourceAsked : TargetTable → (allowed : (List ℕ → Option ℤ) → Type 0) → List Form → (steps : ℕ) → List RuleLine → (name n : List ℕ) → Type 0

@@ -1,7 +1,8 @@
 -- The numbers of names, and the parts of a node's row of hard prerequisites.
 use Rattle.std.specs.Option.{option_map_or}
-use Rattle.std.specs.Prelude.{◌≡◌, ◌<◌, ℕ, ◌==◌, if◌then◌else◌, length, take, List, [], ◌∷◌, Option, Some, None}
+use Rattle.std.specs.Prelude.{◌≡◌, ◌<◌, ℕ, ◌==◌, if◌then◌else◌, length, take, Bool, List, [], ◌∷◌, Option, Some, None}
 use Rattle.mk_graph.specs.Numbering.{name_at}
+use Rattle.mk_rules.specs.Hidden.{marks_kept, spread}
 use Rattle.mk_rules.specs.declared.graph.Node.{Node}
 
 -- two nodes have no name in common
@@ -35,3 +36,15 @@ explicit_in (Some node) hard = explicit_by node.rare.implied hard
 -- the prerequisites that an implicit rule gives a node: the first so many of the hard ones
 abbrev pub implied_in : Option Node → (hard : List ℕ) → List ℕ
 implied_in node hard = take (option_map_or (λ n. n.rare.implied) node 0) hard
+
+-- of each hidden prerequisite of a node that isn't a hard one, whether it is a node
+abbrev pub hidden_marks : Node → List Bool
+hidden_marks node = marks_kept node.hidden node.rare.marks
+
+-- the hidden prerequisites of a node with this soft row that aren't hard ones, in the order in which they were recorded: for each that
+-- is a node its number, in turn from the row, and none where it is gone
+abbrev pub hidden_by : Node → (soft : List ℕ) → List (Option ℕ)
+hidden_by node soft = spread (hidden_marks node) soft
+
+abbrev pub hidden_in : Option Node → (soft : List ℕ) → List (Option ℕ)
+hidden_in node soft = option_map_or (λ n. hidden_by n soft) node []

@@ -1,5 +1,5 @@
 -- The rows of numbered names: their first numbers are those of hard prerequisites, the others those of hidden and order-only ones.
-use Rattle.std.specs.Prelude.{◌≡◌, ℕ, ◌<◌, Bool, true, false, List, [], ◌∷◌, length, take, drop, Option, Some, None, slice_get}
+use Rattle.std.specs.Prelude.{◌≡◌, ℕ, ◌<◌, List, ◌++◌, length, take, drop, Some, slice_get}
 use Rattle.mk_graph.specs.Edges.{row}
 use Rattle.mk_rules.specs.declared.graph.Node.{Node}
 
@@ -15,9 +15,6 @@ IsHardRow g known n r = (k : Node) → slice_get known n ≡ Some k → r ≡ ta
 abbrev pub IsWaitedRow : (g : List (List ℕ)) (known : List Node) (n : ℕ) (r : List ℕ) → Type 0
 IsWaitedRow g known n r = (k : Node) → slice_get known n ≡ Some k → r ≡ drop k.hard (row g n)
 
--- a number for each that is a node, in order
-abbrev pub spread : (are_nodes : List Bool) (numbers : List ℕ) → List (Option ℕ)
-spread [] ns = []
-spread (false ∷ bs) ns = None ∷ spread bs ns
-spread (true ∷ bs) [] = None ∷ spread bs []
-spread (true ∷ bs) (n ∷ ns) = Some n ∷ spread bs ns
+-- the row begins with these numbers
+abbrev pub IsSoftRow : (g : List (List ℕ)) (known : List Node) (n : ℕ) (r : List ℕ) → Type 0
+IsSoftRow g known n r = (k : Node) → slice_get known n ≡ Some k → (behind : List ℕ) × (r ≡ drop k.hard (row g n) ++ behind)

@@ -1,34 +1,64 @@
 -- What is found of a name but its hidden prerequisites, and what becomes of it with them.
-use Rattle.std.specs.Prelude.{◌≡◌, ℕ, Bool, List, length, filter, map, drop, is_some, option_map}
+use Rattle.std.specs.Prelude.{◌≡◌, ℕ, Bool, List, [], ◌++◌, length, filter, map, drop, Option, option_map, unwrap_or}
+use Rattle.std.specs.Global.{Box}
+use Rattle.std.specs.Option.{option_map_or}
 use Rattle.mk_graph.specs.Numbering.{all_added}
-use Rattle.mk_rule_lines.specs.Explicit.{numbers_of}
-use Rattle.mk_rules.specs.Prerequisites.{Inputs, implicit_source, made_from, distinct, recipe_of, hard_of, order_only_of, required_of}
-use Rattle.mk_rules.specs.Groups.{group_of}
-use Rattle.mk_rules.specs.Known.{required_by}
+use Rattle.mk_rule_lines.specs.Explicit.{numbers_of, explicit_of, order_only_of}
+use Rattle.mk_rule_lines.specs.declared.form.Source.{Source}
+use Rattle.mk_rules.specs.Prerequisites.{Inputs, implicit_source, own_recipes, left_recipe, first_or, rule_or, made_from, behind_bar_of, distinct}
+use Rattle.mk_rules.specs.Groups.{others_in, group_with}
+use Rattle.mk_rules.specs.Node.{hidden_marks}
+use Rattle.mk_rules.specs.Rare.{no_parts, with_marks}
 use Rattle.mk_rules.specs.declared.graph.Node.{Node}
+use Rattle.mk_rules.specs.declared.known.Given.{Given}
+use Rattle.mk_rules.specs.declared.known.Ruled.{Ruled}
 use Rattle.mk_rules.specs.declared.known.Seen.{Seen}
+use Rattle.mk_rules.specs.declared.rare.Rare.{Rare}
+
+-- what an implicit rule makes a name from
+abbrev pub made_in : Option (Box Given) → List (List ℕ)
+made_in given = option_map_or (λ g. g.value.made) given []
+
+abbrev pub order_only_in : Option (Box Given) → List (List ℕ)
+order_only_in given = option_map_or (λ g. g.value.order_only) given []
+
+abbrev pub rare_in : Option (Box Given) → Rare
+rare_in given = option_map_or (λ g. g.value.rare) given no_parts
+
+-- what a name has of an implicit rule by this source, and its order-only prerequisites
+pub record IsGiven (inputs : Inputs) (name : List ℕ) (source : Option Source) (made order_only : List (List ℕ)) (rare : Rare) : Type 0 where
+  pub made_are : made ≡ made_from source
+  pub order_only_are : order_only ≡ behind_bar_of source ++ order_only_of inputs.lines name
+  pub stem : rare.stem ≡ option_map (λ s. s.stem) source
+  pub implied : rare.implied ≡ length (distinct (made_from source))
+  pub group : option_map (λ g. g.value) rare.group ≡ group_with inputs.times name (others_in source)
+  pub required : unwrap_or (option_map (λ names. names.value) rare.required) (distinct (made_from source ++ explicit_of inputs.lines name))
+      ≡ all_added (distinct (made_from source ++ explicit_of inputs.lines name)) (behind_bar_of source ++ order_only_of inputs.lines name)
+
+-- what rules say of a name with this source, where lines of these numbers have recipes for it, or else the line that is left
+pub record IsRuled (inputs : Inputs) (name : List ℕ) (source : Option Source) (own : List ℕ) (left : Option ℕ) (ruled : Ruled) : Type 0 where
+  pub recipe : ruled.recipe ≡ first_or own (rule_or source left)
+  pub given : IsGiven inputs name source (made_in ruled.given) (order_only_in ruled.given) (rare_in ruled.given)
+
+-- what the inputs' rules say of a name, where this line is left for what nothing else makes
+abbrev pub IsRuledIn : (inputs : Inputs) (name : List ℕ) (left : Option ℕ) (ruled : Ruled) → Type 0
+IsRuledIn inputs name left ruled = IsRuled inputs name (implicit_source inputs name) (own_recipes inputs.lines name) left ruled
 
 -- what is found of a name is what the inputs say of it
 pub record IsSeen (inputs : Inputs) (name : List ℕ) (seen : Seen) : Type 0 where
   pub lines_are : seen.lines.now ≡ numbers_of inputs.lines name
-  pub made_are : seen.made ≡ made_from (implicit_source inputs name)
-  pub order_only_are : seen.order_only ≡ order_only_of inputs name
-  pub stamp : seen.node.stamp ≡ inputs.times name
-  pub stem : seen.node.rare.stem ≡ option_map (λ s. s.stem) (implicit_source inputs name)
-  pub implied : seen.node.rare.implied ≡ length (distinct (made_from (implicit_source inputs name)))
-  pub recipe : seen.node.recipe ≡ recipe_of inputs name
-  pub group : option_map (λ g. g.value) seen.node.rare.group ≡ group_of inputs name
-  pub required : required_by seen.node (hard_of inputs name) ≡ required_of inputs name
+  pub stamp : seen.stamp ≡ inputs.times name
+  pub ruled : IsRuledIn inputs name (left_recipe inputs name) seen.ruled
 
 -- a node to which hidden prerequisites came
-pub record IsAsSeen (seen known : Node) : Type 0 where
+pub record IsAsSeen (seen : Seen) (known : Node) : Type 0 where
   pub stamp : known.stamp ≡ seen.stamp
-  pub recipe : known.recipe ≡ seen.recipe
-  pub rare : known.rare ≡ seen.rare
+  pub recipe : known.recipe ≡ seen.ruled.recipe
+  pub rare : known.rare ≡ with_marks known.rare.marks (rare_in seen.ruled.given)
 
 -- the names of the row, and the node: with hidden prerequisites behind the hard ones, and then the order-only ones
-pub record IsNumberedAs (is_node : List ℕ → Bool) (seen : Node) (hard hidden order_only row : List (List ℕ)) (known : Node) : Type 0 where
-  pub row_is : row ≡ all_added (all_added (distinct hard) (filter is_node hidden)) order_only
+pub record IsNumberedAs (is_node : List ℕ → Bool) (seen : Seen) (hard hidden row : List (List ℕ)) (known : Node) : Type 0 where
+  pub row_is : row ≡ all_added (all_added (distinct hard) (filter is_node hidden)) (order_only_in seen.ruled.given)
   pub count : known.hard ≡ length (distinct hard)
-  pub among : map is_some known.hidden.items ≡ map is_node (drop (length (distinct hard)) (all_added (distinct hard) hidden))
+  pub among : hidden_marks known ≡ map is_node (drop (length (distinct hard)) (all_added (distinct hard) hidden))
   pub as_seen : IsAsSeen seen known

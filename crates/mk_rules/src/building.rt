@@ -32,14 +32,15 @@ use crate::graph::{Graph, Node};
 use crate::left_over::default_of;
 use crate::links::links_of;
 use crate::nodes::{Named, named_nodes};
-use crate::ordering::{Ordered, hard_edges, ordered_by};
+use crate::ordering::{Ordered, ordered_by};
 use crate::required::required_edges;
+use crate::rows::parted_rows;
 use crate::rules::Rules;
 use crate::soft::soft_edges;
 use crate::tree::Tree;
 use crate::unmade::check_made;
 use byte_strings::ByteStrings;
-use mk_graph::{Numbered, NumberingFault, number};
+use mk_graph::{Numbered, NumberingFault, Parts, number};
 use mk_macros::Macros;
 use mk_profile::Profile;
 use mk_reader::Item;
@@ -197,11 +198,14 @@ fn order_found(
     ensures fault { IfErr result (λ fault. (inputs : Inputs) (named : List (List ℕ)) → inputs.lines ≡ lines.now
         → AreFound inputs (goals_of inputs.lines named) numbered → IsGraphlessFault inputs named fault) }
 {
-    let hard = hard_edges(alloc, &numbered)?;
+    let Parts {
+        fronts: hard,
+        backs: waited,
+    } = parted_rows(alloc, &numbered)?;
     let required = required_edges(alloc, &hard, &numbered.names, &numbered.nodes)?;
-    let soft = soft_edges(alloc, &numbered, lines, suffixes)?;
+    let soft = soft_edges(alloc, &numbered, waited, lines, suffixes)?;
     // The rows are let go before the order takes memory.
-    let named = named_nodes(numbered)?;
+    let named = named_nodes(numbered);
     let ordered = ordered_by(alloc, &named.names, hard, required, soft)?;
     Ok((named, ordered))
 }

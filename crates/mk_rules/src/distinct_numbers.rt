@@ -51,11 +51,10 @@ impl DistinctNumbers {
         self.list.clear();
     }
 
-    /// The numbers as a list of its own, no longer than they want.
-    pub fn to_list(&self, alloc: Global) -> Result<Vec<u32>, AllocError>
-        ensures { IfOk result (λ list. list.items ≡ self.now) }
+    pub fn as_slice(&self) -> &[u32]
+        ensures { result.now ≡ self.now }
     {
-        Vec::from_slice(alloc, &self.list)
+        self.list.as_slice()
     }
 
     /// Whether a number is there.

@@ -8,86 +8,123 @@ ghost use Rattle.mk_rules.specs.Prerequisites.{inputs_of, is_node, hidden_in, pr
 ghost use Rattle.mk_graph.specs.Numbering.{name_at, all_added};
 ghost use Rattle.mk_rule_lines.specs.Explicit.{numbers_of, explicit_of};
 ghost use Rattle.mk_rules.specs.Looks.{Looks};
-ghost use Rattle.mk_rules.specs.Hidden.{are_nodes, HasHidden, IsNamesFault};
+ghost use Rattle.mk_rules.specs.Hidden.{IsNamesFault};
 ghost use Rattle.mk_rules.specs.Known.{IsKnown, IsLookUpFault};
+ghost use Rattle.mk_rules.specs.Node.{hidden_marks};
 ghost use Rattle.mk_rules.specs.NodeNotes.{AreKnownNodes};
 ghost use Rattle.mk_rules.specs.Row.{named, IsRow, IsSomeRow};
-ghost use Rattle.mk_rules.specs.Seen.{IsAsSeen, IsNumberedAs};
+ghost use Rattle.mk_rules.specs.Seen.{made_in, order_only_in, rare_in, IsAsSeen, IsNumberedAs};
 
 use crate::distinct_numbers::DistinctNumbers;
 use crate::explicit::mention_explicit;
+use crate::followers::Followers;
 use crate::graph::Node;
-use crate::hidden::add_hidden;
-use crate::known::Seen;
-use crate::mentioned::{Mentioned, mention_names};
+use crate::hidden_marks::HiddenMarks;
+use crate::known::{Given, Ruled, Seen};
+use crate::mentioned::mention_names;
 use crate::node_notes::NodeNotes;
+use crate::rare::RareParts;
+use crate::recorded::{add_recorded, entry_of};
 use crate::rules::Rules;
 use crate::seen::seen_of;
 use crate::tree::Tree;
-use mk_graph::{Dependencies, Found, Names};
+use mk_graph::{Dependencies, Names};
 use mk_rule_lines::RuleFault;
 use st_records::PackedEntry;
 use std::alloc::{AllocError, Global};
+use std::boxed::Box;
 
-/// Takes in the hidden prerequisites that are recorded of a name behind the hard ones.
-fn add_recorded<T: Tree>(
-    alloc: Global,
-    rules: &Rules,
-    tree: &mut T,
-    names: &mut Names,
-    notes: &mut NodeNotes,
-    mentioned: &mut Mentioned,
-    recorded: Option<&PackedEntry>,
-) -> Result<(), RuleFault>
-    requires noted { (times : List ℕ → Option ℤ) → T.allows tree.old times
-        → AreKnownNodes (is_node (inputs_of rules.now.lines.now (finmap.get rules.now.state.now) times)) names.old notes.old.marks.items }
-    requires row { IsSomeRow names.old mentioned.old.nodes }
-    requires gone { mentioned.old.gone ≡ [] }
-    requires none { mentioned.old.hidden.items ≡ [] }
-    ensures row { OnOk result ((start : List (List ℕ)) → IsRow start names.old mentioned.old.nodes → IsRow start names.new mentioned.new.nodes) }
-    ensures hidden { OnOk result ((times : List ℕ → Option ℤ) → T.allows tree.new times
-        → HasHidden (is_node (inputs_of rules.now.lines.now (finmap.get rules.now.state.now) times)) (named names.old mentioned.old.nodes) (hidden_in (option_copied recorded.entry))
-        (named names.new mentioned.new.nodes) (are_nodes mentioned.new.hidden.items)) }
-    ensures noted { OnOk result ((times : List ℕ → Option ℤ) → T.allows tree.new times
-        → AreKnownNodes (is_node (inputs_of rules.now.lines.now (finmap.get rules.now.state.now) times)) names.new notes.new.marks.items) }
-    ensures looks { Looks (T.allows tree.old) (T.allows tree.new) (T.refuses tree.old) (T.refuses tree.new) (T.asked tree.old) (T.asked tree.new) }
-    ensures fault { IfErr result (IsNamesFault (T.refuses tree.new) (hidden_in (option_copied recorded.entry))) }
+#[inline(never)]
+fn rare_of(given: Box<Given>) -> RareParts
+    ensures { result ≡ given.value.rare }
 {
-    match recorded {
-        Some(entry) => {
-            let hidden = entry.hidden();
-            mentioned.hidden = Vec::with_capacity(alloc, hidden.len())?;
-            add_hidden(alloc, rules, tree, names, notes, mentioned, &hidden)
-        }
-        None => Ok(()),
+    let Given { rare, .. } = Box::into_inner(given);
+    rare
+}
+
+fn rare_in(given: Option<Box<Given>>) -> RareParts
+    ensures { result ≡ rare_in given }
+{
+    match given {
+        Some(given) => rare_of(given),
+        None => RareParts::none(),
     }
 }
 
-/// What was found of a name, with its row and its hidden prerequisites.
+/// A count of 32 bits. There is no memory for 2^32 or more.
+fn short(count: usize) -> Result<u32, AllocError>
+    ensures { IfOk result (λ short. short ≡ count) }
+{
+    u32::try_from(count).map_err(|_| AllocError)
+}
+
+/// The node of a name, of which the state has the entry before this place.
 fn completed(
     alloc: Global,
-    notes: &mut NodeNotes,
-    mentioned: Mentioned,
+    place: usize,
+    seen: Seen,
     hard: usize,
-    node: Node,
-) -> Result<Found<Node>, AllocError>
-    ensures prerequisites { IfOk result (λ found. found.prerequisites.items ≡ mentioned.nodes) }
-    ensures hidden { IfOk result (λ found. found.node.hidden.items ≡ mentioned.hidden.items) }
-    ensures hard { IfOk result (λ found. found.node.hard ≡ hard) }
-    ensures node { IfOk result (λ found. IsAsSeen node found.node) }
-    ensures marks { notes.new.marks.items ≡ notes.old.marks.items }
+    hidden: HiddenMarks,
+) -> Result<Node, AllocError>
+    ensures hidden { IfOk result (λ node. hidden_marks node ≡ hidden) }
+    ensures hard { IfOk result (λ node. node.hard ≡ hard) }
+    ensures node { IfOk result (IsAsSeen seen.entry) }
 {
-    let Mentioned { nodes, hidden, .. } = mentioned;
-    let mut node = node;
-    node.hidden = hidden;
-    node.hard = hard;
-    node.place = u32::try_from(notes.place.saturating_sub(1)).unwrap_or(0);
-    let prerequisites = nodes.to_list(alloc)?;
-    notes.row = nodes;
-    Ok(Found {
-        prerequisites,
-        node,
+    let Seen { stamp, ruled, .. } = seen;
+    let Ruled { recipe, given } = ruled;
+    let (hidden, marks) = hidden.into_parts();
+    Ok(Node {
+        stamp,
+        rare: rare_in(given).with_marks(alloc, marks)?,
+        hard: short(hard)?,
+        hidden,
+        recipe,
+        place: u32::try_from(place.saturating_sub(1)).unwrap_or(0),
     })
+}
+
+/// Mentions what an implicit rule makes a name from.
+fn mention_made(
+    alloc: Global,
+    names: &mut Names,
+    followers: &mut Followers,
+    numbers: &mut DistinctNumbers,
+    given: &Option<Box<Given>>,
+) -> Result<(), AllocError>
+    requires { IsSomeRow names.old numbers.old }
+    ensures row { OnOk result ((start : List (List ℕ)) → IsRow start names.old numbers.old → IsRow start names.new numbers.new) }
+    ensures known { OnOk result ((is_node : List ℕ → Bool) (marks : List Bool) → AreKnownNodes is_node names.old marks → AreKnownNodes is_node names.new marks) }
+    ensures named { OnOk result (named names.new numbers.new ≡ all_added (named names.old numbers.old) (made_in given.now)) }
+{
+    match given {
+        Some(given) => mention_names(alloc, names, followers, numbers, &given.made),
+        None => {
+            followers.start();
+            Ok(())
+        }
+    }
+}
+
+/// Mentions the order-only prerequisites of a name.
+fn mention_order_only(
+    alloc: Global,
+    names: &mut Names,
+    followers: &mut Followers,
+    numbers: &mut DistinctNumbers,
+    given: &Option<Box<Given>>,
+) -> Result<(), AllocError>
+    requires { IsSomeRow names.old numbers.old }
+    ensures row { OnOk result ((start : List (List ℕ)) → IsRow start names.old numbers.old → IsRow start names.new numbers.new) }
+    ensures known { OnOk result ((is_node : List ℕ → Bool) (marks : List Bool) → AreKnownNodes is_node names.old marks → AreKnownNodes is_node names.new marks) }
+    ensures named { OnOk result (named names.new numbers.new ≡ all_added (named names.old numbers.old) (order_only_in given.now)) }
+{
+    match given {
+        Some(given) => mention_names(alloc, names, followers, numbers, &given.order_only),
+        None => {
+            followers.start();
+            Ok(())
+        }
+    }
 }
 
 /// Mentions the hard prerequisites of a name.
@@ -96,28 +133,33 @@ fn mention_hard(
     rules: &Rules,
     names: &mut Names,
     notes: &mut NodeNotes,
-    numbers: &mut DistinctNumbers,
     seen: &Seen,
 ) -> Result<(), AllocError>
-    requires { IsSomeRow names.old numbers.old }
-    ensures row { OnOk result ((start : List (List ℕ)) → IsRow start names.old numbers.old → IsRow start names.new numbers.new) }
+    requires { IsSomeRow names.old notes.old.row }
+    ensures row { OnOk result ((start : List (List ℕ)) → IsRow start names.old notes.old.row → IsRow start names.new notes.new.row) }
     ensures known { OnOk result ((is_node : List ℕ → Bool) → AreKnownNodes is_node names.old notes.old.marks.items → AreKnownNodes is_node names.new notes.new.marks.items) }
     ensures named { OnOk result ((name : List ℕ) → seen.now.lines.now ≡ numbers_of rules.now.lines.now name
-        → named names.new numbers.new ≡ all_added (named names.old numbers.old) (seen.now.made ++ explicit_of rules.now.lines.now name)) }
+        → named names.new notes.new.row ≡ all_added (named names.old notes.old.row) (made_in seen.now.ruled.given ++ explicit_of rules.now.lines.now name)) }
 {
-    mention_names(alloc, names, &mut notes.followers, numbers, &seen.made)?;
+    mention_made(
+        alloc,
+        names,
+        &mut notes.followers,
+        &mut notes.row,
+        &seen.ruled.given,
+    )?;
     mention_explicit(
         alloc,
         names,
         &mut notes.followers,
-        numbers,
+        &mut notes.row,
         rules.lines,
         seen.lines,
     )?;
     Ok(())
 }
 
-/// What was found of a name, once its prerequisites have numbers.
+/// The node of a name, whose row comes into the notes.
 fn numbered<T: Tree>(
     alloc: Global,
     rules: &Rules,
@@ -126,43 +168,33 @@ fn numbered<T: Tree>(
     notes: &mut NodeNotes,
     seen: Seen,
     recorded: Option<&PackedEntry>,
-) -> Result<Found<Node>, RuleFault>
+) -> Result<Node, RuleFault>
     requires noted { (times : List ℕ → Option ℤ) → T.allows tree.old times
         → AreKnownNodes (is_node (inputs_of rules.now.lines.now (finmap.get rules.now.state.now) times)) names.old notes.old.marks.items }
     requires distinct { IsDistinct bytes_eq names.old }
-    ensures row { IfOk result (λ found. IsRow names.old names.new found.prerequisites.items) }
-    ensures prerequisites { IfOk result (λ found. (times : List ℕ → Option ℤ) → T.allows tree.new times
+    ensures row { OnOk result (IsRow names.old names.new notes.new.row) }
+    ensures prerequisites { IfOk result (λ node. (times : List ℕ → Option ℤ) → T.allows tree.new times
         → (name : List ℕ) → seen.entry.lines.now ≡ numbers_of rules.now.lines.now name
-        → IsNumberedAs (is_node (inputs_of rules.now.lines.now (finmap.get rules.now.state.now) times)) seen.entry.node
-        (seen.entry.made ++ explicit_of rules.now.lines.now name) (hidden_in (option_copied recorded.entry)) seen.entry.order_only
-        (named names.new found.prerequisites.items) found.node) }
+        → IsNumberedAs (is_node (inputs_of rules.now.lines.now (finmap.get rules.now.state.now) times)) seen.entry
+        (made_in seen.entry.ruled.given ++ explicit_of rules.now.lines.now name) (hidden_in (option_copied recorded.entry))
+        (named names.new notes.new.row) node) }
     ensures noted { OnOk result ((times : List ℕ → Option ℤ) → T.allows tree.new times
         → AreKnownNodes (is_node (inputs_of rules.now.lines.now (finmap.get rules.now.state.now) times)) names.new notes.new.marks.items) }
     ensures looks { Looks (T.allows tree.old) (T.allows tree.new) (T.refuses tree.old) (T.refuses tree.new) (T.asked tree.old) (T.asked tree.new) }
     ensures fault { IfErr result (IsNamesFault (T.refuses tree.new) (hidden_in (option_copied recorded.entry))) }
 {
-    let mut mentioned = Mentioned::new(alloc, notes.take_row(alloc));
-    mention_hard(alloc, rules, names, notes, &mut mentioned.nodes, &seen)?;
-    let hard = mentioned.nodes.len();
-    add_recorded(alloc, rules, tree, names, notes, &mut mentioned, recorded)?;
-    mention_names(
+    notes.row.clear();
+    mention_hard(alloc, rules, names, notes, &seen)?;
+    let hard = notes.row.len();
+    let hidden = add_recorded(alloc, rules, tree, names, notes, recorded)?;
+    mention_order_only(
         alloc,
         names,
         &mut notes.followers,
-        &mut mentioned.nodes,
-        &seen.order_only,
+        &mut notes.row,
+        &seen.ruled.given,
     )?;
-    Ok(completed(alloc, notes, mentioned, hard, seen.node)?)
-}
-
-/// What the state has of the name.
-fn recorded<'m>(rules: &Rules<'m>, notes: &mut NodeNotes, name: &[u8]) -> Option<&'m PackedEntry>
-    ensures entry { option_copied result ≡ finmap.get rules.now.state.now name.now }
-    ensures marks { notes.new.marks.items ≡ notes.old.marks.items }
-{
-    let (entry, place) = rules.state.near(name, notes.place);
-    notes.place = place;
-    entry
+    Ok(completed(alloc, notes.place, seen, hard, hidden)?)
 }
 
 /// What the rules, the state and a tree say of the name with this number.
@@ -173,18 +205,18 @@ fn look_up<T: Tree>(
     names: &mut Names,
     notes: &mut NodeNotes,
     number: usize,
-) -> Result<Found<Node>, RuleFault>
+) -> Result<Node, RuleFault>
     requires number { number < length names.old }
     requires noted { (times : List ℕ → Option ℤ) → T.allows tree.old times
         → AreKnownNodes (is_node (inputs_of rules.now.lines.now (finmap.get rules.now.state.now) times)) names.old notes.old.marks.items }
     requires distinct { IsDistinct bytes_eq names.old }
-    ensures names { IfOk result (λ found. names.new ≡ all_added names.old (map (name_at names.new) found.prerequisites.items)) }
-    ensures numbers { IfOk result (λ found. list_all (λ n. nat_lt n (length names.new)) found.prerequisites.items ≡ true) }
-    ensures prerequisites { IfOk result (λ found. (times : List ℕ → Option ℤ) → T.allows tree.new times
-        → map (name_at names.new) found.prerequisites.items
+    ensures names { OnOk result (names.new ≡ all_added names.old (map (name_at names.new) notes.new.row)) }
+    ensures numbers { OnOk result (list_all (λ n. nat_lt n (length names.new)) notes.new.row ≡ true) }
+    ensures prerequisites { OnOk result ((times : List ℕ → Option ℤ) → T.allows tree.new times
+        → map (name_at names.new) notes.new.row
         ≡ prerequisites_of (inputs_of rules.now.lines.now (finmap.get rules.now.state.now) times) (name_at names.old number)) }
-    ensures node { IfOk result (λ found. (times : List ℕ → Option ℤ) → T.allows tree.new times
-        → IsKnown (inputs_of rules.now.lines.now (finmap.get rules.now.state.now) times) (name_at names.old number) found.node) }
+    ensures node { IfOk result (λ node. (times : List ℕ → Option ℤ) → T.allows tree.new times
+        → IsKnown (inputs_of rules.now.lines.now (finmap.get rules.now.state.now) times) (name_at names.old number) node) }
     ensures noted { OnOk result ((times : List ℕ → Option ℤ) → T.allows tree.new times
         → AreKnownNodes (is_node (inputs_of rules.now.lines.now (finmap.get rules.now.state.now) times)) names.new notes.new.marks.items) }
     ensures looks { Looks (T.allows tree.old) (T.allows tree.new) (T.refuses tree.old) (T.refuses tree.new) (T.asked tree.old) (T.asked tree.new) }
@@ -193,7 +225,7 @@ fn look_up<T: Tree>(
 {
     let name = names.name(number);
     let seen = seen_of(alloc, rules, tree, name)?;
-    let entry = recorded(rules, notes, name);
+    let entry = entry_of(rules, notes, name);
     numbered(alloc, rules, tree, names, notes, seen, entry)
 }
 
@@ -233,8 +265,14 @@ impl<'m, 't, T: Tree> Dependencies for Finder<'m, 't, T> {
     ghost fits = { λ f names notes. (times : List ℕ → Option ℤ) → T.allows f.tree.now times
         → AreKnownNodes (is_node (inputs_of f.rules.lines.now (finmap.get f.rules.state.now) times)) names notes.marks.items };
 
+    ghost row = { λ notes. notes.row };
+
     fn notes(&self, alloc: Global) -> NodeNotes {
         NodeNotes::new(alloc)
+    }
+
+    fn row_in<'n>(&self, notes: &'n NodeNotes) -> &'n [u32] {
+        notes.row.as_slice()
     }
 
     fn prerequisites(
@@ -243,7 +281,7 @@ impl<'m, 't, T: Tree> Dependencies for Finder<'m, 't, T> {
         names: &mut Names,
         notes: &mut NodeNotes,
         number: usize,
-    ) -> Result<Found<Node>, RuleFault> {
+    ) -> Result<Node, RuleFault> {
         look_up(alloc, &self.rules, self.tree, names, notes, number)
     }
 

@@ -8,9 +8,10 @@ ghost use Rattle.mk_profile.specs.Profile.{is_wide};
 ghost use Rattle.mk_rule_lines.specs.Explicit.{numbers_of};
 ghost use Rattle.mk_rule_lines.specs.Rules.{suffixes_of};
 ghost use Rattle.mk_rule_lines.specs.Table.{named_at};
-ghost use Rattle.mk_rules.specs.Node.{EachHasOneNumber, source_in, explicit_in, implied_in};
+ghost use Rattle.mk_rules.specs.Node.{EachHasOneNumber, source_in, explicit_in, implied_in, hidden_in};
 
 use crate::group::Group;
+use crate::hidden_numbers::HiddenNumbers;
 use crate::rare::RareParts;
 use crate::rows::{behind, front};
 use crate::short_number::ShortNumber;
@@ -26,13 +27,12 @@ use st_state::State;
 pub struct Node {
     /// When its file was last changed.
     pub stamp: Stamp,
-    /// The hidden prerequisites that aren't hard ones, in the order in which they were recorded: the number of a node, or
-    /// none where there is neither a file nor a rule.
-    pub hidden: Vec<ShortNumber>,
-    /// What it has of an implicit rule and of order-only prerequisites.
+    /// What it has of an implicit rule, of order-only prerequisites, and of hidden ones that are gone.
     pub rare: RareParts,
     /// How many of its prerequisites are hard: those that come first.
-    pub hard: usize,
+    pub hard: u32,
+    /// How many hidden prerequisites that aren't hard ones were recorded.
+    pub hidden: u32,
     /// The number of the rule line whose recipe makes it.
     pub recipe: ShortNumber,
     /// Where the state may have it, which is tried first.
@@ -75,8 +75,8 @@ pub struct Graph {
     /// The hard prerequisites of each node and its order-only ones, without which it isn't made; None where no line has an
     /// order-only one.
     pub required: Option<Edges>,
-    /// What each node waits for beside its hard prerequisites: hidden ones that are nodes, order-only ones, and what stands before a
-    /// `.WAIT`.
+    /// What each node waits for beside its hard prerequisites: hidden ones that are nodes, in the order in which they were recorded,
+    /// then order-only ones, and then what stands before a `.WAIT`.
     pub soft: Edges,
     /// The edges that order the nodes. Each row has a number once, and the numbers in their order.
     pub counted: Edges,
@@ -167,11 +167,25 @@ impl Graph {
             [] => hard,
         }
     }
+
     /// The prerequisites that an implicit rule gives a node, each once.
     pub fn implied(&self, node: usize) -> &[u32]
         requires { node < length self.now.nodes.items }
         ensures { result.now ≡ implied_in (slice_get self.now.nodes.items node) (row self.now.hard node) }
     {
         front(self.hard.row(node), self.nodes[node].implied())
+    }
+
+    /// The hidden prerequisites of a node that aren't hard ones, in the order in which they were recorded.
+    pub fn hidden(&self, node: usize) -> HiddenNumbers<'_>
+        requires { node < length self.now.nodes.items }
+        ensures { result ≡ hidden_in (slice_get self.now.nodes.items node) (row self.now.soft node) }
+    {
+        let numbers = self.soft.row(node);
+        let node = &self.nodes[node];
+        match node.rare.marks() {
+            Some(marks) => HiddenNumbers::marked(marks, numbers),
+            None => HiddenNumbers::nodes(node.hidden, numbers),
+        }
     }
 }

@@ -7,16 +7,16 @@ ghost use Rattle.mk_rules.specs.Prerequisites.{inputs_of, is_node, hidden_in};
 ghost use Rattle.mk_rules.specs.Looks.{Looks};
 ghost use Rattle.mk_rules.specs.NodeNotes.{AreKnownNodes};
 ghost use Rattle.mk_rules.specs.Row.{named, IsRow, IsSomeRow};
-ghost use Rattle.mk_rules.specs.Hidden.{are_nodes, Takes, HasHidden, IsNamesFault};
+ghost use Rattle.mk_rules.specs.Hidden.{Takes, HasHidden, IsNamesFault};
 
 use crate::lookup::is_node;
 use crate::mentioned::Mentioned;
 use crate::node_notes::NodeNotes;
 use crate::rules::Rules;
 use crate::tree::Tree;
+use byte_strings::Iter;
 use mk_graph::Names;
 use mk_rule_lines::RuleFault;
-use st_records::Strings;
 use std::alloc::Global;
 
 /// The number of a hidden prerequisite that is a node; None where it is gone.
@@ -66,7 +66,7 @@ fn take_hidden<T: Tree>(
     ensures row { OnOk result ((start : List (List ℕ)) → IsRow start names.old mentioned.old.nodes → IsRow start names.new mentioned.new.nodes) }
     ensures taken { OnOk result ((times : List ℕ → Option ℤ) → T.allows tree.new times
         → Takes (is_node (inputs_of rules.now.lines.now (map.get rules.now.state.now) times)) name.now (named names.old mentioned.old.nodes)
-        (named names.new mentioned.new.nodes) mentioned.old.gone mentioned.new.gone (are_nodes mentioned.old.hidden.items) (are_nodes mentioned.new.hidden.items)) }
+        (named names.new mentioned.new.nodes) mentioned.old.gone mentioned.new.gone mentioned.old.hidden mentioned.new.hidden) }
     ensures noted { OnOk result ((times : List ℕ → Option ℤ) → T.allows tree.new times
         → AreKnownNodes (is_node (inputs_of rules.now.lines.now (map.get rules.now.state.now) times)) names.new notes.new.marks.items) }
     ensures looks { Looks (T.allows tree.old) (T.allows tree.new) (T.refuses tree.old) (T.refuses tree.new) (T.asked tree.old) (T.asked tree.new) }
@@ -85,17 +85,17 @@ pub(crate) fn add_hidden<T: Tree>(
     names: &mut Names,
     notes: &mut NodeNotes,
     mentioned: &mut Mentioned,
-    hidden: &Strings<'_>,
+    hidden: &Iter<'_>,
 ) -> Result<(), RuleFault>
     requires noted { (times : List ℕ → Option ℤ) → T.allows tree.old times
         → AreKnownNodes (is_node (inputs_of rules.now.lines.now (map.get rules.now.state.now) times)) names.old notes.old.marks.items }
     requires row { IsSomeRow names.old mentioned.old.nodes }
     requires gone { mentioned.old.gone ≡ [] }
-    requires none { mentioned.old.hidden.items ≡ [] }
+    requires none { mentioned.old.hidden ≡ [] }
     ensures row { OnOk result ((start : List (List ℕ)) → IsRow start names.old mentioned.old.nodes → IsRow start names.new mentioned.new.nodes) }
     ensures hidden { OnOk result ((times : List ℕ → Option ℤ) → T.allows tree.new times
         → HasHidden (is_node (inputs_of rules.now.lines.now (map.get rules.now.state.now) times)) (named names.old mentioned.old.nodes) hidden.now
-        (named names.new mentioned.new.nodes) (are_nodes mentioned.new.hidden.items)) }
+        (named names.new mentioned.new.nodes) mentioned.new.hidden) }
     ensures noted { OnOk result ((times : List ℕ → Option ℤ) → T.allows tree.new times
         → AreKnownNodes (is_node (inputs_of rules.now.lines.now (map.get rules.now.state.now) times)) names.new notes.new.marks.items) }
     ensures looks { Looks (T.allows tree.old) (T.allows tree.new) (T.refuses tree.old) (T.refuses tree.new) (T.asked tree.old) (T.asked tree.new) }

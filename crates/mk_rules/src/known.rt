@@ -1,15 +1,33 @@
 //! What is found of a name while names are numbered.
-use crate::graph::Node;
+use crate::rare::RareParts;
+use crate::short_number::ShortNumber;
+use crate::stamp::Stamp;
 use byte_strings::ByteStrings;
+use std::boxed::Box;
+
+/// What few names have: what an implicit rule gives them, and order-only prerequisites.
+#[derive(Drop)]
+pub(crate) struct Given {
+    /// What an implicit rule makes it from.
+    pub made: ByteStrings,
+    pub order_only: ByteStrings,
+    pub rare: RareParts,
+}
+
+/// What rules say of a name beside the hard prerequisites of its lines.
+#[derive(Drop)]
+pub(crate) struct Ruled {
+    /// The number of the rule line whose recipe makes it.
+    pub recipe: ShortNumber,
+    pub given: Option<Box<Given>>,
+}
 
 /// What is found of a name but its hidden prerequisites.
 #[derive(Drop)]
 pub(crate) struct Seen<'r> {
     /// The numbers of the lines that make it.
     pub lines: &'r [usize],
-    /// What an implicit rule makes it from.
-    pub made: ByteStrings,
-    pub order_only: ByteStrings,
-    /// Its node, to which hidden prerequisites come, and the count of hard ones.
-    pub node: Node,
+    /// When its file was last changed.
+    pub stamp: Stamp,
+    pub ruled: Ruled,
 }

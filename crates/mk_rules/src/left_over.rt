@@ -7,6 +7,7 @@ ghost use Rattle.mk_rule_lines.specs.Rules.{recipe_places};
 ghost use Rattle.mk_rule_lines.specs.Table.{named_at};
 ghost use Rattle.mk_rules.specs.Prerequisites.{default_of, is_cut, run_by, rule_or};
 
+use crate::stamp::Stamp;
 use mk_rule_lines::{RuleLine, Source, TargetTable, is_default_at};
 use st_records::{PackedEntry, Phase};
 
@@ -52,10 +53,10 @@ fn is_unfinished(entry: Option<&PackedEntry>) -> bool
 }
 
 /// Whether a name is left to `.DEFAULT`, which the lines of these numbers make.
-pub(crate) fn is_left(numbers: &[usize], stamp: Option<i128>, entry: Option<&PackedEntry>) -> bool
-    ensures { result ≡ (is_empty numbers.now && (is_none stamp || option_map_or (λ e. is_cut e.phase) (option_copied entry.entry) false)) }
+pub(crate) fn is_left(numbers: &[usize], stamp: &Stamp, entry: Option<&PackedEntry>) -> bool
+    ensures { result ≡ (is_empty numbers.now && (is_none stamp.now || option_map_or (λ e. is_cut e.phase) (option_copied entry.entry) false)) }
 {
-    numbers.is_empty() && (stamp.is_none() || is_unfinished(entry))
+    numbers.is_empty() && (!stamp.is_some() || is_unfinished(entry))
 }
 
 /// The line whose recipe is run for a name with this source, if one is.

@@ -15,6 +15,7 @@ pub(crate) fn is_marked(marks: &[bool], number: usize) -> bool
 }
 
 /// Makes the marks so many that this number is the last.
+#[inline(never)]
 fn grow(marks: &mut Vec<bool>, number: usize) -> Result<(), AllocError>
     requires { length marks.old.items ≤ number }
     ensures same { (n : ℕ) → is_marked marks.new.items n ≡ is_marked marks.old.items n }
@@ -26,6 +27,7 @@ fn grow(marks: &mut Vec<bool>, number: usize) -> Result<(), AllocError>
 }
 
 /// Makes room for a mark of this number.
+#[inline(always)]
 pub(crate) fn make_room(marks: &mut Vec<bool>, number: usize) -> Result<(), AllocError>
     ensures same { (n : ℕ) → is_marked marks.new.items n ≡ is_marked marks.old.items n }
     ensures room { OnOk result (number < length marks.new.items) }

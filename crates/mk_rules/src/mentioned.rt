@@ -4,12 +4,12 @@ ghost use Rattle.mk_graph.specs.Edges.{has};
 ghost use Rattle.mk_graph.specs.Numbering.{name_at, has_name, added, all_added};
 ghost use Rattle.mk_rules.specs.NodeNotes.{AreKnownNodes};
 ghost use Rattle.mk_rules.specs.Row.{named, IsRow, IsSomeRow};
-ghost use Rattle.mk_rules.specs.Hidden.{are_nodes, Takes};
+ghost use Rattle.mk_rules.specs.Hidden.{Takes};
 
 use crate::distinct_names::DistinctNames;
 use crate::distinct_numbers::DistinctNumbers;
 use crate::followers::Followers;
-use crate::short_number::ShortNumber;
+use crate::hidden_marks::HiddenMarks;
 use byte_strings::ByteStrings;
 use mk_graph::Names;
 use std::alloc::{AllocError, Global};
@@ -21,8 +21,8 @@ pub(crate) struct Mentioned {
     pub nodes: DistinctNumbers,
     /// The hidden ones that are gone.
     pub gone: DistinctNames,
-    /// Each hidden one that wasn't mentioned before: the number of a node, or none where it is gone.
-    pub hidden: Vec<ShortNumber>,
+    /// Of each hidden one that wasn't mentioned before, whether it is a node.
+    pub hidden: HiddenMarks,
 }
 
 /// Gives a name its number, and mentions that.
@@ -81,12 +81,12 @@ impl Mentioned {
     pub fn new(alloc: Global, nodes: DistinctNumbers) -> Mentioned
         ensures nodes { result.nodes ≡ nodes }
         ensures gone { result.gone ≡ [] }
-        ensures hidden { result.hidden.items ≡ [] }
+        ensures hidden { result.hidden ≡ [] }
     {
         Mentioned {
             nodes,
             gone: DistinctNames::new(alloc),
-            hidden: Vec::new(alloc),
+            hidden: HiddenMarks::none(),
         }
     }
 
@@ -94,11 +94,11 @@ impl Mentioned {
     fn add_node(&mut self, number: u32) -> Result<(), AllocError>
         ensures nodes { OnOk result (self.new.nodes ≡ (if has self.old.nodes number then self.old.nodes else self.old.nodes ++ number ∷ [])) }
         ensures gone { OnOk result (self.new.gone ≡ self.old.gone) }
-        ensures hidden { OnOk result (are_nodes self.new.hidden.items
-            ≡ (if has self.old.nodes number then are_nodes self.old.hidden.items else are_nodes self.old.hidden.items ++ true ∷ [])) }
+        ensures hidden { OnOk result (self.new.hidden
+            ≡ (if has self.old.nodes number then self.old.hidden else self.old.hidden ++ true ∷ [])) }
     {
         if self.nodes.mention(number)? {
-            self.hidden.push(ShortNumber::of(Some(number as usize))?)?;
+            self.hidden.add_node()?;
         }
         Ok(())
     }
@@ -107,14 +107,14 @@ impl Mentioned {
     fn add_gone(&mut self, alloc: Global, is_hard: bool, name: &[u8]) -> Result<(), AllocError>
         ensures nodes { OnOk result (self.new.nodes ≡ self.old.nodes) }
         ensures gone { OnOk result (self.new.gone ≡ (if is_hard then self.old.gone else added self.old.gone name.now)) }
-        ensures hidden { OnOk result (are_nodes self.new.hidden.items
-            ≡ (if is_hard || has_name self.old.gone name.now then are_nodes self.old.hidden.items else are_nodes self.old.hidden.items ++ false ∷ [])) }
+        ensures hidden { OnOk result (self.new.hidden
+            ≡ (if is_hard || has_name self.old.gone name.now then self.old.hidden else self.old.hidden ++ false ∷ [])) }
     {
         if is_hard {
             return Ok(());
         }
         if self.gone.mention(alloc, name)? {
-            self.hidden.push(ShortNumber::of(None)?)?;
+            self.hidden.add_gone(alloc)?;
         }
         Ok(())
     }
@@ -131,7 +131,7 @@ impl Mentioned {
             → MatchOption number (names.now ≡ before) (λ n. (names.now ≡ added before name.now) × (n < length names.now) × (name_at names.now n ≡ name.now))
             → ((start : List (List ℕ)) → IsRow start before self.old.nodes → IsRow start names.now self.new.nodes)
             × Takes (λ _. is_some number) name.now (named before self.old.nodes) (named names.now self.new.nodes) self.old.gone self.new.gone
-            (are_nodes self.old.hidden.items) (are_nodes self.new.hidden.items)) }
+            self.old.hidden self.new.hidden) }
     {
         match number {
             Some(number) => {

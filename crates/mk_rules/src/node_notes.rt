@@ -15,7 +15,7 @@ use std::mem;
 pub(crate) struct NodeNotes {
     /// Of each number, whether its name was found to be a node as a hidden prerequisite.
     pub marks: Vec<bool>,
-    /// A row that is done with, for its room.
+    /// The row of the name that was asked for last, whose room the next one takes.
     pub row: DistinctNumbers,
     pub followers: Followers,
     /// Where the state may have the next name, since names are mostly asked for in its order.
@@ -35,14 +35,12 @@ impl NodeNotes {
         }
     }
 
-    /// A row without numbers, with the room of the one that is done with.
+    /// Takes the row out.
     pub fn take_row(&mut self, alloc: Global) -> DistinctNumbers
-        ensures row { result ≡ [] }
+        ensures row { result ≡ self.old.row }
         ensures marks { self.new.marks.items ≡ self.old.marks.items }
     {
-        let mut row = mem::replace(&mut self.row, DistinctNumbers::new(alloc));
-        row.clear();
-        row
+        mem::replace(&mut self.row, DistinctNumbers::new(alloc))
     }
 
     /// Marks the name with this number.

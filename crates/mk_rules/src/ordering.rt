@@ -8,12 +8,9 @@ ghost use Rattle.mk_graph.specs.Edges.{row, is_closed};
 ghost use Rattle.mk_graph.specs.Numbering.{name_at};
 ghost use Rattle.mk_graph.specs.Plan.{IsPlan};
 ghost use Rattle.mk_rules.specs.Ordering.{IsCycleFault};
-ghost use Rattle.mk_rules.specs.Rows.{EachRow, IsHardRow};
 
-use crate::graph::Node;
-use crate::rows::hard_rows;
 use byte_strings::ByteStrings;
-use mk_graph::{Counted, Edges, Names, Numbered, Order, count_edges};
+use mk_graph::{Counted, Edges, Names, Order, count_edges};
 use mk_rule_lines::{CycleNames, RuleFault};
 use std::alloc::{AllocError, Global};
 
@@ -26,18 +23,6 @@ pub(crate) struct Ordered {
     pub counted: Edges,
     pub order: Vec<usize>,
     pub soft_dropped: bool,
-}
-
-/// The hard prerequisites of each node.
-pub(crate) fn hard_edges(alloc: Global, numbered: &Numbered<Node>) -> Result<Edges, AllocError>
-    requires row_count { length numbered.now.rows ≡ length numbered.now.names }
-    requires node_count { length numbered.now.nodes.items ≡ length numbered.now.names }
-    requires closed { IsTrue (is_closed numbered.now.rows) }
-    ensures count { IfOk result (λ hard. length hard ≡ length numbered.now.names) }
-    ensures closed { IfOk result (λ hard. IsTrue (is_closed hard)) }
-    ensures rows { IfOk result (λ hard. EachRow (IsHardRow numbered.now.rows numbered.now.nodes.items) hard) }
-{
-    hard_rows(alloc, &numbered.rows, &numbered.nodes)
 }
 
 /// The names of a cycle's nodes.

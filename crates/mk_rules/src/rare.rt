@@ -1,7 +1,7 @@
 //! What few nodes have, for which the others spend no memory.
 ghost use Rattle.std.specs.Prelude.{◌≡◌, true, option_map, IfOk};
 ghost use Rattle.std.specs.Option.{option_copied};
-ghost use Rattle.mk_rules.specs.Rare.{no_parts};
+ghost use Rattle.mk_rules.specs.Rare.{no_parts, with_marks};
 
 use crate::group::Group;
 use byte_strings::{ByteString, ByteStrings};
@@ -9,7 +9,7 @@ use std::alloc::{AllocError, Global};
 use std::boxed::Box;
 use std::marker::Model;
 
-/// What a node has of an implicit rule and of order-only prerequisites.
+/// What a node has of an implicit rule, of order-only prerequisites, and of hidden ones that are gone.
 #[derive(Drop)]
 pub struct Rare {
     /// The stem, where an implicit rule makes it.
@@ -20,6 +20,8 @@ pub struct Rare {
     pub group: Option<Box<Group>>,
     /// What it can't be made without, by name: the hard prerequisites and the order-only ones; None where there are none of these.
     pub required: Option<Box<ByteStrings>>,
+    /// Of each hidden prerequisite that isn't a hard one, whether it is a node; None where all are.
+    pub marks: Option<Box<Vec<bool>>>,
 }
 
 /// The rare parts of a node, which most nodes haven't.
@@ -41,10 +43,34 @@ impl Model for RareParts {
 fn are_none(rare: &Rare) -> bool
     ensures { result ≡ true → rare.now ≡ no_parts }
 {
-    rare.stem.is_none() && rare.implied == 0 && rare.group.is_none() && rare.required.is_none()
+    rare.stem.is_none()
+        && rare.implied == 0
+        && rare.group.is_none()
+        && rare.required.is_none()
+        && rare.marks.is_none()
+}
+
+/// These marks and no other part.
+fn only_marks(marks: Option<Box<Vec<bool>>>) -> Rare
+    ensures { result ≡ with_marks marks no_parts }
+{
+    Rare {
+        stem: None,
+        implied: 0,
+        group: None,
+        required: None,
+        marks,
+    }
 }
 
 impl RareParts {
+    /// No part.
+    pub fn none() -> RareParts
+        ensures { result ≡ no_parts }
+    {
+        RareParts { kept: None }
+    }
+
     pub fn of(alloc: Global, rare: Rare) -> Result<RareParts, AllocError>
         ensures { IfOk result (λ parts. parts ≡ rare) }
     {
@@ -54,6 +80,22 @@ impl RareParts {
         Ok(RareParts {
             kept: Some(Box::new(alloc, rare)?),
         })
+    }
+
+    /// These parts, with these marks of hidden prerequisites.
+    pub fn with_marks(
+        self,
+        alloc: Global,
+        marks: Option<Box<Vec<bool>>>,
+    ) -> Result<RareParts, AllocError>
+        ensures { IfOk result (λ parts. parts ≡ with_marks marks self) }
+    {
+        let Some(rare) = self.kept else {
+            return RareParts::of(alloc, only_marks(marks));
+        };
+        let mut rare = rare;
+        rare.marks = marks;
+        Ok(RareParts { kept: Some(rare) })
     }
 
     pub fn stem(&self) -> Option<&ByteString>
@@ -88,6 +130,18 @@ impl RareParts {
     {
         match &self.kept {
             Some(rare) => rare.required.as_deref(),
+            None => None,
+        }
+    }
+
+    pub fn marks(&self) -> Option<&[bool]>
+        ensures { option_map (λ s. s.now) result ≡ option_map (λ m. m.value.items) self.now.marks }
+    {
+        match &self.kept {
+            Some(rare) => match &rare.marks {
+                Some(marks) => Some(marks.as_slice()),
+                None => None,
+            },
             None => None,
         }
     }

@@ -1,10 +1,10 @@
 //! The rows of numbered names, parted into hard prerequisites and others.
-ghost use Rattle.std.specs.Prelude.{◌≡◌, true, take, drop, length, map, IfOk};
+ghost use Rattle.std.specs.Prelude.{◌≡◌, take, drop, length, map, IfOk, IsTrue};
 ghost use Rattle.mk_graph.specs.Edges.{is_closed};
 ghost use Rattle.mk_rules.specs.Rows.{EachRow, IsHardRow, IsWaitedRow};
 
 use crate::graph::Node;
-use mk_graph::Edges;
+use mk_graph::{Edges, Numbered, Parts};
 use std::alloc::{AllocError, Global};
 
 /// The first so many numbers, or all where there are no more.
@@ -27,32 +27,32 @@ pub(crate) fn behind(row: &[u32], count: usize) -> &[u32]
     &row[count..]
 }
 
-/// The hard prerequisites of each node.
-pub(crate) fn hard_rows(alloc: Global, rows: &Edges, known: &[Node]) -> Result<Edges, AllocError>
-    requires { length rows.now ≡ length known.now }
-    ensures count { IfOk result (λ hard. length hard ≡ length known.now) }
-    ensures rows { IfOk result (EachRow (IsHardRow rows.now known.now)) }
-    ensures closed { IfOk result (λ hard. is_closed rows.now ≡ true → is_closed hard ≡ true) }
+/// How many hard prerequisites each node has.
+fn hard_counts(alloc: Global, known: &[Node]) -> Result<Vec<usize>, AllocError>
+    ensures { IfOk result (λ counts. counts.items ≡ map (λ k. k.hard) known.now) }
 {
-    let mut hard = Edges::with_capacity(alloc, known.len())?;
-    for (node, found) in known.iter().enumerate() {
-        hard.push_row(front(rows.row(node), found.hard))?;
+    let mut counts = Vec::with_capacity(alloc, known.len())?;
+    for found in known {
+        counts.push_reserved(found.hard as usize);
     }
-    Ok(hard)
+    Ok(counts)
 }
 
-/// What each node waits for beside its hard prerequisites: hidden ones that are nodes, and order-only ones.
-pub(crate) fn waited_rows(alloc: Global, rows: &Edges, known: &[Node]) -> Result<Edges, AllocError>
-    requires { length rows.now ≡ length known.now }
-    ensures count { IfOk result (λ waited. length waited ≡ length known.now) }
-    ensures rows { IfOk result (EachRow (IsWaitedRow rows.now known.now)) }
-    ensures closed { IfOk result (λ waited. is_closed rows.now ≡ true → is_closed waited ≡ true) }
+/// The rows of the nodes, parted: in front the hard prerequisites of each, and behind them what it waits for besides, hidden
+/// ones that are nodes and order-only ones.
+pub(crate) fn parted_rows(alloc: Global, numbered: &Numbered<Node>) -> Result<Parts, AllocError>
+    requires row_count { length numbered.now.rows ≡ length numbered.now.names }
+    requires node_count { length numbered.now.nodes.items ≡ length numbered.now.names }
+    requires closed { IsTrue (is_closed numbered.now.rows) }
+    ensures hard_count { IfOk result (λ parts. length parts.fronts ≡ length numbered.now.names) }
+    ensures hard_closed { IfOk result (λ parts. IsTrue (is_closed parts.fronts)) }
+    ensures hard { IfOk result (λ parts. EachRow (IsHardRow numbered.now.rows numbered.now.nodes.items) parts.fronts) }
+    ensures waited_count { IfOk result (λ parts. length parts.backs ≡ length numbered.now.names) }
+    ensures waited_closed { IfOk result (λ parts. IsTrue (is_closed parts.backs)) }
+    ensures waited { IfOk result (λ parts. EachRow (IsWaitedRow numbered.now.rows numbered.now.nodes.items) parts.backs) }
 {
-    let mut waited = Edges::with_capacity(alloc, known.len())?;
-    for (node, found) in known.iter().enumerate() {
-        waited.push_row(behind(rows.row(node), found.hard))?;
-    }
-    Ok(waited)
+    let counts = hard_counts(alloc, &numbered.nodes)?;
+    numbered.rows.parted(alloc, &counts)
 }
 
 /// The rows one by one, so that each may grow.

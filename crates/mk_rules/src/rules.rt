@@ -1,7 +1,7 @@
 //! What a makefile's rules and the state say of a name.
-ghost use Rattle.std.specs.Prelude.{◌≡◌, ℕ, ℤ, List, Option, false, option_to_list, IfOk, IfErr};
+ghost use Rattle.std.specs.Prelude.{◌≡◌, ℕ, ℤ, List, Option, false, [], slice_get, option_to_list, IfOk, IfErr};
 ghost use Rattle.std.specs.FinMap as map;
-ghost use Rattle.std.specs.Option.{option_copied};
+ghost use Rattle.std.specs.Option.{option_copied, option_map_or};
 ghost use Rattle.mk_rule_lines.specs.Rules.{has, suffixes_of, targets_by, places, recipe_places};
 ghost use Rattle.mk_rules.specs.Chain.{steps_of};
 ghost use Rattle.mk_rules.specs.Links.{AreLinks};
@@ -9,17 +9,18 @@ ghost use Rattle.mk_rules.specs.Search.{IsSearchFault};
 ghost use Rattle.mk_rules.specs.Looks.{Looks};
 ghost use Rattle.mk_rule_lines.specs.Table.{is_there, named_at};
 ghost use Rattle.mk_rule_lines.specs.Doubles.{first_double};
-ghost use Rattle.mk_rule_lines.specs.Explicit.{numbers_of};
+ghost use Rattle.mk_rule_lines.specs.Explicit.{numbers_of, order_only_in};
 ghost use Rattle.mk_rule_lines.specs.Forms.{forms_of};
 ghost use Rattle.mk_rules.specs.Prerequisites.{any_or, default_of};
 
 use crate::chain::{Makers, source_in};
 use crate::left_over::is_left;
+use crate::stamp::Stamp;
 use crate::tree::Tree;
 use byte_strings::ByteStrings;
 use mk_rule_lines::{
     Form, RuleFault, RuleLine, Source, TargetTable, explicit_of, first_double, is_phony,
-    order_only_of,
+    may_have_bar, order_only_of,
 };
 use st_records::PackedEntry;
 use st_state::State;
@@ -59,6 +60,16 @@ fn own_or_first(lines: &[RuleLine], numbers: &[usize], recipe: Option<usize>) ->
     }
 }
 
+/// Whether a bar may stand in the line of this number. Where it may not, the line has no order-only prerequisites.
+fn may_have_bar_at(lines: &[RuleLine], number: usize) -> bool
+    ensures { result ≡ false → option_map_or order_only_in (slice_get lines.now number) [] ≡ [] }
+{
+    match lines.get(number) {
+        Some(line) => may_have_bar(line),
+        None => false,
+    }
+}
+
 impl<'m> Rules<'m> {
     ghost use Rattle.mk_rule_lines.specs.Explicit.{numbers_of, explicit_of, order_only_of, is_phony};
     ghost use Rattle.mk_rules.specs.Prerequisites.{Inputs, own_recipes, is_target, left_recipe};
@@ -81,9 +92,9 @@ impl<'m> Rules<'m> {
     }
 
     /// The line whose recipe makes the name where no rule does, which the lines of these numbers make and which has this time.
-    pub fn left_recipe(&self, name: &[u8], numbers: &[usize], stamp: Option<i128>) -> Option<usize>
+    pub fn left_recipe(&self, name: &[u8], numbers: &[usize], stamp: &Stamp) -> Option<usize>
         requires { numbers.now ≡ numbers_of self.now.lines.now name.now }
-        ensures { (inputs : Inputs) → inputs.lines ≡ self.now.lines.now → inputs.times name.now ≡ stamp
+        ensures { (inputs : Inputs) → inputs.lines ≡ self.now.lines.now → inputs.times name.now ≡ stamp.now
             → inputs.entries name.now ≡ map.get self.now.state.now name.now → result ≡ left_recipe inputs name.now }
     {
         // Without a `.DEFAULT` the state isn't asked.
@@ -94,6 +105,18 @@ impl<'m> Rules<'m> {
             return None;
         }
         Some(line)
+    }
+
+    /// Whether these lines may have order-only prerequisites, told without cutting them into words. Where they may not, there are none.
+    pub fn may_have_order_only(&self, numbers: &[usize]) -> bool
+        ensures { result ≡ false → (name : List ℕ) → numbers.now ≡ numbers_of self.now.lines.now name → order_only_of self.now.lines.now name ≡ [] }
+    {
+        for number in numbers {
+            if may_have_bar_at(self.lines, *number) {
+                return true;
+            }
+        }
+        false
     }
 
     /// The prerequisites by name of the name that the lines of these numbers make.

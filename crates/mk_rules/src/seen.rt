@@ -1,17 +1,16 @@
 //! What is found of a name but its hidden prerequisites.
-ghost use Rattle.std.specs.Prelude.{◌≡◌, ◌++◌, ℕ, ℤ, List, Option, option_map, option_to_list, unwrap_or, IfOk, IfErr};
+ghost use Rattle.std.specs.Prelude.{◌≡◌, ◌++◌, ℕ, ℤ, List, Option, None, option_map, option_to_list, unwrap_or, IfOk, IfErr};
 ghost use Rattle.std.specs.FinMap as map;
-ghost use Rattle.mk_rule_lines.specs.Explicit.{numbers_of, explicit_of, order_only_of};
-ghost use Rattle.mk_rules.specs.Prerequisites.{inputs_of, first_or, rule_or, behind_bar_of, distinct};
+ghost use Rattle.mk_rule_lines.specs.Explicit.{numbers_of, explicit_of, order_only_of, is_phony};
+ghost use Rattle.mk_rules.specs.Groups.{others_in};
+ghost use Rattle.mk_rules.specs.Prerequisites.{inputs_of, own_recipes, seen_times, first_or, rule_or, behind_bar_of, distinct};
 ghost use Rattle.mk_graph.specs.Numbering.{all_added};
 ghost use Rattle.mk_rules.specs.Looks.{Looks};
-ghost use Rattle.mk_rules.specs.Known.{IsLookUpFault};
-ghost use Rattle.mk_rules.specs.Seen.{IsSeen};
+ghost use Rattle.mk_rules.specs.Known.{IsLookUpFault, IsOthersFault};
+ghost use Rattle.mk_rules.specs.Seen.{IsSeen, IsGiven, IsRuled, IsRuledIn};
 
 use crate::distinct_names::DistinctNames;
-use crate::graph::Node;
-use crate::group::Group;
-use crate::known::Seen;
+use crate::known::{Given, Ruled, Seen};
 use crate::left_over::rule_or;
 use crate::listed::{names_behind, push_all};
 use crate::lookup::seen_stamp;
@@ -96,51 +95,141 @@ fn required_names(
     Ok(Some(Box::new(alloc, names.into_list())?))
 }
 
-/// What is found of a name, put together.
-fn gathered<'r>(
+/// What rules give a name with this source. `stamp` is the name's own time.
+#[inline(never)]
+fn given_by<T: Tree>(
     alloc: Global,
-    stamp: Stamp,
+    rules: &Rules,
+    tree: &mut T,
+    numbers: &[usize],
+    stamp: &Stamp,
     source: Option<Source>,
-    own: Option<usize>,
-    left: Option<usize>,
-    lines: &'r [usize],
-    made: ByteStrings,
-    order_only: ByteStrings,
-    implied: usize,
-    group: Option<Box<Group>>,
-    required: Option<Box<ByteStrings>>,
-) -> Result<Seen<'r>, AllocError>
-    ensures lines { IfOk result (λ seen. seen.lines.now ≡ lines.now) }
-    ensures made { IfOk result (λ seen. seen.made ≡ made) }
-    ensures order_only { IfOk result (λ seen. seen.order_only ≡ order_only) }
-    ensures stamp { IfOk result (λ seen. seen.node.stamp ≡ stamp) }
-    ensures stem { IfOk result (λ seen. seen.node.rare.stem ≡ option_map (λ s. s.stem) source) }
-    ensures implied { IfOk result (λ seen. seen.node.rare.implied ≡ implied) }
-    ensures recipe { IfOk result (λ seen. seen.node.recipe ≡ first_or (option_to_list own) (rule_or source left)) }
-    ensures group { IfOk result (λ seen. seen.node.rare.group ≡ group) }
-    ensures required { IfOk result (λ seen. seen.node.rare.required ≡ required) }
+) -> Result<Box<Given>, RuleFault>
+    ensures given { IfOk result (λ given. (name : List ℕ) (times : List ℕ → Option ℤ) → T.allows tree.new times
+        → numbers.now ≡ numbers_of rules.now.lines.now name → stamp.now ≡ seen_times rules.now.lines.now times name
+        → IsGiven (inputs_of rules.now.lines.now (map.get rules.now.state.now) times) name source given.value.made given.value.order_only given.value.rare) }
+    ensures looks { Looks (T.allows tree.old) (T.allows tree.new) (T.refuses tree.old) (T.refuses tree.new) (T.asked tree.old) (T.asked tree.new) }
+    ensures fault { IfErr result (IsOthersFault (T.refuses tree.new) rules.now.lines.now (others_in source)) }
 {
-    let recipe = ShortNumber::of(own_or(own, rule_or(&source, left)))?;
-    let rare = Rare {
-        stem: stem_of(source),
-        implied,
-        group,
-        required,
-    };
-    let node = Node {
-        stamp,
-        hidden: Vec::new(alloc),
-        rare: RareParts::of(alloc, rare)?,
-        hard: 0,
-        recipe,
-        place: 0,
-    };
-    Ok(Seen {
-        lines,
+    let group = group_of(alloc, rules, tree, stamp.get(), &source)?;
+    let implied = implied_count(alloc, &source)?;
+    let made = made_from(alloc, &source)?;
+    let order_only = order_only_of(alloc, rules, numbers, &source)?;
+    let required = required_names(alloc, rules, numbers, &made, &order_only)?;
+    let stem = stem_of(source);
+    let rare = RareParts::of(
+        alloc,
+        Rare {
+            stem,
+            implied,
+            group,
+            required,
+            marks: None,
+        },
+    )?;
+    let given = Given {
         made,
         order_only,
-        node,
+        rare,
+    };
+    Ok(Box::new(alloc, given)?)
+}
+
+/// A name to which rules give nothing: its own line or the other one has its recipe.
+fn plain(own: Option<usize>, other: Option<usize>) -> Result<Ruled, AllocError>
+    ensures recipe { IfOk result (λ ruled. ruled.recipe ≡ first_or (option_to_list own) other) }
+    ensures given { IfOk result (λ ruled. ruled.given ≡ None) }
+{
+    let recipe = ShortNumber::of(own_or(own, other))?;
+    Ok(Ruled {
+        recipe,
+        given: None,
     })
+}
+
+/// What rules say of a name with this source.
+#[inline(never)]
+fn ruled_by<T: Tree>(
+    alloc: Global,
+    rules: &Rules,
+    tree: &mut T,
+    numbers: &[usize],
+    own: Option<usize>,
+    left: Option<usize>,
+    stamp: &Stamp,
+    source: Option<Source>,
+) -> Result<Ruled, RuleFault>
+    ensures ruled { IfOk result (λ ruled. (name : List ℕ) (times : List ℕ → Option ℤ) → T.allows tree.new times
+        → numbers.now ≡ numbers_of rules.now.lines.now name → stamp.now ≡ seen_times rules.now.lines.now times name
+        → IsRuled (inputs_of rules.now.lines.now (map.get rules.now.state.now) times) name source (option_to_list own) left ruled) }
+    ensures looks { Looks (T.allows tree.old) (T.allows tree.new) (T.refuses tree.old) (T.refuses tree.new) (T.asked tree.old) (T.asked tree.new) }
+    ensures fault { IfErr result (IsOthersFault (T.refuses tree.new) rules.now.lines.now (others_in source)) }
+{
+    let recipe = ShortNumber::of(own_or(own, rule_or(&source, left)))?;
+    let given = given_by(alloc, rules, tree, numbers, stamp, source)?;
+    Ok(Ruled {
+        recipe,
+        given: Some(given),
+    })
+}
+
+/// What rules say of a name once a source is looked for.
+#[inline(never)]
+fn searched<T: Tree>(
+    alloc: Global,
+    rules: &Rules,
+    tree: &mut T,
+    name: &[u8],
+    numbers: &[usize],
+    own: Option<usize>,
+    phony: bool,
+    left: Option<usize>,
+    stamp: &Stamp,
+) -> Result<Ruled, RuleFault>
+    requires numbers { numbers.now ≡ numbers_of rules.now.lines.now name.now }
+    requires own { option_to_list own ≡ own_recipes rules.now.lines.now name.now }
+    requires phony { phony ≡ is_phony rules.now.lines.now name.now }
+    ensures ruled { IfOk result (λ ruled. (times : List ℕ → Option ℤ) → T.allows tree.new times
+        → stamp.now ≡ seen_times rules.now.lines.now times name.now
+        → IsRuledIn (inputs_of rules.now.lines.now (map.get rules.now.state.now) times) name.now left ruled) }
+    ensures looks { Looks (T.allows tree.old) (T.allows tree.new) (T.refuses tree.old) (T.refuses tree.new) (T.asked tree.old) (T.asked tree.new) }
+    ensures fault { IfErr result (IsLookUpFault rules.now.targets.now (T.allows tree.new) (T.refuses tree.new) rules.now.forms.now rules.now.steps
+        rules.now.lines.now (map.get rules.now.state.now) name.now) }
+{
+    let source = implicit_source(alloc, rules, tree, name, own, phony)?;
+    if source.is_none() && !rules.may_have_order_only(numbers) {
+        return Ok(plain(own, left)?);
+    }
+    ruled_by(alloc, rules, tree, numbers, own, left, stamp, source)
+}
+
+/// What rules say of a name with this time.
+fn ruled_of<T: Tree>(
+    alloc: Global,
+    rules: &Rules,
+    tree: &mut T,
+    name: &[u8],
+    numbers: &[usize],
+    own: Option<usize>,
+    phony: bool,
+    left: Option<usize>,
+    stamp: &Stamp,
+) -> Result<Ruled, RuleFault>
+    requires numbers { numbers.now ≡ numbers_of rules.now.lines.now name.now }
+    requires own { option_to_list own ≡ own_recipes rules.now.lines.now name.now }
+    requires phony { phony ≡ is_phony rules.now.lines.now name.now }
+    ensures ruled { IfOk result (λ ruled. (times : List ℕ → Option ℤ) → T.allows tree.new times
+        → stamp.now ≡ seen_times rules.now.lines.now times name.now
+        → IsRuledIn (inputs_of rules.now.lines.now (map.get rules.now.state.now) times) name.now left ruled) }
+    ensures looks { Looks (T.allows tree.old) (T.allows tree.new) (T.refuses tree.old) (T.refuses tree.new) (T.asked tree.old) (T.asked tree.new) }
+    ensures fault { IfErr result (IsLookUpFault rules.now.targets.now (T.allows tree.new) (T.refuses tree.new) rules.now.forms.now rules.now.steps
+        rules.now.lines.now (map.get rules.now.state.now) name.now) }
+{
+    // Most names with a recipe of their own have nothing else.
+    if (phony || own.is_some()) && !rules.may_have_order_only(numbers) {
+        return Ok(plain(own, left)?);
+    }
+    searched(alloc, rules, tree, name, numbers, own, phony, left, stamp)
 }
 
 /// What the rules and a tree say of a name.
@@ -158,17 +247,13 @@ pub(crate) fn seen_of<'r, T: Tree>(
 {
     let (numbers, own) = rules.named(name);
     let phony = rules.is_phony(numbers);
-    let stamp = seen_stamp(alloc, tree, name, phony)?;
-    let source = implicit_source(alloc, rules, tree, name, own, phony)?;
-    let group = group_of(alloc, rules, tree, stamp, &source)?;
-    let left = rules.left_recipe(name, numbers, stamp);
-    let implied = implied_count(alloc, &source)?;
-    let made = made_from(alloc, &source)?;
-    let order_only = order_only_of(alloc, rules, numbers, &source)?;
-    let required = required_names(alloc, rules, numbers, &made, &order_only)?;
-    let kept = Stamp::of(alloc, stamp)?;
-    let seen = gathered(
-        alloc, kept, source, own, left, numbers, made, order_only, implied, group, required,
-    )?;
-    Ok(seen)
+    let time = seen_stamp(alloc, tree, name, phony)?;
+    let stamp = Stamp::of(alloc, time)?;
+    let left = rules.left_recipe(name, numbers, &stamp);
+    let ruled = ruled_of(alloc, rules, tree, name, numbers, own, phony, left, &stamp)?;
+    Ok(Seen {
+        lines: numbers,
+        stamp,
+        ruled,
+    })
 }

@@ -24,6 +24,7 @@ fn is_run_of(rule: usize, source: &Source) -> bool
 }
 
 /// Whether the rule of this line makes the name by a run for it.
+#[inline(never)]
 fn runs_for<T: Tree>(
     alloc: Global,
     rules: &Rules,
@@ -103,6 +104,7 @@ fn earlier(a: Option<i128>, b: Option<i128>) -> Option<i128>
 }
 
 /// The earliest of this time and those of the names.
+#[inline(never)]
 fn earliest<T: Tree>(
     alloc: Global,
     rules: &Rules,

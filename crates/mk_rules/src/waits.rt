@@ -4,6 +4,7 @@ ghost use Rattle.std.specs.List.{IsDistinct, list_any, list_all};
 ghost use Rattle.std.specs.Str.{bytes_eq};
 ghost use Rattle.mk_graph.specs.Edges.{row, is_closed, has as has_number};
 ghost use Rattle.mk_graph.specs.Numbering.{has_name, name_at};
+ghost use Rattle.mk_graph.specs.Waits.{BeginWith};
 ghost use Rattle.mk_rule_lines.specs.Explicit.{is_wait};
 ghost use Rattle.mk_rules.specs.Waits.{groups_of, orders, line_orders, waits_in};
 
@@ -75,6 +76,7 @@ fn add_groups(
         → has_number (row (map (λ r. r.items) rows.new.items) n) m
         ≡ (has_number (row (map (λ r. r.items) rows.old.items) n) m || orders told (name_at names.now m) (name_at names.now n))) }
     ensures closed { OnOk result (is_closed (map (λ r. r.items) rows.old.items) ≡ true → is_closed (map (λ r. r.items) rows.new.items) ≡ true) }
+    ensures begin { OnOk result (BeginWith (map (λ r. r.items) rows.old.items) (map (λ r. r.items) rows.new.items)) }
 {
     add_waits(alloc, rows, groups)
 }
@@ -94,6 +96,7 @@ fn add_word_waits(
         ≡ (has_number (row (map (λ r. r.items) rows.old.items) n) m
         || orders (groups_of words.now) (name_at names.now m) (name_at names.now n))) }
     ensures closed { OnOk result (is_closed (map (λ r. r.items) rows.old.items) ≡ true → is_closed (map (λ r. r.items) rows.new.items) ≡ true) }
+    ensures begin { OnOk result (BeginWith (map (λ r. r.items) rows.old.items) (map (λ r. r.items) rows.new.items)) }
 {
     let groups = number_groups(alloc, names, words)?;
     add_groups(alloc, rows, names, &groups)
@@ -115,6 +118,7 @@ fn add_line_waits(
         ≡ (has_number (row (map (λ r. r.items) rows.old.items) n) m
         || line_orders names.now suffixes.now (name_at names.now m) (name_at names.now n) line.now)) }
     ensures closed { OnOk result (is_closed (map (λ r. r.items) rows.old.items) ≡ true → is_closed (map (λ r. r.items) rows.new.items) ≡ true) }
+    ensures begin { OnOk result (BeginWith (map (λ r. r.items) rows.old.items) (map (λ r. r.items) rows.new.items)) }
 {
     if !any_wait(&line.prerequisites) {
         return Ok(());
@@ -145,6 +149,7 @@ fn add_all_waits(
         ≡ (has_number (row (map (λ r. r.items) rows.old.items) n) m
         || list_any (line_orders names.now suffixes.now (name_at names.now m) (name_at names.now n)) lines.now)) }
     ensures closed { OnOk result (is_closed (map (λ r. r.items) rows.old.items) ≡ true → is_closed (map (λ r. r.items) rows.new.items) ≡ true) }
+    ensures begin { OnOk result (BeginWith (map (λ r. r.items) rows.old.items) (map (λ r. r.items) rows.new.items)) }
 {
     for line in lines {
         add_line_waits(alloc, rows, names, suffixes, line)?;
@@ -167,6 +172,7 @@ pub(crate) fn with_waits(
         → has_number (row more n) m
         ≡ (has_number (row edges n) m || list_any (line_orders names.now suffixes.now (name_at names.now m) (name_at names.now n)) lines.now)) }
     ensures closed { IfOk result (λ more. is_closed edges ≡ true → is_closed more ≡ true) }
+    ensures begin { IfOk result (BeginWith edges) }
 {
     if !any_line_waits(lines) {
         return Ok(edges);

@@ -101,13 +101,13 @@ fn phase_reason(phase: Phase) -> Option<Reason>
 fn changed_reason(entry: &PackedEntry, target: &Target<'_>) -> Option<Reason>
     ensures { result ≡ changed_reason entry.now target.now }
 {
-    if !entry.commands().are(target.commands) {
+    if !entry.commands().are(target.commands.iter()) {
         return Some(Reason::CommandsChanged);
     }
     match entry.explicit() {
         None => None,
         Some(names) => {
-            if names.are(target.explicit) {
+            if names.are(target.explicit.iter()) {
                 None
             } else {
                 Some(Reason::PrerequisitesChanged)

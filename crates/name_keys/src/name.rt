@@ -7,6 +7,7 @@ ghost use Rattle.name_keys.specs.Written.{at_once};
 
 use crate::same::same_bytes;
 use bstr::ByteSlice;
+use byte_strings::ByteString;
 use indexmap::Equivalent;
 use std::alloc::{AllocError, Global};
 use std::fmt;
@@ -16,19 +17,19 @@ use std::marker::Model;
 /// A name as a key of an `IndexMap` or `IndexSet`. Contracts see the list of its bytes.
 #[derive(Drop)]
 pub struct Name {
-    bytes: Vec<u8>,
+    bytes: ByteString,
 }
 
 impl Model for Name {
     ghost Value = { List ℕ };
 
-    ghost view = { λ name. name.bytes.items };
+    ghost view = { λ name. name.bytes };
 }
 
 impl Name {
-    /// The bytes of a vector, which takes no memory.
-    pub fn new(bytes: Vec<u8>) -> Name
-        ensures { result ≡ bytes.items }
+    /// The name that has these bytes, which takes no memory.
+    pub fn new(bytes: ByteString) -> Name
+        ensures { result ≡ bytes }
     {
         Name { bytes }
     }
@@ -37,7 +38,7 @@ impl Name {
     pub fn from_slice(alloc: Global, bytes: &[u8]) -> Result<Name, AllocError>
         ensures { IfOk result (λ name. name ≡ bytes.now) }
     {
-        let bytes = Vec::from_slice(alloc, bytes)?;
+        let bytes = ByteString::from_slice(alloc, bytes)?;
         Ok(Name { bytes })
     }
 

@@ -4,7 +4,7 @@ ghost use Rattle.std.specs.Prelude.{◌≡◌, ◌++◌, OnOk, IfOk};
 ghost use Rattle.std.specs.List.{flat_map};
 ghost use Rattle.st_listing.specs.Listing.{listing, entry_lines, phase_text, command_text, hidden_text, explicit_text, line, continued};
 
-use st_records::{PackedEntry, Phase, Strings};
+use st_records::{Iter, PackedEntry, Phase};
 use st_state::State;
 use std::alloc::{AllocError, Global};
 
@@ -93,9 +93,9 @@ fn append_lines(
     text: &mut Vec<u8>,
     name: &[u8],
     phase: Phase,
-    commands: &Strings<'_>,
-    hidden: &Strings<'_>,
-    names: &Strings<'_>,
+    commands: &Iter<'_>,
+    hidden: &Iter<'_>,
+    names: &Iter<'_>,
 ) -> Result<(), AllocError>
     ensures { OnOk result (text.new.items ≡ text.old.items
         ++ (line (phase_text name.now phase) ++ flat_map (λ c. line (command_text c)) commands.now ++ flat_map (λ h. line (hidden_text h)) hidden.now
@@ -135,7 +135,7 @@ fn append_phase(
     Ok(())
 }
 
-fn append_commands(text: &mut Vec<u8>, commands: &Strings<'_>) -> Result<(), AllocError>
+fn append_commands(text: &mut Vec<u8>, commands: &Iter<'_>) -> Result<(), AllocError>
     ensures { OnOk result (text.new.items ≡ text.old.items ++ flat_map (λ c. line (command_text c)) commands.now) }
 {
     for command in commands.iter() {
@@ -159,7 +159,7 @@ fn append_continued(text: &mut Vec<u8>, command: &[u8]) -> Result<(), AllocError
 }
 
 // One line for each name, the mark before it.
-fn append_names(text: &mut Vec<u8>, mark: &[u8], names: &Strings<'_>) -> Result<(), AllocError>
+fn append_names(text: &mut Vec<u8>, mark: &[u8], names: &Iter<'_>) -> Result<(), AllocError>
     ensures { OnOk result (text.new.items ≡ text.old.items ++ flat_map (λ n. line (mark.now ++ n)) names.now) }
 {
     for name in names.iter() {

@@ -11,5 +11,4 @@ pub mod FaultLemmas
 mod Texts
 mod Low
 mod Clean
-pub mod PackedLemmas
 mod TargetLemmas

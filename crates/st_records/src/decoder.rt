@@ -16,10 +16,9 @@ use crate::limits::RecordFault;
 use crate::packed::PackedEntry;
 use crate::packed_record::{Event, PackedRecord};
 use crate::record::Phase;
-use crate::strings::Strings;
 use crate::version::Version;
 use crate::within::still_clean;
-use byte_strings::ByteString;
+use byte_strings::{ByteString, Iter};
 use std::alloc::{AllocError, Global};
 use thiserror::Error;
 
@@ -193,7 +192,7 @@ fn done_explicit_of<'a>(
     version: Version,
     clean: &mut bool,
     bytes: &'a [u8],
-) -> Result<(Option<Strings<'a>>, &'a [u8]), DecodeFault>
+) -> Result<(Option<Iter<'a>>, &'a [u8]), DecodeFault>
     ensures gives { Gives (λ x. (explicit_from x.0, x.1.now)) result (done_explicit_at version bytes.now) }
     ensures clean { IfOk result (λ x. IsTrue clean.new → IsTrue clean.old × AreClean version (names_known (explicit_from x.0))) }
 {
@@ -211,7 +210,7 @@ fn kept_explicit_of<'a>(
     version: Version,
     clean: &mut bool,
     bytes: &'a [u8],
-) -> Result<(Option<Strings<'a>>, &'a [u8]), DecodeFault>
+) -> Result<(Option<Iter<'a>>, &'a [u8]), DecodeFault>
     ensures gives { Gives (λ x. (explicit_from x.0, x.1.now)) result (kept_explicit_at version bytes.now) }
     ensures clean { IfOk result (λ x. IsTrue clean.new → IsTrue clean.old × AreClean version (names_known (explicit_from x.0))) }
 {
@@ -273,13 +272,13 @@ fn strings_of<'a>(
     version: Version,
     clean: &mut bool,
     bytes: &'a [u8],
-) -> Result<(Strings<'a>, &'a [u8]), DecodeFault>
+) -> Result<(Iter<'a>, &'a [u8]), DecodeFault>
     ensures gives { Gives (λ x. (x.0, x.1.now)) result (strings_at bytes.now) }
     ensures clean { IfOk result (λ x. IsTrue clean.new → IsTrue clean.old × AreClean version x.0) }
 {
     let (count, rest) = number_of(bytes)?;
     if count == 0 {
-        return Ok((Strings::empty(), rest));
+        return Ok((Iter::empty(), rest));
     }
     items_of(version, clean, count, rest)
 }
@@ -290,14 +289,14 @@ fn items_of<'a>(
     clean: &mut bool,
     count: u32,
     bytes: &'a [u8],
-) -> Result<(Strings<'a>, &'a [u8]), DecodeFault>
+) -> Result<(Iter<'a>, &'a [u8]), DecodeFault>
     ensures gives { Gives (λ x. (x.0, x.1.now)) result (items_at count bytes.now) }
     ensures clean { IfOk result (λ x. IsTrue clean.new → IsTrue clean.old × AreClean version x.0) }
 {
     let (found, behind) = behind_items(version, *clean, count, bytes)?;
     let (items, rest) = bytes.split_at(bytes.len() - behind.len());
     *clean = found;
-    Ok((Strings::new(count, items), rest))
+    Ok((Iter::of_texts(count as usize, items), rest))
 }
 
 /// The bytes behind so many strings, and whether all is clean with them.

@@ -1,13 +1,13 @@
 //! From a record to its bytes.
 
 ghost use Rattle.std.specs.Prelude.{◌≡◌, ◌+◌, ◌<◌, ◌≤◌, ◌++◌, ◌∷◌, length, take, IfOk, OnOk, OnErr, vec_len, vec_capacity};
-ghost use Rattle.st_records.specs.declared.record.Record.TheVariants as records;
 ghost use Rattle.st_records.specs.declared.version.Version.TheVariants as versions;
 ghost use Rattle.st_records.specs.Parts.{names_known};
+ghost use Rattle.st_records.specs.Packed.{explicit_from};
 ghost use Rattle.st_records.specs.Encoding.{number, string, strings, lists, phase_fields, kept_explicit, entry_fields, encoding, FitsString, FitsStrings, FitsEntry, FitsRecord};
 ghost use Rattle.st_records.specs.Limits.{IsGood};
 
-use crate::record::{Entry, Explicit, Phase, Record};
+use crate::record::{Phase, Record};
 use byte_strings::Iter;
 use byteorder::{ByteOrder, LittleEndian};
 use std::alloc::{AllocError, Global};
@@ -62,20 +62,17 @@ fn put_record(out: &mut Vec<u8>, of: &Record) -> Result<(), AllocError>
             put_front(out, 3, target.as_slice())?;
             put_number(out, *status)
         }
-        Record::Kept { target, entry } => put_kept(out, target.as_slice(), entry),
+        Record::Kept { target, entry } => {
+            put_front(out, 4, target.as_slice())?;
+            put_entry(
+                out,
+                entry.phase,
+                entry.commands.iter(),
+                entry.hidden.iter(),
+                entry.explicit.known(),
+            )
+        }
     }
-}
-
-/// The kept record of this name and this entry.
-fn put_kept(out: &mut Vec<u8>, name: &[u8], entry: &Entry) -> Result<(), AllocError>
-    requires { FitsRecord versions.Two (records.Kept name.now entry.now) }
-    ensures ok { OnOk result (out.new.items ≡ out.old.items ++ encoding versions.Two (records.Kept name.now entry.now)) }
-    ensures full { OnErr result (vec_capacity out.old < vec_len out.old + length (encoding versions.Two (records.Kept name.now entry.now))) }
-    ensures front { take (vec_len out.old) out.new.items ≡ out.old.items }
-    ensures room { vec_capacity out.old ≤ vec_capacity out.new }
-{
-    put_front(out, 4, name)?;
-    put_entry(out, entry)
 }
 
 /// The byte of a record's kind, and its target.
@@ -91,36 +88,43 @@ pub(crate) fn put_front(out: &mut Vec<u8>, kind: u8, target: &[u8]) -> Result<()
     put_string(out, target)
 }
 
-fn put_entry(out: &mut Vec<u8>, of: &Entry) -> Result<(), AllocError>
-    requires { FitsEntry versions.Two of.now }
-    ensures ok { OnOk result (out.new.items ≡ out.old.items ++ entry_fields versions.Two of.now) }
+/// What a kept record has of the entry behind its target; None stands for explicit names that aren't known.
+pub(crate) fn put_entry(
+    out: &mut Vec<u8>,
+    phase: Phase,
+    commands: Iter<'_>,
+    hidden: Iter<'_>,
+    explicit: Option<Iter<'_>>,
+) -> Result<(), AllocError>
+    requires { FitsEntry versions.Two (record { phase = phase; commands = commands; hidden = hidden; explicit = explicit_from explicit }) }
+    ensures ok { OnOk result (out.new.items ≡ out.old.items ++ entry_fields versions.Two (record { phase = phase; commands = commands.entry; hidden = hidden.entry; explicit = explicit_from explicit.entry })) }
     ensures room { vec_capacity out.old ≤ vec_capacity out.new }
     ensures front { take (vec_len out.old) out.new.items ≡ out.old.items }
-    ensures full { OnErr result (vec_capacity out.old < vec_len out.old + length (entry_fields versions.Two of.now)) }
+    ensures full { OnErr result (vec_capacity out.old < vec_len out.old + length (entry_fields versions.Two (record { phase = phase; commands = commands.entry; hidden = hidden.entry; explicit = explicit_from explicit.entry }))) }
 {
-    put_phase(out, of.phase)?;
-    put_strings(out, of.commands.iter())?;
-    put_strings(out, of.hidden.iter())?;
-    put_kept_explicit(out, &of.explicit)
+    put_phase(out, phase)?;
+    put_strings(out, commands)?;
+    put_strings(out, hidden)?;
+    put_kept_explicit(out, explicit)
 }
 
-fn put_kept_explicit(out: &mut Vec<u8>, of: &Explicit) -> Result<(), AllocError>
-    requires { FitsStrings (names_known of.now) }
-    ensures ok { OnOk result (out.new.items ≡ out.old.items ++ kept_explicit versions.Two of.now) }
+fn put_kept_explicit(out: &mut Vec<u8>, of: Option<Iter<'_>>) -> Result<(), AllocError>
+    requires { FitsStrings (names_known (explicit_from of)) }
+    ensures ok { OnOk result (out.new.items ≡ out.old.items ++ kept_explicit versions.Two (explicit_from of.entry)) }
     ensures room { vec_capacity out.old ≤ vec_capacity out.new }
     ensures front { take (vec_len out.old) out.new.items ≡ out.old.items }
-    ensures full { OnErr result (vec_capacity out.old < vec_len out.old + length (kept_explicit versions.Two of.now)) }
+    ensures full { OnErr result (vec_capacity out.old < vec_len out.old + length (kept_explicit versions.Two (explicit_from of.entry))) }
 {
     match of {
-        Explicit::Unknown => Ok(out.push(0)?),
-        Explicit::Known(names) => {
+        None => Ok(out.push(0)?),
+        Some(names) => {
             out.push(1)?;
-            put_strings(out, names.iter())
+            put_strings(out, names)
         }
     }
 }
 
-pub(crate) fn put_phase(out: &mut Vec<u8>, of: Phase) -> Result<(), AllocError>
+fn put_phase(out: &mut Vec<u8>, of: Phase) -> Result<(), AllocError>
     ensures ok { OnOk result (out.new.items ≡ out.old.items ++ phase_fields of) }
     ensures len { OnOk result (vec_len out.new ≡ vec_len out.old + 5) }
     ensures room { vec_capacity out.old ≤ vec_capacity out.new }
@@ -168,7 +172,7 @@ fn put_strings(out: &mut Vec<u8>, items: Iter<'_>) -> Result<(), AllocError>
     Ok(())
 }
 
-pub(crate) fn put_string(out: &mut Vec<u8>, bytes: &[u8]) -> Result<(), AllocError>
+fn put_string(out: &mut Vec<u8>, bytes: &[u8]) -> Result<(), AllocError>
     requires { FitsString bytes.now }
     ensures ok { OnOk result (out.new.items ≡ out.old.items ++ string bytes.now) }
     ensures len { OnOk result (vec_len out.new ≡ vec_len out.old + length (string bytes.now)) }
@@ -180,7 +184,7 @@ pub(crate) fn put_string(out: &mut Vec<u8>, bytes: &[u8]) -> Result<(), AllocErr
     out.extend_from_slice(bytes)
 }
 
-pub(crate) fn put_number(out: &mut Vec<u8>, n: u32) -> Result<(), AllocError>
+fn put_number(out: &mut Vec<u8>, n: u32) -> Result<(), AllocError>
     ensures ok { OnOk result (out.new.items ≡ out.old.items ++ number n) }
     ensures len { OnOk result (vec_len out.new ≡ vec_len out.old + 4) }
     ensures room { vec_capacity out.old ≤ vec_capacity out.new }

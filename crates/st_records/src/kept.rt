@@ -3,14 +3,13 @@
 ghost use Rattle.std.specs.Prelude.{◌≡◌, ◌+◌, ◌<◌, ◌≤◌, ◌++◌, length, take, OnOk, OnErr, MatchOption, vec_len, vec_capacity};
 ghost use Rattle.st_records.specs.declared.record.Record.TheVariants as records;
 ghost use Rattle.st_records.specs.declared.version.Version.TheVariants as versions;
-ghost use Rattle.std.specs.List.{flat_map};
-ghost use Rattle.st_records.specs.Encoding.{encoding, string};
+ghost use Rattle.st_records.specs.Encoding.{encoding, FitsRecord};
 ghost use Rattle.st_records.specs.Limits.{IsGood};
 ghost use Rattle.st_records.specs.Tests.{kept_length};
 
+use crate::encoder::{put_entry, put_front};
+use crate::limits::room_after;
 use crate::packed::PackedEntry;
-use crate::packed_encoder::put_packed;
-use crate::strings::Strings;
 use std::alloc::AllocError;
 
 /// Adds the bytes of the kept record of this name and this entry in a file of version 2 at the end, without a copy of
@@ -23,6 +22,23 @@ pub fn append_kept(out: &mut Vec<u8>, name: &[u8], entry: &PackedEntry) -> Resul
     ensures room { vec_capacity out.old ≤ vec_capacity out.new }
 {
     put_packed(out, name, entry)
+}
+
+fn put_packed(out: &mut Vec<u8>, name: &[u8], entry: &PackedEntry) -> Result<(), AllocError>
+    requires { FitsRecord versions.Two (records.Kept name.now entry.now) }
+    ensures ok { OnOk result (out.new.items ≡ out.old.items ++ encoding versions.Two (records.Kept name.now entry.now)) }
+    ensures full { OnErr result (vec_capacity out.old < vec_len out.old + length (encoding versions.Two (records.Kept name.now entry.now))) }
+    ensures front { take (vec_len out.old) out.new.items ≡ out.old.items }
+    ensures room { vec_capacity out.old ≤ vec_capacity out.new }
+{
+    put_front(out, 4, name)?;
+    put_entry(
+        out,
+        entry.phase(),
+        entry.commands(),
+        entry.hidden(),
+        entry.explicit(),
+    )
 }
 
 /// What is left of `room` after the bytes of the kept record of this name and this entry in a file of version 2; None
@@ -46,15 +62,4 @@ fn plain_len(entry: &PackedEntry) -> usize
         None => 19,
         Some(_) => 23,
     }
-}
-
-/// What is left of `room` after the items, each with the four bytes of its length; none where they do not fit.
-fn room_after(items: Strings<'_>, room: usize) -> Option<usize>
-    ensures { MatchOption result (room < length (flat_map string items.entry)) (λ left. left + length (flat_map string items.entry) ≡ room) }
-{
-    let mut left = room;
-    for item in items {
-        left = left.checked_sub(4)?.checked_sub(item.len())?;
-    }
-    Some(left)
 }

@@ -9,10 +9,8 @@ mod laws;
 mod limits;
 mod measure;
 mod packed;
-mod packed_encoder;
 mod packed_record;
 mod record;
-mod strings;
 mod version;
 mod within;
 
@@ -28,5 +26,4 @@ pub use limits::{
 pub use packed::PackedEntry;
 pub use packed_record::{Event, PackedRecord};
 pub use record::{Entry, Explicit, Phase, Record};
-pub use strings::Strings;
 pub use version::Version;

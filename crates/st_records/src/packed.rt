@@ -1,8 +1,6 @@
 //! An entry whose strings stand in one piece of memory: what the state keeps of each target.
 
-ghost use Rattle.std.specs.Prelude.{◌≡◌, ◌||◌, ℕ, List, [], IfOk, OnOk, nat_lt, length, ◌++◌};
-ghost use Rattle.std.specs.Int.{w32, from_le_bytes};
-ghost use Rattle.byte_strings.specs.Texts.{texts, AreTexts};
+ghost use Rattle.std.specs.Prelude.{◌≡◌, ◌||◌, ◌++◌, [], IfOk, nat_lt, length};
 ghost use Rattle.st_records.specs.declared.record.Explicit.TheVariants as explicits;
 ghost use Rattle.st_records.specs.declared.record.Phase.TheVariants as phases;
 ghost use Rattle.st_records.specs.Parts.{names_known};
@@ -10,7 +8,6 @@ ghost use Rattle.st_records.specs.Packed.{explicit_from, commands_in, explicit_i
 
 use crate::limits::{MAX_COMMANDS, MAX_EXPLICIT_NAMES, MAX_HIDDEN_NAMES};
 use crate::record::{Entry, Explicit, Phase};
-use crate::strings::Strings;
 use byte_strings::{ByteStrings, Iter};
 use std::alloc::{AllocError, Global};
 use std::marker::Model;
@@ -81,15 +78,15 @@ impl PackedEntry {
     pub(crate) fn pack(
         alloc: Global,
         phase: Phase,
-        commands: Strings<'_>,
-        hidden: Strings<'_>,
-        explicit: Option<Strings<'_>>,
+        commands: Iter<'_>,
+        hidden: Iter<'_>,
+        explicit: Option<Iter<'_>>,
     ) -> Result<PackedEntry, AllocError>
         ensures { IfOk result (λ e. e ≡ record { phase = phase; commands = commands.entry; hidden = hidden.entry; explicit = explicit_from explicit.entry }) }
     {
         match explicit {
             None => {
-                let none = Strings::empty();
+                let none = Iter::empty();
                 PackedEntry::of_lists(alloc, phase, Counted::Unnamed, commands, hidden, none)
             }
             Some(names) => {
@@ -102,27 +99,31 @@ impl PackedEntry {
         alloc: Global,
         phase: Phase,
         counted: Counted,
-        commands: Strings<'_>,
-        hidden: Strings<'_>,
-        explicit: Strings<'_>,
+        commands: Iter<'_>,
+        hidden: Iter<'_>,
+        explicit: Iter<'_>,
     ) -> Result<PackedEntry, AllocError>
         ensures { IfOk result (λ e. e ≡ record { phase = phase; commands = commands_in counted commands.entry; hidden = hidden.entry; explicit = explicit_in counted explicit.entry }) }
     {
-        let (commands, command_texts) = commands.parts();
-        let (hidden, hidden_texts) = hidden.parts();
-        let (explicit, explicit_texts) = explicit.parts();
+        let (commands, command_texts) = commands.texts();
+        let (hidden, hidden_texts) = hidden.texts();
+        let (explicit, explicit_texts) = explicit.texts();
         let Ok(command_bytes) = u32::try_from(command_texts.len()) else {
             return Err(AllocError);
         };
         let Ok(hidden_bytes) = u32::try_from(hidden_texts.len()) else {
             return Err(AllocError);
         };
+        let Ok(explicit) = u32::try_from(explicit) else {
+            return Err(AllocError);
+        };
         let bytes = joined(alloc, command_texts, hidden_texts, explicit_texts)?;
+        // There are no more strings than bytes in which they lie.
         Ok(PackedEntry {
             phase,
             counted,
-            commands,
-            hidden,
+            commands: commands as u32,
+            hidden: hidden as u32,
             explicit,
             command_bytes,
             hidden_bytes,
@@ -140,18 +141,13 @@ impl PackedEntry {
     ) -> Result<PackedEntry, AllocError>
         ensures { IfOk result (λ e. e ≡ record { phase = phase; commands = commands.now; hidden = hidden.now; explicit = explicit.now }) }
     {
-        let (command_count, commands) = texts_of(alloc, commands.iter())?;
-        let (hidden_count, hidden) = texts_of(alloc, hidden.iter())?;
-        let commands = Strings::new(command_count, commands.as_slice());
-        let hidden = Strings::new(hidden_count, hidden.as_slice());
-        match explicit {
-            Explicit::Unknown => PackedEntry::pack(alloc, phase, commands, hidden, None),
-            Explicit::Known(names) => {
-                let (count, names) = texts_of(alloc, names.iter())?;
-                let names = Strings::new(count, names.as_slice());
-                PackedEntry::pack(alloc, phase, commands, hidden, Some(names))
-            }
-        }
+        PackedEntry::pack(
+            alloc,
+            phase,
+            commands.iter(),
+            hidden.iter(),
+            explicit.known(),
+        )
     }
 
     /// The entry with its strings in one piece of memory.
@@ -174,30 +170,30 @@ impl PackedEntry {
     }
 
     /// The commands that were run, each as one text.
-    pub fn commands(&self) -> Strings<'_>
+    pub fn commands(&self) -> Iter<'_>
         ensures { result ≡ self.now.commands }
     {
         match self.counted {
-            Counted::HiddenAlone => Strings::empty(),
+            Counted::HiddenAlone => Iter::empty(),
             _ => {
                 let bytes = self.bytes.as_slice();
                 let (commands, _behind) = bytes.split_at(self.command_bytes as usize);
-                Strings::new(self.commands, commands)
+                Iter::of_texts(self.commands as usize, commands)
             }
         }
     }
 
     /// Files that the commands read beside the prerequisites which the makefile names.
-    pub fn hidden(&self) -> Strings<'_>
+    pub fn hidden(&self) -> Iter<'_>
         ensures { result ≡ self.now.hidden }
     {
         let (_commands, behind) = self.bytes.as_slice().split_at(self.command_bytes as usize);
         let (hidden, _explicit) = behind.split_at(self.hidden_bytes as usize);
-        Strings::new(self.hidden, hidden)
+        Iter::of_texts(self.hidden as usize, hidden)
     }
 
     /// The prerequisites that the makefile named, in order; None where they aren't known.
-    pub fn explicit(&self) -> Option<Strings<'_>>
+    pub fn explicit(&self) -> Option<Iter<'_>>
         ensures { explicit_from result ≡ self.now.explicit }
     {
         match self.counted {
@@ -209,7 +205,7 @@ impl PackedEntry {
                     .as_slice()
                     .split_at(self.command_bytes as usize);
                 let (_hidden, explicit) = behind.split_at(self.hidden_bytes as usize);
-                Some(Strings::new(self.explicit, explicit))
+                Some(Iter::of_texts(self.explicit as usize, explicit))
             }
         }
     }
@@ -225,11 +221,11 @@ impl PackedEntry {
     }
 
     /// The explicit names in order, none where they aren't known.
-    pub fn names(&self) -> Strings<'_>
+    pub fn names(&self) -> Iter<'_>
         ensures { result ≡ names_known self.now.explicit }
     {
         match self.explicit() {
-            None => Strings::empty(),
+            None => Iter::empty(),
             Some(names) => names,
         }
     }
@@ -295,30 +291,4 @@ fn joined(alloc: Global, first: &[u8], second: &[u8], third: &[u8]) -> Result<Ve
     whole.extend_from_slice(second)?;
     whole.extend_from_slice(third)?;
     Ok(whole)
-}
-
-/// How many strings there are, and a text in which they lie.
-fn texts_of(alloc: Global, items: Iter<'_>) -> Result<(u32, Vec<u8>), AllocError>
-    ensures lie { IfOk result (λ x. AreTexts x.0 x.1.items) }
-    ensures same { IfOk result (λ x. texts x.0 x.1.items ≡ items.entry) }
-{
-    let Ok(count) = u32::try_from(items.len()) else {
-        return Err(AllocError);
-    };
-    let mut text = Vec::new(alloc);
-    for item in items {
-        push_text(&mut text, item)?;
-    }
-    Ok((count, text))
-}
-
-/// Adds the string behind its length. There is no memory for one of 2^32 bytes or more.
-fn push_text(text: &mut Vec<u8>, string: &[u8]) -> Result<(), AllocError>
-    ensures { OnOk result ((front : List ℕ) × (length front ≡ 4) × (from_le_bytes w32 front ≡ length string.now) × (text.new.items ≡ text.old.items ++ (front ++ string.now))) }
-{
-    let Ok(len) = u32::try_from(string.len()) else {
-        return Err(AllocError);
-    };
-    text.extend_from_slice(&len.to_le_bytes())?;
-    text.extend_from_slice(string)
 }

@@ -2,6 +2,7 @@
 
 ghost use Rattle.std.specs.Prelude.{◌≡◌, IfOk};
 ghost use Rattle.st_records.specs.declared.record.Record.TheVariants as records;
+ghost use Rattle.st_records.specs.Packed.{explicit_from};
 ghost use Rattle.st_records.specs.Parts.{names_known, target_of, commands_of, hidden_of, explicit_of};
 
 use byte_strings::{ByteString, ByteStrings, Iter};
@@ -32,6 +33,16 @@ impl Explicit {
         match self {
             Explicit::Unknown => Iter::empty(),
             Explicit::Known(names) => names.iter(),
+        }
+    }
+
+    /// The names in order; None where they are unknown.
+    pub(crate) fn known(&self) -> Option<Iter<'_>>
+        ensures { explicit_from result ≡ self.now }
+    {
+        match self {
+            Explicit::Unknown => None,
+            Explicit::Known(names) => Some(names.iter()),
         }
     }
 

@@ -8,7 +8,6 @@ ghost use Rattle.st_records.specs.Event.{record_from};
 ghost use Rattle.st_state.specs.State.{by_name, apply_record, known_hidden, unfinished};
 
 use crate::state::Entries;
-use byte_strings::ByteString;
 use name_keys::Name;
 use st_records::{Event, PackedEntry, PackedRecord, Phase};
 use st_unfinished::leave_unfinished;
@@ -27,7 +26,7 @@ pub(crate) fn take_in(
     ensures room { spare entries.old ≤ spare entries.new + 1 }
 {
     let (target, event) = event.into_parts();
-    take_event(alloc, entries, name_of(target), event)
+    take_event(alloc, entries, Name::new(target), event)
 }
 
 fn take_event(
@@ -48,12 +47,6 @@ fn take_event(
         Event::Failed(status) => set_unfinished(alloc, entries, name, Phase::Failed(status)),
         Event::Kept(entry) => set_entry(entries, name, entry),
     }
-}
-
-fn name_of(target: ByteString) -> Name
-    ensures { result ≡ target }
-{
-    Name::new(target.into_vec())
 }
 
 fn set_entry(entries: &mut Entries, name: Name, entry: PackedEntry) -> Result<(), AllocError>

@@ -1,10 +1,11 @@
 //! States as text: each entry in byte order of the names, written as a record of `notation`, with a `;` behind it.
+use byte_strings::Iter;
 use row_files::bytes;
-use st_records::{PackedEntry, Phase, Strings};
+use st_records::{PackedEntry, Phase};
 use st_state::State;
 use std::alloc::{AllocError, Global};
 
-fn say_marked(said: &mut String, mark: &str, items: Strings<'_>) -> Result<(), AllocError> {
+fn say_marked(said: &mut String, mark: &str, items: Iter<'_>) -> Result<(), AllocError> {
     for item in items {
         said.push_str(mark)?;
         bytes::say(said, item)?;
@@ -13,7 +14,7 @@ fn say_marked(said: &mut String, mark: &str, items: Strings<'_>) -> Result<(), A
 }
 
 /// What stands for explicit names that are known to be none.
-fn no_names(explicit: Option<Strings<'_>>) -> &'static str {
+fn no_names(explicit: Option<Iter<'_>>) -> &'static str {
     match explicit {
         Some(names) => { if names.len() == 0 { " :" } else { "" } }
         None => "",

@@ -7,6 +7,7 @@ use mk_profile::Profile;
 use mk_reader::Statement;
 use mk_rules::{Tree, TreeFault};
 use std::alloc::{AllocError, Global};
+use std::rc::Rc;
 
 /// A file's name, its time and its text.
 pub type File = (&'static str, i128, &'static str);
@@ -66,10 +67,10 @@ impl Includes for Folder {
         × ((file : List ℕ) (line : ℕ) (command : List ℕ) → world.outputs file line command ≡ [])
         × ((folder : List ℕ) → world.folders folder ≡ None) };
 
-    fn read(&mut self, alloc: Global, name: &[u8]) -> Result<Option<Vec<u8>>, AllocError> {
+    fn read(&mut self, alloc: Global, name: &[u8]) -> Result<Option<Rc<Vec<u8>>>, AllocError> {
         self.reads = self.reads.saturating_add(1);
         match text_of(self.files, name) {
-            Some(text) => Ok(Some(Vec::from_slice(alloc, text)?)),
+            Some(text) => Ok(Some(Rc::new(alloc, Vec::from_slice(alloc, text)?)?)),
             None => Ok(None),
         }
     }

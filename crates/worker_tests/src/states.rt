@@ -1,11 +1,11 @@
 //! Stores, and their states as texts.
 
 use bd_flusher::Site;
-use byte_strings::ByteString;
+use byte_strings::{ByteString, Iter};
 use st_disk::Disk;
 use st_file::OpenFault;
 use st_memory::MemDisk;
-use st_records::{HashKey, Phase, Strings};
+use st_records::{HashKey, Phase};
 use st_recovery::{Store, open};
 use st_state::State;
 use std::alloc::{AllocError, Global};
@@ -48,7 +48,7 @@ fn push_lines(
     alloc: Global,
     text: &mut String,
     sign: char,
-    strings: Strings<'_>,
+    strings: Iter<'_>,
 ) -> Result<(), AllocError> {
     for string in strings {
         let string = ByteString::from_slice(alloc, string)?;

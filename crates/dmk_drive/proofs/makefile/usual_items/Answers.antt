@@ -1,4 +1,4 @@
-use Rattle.std.proofs.Common.{ℕ, ℤ, List, [], Option}
+use Rattle.std.proofs.Common.{ℕ, ℤ, List, [], Option, ap, ◌∙◌}
 use Rattle.mk_macros.specs.Ranks.{defined_by}
 use Rattle.dmk_drive.specs.Faults.{IsOwnFault}
 use Rattle.dmk_drive.proofs.MakefileLemmas.{read_items, read_refused, handed_on}
@@ -7,12 +7,12 @@ use Rattle.dmk_drive.proofs.makefile.usual_items.Goals as goal
 
 pub returns-in-Ok-clause-items : goal.returns-in-Ok-clause-items
 returns-in-Ok-clause-items g c = λ world times text now.
-    read_items world times (defined_by c.args.macros.now) _ _ _ _ c.as_slice-file.ensures c.as_slice.ensures.value
+    read_items world times (defined_by c.args.macros.now) _ _ _ _ c.as_slice-file.ensures (c.as_slice.ensures.value ∙ ap (λ v. v.items) c.deref.ensures)
     (c.in_ok-makefile.ensures.makefile world times (c.read_makefile.ensures.grows world text) now) _ (c.in-Ok.ensures.items world text)
 
 pub returns-clause-fault : goal.returns-clause-fault
 returns-clause-fault g c = λ world times text now.
-    read_refused world times (defined_by c.args.macros.now) _ _ _ _ c.as_slice-file.ensures c.as_slice.ensures.value
+    read_refused world times (defined_by c.args.macros.now) _ _ _ _ c.as_slice-file.ensures (c.as_slice.ensures.value ∙ ap (λ v. v.items) c.deref.ensures)
     (c.in_ok-makefile.ensures.makefile world times (c.read_makefile.ensures.grows world text) now) c.in-Err.fault (c.in-Err.ensures.items world text)
 
 pub returns-in_err-makefile-clause-fault : goal.returns-in_err-makefile-clause-fault

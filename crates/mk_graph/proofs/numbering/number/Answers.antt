@@ -72,7 +72,7 @@ returns-in_err-take_in-in-Ok-clause-fault g c =
     let names' = c.prerequisites.new.names in
     let rows = c.loop-alloc.numbered.rows in
     let goals = c.args.goals.now in
-    let found = map (name_at names') c.in-Ok.found.prerequisites.items in
+    let found = map (name_at names') (g.R.Dependencies.row c.prerequisites.new.notes) in
     let next : length rows < length names = let t = c.loop-alloc-test.true in omega arith in
     let k : c.len-number.result ≡ length rows = omega arith in
     let told = limit_fault_stands (g.R.Dependencies.allows c.prerequisites.new.self) (g.R.Dependencies.refuses c.prerequisites.new.self) goals c.args.limit names' c.in_err-take_in-in-Ok.field-0.0 c.in_err-take_in-in-Ok.ensures.fault
@@ -104,14 +104,14 @@ loop-alloc-preserved g c =
     let names' = c.take_in.new.self.names in
     let rows = c.loop-alloc.numbered.rows in
     let goals = c.args.goals.now in
-    let row = c.in-Ok.found.prerequisites.items in
+    let row = g.R.Dependencies.row c.prerequisites.new.notes in
     let found = map (name_at c.prerequisites.new.names) row in
     let told = c.in_ok-take_in-in-Ok.ensures in
     let same : names' ≡ c.prerequisites.new.names = told.names in
     let is : names' ≡ all_added names found = same ∙ c.in-Ok.ensures.names in
     let new_below : list_all (λ n. nat_lt n (length names')) row ≡ true = ap (λ l. list_all (λ n. nat_lt n (length l)) row) same ∙ c.in-Ok.ensures.numbers in
     let here : map (name_at names') row ≡ found = ap (λ l. map (name_at l) row) same in
-    let longer = told.rows in
+    let longer = told.rows ∙ ap (λ r. rows ++ r ∷ []) c.row_in.ensures in
     let next : length rows < length names = let t = c.loop-alloc-test.true in omega arith in
     let k : c.len-number.result ≡ length rows = omega arith in
     let at : name_at names c.len-number.result ≡ name_at names (length rows) = ap (name_at names) k in
@@ -137,13 +137,13 @@ loop-alloc-preserved g c =
           subst (λ n. has_name (take n names') other ≡ true) (sym one_more)
           (asked_more names names' (length rows) other grown next (⊎_elim (λ earlier. inl (before.asked other earlier)) (λ e. inr (e ∙ at)) (c.in-Ok.ensures.asks other asked)));
       nodes =
-          let more = ap length told.node ∙ length-append c.loop-alloc.numbered.nodes.items (c.in-Ok.found.node ∷ []) in
+          let more = ap length told.node ∙ length-append c.loop-alloc.numbered.nodes.items (c.in-Ok.node ∷ []) in
           let as_many = before.nodes in omega (arith, more, as_many, one_more);
       described = λ n node there.
           let as_many = before.nodes in
-          described_more (g.R.Dependencies.describes c.loop-alloc.source) (g.R.Dependencies.describes c.prerequisites.new.self) names names' c.loop-alloc.numbered.nodes.items c.in-Ok.found.node
+          described_more (g.R.Dependencies.describes c.loop-alloc.source) (g.R.Dependencies.describes c.prerequisites.new.self) names names' c.loop-alloc.numbered.nodes.items c.in-Ok.node
           c.in-Ok.ensures.kept grown (omega (arith, as_many, next)) before.described
-          (subst (λ name. g.R.Dependencies.describes c.prerequisites.new.self name c.in-Ok.found.node) (at ∙ ap (name_at names) (sym as_many)) c.in-Ok.ensures.node)
+          (subst (λ name. g.R.Dependencies.describes c.prerequisites.new.self name c.in-Ok.node) (at ∙ ap (name_at names) (sym as_many)) c.in-Ok.ensures.node)
           n node (ap (λ l. slice_get l n) (sym told.node) ∙ there);
       noted = subst (λ l. g.R.Dependencies.fits c.prerequisites.new.self l c.prerequisites.new.notes) (sym same) c.in-Ok.ensures.noted;
       follows = g.met.R.Dependencies.through c.args.source.now c.loop-alloc.source c.prerequisites.new.self true before.follows c.in-Ok.ensures.follows;

@@ -1,8 +1,7 @@
 use Rattle.std.proofs.Common.{◌≡◌, ℕ, ◌+◌, ◌<◌, ◌≤◌, List, length, get_or, take, slice_index, nat_lt, arith, rules}
 use Rattle.std.proofs.lemmas.Grind.{common_steps}
-use Rattle.std.specs.Ordering.{nat_cmp}
-use Rattle.std.specs.BTreeSet.{contains}
 use Rattle.mk_graph.specs.Edges.{times}
+use Rattle.mk_graph.specs.Ready.{is_in}
 use Rattle.mk_graph.proofs.RowLemmas.{times_room, below_from_positive}
 use Rattle.mk_graph.proofs.PlanLemmas.{counted_more, noted_more}
 use Rattle.mk_graph.proofs.planning.count_down.Goals as goal
@@ -38,10 +37,10 @@ loop-user-preserved c =
     record {
       counted = counted_more us ms c.args.missing.now i c.loop-user-test.true one place c.loop-user.invariant.counted;
       noted = noted_more us ms c.args.missing.now i c.loop-user-test.true one place (λ q. nat_lt q c.args.from)
-          (contains nat_cmp c.args.ready.now) (contains nat_cmp c.loop-user.ready) (contains nat_cmp c.if-lacks-eq0.ready)
+          (is_in c.args.ready.now) (is_in c.loop-user.ready) (is_in c.if-lacks-eq0.ready)
           c.loop-user.invariant.noted
           (λ q. elim c.if-lacks-eq0.branch [
-            | then-lacks-eq0+then-node-from+in_ok-insert w ↦ grind (arith, common_steps, w.in_ok-insert.ensures.updates.0 q)
+            | then-lacks-eq0+then-node-from+in_ok-insert w ↦ grind (arith, common_steps, w.in_ok-insert.ensures q)
             | else-lacks-eq0 w ↦ elim w.else-lacks-eq0.branch [
               | else-lacks-eq0-via-then-lacks-eq0+else-node-from w' ↦ grind (arith, common_steps)
               | else-lacks-eq0-via-else-lacks-eq0 w' ↦ grind (arith, common_steps)

@@ -1,12 +1,8 @@
 use Rattle.std.proofs.Common.{◌≡◌, ℕ, ◌+◌, true, false, not, ◌&&◌, List, [], ◌∷◌, length, slice_index, nat_eq, nat_lt, sym, ap, ◌∙◌, subst, arith, length-append, append-nil, le-leb}
 use Rattle.std.proofs.lemmas.List.{with_items_is, length-map}
-use Rattle.std.specs.List.{list_any}
-use Rattle.std.specs.Ordering.{nat_cmp}
-use Rattle.std.specs.BTreeMap.{is_at}
-use Rattle.std.specs.BTreeSet.{contains}
 use Rattle.mk_graph.specs.Edges.{row, times}
 use Rattle.mk_graph.specs.Plan.{IsPlan}
-use Rattle.mk_graph.specs.Ready.{are_ready}
+use Rattle.mk_graph.specs.Ready.{is_in, are_ready}
 use Rattle.mk_graph.proofs.PlanLemmas.{Passes, Passes-start, Passes-more, room, node_below, room_for_one}
 use Rattle.mk_graph.proofs.ReadyLemmas.{only_open, none_below, ready_counted, counted_below}
 use Rattle.mk_graph.proofs.planning.plan_by_users.Goals as goal
@@ -15,8 +11,8 @@ pub loop-node-init : goal.loop-node-init
 loop-node-init c =
     let g = c.args.edges.now in
     let ms = c.in_ok-missing.missing.items in
-    let ready = c.new-ready.result in
-    let none : (q : ℕ) → contains nat_cmp ready q ≡ false = λ q. ap (list_any (λ k. is_at (nat_cmp q) k)) c.new-ready.ensures.empty in
+    let ready = is_in c.new-ready.result in
+    let none : (q : ℕ) → ready q ≡ false = c.new-ready.ensures in
     record {
       passes = subst (λ o. Passes g o ms (are_ready ready 0 ms)) (sym c.in_ok-order.ensures.items)
           (Passes-start g ms (are_ready ready 0 ms) c.in_ok-missing.ensures
@@ -31,8 +27,8 @@ count_down-requires c = λ q.
     let n = c.in-Some.node in
     let o = c.loop-node.order.items in
     let ms = c.loop-node.missing.items in
-    let ready = are_ready c.loop-node.ready c.loop-node.from ms in
-    let member : ready n ≡ true = ap (λ l. are_ready c.loop-node.ready c.loop-node.from l n) (sym c.deref.ensures.value) ∙ c.in-Some.ensures.some in
+    let ready = are_ready (is_in c.loop-node.ready) c.loop-node.from ms in
+    let member : ready n ≡ true = ap (λ l. are_ready (is_in c.loop-node.ready) c.loop-node.from l n) (sym c.deref.ensures.value) ∙ c.in-Some.ensures.some in
     let r = room g o ms ready n c.loop-node.invariant.passes member q in
     let below = node_below g o ms ready n c.loop-node.invariant.passes member in
     let us : times q c.row.result.now ≡ times n (row g q) = ap (times q) c.row.ensures ∙ c.requires.counts q n below in
@@ -45,10 +41,10 @@ loop-node-smaller c =
     let n = c.in-Some.node in
     let o = c.loop-node.order.items in
     let ms = c.loop-node.missing.items in
-    let ready = are_ready c.loop-node.ready c.loop-node.from ms in
-    let member : ready n ≡ true = ap (λ l. are_ready c.loop-node.ready c.loop-node.from l n) (sym c.deref.ensures.value) ∙ c.in-Some.ensures.some in
+    let ready = are_ready (is_in c.loop-node.ready) c.loop-node.from ms in
+    let member : ready n ≡ true = ap (λ l. are_ready (is_in c.loop-node.ready) c.loop-node.from l n) (sym c.deref.ensures.value) ∙ c.in-Some.ensures.some in
     let r = room_for_one g o ms ready n c.loop-node.invariant.passes member in
-    let grown = ap length c.in_ok-push.ensures.items ∙ length-append o (n ∷ []) in
+    let grown = ap length c.in_ok-push.ensures.ok ∙ length-append o (n ∷ []) in
     omega arith
 
 pub loop-node-preserved : goal.loop-node-preserved
@@ -59,9 +55,9 @@ loop-node-preserved c =
     let ms = c.loop-node.missing.items in
     let ms' = c.count_down.new.missing in
     let us = c.row.result.now in
-    let before = c.loop-node.ready in
-    let popped = c.next_ready.new.ready in
-    let after = c.count_down.new.ready in
+    let before = is_in c.loop-node.ready in
+    let popped = is_in c.next_ready.new.ready in
+    let after = is_in c.count_down.new.ready in
     let from = c.next_ready.new.from in
     let ready = are_ready before c.loop-node.from ms in
     let same : c.deref.result.now ≡ ms = c.deref.ensures.value in
@@ -71,10 +67,10 @@ loop-node-preserved c =
     = λ q. c.in_ok-count_down.ensures.missing q ∙ ap (λ l. slice_index l q) c.deref_mut.ensures.value in
     let long : length ms' ≡ length ms = grind arith in
     let P : List ℕ → Type 0 = λ l. Passes g l ms' (are_ready after from ms') in
-    let Q : List ℕ → Type 0 = λ l. Passes g c.push.new.self.items l (are_ready after from l) in
+    let Q : List ℕ → Type 0 = λ l. Passes g c.push.new.items.items l (are_ready after from l) in
     record {
       passes = subst Q (sym (with_items_is c.loop-node.missing ms' (grind arith)))
-          (subst P (sym c.in_ok-push.ensures.items)
+          (subst P (sym c.in_ok-push.ensures.ok)
           (Passes-more g o ms ready n c.loop-node.invariant.passes member
           ms' (are_ready popped from ms) (are_ready after from ms') us
           (λ m lt. ap (λ l. are_ready before c.loop-node.from l m) (sym same) ∙ c.in-Some.ensures.least m lt)
@@ -90,4 +86,4 @@ returns-clause-plan c =
     let kept = c.loop-node.invariant.passes in
     subst (IsPlan c.args.edges.now) (append-nil c.loop-node.order.items)
     (kept.so_far []
-    (λ q. sym (kept.ready_is q) ∙ ap (λ l. are_ready c.loop-node.ready c.loop-node.from l q) (sym c.deref.ensures.value) ∙ c.in_default.ensures.none q))
+    (λ q. sym (kept.ready_is q) ∙ ap (λ l. are_ready (is_in c.loop-node.ready) c.loop-node.from l q) (sym c.deref.ensures.value) ∙ c.in_default.ensures.none q))

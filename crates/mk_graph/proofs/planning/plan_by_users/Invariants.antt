@@ -1,12 +1,12 @@
 use Rattle.std.proofs.Common.{length, ◌-◌}
-use Rattle.mk_graph.specs.Ready.{are_ready, IsBelow}
+use Rattle.mk_graph.specs.Ready.{is_in, are_ready, IsBelow}
 use Rattle.mk_graph.proofs.PlanLemmas.{Passes}
 use Rattle.mk_graph.proofs.planning.plan_by_users.Given as goal
 
 abbrev pub invariant-loop-node : goal.invariant-loop-node
 invariant-loop-node l = record {
-  passes : Passes l.edges l.order.items l.missing.items (are_ready l.ready l.from l.missing.items);
-  below : IsBelow l.ready l.from;
+  passes : Passes l.edges l.order.items l.missing.items (are_ready (is_in l.ready) l.from l.missing.items);
+  below : IsBelow (is_in l.ready) l.from;
 }
 
 abbrev pub decreases-loop-node : goal.decreases-loop-node

@@ -4,7 +4,7 @@ use Rattle.std.specs.List.{list_all}
 use Rattle.mk_graph.specs.Edges.{row, has}
 use Rattle.mk_graph.specs.Waits.{all_of, waits}
 use Rattle.mk_graph.proofs.RowLemmas.{list_all_place}
-use Rattle.mk_graph.proofs.WaitLemmas.{waits-push, all_of-push}
+use Rattle.mk_graph.proofs.WaitLemmas.{waits-push, all_of-push, begin_through}
 use Rattle.mk_graph.proofs.waiting.add_waits.Goals as goal
 
 or_assoc : (a b d : Bool) → ((a || b) || d) ≡ (a || (b || d))
@@ -46,4 +46,5 @@ loop-group-preserved c =
           ∙ or_assoc was waited (has group n && has (all_of seen) m)
           ∙ ap (λ b. was || b) (sym (waits-push seen group n m))
           ∙ ap (λ gs. was || waits gs n m) (sym next);
+      begin = begin_through _ _ _ c.loop-group.invariant.begin c.in_ok-add_to_rows.ensures.begin;
     }

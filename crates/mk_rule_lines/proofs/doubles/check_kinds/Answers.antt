@@ -13,7 +13,7 @@ returns-in-Some-clause-fault c =
     let lines = c.args.lines.now in
     let line = c.line-item.result in
     let target = c.in-Some.target.now in
-    let same = c.in_ok-name.ensures in
+    let same = c.in_ok-name.ensures.ok in
     both_kinds lines c.loop-line.line-index line c.in_ok-name.name c.loop-line-test.true c.line-item.is
     (ap (λ (n : List ℕ). has n (double_targets line)) same ∙ c.in-Some.ensures.0)
     (ap (has_name (all_single_targets lines)) same ∙ ap (λ (ns : List (List ℕ)). has_name ns target) (sym c.in_ok-names.ensures) ∙ c.in-Some.ensures.1)

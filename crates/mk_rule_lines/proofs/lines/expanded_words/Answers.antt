@@ -1,5 +1,4 @@
-use Rattle.std.proofs.Common.{ℕ, List, refl, ap, subst, ◌∙◌}
-use Rattle.byte_strings.specs.Blanks.{words}
+use Rattle.std.proofs.Common.{ℕ, List, refl, subst}
 use Rattle.mk_macros.specs.Expansion.{ExpandsTo, gives}
 use Rattle.mk_macros.specs.Ranks.{defined_by, rule_meanings}
 use Rattle.mk_rule_lines.proofs.lines.expanded_words.Goals as goal
@@ -10,5 +9,5 @@ returns-then-is_fixed-clause-words c =
     record {
       expansion = c.args.text;
       expands = subst (λ (t : List ℕ). ExpandsTo names t (gives t)) c.as_slice.ensures (c.if-is_fixed.ensures refl names);
-      cut = c.new.ensures ∙ ap words c.into_vec.ensures;
+      cut = c.new.ensures;
     }

@@ -16,8 +16,8 @@ loop-item-init c =
       so_far = rw (gives.0, c.in_ok-lines.ensures.items) (so_far_start (defined_by c.args.macros.now) c.args.items.items);
     }
 
-pub loop-item-preserved-in-Definition : goal.loop-item-preserved-in-Definition
-loop-item-preserved-in-Definition c =
+pub loop-item-preserved-in_ok-define-in-Definition : goal.loop-item-preserved-in_ok-define-in-Definition
+loop-item-preserved-in_ok-define-in-Definition c =
     let now = c.loop-item in
     let st = c.in-Some.ensures.steps in
     let at : into_iter_items now.item-iterator ≡ item.Definition c.in-Definition.definition ∷ into_iter_items c.next.new.self =

@@ -14,7 +14,7 @@ use Rattle.mk_rules.specs.Known.{IsKnown}
 use Rattle.mk_rules.specs.Ordering.{IsCycleFault}
 use Rattle.mk_rules.specs.Prerequisites.{Inputs, prerequisites_of}
 use Rattle.mk_rules.specs.declared.graph.Node.{Node}
-use Rattle.mk_rules.specs.Rows.{EachRow, IsHardRow}
+use Rattle.mk_rules.specs.Rows.{EachRow, IsHardRow, IsSoftRow}
 use Rattle.mk_rules.proofs.AssemblyLemmas.{assembled, cycle_fault}
 use Rattle.mk_rules.proofs.RowLaws.{are_hard, row_at}
 use Rattle.mk_rules.proofs.RequiredLemmas.{numbers_named}
@@ -38,7 +38,7 @@ pub returns-in_err-ordered-clause-fault : goal.returns-in_err-ordered-clause-fau
 returns-in_err-ordered-clause-fault c =
     let lines = c.args.lines.now in
     let n = c.args.numbered in
-    let h = c.in_ok-hard.hard in
+    let h = c.in_ok-hard.field-0.fronts in
     let hard = c.in_ok-hard.ensures in
     let f = c.in_err-ordered.field-0.0 in
     let edges : List (List ℕ) = unwrap_or c.in_ok-required.required h in
@@ -46,29 +46,32 @@ returns-in_err-ordered-clause-fault c =
     (λ f. (inputs : Inputs) → (named : List (List ℕ)) → inputs.lines ≡ lines → AreFound inputs (goals_of inputs.lines named) n → IsGraphlessFault inputs named f)
     f (c.from_residual-in_err-ordered.ensures).1
     (λ inputs named are found. cycle_fault inputs named lines are n found c.requires.node_count edges
-    (c.in_ok-required.ensures.required inputs (subst (AreDescribed (IsKnown inputs) n.names) (sym c.deref.ensures.value) found.known) (hard_are inputs named n found c.requires.node_count h hard.count hard.rows)
+    (c.in_ok-required.ensures.required inputs (subst (AreDescribed (IsKnown inputs) n.names) (sym c.deref.ensures.value) found.known) (hard_are inputs named n found c.requires.node_count h hard.hard_count hard.hard)
     (inside inputs named n found c.requires.node_count c.requires.row_count c.requires.closed)) f
-    (subst (λ ns. IsCycleFault edges ns f) c.in_ok-named.ensures.names c.in_err-ordered.ensures.fault))
+    (subst (λ ns. IsCycleFault edges ns f) c.named_nodes-named.ensures.names c.in_err-ordered.ensures.fault))
 
 pub returns-clause-graph : goal.returns-clause-graph
 returns-clause-graph c = λ inputs named are found state entries graph whole.
     let lines = c.args.lines.now in
     let n = c.args.numbered in
-    let h = c.in_ok-hard.hard in
+    let h = c.in_ok-hard.field-0.fronts in
     let hard = c.in_ok-hard.ensures in
     let edges : List (List ℕ) = unwrap_or c.in_ok-required.required h in
     let o = c.in_ok-ordered.ordered in
     let is = c.in_ok-ordered.ensures in
     let same : edges ≡ unwrap_or o.required o.hard = ap (λ x. unwrap_or x h) (sym is.required) ∙ ap (unwrap_or o.required) (sym is.hard) in
     assembled inputs named lines are n found c.requires.node_count o
-    (ap length is.hard ∙ hard.count)
-    (subst (EachRow (IsHardRow n.rows n.nodes.items)) (sym is.hard) hard.rows)
+    (ap length is.hard ∙ hard.hard_count)
+    (subst (EachRow (IsHardRow n.rows n.nodes.items)) (sym is.hard) hard.hard)
     c.requires.taken
     (c.requires.made inputs are found.known)
     (subst (AreRequired inputs n.names) same
-    (c.in_ok-required.ensures.required inputs (subst (AreDescribed (IsKnown inputs) n.names) (sym c.deref.ensures.value) found.known) (hard_are inputs named n found c.requires.node_count h hard.count hard.rows)
+    (c.in_ok-required.ensures.required inputs (subst (AreDescribed (IsKnown inputs) n.names) (sym c.deref.ensures.value) found.known) (hard_are inputs named n found c.requires.node_count h hard.hard_count hard.hard)
     (inside inputs named n found c.requires.node_count c.requires.row_count c.requires.closed)))
     (subst (AreSoft inputs n.names) (sym is.soft) (c.in_ok-soft.ensures.soft inputs are found.rows_are found.known))
     (subst (λ e. AreCounted e o.soft o.counted o.soft_dropped) same (subst (λ s. AreCounted edges s o.counted o.soft_dropped) (sym is.soft) is.counted))
     (subst (λ e. HasCycle e → ⊥) same is.acyclic)
-    is.order c.requires.closed state entries graph c.in_ok-named.named c.in_ok-named.ensures whole
+    is.order
+    (ap length is.soft ∙ c.in_ok-soft.ensures.count)
+    (subst (EachRow (IsSoftRow n.rows n.nodes.items)) (sym is.soft) c.in_ok-soft.ensures.rows)
+    (ap is_closed is.soft ∙ c.in_ok-soft.ensures.closed) state entries graph c.named_nodes-named.result c.named_nodes-named.ensures whole

@@ -1,4 +1,4 @@
-use Rattle.std.proofs.Common.{ℕ, ℤ, List, Option, ◌++◌, ap, subst, ◌∙◌}
+use Rattle.std.proofs.Common.{ℕ, List, ◌++◌, ap, subst, ◌∙◌}
 use Rattle.std.specs.FinMap as map
 use Rattle.mk_rule_lines.specs.Explicit.{explicit_of}
 use Rattle.mk_rule_lines.proofs.LineLemmas.{handed_on}
@@ -8,35 +8,35 @@ use Rattle.mk_rules.specs.Known.{IsKnown, IsLookUpFault}
 use Rattle.mk_rules.specs.LooksLaws.{looks_on}
 use Rattle.mk_rules.specs.Prerequisites.{inputs_of, is_node, hidden_in, prerequisites_of}
 use Rattle.mk_rules.specs.Row.{named}
-use Rattle.mk_rules.specs.Seen.{IsNumberedAs}
-use Rattle.mk_rules.proofs.FinderLemmas.{all_are, known_is, hidden_look}
+use Rattle.mk_rules.specs.Seen.{made_in, IsNumberedAs}
+use Rattle.mk_rules.proofs.FinderLemmas.{on_ok, on_ok_if, all_are, known_is, hidden_look}
 use Rattle.mk_rules.proofs.finder.look_up.Goals as goal
 
 pub numbered-requires : goal.numbered-requires
 numbered-requires g c = record {
-  noted = λ times now. rw c.recorded-entry.ensures.marks (c.requires.noted times (c.in_ok-seen.ensures.looks.narrows times now));
+  noted = λ times now. rw c.entry_of-entry.ensures.marks (c.requires.noted times (c.in_ok-seen.ensures.looks.narrows times now));
   distinct = c.requires.distinct;
 }
 
 pub returns-clause-names : goal.returns-clause-names
-returns-clause-names g c = if_ok c.numbered.result _ _ (λ found is. is.names_are) c.numbered.ensures.row
+returns-clause-names g c = on_ok c.numbered.result _ _ (λ is. is.names_are) c.numbered.ensures.row
 
 pub returns-clause-numbers : goal.returns-clause-numbers
-returns-clause-numbers g c = if_ok c.numbered.result _ _ (λ found is. is.within) c.numbered.ensures.row
+returns-clause-numbers g c = on_ok c.numbered.result _ _ (λ is. is.within) c.numbered.ensures.row
 
 pub returns-clause-prerequisites : goal.returns-clause-prerequisites
 returns-clause-prerequisites g c =
     let rules = c.args.rules.now in
     let name = c.name-name.result.now in
-    if_ok c.numbered.result _ _
-    (λ found are times now.
+    on_ok_if c.numbered.result _ _
+    (λ node are times now.
     let inputs = inputs_of rules.lines.now (map.get rules.state.now) times in
-    let row = named c.numbered.new.names found.prerequisites.items in
+    let row = named c.numbered.new.names c.numbered.new.notes.row in
     let seen = c.in_ok-seen.seen in
     let is = c.in_ok-seen.ensures.seen times (c.numbered.ensures.looks.narrows times now) in
-    all_are inputs name seen is row found.node
-    (subst (λ (h : List (List ℕ)). IsNumberedAs (is_node inputs) seen.node (seen.made ++ explicit_of rules.lines.now name) h seen.order_only row found.node)
-    (ap hidden_in c.recorded-entry.ensures.entry) (are times now name is.lines_are))
+    all_are inputs name seen is row node
+    (subst (λ (h : List (List ℕ)). IsNumberedAs (is_node inputs) seen (made_in seen.ruled.given ++ explicit_of rules.lines.now name) h row node)
+    (ap hidden_in c.entry_of-entry.ensures.entry) (are times now name is.lines_are))
     ∙ ap (prerequisites_of inputs) c.name-name.ensures)
     c.numbered.ensures.prerequisites
 
@@ -45,15 +45,15 @@ returns-clause-node g c =
     let rules = c.args.rules.now in
     let name = c.name-name.result.now in
     if_ok c.numbered.result _ _
-    (λ found are times now.
+    (λ node are times now.
     let inputs = inputs_of rules.lines.now (map.get rules.state.now) times in
-    let row = named c.numbered.new.names found.prerequisites.items in
+    let row = named c.numbered.new.names c.numbered.new.notes.row in
     let seen = c.in_ok-seen.seen in
     let is = c.in_ok-seen.ensures.seen times (c.numbered.ensures.looks.narrows times now) in
-    subst (λ (n : List ℕ). IsKnown inputs n found.node) c.name-name.ensures
-    (known_is inputs name seen is row found.node
-    (subst (λ (h : List (List ℕ)). IsNumberedAs (is_node inputs) seen.node (seen.made ++ explicit_of rules.lines.now name) h seen.order_only row found.node)
-    (ap hidden_in c.recorded-entry.ensures.entry) (are times now name is.lines_are))))
+    subst (λ (n : List ℕ). IsKnown inputs n node) c.name-name.ensures
+    (known_is inputs name seen is row node
+    (subst (λ (h : List (List ℕ)). IsNumberedAs (is_node inputs) seen (made_in seen.ruled.given ++ explicit_of rules.lines.now name) h row node)
+    (ap hidden_in c.entry_of-entry.ensures.entry) (are times now name is.lines_are))))
     c.numbered.ensures.prerequisites
 
 pub returns-clause-looks : goal.returns-clause-looks
@@ -69,7 +69,7 @@ returns-clause-fault g c =
     (λ f meets.
     subst (λ (n : List ℕ). IsLookUpFault rules.targets.now allowed refuses rules.forms.now rules.steps rules.lines.now entries n f) c.name-name.ensures
     (hidden_look rules.targets.now allowed refuses rules.forms.now rules.steps rules.lines.now c.name-name.result.now entries f
-    (subst (λ (h : List (List ℕ)). IsNamesFault refuses h f) (ap hidden_in c.recorded-entry.ensures.entry) meets)))
+    (subst (λ (h : List (List ℕ)). IsNamesFault refuses h f) (ap hidden_in c.entry_of-entry.ensures.entry) meets)))
     c.numbered.ensures.fault
 
 pub returns-in_err-seen-clause-fault : goal.returns-in_err-seen-clause-fault

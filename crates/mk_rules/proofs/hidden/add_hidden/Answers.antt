@@ -1,9 +1,9 @@
-use Rattle.std.proofs.Common.{◌≡◌, true, List, [], ◌∷◌, ℕ, ℤ, Option, sym, ap, subst}
+use Rattle.std.proofs.Common.{◌≡◌, true, List, [], ℕ, sym, ap, subst}
 use Rattle.std.specs.FinMap as map
 use Rattle.mk_graph.specs.Numbering.{added}
 use Rattle.mk_rule_lines.specs.Rules.{has}
 use Rattle.mk_rule_lines.proofs.LineLemmas.{handed_on}
-use Rattle.mk_rules.specs.Hidden.{are_nodes, IsNamesFault}
+use Rattle.mk_rules.specs.Hidden.{IsNamesFault}
 use Rattle.mk_rules.specs.LooksLaws.{looks_none, looks_on}
 use Rattle.mk_rules.specs.Prerequisites.{inputs_of, is_node}
 use Rattle.mk_rules.specs.Row.{named}
@@ -32,8 +32,8 @@ loop-name-preserved g c =
         added judged name,
         λ times now.
             let p = is_node (inputs_of rules.lines.now (map.get rules.state.now) times) in
-            taken_step p hard c.args.hidden.now name left judged (named c.loop-name.names c.loop-name.mentioned.nodes) c.loop-name.mentioned.gone (are_nodes c.loop-name.mentioned.hidden.items)
-            (subst (λ (ls : List (List ℕ)). TakenSoFar p hard c.args.hidden.now ls judged (named c.loop-name.names c.loop-name.mentioned.nodes) c.loop-name.mentioned.gone (are_nodes c.loop-name.mentioned.hidden.items))
+            taken_step p hard c.args.hidden.now name left judged (named c.loop-name.names c.loop-name.mentioned.nodes) c.loop-name.mentioned.gone c.loop-name.mentioned.hidden
+            (subst (λ (ls : List (List ℕ)). TakenSoFar p hard c.args.hidden.now ls judged (named c.loop-name.names c.loop-name.mentioned.nodes) c.loop-name.mentioned.gone c.loop-name.mentioned.hidden)
             c.in-Some.ensures.steps (inv.taken.1 times (done.looks.narrows times now)))
             _ _ _ (done.taken times now),
       );
@@ -66,8 +66,8 @@ loop-name-init g c =
         hard,
         λ times now.
             let p = is_node (inputs_of rules.lines.now (map.get rules.state.now) times) in
-            subst (λ (ls : List (List ℕ)). TakenSoFar p hard c.args.hidden.now ls hard hard m.gone (are_nodes m.hidden.items)) start
-            (taken_start p hard c.args.hidden.now m.gone (are_nodes m.hidden.items) c.requires.gone (ap are_nodes c.requires.none)),
+            subst (λ (ls : List (List ℕ)). TakenSoFar p hard c.args.hidden.now ls hard hard m.gone m.hidden) start
+            (taken_start p hard c.args.hidden.now m.gone m.hidden c.requires.gone c.requires.none),
       );
       within = λ n is. subst (λ (ls : List (List ℕ)). has n ls ≡ true) (sym start) is;
       looks = looks_none _ _ _;
@@ -83,5 +83,5 @@ returns-clause-hidden g c =
     let taken = c.loop-name.invariant.taken in
     λ times now.
     let p = is_node (inputs_of rules.lines.now (map.get rules.state.now) times) in
-    taken_end p hard c.args.hidden.now taken.0 nodes m.gone (are_nodes m.hidden.items)
-    (subst (λ (ls : List (List ℕ)). TakenSoFar p hard c.args.hidden.now ls taken.0 nodes m.gone (are_nodes m.hidden.items)) ended (taken.1 times now))
+    taken_end p hard c.args.hidden.now taken.0 nodes m.gone m.hidden
+    (subst (λ (ls : List (List ℕ)). TakenSoFar p hard c.args.hidden.now ls taken.0 nodes m.gone m.hidden) ended (taken.1 times now))

@@ -2,7 +2,6 @@ use Rattle.std.proofs.Common.{◌≡◌, true, List, ℕ, ℤ, Option}
 use Rattle.std.specs.FinMap as map
 use Rattle.mk_rules.specs.Prerequisites.{inputs_of, is_node}
 use Rattle.mk_rule_lines.specs.Rules.{has}
-use Rattle.mk_rules.specs.Hidden.{are_nodes}
 use Rattle.mk_rules.specs.Looks.{Looks}
 use Rattle.mk_rules.specs.NodeNotes.{AreKnownNodes}
 use Rattle.mk_rules.specs.Row.{named, IsRow}
@@ -16,7 +15,7 @@ invariant-loop-name g l = record {
   row : (start : List (List ℕ)) → IsRow start l.fn.names l.fn.mentioned.nodes → IsRow start l.names l.mentioned.nodes;
   taken : (judged : List (List ℕ)) × ((times : List ℕ → Option ℤ) → g.T.Tree.allows l.tree times →
       TakenSoFar (is_node (inputs_of l.rules.lines.now (map.get l.rules.state.now) times)) (named l.fn.names l.fn.mentioned.nodes) l.hidden l.name-iterator
-      judged (named l.names l.mentioned.nodes) l.mentioned.gone (are_nodes l.mentioned.hidden.items));
+      judged (named l.names l.mentioned.nodes) l.mentioned.gone l.mentioned.hidden);
   within : (n : List ℕ) → has n l.name-iterator ≡ true → has n l.hidden ≡ true;
   looks : Looks (g.T.Tree.allows l.fn.tree) (g.T.Tree.allows l.tree) (g.T.Tree.refuses l.fn.tree) (g.T.Tree.refuses l.tree) (g.T.Tree.asked l.fn.tree) (g.T.Tree.asked l.tree);
 }

@@ -1,14 +1,10 @@
-use Rattle.std.proofs.Common.{◌≡◌, ◌<◌, ℕ, ℤ, List, Option, length, true, sym, ap, subst, ◌∙◌}
+use Rattle.std.proofs.Common.{◌≡◌, ◌<◌, ℕ, Option, length, true, sym, ap, subst, ◌∙◌}
 use Rattle.std.specs.Prelude.{IfSome}
 use Rattle.std.specs.FinMap as map
 use Rattle.mk_graph.specs.Numbering.{name_at}
-use Rattle.mk_rule_lines.proofs.LineLemmas.{handed_on}
 use Rattle.mk_rules.specs.Prerequisites.{inputs_of, is_node}
-use Rattle.mk_rules.specs.Hidden.{IsNamesFault}
-use Rattle.mk_rules.specs.LooksLaws.{looks_none}
 use Rattle.mk_rules.specs.NodeNotes.{is_marked, AreKnownNodes}
 use Rattle.mk_rules.proofs.RowLemmas.{added_known}
-use Rattle.mk_rules.proofs.HiddenLemmas.{names_fault, text_where_refused}
 use Rattle.mk_rules.proofs.hidden.node_number.Goals as goal
 
 pub returns-in-Some-clause-number : goal.returns-in-Some-clause-number

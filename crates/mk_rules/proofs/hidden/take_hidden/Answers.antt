@@ -1,4 +1,3 @@
-use Rattle.std.proofs.Common.{ℕ, ℤ, List, Option}
 use Rattle.std.specs.Prelude.{is_some}
 use Rattle.std.specs.FinMap as map
 use Rattle.mk_rules.specs.Prerequisites.{inputs_of, is_node}

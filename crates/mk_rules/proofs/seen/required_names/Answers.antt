@@ -1,4 +1,4 @@
-use Rattle.std.proofs.Common.{◌≡◌, ◌∙◌, List, ℕ, [], ◌++◌, sym, ap}
+use Rattle.std.proofs.Common.{◌∙◌, List, ℕ, [], sym, ap}
 use Rattle.mk_graph.specs.Numbering.{all_added}
 use Rattle.mk_graph.proofs.NameLemmas.{all_added-append}
 use Rattle.mk_rule_lines.specs.Explicit.{explicit_of}

@@ -3,6 +3,7 @@ use Rattle.std.specs.List.{list_any}
 use Rattle.std.proofs.lemmas.Result.{on_ok_weaker}
 use Rattle.mk_graph.specs.Edges.{row, has as has_number}
 use Rattle.mk_graph.specs.Numbering.{name_at, has_name}
+use Rattle.mk_graph.proofs.WaitLemmas.{begin_through}
 use Rattle.mk_rule_lines.specs.Explicit.{words_by}
 use Rattle.mk_rule_lines.specs.Rules.{targets_by}
 use Rattle.mk_rules.specs.Waits.{groups_of, orders}
@@ -38,3 +39,6 @@ returns-clause-members c =
     ∙ ap (λ ws. was n m || orders (groups_of ws) (name_at names m) (name_at names n)) c.in_ok-ordinary.ensures)
     ∙ or_parted (was n m) (first n m) (second n m)
     ∙ ap (λ b. was n m || (b && (first n m || second n m))) (sym some)) c.add_word_waits-2.ensures.members
+
+pub returns-clause-begin : goal.returns-clause-begin
+returns-clause-begin c = on_ok_weaker c.add_word_waits-2.result (begin_through _ _ _ c.in_ok-add_word_waits.ensures.begin) c.add_word_waits-2.ensures.begin

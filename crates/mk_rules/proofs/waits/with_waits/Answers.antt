@@ -1,9 +1,10 @@
-use Rattle.std.proofs.Common.{◌≡◌, ◌<◌, ◌||◌, true, length, map, sym, ap, ◌∙◌, Vec, Global, ℕ, List}
+use Rattle.std.proofs.Common.{◌≡◌, ◌<◌, ◌||◌, true, length, map, sym, ap, subst, ◌∙◌, Vec, Global, ℕ, List}
 use Rattle.std.proofs.lemmas.List.{length-map}
 use Rattle.std.proofs.lemmas.Result.{IfOk-weaker}
 use Rattle.std.specs.List.{list_any}
 use Rattle.mk_graph.specs.Edges.{row, is_closed, has as has_number}
 use Rattle.mk_graph.specs.Numbering.{name_at}
+use Rattle.mk_graph.specs.Waits.{BeginWith}
 use Rattle.mk_rules.specs.Waits.{line_orders}
 use Rattle.mk_rules.proofs.WaitLemmas.{no_line_orders, or_none}
 use Rattle.mk_rules.proofs.waits.with_waits.Goals as goal
@@ -46,3 +47,11 @@ pub returns-clause-closed : goal.returns-clause-closed
 returns-clause-closed c =
     IfOk-weaker c.of_rows.result (λ e. e ≡ numbers_of c.deref.result.now) (λ more. is_closed c.args.edges ≡ true → is_closed more ≡ true)
     (λ more is was. ap is_closed (is ∙ ap numbers_of c.deref.ensures.value) ∙ c.in_ok-add_all_waits.ensures.closed (ap is_closed c.in_ok-rows.ensures ∙ was)) c.of_rows.ensures
+
+pub returns-clause-begin : goal.returns-clause-begin
+returns-clause-begin c =
+    let rows = c.add_all_waits.new.rows.items in
+    IfOk-weaker c.of_rows.result (λ e. e ≡ numbers_of c.deref.result.now) (BeginWith c.args.edges)
+    (λ more is.
+    subst (BeginWith c.args.edges) (sym (is ∙ ap numbers_of c.deref.ensures.value))
+    (subst (λ (g : List (List ℕ)). BeginWith g (numbers_of rows)) c.in_ok-rows.ensures c.in_ok-add_all_waits.ensures.begin)) c.of_rows.ensures

@@ -10,8 +10,8 @@ overflow_sub-bytes c =
     let read = are_read c.args.count c.args.bytes.now (has.0, c.in_ok-found.behind.now) has.1 in
     omega (arith, read.1)
 
-pub new-requires : goal.new-requires
-new-requires c =
+pub of_texts-requires : goal.of_texts-requires
+of_texts-requires c =
     let has = c.in_ok-found.ensures.items in
     let read = are_read c.args.count c.args.bytes.now (has.0, c.in_ok-found.behind.now) has.1 in
     let cut : length c.args.bytes.now - length c.in_ok-found.behind.now ≡ read.0 = omega (arith, read.1) in
@@ -24,9 +24,9 @@ returns-clause-gives c =
     let read = are_read c.args.count c.args.bytes.now (has.0, c.in_ok-found.behind.now) has.1 in
     let cut : length c.args.bytes.now - length c.in_ok-found.behind.now ≡ read.0 = omega (arith, read.1) in
     let front : c.split_at.result.0.now ≡ take read.0 c.args.bytes.now = c.split_at.ensures.front ∙ ap (λ (n : ℕ). take n c.args.bytes.now) cut in
-    let items : has.0 ≡ c.new.result = read.3 ∙ ap (texts c.args.count) (sym front) ∙ sym c.new.ensures in
+    let items : has.0 ≡ c.of_texts.result = read.3 ∙ ap (texts c.args.count) (sym front) ∙ sym c.of_texts.ensures in
     let rest : c.in_ok-found.behind.now ≡ c.split_at.result.1.now = read.4 ∙ ap (λ (n : ℕ). drop n c.args.bytes.now) (sym cut) ∙ sym c.split_at.ensures.back in
-    has.1 ∙ ap (λ (x : List (List ℕ)). Ok (x, c.in_ok-found.behind.now)) items ∙ ap (λ (y : List ℕ). Ok (c.new.result, y)) rest
+    has.1 ∙ ap (λ (x : List (List ℕ)). Ok (x, c.in_ok-found.behind.now)) items ∙ ap (λ (y : List ℕ). Ok (c.of_texts.result, y)) rest
 
 pub returns-clause-clean : goal.returns-clause-clean
 returns-clause-clean c =
@@ -34,5 +34,5 @@ returns-clause-clean c =
     let read = are_read c.args.count c.args.bytes.now (has.0, c.in_ok-found.behind.now) has.1 in
     let cut : length c.args.bytes.now - length c.in_ok-found.behind.now ≡ read.0 = omega (arith, read.1) in
     let front : c.split_at.result.0.now ≡ take read.0 c.args.bytes.now = c.split_at.ensures.front ∙ ap (λ (n : ℕ). take n c.args.bytes.now) cut in
-    let items : has.0 ≡ c.new.result = read.3 ∙ ap (texts c.args.count) (sym front) ∙ sym c.new.ensures in
+    let items : has.0 ≡ c.of_texts.result = read.3 ∙ ap (texts c.args.count) (sym front) ∙ sym c.of_texts.ensures in
     λ found. (let before = has.2 found in (before.0, subst (AreClean c.args.version) items before.1))

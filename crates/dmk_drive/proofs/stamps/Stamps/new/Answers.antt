@@ -5,5 +5,5 @@ use Rattle.dmk_drive.proofs.stamps.Stamps.new.Goals as goal
 pub invariant_of-result : goal.invariant_of-result
 invariant_of-result c = record {
   once = rw c.new.ensures distinct_none;
-  paired = omega (arith, ap length c.new.ensures, ap length c.new-2.ensures.items);
+  within = omega (arith, ap length c.new-2.ensures.items);
 }

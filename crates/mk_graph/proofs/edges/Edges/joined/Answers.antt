@@ -16,14 +16,14 @@ loop-node-preserved c =
     let numbers = c.loop-node.numbers.items in
     let ends = c.loop-node.ends.items in
     let both : List ℕ = row first node ++ row second node in
-    let longer : c.extend_from_slice-in-loop-node.new.self.items ≡ numbers ++ both
-    = c.in_ok-extend_from_slice-2.ensures.items ∙ ap (λ l. l ++ c.row-in-loop-node.result.now) c.in_ok-extend_from_slice.ensures.items
+    let longer : c.append-in-loop-node.new.numbers.items ≡ numbers ++ both
+    = c.in_ok-append-2.ensures.ok ∙ ap (λ l. l ++ c.row-in-loop-node.result.now) c.in_ok-append.ensures.ok
     ∙ append_assoc numbers c.row.result.now c.row-in-loop-node.result.now ∙ ap (λ l. numbers ++ (l ++ c.row-in-loop-node.result.now)) c.row.ensures ∙ ap (λ l. numbers ++ (row first node ++ l)) c.row-in-loop-node.ensures in
-    let size : c.in_ok-end.end ≡ length (numbers ++ both) = omega (arith, c.in_ok-end.ensures, ap length longer) in
+    let size : c.in_ok-short.field-0 ≡ length (numbers ++ both) = omega (arith, c.in_ok-short.ensures, ap length longer) in
     record {
-      ends = rw (longer, c.in_ok-push.ensures.items) (AreEnds-push numbers both c.in_ok-end.end 0 ends c.loop-node.invariant.ends size);
-      rows = rw (longer, c.in_ok-push.ensures.items)
-          (pieces-push numbers both c.in_ok-end.end 0 ends c.loop-node.invariant.ends size
+      ends = rw (longer, c.in_ok-push.ensures.ok) (AreEnds-push numbers both c.in_ok-short.field-0 0 ends c.loop-node.invariant.ends size);
+      rows = rw (longer, c.in_ok-push.ensures.ok)
+          (pieces-push numbers both c.in_ok-short.field-0 0 ends c.loop-node.invariant.ends size
           ∙ ap (λ l. l ++ both ∷ []) c.loop-node.invariant.rows
           ∙ ap (λ r. take node (joined first second) ++ r ∷ []) (sym (row-joined first second c.requires node))
           ∙ sym (take_more (joined first second) node [] (let l = length-joined first second in omega arith)));

@@ -33,7 +33,7 @@ loop-end-preserved c =
     let ends : List ℕ = c.as_slice-ends.result.now in
     let i = c.loop-end.end-index in
     record {
-      so_far = c.in_ok-push.ensures.items ∙ ap (λ l. l ++ (get_or ends i 0 - c.loop-end.start) ∷ []) c.loop-end.invariant.so_far
+      so_far = c.in_ok-push.ensures.ok ∙ ap (λ l. l ++ (get_or ends i 0 - c.loop-end.start) ∷ []) c.loop-end.invariant.so_far
           ∙ one_more c.self.inside.numbers.items c.self.inside.ends.items ends c.args.self.now i c.loop-end.start
           c.as_slice-ends.ensures.value c.self.invariant c.self.view_is c.loop-end-test.true c.loop-end.invariant.start;
       start = search arith;

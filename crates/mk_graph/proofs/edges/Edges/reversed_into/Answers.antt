@@ -1,57 +1,46 @@
-use Rattle.std.proofs.Common.{◌≡◌, ℕ, ◌+◌, ◌<◌, ◌∷◌, List, length, take, sym, ap, ◌∙◌, arith}
+use Rattle.std.proofs.Common.{◌≡◌, ℕ, ◌<◌, ◌∷◌, ◌^◌, List, length, slice_index, sym, ◌∙◌, subst, arith}
+use Rattle.std.specs.Vec.{with_items}
 use Rattle.std.proofs.lemmas.List.{with_items_is}
-use Rattle.byte_strings.proofs.PieceLemmas.{length-pieces}
-use Rattle.mk_graph.proofs.UserLemmas.{Fills, fills_none, room_left, fills_more, refilled, all_noted}
-use Rattle.mk_graph.proofs.OwnRowLemmas.{own_room}
+use Rattle.mk_graph.specs.Users.{AreStarts, HasRoom}
+use Rattle.mk_graph.proofs.UserLemmas.{few_numbers}
+use Rattle.mk_graph.proofs.FillLemmas.{ends_still, users_still}
+use Rattle.mk_graph.proofs.OwnRowLemmas.{room_of_own}
 use Rattle.mk_graph.proofs.edges.Edges.reversed_into.Goals as goal
 
-pub loop-node-init : goal.loop-node-init
-loop-node-init c =
+pub note_users-requires-clause-room : goal.note_users-requires-clause-room
+note_users-requires-clause-room c =
     let g = c.args.self.now in
+    let numbers : List ℕ = c.rows.inside.numbers.items in
     let ends : List ℕ = c.rows.inside.ends.items in
-    let many : length ends ≡ length g = sym (length-pieces c.rows.inside.numbers.items 0 ends) ∙ ap length c.rows.view_is ∙ sym c.requires.users.nodes in
-    record {
-      fills = fills_none g c.rows.inside.numbers.items ends c.in_ok-next.next.items many (c.in_ok-next.ensures ∙ ap (λ l. take (length l) (0 ∷ l)) c.deref.ensures.value);
-      size = λ _. length c.rows.inside.numbers.items;
-    }
+    let starts' : List ℕ = c.starts_behind.new.ends in
+    let starts : AreStarts ends starts' = subst (λ l. AreStarts l starts') c.deref_mut.ensures.value c.starts_behind.ensures.starts in
+    let next : c.deref_mut-2.result.now ≡ starts' = c.deref_mut-2.ensures.value ∙ with_items_is c.rows.inside.ends starts' (grind arith) in
+    subst (λ l. HasRoom g (length c.deref_mut-3.result.now) l) (sym next)
+    (subst (λ l. HasRoom g (length l) starts') (sym c.deref_mut-3.ensures.value)
+    (room_of_own c.args.rows g numbers ends starts' c.rows.invariant c.rows.view_is c.requires.closed c.requires.users starts))
 
-pub note_user-requires-clause-room : goal.note_user-requires-clause-room
-note_user-requires-clause-room c =
-    let g = c.args.self.now in
+pub note_users-requires-clause-few : goal.note_users-requires-clause-few
+note_users-requires-clause-few c =
+    let numbers : List ℕ = c.rows.inside.numbers.items in
     let ends : List ℕ = c.rows.inside.ends.items in
-    let many : length ends ≡ length g = sym (length-pieces c.rows.inside.numbers.items 0 ends) ∙ ap length c.rows.view_is ∙ sym c.requires.users.nodes in
-    let rows = own_room c.args.rows g c.rows.inside.numbers.items ends c.rows.invariant c.rows.view_is c.requires.closed c.requires.users in
-    let in_graph : c.loop-node.node < length g = omega arith in
-    rw (c.deref_mut.ensures.value, c.deref-in-loop-node.ensures.value, c.row.ensures)
-    (room_left g c.loop-node.node c.loop-node.numbers.items ends c.loop-node.next.items c.loop-node.invariant.fills many rows in_graph)
+    let last : slice_index (0 ∷ ends) (length ends) < 2 ^ 32
+    = subst (λ (l : List ℕ). slice_index (0 ∷ l) (length l) < 2 ^ 32) c.deref_mut.ensures.value c.starts_behind.ensures.few in
+    subst (λ (l : List ℕ). length l < 2 ^ 32) (sym c.deref_mut-3.ensures.value) (few_numbers (length numbers) ends c.rows.invariant last)
 
-pub loop-node-preserved : goal.loop-node-preserved
-loop-node-preserved c =
-    let g = c.args.self.now in
-    let k = c.loop-node.node in
-    let ends : List ℕ = c.rows.inside.ends.items in
-    let many : length ends ≡ length g = sym (length-pieces c.rows.inside.numbers.items 0 ends) ∙ ap length c.rows.view_is ∙ sym c.requires.users.nodes in
-    let all = own_room c.args.rows g c.rows.inside.numbers.items ends c.rows.invariant c.rows.view_is c.requires.closed c.requires.users in
-    let in_graph : k < length g = omega arith in
-    let next' = c.note_user.new.next in
-    let users' = c.note_user.new.users in
-    let long_next : length next' ≡ length c.loop-node.next.items = grind arith in
-    let long_users : length users' ≡ length c.loop-node.numbers.items = grind arith in
-    let new_next = with_items_is c.loop-node.next next' (grind arith) in
-    let new_users = with_items_is c.loop-node.numbers users' (grind arith) in
-    let next = rw (c.deref_mut.ensures.value, c.deref-in-loop-node.ensures.value, c.row.ensures) at c.note_user.ensures.next in
-    let rows = rw (c.deref_mut.ensures.value, c.deref_mut-in-loop-node.ensures.value, c.deref-in-loop-node.ensures.value, c.row.ensures) at c.note_user.ensures.rows in
-    let more : Fills g (k + 1) users' ends next'
-    = fills_more g k c.loop-node.numbers.items ends c.loop-node.next.items c.loop-node.invariant.fills many all users' next' in_graph long_next next rows in
-    record {
-      fills = refilled g (k + 1) ends users' _ next' _ new_users new_next more;
-      size = ap length new_users ∙ long_users ∙ c.loop-node.invariant.size;
-    }
+pub invariant_of-result : goal.invariant_of-result
+invariant_of-result c =
+    let next' : List ℕ = c.note_users.new.next in
+    let users' : List ℕ = c.note_users.new.users in
+    ends_still users' _ next' _ (length c.deref_mut-3.result.now)
+    (with_items_is c.rows.inside.numbers users' (grind arith))
+    (with_items_is (with_items c.rows.inside.ends c.starts_behind.new.ends) next' (grind arith))
+    c.note_users.auto.users c.in_ok-note_users.ensures.ends
 
 pub returns : goal.returns
 returns c =
-    let g = c.args.self.now in
-    let ends : List ℕ = c.rows.inside.ends.items in
-    let many : length ends ≡ length g = sym (length-pieces c.rows.inside.numbers.items 0 ends) ∙ ap length c.rows.view_is ∙ sym c.requires.users.nodes in
-    let rows = own_room c.args.rows g c.rows.inside.numbers.items ends c.rows.invariant c.rows.view_is c.requires.closed c.requires.users in
-    all_noted g c.loop-node.node c.loop-node.numbers.items ends c.loop-node.next.items c.loop-node.invariant.fills many rows (omega arith)
+    let next' : List ℕ = c.note_users.new.next in
+    let users' : List ℕ = c.note_users.new.users in
+    users_still c.args.self.now users' _ next' _
+    (with_items_is c.rows.inside.numbers users' (grind arith))
+    (with_items_is (with_items c.rows.inside.ends c.starts_behind.new.ends) next' (grind arith))
+    c.in_ok-note_users.ensures.users

@@ -13,10 +13,10 @@ invariant_of-self-2 c =
     let link : Link = record { hash = c.args.hash; before = c.put_last-before.result } in
     let was = rw c.deref_mut.ensures.value at c.put_last-before.ensures.before in
     let put = rw c.deref_mut.ensures.value at c.put_last-before.ensures.heads in
-    let longer : c.push-2.new.self.items ≡ links ++ link ∷ [] = rw c.unwrap.ensures at c.push-2.ensures.items ∙ ap (λ (l : List Link). l ++ link ∷ []) c.reserve.ensures.items in
-    let place : c.len-number.result ≡ length links = omega (arith, ap length c.reserve.ensures.items) in
+    let longer : c.push_reserved.new.self.items ≡ links ++ link ∷ [] = c.push_reserved.ensures.items ∙ ap (λ (l : List Link). l ++ link ∷ []) c.make_room-2.ensures.items in
+    let place : c.len-number.result ≡ length links = omega (arith, ap length c.make_room-2.ensures.items) in
     let many : length heads' ≡ length heads = ap length put ∙ length-set heads _ _ in
     let same = with_items_is c.make_room.new.heads heads' (grind arith) in
-    linked_push c.self.inside.names links heads c.args.name.now link c.push.new.self c.push-2.new.self.items _
+    linked_push c.self.inside.names links heads c.args.name.now link c.push.new.self c.push_reserved.new.self.items _
     (c.make_room.ensures.same ∙ c.self.invariant.hashed) c.make_room.ensures.chained c.in_ok-make_room.ensures.room c.requires was c.in_ok-push.ensures.ok longer
     (same ∙ put ∙ ap (λ k. set heads (bucket (length heads) c.args.hash) (k + 1)) place)

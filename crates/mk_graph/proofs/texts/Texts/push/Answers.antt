@@ -8,7 +8,7 @@ invariant_of-self-2 c =
     let ends : List ℕ = c.self.inside.ends.items in
     let bytes : c.extend_from_slice.new.self.items ≡ text ++ c.args.string.now = c.in_ok-extend_from_slice.ensures.items in
     let size : c.in-Ok.end ≡ length (text ++ c.args.string.now) = omega (arith, c.in-Ok.ensures, length-append text c.args.string.now) in
-    let pushed : c.push.new.self.items ≡ ends ++ c.in-Ok.end ∷ [] = rw c.unwrap.ensures at c.push.ensures.items ∙ ap (λ (xs : List ℕ). xs ++ c.in-Ok.end ∷ []) c.reserve.ensures.items in
+    let pushed : c.push_reserved.new.self.items ≡ ends ++ c.in-Ok.end ∷ [] = c.push_reserved.ensures.items ∙ ap (λ (xs : List ℕ). xs ++ c.in-Ok.end ∷ []) c.make_room.ensures.items in
     rw (bytes, pushed) (AreEnds-push text c.args.string.now c.in-Ok.end 0 ends c.self.invariant size)
 
 pub returns-clause-ok : goal.returns-clause-ok
@@ -17,5 +17,5 @@ returns-clause-ok c =
     let ends : List ℕ = c.self.inside.ends.items in
     let bytes : c.extend_from_slice.new.self.items ≡ text ++ c.args.string.now = c.in_ok-extend_from_slice.ensures.items in
     let size : c.in-Ok.end ≡ length (text ++ c.args.string.now) = omega (arith, c.in-Ok.ensures, length-append text c.args.string.now) in
-    let pushed : c.push.new.self.items ≡ ends ++ c.in-Ok.end ∷ [] = rw c.unwrap.ensures at c.push.ensures.items ∙ ap (λ (xs : List ℕ). xs ++ c.in-Ok.end ∷ []) c.reserve.ensures.items in
+    let pushed : c.push_reserved.new.self.items ≡ ends ++ c.in-Ok.end ∷ [] = c.push_reserved.ensures.items ∙ ap (λ (xs : List ℕ). xs ++ c.in-Ok.end ∷ []) c.make_room.ensures.items in
     rw (bytes, pushed, ← c.self.view_is) (pieces-push text c.args.string.now c.in-Ok.end 0 ends c.self.invariant size)

@@ -13,7 +13,7 @@ returns-in_ok-from_slice-in-Some-Opened-clause-err c =
     let named : kept ≡ c.args.name.now = c.in-Some-definition.ensures.name in
     let none : dynamic_value c.args.line.now c.args.name.now ≡ None = sym c.in_ok-value.ensures.ok.0 ∙ ap (option_map (λ v. v.items)) c.in_default.is in
     let is_open : progress_at c.args.progress.now kept ≡ opened = ap shown_progress (sym c.in-Some-Opened.ensures.value) ∙ ap (λ p. shown_progress (Some p)) c.in-Some-Opened.field-0-is in (
-      c.in_ok-from_slice-in-Some-Opened.ensures ∙ named,
+      c.in_ok-from_slice-in-Some-Opened.ensures.ok ∙ named,
       ap (progress_at c.args.progress.now) (sym named) ∙ is_open,
       (
         c.in-Some-definition.text.now,

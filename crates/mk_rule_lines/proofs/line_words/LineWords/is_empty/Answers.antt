@@ -10,5 +10,5 @@ pub returns : goal.returns
 returns c =
     let none = empty_decides c.args.self.now in
     let same : c.all_are_blank.result ≡ is_empty c.args.self.now =
-    c.all_are_blank.ensures ∙ ap (list_all is_blank) c.deref.ensures.value ∙ blanks_alone c.self.inside.text.items ∙ ap is_empty c.self.view_is in
+    c.all_are_blank.ensures ∙ ap (list_all is_blank) c.as_slice.ensures ∙ blanks_alone c.self.inside.text ∙ ap is_empty c.self.view_is in
     (λ blank. none.0 (sym same ∙ blank), λ empty. same ∙ none.1 empty)

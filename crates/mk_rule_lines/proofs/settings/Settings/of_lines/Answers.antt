@@ -1,8 +1,8 @@
 use Rattle.std.proofs.Common.{◌≡◌, ◌+◌, List, drop, sym, ap, ◌∙◌}
 use Rattle.std.proofs.lemmas.List.{drop_all}
-use Rattle.mk_rule_lines.specs.Settled.{nothing_set, settings_behind}
+use Rattle.mk_rule_lines.specs.Settled.{nothing_set}
 use Rattle.mk_rule_lines.proofs.PlaceLemmas.{from_line}
-use Rattle.mk_rule_lines.proofs.SettledLemmas.{settings-are, settings-next, settings-rule}
+use Rattle.mk_rule_lines.proofs.SettledLemmas.{settings_behind, settings-are, settings-next, settings-rule}
 use Rattle.mk_rule_lines.proofs.settings.Settings.of_lines.Goals as goal
 
 pub loop-line-preserved-then-is_rule : goal.loop-line-preserved-then-is_rule

@@ -1,5 +1,6 @@
 use Rattle.std.proofs.Common.{◌≡◌, drop}
-use Rattle.mk_rule_lines.specs.Settled.{nothing_set, settings_behind}
+use Rattle.mk_rule_lines.specs.Settled.{nothing_set}
+use Rattle.mk_rule_lines.proofs.SettledLemmas.{settings_behind}
 use Rattle.mk_rule_lines.proofs.settings.Settings.of_lines.Given as goal
 
 abbrev pub invariant-loop-line : goal.invariant-loop-line

@@ -61,7 +61,7 @@ returns-then-is_second-clause-fault c =
     let found = second c.args.number r t (picked c.next.new.self) (picked line.targets) now old (sym both ∙ c.if-is_second.true) goes in
     let all = all_made c.args.suffix_rules c.args.suffixes.now line (sym c.may_have_targets.ensures ∙ c.if-not-may_have_targets.false) in
     let here = subst (λ (ts : List (List ℕ)). IsSecond c.args.number r ts t old) (sym all) found in
-    (refl, subst (λ (n : List ℕ). IsSecond c.args.number r (targets_by c.args.suffix_rules c.args.suffixes.now line) n (named_at c.args.self.now n)) (sym c.in_ok-name.ensures) here)
+    (refl, subst (λ (n : List ℕ). IsSecond c.args.number r (targets_by c.args.suffix_rules c.args.suffixes.now line) n (named_at c.args.self.now n)) (sym c.in_ok-name.ensures.ok) here)
 
 pub returns-clause-ok : goal.returns-clause-ok
 returns-clause-ok c = λ name.

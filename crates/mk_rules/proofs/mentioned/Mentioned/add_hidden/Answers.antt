@@ -2,7 +2,7 @@ use Rattle.std.proofs.Common.{◌≡◌, ℕ, ◌<◌, Bool, true, false, cond, 
 use Rattle.std.specs.Prelude.{is_some, MatchOption}
 use Rattle.mk_graph.specs.Edges.{has}
 use Rattle.mk_graph.specs.Numbering.{name_at, has_name, added}
-use Rattle.mk_rules.specs.Hidden.{are_nodes, Takes}
+use Rattle.mk_rules.specs.Hidden.{Takes}
 use Rattle.mk_rules.specs.Row.{named, IsRow, IsSomeRow}
 use Rattle.mk_rules.proofs.RowLemmas.{row_more, named_more, has_is}
 use Rattle.mk_rules.proofs.HiddenLemmas.{or_nothing}
@@ -23,8 +23,8 @@ returns-in_ok-add_node-in-Some c = λ before some.
     let name = c.args.name.now in
     let n = c.in-Some.number in
     let done = c.in_ok-add_node-in-Some.ensures in
-    let among = are_nodes c.args.self.now.hidden.items in
-    subst (IsTaken before names name old new c.args.self.now.gone c.add_node.new.self.gone among (are_nodes c.add_node.new.self.hidden.items)) (sym c.in-Some.is)
+    let among = c.args.self.now.hidden in
+    subst (IsTaken before names name old new c.args.self.now.gone c.add_node.new.self.gone among c.add_node.new.self.hidden) (sym c.in-Some.is)
     (λ is.
     let same : has old n ≡ has_name (named before old) name = has_is before old names new name n is.0 is.1 is.2 done.nodes some.0 some.1 in (
       λ start row. row_more before old names new name n is.0 is.1 is.2 done.nodes start row,
@@ -43,8 +43,8 @@ returns-in_ok-add_gone-in-None c = λ before some.
     let name = c.args.name.now in
     let done = c.in_ok-add_gone-in-None.ensures in
     let gone = c.args.self.now.gone in
-    let among = are_nodes c.args.self.now.hidden.items in
-    subst (IsTaken before names name old new gone c.add_gone.new.self.gone among (are_nodes c.add_gone.new.self.hidden.items)) (sym c.in-None.is)
+    let among = c.args.self.now.hidden in
+    subst (IsTaken before names name old new gone c.add_gone.new.self.gone among c.add_gone.new.self.hidden) (sym c.in-None.is)
     (λ same.
     let hard : c.has_named-is_hard.result ≡ has_name (named before old) name
     = c.has_named-is_hard.ensures (subst (λ l. IsSomeRow l old) (sym same) some) ∙ ap (λ l. has_name (named l old) name) same in (

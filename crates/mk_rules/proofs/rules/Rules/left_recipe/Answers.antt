@@ -21,9 +21,9 @@ returns-then-not-is_left c = λ inputs lines_are times_are entry_is.
     let name = c.args.name.now in
     let entry = map.get c.args.self.now.state.now name in
     let told = c.is_left.ensures
-    ∙ ap (λ ns. is_empty ns && (is_none c.args.stamp || option_map_or (λ (e : Entry). is_cut e.phase) (option_copied c.entry.result) false)) c.requires
-    ∙ ap (λ e. is_empty (numbers_of lines name) && (is_none c.args.stamp || option_map_or (λ (e : Entry). is_cut e.phase) e false)) c.entry.ensures in
-    sym (ap (λ b. cond b (default_of inputs.lines) None) (sym (left_is inputs lines name c.args.stamp entry lines_are times_are entry_is) ∙ sym told ∙ c.if-not-is_left.true))
+    ∙ ap (λ ns. is_empty ns && (is_none c.args.stamp.now || option_map_or (λ (e : Entry). is_cut e.phase) (option_copied c.entry.result) false)) c.requires
+    ∙ ap (λ e. is_empty (numbers_of lines name) && (is_none c.args.stamp.now || option_map_or (λ (e : Entry). is_cut e.phase) e false)) c.entry.ensures in
+    sym (ap (λ b. cond b (default_of inputs.lines) None) (sym (left_is inputs lines name c.args.stamp.now entry lines_are times_are entry_is) ∙ sym told ∙ c.if-not-is_left.true))
 
 pub returns : goal.returns
 returns c = λ inputs lines_are times_are entry_is.
@@ -31,9 +31,9 @@ returns c = λ inputs lines_are times_are entry_is.
     let name = c.args.name.now in
     let entry = map.get c.args.self.now.state.now name in
     let told = c.is_left.ensures
-    ∙ ap (λ ns. is_empty ns && (is_none c.args.stamp || option_map_or (λ (e : Entry). is_cut e.phase) (option_copied c.entry.result) false)) c.requires
-    ∙ ap (λ e. is_empty (numbers_of lines name) && (is_none c.args.stamp || option_map_or (λ (e : Entry). is_cut e.phase) e false)) c.entry.ensures in
+    ∙ ap (λ ns. is_empty ns && (is_none c.args.stamp.now || option_map_or (λ (e : Entry). is_cut e.phase) (option_copied c.entry.result) false)) c.requires
+    ∙ ap (λ e. is_empty (numbers_of lines name) && (is_none c.args.stamp.now || option_map_or (λ (e : Entry). is_cut e.phase) e false)) c.entry.ensures in
     let is = c.in-Some.is in
     let line : Some c.in-Some.line ≡ c.args.self.now.default = cc in
     line ∙ c.args.self.now.left_over ∙ ap default_of (sym lines_are)
-    ∙ sym (ap (λ b. cond b (default_of inputs.lines) None) (sym (left_is inputs lines name c.args.stamp entry lines_are times_are entry_is) ∙ sym told ∙ c.if-not-is_left.false))
+    ∙ sym (ap (λ b. cond b (default_of inputs.lines) None) (sym (left_is inputs lines name c.args.stamp.now entry lines_are times_are entry_is) ∙ sym told ∙ c.if-not-is_left.false))

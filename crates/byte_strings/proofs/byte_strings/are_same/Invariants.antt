@@ -1,6 +1,0 @@
-use Rattle.std.proofs.Common.{◌≡◌, nat_eq}
-use Rattle.std.specs.Cmp.Lexicographic.{pointwise}
-use Rattle.byte_strings.proofs.byte_strings.are_same.Given as goal
-
-abbrev pub invariant-loop-string : goal.invariant-loop-string
-invariant-loop-string l = pointwise (pointwise nat_eq) l.string-iterator l.left ≡ pointwise (pointwise nat_eq) l.fn.strings l.fn.others

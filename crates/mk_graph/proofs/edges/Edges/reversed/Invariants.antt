@@ -1,9 +1,0 @@
-use Rattle.std.proofs.Common.{◌≡◌, length}
-use Rattle.mk_graph.proofs.UserLemmas.{Fills}
-use Rattle.mk_graph.proofs.edges.Edges.reversed.Given as goal
-
-abbrev pub invariant-loop-node : goal.invariant-loop-node
-invariant-loop-node l = record {
-  fills : Fills l.self l.node l.users.items l.ends.items l.next.items;
-  size : length l.users.items ≡ length l.initial.users.items;
-}
