@@ -7,18 +7,43 @@ passed=0 failed=0 edited=
 work=$(mktemp -d) || exit 2
 trap 'rm -rf "$work"' EXIT
 
+# fresh CRATE..: puts the sources of these crates as they are into the copy.
+fresh() {
+    local crate
+    for crate; do
+        rm -rf "$work/crates/$crate"
+        mkdir -p "$work/crates/$crate"
+        tar -C "crates/$crate" --exclude=./out -cf - . | tar -C "$work/crates/$crate" -xf - || exit 2
+    done
+}
+
+# built CRATE..: what was built of these crates, which no check of another writes to. It is large, so it is linked where it can be.
+built() {
+    local crate
+    for crate; do
+        [ -d "crates/$crate/out" ] || continue
+        cp -al "crates/$crate/out" "$work/crates/$crate/out" 2>"$work/log" && continue
+        rm -rf "$work/crates/$crate/out"
+        cp -a "crates/$crate/out" "$work/crates/$crate/out" || exit 2
+    done
+}
+
+all=$(cd crates && echo *)
 for edit in crates/*/must-not-compile/*.edit; do
     [ -f "$edit" ] || continue
     crate=$(basename "$(dirname "$(dirname "$edit")")")
     wanted=$(sed -n 's/^error: //p' "$edit")
     if [ ! -d "$work/crates" ]; then
-        cp -r crates.txt HANDLES crates "$work"
+        cp crates.txt HANDLES "$work"
+        fresh $all
+        built $all
     fi
     # The crate that was edited before may be one that this one stands on.
-    for fresh in $edited $crate; do
-        rm -rf "$work/crates/$fresh"
-        cp -r "crates/$fresh" "$work/crates/$fresh"
-    done
+    if [ -n "$edited" ]; then
+        fresh "$edited"
+        built "$edited"
+    fi
+    fresh "$crate"
     edited=$crate
     log=$work/log
     if ! python3 scripts/apply_edit.py "$edit" "$work/crates/$crate" >"$log" 2>&1; then
