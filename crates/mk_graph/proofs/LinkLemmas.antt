@@ -1,5 +1,5 @@
 -- Chained hashes, each beside the place of the one before it.
-use Rattle.std.proofs.Common.{◌≡◌, ◌≢◌, ℕ, ◌+◌, ◌-◌, ◌<◌, ◌≤◌, ◌^◌, false, List, [], ◌∷◌, ◌++◌, length, map, get_or, set, take, replicate, slice_index, sym, ap, ◌∙◌, subst, arith, length-append}
+use Rattle.std.proofs.Common.{◌≡◌, ◌≢◌, ℕ, ◌+◌, ◌-◌, ◌<◌, ◌≤◌, ◌^◌, false, List, [], ◌∷◌, ◌++◌, length, map, get_or, set, take, replicate, slice_index, refl, sym, ap, ◌∙◌, subst, arith, length-append}
 use Rattle.std.proofs.lemmas.List.{get_or-map, length-map, map-append, map-set, set-get_or, take_all, take_more_set}
 use Rattle.std.specs.Str.{bytes_eq}
 use Rattle.mk_graph.specs.Chains.{bucket, AreChained}
@@ -69,3 +69,12 @@ pub other_link : (names : List (List ℕ)) (links : List Link) (heads : List ℕ
 other_link names links heads name number link hash found below read own other =
     let at : link.hash ≡ get_or (hashes_of links) number link.hash = ap (λ l. l.hash) read ∙ sym (get_or-map (λ l. l.hash) links number link link.hash (omega (arith, below, found.many))) in
     other_hash names (hashes_of links) name number link.hash hash found.hashed below at own other
+
+-- no names are found by no links, over buckets that are empty
+pub found_none : (names : List (List ℕ)) (links : List Link) (heads : List ℕ) → names ≡ [] → links ≡ [] → heads ≡ replicate (length heads) 0 → length heads ≤ 2 ^ 31 → AreFoundBy names links heads
+found_none names links heads none unlinked empty few =
+    rw (none, unlinked) (record {
+      many = refl;
+      hashed = refl;
+      chained = subst (AreChained [] []) (sym empty) (chained_none (length heads) few);
+    })

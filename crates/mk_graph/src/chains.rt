@@ -21,6 +21,20 @@ pub(crate) fn bucket_of(hash: u32, buckets: usize) -> usize
     hash as usize & (buckets - 1)
 }
 
+/// Empty buckets for as many hashes, where there is memory for them.
+pub(crate) fn buckets_for(alloc: Global, hashes: usize) -> Vec<u32>
+    ensures empty { result.items ≡ replicate (length result.items) 0 }
+    ensures few { length result.items ≤ 2 ^ 31 }
+{
+    if hashes == 0 || hashes > MAX_BUCKETS / 2 {
+        return Vec::new(alloc);
+    }
+    match Vec::from_elem(alloc, 0, hashes.next_power_of_two()) {
+        Ok(buckets) => buckets,
+        Err(_) => Vec::new(alloc),
+    }
+}
+
 /// Makes a place the last of the bucket of its hash, and answers which was.
 pub(crate) fn put_last(heads: &mut [u32], hash: u32, place: u32) -> u32
     requires { 0 < length heads.old }

@@ -6,7 +6,7 @@ ghost use Rattle.std.specs.Str.{bytes_eq};
 ghost use Rattle.mk_graph.specs.Hashing.{hash_of};
 ghost use Rattle.mk_graph.specs.Numbering.{name_at, has_name, added, all_added};
 
-use crate::chains::{Link, bucket_of, make_room, put_last};
+use crate::chains::{Link, bucket_of, buckets_for, make_room, put_last};
 use crate::hashing::hash_of;
 use crate::room;
 use crate::texts::Texts;
@@ -47,6 +47,17 @@ impl Names {
         }
     }
 
+    /// No names, with room for as many, where there is memory for it.
+    pub fn with_room(alloc: Global, names: usize) -> Names
+        ensures { result ≡ [] }
+    {
+        Names {
+            names: Texts::with_room(alloc, names),
+            links: room::with_room(alloc, names),
+            heads: buckets_for(alloc, names),
+        }
+    }
+
     /// How many names there are.
     pub fn len(&self) -> usize
         ensures { result ≡ length self.now }
@@ -63,6 +74,17 @@ impl Names {
         self.names.text(number)
     }
 
+    /// Whether a number is that of the name.
+    fn is_of(&self, number: usize, name: &[u8]) -> bool
+        requires { number < length self.now }
+        ensures { result ≡ bytes_eq name.now (name_at self.now number) }
+    {
+        let named = NameRef {
+            bytes: self.name(number),
+        };
+        NameRef { bytes: name } == named
+    }
+
     /// Whether a number is that of a name with this hash.
     fn is_at(&self, number: usize, name: &[u8], hash: u32) -> bool
         requires number { number < length self.now }
@@ -72,10 +94,7 @@ impl Names {
         if self.links[number].hash != hash {
             return false;
         }
-        NameRef { bytes: name }
-            == NameRef {
-                bytes: self.name(number),
-            }
+        self.is_of(number, name)
     }
 
     /// The number of a name with this hash; None where it has none.
@@ -104,6 +123,17 @@ impl Names {
         ensures none { is_some result ≡ has_name self.now name.now }
     {
         self.find(name, hash_of(name))
+    }
+
+    /// The number of a name, of which this one is tried first; None where it has none.
+    pub fn number_near(&self, name: &[u8], number: u32) -> Option<u32>
+        ensures number { IfSome result (λ n. (n < length self.now) × (name_at self.now n ≡ name.now)) }
+        ensures none { is_some result ≡ has_name self.now name.now }
+    {
+        if (number as usize) < self.len() && self.is_of(number as usize, name) {
+            return Some(number);
+        }
+        self.number_of(name)
     }
 
     /// Gives the next number to a name that has none, and answers it.

@@ -9,6 +9,7 @@ ghost use Rattle.mk_graph.specs.NumberingFault.{IsNumberingFault, IsLimitFault};
 
 use crate::edges::Edges;
 use crate::names::Names;
+use crate::room::with_room;
 use byte_strings::ByteStrings;
 use std::alloc::{AllocError, AllocFailed, Global};
 
@@ -44,6 +45,9 @@ pub trait Dependencies {
 
     /// The numbers of the prerequisites of the name that was asked for last, in order; one may stand there more than once.
     ghost row: { Self.Notes → List ℕ };
+
+    /// How many names may be expected, of which nothing is promised.
+    fn expected(&self) -> usize;
 
     /// No notes, which fit any names.
     fn notes(&self, alloc: Global) -> Self::Notes
@@ -139,6 +143,7 @@ impl<N: Drop> Numbered<N> {
         alloc: Global,
         goals: &ByteStrings,
         limit: usize,
+        expected: usize,
     ) -> Result<Numbered<N>, NumberingFault<F>>
         ensures names { IfOk result (λ n. n.names ≡ all_added [] goals.now) }
         ensures goals { IfOk result (λ n. map (name_at n.names) n.goals.items ≡ goals.now) }
@@ -148,7 +153,7 @@ impl<N: Drop> Numbered<N> {
         ensures within { IfOk result (λ n. length n.names ≤ limit) }
         ensures fault { IfErr result (IsLimitFault limit (all_added [] goals.now)) }
     {
-        let mut names = Names::new(alloc);
+        let mut names = Names::with_room(alloc, expected);
         let Some(goals) = names.add_all(alloc, goals, limit)? else {
             return Err(NumberingFault::TooMany);
         };
@@ -156,7 +161,7 @@ impl<N: Drop> Numbered<N> {
             names,
             goals,
             rows: Edges::empty(alloc),
-            nodes: Vec::new(alloc),
+            nodes: with_room(alloc, expected),
         })
     }
 
@@ -209,7 +214,8 @@ pub fn number<R: Dependencies>(
     ensures grows { (of : List ℕ → List (List ℕ)) → R.allows source.new of → R.allows source.old of }
     ensures follows { R.follows source.old (is_ok result) source.new }
 {
-    let mut numbered = Numbered::of_goals(alloc, goals, limit)?;
+    let expected = source.expected().min(limit);
+    let mut numbered = Numbered::of_goals(alloc, goals, limit, expected)?;
     let mut notes = source.notes(alloc);
     while numbered.rows.len() < numbered.names.len() {
         let number = numbered.rows.len();

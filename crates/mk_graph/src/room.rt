@@ -2,7 +2,17 @@
 
 ghost use Rattle.std.specs.Prelude.{◌≡◌, ◌+◌, ◌≤◌, ◌++◌, [], ◌∷◌, vec_len, vec_capacity, OnOk, OnErr};
 
-use std::alloc::AllocError;
+use std::alloc::{AllocError, Global};
+
+/// No items, with room for as many, where there is memory for it.
+pub fn with_room<T>(alloc: Global, items: usize) -> Vec<T>
+    ensures { result.items ≡ [] }
+{
+    match Vec::with_capacity(alloc, items) {
+        Ok(empty) => empty,
+        Err(_) => Vec::new(alloc),
+    }
+}
 
 /// Takes room for so many more items where there is less.
 #[inline(always)]

@@ -2,9 +2,12 @@
 
 ghost use Rattle.std.specs.Prelude.{◌≡◌, ◌<◌, ◌≤◌, [], ◌∷◌, ◌++◌, length, OnOk, OnErr, slice_index, slice_index_or};
 
-use crate::room::make_room;
+use crate::room::{make_room, with_room};
 use std::alloc::{AllocError, Global};
 use std::marker::Model;
+
+// Room is taken for strings of so many bytes.
+const USUAL_BYTES: usize = 16;
 
 /// Byte strings in their order. The bytes of all of them are one allocation, and their ends another.
 #[derive(Drop)]
@@ -44,6 +47,16 @@ impl Texts {
         Texts {
             bytes: Vec::new(alloc),
             ends: Vec::new(alloc),
+        }
+    }
+
+    /// No strings, with room for as many, where there is memory for it.
+    pub(crate) fn with_room(alloc: Global, strings: usize) -> Texts
+        ensures { result ≡ [] }
+    {
+        Texts {
+            bytes: with_room(alloc, strings.saturating_mul(USUAL_BYTES)),
+            ends: with_room(alloc, strings),
         }
     }
 

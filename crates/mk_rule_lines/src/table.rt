@@ -159,28 +159,40 @@ impl TargetTable {
     {
         let room = if suffix_rules { 0 } else { lines.len() };
         Ok(TargetTable {
-            names: Names::new(alloc),
+            names: Names::with_room(alloc, room),
             targets: Vec::with_capacity(alloc, room)?,
         })
     }
 
-    fn target(&self, name: &[u8]) -> Option<&Target>
-        ensures { MatchOption result (named_at self.now name.now ≡ nothing_named) (λ target. named_at self.now name.now ≡ shown_target target.now) }
+    /// The target of a name with its number, of which this one is tried first.
+    fn target(&self, name: &[u8], number: u32) -> Option<(&Target, u32)>
+        ensures { MatchOption result (named_at self.now name.now ≡ nothing_named) (λ found. named_at self.now name.now ≡ shown_target found.0.now) }
     {
-        let number = self.names.number_of(name)?;
-        Some(&self.targets[number as usize])
+        let number = self.names.number_near(name, number)?;
+        Some((&self.targets[number as usize], number))
     }
 
-    /// The numbers of the lines that name the target, in order, and of the one that has its recipe, if it isn't one with `::`.
+    /// The numbers of the lines that name the target, in order, the number of the one that has its recipe, if it isn't one with `::`,
+    /// and the place to hand over with the next name. The target at `place` is tried first, so that targets asked for in the order in
+    /// which the lines name them are found without a search.
+    pub fn near(&self, name: &[u8], place: u32) -> (&[usize], Option<usize>, u32)
+        ensures lines { result.0.now ≡ (named_at self.now name.now).lines }
+        ensures recipe { result.1 ≡ (named_at self.now name.now).recipe }
+    {
+        match self.target(name, place) {
+            Some((target, number)) => (target.lines(), target.recipe(), number.saturating_add(1)),
+            None => (&[], None, place),
+        }
+    }
+
+    /// The same of a name that may be any.
     #[inline]
     pub fn named(&self, name: &[u8]) -> (&[usize], Option<usize>)
         ensures lines { result.0.now ≡ (named_at self.now name.now).lines }
         ensures recipe { result.1 ≡ (named_at self.now name.now).recipe }
     {
-        match self.target(name) {
-            Some(target) => (target.lines(), target.recipe()),
-            None => (&[], None),
-        }
+        let (lines, recipe, _) = self.near(name, 0);
+        (lines, recipe)
     }
 
     /// The number of the line that has the name's recipe, if it isn't one with `::`.

@@ -224,7 +224,7 @@ fn look_up<T: Tree>(
         rules.now.lines.now (finmap.get rules.now.state.now) (name_at names.old number)) }
 {
     let name = names.name(number);
-    let seen = seen_of(alloc, rules, tree, name)?;
+    let seen = seen_of(alloc, rules, tree, &mut notes.target, name)?;
     let entry = entry_of(rules, notes, name);
     numbered(alloc, rules, tree, names, notes, seen, entry)
 }
@@ -266,6 +266,12 @@ impl<'m, 't, T: Tree> Dependencies for Finder<'m, 't, T> {
         → AreKnownNodes (is_node (inputs_of f.rules.lines.now (finmap.get f.rules.state.now) times)) names notes.marks.items };
 
     ghost row = { λ notes. notes.row };
+
+    // Each target has a source or so, and each other one a header.
+    fn expected(&self) -> usize {
+        let targets = self.rules.lines.len();
+        targets.saturating_mul(2).saturating_add(targets / 2)
+    }
 
     fn notes(&self, alloc: Global) -> NodeNotes {
         NodeNotes::new(alloc)

@@ -18,6 +18,8 @@ pub(crate) struct NodeNotes {
     /// The row of the name that was asked for last, whose room the next one takes.
     pub row: DistinctNumbers,
     pub followers: Followers,
+    /// The target that the next name may be, since names are mostly asked for in the order of the rule lines.
+    pub target: u32,
     /// Where the state may have the next name, since names are mostly asked for in its order.
     pub place: usize,
 }
@@ -31,6 +33,7 @@ impl NodeNotes {
             marks: Vec::new(alloc),
             row: DistinctNumbers::new(alloc),
             followers: Followers::new(alloc),
+            target: 0,
             place: 0,
         }
     }

@@ -84,6 +84,15 @@ impl<'m> Rules<'m> {
         (numbers, own_or_first(self.lines, numbers, recipe))
     }
 
+    /// The same as `named`, and the place to hand over with the next name: the target there is tried first.
+    pub fn near(&self, name: &[u8], place: u32) -> (&[usize], Option<usize>, u32)
+        ensures lines { result.0.now ≡ numbers_of self.now.lines.now name.now }
+        ensures recipe { option_to_list result.1 ≡ own_recipes self.now.lines.now name.now }
+    {
+        let (numbers, recipe, next) = self.targets.near(name, place);
+        (numbers, own_or_first(self.lines, numbers, recipe), next)
+    }
+
     /// Whether some line makes the name.
     pub fn is_target(&self, name: &[u8]) -> bool
         ensures { result ≡ is_target self.now.lines.now name.now }

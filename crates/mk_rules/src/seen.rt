@@ -232,11 +232,12 @@ fn ruled_of<T: Tree>(
     searched(alloc, rules, tree, name, numbers, own, phony, left, stamp)
 }
 
-/// What the rules and a tree say of a name.
+/// What the rules and a tree say of a name, whose target may be the one at this place; behind it that of the next name may be.
 pub(crate) fn seen_of<'r, T: Tree>(
     alloc: Global,
     rules: &'r Rules,
     tree: &mut T,
+    place: &mut u32,
     name: &[u8],
 ) -> Result<Seen<'r>, RuleFault>
     ensures seen { IfOk result (λ seen. (times : List ℕ → Option ℤ) → T.allows tree.new times
@@ -245,7 +246,8 @@ pub(crate) fn seen_of<'r, T: Tree>(
     ensures fault { IfErr result (IsLookUpFault rules.now.targets.now (T.allows tree.new) (T.refuses tree.new) rules.now.forms.now rules.now.steps
         rules.now.lines.now (map.get rules.now.state.now) name.now) }
 {
-    let (numbers, own) = rules.named(name);
+    let (numbers, own, next) = rules.near(name, *place);
+    *place = next;
     let phony = rules.is_phony(numbers);
     let time = seen_stamp(alloc, tree, name, phony)?;
     let stamp = Stamp::of(alloc, time)?;

@@ -11,10 +11,10 @@ returns-clause-seen g c = λ times now.
     let inputs = inputs_of rules.lines.now (map.get rules.state.now) times in
     let name = c.args.name.now in
     let time = c.in_ok-time.ensures.stamp times (c.in_ok-ruled.ensures.looks.narrows times now)
-    ∙ ap (λ (t : Bool). cond t None (times name)) (c.is_phony-phony.ensures name c.named-own.ensures.lines) in
+    ∙ ap (λ (t : Bool). cond t None (times name)) (c.is_phony-phony.ensures name c.near-own.ensures.lines) in
     let stamp = c.in_ok-stamp.ensures ∙ time in
     record {
-      lines_are = c.named-own.ensures.lines;
+      lines_are = c.near-own.ensures.lines;
       stamp = stamp;
       ruled = subst (λ (l : Option ℕ). IsRuledIn inputs name l c.in_ok-ruled.ruled) (c.left_recipe-left.ensures inputs refl (sym stamp) refl)
           (c.in_ok-ruled.ensures.ruled times now stamp);
