@@ -73,7 +73,10 @@ impl DistinctNumbers {
             return Ok(false);
         }
         make_room(&mut self.marks, number as usize)?;
-        self.list.push(number)?;
+        if self.list.len() == self.list.capacity() {
+            self.list.reserve(1)?;
+        }
+        self.list.push_reserved(number);
         self.marks[number as usize] = true;
         Ok(true)
     }

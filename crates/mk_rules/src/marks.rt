@@ -14,14 +14,17 @@ pub(crate) fn is_marked(marks: &[bool], number: usize) -> bool
     }
 }
 
-/// Makes the marks so many that this number is the last.
+// So many marks are made at once behind the one that is wanted, since numbers mostly come one after the other.
+const MORE: usize = 255;
+
+/// Makes the marks so many that this number is among them.
 #[inline(never)]
 fn grow(marks: &mut Vec<bool>, number: usize) -> Result<(), AllocError>
     requires { length marks.old.items ≤ number }
     ensures same { (n : ℕ) → is_marked marks.new.items n ≡ is_marked marks.old.items n }
     ensures room { OnOk result (number < length marks.new.items) }
 {
-    marks.resize(number, false)?;
+    marks.resize(number.saturating_add(MORE), false)?;
     marks.push(false)?;
     Ok(())
 }
