@@ -1,10 +1,10 @@
 -- What was told of names that stand in a table.
-use Rattle.std.proofs.Common.{◌≡◌, true≢false, ℕ, zero, suc, ◌<◌, ◌≤◌, Bool, true, false, ◌||◌, cond, List, [], ◌∷◌, ◌++◌, length, get_or, slice_set, Option, None, IsSome, refl, sym, ap, subst, ◌∙◌, arith}
+use Rattle.std.proofs.Common.{◌≡◌, true≢false, ℕ, zero, suc, ◌<◌, ◌≤◌, Bool, true, false, ◌||◌, cond, List, [], ◌∷◌, ◌++◌, length, get_or, slice_set, Option, None, refl, sym, ap, ◌∙◌, arith}
 use Rattle.std.specs.Prelude.{ℤ, bytes_eq}
 use Rattle.std.specs.List.{IsDistinct}
 use Rattle.std.proofs.lemmas.Map.Keys.{IsDistinct-tail}
-use Rattle.mk_graph.specs.Numbering.{name_at, has_name, added}
-use Rattle.mk_graph.proofs.NameLemmas.{same_bytes, bytes_same, new_at, begins_added, length_from_begins}
+use Rattle.mk_graph.specs.Numbering.{name_at, has_name}
+use Rattle.mk_graph.proofs.NameLemmas.{same_bytes, bytes_same, new_at}
 use Rattle.dmk_drive.specs.Stamps.{told_of}
 
 -- what is told of one name
@@ -38,54 +38,21 @@ told_at (x ∷ names) (time ∷ told) (suc n) once h =
     ap (λ b. cond b time (told_of names told (name_at names n))) (other_first x names n once (omega arith))
     ∙ told_at names told n (IsDistinct-tail bytes_eq x names once) (omega arith)
 
-past_end : (told : List Told) (n : ℕ) → length told ≤ n → get_or told n None ≡ None
-past_end [] n h = refl
-past_end (time ∷ told) zero h = absurd (omega arith)
-past_end (time ∷ told) (suc n) h = past_end told n (omega arith)
-
--- nothing at a number past the end
-pub told_past : (names : List (List ℕ)) (told : List Told) (n : ℕ) → IsDistinct bytes_eq names → n < length names → length told ≤ n →
-    told_of names told (name_at names n) ≡ None
-told_past names told n once h past = told_at names told n once h ∙ past_end told n past
-
 -- nothing of other names
-told_none : (names : List (List ℕ)) (told : List Told) (name : List ℕ) → has_name names name ≡ false → told_of names told name ≡ None
+pub told_none : (names : List (List ℕ)) (told : List Told) (name : List ℕ) → has_name names name ≡ false → told_of names told name ≡ None
 told_none [] told name absent = refl
 told_none (x ∷ names) [] name absent = refl
 told_none (x ∷ names) (time ∷ told) name absent =
     ap (λ b. cond b time (told_of names told name)) (first_of (bytes_eq name x) (has_name names name) absent)
     ∙ told_none names told name (second_of (bytes_eq name x) (has_name names name) absent)
 
--- a name of which something is told isn't missing
-pub never_absent : (names : List (List ℕ)) (told : List Told) (name : List ℕ) → IsSome (told_of names told name) → has_name names name ≡ false → ⊥
-never_absent names told name some absent = true≢false (sym (subst (λ (t : Told). IsSome t) (told_none names told name absent) some))
-
--- so it is not added
-pub known_stays : (names : List (List ℕ)) (told : List Told) (name : List ℕ) → IsSome (told_of names told name) → added names name ≡ names
-known_stays names told name some = by (has_name names name) refl
-  where
-    by : (b : Bool) → has_name names name ≡ b → cond b names (names ++ name ∷ []) ≡ names
-    by true e = refl
-    by false e = absurd (never_absent names told name some e)
-
-told_behind : (names : List (List ℕ)) (told : List Told) (x name : List ℕ) → length told ≤ length names →
+-- nothing is told of a new name
+pub told_behind : (names : List (List ℕ)) (told : List Told) (x name : List ℕ) → length told ≤ length names →
     told_of (names ++ x ∷ []) told name ≡ told_of names told name
 told_behind [] [] x name within = refl
 told_behind [] (time ∷ told) x name within = absurd (omega arith)
 told_behind (y ∷ names) [] x name within = refl
 told_behind (y ∷ names) (time ∷ told) x name within = ap (λ t. cond (bytes_eq name y) time t) (told_behind names told x name (omega arith))
-
--- nothing is told of a new name
-pub told_before : (names : List (List ℕ)) (told : List Told) (x name : List ℕ) → length told ≤ length names →
-    told_of (added names x) told name ≡ told_of names told name
-told_before names told x name within = by (has_name names x)
-  where
-    by : (b : Bool) → told_of (cond b names (names ++ x ∷ [])) told name ≡ told_of names told name
-    by true = refl
-    by false = told_behind names told x name within
-
-pub within_added : (names : List (List ℕ)) (told : List Told) (x : List ℕ) → length told ≤ length names → length told ≤ length (added names x)
-within_added names told x within = let longer = length_from_begins names (added names x) (begins_added names x) in omega arith
 
 nothing_either : (b : Bool) (t : Told) → t ≡ None → cond b None t ≡ None
 nothing_either true t e = refl
@@ -118,3 +85,13 @@ told_set (x ∷ names) (time ∷ told) zero one name once h g = set_first (bytes
 told_set (x ∷ names) (time ∷ told) (suc k) one name once h g =
     set_later x (name_at names k) name time one (told_of names told name) (told_of names (slice_set told k one) name) (other_first x names k once (omega arith))
     (told_set names told k one name (IsDistinct-tail bytes_eq x names once) (omega arith) (omega arith)) (bytes_eq name x) (bytes_eq name (name_at names k)) refl refl
+
+-- what is told of a new name stands last
+pub told_last : (names : List (List ℕ)) (told : List Told) (x : List ℕ) (one : Told) (name : List ℕ) → has_name names x ≡ false → length told ≡ length names →
+    told_of (names ++ x ∷ []) (told ++ one ∷ []) name ≡ cond (bytes_eq name x) one (told_of names told name)
+told_last [] [] x one name absent as_many = refl
+told_last [] (time ∷ told) x one name absent as_many = absurd (omega arith)
+told_last (y ∷ names) [] x one name absent as_many = absurd (omega arith)
+told_last (y ∷ names) (time ∷ told) x one name absent as_many =
+    set_later y x name time one (told_of names told name) (told_of (names ++ x ∷ []) (told ++ one ∷ []) name) (first_of (bytes_eq x y) (has_name names x) absent)
+    (told_last names told x one name (second_of (bytes_eq x y) (has_name names x) absent) (omega arith)) (bytes_eq name y) (bytes_eq name x) refl refl

@@ -15,3 +15,4 @@ pub mod BaseLemmas
 pub mod OnePlanLemmas
 pub mod StampLemmas
 pub mod KnownLemmas
+pub mod ListedLemmas

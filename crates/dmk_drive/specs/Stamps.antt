@@ -1,15 +1,22 @@
 -- The times of files that are known so far.
-use Rattle.std.specs.Prelude.{◌≡◌, ℕ, ℤ, ◌≤◌, List, [], ◌∷◌, length, Option, Some, None, IfSome, bytes_eq, if◌then◌else◌}
+use Rattle.std.specs.Prelude.{◌≡◌, ℕ, ℤ, List, [], ◌∷◌, length, Option, Some, None, IfSome, bytes_eq, if◌then◌else◌}
 use Rattle.std.specs.List.{IsDistinct}
+use Rattle.mk_graph.specs.Numbering.{all_added}
 
--- each name stands there once, and nothing is told of others
-pub record IsTable (names : List (List ℕ)) (told : List (Option (Option ℤ))) : Type 0 where
-  pub once : IsDistinct bytes_eq names
-  pub within : length told ≤ length names
+-- names that are found, names that were listed since, and what was told of each by its number, where something was
+pub record Known : Type 0 where
+  pub found : List (List ℕ)
+  pub listed : List (List ℕ)
+  pub told : List (Option (Option ℤ))
 
--- names, and what was told of each, where something was
-abbrev pub Known : Type 0
-Known = List (List ℕ) × List (Option (Option ℤ))
+-- the names by their numbers: those that are found, and then the others as they were listed
+abbrev pub names_of : Known → List (List ℕ)
+names_of known = all_added known.found known.listed
+
+-- no name is found at two numbers, and each name has its place in what was told
+pub record IsTable (found listed : List (List ℕ)) (told : List (Option (Option ℤ))) : Type 0 where
+  pub once : IsDistinct bytes_eq found
+  pub as_many : length told ≡ length (all_added found listed)
 
 -- what was told of a name, where something was: it stands in the order of the names
 abbrev pub told_of : (names : List (List ℕ)) (told : List (Option (Option ℤ))) (name : List ℕ) → Option (Option ℤ)
@@ -19,7 +26,7 @@ told_of (n ∷ names) (time ∷ told) name = if bytes_eq name n then time else t
 
 -- what is known of a name: nothing, that it has no file, or its time
 abbrev pub known_stamp : Known → (name : List ℕ) → Option (Option ℤ)
-known_stamp known name = told_of known.0 known.1 name
+known_stamp known name = told_of (names_of known) known.told name
 
 -- behind a call the name is known by this, and each other one as before
 abbrev pub Adds : (name : List ℕ) (stamp : Option ℤ) (before after : Known) → Type 0

@@ -1,14 +1,15 @@
 //! The times of files by the system's calls, each looked at once.
-ghost use Rattle.std.specs.Prelude.{◌≡◌, ℕ, ℤ, true, false, List, Option, None, IfOk, IfErr, IsOk, IsErr, IsSome};
+ghost use Rattle.std.specs.Prelude.{◌≡◌, ◌<◌, ◌⊎◌, ℕ, ℤ, length, true, false, List, Option, None, IfOk, IfErr, IsOk, IsErr, IsSome};
 ghost use Rattle.std.specs.IoError.{error_kind};
-ghost use Rattle.dmk_drive.specs.Stamps.{known_stamp, AgreesWith};
+ghost use Rattle.mk_graph.specs.Numbering.{name_at, has_name};
+ghost use Rattle.dmk_drive.specs.Stamps.{names_of, known_stamp, AgreesWith};
 ghost use Rattle.mk_rules.specs.Tree.{IsTreeFault};
 ghost use Rattle.dmk_drive.specs.Files.{IsMissing, nanoseconds_of};
 
 use crate::file_calls::{FileCalls, FileStatus};
 use crate::stamps::Stamps;
 use mk_rules::{Tree, TreeFault};
-use std::alloc::Global;
+use std::alloc::{AllocError, Global};
 use std::io::{self, ErrorKind};
 
 /// The files of the current folder. What was answered of a name holds from then on.
@@ -78,16 +79,21 @@ impl<C: FileCalls + Drop> FileTree<C> {
     }
 
     /// When the file of this name was last changed. The system is asked where the name isn't known.
-    fn look(&mut self, alloc: Global, name: &[u8]) -> Result<Option<i128>, TreeFault>
+    fn look_at(
+        &mut self,
+        alloc: Global,
+        name: &[u8],
+        number: usize,
+    ) -> Result<Option<i128>, TreeFault>
+        requires number { number < length (names_of self.old.stamps) }
+        requires name { name_at (names_of self.old.stamps) number ≡ name.now }
         ensures stamp { IfOk result (λ stamp. (times : List ℕ → Option ℤ) → AgreesWith self.new.stamps times → stamp ≡ times name.now) }
         ensures grows { (times : List ℕ → Option ℤ) → AgreesWith self.new.stamps times → AgreesWith self.old.stamps times }
         ensures known { IsSome (known_stamp self.old.stamps name.now) → self.new ≡ self.old }
         ensures found { IsSome (known_stamp self.old.stamps name.now) → IsOk result }
+        ensures listed { self.new.stamps.listed ≡ self.old.stamps.listed }
         ensures fault { IfErr result (IsTreeFault (Unit {0})) }
     {
-        let Ok(number) = self.stamps.numbered(alloc, name) else {
-            return Err(TreeFault::OutOfMemory);
-        };
         if let Some(known) = self.stamps.get(number) {
             return Ok(known);
         }
@@ -95,6 +101,52 @@ impl<C: FileCalls + Drop> FileTree<C> {
         match self.stamps.set(alloc, number, stamp) {
             Ok(()) => Ok(stamp),
             Err(_) => Err(TreeFault::OutOfMemory),
+        }
+    }
+
+    /// A look at any name.
+    fn look(&mut self, alloc: Global, name: &[u8]) -> Result<Option<i128>, TreeFault>
+        ensures stamp { IfOk result (λ stamp. (times : List ℕ → Option ℤ) → AgreesWith self.new.stamps times → stamp ≡ times name.now) }
+        ensures grows { (times : List ℕ → Option ℤ) → AgreesWith self.new.stamps times → AgreesWith self.old.stamps times }
+        ensures known { IsSome (known_stamp self.old.stamps name.now) → self.new.calls ≡ self.old.calls }
+        ensures listed { (n : List ℕ) → has_name self.new.stamps.listed n ≡ true → has_name self.old.stamps.listed n ≡ true }
+        ensures fault { IfErr result (IsTreeFault (Unit {0})) }
+    {
+        let Ok(number) = self.stamps.numbered(alloc, name) else {
+            return Err(TreeFault::OutOfMemory);
+        };
+        self.look_at(alloc, name, number)
+    }
+
+    /// A look at a name that is new.
+    fn new_look(&mut self, alloc: Global, name: &[u8]) -> Result<Option<i128>, TreeFault>
+        requires no_found { has_name self.old.stamps.found name.now ≡ false }
+        requires no_listed { has_name self.old.stamps.listed name.now ≡ false }
+        ensures stamp { IfOk result (λ stamp. (times : List ℕ → Option ℤ) → AgreesWith self.new.stamps times → stamp ≡ times name.now) }
+        ensures grows { (times : List ℕ → Option ℤ) → AgreesWith self.new.stamps times → AgreesWith self.old.stamps times }
+        ensures listed { (n : List ℕ) → has_name self.new.stamps.listed n ≡ true → (has_name self.old.stamps.listed n ≡ true) ⊎ (n ≡ name.now) }
+        ensures fault { IfErr result (IsTreeFault (Unit {0})) }
+    {
+        let time = time_of(&mut self.calls, name)?;
+        match self.stamps.list(alloc, name, time) {
+            Ok(()) => Ok(time),
+            Err(_) => Err(TreeFault::OutOfMemory),
+        }
+    }
+
+    /// A look at a name that isn't listed yet.
+    fn first_look(&mut self, alloc: Global, name: &[u8]) -> Result<Option<i128>, TreeFault>
+        requires { has_name self.old.stamps.listed name.now ≡ false }
+        ensures stamp { IfOk result (λ stamp. (times : List ℕ → Option ℤ) → AgreesWith self.new.stamps times → stamp ≡ times name.now) }
+        ensures grows { (times : List ℕ → Option ℤ) → AgreesWith self.new.stamps times → AgreesWith self.old.stamps times }
+        ensures known { IsSome (known_stamp self.old.stamps name.now) → self.new ≡ self.old }
+        ensures found { IsSome (known_stamp self.old.stamps name.now) → IsOk result }
+        ensures listed { (n : List ℕ) → has_name self.new.stamps.listed n ≡ true → (has_name self.old.stamps.listed n ≡ true) ⊎ (n ≡ name.now) }
+        ensures fault { IfErr result (IsTreeFault (Unit {0})) }
+    {
+        match self.stamps.found_number(name) {
+            Some(number) => self.look_at(alloc, name, number),
+            None => self.new_look(alloc, name),
         }
     }
 }
@@ -107,8 +159,18 @@ impl<C: FileCalls + Drop> Tree for FileTree<C> {
 
     ghost refuses = { λ _ _. Unit {0} };
 
+    ghost firsts = { λ tree name. has_name tree.stamps.listed name ≡ true };
+
     fn stamp(&mut self, alloc: Global, name: &[u8]) -> Result<Option<i128>, TreeFault> {
         self.look(alloc, name)
+    }
+
+    fn first_stamp(&mut self, alloc: Global, name: &[u8]) -> Result<Option<i128>, TreeFault> {
+        self.first_look(alloc, name)
+    }
+
+    fn begin(&mut self, alloc: Global) -> Result<(), AllocError> {
+        self.stamps.find_listed(alloc)
     }
 
     ghost possible = { λ tree. (

@@ -16,6 +16,7 @@ mod file_texts;
 mod file_tree;
 mod keeping;
 mod laws;
+mod listed;
 mod listings;
 mod makefile;
 mod makefiles;

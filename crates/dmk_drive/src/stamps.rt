@@ -1,42 +1,83 @@
 //! The times that were told of names.
-ghost use Rattle.std.specs.Prelude.{◌≡◌, ℕ, ◌<◌, ◌≤◌, List, None, length, IfOk, OnOk, OnErr, IsOk, IsSome};
-ghost use Rattle.mk_graph.specs.Numbering.{name_at};
-ghost use Rattle.dmk_drive.specs.Stamps.{told_of, known_stamp, Adds, KnowsTheSame};
+ghost use Rattle.std.specs.Prelude.{◌≡◌, ℕ, ◌<◌, ◌⊎◌, List, [], None, length, true, false, is_some, IfOk, IfSome, OnOk, OnErr};
+ghost use Rattle.std.specs.List.{IsDistinct};
+ghost use Rattle.std.specs.Str.{bytes_eq};
+ghost use Rattle.mk_graph.specs.Numbering.{name_at, has_name, all_added};
+ghost use Rattle.dmk_drive.specs.Stamps.{names_of, told_of, known_stamp, Adds, KnowsTheSame};
 
+use crate::listed::{Listed, make_room};
 use crate::told::Told;
 use mk_graph::Names;
 use std::alloc::{AllocError, Global};
 use std::marker::Model;
 
 /// What was told of each name so far. Contracts see the names by their numbers, and what was told of them.
+///
+/// A name that was never asked for before is listed at no cost, and is found by its bytes only once another name has to be found.
 #[derive(Drop)]
 pub struct Stamps {
-    names: Names,
-    /// By number. Of a name that couldn't be looked at nothing is told, nor of one whose number is past the end.
-    stamps: Vec<Told>,
+    /// The names that are found, and those that were listed since.
+    found: Names,
+    listed: Listed,
+    /// By number. Of a name that couldn't be looked at nothing is told.
+    told: Vec<Told>,
 }
 
 impl Model for Stamps {
-    ghost use Rattle.std.specs.Prelude.{ℕ, ℤ, List, Option};
-    ghost use Rattle.dmk_drive.specs.Stamps.{IsTable};
+    ghost use Rattle.dmk_drive.specs.Stamps.{Known, IsTable};
 
-    ghost Value = { List (List ℕ) × List (Option (Option ℤ)) };
+    ghost Value = { Known };
 
-    ghost view = { λ s. (s.names, s.stamps.items) };
+    ghost view = { λ s. record { found = s.found; listed = s.listed; told = s.told.items } };
 
-    ghost invariant = { λ s. IsTable s.names s.stamps.items };
+    ghost invariant = { λ s. IsTable s.found s.listed s.told.items };
 }
 
-/// Makes the list reach to this number. Nothing is told where it gets longer.
-fn reach(stamps: &mut Vec<Told>, number: usize) -> Result<(), AllocError>
-    ensures long { OnOk result (number < length stamps.new.items) }
-    ensures within { (most : ℕ) → length stamps.old.items ≤ most → number < most → length stamps.new.items ≤ most }
-    ensures same { (names : List (List ℕ)) (name : List ℕ) → told_of names stamps.new.items name ≡ told_of names stamps.old.items name }
+/// Adds these names to those that are found.
+fn find_all(alloc: Global, found: &mut Names, listed: &Listed) -> Result<(), AllocError>
+    ensures ok { OnOk result (found.new ≡ all_added found.old listed.now) }
+    ensures err { OnErr result (all_added found.new listed.now ≡ all_added found.old listed.now) }
+    ensures once { IsDistinct bytes_eq found.old → IsDistinct bytes_eq found.new }
 {
-    while stamps.len() <= number {
-        stamps.push(Told::nothing())?;
+    for number in 0..listed.len() {
+        found.numbered(alloc, listed.name(number))?;
     }
     Ok(())
+}
+
+/// The number of a name that is found.
+#[tactic(auto, using(crate::proofs::ListedLemmas::no_names))]
+fn number_in(found: &Names, name: &[u8]) -> Option<u32>
+    ensures number { IfSome result (λ n. (n < length found.now) × (name_at found.now n ≡ name.now)) }
+    ensures none { is_some result ≡ has_name found.now name.now }
+{
+    if found.len() == 0 {
+        return None;
+    }
+    found.number_of(name)
+}
+
+/// The number of a name, which is found from then on. Nothing is told of a new one.
+fn add_found(
+    alloc: Global,
+    found: &mut Names,
+    told: &mut Vec<Told>,
+    name: &[u8],
+) -> Result<usize, AllocError>
+    requires { length told.old.items ≡ length found.old }
+    ensures number { IfOk result (λ n. (n < length found.new) × (name_at found.new n ≡ name.now)) }
+    ensures as_many { length told.new.items ≡ length found.new }
+    ensures same { (n : List ℕ) → told_of found.new told.new.items n ≡ told_of found.old told.old.items n }
+    ensures once { IsDistinct bytes_eq found.old → IsDistinct bytes_eq found.new }
+{
+    make_room(told)?;
+    let place = found.numbered(alloc, name)?;
+    let number = place as usize;
+    if number < told.len() {
+        return Ok(number);
+    }
+    told.push_reserved(Told::nothing());
+    Ok(number)
 }
 
 impl Stamps {
@@ -44,31 +85,66 @@ impl Stamps {
         ensures { (name : List ℕ) → known_stamp result name ≡ None }
     {
         Stamps {
-            names: Names::new(alloc),
-            stamps: Vec::new(alloc),
+            found: Names::new(alloc),
+            listed: Listed::empty(alloc),
+            told: Vec::new(alloc),
         }
+    }
+
+    /// Makes all names be found. What is known of them stays as it is.
+    pub fn find_listed(&mut self, alloc: Global) -> Result<(), AllocError>
+        ensures same { KnowsTheSame self.old self.new }
+        ensures listed { (n : List ℕ) → has_name self.new.listed n ≡ true → has_name self.old.listed n ≡ true }
+        ensures none { OnOk result (self.new.listed ≡ []) }
+    {
+        find_all(alloc, &mut self.found, &self.listed)?;
+        self.listed = Listed::empty(alloc);
+        Ok(())
     }
 
     /// The number of a name, which is given the next one where it has none. What is known of names stays as it is.
     pub fn numbered(&mut self, alloc: Global, name: &[u8]) -> Result<usize, AllocError>
-        ensures number { IfOk result (λ n. (n < length self.new.0) × (name_at self.new.0 n ≡ name.now)) }
+        ensures number { IfOk result (λ n. (n < length (names_of self.new)) × (name_at (names_of self.new) n ≡ name.now)) }
         ensures same { KnowsTheSame self.old self.new }
-        ensures known { IsSome (known_stamp self.old name.now) → self.new ≡ self.old }
-        ensures found { IsSome (known_stamp self.old name.now) → IsOk result }
+        ensures listed { (n : List ℕ) → has_name self.new.listed n ≡ true → has_name self.old.listed n ≡ true }
     {
-        let number = self.names.numbered(alloc, name)?;
-        Ok(number as usize)
+        find_all(alloc, &mut self.found, &self.listed)?;
+        self.listed = Listed::empty(alloc);
+        add_found(alloc, &mut self.found, &mut self.told, name)
+    }
+
+    /// The number of a name among those that are found.
+    pub fn found_number(&self, name: &[u8]) -> Option<usize>
+        ensures number { IfSome result (λ n. (n < length (names_of self.now)) × (name_at (names_of self.now) n ≡ name.now)) }
+        ensures none { is_some result ≡ has_name self.now.found name.now }
+    {
+        match number_in(&self.found, name) {
+            Some(number) => Some(number as usize),
+            None => None,
+        }
+    }
+
+    /// Lists a name that is new, and takes in what was told of it.
+    pub fn list(&mut self, alloc: Global, name: &[u8], time: Option<i128>) -> Result<(), AllocError>
+        requires no_found { has_name self.old.found name.now ≡ false }
+        requires no_listed { has_name self.old.listed name.now ≡ false }
+        ensures ok { OnOk result (Adds name.now time self.old self.new) }
+        ensures err { OnErr result (KnowsTheSame self.old self.new) }
+        ensures listed { (n : List ℕ) → has_name self.new.listed n ≡ true → (has_name self.old.listed n ≡ true) ⊎ (n ≡ name.now) }
+    {
+        let told = Told::of(alloc, time)?;
+        make_room(&mut self.told)?;
+        self.listed.push(name)?;
+        self.told.push_reserved(told);
+        Ok(())
     }
 
     /// What is known of the name with this number: nothing, that it has no file, or its time.
     pub fn get(&self, number: usize) -> Option<Option<i128>>
-        requires { number < length self.now.0 }
-        ensures { result ≡ known_stamp self.now (name_at self.now.0 number) }
+        requires { number < length (names_of self.now) }
+        ensures { result ≡ known_stamp self.now (name_at (names_of self.now) number) }
     {
-        if number >= self.stamps.len() {
-            return None;
-        }
-        self.stamps[number].get()
+        self.told[number].get()
     }
 
     /// Takes in what was told of the name with this number.
@@ -78,13 +154,13 @@ impl Stamps {
         number: usize,
         time: Option<i128>,
     ) -> Result<(), AllocError>
-        requires { number < length self.old.0 }
-        ensures ok { OnOk result (Adds (name_at self.old.0 number) time self.old self.new) }
+        requires { number < length (names_of self.old) }
+        ensures ok { OnOk result (Adds (name_at (names_of self.old) number) time self.old self.new) }
         ensures err { OnErr result (KnowsTheSame self.old self.new) }
+        ensures listed { self.new.listed ≡ self.old.listed }
     {
         let told = Told::of(alloc, time)?;
-        reach(&mut self.stamps, number)?;
-        self.stamps[number] = told;
+        self.told[number] = told;
         Ok(())
     }
 }

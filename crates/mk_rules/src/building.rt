@@ -11,7 +11,7 @@ ghost use Rattle.mk_rules.specs.Known.{IsKnown};
 ghost use Rattle.mk_rules.specs.Node.{EachHasOneNumber};
 ghost use Rattle.mk_rules.specs.Nodes.{IsNamedOf};
 ghost use Rattle.mk_rules.specs.Assembly.{IsPutTogether};
-ghost use Rattle.mk_rules.specs.Looks.{Looks};
+ghost use Rattle.mk_rules.specs.Looks.{Looks, any_name};
 ghost use Rattle.mk_rule_lines.specs.Table.{is_named, named_at};
 ghost use Rattle.mk_rules.specs.Tree.{AskedOnce};
 ghost use Rattle.mk_macros.specs.Ranks.{defined_by};
@@ -55,6 +55,7 @@ fn found_names<T: Tree>(
     goals: &ByteStrings,
     limit: usize,
 ) -> Result<Numbered<Node>, RuleFault>
+    requires { (n : List ℕ) → ¬ (T.firsts finder.old.tree.now n) }
     ensures found { IfOk result (λ n. (times : List ℕ → Option ℤ) → T.allows finder.new.tree.now times
         → AreFound (inputs_of finder.old.rules.lines.now (finmap.get finder.old.rules.state.now) times) goals.now n) }
     ensures row_count { IfOk result (λ n. length n.rows ≡ length n.names) }
@@ -67,7 +68,7 @@ fn found_names<T: Tree>(
         goals.now limit fault) }
     ensures same { finder.new.tree.ghost_name ≡ finder.old.tree.ghost_name }
     ensures looks { Looks (T.allows finder.old.tree.now) (T.allows finder.new.tree.now) (T.refuses finder.old.tree.now) (T.refuses finder.new.tree.now)
-        (T.asked finder.old.tree.now) (T.asked finder.new.tree.now) }
+        (T.asked finder.old.tree.now) (T.asked finder.new.tree.now) any_name any_name }
 {
     match number(alloc, finder, goals, limit) {
         Ok(numbered) => Ok(numbered),
@@ -98,6 +99,7 @@ fn numbered_names<T: Tree>(
     ensures narrows { (times : List ℕ → Option ℤ) → T.allows tree.new times → T.allows tree.old times }
     ensures asked { AskedOnce (T.asked tree.old) (λ _. true) (T.asked tree.new) }
 {
+    tree.begin(alloc)?;
     let mut finder = Finder { rules, tree };
     found_names(alloc, &mut finder, goals, limit)
 }

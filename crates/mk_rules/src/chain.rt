@@ -97,7 +97,7 @@ fn can_be<T: Tree>(
 ) -> Result<bool, RuleFault>
     ensures can_be { IfOk result (λ can. (times : List ℕ → Option ℤ) → T.allows tree.new times
         → can ≡ can_be (is_there makers.now.targets.now times) makers.now.forms.now steps taken.now name.now) }
-    ensures looks { Looks (T.allows tree.old) (T.allows tree.new) (T.refuses tree.old) (T.refuses tree.new) (T.asked tree.old) (T.asked tree.new) }
+    ensures looks { Looks (T.allows tree.old) (T.allows tree.new) (T.refuses tree.old) (T.refuses tree.new) (T.asked tree.old) (T.asked tree.new) (T.firsts tree.old) (T.firsts tree.new) }
     ensures fault { IfErr result (IsLedFault makers.now.targets.now (T.refuses tree.new) (IsAskedIn makers.now.forms.now steps taken.now name.now)) }
 {
     if is_there(alloc, makers.targets, tree, name)? {
@@ -122,7 +122,7 @@ fn all_can_be<T: Tree>(
 ) -> Result<bool, RuleFault>
     ensures can_be { IfOk result (λ can. (times : List ℕ → Option ℤ) → T.allows tree.new times
         → can ≡ list_all (can_be (is_there makers.now.targets.now times) makers.now.forms.now steps taken.now) names.now) }
-    ensures looks { Looks (T.allows tree.old) (T.allows tree.new) (T.refuses tree.old) (T.refuses tree.new) (T.asked tree.old) (T.asked tree.new) }
+    ensures looks { Looks (T.allows tree.old) (T.allows tree.new) (T.refuses tree.old) (T.refuses tree.new) (T.asked tree.old) (T.asked tree.new) (T.firsts tree.old) (T.firsts tree.new) }
     ensures fault { IfErr result (IsLedFault makers.now.targets.now (T.refuses tree.new) (IsAmong (IsAskedIn makers.now.forms.now steps taken.now) names.now)) }
 {
     for name in names.iter() {
@@ -146,7 +146,7 @@ fn first_that<T: Tree>(
     ensures source { IfOk result (λ found. (times : List ℕ → Option ℤ) → T.allows tree.new times
         → found ≡ first_that (λ rule. can_be (is_there makers.now.targets.now times) makers.now.forms.now steps (rule ∷ taken.now))
         (usable false taken.now makers.now.forms.now) name.now) }
-    ensures looks { Looks (T.allows tree.old) (T.allows tree.new) (T.refuses tree.old) (T.refuses tree.new) (T.asked tree.old) (T.asked tree.new) }
+    ensures looks { Looks (T.allows tree.old) (T.allows tree.new) (T.refuses tree.old) (T.refuses tree.new) (T.asked tree.old) (T.asked tree.new) (T.firsts tree.old) (T.firsts tree.new) }
     ensures fault { IfErr result (IsLedFault makers.now.targets.now (T.refuses tree.new)
         (IsBehind (λ rule. IsAskedIn makers.now.forms.now steps (rule ∷ taken.now)) (usable false taken.now makers.now.forms.now) name.now)) }
 {
@@ -176,7 +176,7 @@ fn chained<T: Tree>(
         → source_of (is_there makers.now.targets.now times) makers.now.forms.now name.now ≡ None }
     ensures source { IfOk result (λ found. (times : List ℕ → Option ℤ) → T.allows tree.new times
         → found ≡ chained (is_there makers.now.targets.now times) makers.now.forms.now steps name.now) }
-    ensures looks { Looks (T.allows tree.old) (T.allows tree.new) (T.refuses tree.old) (T.refuses tree.new) (T.asked tree.old) (T.asked tree.new) }
+    ensures looks { Looks (T.allows tree.old) (T.allows tree.new) (T.refuses tree.old) (T.refuses tree.new) (T.asked tree.old) (T.asked tree.new) (T.firsts tree.old) (T.firsts tree.new) }
     ensures fault { IfErr result (IsLedFault makers.now.targets.now (T.refuses tree.new) (IsChainedTo makers.now.forms.now steps name.now)) }
 {
     let any = !has_a_type(makers.forms, name);
@@ -209,7 +209,7 @@ fn shortest<T: Tree>(
         → source_of (is_there makers.now.targets.now times) makers.now.forms.now name.now ≡ None }
     ensures source { IfOk result (λ found. (times : List ℕ → Option ℤ) → T.allows tree.new times
         → found ≡ source_in (is_there makers.now.targets.now times) makers.now.forms.now steps name.now) }
-    ensures looks { Looks (T.allows tree.old) (T.allows tree.new) (T.refuses tree.old) (T.refuses tree.new) (T.asked tree.old) (T.asked tree.new) }
+    ensures looks { Looks (T.allows tree.old) (T.allows tree.new) (T.refuses tree.old) (T.refuses tree.new) (T.asked tree.old) (T.asked tree.new) (T.firsts tree.old) (T.firsts tree.new) }
     ensures fault { IfErr result (IsSearchFault makers.now.targets.now (T.allows tree.new) (T.refuses tree.new) makers.now.forms.now steps name.now) }
 {
     // What can't be made in so many steps can't be made in fewer.
@@ -236,7 +236,7 @@ pub(crate) fn source_in<T: Tree>(
 ) -> Result<Option<Source>, RuleFault>
     ensures source { IfOk result (λ found. (times : List ℕ → Option ℤ) → T.allows tree.new times
         → found ≡ source_in (is_there makers.now.targets.now times) makers.now.forms.now steps name.now) }
-    ensures looks { Looks (T.allows tree.old) (T.allows tree.new) (T.refuses tree.old) (T.refuses tree.new) (T.asked tree.old) (T.asked tree.new) }
+    ensures looks { Looks (T.allows tree.old) (T.allows tree.new) (T.refuses tree.old) (T.refuses tree.new) (T.asked tree.old) (T.asked tree.new) (T.firsts tree.old) (T.firsts tree.new) }
     ensures fault { IfErr result (IsSearchFault makers.now.targets.now (T.allows tree.new) (T.refuses tree.new) makers.now.forms.now steps name.now) }
 {
     if let Some(there) = source_of(alloc, makers.targets, tree, makers.forms, name)? {

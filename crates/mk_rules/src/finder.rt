@@ -7,7 +7,7 @@ ghost use Rattle.std.specs.Str.{bytes_eq};
 ghost use Rattle.mk_rules.specs.Prerequisites.{inputs_of, is_node, hidden_in, prerequisites_of};
 ghost use Rattle.mk_graph.specs.Numbering.{name_at, all_added};
 ghost use Rattle.mk_rule_lines.specs.Explicit.{numbers_of, explicit_of};
-ghost use Rattle.mk_rules.specs.Looks.{Looks};
+ghost use Rattle.mk_rules.specs.Looks.{Looks, and_this, any_name};
 ghost use Rattle.mk_rules.specs.Hidden.{IsNamesFault};
 ghost use Rattle.mk_rules.specs.Known.{IsKnown, IsLookUpFault};
 ghost use Rattle.mk_rules.specs.Node.{hidden_marks};
@@ -180,7 +180,7 @@ fn numbered<T: Tree>(
         (named names.new notes.new.row) node) }
     ensures noted { OnOk result ((times : List ℕ → Option ℤ) → T.allows tree.new times
         → AreKnownNodes (is_node (inputs_of rules.now.lines.now (finmap.get rules.now.state.now) times)) names.new notes.new.marks.items) }
-    ensures looks { Looks (T.allows tree.old) (T.allows tree.new) (T.refuses tree.old) (T.refuses tree.new) (T.asked tree.old) (T.asked tree.new) }
+    ensures looks { Looks (T.allows tree.old) (T.allows tree.new) (T.refuses tree.old) (T.refuses tree.new) (T.asked tree.old) (T.asked tree.new) (T.firsts tree.old) (T.firsts tree.new) }
     ensures fault { IfErr result (IsNamesFault (T.refuses tree.new) (hidden_in (option_copied recorded.entry))) }
 {
     notes.row.clear();
@@ -210,6 +210,7 @@ fn look_up<T: Tree>(
     requires noted { (times : List ℕ → Option ℤ) → T.allows tree.old times
         → AreKnownNodes (is_node (inputs_of rules.now.lines.now (finmap.get rules.now.state.now) times)) names.old notes.old.marks.items }
     requires distinct { IsDistinct bytes_eq names.old }
+    requires unasked { ¬ (T.firsts tree.old (name_at names.old number)) }
     ensures names { OnOk result (names.new ≡ all_added names.old (map (name_at names.new) notes.new.row)) }
     ensures numbers { OnOk result (list_all (λ n. nat_lt n (length names.new)) notes.new.row ≡ true) }
     ensures prerequisites { OnOk result ((times : List ℕ → Option ℤ) → T.allows tree.new times
@@ -219,7 +220,7 @@ fn look_up<T: Tree>(
         → IsKnown (inputs_of rules.now.lines.now (finmap.get rules.now.state.now) times) (name_at names.old number) node) }
     ensures noted { OnOk result ((times : List ℕ → Option ℤ) → T.allows tree.new times
         → AreKnownNodes (is_node (inputs_of rules.now.lines.now (finmap.get rules.now.state.now) times)) names.new notes.new.marks.items) }
-    ensures looks { Looks (T.allows tree.old) (T.allows tree.new) (T.refuses tree.old) (T.refuses tree.new) (T.asked tree.old) (T.asked tree.new) }
+    ensures looks { Looks (T.allows tree.old) (T.allows tree.new) (T.refuses tree.old) (T.refuses tree.new) (T.asked tree.old) (T.asked tree.new) (and_this (name_at names.old number) (T.firsts tree.old)) (T.firsts tree.new) }
     ensures fault { IfErr result (IsLookUpFault rules.now.targets.now (T.allows tree.new) (T.refuses tree.new) rules.now.forms.now rules.now.steps
         rules.now.lines.now (finmap.get rules.now.state.now) (name_at names.old number)) }
 {
@@ -250,8 +251,8 @@ impl<'m, 't, T: Tree> Dependencies for Finder<'m, 't, T> {
 
     ghost allows = { λ f of. IsAllowed (T.allows f.tree.now) f.rules.lines.now (finmap.get f.rules.state.now) of };
 
-    // Each name is looked up where it is asked for.
-    ghost asked = { λ _ _. ⊥ };
+    // The time of each name is asked for first where the name is looked up.
+    ghost asked = { λ f name. T.firsts f.tree.now name };
 
     ghost describes = { λ f name known. (times : List ℕ → Option ℤ) → T.allows f.tree.now times
         → IsKnown (inputs_of f.rules.lines.now (finmap.get f.rules.state.now) times) name known };
@@ -260,7 +261,7 @@ impl<'m, 't, T: Tree> Dependencies for Finder<'m, 't, T> {
         f.rules.lines.now (finmap.get f.rules.state.now) name fault };
 
     ghost follows = { λ f _ g. (g.rules ≡ f.rules) × (g.tree.ghost_name ≡ f.tree.ghost_name)
-        × Looks (T.allows f.tree.now) (T.allows g.tree.now) (T.refuses f.tree.now) (T.refuses g.tree.now) (T.asked f.tree.now) (T.asked g.tree.now) };
+        × Looks (T.allows f.tree.now) (T.allows g.tree.now) (T.refuses f.tree.now) (T.refuses g.tree.now) (T.asked f.tree.now) (T.asked g.tree.now) any_name any_name };
 
     ghost fits = { λ f names notes. (times : List ℕ → Option ℤ) → T.allows f.tree.now times
         → AreKnownNodes (is_node (inputs_of f.rules.lines.now (finmap.get f.rules.state.now) times)) names notes.marks.items };
@@ -296,12 +297,12 @@ impl<'m, 't, T: Tree> Dependencies for Finder<'m, 't, T> {
       allowed_by (T.allows f.tree.now) f.rules.lines.now (finmap.get f.rules.state.now) (T.possible f.tree.now).0 (T.possible f.tree.now).1,
     ) };
 
-    ghost stays = { λ f. (refl, refl, looks_none _ _ _) };
+    ghost stays = { λ f. (refl, refl, looks_none _ _ _ _) };
 
     ghost through = { λ a b c answers first next. (
       next.0 ∙ first.0,
       next.1 ∙ first.1,
-      looks_on _ _ _ _ _ _ _ _ _ first.2 next.2,
+      looks_on _ _ _ _ _ _ _ _ _ _ _ _ first.2 next.2,
     ) };
 
     ghost ended = { λ a b first. first };

@@ -36,7 +36,7 @@ fn node_number<T: Tree>(
         → is_some number ≡ is_node (inputs_of rules.now.lines.now (map.get rules.now.state.now) times) name.now) }
     ensures noted { OnOk result ((times : List ℕ → Option ℤ) → T.allows tree.new times
         → AreKnownNodes (is_node (inputs_of rules.now.lines.now (map.get rules.now.state.now) times)) names.new notes.new.marks.items) }
-    ensures looks { Looks (T.allows tree.old) (T.allows tree.new) (T.refuses tree.old) (T.refuses tree.new) (T.asked tree.old) (T.asked tree.new) }
+    ensures looks { Looks (T.allows tree.old) (T.allows tree.new) (T.refuses tree.old) (T.refuses tree.new) (T.asked tree.old) (T.asked tree.new) (T.firsts tree.old) (T.firsts tree.new) }
     ensures fault { IfErr result (λ fault. (hidden : List (List ℕ)) → has name.now hidden ≡ true → IsNamesFault (T.refuses tree.new) hidden fault) }
 {
     let known = notes.number_of(names, name)?;
@@ -69,7 +69,7 @@ fn take_hidden<T: Tree>(
         (named names.new mentioned.new.nodes) mentioned.old.gone mentioned.new.gone mentioned.old.hidden mentioned.new.hidden) }
     ensures noted { OnOk result ((times : List ℕ → Option ℤ) → T.allows tree.new times
         → AreKnownNodes (is_node (inputs_of rules.now.lines.now (map.get rules.now.state.now) times)) names.new notes.new.marks.items) }
-    ensures looks { Looks (T.allows tree.old) (T.allows tree.new) (T.refuses tree.old) (T.refuses tree.new) (T.asked tree.old) (T.asked tree.new) }
+    ensures looks { Looks (T.allows tree.old) (T.allows tree.new) (T.refuses tree.old) (T.refuses tree.new) (T.asked tree.old) (T.asked tree.new) (T.firsts tree.old) (T.firsts tree.new) }
     ensures fault { IfErr result (λ fault. (hidden : List (List ℕ)) → has name.now hidden ≡ true → IsNamesFault (T.refuses tree.new) hidden fault) }
 {
     let number = node_number(alloc, rules, tree, names, notes, name)?;
@@ -98,7 +98,7 @@ pub(crate) fn add_hidden<T: Tree>(
         (named names.new mentioned.new.nodes) mentioned.new.hidden) }
     ensures noted { OnOk result ((times : List ℕ → Option ℤ) → T.allows tree.new times
         → AreKnownNodes (is_node (inputs_of rules.now.lines.now (map.get rules.now.state.now) times)) names.new notes.new.marks.items) }
-    ensures looks { Looks (T.allows tree.old) (T.allows tree.new) (T.refuses tree.old) (T.refuses tree.new) (T.asked tree.old) (T.asked tree.new) }
+    ensures looks { Looks (T.allows tree.old) (T.allows tree.new) (T.refuses tree.old) (T.refuses tree.new) (T.asked tree.old) (T.asked tree.new) (T.firsts tree.old) (T.firsts tree.new) }
     ensures fault { IfErr result (IsNamesFault (T.refuses tree.new) hidden.now) }
 {
     notes.followers.start();

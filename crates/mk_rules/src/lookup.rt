@@ -5,10 +5,10 @@ ghost use Rattle.std.specs.List.{list_all};
 ghost use Rattle.std.specs.Str.{is_utf8};
 ghost use Rattle.mk_rule_lines.specs.Explicit.{is_phony};
 ghost use Rattle.mk_rules.specs.Prerequisites.{inputs_of, is_node, found_source, own_recipes};
-ghost use Rattle.mk_rules.specs.Looks.{IsLookFault, Looks};
+ghost use Rattle.mk_rules.specs.Looks.{IsLookFault, Looks, and_this};
 ghost use Rattle.mk_rules.specs.Search.{IsSearchFault};
 
-use crate::look::stamp_of;
+use crate::look::{first_stamp_of, stamp_of};
 use crate::rules::Rules;
 use crate::source::is_there;
 use crate::tree::Tree;
@@ -45,7 +45,7 @@ pub(crate) fn is_node<T: Tree>(
 ) -> Result<bool, RuleFault>
     ensures node { IfOk result (λ node. (times : List ℕ → Option ℤ) → T.allows tree.new times
         → node ≡ is_node (inputs_of rules.now.lines.now (map.get rules.now.state.now) times) name.now) }
-    ensures looks { Looks (T.allows tree.old) (T.allows tree.new) (T.refuses tree.old) (T.refuses tree.new) (T.asked tree.old) (T.asked tree.new) }
+    ensures looks { Looks (T.allows tree.old) (T.allows tree.new) (T.refuses tree.old) (T.refuses tree.new) (T.asked tree.old) (T.asked tree.new) (T.firsts tree.old) (T.firsts tree.new) }
     ensures fault { IfErr result (IsLookFault (T.refuses tree.new) name.now) }
     // A name that isn't text is neither asked for nor looked at.
     ensures unasked { is_utf8 name.now ≡ false → (tree.new ≡ tree.old) × IsOk result }
@@ -65,7 +65,7 @@ pub(crate) fn seen_stamp<T: Tree>(
 ) -> Result<Option<i128>, RuleFault>
     ensures stamp { IfOk result (λ stamp. (times : List ℕ → Option ℤ)
         → T.allows tree.new times → stamp ≡ (if is_phony then None else times name.now)) }
-    ensures looks { Looks (T.allows tree.old) (T.allows tree.new) (T.refuses tree.old) (T.refuses tree.new) (T.asked tree.old) (T.asked tree.new) }
+    ensures looks { Looks (T.allows tree.old) (T.allows tree.new) (T.refuses tree.old) (T.refuses tree.new) (T.asked tree.old) (T.asked tree.new) (T.firsts tree.old) (T.firsts tree.new) }
     ensures fault { IfErr result (IsLookFault (T.refuses tree.new) name.now) }
     ensures asked { IsErr result → is_phony ≡ false }
 {
@@ -73,6 +73,26 @@ pub(crate) fn seen_stamp<T: Tree>(
         return Ok(None);
     }
     stamp_of(alloc, tree, name)
+}
+
+/// The same of a name that the tree wasn't asked for first.
+pub(crate) fn first_seen_stamp<T: Tree>(
+    alloc: Global,
+    tree: &mut T,
+    name: &[u8],
+    is_phony: bool,
+) -> Result<Option<i128>, RuleFault>
+    requires { ¬ (T.firsts tree.old name.now) }
+    ensures stamp { IfOk result (λ stamp. (times : List ℕ → Option ℤ)
+        → T.allows tree.new times → stamp ≡ (if is_phony then None else times name.now)) }
+    ensures looks { Looks (T.allows tree.old) (T.allows tree.new) (T.refuses tree.old) (T.refuses tree.new) (T.asked tree.old) (T.asked tree.new) (and_this name.now (T.firsts tree.old)) (T.firsts tree.new) }
+    ensures fault { IfErr result (IsLookFault (T.refuses tree.new) name.now) }
+    ensures asked { IsErr result → is_phony ≡ false }
+{
+    if is_phony {
+        return Ok(None);
+    }
+    first_stamp_of(alloc, tree, name)
 }
 
 /// What the search for a source of the name finds, where it isn't phony and no line has a recipe for it: `own` is the number of the
@@ -89,7 +109,7 @@ pub(crate) fn found_source<T: Tree>(
     requires phony { phony ≡ is_phony rules.now.lines.now name.now }
     ensures source { IfOk result (λ found. (times : List ℕ → Option ℤ) → T.allows tree.new times
         → found ≡ found_source (inputs_of rules.now.lines.now (map.get rules.now.state.now) times) name.now) }
-    ensures looks { Looks (T.allows tree.old) (T.allows tree.new) (T.refuses tree.old) (T.refuses tree.new) (T.asked tree.old) (T.asked tree.new) }
+    ensures looks { Looks (T.allows tree.old) (T.allows tree.new) (T.refuses tree.old) (T.refuses tree.new) (T.asked tree.old) (T.asked tree.new) (T.firsts tree.old) (T.firsts tree.new) }
     ensures fault { IfErr result (IsSearchFault rules.now.targets.now (T.allows tree.new) (T.refuses tree.new) rules.now.forms.now rules.now.steps name.now) }
     // Of a phony name, and beside a recipe of its own, no source is looked for.
     ensures unasked { ((is_phony rules.now.lines.now name.now ≡ false) × (own_recipes rules.now.lines.now name.now ≡ []))

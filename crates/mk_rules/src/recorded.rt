@@ -53,7 +53,7 @@ fn add_all_hidden<T: Tree>(
         (named names.new notes.new.row) among) }
     ensures noted { OnOk result ((times : List ℕ → Option ℤ) → T.allows tree.new times
         → AreKnownNodes (is_node (inputs_of rules.now.lines.now (finmap.get rules.now.state.now) times)) names.new notes.new.marks.items) }
-    ensures looks { Looks (T.allows tree.old) (T.allows tree.new) (T.refuses tree.old) (T.refuses tree.new) (T.asked tree.old) (T.asked tree.new) }
+    ensures looks { Looks (T.allows tree.old) (T.allows tree.new) (T.refuses tree.old) (T.refuses tree.new) (T.asked tree.old) (T.asked tree.new) (T.firsts tree.old) (T.firsts tree.new) }
     ensures fault { IfErr result (IsNamesFault (T.refuses tree.new) hidden.now) }
 {
     let mut mentioned = Mentioned::new(alloc, notes.take_row(alloc));
@@ -81,7 +81,7 @@ fn add_listed<T: Tree>(
         (named names.new notes.new.row) among) }
     ensures noted { OnOk result ((times : List ℕ → Option ℤ) → T.allows tree.new times
         → AreKnownNodes (is_node (inputs_of rules.now.lines.now (finmap.get rules.now.state.now) times)) names.new notes.new.marks.items) }
-    ensures looks { Looks (T.allows tree.old) (T.allows tree.new) (T.refuses tree.old) (T.refuses tree.new) (T.asked tree.old) (T.asked tree.new) }
+    ensures looks { Looks (T.allows tree.old) (T.allows tree.new) (T.refuses tree.old) (T.refuses tree.new) (T.asked tree.old) (T.asked tree.new) (T.firsts tree.old) (T.firsts tree.new) }
     ensures fault { IfErr result (IsNamesFault (T.refuses tree.new) hidden.entry) }
 {
     if hidden.len() == 0 {
@@ -108,7 +108,7 @@ pub(crate) fn add_recorded<T: Tree>(
         (named names.new notes.new.row) among) }
     ensures noted { OnOk result ((times : List ℕ → Option ℤ) → T.allows tree.new times
         → AreKnownNodes (is_node (inputs_of rules.now.lines.now (finmap.get rules.now.state.now) times)) names.new notes.new.marks.items) }
-    ensures looks { Looks (T.allows tree.old) (T.allows tree.new) (T.refuses tree.old) (T.refuses tree.new) (T.asked tree.old) (T.asked tree.new) }
+    ensures looks { Looks (T.allows tree.old) (T.allows tree.new) (T.refuses tree.old) (T.refuses tree.new) (T.asked tree.old) (T.asked tree.new) (T.firsts tree.old) (T.firsts tree.new) }
     ensures fault { IfErr result (IsNamesFault (T.refuses tree.new) (hidden_in (option_copied recorded.entry))) }
 {
     match recorded {

@@ -160,7 +160,7 @@ impl<'m> Rules<'m> {
     ) -> Result<Option<Source>, RuleFault>
         ensures source { IfOk result (λ found. (times : List ℕ → Option ℤ) → T.allows tree.new times
             → found ≡ source_in (is_there self.now.targets.now times) self.now.forms.now self.now.steps name.now) }
-        ensures looks { Looks (T.allows tree.old) (T.allows tree.new) (T.refuses tree.old) (T.refuses tree.new) (T.asked tree.old) (T.asked tree.new) }
+        ensures looks { Looks (T.allows tree.old) (T.allows tree.new) (T.refuses tree.old) (T.refuses tree.new) (T.asked tree.old) (T.asked tree.new) (T.firsts tree.old) (T.firsts tree.new) }
         ensures fault { IfErr result (IsSearchFault self.now.targets.now (T.allows tree.new) (T.refuses tree.new) self.now.forms.now self.now.steps name.now) }
     {
         let makers = Makers {

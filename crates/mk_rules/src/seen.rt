@@ -5,7 +5,7 @@ ghost use Rattle.mk_rule_lines.specs.Explicit.{numbers_of, explicit_of, order_on
 ghost use Rattle.mk_rules.specs.Groups.{others_in};
 ghost use Rattle.mk_rules.specs.Prerequisites.{inputs_of, own_recipes, seen_times, first_or, rule_or, behind_bar_of, distinct};
 ghost use Rattle.mk_graph.specs.Numbering.{all_added};
-ghost use Rattle.mk_rules.specs.Looks.{Looks};
+ghost use Rattle.mk_rules.specs.Looks.{Looks, and_this};
 ghost use Rattle.mk_rules.specs.Known.{IsLookUpFault, IsOthersFault};
 ghost use Rattle.mk_rules.specs.Seen.{IsSeen, IsGiven, IsRuled, IsRuledIn};
 
@@ -13,7 +13,7 @@ use crate::distinct_names::DistinctNames;
 use crate::known::{Given, Ruled, Seen};
 use crate::left_over::rule_or;
 use crate::listed::{names_behind, push_all};
-use crate::lookup::seen_stamp;
+use crate::lookup::first_seen_stamp;
 use crate::made::{implied_count, made_from, mention_all};
 use crate::rare::{Rare, RareParts};
 use crate::rules::Rules;
@@ -108,7 +108,7 @@ fn given_by<T: Tree>(
     ensures given { IfOk result (λ given. (name : List ℕ) (times : List ℕ → Option ℤ) → T.allows tree.new times
         → numbers.now ≡ numbers_of rules.now.lines.now name → stamp.now ≡ seen_times rules.now.lines.now times name
         → IsGiven (inputs_of rules.now.lines.now (map.get rules.now.state.now) times) name source given.value.made given.value.order_only given.value.rare) }
-    ensures looks { Looks (T.allows tree.old) (T.allows tree.new) (T.refuses tree.old) (T.refuses tree.new) (T.asked tree.old) (T.asked tree.new) }
+    ensures looks { Looks (T.allows tree.old) (T.allows tree.new) (T.refuses tree.old) (T.refuses tree.new) (T.asked tree.old) (T.asked tree.new) (T.firsts tree.old) (T.firsts tree.new) }
     ensures fault { IfErr result (IsOthersFault (T.refuses tree.new) rules.now.lines.now (others_in source)) }
 {
     let group = group_of(alloc, rules, tree, stamp.get(), &source)?;
@@ -162,7 +162,7 @@ fn ruled_by<T: Tree>(
     ensures ruled { IfOk result (λ ruled. (name : List ℕ) (times : List ℕ → Option ℤ) → T.allows tree.new times
         → numbers.now ≡ numbers_of rules.now.lines.now name → stamp.now ≡ seen_times rules.now.lines.now times name
         → IsRuled (inputs_of rules.now.lines.now (map.get rules.now.state.now) times) name source (option_to_list own) left ruled) }
-    ensures looks { Looks (T.allows tree.old) (T.allows tree.new) (T.refuses tree.old) (T.refuses tree.new) (T.asked tree.old) (T.asked tree.new) }
+    ensures looks { Looks (T.allows tree.old) (T.allows tree.new) (T.refuses tree.old) (T.refuses tree.new) (T.asked tree.old) (T.asked tree.new) (T.firsts tree.old) (T.firsts tree.new) }
     ensures fault { IfErr result (IsOthersFault (T.refuses tree.new) rules.now.lines.now (others_in source)) }
 {
     let recipe = ShortNumber::of(own_or(own, rule_or(&source, left)))?;
@@ -192,7 +192,7 @@ fn searched<T: Tree>(
     ensures ruled { IfOk result (λ ruled. (times : List ℕ → Option ℤ) → T.allows tree.new times
         → stamp.now ≡ seen_times rules.now.lines.now times name.now
         → IsRuledIn (inputs_of rules.now.lines.now (map.get rules.now.state.now) times) name.now left ruled) }
-    ensures looks { Looks (T.allows tree.old) (T.allows tree.new) (T.refuses tree.old) (T.refuses tree.new) (T.asked tree.old) (T.asked tree.new) }
+    ensures looks { Looks (T.allows tree.old) (T.allows tree.new) (T.refuses tree.old) (T.refuses tree.new) (T.asked tree.old) (T.asked tree.new) (T.firsts tree.old) (T.firsts tree.new) }
     ensures fault { IfErr result (IsLookUpFault rules.now.targets.now (T.allows tree.new) (T.refuses tree.new) rules.now.forms.now rules.now.steps
         rules.now.lines.now (map.get rules.now.state.now) name.now) }
 {
@@ -221,7 +221,7 @@ fn ruled_of<T: Tree>(
     ensures ruled { IfOk result (λ ruled. (times : List ℕ → Option ℤ) → T.allows tree.new times
         → stamp.now ≡ seen_times rules.now.lines.now times name.now
         → IsRuledIn (inputs_of rules.now.lines.now (map.get rules.now.state.now) times) name.now left ruled) }
-    ensures looks { Looks (T.allows tree.old) (T.allows tree.new) (T.refuses tree.old) (T.refuses tree.new) (T.asked tree.old) (T.asked tree.new) }
+    ensures looks { Looks (T.allows tree.old) (T.allows tree.new) (T.refuses tree.old) (T.refuses tree.new) (T.asked tree.old) (T.asked tree.new) (T.firsts tree.old) (T.firsts tree.new) }
     ensures fault { IfErr result (IsLookUpFault rules.now.targets.now (T.allows tree.new) (T.refuses tree.new) rules.now.forms.now rules.now.steps
         rules.now.lines.now (map.get rules.now.state.now) name.now) }
 {
@@ -240,16 +240,17 @@ pub(crate) fn seen_of<'r, T: Tree>(
     place: &mut u32,
     name: &[u8],
 ) -> Result<Seen<'r>, RuleFault>
+    requires { ¬ (T.firsts tree.old name.now) }
     ensures seen { IfOk result (λ seen. (times : List ℕ → Option ℤ) → T.allows tree.new times
         → IsSeen (inputs_of rules.now.lines.now (map.get rules.now.state.now) times) name.now seen) }
-    ensures looks { Looks (T.allows tree.old) (T.allows tree.new) (T.refuses tree.old) (T.refuses tree.new) (T.asked tree.old) (T.asked tree.new) }
+    ensures looks { Looks (T.allows tree.old) (T.allows tree.new) (T.refuses tree.old) (T.refuses tree.new) (T.asked tree.old) (T.asked tree.new) (and_this name.now (T.firsts tree.old)) (T.firsts tree.new) }
     ensures fault { IfErr result (IsLookUpFault rules.now.targets.now (T.allows tree.new) (T.refuses tree.new) rules.now.forms.now rules.now.steps
         rules.now.lines.now (map.get rules.now.state.now) name.now) }
 {
     let (numbers, own, next) = rules.near(name, *place);
     *place = next;
     let phony = rules.is_phony(numbers);
-    let time = seen_stamp(alloc, tree, name, phony)?;
+    let time = first_seen_stamp(alloc, tree, name, phony)?;
     let stamp = Stamp::of(alloc, time)?;
     let left = rules.left_recipe(name, numbers, &stamp);
     let ruled = ruled_of(alloc, rules, tree, name, numbers, own, phony, left, &stamp)?;

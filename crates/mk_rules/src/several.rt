@@ -34,7 +34,7 @@ fn runs_for<T: Tree>(
 ) -> Result<bool, RuleFault>
     ensures runs { IfOk result (λ runs. (times : List ℕ → Option ℤ) → T.allows tree.new times
         → runs ≡ runs_for (inputs_of rules.now.lines.now (finmap.get rules.now.state.now) times) rule name.now) }
-    ensures looks { Looks (T.allows tree.old) (T.allows tree.new) (T.refuses tree.old) (T.refuses tree.new) (T.asked tree.old) (T.asked tree.new) }
+    ensures looks { Looks (T.allows tree.old) (T.allows tree.new) (T.refuses tree.old) (T.refuses tree.new) (T.asked tree.old) (T.asked tree.new) (T.firsts tree.old) (T.firsts tree.new) }
     ensures fault { IfErr result (IsFoundFault rules.now.targets.now (T.allows tree.new) (T.refuses tree.new) rules.now.forms.now rules.now.steps rules.now.lines.now name.now) }
 {
     let (numbers, own) = rules.named(name);
@@ -54,7 +54,7 @@ fn is_led<T: Tree>(
 ) -> Result<bool, RuleFault>
     ensures led { IfOk result (λ led. (times : List ℕ → Option ℤ) → T.allows tree.new times
         → led ≡ is_led (inputs_of rules.now.lines.now (finmap.get rules.now.state.now) times) source.now) }
-    ensures looks { Looks (T.allows tree.old) (T.allows tree.new) (T.refuses tree.old) (T.refuses tree.new) (T.asked tree.old) (T.asked tree.new) }
+    ensures looks { Looks (T.allows tree.old) (T.allows tree.new) (T.refuses tree.old) (T.refuses tree.new) (T.asked tree.old) (T.asked tree.new) (T.firsts tree.old) (T.firsts tree.new) }
     ensures fault { IfErr result (λ f. (leader : List ℕ) × ((source.now.leader ≡ Some leader)
         × IsFoundFault rules.now.targets.now (T.allows tree.new) (T.refuses tree.new) rules.now.forms.now rules.now.steps rules.now.lines.now leader f)) }
 {
@@ -78,7 +78,7 @@ pub(crate) fn implicit_source<T: Tree>(
     requires phony { phony ≡ is_phony rules.now.lines.now name.now }
     ensures source { IfOk result (λ found. (times : List ℕ → Option ℤ) → T.allows tree.new times
         → found ≡ implicit_source (inputs_of rules.now.lines.now (finmap.get rules.now.state.now) times) name.now) }
-    ensures looks { Looks (T.allows tree.old) (T.allows tree.new) (T.refuses tree.old) (T.refuses tree.new) (T.asked tree.old) (T.asked tree.new) }
+    ensures looks { Looks (T.allows tree.old) (T.allows tree.new) (T.refuses tree.old) (T.refuses tree.new) (T.asked tree.old) (T.asked tree.new) (T.firsts tree.old) (T.firsts tree.new) }
     ensures fault { IfErr result (IsImplicitFault rules.now.targets.now (T.allows tree.new) (T.refuses tree.new) rules.now.forms.now rules.now.steps rules.now.lines.now
         (finmap.get rules.now.state.now) name.now) }
 {
@@ -114,7 +114,7 @@ fn earliest<T: Tree>(
 ) -> Result<Option<i128>, RuleFault>
     ensures time { IfOk result (λ time. (times : List ℕ → Option ℤ) → T.allows tree.new times
         → time ≡ earliest first (map (seen_times rules.now.lines.now times) names.now)) }
-    ensures looks { Looks (T.allows tree.old) (T.allows tree.new) (T.refuses tree.old) (T.refuses tree.new) (T.asked tree.old) (T.asked tree.new) }
+    ensures looks { Looks (T.allows tree.old) (T.allows tree.new) (T.refuses tree.old) (T.refuses tree.new) (T.asked tree.old) (T.asked tree.new) (T.firsts tree.old) (T.firsts tree.new) }
     ensures fault { IfErr result (IsOthersFault (T.refuses tree.new) rules.now.lines.now names.now) }
 {
     let mut time = first;
@@ -138,7 +138,7 @@ pub(crate) fn group_of<T: Tree>(
     ensures group { IfOk result (λ group. (name : List ℕ) (times : List ℕ → Option ℤ) → T.allows tree.new times
         → stamp ≡ seen_times rules.now.lines.now times name
         → option_map (λ g. g.value) group ≡ group_with (seen_times rules.now.lines.now times) name (others_in source.now)) }
-    ensures looks { Looks (T.allows tree.old) (T.allows tree.new) (T.refuses tree.old) (T.refuses tree.new) (T.asked tree.old) (T.asked tree.new) }
+    ensures looks { Looks (T.allows tree.old) (T.allows tree.new) (T.refuses tree.old) (T.refuses tree.new) (T.asked tree.old) (T.asked tree.new) (T.firsts tree.old) (T.firsts tree.new) }
     ensures fault { IfErr result (IsOthersFault (T.refuses tree.new) rules.now.lines.now (others_in source.now)) }
 {
     let Some(source) = source else {

@@ -21,7 +21,7 @@ pub(crate) fn is_there<T: Tree>(
 ) -> Result<bool, RuleFault>
     ensures there { IfOk result (λ there. (times : List ℕ → Option ℤ)
         → T.allows tree.new times → there ≡ is_there targets.now times name.now) }
-    ensures looks { Looks (T.allows tree.old) (T.allows tree.new) (T.refuses tree.old) (T.refuses tree.new) (T.asked tree.old) (T.asked tree.new) }
+    ensures looks { Looks (T.allows tree.old) (T.allows tree.new) (T.refuses tree.old) (T.refuses tree.new) (T.asked tree.old) (T.asked tree.new) (T.firsts tree.old) (T.firsts tree.new) }
     ensures fault { IfErr result (IsLookFault (T.refuses tree.new) name.now) }
     ensures asked { IsErr result → is_named (named_at targets.now name.now) ≡ false }
 {
@@ -43,7 +43,7 @@ fn all_there<T: Tree>(
 ) -> Result<bool, RuleFault>
     ensures there { IfOk result (λ there. (times : List ℕ → Option ℤ) → T.allows tree.new times
         → there ≡ list_all (is_there targets.now times) (source_at form.now (folder.now, stem.now)).names) }
-    ensures looks { Looks (T.allows tree.old) (T.allows tree.new) (T.refuses tree.old) (T.refuses tree.new) (T.asked tree.old) (T.asked tree.new) }
+    ensures looks { Looks (T.allows tree.old) (T.allows tree.new) (T.refuses tree.old) (T.refuses tree.new) (T.asked tree.old) (T.asked tree.new) (T.firsts tree.old) (T.firsts tree.new) }
     ensures fault { IfErr result (IsAllFault targets.now (T.allows tree.new) (T.refuses tree.new) (source_at form.now (folder.now, stem.now)).names) }
 {
     let mut name = Vec::new(alloc);
@@ -69,7 +69,7 @@ pub fn source_of<T: Tree>(
 ) -> Result<Option<Source>, RuleFault>
     ensures source { IfOk result (λ found. (times : List ℕ → Option ℤ)
         → T.allows tree.new times → found ≡ source_of (is_there targets.now times) forms.now name.now) }
-    ensures looks { Looks (T.allows tree.old) (T.allows tree.new) (T.refuses tree.old) (T.refuses tree.new) (T.asked tree.old) (T.asked tree.new) }
+    ensures looks { Looks (T.allows tree.old) (T.allows tree.new) (T.refuses tree.old) (T.refuses tree.new) (T.asked tree.old) (T.asked tree.new) (T.firsts tree.old) (T.firsts tree.new) }
     ensures fault { IfErr result (IsSourceFault targets.now (T.allows tree.new) (T.refuses tree.new) forms.now name.now) }
 {
     for form in forms {

@@ -55,6 +55,14 @@ impl Tree for Folder {
         }
     }
 
+    fn first_stamp(&mut self, alloc: Global, name: &[u8]) -> Result<Option<i128>, TreeFault> {
+        self.stamp(alloc, name)
+    }
+
+    fn begin(&mut self, _alloc: Global) -> Result<(), AllocError> {
+        Ok(())
+    }
+
     ghost possible = { λ folder. (
       λ name. option_map (λ file. file.1) (find (λ file. bytes_eq file.0.now name) folder.files.now),
       λ name. refl,

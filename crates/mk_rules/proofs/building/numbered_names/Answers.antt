@@ -1,7 +1,7 @@
 use Rattle.std.proofs.Common.{true, sym, subst}
 use Rattle.std.specs.FinMap as map
 use Rattle.mk_rules.specs.Found.{IsFindingFault}
-use Rattle.mk_rules.proofs.LookLemmas.{looked_once}
+use Rattle.mk_rules.proofs.LookLemmas.{looked_once, asked_behind, asked_fewer}
 use Rattle.mk_rules.specs.Prerequisites.{inputs_of, prerequisites_of}
 use Rattle.mk_rules.specs.Tree.{AskedOnce}
 use Rattle.mk_rules.proofs.RowLaws.{distinct_names}
@@ -34,9 +34,13 @@ returns-clause-names g c =
 pub returns-clause-narrows : goal.returns-clause-narrows
 returns-clause-narrows g c = λ times now.
     let ended = c.tree-1.given.1 (sym c.found_names.ensures.same) in
-    c.found_names.ensures.looks.narrows times (subst (λ t. g.T.Tree.allows t times) ended now)
+    c.in_ok-begin.ensures.grows times (c.found_names.ensures.looks.narrows times (subst (λ t. g.T.Tree.allows t times) ended now))
 
 pub returns-clause-asked : goal.returns-clause-asked
 returns-clause-asked g c =
     let ended = c.tree-1.given.1 (sym c.found_names.ensures.same) in
-    subst (λ t. AskedOnce (g.T.Tree.asked c.args.tree.now) (λ _. true) (g.T.Tree.asked t)) (sym ended) (looked_once _ _ c.found_names.ensures.looks.once)
+    asked_behind (λ _. true) _ _ _ c.in_ok-begin.ensures.asked
+    (subst (λ t. AskedOnce (g.T.Tree.asked c.begin.new.self) (λ _. true) (g.T.Tree.asked t)) (sym ended) (looked_once _ _ c.found_names.ensures.looks.once))
+
+pub returns-in_err-begin-clause-asked : goal.returns-in_err-begin-clause-asked
+returns-in_err-begin-clause-asked g c = asked_fewer (λ _. true) _ _ c.in_err-begin.ensures.asked

@@ -38,7 +38,7 @@ can_be-returns-clause-can_be g t c = λ times now.
     (sym (tells.there times (made.looks.narrows times now)) ∙ c.if-branch.false))
 
 pub can_be-returns-clause-looks : goal.can_be-returns-clause-looks
-can_be-returns-clause-looks g t c = looks_on _ _ _ _ _ _ _ _ _ c.in_ok-is_there.ensures.looks c.in_ok-source.ensures.looks
+can_be-returns-clause-looks g t c = looks_on _ _ _ _ _ _ _ _ _ _ _ _ c.in_ok-is_there.ensures.looks c.in_ok-source.ensures.looks
 
 pub can_be-returns-in_err-is_there-clause-fault : goal.can_be-returns-in_err-is_there-clause-fault
 can_be-returns-in_err-is_there-clause-fault g t c =
@@ -63,14 +63,14 @@ can_be-returns-in_err-source-clause-fault g t c =
     (led_on makers.targets.now refuses behind leads (λ n. asked_behind makers.forms.now c.args.steps taken name n some) c.in_err-source.field-0.0 c.in_err-source.ensures.fault)
 
 pub can_be-returns-in_err-source-clause-looks : goal.can_be-returns-in_err-source-clause-looks
-can_be-returns-in_err-source-clause-looks g t c = looks_on _ _ _ _ _ _ _ _ _ c.in_ok-is_there.ensures.looks c.in_err-source.ensures.looks
+can_be-returns-in_err-source-clause-looks g t c = looks_on _ _ _ _ _ _ _ _ _ _ _ _ c.in_ok-is_there.ensures.looks c.in_err-source.ensures.looks
 
 -- ---- names of which all are to be
 
 pub all_can_be-loop-name-init : goal.all_can_be-loop-name-init
 all_can_be-loop-name-init g t c =
     let start : c.args.names.now ≡ c.into_iter-name-iterator.result = cc in
-    record { front = ([], start, λ times now. refl); looks = looks_none _ _ _ }
+    record { front = ([], start, λ times now. refl); looks = looks_none _ _ _ _ }
 
 pub all_can_be-loop-name-preserved : goal.all_can_be-loop-name-preserved
 all_can_be-loop-name-preserved g t c =
@@ -88,7 +88,7 @@ all_can_be-loop-name-preserved g t c =
             all_more (can_be (is_there makers.targets.now times) makers.forms.now c.args.steps c.args.taken.now) before name
             (can times (tells.looks.narrows times now)) (sym (tells.can_be times now) ∙ c.if-not-branch.false),
       );
-      looks = looks_on _ _ _ _ _ _ _ _ _ inv.looks tells.looks;
+      looks = looks_on _ _ _ _ _ _ _ _ _ _ _ _ inv.looks tells.looks;
     }
 
 pub all_can_be-returns-then-not-branch-clause-can_be : goal.all_can_be-returns-then-not-branch-clause-can_be
@@ -104,7 +104,7 @@ all_can_be-returns-then-not-branch-clause-can_be g t c = λ times now.
     ∙ all_left passes before (name ∷ left) (can times (tells.looks.narrows times now)) ∙ ap (λ b. b && list_all passes left) no)
 
 pub all_can_be-returns-then-not-branch-clause-looks : goal.all_can_be-returns-then-not-branch-clause-looks
-all_can_be-returns-then-not-branch-clause-looks g t c = looks_on _ _ _ _ _ _ _ _ _ c.loop-name.invariant.looks c.in_ok-can_be.ensures.looks
+all_can_be-returns-then-not-branch-clause-looks g t c = looks_on _ _ _ _ _ _ _ _ _ _ _ _ c.loop-name.invariant.looks c.in_ok-can_be.ensures.looks
 
 pub all_can_be-returns-clause-can_be : goal.all_can_be-returns-clause-can_be
 all_can_be-returns-clause-can_be g t c = λ times now.
@@ -115,7 +115,7 @@ all_can_be-returns-clause-can_be g t c = λ times now.
     (parted ∙ ap (λ (ls : List (List ℕ)). before ++ ls) ended ∙ append-nil before) ∙ can times now)
 
 pub all_can_be-returns-in_err-can_be-clause-looks : goal.all_can_be-returns-in_err-can_be-clause-looks
-all_can_be-returns-in_err-can_be-clause-looks g t c = looks_on _ _ _ _ _ _ _ _ _ c.loop-name.invariant.looks c.in_err-can_be.ensures.looks
+all_can_be-returns-in_err-can_be-clause-looks g t c = looks_on _ _ _ _ _ _ _ _ _ _ _ _ c.loop-name.invariant.looks c.in_err-can_be.ensures.looks
 
 pub all_can_be-returns-in_err-can_be-clause-fault : goal.all_can_be-returns-in_err-can_be-clause-fault
 all_can_be-returns-in_err-can_be-clause-fault g t c =
@@ -139,7 +139,7 @@ all_can_be-returns-in_err-can_be-clause-fault g t c =
 -- ---- the first candidate of whose names each can be
 
 pub first_that-loop-number-init : goal.first_that-loop-number-init
-first_that-loop-number-init g t c = record { none = λ times now. refl; looks = looks_none _ _ _ }
+first_that-loop-number-init g t c = record { none = λ times now. refl; looks = looks_none _ _ _ _ }
 
 pub first_that-loop-number-preserved : goal.first_that-loop-number-preserved
 first_that-loop-number-preserved g t c =
@@ -163,7 +163,7 @@ first_that-loop-number-preserved g t c =
           ∙ ap (λ (rules : List ℕ). list_all (can_be (is_there makers.targets.now times) forms few rules) c.in_ok-source.source.names) (sym (c.deref.ensures.value ∙ c.in_ok-taken.ensures))
           ∙ sym (tells.can_be times now) ∙ c.if-branch.false in
           passed_more name false taken forms k form c.loop-number-test.true c.form-item.is can (inv.none times (tells.looks.narrows times now)) stem (sym c.in-Some.ensures) no;
-      looks = looks_on _ _ _ _ _ _ _ _ _ inv.looks tells.looks;
+      looks = looks_on _ _ _ _ _ _ _ _ _ _ _ _ inv.looks tells.looks;
     }
 
 pub first_that-loop-number-preserved-in_default : goal.first_that-loop-number-preserved-in_default
@@ -200,10 +200,10 @@ first_that-returns-then-branch-clause-source g t c = λ times now.
     (c.loop-number.invariant.none times (tells.looks.narrows times now)) stem (sym c.in-Some.ensures) yes)
 
 pub first_that-returns-then-branch-clause-looks : goal.first_that-returns-then-branch-clause-looks
-first_that-returns-then-branch-clause-looks g t c = looks_on _ _ _ _ _ _ _ _ _ c.loop-number.invariant.looks c.in_ok-all_can_be.ensures.looks
+first_that-returns-then-branch-clause-looks g t c = looks_on _ _ _ _ _ _ _ _ _ _ _ _ c.loop-number.invariant.looks c.in_ok-all_can_be.ensures.looks
 
 pub first_that-returns-in_err-all_can_be-clause-looks : goal.first_that-returns-in_err-all_can_be-clause-looks
-first_that-returns-in_err-all_can_be-clause-looks g t c = looks_on _ _ _ _ _ _ _ _ _ c.loop-number.invariant.looks c.in_err-all_can_be.ensures.looks
+first_that-returns-in_err-all_can_be-clause-looks g t c = looks_on _ _ _ _ _ _ _ _ _ _ _ _ c.loop-number.invariant.looks c.in_err-all_can_be.ensures.looks
 
 pub first_that-returns-in_err-all_can_be-clause-fault : goal.first_that-returns-in_err-all_can_be-clause-fault
 first_that-returns-in_err-all_can_be-clause-fault g t c =

@@ -19,12 +19,12 @@ invariant-all_can_be-loop-name g l = record {
   front : (before : List (List ℕ)) × (l.names ≡ before ++ l.name-iterator)
       × ((times : List ℕ → Option ℤ) → g.T.Tree.allows l.tree times
       → list_all (can_be (is_there l.makers.targets.now times) l.makers.forms.now l.steps l.taken) before ≡ true);
-  looks : Looks (g.T.Tree.allows l.fn.tree) (g.T.Tree.allows l.tree) (g.T.Tree.refuses l.fn.tree) (g.T.Tree.refuses l.tree) (g.T.Tree.asked l.fn.tree) (g.T.Tree.asked l.tree);
+  looks : Looks (g.T.Tree.allows l.fn.tree) (g.T.Tree.allows l.tree) (g.T.Tree.refuses l.fn.tree) (g.T.Tree.refuses l.tree) (g.T.Tree.asked l.fn.tree) (g.T.Tree.asked l.tree) (g.T.Tree.firsts l.fn.tree) (g.T.Tree.firsts l.tree);
 }
 
 abbrev pub invariant-first_that-loop-number : goal.invariant-first_that-loop-number
 invariant-first_that-loop-number g l = record {
   none : (times : List ℕ → Option ℤ) → g.T.Tree.allows l.tree times
       → first_that (λ rule. can_be (is_there l.makers.targets.now times) l.makers.forms.now l.steps (rule ∷ l.taken)) (usable false l.taken (take l.number l.makers.forms.now)) l.name ≡ None;
-  looks : Looks (g.T.Tree.allows l.fn.tree) (g.T.Tree.allows l.tree) (g.T.Tree.refuses l.fn.tree) (g.T.Tree.refuses l.tree) (g.T.Tree.asked l.fn.tree) (g.T.Tree.asked l.tree);
+  looks : Looks (g.T.Tree.allows l.fn.tree) (g.T.Tree.allows l.tree) (g.T.Tree.refuses l.fn.tree) (g.T.Tree.refuses l.tree) (g.T.Tree.asked l.fn.tree) (g.T.Tree.asked l.tree) (g.T.Tree.firsts l.fn.tree) (g.T.Tree.firsts l.tree);
 }

@@ -16,7 +16,7 @@ use Rattle.mk_rules.proofs.LinkLemmas.{passed_over}
 use Rattle.mk_rules.proofs.chain.chained.Goals as goal
 
 pub loop-number-init : goal.loop-number-init
-loop-number-init g c = record { none = λ times now. refl; looks = looks_none _ _ _ }
+loop-number-init g c = record { none = λ times now. refl; looks = looks_none _ _ _ _ }
 
 -- a form behind which no chain goes on
 pub loop-number-preserved-then-not-may_lead_on : goal.loop-number-preserved-then-not-may_lead_on
@@ -50,7 +50,7 @@ loop-number-preserved g c =
           let no : list_all (can form.rule) (source_at form stem).names ≡ false
           = ap (λ (s : Source). list_all (can form.rule) s.names) (sym c.in_ok-source.ensures) ∙ sym (tells.can_be times now) ∙ c.if-branch.false in
           passed_more name (not c.has_a_type-any.result) [] forms k form c.loop-number-test.true c.form-item.is can (inv.none times (tells.looks.narrows times now)) stem (sym c.in-Some.ensures) no;
-      looks = looks_on _ _ _ _ _ _ _ _ _ inv.looks tells.looks;
+      looks = looks_on _ _ _ _ _ _ _ _ _ _ _ _ inv.looks tells.looks;
     }
 
 pub loop-number-preserved-in_default : goal.loop-number-preserved-in_default
@@ -82,10 +82,10 @@ returns-then-branch-clause-source g c = λ times now.
     ∙ ap (λ (typed : Bool). first_that can (usable (not typed) [] forms) name) c.has_a_type-any.ensures
 
 pub returns-then-branch-clause-looks : goal.returns-then-branch-clause-looks
-returns-then-branch-clause-looks g c = looks_on _ _ _ _ _ _ _ _ _ c.loop-number.invariant.looks c.in_ok-all_can_be.ensures.looks
+returns-then-branch-clause-looks g c = looks_on _ _ _ _ _ _ _ _ _ _ _ _ c.loop-number.invariant.looks c.in_ok-all_can_be.ensures.looks
 
 pub returns-in_err-all_can_be-clause-looks : goal.returns-in_err-all_can_be-clause-looks
-returns-in_err-all_can_be-clause-looks g c = looks_on _ _ _ _ _ _ _ _ _ c.loop-number.invariant.looks c.in_err-all_can_be.ensures.looks
+returns-in_err-all_can_be-clause-looks g c = looks_on _ _ _ _ _ _ _ _ _ _ _ _ c.loop-number.invariant.looks c.in_err-all_can_be.ensures.looks
 
 pub returns-in_err-all_can_be-clause-fault : goal.returns-in_err-all_can_be-clause-fault
 returns-in_err-all_can_be-clause-fault g c =

@@ -50,7 +50,7 @@ loop-fewer-preserved g c =
           subst (λ (n : ℕ). source_in there makers.forms.now n name ≡ None) back
           (source_here there makers.forms.now fewer name some (inv.none times (tells.looks.narrows times now)) ∙ lacks);
       longest = λ times now. inv.longest times (tells.looks.narrows times now);
-      looks = looks_on _ _ _ _ _ _ _ _ _ inv.looks tells.looks;
+      looks = looks_on _ _ _ _ _ _ _ _ _ _ _ _ inv.looks tells.looks;
     }
 
 pub returns-clause-source : goal.returns-clause-source

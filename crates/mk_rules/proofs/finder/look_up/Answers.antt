@@ -1,16 +1,20 @@
-use Rattle.std.proofs.Common.{ℕ, List, ◌++◌, ap, subst, ◌∙◌}
+use Rattle.std.proofs.Common.{ℕ, List, ◌++◌, sym, ap, subst, ◌∙◌}
 use Rattle.std.specs.FinMap as map
 use Rattle.mk_rule_lines.specs.Explicit.{explicit_of}
 use Rattle.mk_rule_lines.proofs.LineLemmas.{handed_on}
 use Rattle.mk_rule_lines.proofs.ResultLemmas.{if_ok, if_err}
 use Rattle.mk_rules.specs.Hidden.{IsNamesFault}
 use Rattle.mk_rules.specs.Known.{IsKnown, IsLookUpFault}
+use Rattle.mk_rules.specs.Looks.{Looks, and_this}
 use Rattle.mk_rules.specs.LooksLaws.{looks_on}
 use Rattle.mk_rules.specs.Prerequisites.{inputs_of, is_node, hidden_in, prerequisites_of}
 use Rattle.mk_rules.specs.Row.{named}
 use Rattle.mk_rules.specs.Seen.{made_in, IsNumberedAs}
 use Rattle.mk_rules.proofs.FinderLemmas.{on_ok, on_ok_if, all_are, known_is, hidden_look}
 use Rattle.mk_rules.proofs.finder.look_up.Goals as goal
+
+pub seen_of-requires : goal.seen_of-requires
+seen_of-requires g c = subst (λ (n : List ℕ). g.T.Tree.firsts c.args.tree.now n → ⊥) (sym c.name-name.ensures) c.requires.unasked
 
 pub numbered-requires : goal.numbered-requires
 numbered-requires g c = record {
@@ -57,7 +61,18 @@ returns-clause-node g c =
     c.numbered.ensures.prerequisites
 
 pub returns-clause-looks : goal.returns-clause-looks
-returns-clause-looks g c = looks_on _ _ _ _ _ _ _ _ _ c.in_ok-seen.ensures.looks c.numbered.ensures.looks
+returns-clause-looks g c =
+    let old = c.args.tree.now in
+    let new = c.numbered.new.tree in
+    subst (λ (n : List ℕ). Looks (g.T.Tree.allows old) (g.T.Tree.allows new) (g.T.Tree.refuses old) (g.T.Tree.refuses new) (g.T.Tree.asked old) (g.T.Tree.asked new) (and_this n (g.T.Tree.firsts old)) (g.T.Tree.firsts new)) c.name-name.ensures
+    (looks_on _ _ _ _ _ _ _ _ _ _ _ _ c.in_ok-seen.ensures.looks c.numbered.ensures.looks)
+
+pub returns-in_err-seen-clause-looks : goal.returns-in_err-seen-clause-looks
+returns-in_err-seen-clause-looks g c =
+    let old = c.args.tree.now in
+    let new = c.seen_of.new.tree in
+    subst (λ (n : List ℕ). Looks (g.T.Tree.allows old) (g.T.Tree.allows new) (g.T.Tree.refuses old) (g.T.Tree.refuses new) (g.T.Tree.asked old) (g.T.Tree.asked new) (and_this n (g.T.Tree.firsts old)) (g.T.Tree.firsts new)) c.name-name.ensures
+    c.in_err-seen.ensures.looks
 
 pub returns-clause-fault : goal.returns-clause-fault
 returns-clause-fault g c =

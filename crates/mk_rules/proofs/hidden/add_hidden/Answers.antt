@@ -38,7 +38,7 @@ loop-name-preserved g c =
             _ _ _ (done.taken times now),
       );
       within = λ n is. inv.within n (subst (λ (ls : List (List ℕ)). has n ls ≡ true) (sym c.in-Some.ensures.steps) (has_later n name left is));
-      looks = looks_on _ _ _ _ _ _ _ _ _ inv.looks done.looks;
+      looks = looks_on _ _ _ _ _ _ _ _ _ _ _ _ inv.looks done.looks;
     }
 
 pub returns-in_err-take_hidden-clause-fault : goal.returns-in_err-take_hidden-clause-fault
@@ -51,7 +51,7 @@ returns-in_err-take_hidden-clause-fault g c =
     (c.in_err-take_hidden.ensures.fault c.args.hidden.now within)
 
 pub returns-in_err-take_hidden-clause-looks : goal.returns-in_err-take_hidden-clause-looks
-returns-in_err-take_hidden-clause-looks g c = looks_on _ _ _ _ _ _ _ _ _ c.loop-name.invariant.looks c.in_err-take_hidden.ensures.looks
+returns-in_err-take_hidden-clause-looks g c = looks_on _ _ _ _ _ _ _ _ _ _ _ _ c.loop-name.invariant.looks c.in_err-take_hidden.ensures.looks
 
 pub loop-name-init : goal.loop-name-init
 loop-name-init g c =
@@ -70,7 +70,7 @@ loop-name-init g c =
             (taken_start p hard c.args.hidden.now m.gone m.hidden c.requires.gone c.requires.none),
       );
       within = λ n is. subst (λ (ls : List (List ℕ)). has n ls ≡ true) (sym start) is;
-      looks = looks_none _ _ _;
+      looks = looks_none _ _ _ _;
     }
 
 pub returns-clause-hidden : goal.returns-clause-hidden

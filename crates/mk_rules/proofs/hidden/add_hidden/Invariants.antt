@@ -17,5 +17,5 @@ invariant-loop-name g l = record {
       TakenSoFar (is_node (inputs_of l.rules.lines.now (map.get l.rules.state.now) times)) (named l.fn.names l.fn.mentioned.nodes) l.hidden l.name-iterator
       judged (named l.names l.mentioned.nodes) l.mentioned.gone l.mentioned.hidden);
   within : (n : List ℕ) → has n l.name-iterator ≡ true → has n l.hidden ≡ true;
-  looks : Looks (g.T.Tree.allows l.fn.tree) (g.T.Tree.allows l.tree) (g.T.Tree.refuses l.fn.tree) (g.T.Tree.refuses l.tree) (g.T.Tree.asked l.fn.tree) (g.T.Tree.asked l.tree);
+  looks : Looks (g.T.Tree.allows l.fn.tree) (g.T.Tree.allows l.tree) (g.T.Tree.refuses l.fn.tree) (g.T.Tree.refuses l.tree) (g.T.Tree.asked l.fn.tree) (g.T.Tree.asked l.tree) (g.T.Tree.firsts l.fn.tree) (g.T.Tree.firsts l.tree);
 }

@@ -24,7 +24,7 @@ returns-clause-ruled g c =
     c.ruled_by.ensures.ruled
 
 pub returns-clause-looks : goal.returns-clause-looks
-returns-clause-looks g c = looks_on _ _ _ _ _ _ _ _ _ c.in_ok-source.ensures.looks c.ruled_by.ensures.looks
+returns-clause-looks g c = looks_on _ _ _ _ _ _ _ _ _ _ _ _ c.in_ok-source.ensures.looks c.ruled_by.ensures.looks
 
 pub returns-clause-fault : goal.returns-clause-fault
 returns-clause-fault g c =

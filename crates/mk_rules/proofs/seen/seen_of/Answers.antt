@@ -21,7 +21,7 @@ returns-clause-seen g c = λ times now.
     }
 
 pub returns-clause-looks : goal.returns-clause-looks
-returns-clause-looks g c = looks_on _ _ _ _ _ _ _ _ _ c.in_ok-time.ensures.looks c.in_ok-ruled.ensures.looks
+returns-clause-looks g c = looks_on _ _ _ _ _ _ _ _ _ _ _ _ c.in_ok-time.ensures.looks c.in_ok-ruled.ensures.looks
 
 pub returns-in_err-ruled-clause-looks : goal.returns-in_err-ruled-clause-looks
-returns-in_err-ruled-clause-looks g c = looks_on _ _ _ _ _ _ _ _ _ c.in_ok-time.ensures.looks c.in_err-ruled.ensures.looks
+returns-in_err-ruled-clause-looks g c = looks_on _ _ _ _ _ _ _ _ _ _ _ _ c.in_ok-time.ensures.looks c.in_err-ruled.ensures.looks

@@ -15,7 +15,7 @@ loop-name-init g c =
     record {
       so = λ times now. ap (λ (ls : List (List ℕ)). earliest c.args.first (map (seen_times c.args.rules.now.lines.now times) ls)) (sym start);
       within = λ n is. subst (λ (ls : List (List ℕ)). has n ls ≡ true) (sym start) is;
-      looks = looks_none _ _ _;
+      looks = looks_none _ _ _ _;
     }
 
 pub loop-name-preserved : goal.loop-name-preserved
@@ -34,7 +34,7 @@ loop-name-preserved g c =
           ∙ subst (λ (ls : List (List ℕ)). earliest c.loop-name.time (map seen ls) ≡ earliest c.args.first (map seen c.args.names.now)) c.in-Some.ensures.steps
           (inv.so times (tells.looks.narrows times now));
       within = λ n is. inv.within n (subst (λ (ls : List (List ℕ)). has n ls ≡ true) (sym c.in-Some.ensures.steps) (has_later n name left is));
-      looks = looks_on _ _ _ _ _ _ _ _ _ inv.looks tells.looks;
+      looks = looks_on _ _ _ _ _ _ _ _ _ _ _ _ inv.looks tells.looks;
     }
 
 pub returns-clause-time : goal.returns-clause-time
@@ -44,7 +44,7 @@ returns-clause-time g c = λ times now.
     subst (λ (ls : List (List ℕ)). earliest c.loop-name.time (map seen ls) ≡ earliest c.args.first (map seen c.args.names.now)) ended (c.loop-name.invariant.so times now)
 
 pub returns-in_err-seen-clause-looks : goal.returns-in_err-seen-clause-looks
-returns-in_err-seen-clause-looks g c = looks_on _ _ _ _ _ _ _ _ _ c.loop-name.invariant.looks c.in_err-seen.ensures.looks
+returns-in_err-seen-clause-looks g c = looks_on _ _ _ _ _ _ _ _ _ _ _ _ c.loop-name.invariant.looks c.in_err-seen.ensures.looks
 
 pub returns-in_err-seen-clause-fault : goal.returns-in_err-seen-clause-fault
 returns-in_err-seen-clause-fault g c =

@@ -10,5 +10,5 @@ invariant-loop-name g l = record {
   so : (times : List ℕ → Option ℤ) → g.T.Tree.allows l.tree times →
       earliest l.time (map (seen_times l.rules.lines.now times) l.name-iterator) ≡ earliest l.fn.first (map (seen_times l.rules.lines.now times) l.names);
   within : (n : List ℕ) → has n l.name-iterator ≡ true → has n l.names ≡ true;
-  looks : Looks (g.T.Tree.allows l.fn.tree) (g.T.Tree.allows l.tree) (g.T.Tree.refuses l.fn.tree) (g.T.Tree.refuses l.tree) (g.T.Tree.asked l.fn.tree) (g.T.Tree.asked l.tree);
+  looks : Looks (g.T.Tree.allows l.fn.tree) (g.T.Tree.allows l.tree) (g.T.Tree.refuses l.fn.tree) (g.T.Tree.refuses l.tree) (g.T.Tree.asked l.fn.tree) (g.T.Tree.asked l.tree) (g.T.Tree.firsts l.fn.tree) (g.T.Tree.firsts l.tree);
 }

@@ -32,13 +32,13 @@ returns-else-branch-clause-source g c = λ times now.
     led_is (inputs_of rules.lines.now (map.get rules.state.now) times) c.args.name.now c.in-Some.source false found (sym c.if-branch.false ∙ led.led times now)
 
 pub returns-then-branch-clause-looks : goal.returns-then-branch-clause-looks
-returns-then-branch-clause-looks g c = looks_on _ _ _ _ _ _ _ _ _ c.in_ok-source.ensures.looks c.in_ok-is_led.ensures.looks
+returns-then-branch-clause-looks g c = looks_on _ _ _ _ _ _ _ _ _ _ _ _ c.in_ok-source.ensures.looks c.in_ok-is_led.ensures.looks
 
 pub returns-else-branch-clause-looks : goal.returns-else-branch-clause-looks
-returns-else-branch-clause-looks g c = looks_on _ _ _ _ _ _ _ _ _ c.in_ok-source.ensures.looks c.in_ok-is_led.ensures.looks
+returns-else-branch-clause-looks g c = looks_on _ _ _ _ _ _ _ _ _ _ _ _ c.in_ok-source.ensures.looks c.in_ok-is_led.ensures.looks
 
 pub returns-in_err-is_led-clause-looks : goal.returns-in_err-is_led-clause-looks
-returns-in_err-is_led-clause-looks g c = looks_on _ _ _ _ _ _ _ _ _ c.in_ok-source.ensures.looks c.in_err-is_led.ensures.looks
+returns-in_err-is_led-clause-looks g c = looks_on _ _ _ _ _ _ _ _ _ _ _ _ c.in_ok-source.ensures.looks c.in_err-is_led.ensures.looks
 
 pub returns-in_err-source-clause-fault : goal.returns-in_err-source-clause-fault
 returns-in_err-source-clause-fault g c =

@@ -13,7 +13,7 @@ use Rattle.mk_rules.proofs.source.all_there.Goals as goal
 pub loop-pattern-init : goal.loop-pattern-init
 loop-pattern-init g c =
     let start : c.args.form.now.prerequisites ≡ c.into_iter-pattern-iterator.result = cc in
-    record { front = ([], start, λ times now. refl); looks = looks_none _ _ _ }
+    record { front = ([], start, λ times now. refl); looks = looks_none _ _ _ _ }
 
 pub loop-pattern-preserved : goal.loop-pattern-preserved
 loop-pattern-preserved g c =
@@ -33,7 +33,7 @@ loop-pattern-preserved g c =
             ∙ all_more (is_there c.args.targets.now times) (map with before) (with pattern) (there times (tells.looks.narrows times now))
             (ap (is_there c.args.targets.now times) (sym name_is) ∙ sym (tells.there times now) ∙ c.if-not-branch.false),
       );
-      looks = looks_on _ _ _ _ _ _ _ _ _ inv.looks tells.looks;
+      looks = looks_on _ _ _ _ _ _ _ _ _ _ _ _ inv.looks tells.looks;
     }
 
 -- one that isn't there, behind some that are
@@ -52,7 +52,7 @@ returns-then-not-branch-clause-there g c = λ times now.
     ∙ all_left passes (map with before) (with pattern ∷ map with left) (there times (tells.looks.narrows times now)) ∙ ap (λ b. b && list_all passes (map with left)) no)
 
 pub returns-then-not-branch-clause-looks : goal.returns-then-not-branch-clause-looks
-returns-then-not-branch-clause-looks g c = looks_on _ _ _ _ _ _ _ _ _ c.loop-pattern.invariant.looks c.in_ok-is_there.ensures.looks
+returns-then-not-branch-clause-looks g c = looks_on _ _ _ _ _ _ _ _ _ _ _ _ c.loop-pattern.invariant.looks c.in_ok-is_there.ensures.looks
 
 pub returns-clause-there : goal.returns-clause-there
 returns-clause-there g c = λ times now.
@@ -62,7 +62,7 @@ returns-clause-there g c = λ times now.
     sym (ap (λ ps. list_all (is_there c.args.targets.now times) (map with ps)) (parted ∙ ap (λ (ls : List (List ℕ)). before ++ ls) ended ∙ append-nil before) ∙ there times now)
 
 pub returns-in_err-is_there-clause-looks : goal.returns-in_err-is_there-clause-looks
-returns-in_err-is_there-clause-looks g c = looks_on _ _ _ _ _ _ _ _ _ c.loop-pattern.invariant.looks c.in_err-is_there.ensures.looks
+returns-in_err-is_there-clause-looks g c = looks_on _ _ _ _ _ _ _ _ _ _ _ _ c.loop-pattern.invariant.looks c.in_err-is_there.ensures.looks
 
 pub returns-in_err-is_there-clause-fault : goal.returns-in_err-is_there-clause-fault
 returns-in_err-is_there-clause-fault g c =

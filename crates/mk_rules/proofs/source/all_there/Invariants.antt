@@ -9,5 +9,5 @@ abbrev pub invariant-loop-pattern : goal.invariant-loop-pattern
 invariant-loop-pattern g l = record {
   front : (before : List (List ℕ)) × (l.form.prerequisites ≡ before ++ l.pattern-iterator)
       × ((times : List ℕ → Option ℤ) → g.T.Tree.allows l.tree times → list_all (is_there l.targets times) (map (with_stem l.folder l.stem) before) ≡ true);
-  looks : Looks (g.T.Tree.allows l.fn.tree) (g.T.Tree.allows l.tree) (g.T.Tree.refuses l.fn.tree) (g.T.Tree.refuses l.tree) (g.T.Tree.asked l.fn.tree) (g.T.Tree.asked l.tree);
+  looks : Looks (g.T.Tree.allows l.fn.tree) (g.T.Tree.allows l.tree) (g.T.Tree.refuses l.fn.tree) (g.T.Tree.refuses l.tree) (g.T.Tree.asked l.fn.tree) (g.T.Tree.asked l.tree) (g.T.Tree.firsts l.fn.tree) (g.T.Tree.firsts l.tree);
 }

@@ -44,7 +44,7 @@ loop-form-preserved g c =
           let no : list_all there (source_at form stem).names ≡ false
           = sym (tells.there times now) ∙ c.if-branch.false in
           none_more there forms k form name c.loop-form-test.true c.form-item.is (inv.none times (tells.looks.narrows times now)) (passed there form [] name stem fits no);
-      looks = looks_on _ _ _ _ _ _ _ _ _ inv.looks tells.looks;
+      looks = looks_on _ _ _ _ _ _ _ _ _ _ _ _ inv.looks tells.looks;
     }
 
 pub loop-form-preserved-in_default : goal.loop-form-preserved-in_default
@@ -80,10 +80,10 @@ returns-in_err-all_there-clause-fault g c =
     fits (λ times now. c.loop-form.invariant.none times (tells.looks.narrows times now)) fault met)
 
 pub returns-then-branch-clause-looks : goal.returns-then-branch-clause-looks
-returns-then-branch-clause-looks g c = looks_on _ _ _ _ _ _ _ _ _ c.loop-form.invariant.looks c.in_ok-all_there.ensures.looks
+returns-then-branch-clause-looks g c = looks_on _ _ _ _ _ _ _ _ _ _ _ _ c.loop-form.invariant.looks c.in_ok-all_there.ensures.looks
 
 pub returns-in_err-all_there-clause-looks : goal.returns-in_err-all_there-clause-looks
-returns-in_err-all_there-clause-looks g c = looks_on _ _ _ _ _ _ _ _ _ c.loop-form.invariant.looks c.in_err-all_there.ensures.looks
+returns-in_err-all_there-clause-looks g c = looks_on _ _ _ _ _ _ _ _ _ _ _ _ c.loop-form.invariant.looks c.in_err-all_there.ensures.looks
 
 pub loop-form-init : goal.loop-form-init
-loop-form-init g c = record { none = λ times now. refl; looks = looks_none _ _ _ }
+loop-form-init g c = record { none = λ times now. refl; looks = looks_none _ _ _ _ }

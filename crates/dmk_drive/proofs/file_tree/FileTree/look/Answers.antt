@@ -1,28 +1,21 @@
-use Rattle.std.proofs.Common.{ℕ, List, sym, ap, subst, ◌∙◌}
-use Rattle.dmk_drive.specs.Stamps.{known_stamp, Adds}
-use Rattle.dmk_drive.proofs.StampLemmas.{found_is, stamp_is, before, fits_alike}
+use Rattle.std.proofs.Common.{◌≡◌, true, ℕ, ℤ, IsSome, List, Option, sym, ap, subst}
+use Rattle.mk_graph.specs.Numbering.{has_name}
+use Rattle.dmk_drive.specs.Stamps.{known_stamp}
+use Rattle.dmk_drive.proofs.StampLemmas.{fits_alike}
 use Rattle.dmk_drive.proofs.file_tree.FileTree.look.Goals as goal
 
-pub returns-in-Some-clause-stamp : goal.returns-in-Some-clause-stamp
-returns-in-Some-clause-stamp g c = λ times fits.
-    let now = c.numbered.new.self in
-    let is = ap (known_stamp now) (sym c.in-Ok.ensures.number.1) ∙ sym c.get.ensures ∙ c.in-Some.is in
-    found_is (known_stamp now) c.args.name.now c.in-Some.known is times fits
+pub look_at-requires : goal.look_at-requires
+look_at-requires g c = record { number = c.in-Ok.ensures.number.0; name = c.in-Ok.ensures.number.1 }
 
-pub returns-in-Some-clause-grows : goal.returns-in-Some-clause-grows
-returns-in-Some-clause-grows g c = λ times fits.
-    fits_alike (known_stamp c.args.self.now.stamps) (known_stamp c.numbered.new.self) times c.numbered.ensures.same fits
+pub returns-clause-grows : goal.returns-clause-grows
+returns-clause-grows g c = λ times fits.
+    fits_alike (known_stamp c.args.self.now.stamps) (known_stamp c.numbered.new.self) times c.in-Ok.ensures.same (c.look_at.ensures.grows times fits)
 
-pub returns-in-Ok-set-clause-stamp : goal.returns-in-Ok-set-clause-stamp
-returns-in-Ok-set-clause-stamp g c = λ times fits.
-    let now = c.numbered.new.self in
-    let adds = subst (λ (n : List ℕ). Adds n c.in_ok-stamp.stamp now c.set.new.self) c.in-Ok.ensures.number.1 c.in-Ok-set.ensures.ok in
-    stamp_is (known_stamp now) (known_stamp c.set.new.self) c.args.name.now c.in_ok-stamp.stamp adds times fits
+pub returns-clause-known : goal.returns-clause-known
+returns-clause-known g c = λ some.
+    let still = subst (λ (k : Option (Option ℤ)). IsSome k) (sym (c.in-Ok.ensures.same c.args.name.now)) some in
+    ap (λ t. t.calls) (c.look_at.ensures.known still)
 
-pub returns-in-Ok-set-clause-grows : goal.returns-in-Ok-set-clause-grows
-returns-in-Ok-set-clause-grows g c = λ times fits.
-    let now = c.numbered.new.self in
-    let adds = subst (λ (n : List ℕ). Adds n c.in_ok-stamp.stamp now c.set.new.self) c.in-Ok.ensures.number.1 c.in-Ok-set.ensures.ok in
-    let none = ap (known_stamp now) (sym c.in-Ok.ensures.number.1) ∙ sym c.get.ensures ∙ c.in_default-get.is in
-    fits_alike (known_stamp c.args.self.now.stamps) (known_stamp now) times c.numbered.ensures.same
-    (before (known_stamp now) (known_stamp c.set.new.self) c.args.name.now c.in_ok-stamp.stamp adds times none fits)
+pub returns-clause-listed : goal.returns-clause-listed
+returns-clause-listed g c = λ n is.
+    c.in-Ok.ensures.listed n (subst (λ (l : List (List ℕ)). has_name l n ≡ true) c.look_at.ensures.listed is)

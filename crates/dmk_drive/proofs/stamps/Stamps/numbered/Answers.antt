@@ -1,39 +1,39 @@
-use Rattle.std.proofs.Common.{ℕ, List, [], ◌∷◌, IsSome, sym, ap, subst, ◌∙◌}
-use Rattle.mk_graph.proofs.NameLemmas.{distinct_all_added}
+use Rattle.std.proofs.Common.{◌≡◌, ◌<◌, true≢false, true, ℕ, List, [], length, sym, ap, subst, ◌∙◌}
+use Rattle.std.specs.Prelude.{IfOk}
+use Rattle.mk_graph.specs.Numbering.{name_at, has_name, all_added}
 use Rattle.dmk_drive.specs.Stamps.{Known, known_stamp, told_of}
-use Rattle.dmk_drive.proofs.KnownLemmas.{Told, known_stays, never_absent, told_before, within_added}
 use Rattle.dmk_drive.proofs.stamps.Stamps.numbered.Goals as goal
 
+pub add_found-requires : goal.add_found-requires
+add_found-requires c = c.self.invariant.as_many ∙ ap length (sym c.in_ok-find_all.ensures.ok)
+
 pub invariant_of-self-2 : goal.invariant_of-self-2
-invariant_of-self-2 c =
-    let names : List (List ℕ) = c.self.inside.names in
-    let told : List Told = c.self.inside.stamps.items in
-    let added = c.in_ok-number.ensures.ok.0 in
-    record {
-      once = rw added (distinct_all_added names (c.args.name.now ∷ []) c.self.invariant.once);
-      within = rw added (within_added names told c.args.name.now c.self.invariant.within);
-    }
+invariant_of-self-2 c = record {
+  once = c.add_found.ensures.once (c.in_ok-find_all.ensures.once c.self.invariant.once);
+  as_many = c.add_found.ensures.as_many ∙ ap (λ (l : List (List ℕ)). length (all_added c.add_found.new.found l)) (sym c.empty.ensures);
+}
+
+pub returns-clause-number : goal.returns-clause-number
+returns-clause-number c =
+    let found : List (List ℕ) = c.add_found.new.found in
+    subst (λ (l : List (List ℕ)). IfOk c.add_found.result (λ n. (n < length (all_added found l)) × (name_at (all_added found l) n ≡ c.args.name.now)))
+    (sym c.empty.ensures) c.add_found.ensures.number
 
 pub returns-clause-same : goal.returns-clause-same
 returns-clause-same c = λ n.
-    let names : List (List ℕ) = c.self.inside.names in
-    let told : List Told = c.self.inside.stamps.items in
-    ap (λ (ns : List (List ℕ)). told_of ns told n) c.in_ok-number.ensures.ok.0
-    ∙ told_before names told c.args.name.now n c.self.invariant.within
+    ap (λ (l : List (List ℕ)). told_of (all_added c.add_found.new.found l) c.add_found.new.told.items n) c.empty.ensures
+    ∙ c.add_found.ensures.same n
+    ∙ ap (λ (l : List (List ℕ)). told_of l c.self.inside.told.items n) c.in_ok-find_all.ensures.ok
     ∙ ap (λ (k : Known). known_stamp k n) c.self.view_is
 
-pub returns-clause-known : goal.returns-clause-known
-returns-clause-known c = λ some.
-    let names : List (List ℕ) = c.self.inside.names in
-    let told : List Told = c.self.inside.stamps.items in
-    let there = subst (λ (k : Known). IsSome (known_stamp k c.args.name.now)) (sym c.self.view_is) some in
-    ap (λ (ns : List (List ℕ)). (ns, told)) (c.in_ok-number.ensures.ok.0 ∙ known_stays names told c.args.name.now there) ∙ c.self.view_is
+pub returns-clause-listed : goal.returns-clause-listed
+returns-clause-listed c = λ n is.
+    let absent = subst (λ (l : List (List ℕ)). has_name l n ≡ true) c.empty.ensures is in
+    absurd (true≢false (sym absent))
 
-pub returns-in_err-number-clause-same : goal.returns-in_err-number-clause-same
-returns-in_err-number-clause-same c = λ n.
-    ap (λ (ns : List (List ℕ)). told_of ns c.self.inside.stamps.items n) c.in_err-number.ensures.err ∙ ap (λ (k : Known). known_stamp k n) c.self.view_is
+pub returns-in_err-find_all-clause-same : goal.returns-in_err-find_all-clause-same
+returns-in_err-find_all-clause-same c = λ n.
+    ap (λ (l : List (List ℕ)). told_of l c.self.inside.told.items n) c.in_err-find_all.ensures.err ∙ ap (λ (k : Known). known_stamp k n) c.self.view_is
 
-pub returns-in_err-number-clause-found : goal.returns-in_err-number-clause-found
-returns-in_err-number-clause-found c = λ some.
-    let there = subst (λ (k : Known). IsSome (known_stamp k c.args.name.now)) (sym c.self.view_is) some in
-    absurd (never_absent c.self.inside.names c.self.inside.stamps.items c.args.name.now there c.in_err-number.ensures.absent)
+pub returns-in_err-find_all-clause-listed : goal.returns-in_err-find_all-clause-listed
+returns-in_err-find_all-clause-listed c = λ n is. subst (λ (k : Known). has_name k.listed n ≡ true) c.self.view_is is
