@@ -1,4 +1,6 @@
-//! The hash by which a name is found. Its seed is fixed: names that were made to collide are found slowly.
+//! The hash by which a name is found. Its seed is fixed: names that were made to collide are found slowly. Names that are the
+//! same up to their last byte, as `x.c` and `x.h`, or `x1` and `x2`, have hashes that differ in the last eight bits alone: they
+//! are mostly met one behind another, and are then found in the same piece of memory.
 
 ghost use Rattle.std.specs.Prelude.{◌≡◌};
 ghost use Rattle.mk_graph.specs.Hashing.{stirred, hash_of};
@@ -7,7 +9,7 @@ ghost use Rattle.mk_graph.specs.Hashing.{stirred, hash_of};
 fn stirred(state: u64, byte: u8) -> u64
     ensures { result ≡ stirred state byte }
 {
-    (state ^ byte as u64).wrapping_mul(0x9e37_79b9_7f4a_7c15)
+    state.wrapping_mul(0x9e37_79b9_7f4a_7c15) ^ byte as u64
 }
 
 /// The hash of a name.
@@ -18,5 +20,5 @@ pub(crate) fn hash_of(name: &[u8]) -> u32
     for byte in name {
         state = stirred(state, *byte);
     }
-    (state >> 32) as u32
+    (state >> 32) as u32 ^ (state % (1 << 32)) as u32
 }
