@@ -10,7 +10,7 @@ abbrev pub stirred_by : (state : ℕ) (name : List ℕ) → ℕ
 stirred_by state [] = state
 stirred_by state (byte ∷ name) = stirred_by (stirred state byte) name
 
--- both halves of the state behind all bytes, in one: all its bits come of each byte but the last one, which its last eight alone do, so
--- that names lie beside each other that are the same up to their last byte
+-- the two halves of the state behind all bytes, in one. The last byte changes no more than the last eight bits, so that names that are
+-- the same up to it lie beside each other
 unfoldable pub hash_of : (name : List ℕ) → ℕ
 hash_of name = let state = stirred_by 0xcbf2_9ce4_8422_2325 name in bit_xor (state / 2 ^ 32) (state % 2 ^ 32)

@@ -1,6 +1,6 @@
-//! The hash by which a name is found. Its seed is fixed: names that were made to collide are found slowly. Names that are the
-//! same up to their last byte, as `x.c` and `x.h`, or `x1` and `x2`, have hashes that differ in the last eight bits alone: they
-//! are mostly met one behind another, and are then found in the same piece of memory.
+//! The hash by which a name is found. Its seed is fixed: names that were made to collide are found slowly. The last byte
+//! changes no more than the last eight bits: names that are the same up to it, as `x.c` and `x.h` or `x1` and `x2`, are
+//! mostly met one behind another, and so are found in one piece of memory.
 
 ghost use Rattle.std.specs.Prelude.{◌≡◌};
 ghost use Rattle.mk_graph.specs.Hashing.{stirred, hash_of};
