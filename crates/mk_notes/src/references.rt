@@ -96,14 +96,7 @@ fn subject_at(
 fn has_dollar(text: &[u8]) -> bool
     ensures { result ≡ list_any is_dollar text.now }
 {
-    // No byte ends the loop, so that many can be looked at at once.
-    let mut is_found = false;
-    let mut at = 0;
-    while at < text.len() {
-        is_found |= text[at] == b'$';
-        at += 1;
-    }
-    is_found
+    text.contains(&b'$')
 }
 
 impl Notes {
