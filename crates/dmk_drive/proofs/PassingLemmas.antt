@@ -5,17 +5,17 @@ use Rattle.std.proofs.lemmas.Grind.{flat_map-append}
 use Rattle.std.specs.FinMap.{get-empty}
 use Rattle.std.specs.List.{list_all, flat_map}
 use Rattle.std.specs.Bool.{if◌then◌else◌}
-use Rattle.mk_graph.specs.Counted.{joined, AreCounted}
+use Rattle.mk_graph.specs.Counted.{counting, IsDropped}
 use Rattle.mk_graph.specs.Cycle.{HasCycle}
 use Rattle.mk_graph.specs.Edges.{row, has, times}
 use Rattle.mk_graph.specs.Plan.{IsPlanAfter}
-use Rattle.mk_graph.proofs.CountedLemmas.{cycle_in}
 use Rattle.mk_graph.proofs.WholeLemmas.{whole_plan}
 use Rattle.mk_plan.specs.declared.fault.RecipeFault.{RecipeFault}
 use Rattle.mk_plan.specs.declared.fault.RecipeFault.TheVariants as fault
-use Rattle.mk_rules.specs.Graph.{IsGraph, required_in}
+use Rattle.mk_rules.specs.Graph.{IsGraph, required_in, counting_in}
 use Rattle.mk_rules.specs.Prerequisites.{Inputs}
 use Rattle.mk_rules.specs.declared.graph.Graph.{Graph}
+use Rattle.mk_graph.proofs.CountedLemmas.{length-counting, closed_counting}
 use Rattle.mk_graph.specs.Numbering.{name_at}
 use Rattle.mk_plan.specs.Passage.{Passage, to_make, finished, is_listed, commands_of}
 use Rattle.mk_plan.specs.Passing.{Passes, is_to_be_run, is_up_to_date, has_no_recipe, is_left, IsFaultAt, told_in}
@@ -129,10 +129,13 @@ plan_below g passed (n ∷ order) (next, more) =
     let ready = and_parts (nat_lt n (length g)) (not (has passed n) && list_all (has passed) (row g n)) next.ready in
     and_from (nat_lt n (length g)) (list_all (λ m. nat_lt m (length g)) order) ready.0 (plan_below g (passed ++ n ∷ []) order more)
 
+counting_rows : (graph : Graph) → length (counting_in graph) ≡ length graph.nodes.items
+counting_rows graph = length-counting (required_in graph) graph.soft graph.soft_dropped ∙ graph.required_rows
+
 pub order_below : (inputs : Inputs) (named : List (List ℕ)) (graph : Graph) → IsGraph inputs named graph →
     list_all (λ n. nat_lt n (length graph.nodes.items)) graph.order.items ≡ true
 order_below inputs named graph is =
-    subst (λ count. list_all (λ n. nat_lt n count) graph.order.items ≡ true) graph.counted_rows (plan_below graph.counted [] graph.order.items is.order)
+    subst (λ count. list_all (λ n. nat_lt n count) graph.order.items ≡ true) (counting_rows graph) (plan_below (counting_in graph) [] graph.order.items is.order)
 
 -- so it is of the graph by which targets are judged
 pub order_judged : (all : Bool) (graph judged : Graph) → judged ≡ judged_graph all graph →
@@ -141,20 +144,19 @@ pub order_judged : (all : Bool) (graph judged : Graph) → judged ≡ judged_gra
 order_judged true graph judged is below = subst (λ g. list_all (λ n. nat_lt n (length g.nodes.items)) g.order.items ≡ true) (sym is) below
 order_judged false graph judged is below = subst (λ g. list_all (λ n. nat_lt n (length g.nodes.items)) g.order.items ≡ true) (sym is) below
 
--- no counted edges make a cycle where the hard ones don't
-uncycled : (hard soft counted : List (List ℕ)) (dropped : Bool) → AreCounted hard soft counted dropped → (HasCycle hard → ⊥) → HasCycle counted → ⊥
-uncycled hard soft counted true are acyclic cycle = acyclic (cycle_in hard counted are.edges cycle)
-uncycled hard soft counted false are acyclic cycle = by are.choice
-  where
-    by : (HasCycle (joined hard soft) → ⊥) ⊎ HasCycle hard → ⊥
-    by (inl none) = none (cycle_in (joined hard soft) counted are.edges cycle)
-    by (inr in_hard) = acyclic in_hard
+-- no edges that count make a cycle where the hard ones don't
+uncycled : (hard soft : List (List ℕ)) (dropped : Bool) → IsDropped hard soft dropped → (HasCycle hard → ⊥) → HasCycle (counting hard soft dropped) → ⊥
+uncycled hard soft true is acyclic cycle = acyclic cycle
+uncycled hard soft false (inl none) acyclic cycle = none cycle
+uncycled hard soft false (inr in_hard) acyclic cycle = acyclic in_hard
 
 pub passes_each : (inputs : Inputs) (named : List (List ℕ)) (graph : Graph) → IsGraph inputs named graph → PassesEach graph
 passes_each inputs named graph is = record {
   order = is.order;
-  once = λ n. subst (λ count. times n graph.order.items ≡ (if nat_lt n count then 1 else 0)) graph.counted_rows
-      (whole_plan graph.counted graph.order.items graph.counted_closed (uncycled (required_in graph) graph.soft graph.counted graph.soft_dropped is.counted is.acyclic) is.order n);
+  once = λ n. subst (λ count. times n graph.order.items ≡ (if nat_lt n count then 1 else 0)) (counting_rows graph)
+      (whole_plan (counting_in graph) graph.order.items
+      (closed_counting (required_in graph) graph.soft graph.soft_dropped (graph.soft_rows ∙ sym graph.required_rows) graph.required_closed graph.soft_closed)
+      (uncycled (required_in graph) graph.soft graph.soft_dropped is.dropped is.acyclic) is.order n);
 }
 
 -- ---- where all targets are to be made

@@ -3,6 +3,7 @@ use Rattle.std.specs.Prelude.{◌≡◌, ℕ, Bool, true, false, nat_lt, List, [
 use Rattle.std.specs.List.{flat_map, list_any}
 use Rattle.mk_graph.specs.Edges.{times}
 use Rattle.mk_graph.specs.Plan.{IsPlan}
+use Rattle.mk_rules.specs.Graph.{counting_in}
 use Rattle.mk_plan.specs.declared.fault.RecipeFault.{RecipeFault}
 use Rattle.mk_plan.specs.declared.fault.RecipeFault.TheVariants.{OutOfMemory}
 use Rattle.mk_plan.specs.Passage.{Passage, to_make, finished, is_listed}
@@ -86,7 +87,7 @@ passage_text telling recipes passage = text_of (lines_about telling passage) ++ 
 abbrev pub listing_text : Telling → (recipes : Bool) → List Passage → List ℕ
 listing_text telling recipes listed = flat_map (passage_text telling recipes) listed
 
--- the graph's order has each node once and no other number, and behind all nodes that its counted row names
+-- the graph's order has each node once and no other number, and behind all nodes that the edges that count lead it to
 pub record PassesEach (graph : Graph) : Type 0 where
-  pub order : IsPlan graph.counted graph.order.items
+  pub order : IsPlan (counting_in graph) graph.order.items
   pub once : (n : ℕ) → times n graph.order.items ≡ (if nat_lt n (length graph.nodes.items) then 1 else 0)

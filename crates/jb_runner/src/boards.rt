@@ -1,7 +1,9 @@
-//! The board of a graph: it has copies of the graph's tables.
+//! The board of a graph: it has copies of the graph's tables, and the edges that count.
 
-ghost use Rattle.std.specs.Prelude.{◌≡◌, unwrap_or, IfOk};
+ghost use Rattle.std.specs.Prelude.{◌≡◌, ℕ, List, IfOk};
 ghost use Rattle.bd_ledger.specs.Sheet.{first_sheet};
+ghost use Rattle.mk_graph.specs.Counted.{AreSets};
+ghost use Rattle.mk_rules.specs.Graph.{required_in, counting_in};
 
 use bd_flusher::Receipt;
 use bd_lists::Board;
@@ -24,9 +26,10 @@ fn copy_names(alloc: Global, names: &Names) -> Result<Vec<ByteString>, AllocErro
 /// The board of a graph's nodes: those that wait for nothing are in Ready, the others in Waiting, in the order of their numbers.
 /// No call of the board takes memory from then on.
 pub fn board_of(alloc: Global, graph: &Graph) -> Result<Board<Receipt>, AllocError>
-    ensures { IfOk result (λ b. b ≡ first_sheet (record { counted = graph.now.counted; hard = unwrap_or graph.now.required graph.now.hard }) graph.now.names) }
+    ensures { IfOk result (λ b. (counted : List (List ℕ)) × AreSets (counting_in graph.now) counted
+        × (b ≡ first_sheet (record { counted = counted; hard = required_in graph.now }) graph.now.names)) }
 {
-    let counted = graph.counted.copy(alloc)?;
+    let counted = graph.counted_edges(alloc)?;
     let hard = graph.required_edges().copy(alloc)?;
     let names = copy_names(alloc, &graph.names)?;
     Board::of(alloc, counted, hard, names)

@@ -10,7 +10,7 @@ use Rattle.std.specs.List.{list_all, dedup}
 use Rattle.std.specs.List.Sorted.{IsStrictlyIncreasing}
 use Rattle.mk_graph.specs.Edges.{row, has, is_closed}
 use Rattle.mk_graph.specs.Cycle.{IsChain, IsCycle, HasCycle}
-use Rattle.mk_graph.specs.Counted.{joined, AreSets}
+use Rattle.mk_graph.specs.Counted.{joined, counting, AreSets}
 use Rattle.mk_graph.proofs.JoinLemmas.{length-joined, row-joined}
 use Rattle.mk_graph.proofs.RowLemmas.{list_all-has}
 use Rattle.mk_graph.proofs.CycleLemmas.{closed_row}
@@ -85,6 +85,16 @@ closed_joined hard soft same h s = closed_from_below (joined hard soft) below
         ⊎_elim (λ a. let b = below_from_closed hard h n m a in let l = length-joined hard soft in omega arith)
         (λ a. let b = below_from_closed soft s n m a in let l = length-joined hard soft in omega arith)
         (or_cases (has (row hard n) m) (has (row soft n) m) (sym (has-joined hard soft same n m) ∙ there))
+
+-- of the edges that count
+pub length-counting : (hard soft : List (List ℕ)) (dropped : Bool) → length (counting hard soft dropped) ≡ length hard
+length-counting hard soft true = refl
+length-counting hard soft false = length-joined hard soft
+
+pub closed_counting : (hard soft : List (List ℕ)) (dropped : Bool) → length soft ≡ length hard → is_closed hard ≡ true → is_closed soft ≡ true
+    → is_closed (counting hard soft dropped) ≡ true
+closed_counting hard soft true same of_hard of_soft = of_hard
+closed_counting hard soft false same of_hard of_soft = closed_joined hard soft same of_hard of_soft
 
 pub closed_sets : (g sets : List (List ℕ)) → AreSets g sets → is_closed g ≡ true → is_closed sets ≡ true
 closed_sets g sets are closed = closed_from_below sets (λ n m there. let b = below_from_closed g closed n m (wider_from_sets g sets are n m there) in let l = are.nodes in omega arith)

@@ -17,3 +17,4 @@ pub mod ChainLemmas
 pub mod LinkLemmas
 pub mod OwnRowLemmas
 pub mod PassedLemmas
+mod BothLemmas

@@ -21,7 +21,6 @@ abbrev pub IsDropped : (hard soft : List (List ℕ)) → Bool → Type 0
 IsDropped hard soft true = HasCycle (joined hard soft) × (HasCycle hard → ⊥)
 IsDropped hard soft false = (HasCycle (joined hard soft) → ⊥) ⊎ HasCycle hard
 
--- the edges that order nodes: hard and soft ones, or hard ones alone where soft ones are dropped
-pub record AreCounted (hard soft counted : List (List ℕ)) (dropped : Bool) : Type 0 where
-  pub choice : IsDropped hard soft dropped
-  pub edges : AreSets (if dropped then hard else joined hard soft) counted
+-- the edges that count: hard and soft ones, or hard ones alone where soft ones are dropped
+abbrev pub counting : (hard soft : List (List ℕ)) (dropped : Bool) → List (List ℕ)
+counting hard soft dropped = if dropped then hard else joined hard soft

@@ -1,33 +1,23 @@
-//! The edges that order nodes.
+//! The edges that order nodes, and the order that they make.
 
-ghost use Rattle.std.specs.Prelude.{◌≡◌, ℕ, ◌<◌, ◌||◌, List, length, IfOk, IsTrue};
+ghost use Rattle.std.specs.Prelude.{◌≡◌, ℕ, length, IfOk, IsTrue};
 ghost use Rattle.std.specs.List.Sorted.{IsNonDecreasing, IsStrictlyIncreasing};
 ghost use Rattle.mk_graph.specs.Edges.{row, has, is_closed, AreUsers};
 ghost use Rattle.mk_graph.specs.Cycle.{HasCycle};
-ghost use Rattle.mk_graph.specs.Counted.{joined, AreSets, AreCounted};
+ghost use Rattle.mk_graph.specs.Counted.{joined, counting, AreSets, IsDropped};
 ghost use Rattle.mk_graph.specs.Order.{IsCountedOrder};
-ghost use Rattle.mk_graph.specs.Users.{HasUsers};
 
-use crate::cycles::{Order, order_by_users};
+use crate::cycles::{Order, order_both, order_nodes};
 use crate::edges::Edges;
 use std::alloc::{AllocError, Global};
 
-/// What orders the nodes of a graph.
+/// The order of the nodes of a graph, by hard and soft edges.
 #[derive(Drop)]
-pub struct Counted {
-    /// Hard and soft edges, or hard ones alone. Each row has a number once, and the numbers in their order.
-    pub edges: Edges,
+pub struct CountedOrder {
     /// Whether soft edges were dropped, since they would make a cycle.
     pub dropped: bool,
-    /// The order of the nodes by these edges, or a cycle of hard ones.
+    /// The order by the edges that count, or a cycle of hard ones.
     pub order: Order,
-}
-
-/// Rows whose numbers ascend, and the users of their nodes.
-#[derive(Drop)]
-struct Sets {
-    edges: Edges,
-    users: Edges,
 }
 
 /// The numbers of a list that doesn't fall, each once.
@@ -54,80 +44,97 @@ fn without_repeats(alloc: Global, rows: Edges) -> Result<Edges, AllocError>
 }
 
 /// Rows without repeats and in order, by their users. Where no user stands twice, the rows keep their lengths.
-fn sets_by_users(alloc: Global, rows: Edges, users: Edges) -> Result<Sets, AllocError>
+fn sets_by_users(alloc: Global, rows: Edges, users: Edges) -> Result<Edges, AllocError>
     requires closed { IsTrue (is_closed rows) }
     requires users { AreUsers rows users }
-    ensures sets { IfOk result (λ sets. AreSets rows sets.edges) }
-    ensures users { IfOk result (λ sets. HasUsers sets.edges sets.users) }
+    ensures { IfOk result (AreSets rows) }
 {
     if users.ascends() {
-        let edges = users.reversed_into(rows)?;
-        return Ok(Sets { edges, users });
+        return users.reversed_into(rows);
     }
     let users = without_repeats(alloc, users)?;
-    let edges = users.reversed(alloc)?;
-    Ok(Sets { edges, users })
+    users.reversed(alloc)
 }
 
 /// Rows without repeats and in order. The users of a graph's users are its own rows in order, so no row need be sorted by
 /// itself.
-fn sets_of(alloc: Global, rows: Edges) -> Result<Sets, AllocError>
+fn sets_of(alloc: Global, rows: Edges) -> Result<Edges, AllocError>
     requires { IsTrue (is_closed rows) }
-    ensures sets { IfOk result (λ sets. AreSets rows sets.edges) }
-    ensures users { IfOk result (λ sets. HasUsers sets.edges sets.users) }
+    ensures { IfOk result (AreSets rows) }
 {
-    let users = rows.reversed(alloc)?;
     if rows.ascends() {
-        return Ok(Sets { edges: rows, users });
+        return Ok(rows);
     }
+    let users = rows.reversed(alloc)?;
     sets_by_users(alloc, rows, users)
 }
 
-/// What orders the nodes where hard and soft edges together make a cycle.
-fn count_hard(alloc: Global, hard: &Edges, soft: &Edges, both: Edges) -> Result<Counted, AllocError>
-    requires hard { IsTrue (is_closed hard.now) }
-    requires both { AreSets (joined hard.now soft.now) both }
-    requires closed { IsTrue (is_closed both) }
-    requires cycle { HasCycle both }
-    ensures counted { IfOk result (λ c. AreCounted hard.now soft.now c.edges c.dropped) }
-    ensures order { IfOk result (λ c. IsCountedOrder hard.now c.edges c.order) }
-    ensures closed { IfOk result (λ c. IsTrue (is_closed c.edges)) }
+/// The rows of the edges that count, as they stand.
+fn rows_counting(
+    alloc: Global,
+    hard: &Edges,
+    soft: &Edges,
+    dropped: bool,
+) -> Result<Edges, AllocError>
+    requires { length soft.now ≡ length hard.now }
+    ensures { IfOk result (λ rows. rows ≡ counting hard.now soft.now dropped) }
 {
-    let Sets {
-        edges: alone,
-        users,
-    } = sets_of(alloc, hard.copy(alloc)?)?;
-    match order_by_users(alloc, &alone, &users)? {
-        Order::Plan(order) => Ok(Counted {
-            edges: alone,
+    if dropped {
+        return hard.copy(alloc);
+    }
+    Edges::joined(alloc, hard, soft)
+}
+
+/// The edges that order the nodes of a graph: hard and soft ones, or hard ones alone where the soft ones are dropped. Each
+/// row has a number once, and the numbers in their order.
+pub fn counted_edges(
+    alloc: Global,
+    hard: &Edges,
+    soft: &Edges,
+    dropped: bool,
+) -> Result<Edges, AllocError>
+    requires nodes { length soft.now ≡ length hard.now }
+    requires hard { IsTrue (is_closed hard.now) }
+    requires soft { IsTrue (is_closed soft.now) }
+    ensures { IfOk result (AreSets (counting hard.now soft.now dropped)) }
+{
+    let rows = rows_counting(alloc, hard, soft, dropped)?;
+    sets_of(alloc, rows)
+}
+
+/// The order where hard and soft edges together make a cycle.
+fn order_hard(alloc: Global, hard: &Edges, soft: &Edges) -> Result<CountedOrder, AllocError>
+    requires hard { IsTrue (is_closed hard.now) }
+    requires cycle { HasCycle (joined hard.now soft.now) }
+    ensures dropped { IfOk result (λ c. IsDropped hard.now soft.now c.dropped) }
+    ensures order { IfOk result (λ c. IsCountedOrder hard.now soft.now c.dropped c.order) }
+{
+    match order_nodes(alloc, hard)? {
+        Order::Plan(order) => Ok(CountedOrder {
             dropped: true,
             order: Order::Plan(order),
         }),
-        Order::Cycle(cycle) => Ok(Counted {
-            edges: both,
+        Order::Cycle(cycle) => Ok(CountedOrder {
             dropped: false,
             order: Order::Cycle(cycle),
         }),
     }
 }
 
-/// The edges that order the nodes of a graph: hard and soft ones, or hard ones alone where both together make a cycle
-/// and the hard ones don't; and the order that they make. Where hard ones make a cycle, it is answered instead.
-pub fn count_edges(alloc: Global, hard: &Edges, soft: &Edges) -> Result<Counted, AllocError>
+/// The order of the nodes of a graph by hard and soft edges, or by hard ones alone where both together make a cycle and the hard
+/// ones don't. Where hard ones make a cycle, it is answered instead.
+pub fn counted_order(alloc: Global, hard: &Edges, soft: &Edges) -> Result<CountedOrder, AllocError>
     requires nodes { length soft.now ≡ length hard.now }
     requires hard { IsTrue (is_closed hard.now) }
     requires soft { IsTrue (is_closed soft.now) }
-    ensures counted { IfOk result (λ c. AreCounted hard.now soft.now c.edges c.dropped) }
-    ensures order { IfOk result (λ c. IsCountedOrder hard.now c.edges c.order) }
-    ensures closed { IfOk result (λ c. IsTrue (is_closed c.edges)) }
+    ensures dropped { IfOk result (λ c. IsDropped hard.now soft.now c.dropped) }
+    ensures order { IfOk result (λ c. IsCountedOrder hard.now soft.now c.dropped c.order) }
 {
-    let Sets { edges: both, users } = sets_of(alloc, Edges::joined(alloc, hard, soft)?)?;
-    match order_by_users(alloc, &both, &users)? {
-        Order::Plan(order) => Ok(Counted {
-            edges: both,
+    match order_both(alloc, hard, soft)? {
+        Order::Plan(order) => Ok(CountedOrder {
             dropped: false,
             order: Order::Plan(order),
         }),
-        Order::Cycle(_) => count_hard(alloc, hard, soft, both),
+        Order::Cycle(_) => order_hard(alloc, hard, soft),
     }
 }

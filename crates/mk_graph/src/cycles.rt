@@ -1,14 +1,16 @@
 //! Cycles: whoever isn't in the plan depends on one.
 
-ghost use Rattle.std.specs.Prelude.{◌≡◌, ℕ, ◌<◌, Bool, true, false, List, [], ◌∷◌, ◌++◌, length, take, drop, nat_eq, nat_lt, nat_le, slice_index, slice_index_or, IsTrue, IfOk, IfSome, IfNone};
+ghost use Rattle.std.specs.Prelude.{◌≡◌, ◌≢◌, ℕ, ◌<◌, Bool, true, false, List, [], ◌∷◌, ◌++◌, length, take, drop, nat_eq, nat_lt, nat_le, slice_index, slice_index_or, IsTrue, IfOk, IfSome, IfNone};
 ghost use Rattle.std.specs.List.{IsDistinct, list_all};
 ghost use Rattle.mk_graph.specs.Edges.{row, has, is_closed};
+ghost use Rattle.mk_graph.specs.Counted.{joined};
+ghost use Rattle.mk_graph.specs.Cycle.{IsCycle};
 ghost use Rattle.mk_graph.specs.Order.{IsOrder};
+ghost use Rattle.mk_graph.specs.Plan.{IsPlan};
 ghost use Rattle.mk_graph.specs.Ring.{IsRing};
-ghost use Rattle.mk_graph.specs.Users.{HasUsers};
 
 use crate::edges::Edges;
-use crate::planning::plan_by_users;
+use crate::planning::plan_both;
 use std::alloc::{AllocError, Global};
 
 /// A mark for each of so many nodes, set for those of the list.
@@ -131,6 +133,23 @@ fn from_least(alloc: Global, ring: &[usize]) -> Result<Vec<usize>, AllocError>
     Ok(cycle)
 }
 
+/// A cycle of a graph whose plan leaves out nodes.
+fn cycle_beside(alloc: Global, edges: &Edges, order: &[usize]) -> Result<Vec<usize>, AllocError>
+    requires closed { IsTrue (is_closed edges.now) }
+    requires plan { IsPlan edges.now order.now }
+    requires once { IsDistinct nat_eq order.now }
+    requires nodes { list_all (λ n. nat_lt n (length edges.now)) order.now ≡ true }
+    requires left { length order.now ≢ length edges.now }
+    ensures { IfOk result (λ cycle. IsCycle edges.now cycle.items) }
+{
+    let passed = marks(alloc, edges.len(), order)?;
+    let Some(start) = first_unmarked(&passed) else {
+        unreachable!()
+    };
+    let ring = walk(alloc, edges, &passed, start)?;
+    from_least(alloc, &ring)
+}
+
 /// What orders the nodes of a graph.
 #[derive(Drop)]
 pub enum Order {
@@ -146,28 +165,20 @@ pub fn order_nodes(alloc: Global, edges: &Edges) -> Result<Order, AllocError>
     requires { IsTrue (is_closed edges.now) }
     ensures { IfOk result (IsOrder edges.now) }
 {
-    let users = edges.reversed(alloc)?;
-    order_by_users(alloc, edges, &users)
+    let none = edges.blank(alloc)?;
+    order_both(alloc, edges, &none)
 }
 
-/// The same of a graph whose users are known.
-pub(crate) fn order_by_users(
-    alloc: Global,
-    edges: &Edges,
-    users: &Edges,
-) -> Result<Order, AllocError>
-    requires closed { IsTrue (is_closed edges.now) }
-    requires users { HasUsers edges.now users.now }
-    ensures { IfOk result (IsOrder edges.now) }
+/// The same of the graph that has the rows of two together.
+pub(crate) fn order_both(alloc: Global, first: &Edges, second: &Edges) -> Result<Order, AllocError>
+    requires nodes { length second.now ≡ length first.now }
+    requires closed { IsTrue (is_closed (joined first.now second.now)) }
+    ensures { IfOk result (IsOrder (joined first.now second.now)) }
 {
-    let order = plan_by_users(alloc, edges, users)?;
-    if order.len() == edges.len() {
+    let order = plan_both(alloc, first, second)?;
+    if order.len() == first.len() {
         return Ok(Order::Plan(order));
     }
-    let passed = marks(alloc, edges.len(), &order)?;
-    let Some(start) = first_unmarked(&passed) else {
-        unreachable!()
-    };
-    let ring = walk(alloc, edges, &passed, start)?;
-    Ok(Order::Cycle(from_least(alloc, &ring)?))
+    let edges = Edges::joined(alloc, first, second)?;
+    Ok(Order::Cycle(cycle_beside(alloc, &edges, &order)?))
 }

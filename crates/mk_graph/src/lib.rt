@@ -16,7 +16,7 @@ mod texts;
 mod users;
 mod waiting;
 
-pub use counting::{Counted, count_edges};
+pub use counting::{CountedOrder, counted_edges, counted_order};
 pub use cycles::{Order, order_nodes};
 pub use edges::{Edges, Parts};
 pub use names::Names;

@@ -2,6 +2,7 @@
 
 ghost use Rattle.std.specs.Prelude.{◌≡◌, ℕ, ◌+◌, ◌<◌, ◌≤◌, ◌||◌, ◌&&◌, [], true, false, not, length, map, IfOk, IfSome, IfNone, OnOk, nat_eq, nat_lt, slice_index};
 ghost use Rattle.std.specs.List.{IsDistinct, list_all};
+ghost use Rattle.mk_graph.specs.Counted.{joined};
 ghost use Rattle.mk_graph.specs.Edges.{row, has, times};
 ghost use Rattle.mk_graph.specs.Plan.{IsPlan, OnePlan, WholePlan};
 ghost use Rattle.mk_graph.specs.Ready.{is_in, is_open, are_ready, IsBelow};
@@ -79,25 +80,42 @@ pub fn plan(alloc: Global, edges: &Edges) -> Result<Vec<usize>, AllocError>
     ensures once { IfOk result (λ order. IsDistinct nat_eq order.items) }
     ensures nodes { IfOk result (λ order. list_all (λ n. nat_lt n (length edges.now)) order.items ≡ true) }
 {
-    let users = edges.reversed(alloc)?;
-    plan_by_users(alloc, edges, &users)
+    let none = edges.blank(alloc)?;
+    plan_both(alloc, edges, &none)
 }
 
-/// The plan of a graph whose users are known.
-pub(crate) fn plan_by_users(
+/// The plan of the graph that has the rows of two together. These rows aren't made.
+pub(crate) fn plan_both(
     alloc: Global,
-    edges: &Edges,
+    first: &Edges,
+    second: &Edges,
+) -> Result<Vec<usize>, AllocError>
+    requires { length second.now ≡ length first.now }
+    ensures plan { IfOk result (λ order. IsPlan (joined first.now second.now) order.items) }
+    ensures once { IfOk result (λ order. IsDistinct nat_eq order.items) }
+    ensures nodes { IfOk result (λ order. list_all (λ n. nat_lt n (length (joined first.now second.now))) order.items ≡ true) }
+{
+    let users = first.reversed_with(alloc, second)?;
+    plan_by_users(alloc, first, second, &users)
+}
+
+/// The same where the users are known.
+fn plan_by_users(
+    alloc: Global,
+    first: &Edges,
+    second: &Edges,
     users: &Edges,
 ) -> Result<Vec<usize>, AllocError>
-    requires { HasUsers edges.now users.now }
-    ensures plan { IfOk result (λ order. IsPlan edges.now order.items) }
+    requires nodes { length second.now ≡ length first.now }
+    requires users { HasUsers (joined first.now second.now) users.now }
+    ensures plan { IfOk result (λ order. IsPlan (joined first.now second.now) order.items) }
     ensures once { IfOk result (λ order. IsDistinct nat_eq order.items) }
-    ensures nodes { IfOk result (λ order. list_all (λ n. nat_lt n (length edges.now)) order.items ≡ true) }
+    ensures nodes { IfOk result (λ order. list_all (λ n. nat_lt n (length (joined first.now second.now))) order.items ≡ true) }
 {
-    let mut missing = edges.lengths(alloc)?;
+    let mut missing = first.lengths_with(alloc, second)?;
     let mut ready = ReadyNodes::new(alloc);
     let mut from = 0;
-    let mut order = Vec::with_capacity(alloc, edges.len())?;
+    let mut order = Vec::with_capacity(alloc, first.len())?;
     while let Some(node) = next_ready(&mut ready, &mut from, &missing) {
         push(&mut order, node)?;
         count_down(users.row(node), from, &mut missing, &mut ready)?;

@@ -3,7 +3,7 @@ use Rattle.std.proofs.Common.{◌≡◌, ℕ, true, List, length, map, sym, ap, 
 use Rattle.std.specs.FinMap as finmap
 use Rattle.std.specs.Prelude.{slice_get, unwrap_or}
 use Rattle.st_state.specs.State.{StateMap}
-use Rattle.mk_graph.specs.Counted.{AreCounted}
+use Rattle.mk_graph.specs.Counted.{counting, IsDropped}
 use Rattle.mk_graph.specs.Cycle.{HasCycle}
 use Rattle.mk_graph.specs.Edges.{row, is_closed}
 use Rattle.mk_graph.specs.Numbering.{IsNumbering, name_at, has_name}
@@ -12,7 +12,7 @@ use Rattle.mk_graph.specs.declared.numbering.Numbered.{Numbered}
 use Rattle.mk_rules.specs.Assembly.{IsPutTogether}
 use Rattle.mk_rules.specs.Found.{AreFound, IsUnmadeFault, IsGraphlessFault}
 use Rattle.mk_rule_lines.specs.Goals.{goals_of, settings_of}
-use Rattle.mk_rules.specs.Graph.{IsGraph, IsNode, AreMade, AreHard, AreRequired, AreSoft, required_in}
+use Rattle.mk_rules.specs.Graph.{IsGraph, IsNode, AreMade, AreHard, AreRequired, AreSoft, required_in, counting_in}
 use Rattle.mk_rules.specs.Nodes.{IsNamedOf}
 use Rattle.mk_rules.specs.Ordering.{IsCycleFault}
 use Rattle.mk_rules.specs.Prerequisites.{Inputs, prerequisites_of, is_made}
@@ -33,8 +33,8 @@ module _ (inputs : Inputs) (named : List (List ℕ)) (lines : List RuleLine) (li
     (found : AreFound inputs (goals_of inputs.lines named) n) (node_count : length n.nodes.items ≡ length n.names) where
   module _ (o : Ordered) (hard_count : length o.hard ≡ length n.names) (rows : EachRow (IsHardRow n.rows n.nodes.items) o.hard) (taken : AreTaken lines)
       (made : AreMade inputs n.names) (required : AreRequired inputs n.names (unwrap_or o.required o.hard)) (soft : AreSoft inputs n.names o.soft)
-      (counted : AreCounted (unwrap_or o.required o.hard) o.soft o.counted o.soft_dropped)
-      (acyclic : HasCycle (unwrap_or o.required o.hard) → ⊥) (order : IsPlan o.counted o.order.items) (soft_count : length o.soft ≡ length n.names)
+      (dropped : IsDropped (unwrap_or o.required o.hard) o.soft o.soft_dropped)
+      (acyclic : HasCycle (unwrap_or o.required o.hard) → ⊥) (order : IsPlan (counting (unwrap_or o.required o.hard) o.soft o.soft_dropped) o.order.items) (soft_count : length o.soft ≡ length n.names)
       (soft_rows : EachRow (IsSoftRow n.rows n.nodes.items) o.soft) (closed : is_closed o.soft ≡ true) (state : StateMap)
       (entries : finmap.get state ≡ inputs.entries) (graph : Graph)
       (named_nodes : Named) (of : IsNamedOf n named_nodes) (p : IsPutTogether lines named_nodes o state graph) where
@@ -47,13 +47,17 @@ module _ (inputs : Inputs) (named : List (List ℕ)) (lines : List RuleLine) (li
     required_is : required_in graph ≡ unwrap_or o.required o.hard
     required_is = ap (λ r. unwrap_or r graph.hard) p.required ∙ ap (unwrap_or o.required) p.hard
 
-    counted_is : AreCounted (required_in graph) graph.soft graph.counted graph.soft_dropped
-    counted_is =
+    dropped_is : IsDropped (required_in graph) graph.soft graph.soft_dropped
+    dropped_is =
         let edges : List (List ℕ) = unwrap_or o.required o.hard in
-        subst (λ h. AreCounted h graph.soft graph.counted graph.soft_dropped) (sym required_is)
-        (subst (λ s. AreCounted edges s graph.counted graph.soft_dropped) (sym p.soft)
-        (subst (λ c. AreCounted edges o.soft c graph.soft_dropped) (sym p.counted)
-        (subst (λ d. AreCounted edges o.soft o.counted d) (sym p.dropped) counted)))
+        subst (λ h. IsDropped h graph.soft graph.soft_dropped) (sym required_is)
+        (subst (λ s. IsDropped edges s graph.soft_dropped) (sym p.soft) (subst (IsDropped edges o.soft) (sym p.dropped) dropped))
+
+    counting_is : counting_in graph ≡ counting (unwrap_or o.required o.hard) o.soft o.soft_dropped
+    counting_is =
+        ap (λ h. counting h graph.soft graph.soft_dropped) required_is
+        ∙ ap (λ s. counting (unwrap_or o.required o.hard) s graph.soft_dropped) p.soft
+        ∙ ap (counting (unwrap_or o.required o.hard) o.soft) p.dropped
 
     pub assembled : IsGraph inputs named graph
     assembled = record {
@@ -73,9 +77,9 @@ module _ (inputs : Inputs) (named : List (List ℕ)) (lines : List RuleLine) (li
       hard = subst (λ ns. AreHard inputs ns graph.hard) (sym names_is) (subst (AreHard inputs n.names) (sym p.hard) hard_is);
       required = subst (λ ns. AreRequired inputs ns (required_in graph)) (sym names_is) (subst (AreRequired inputs n.names) (sym required_is) required);
       soft = subst (λ ns. AreSoft inputs ns graph.soft) (sym names_is) (subst (AreSoft inputs n.names) (sym p.soft) soft);
-      counted = counted_is;
+      dropped = dropped_is;
       acyclic = subst (λ h. HasCycle h → ⊥) (sym required_is) acyclic;
-      order = subst (λ c. IsPlan c graph.order.items) (sym p.counted) (subst (IsPlan o.counted) (sym p.order) order);
+      order = subst (λ g. IsPlan g graph.order.items) (sym counting_is) (subst (IsPlan (counting (unwrap_or o.required o.hard) o.soft o.soft_dropped)) (sym p.order) order);
       settings = p.settings ∙ ap settings_of (sym lines_are);
       entries = ap finmap.get p.recorded ∙ entries;
     }

@@ -21,7 +21,6 @@ pub mod MarkLemmas
 pub mod NeededLemmas
 pub mod OneGraphLemmas
 pub mod OneNumberingLemmas
-pub mod OrderLemmas
 pub mod OrderOnlyLemmas
 pub mod PartsLaws
 pub mod PlaceLemmas

@@ -5,17 +5,17 @@ use Rattle.std.specs.Prelude.{option_map, if◌then◌else◌}
 use Rattle.std.specs.List.{list_all}
 use Rattle.std.proofs.lemmas.Bool.{and_parts, and_from, cases_lt}
 use Rattle.std.proofs.lemmas.List.{get_or_past, ext_get_or}
-use Rattle.mk_graph.specs.Counted.{joined, AreSets, IsDropped}
+use Rattle.mk_graph.specs.Counted.{joined, counting, IsDropped}
 use Rattle.mk_graph.specs.Cycle.{HasCycle}
 use Rattle.mk_graph.specs.Edges.{row, has, is_closed}
 use Rattle.mk_graph.specs.Numbering.{name_at}
 use Rattle.mk_graph.specs.Plan.{is_ready, IsPlanAfter}
-use Rattle.mk_graph.proofs.CountedLemmas.{has-joined, HasCycle-wider, below_from_closed}
+use Rattle.mk_graph.proofs.CountedLemmas.{has-joined, HasCycle-wider, below_from_closed, length-counting}
 use Rattle.mk_graph.proofs.CycleLemmas.{closed_row}
 use Rattle.mk_graph.proofs.PlanLemmas.{one_plan_after}
 use Rattle.mk_graph.proofs.RowLemmas.{list_all-has}
 use Rattle.mk_rule_lines.specs.Goals.{goals_of}
-use Rattle.mk_rules.specs.Graph.{IsGraph, AreEdges, AreHard, AreRequired, AreSoft, is_soft, required_in, is_numbered}
+use Rattle.mk_rules.specs.Graph.{IsGraph, AreEdges, AreHard, AreRequired, AreSoft, is_soft, required_in, counting_in, is_numbered}
 use Rattle.mk_rules.specs.Node.{EachHasOneNumber}
 use Rattle.mk_rules.specs.Prerequisites.{Inputs, prerequisites_of, hard_of, required_of}
 use Rattle.mk_rules.specs.declared.graph.Graph.{Graph}
@@ -197,17 +197,19 @@ module _ (inputs : Inputs) (named : List (List ℕ)) (a b : Graph) (is_a : IsGra
       (HasCycle-wider (required_in b) (required_in a) (λ n m there. required_same n m ∙ there))
       (HasCycle-wider (joined (required_in a) a.soft) (joined (required_in b) b.soft) (λ n m there. sym (joined_same n m) ∙ there))
       (HasCycle-wider (joined (required_in b) b.soft) (joined (required_in a) a.soft) (λ n m there. joined_same n m ∙ there))
-      a.soft_dropped b.soft_dropped is_a.counted.choice is_b.counted.choice
+      a.soft_dropped b.soft_dropped is_a.dropped is_b.dropped
 
-  edges_of_b : AreSets (if a.soft_dropped then required_in b else joined (required_in b) b.soft) b.counted
-  edges_of_b = subst (λ d. AreSets (if d then required_in b else joined (required_in b) b.soft) b.counted) (sym one_dropped) is_b.counted.edges
+  counting_as_many : length (counting_in a) ≡ length (counting_in b)
+  counting_as_many =
+      length-counting (required_in a) a.soft a.soft_dropped ∙ ap length one_required
+      ∙ sym (length-counting (required_in b) b.soft b.soft_dropped)
 
-  counted_same : (n m : ℕ) → has (row a.counted n) m ≡ has (row b.counted n) m
-  counted_same n m =
-      is_a.counted.edges.members n m
-      ∙ same_edges a.soft_dropped (required_in a) (required_in b) a.soft b.soft required_same joined_same n m ∙ sym (edges_of_b.members n m)
+  counting_same : (n m : ℕ) → has (row (counting_in a) n) m ≡ has (row (counting_in b) n) m
+  counting_same n m =
+      same_edges a.soft_dropped (required_in a) (required_in b) a.soft b.soft required_same joined_same n m
+      ∙ ap (λ d. has (row (counting (required_in b) b.soft d) n) m) one_dropped
 
   pub one_order : a.order.items ≡ b.order.items
   one_order =
-      one_plan_after b.counted [] a.order.items b.order.items
-      (plan_alike a.counted b.counted (a.counted_rows ∙ one_count ∙ sym b.counted_rows) counted_same [] a.order.items is_a.order) is_b.order
+      one_plan_after (counting_in b) [] a.order.items b.order.items
+      (plan_alike (counting_in a) (counting_in b) counting_as_many counting_same [] a.order.items is_a.order) is_b.order

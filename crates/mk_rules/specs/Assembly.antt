@@ -16,7 +16,6 @@ pub record IsPutTogether (lines : List RuleLine) (n : Named) (o : Ordered) (stat
   pub hard : graph.hard ≡ o.hard
   pub required : graph.required ≡ o.required
   pub soft : graph.soft ≡ o.soft
-  pub counted : graph.counted ≡ o.counted
   pub dropped : graph.soft_dropped ≡ o.soft_dropped
   pub order : graph.order.items ≡ o.order.items
   pub settings : graph.settings ≡ settings_of lines

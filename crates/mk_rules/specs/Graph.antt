@@ -2,7 +2,7 @@
 use Rattle.std.specs.Prelude.{◌≡◌, ℕ, ◌<◌, nat_lt, ◌||◌, Bool, true, List, ◌++◌, length, map, Option, Some, None, option_map, slice_get, IsTrue, unwrap_or, if◌then◌else◌}
 use Rattle.mk_graph.specs.Edges.{row, is_closed, has as has_number}
 use Rattle.mk_graph.specs.Cycle.{HasCycle}
-use Rattle.mk_graph.specs.Counted.{AreCounted}
+use Rattle.mk_graph.specs.Counted.{counting, IsDropped}
 use Rattle.mk_graph.specs.Numbering.{IsNumbering, name_at, has_name}
 use Rattle.mk_rule_lines.specs.Rules.{suffixes_of, has}
 use Rattle.mk_rule_lines.specs.Taken.{AreTaken}
@@ -68,6 +68,10 @@ pub record AreRequired (inputs : Inputs) (names : List (List ℕ)) (required : L
 abbrev pub required_in : Graph → List (List ℕ)
 required_in graph = unwrap_or graph.required graph.hard
 
+-- the edges that order the nodes of the graph
+abbrev pub counting_in : Graph → List (List ℕ)
+counting_in graph = counting (required_in graph) graph.soft graph.soft_dropped
+
 -- each name with a number is made by something, or is there
 abbrev pub AreMade : Inputs → (names : List (List ℕ)) → Type 0
 AreMade inputs names = (name : List ℕ) → has_name names name ≡ true → is_made inputs name ≡ true
@@ -90,8 +94,8 @@ pub record IsGraph (inputs : Inputs) (named : List (List ℕ)) (graph : Graph) :
   pub hard : AreHard inputs graph.names graph.hard
   pub required : AreRequired inputs graph.names (required_in graph)
   pub soft : AreSoft inputs graph.names graph.soft
-  pub counted : AreCounted (required_in graph) graph.soft graph.counted graph.soft_dropped
+  pub dropped : IsDropped (required_in graph) graph.soft graph.soft_dropped
   pub acyclic : HasCycle (required_in graph) → ⊥
-  pub order : IsPlan graph.counted graph.order.items
+  pub order : IsPlan (counting_in graph) graph.order.items
   pub settings : graph.settings ≡ settings_of inputs.lines
   pub entries : finmap.get graph.state ≡ inputs.entries

@@ -1,10 +1,9 @@
 //! From a makefile's items to its graph.
 ghost use Rattle.std.specs.List.{IsDistinct};
-ghost use Rattle.std.specs.List.Sorted.{IsStrictlyIncreasing};
 ghost use Rattle.std.specs.Str.{bytes_eq};
 ghost use Rattle.std.specs.Prelude.{◌≡◌, ◌≤◌, ◌||◌, ℕ, ℤ, List, Option, length, map, is_ok, is_some, unwrap_or, true, IsTrue, IfOk, IfErr, IfSome, OnOk};
 ghost use Rattle.std.specs.FinMap as finmap;
-ghost use Rattle.mk_graph.specs.Edges.{row, is_closed};
+ghost use Rattle.mk_graph.specs.Edges.{is_closed};
 ghost use Rattle.mk_graph.specs.Numbering.{AreDescribed, name_at};
 ghost use Rattle.mk_rules.specs.Found.{AreFound, IsFindingFault, IsGraphlessFault};
 ghost use Rattle.mk_rules.specs.Known.{IsKnown};
@@ -119,13 +118,10 @@ fn put_together(
     requires node_count { length named.nodes.items ≡ length named.names }
     requires hard_count { length ordered.hard ≡ length named.names }
     requires soft_count { length ordered.soft ≡ length named.names }
-    requires counted_count { length ordered.counted ≡ length named.names }
     requires hard_closed { IsTrue (is_closed ordered.hard) }
     requires required_count { length (unwrap_or ordered.required ordered.hard) ≡ length named.names }
     requires required_closed { IsTrue (is_closed (unwrap_or ordered.required ordered.hard)) }
     requires soft_closed { IsTrue (is_closed ordered.soft) }
-    requires counted_closed { IsTrue (is_closed ordered.counted) }
-    requires counted_ascending { (n : ℕ) → IsStrictlyIncreasing (row ordered.counted n) }
     requires kept { is_some targets ≡ is_wide (defined_by macros).language }
     requires suffixes { suffixes ≡ suffixes_of lines.items }
     requires table { IfSome targets (λ t. (name : List ℕ) → (named_at t name).lines ≡ numbers_of lines.items name) }
@@ -143,7 +139,6 @@ fn put_together(
         hard,
         required,
         soft,
-        counted,
         order,
         soft_dropped,
     } = ordered;
@@ -154,7 +149,6 @@ fn put_together(
         hard,
         required,
         soft,
-        counted,
         order,
         soft_dropped,
         settings,
@@ -185,13 +179,10 @@ fn order_found(
     ensures node_count { IfOk result (λ of. length of.0.nodes.items ≡ length of.0.names) }
     ensures hard_count { IfOk result (λ of. length of.1.hard ≡ length of.0.names) }
     ensures soft_count { IfOk result (λ of. length of.1.soft ≡ length of.0.names) }
-    ensures counted_count { IfOk result (λ of. length of.1.counted ≡ length of.0.names) }
     ensures hard_closed { IfOk result (λ of. IsTrue (is_closed of.1.hard)) }
     ensures required_count { IfOk result (λ of. length (unwrap_or of.1.required of.1.hard) ≡ length of.0.names) }
     ensures required_closed { IfOk result (λ of. IsTrue (is_closed (unwrap_or of.1.required of.1.hard))) }
     ensures soft_closed { IfOk result (λ of. IsTrue (is_closed of.1.soft)) }
-    ensures counted_closed { IfOk result (λ of. IsTrue (is_closed of.1.counted)) }
-    ensures counted_ascending { IfOk result (λ of. (n : ℕ) → IsStrictlyIncreasing (row of.1.counted n)) }
 
     // What is put together of them is the graph.
     ensures graph { IfOk result (λ of. (inputs : Inputs) (named : List (List ℕ)) → inputs.lines ≡ lines.now

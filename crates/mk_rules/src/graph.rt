@@ -1,7 +1,7 @@
 //! The graph of a makefile's names: what each is made from, and what the state and the files say of it.
 ghost use Rattle.std.proofs.Props.{props};
-ghost use Rattle.std.specs.Prelude.{◌≡◌, ℕ, List, ◌<◌, drop, length, option_copied, option_map, slice_index, slice_get, is_some, unwrap_or, IsTrue, IfSome};
-ghost use Rattle.std.specs.List.Sorted.{IsStrictlyIncreasing};
+ghost use Rattle.std.specs.Prelude.{◌≡◌, ℕ, List, ◌<◌, drop, length, option_copied, option_map, slice_index, slice_get, is_some, unwrap_or, IsTrue, IfOk, IfSome};
+ghost use Rattle.mk_graph.specs.Counted.{counting, AreSets};
 ghost use Rattle.mk_graph.specs.Edges.{row, is_closed};
 ghost use Rattle.mk_macros.specs.Ranks.{defined_by};
 ghost use Rattle.mk_profile.specs.Profile.{is_wide};
@@ -17,10 +17,11 @@ use crate::rows::{behind, front};
 use crate::short_number::ShortNumber;
 use crate::stamp::Stamp;
 use byte_strings::{ByteString, ByteStrings};
-use mk_graph::{Edges, Names};
+use mk_graph::{Edges, Names, counted_edges};
 use mk_macros::Macros;
 use mk_rule_lines::{RuleLine, Settings, TargetTable};
 use st_state::State;
+use std::alloc::{AllocError, Global};
 
 /// A name of the graph.
 #[derive(Drop)]
@@ -78,9 +79,7 @@ pub struct Graph {
     /// What each node waits for beside its hard prerequisites: hidden ones that are nodes, in the order in which they were recorded,
     /// then order-only ones, and then what stands before a `.WAIT`.
     pub soft: Edges,
-    /// The edges that order the nodes. Each row has a number once, and the numbers in their order.
-    pub counted: Edges,
-    /// The nodes by their counted edges: again and again the least one whose counted prerequisites all stand before it.
+    /// The nodes by the edges that count: again and again the least one whose prerequisites by these all stand before it.
     pub order: Vec<usize>,
     /// Whether soft edges don't count, since they would make a cycle.
     pub soft_dropped: bool,
@@ -94,19 +93,15 @@ pub struct Graph {
     pub macros: Macros,
     /// What is recorded of each name.
     pub state: State,
-    // Each name has a node, no name has two, and each node has a row of each kind. Each number in a row is that of a node; a
-    // counted row has it once.
+    // Each name has a node, no name has two, and each node has a row of each kind. Each number in a row is that of a node.
     pub ghost named: { length names ≡ length nodes.items },
     pub ghost distinct: { EachHasOneNumber names },
     pub ghost hard_rows: { length hard ≡ length nodes.items },
     pub ghost soft_rows: { length soft ≡ length nodes.items },
-    pub ghost counted_rows: { length counted ≡ length nodes.items },
     pub ghost hard_closed: { IsTrue (is_closed hard) },
     pub ghost required_rows: { length (unwrap_or required hard) ≡ length nodes.items },
     pub ghost required_closed: { IsTrue (is_closed (unwrap_or required hard)) },
     pub ghost soft_closed: { IsTrue (is_closed soft) },
-    pub ghost counted_closed: { IsTrue (is_closed counted) },
-    pub ghost counted_ascending: { (n : ℕ) → IsStrictlyIncreasing (row counted n) },
     // The suffixes are those of the lines, and the wide profile keeps the table of the lines.
     pub ghost suffixes_are: { suffixes ≡ suffixes_of lines.items },
     pub ghost kept: { is_some targets ≡ is_wide (defined_by macros).language },
@@ -143,6 +138,14 @@ impl Graph {
             Some(required) => required,
             None => &self.hard,
         }
+    }
+
+    /// The edges that order the nodes: those without which they aren't made, and soft ones unless these are dropped. Each row has
+    /// a number once, and the numbers in their order.
+    pub fn counted_edges(&self, alloc: Global) -> Result<Edges, AllocError>
+        ensures { IfOk result (AreSets (counting (unwrap_or self.now.required self.now.hard) self.now.soft self.now.soft_dropped)) }
+    {
+        counted_edges(alloc, self.required_edges(), &self.soft, self.soft_dropped)
     }
 
     /// The order-only prerequisites of a node that are no hard ones, each once.

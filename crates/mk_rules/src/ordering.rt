@@ -1,16 +1,15 @@
 //! What orders the names of a graph.
-ghost use Rattle.std.specs.Prelude.{◌≡◌, ℕ, true, length, map, nat_lt, unwrap_or, IfOk, IfErr, IsTrue};
+ghost use Rattle.std.specs.Prelude.{◌≡◌, true, length, map, nat_lt, unwrap_or, IfOk, IfErr, IsTrue};
 ghost use Rattle.std.specs.List.{list_all};
-ghost use Rattle.std.specs.List.Sorted.{IsStrictlyIncreasing};
-ghost use Rattle.mk_graph.specs.Counted.{AreCounted};
+ghost use Rattle.mk_graph.specs.Counted.{counting, IsDropped};
 ghost use Rattle.mk_graph.specs.Cycle.{HasCycle};
-ghost use Rattle.mk_graph.specs.Edges.{row, is_closed};
+ghost use Rattle.mk_graph.specs.Edges.{is_closed};
 ghost use Rattle.mk_graph.specs.Numbering.{name_at};
 ghost use Rattle.mk_graph.specs.Plan.{IsPlan};
 ghost use Rattle.mk_rules.specs.Ordering.{IsCycleFault};
 
 use byte_strings::ByteStrings;
-use mk_graph::{Counted, Edges, Names, Order, count_edges};
+use mk_graph::{CountedOrder, Edges, Names, Order, counted_order};
 use mk_rule_lines::{CycleNames, RuleFault};
 use std::alloc::{AllocError, Global};
 
@@ -20,7 +19,6 @@ pub(crate) struct Ordered {
     pub hard: Edges,
     pub required: Option<Edges>,
     pub soft: Edges,
-    pub counted: Edges,
     pub order: Vec<usize>,
     pub soft_dropped: bool,
 }
@@ -62,26 +60,22 @@ pub(crate) fn ordered_by(
     ensures hard { IfOk result (λ ordered. ordered.hard ≡ hard) }
     ensures required { IfOk result (λ ordered. ordered.required ≡ required) }
     ensures soft { IfOk result (λ ordered. ordered.soft ≡ soft) }
-    ensures counted { IfOk result (λ ordered. AreCounted (unwrap_or required hard) soft ordered.counted ordered.soft_dropped) }
-    ensures count { IfOk result (λ ordered. length ordered.counted ≡ length names.now) }
-    ensures closed { IfOk result (λ ordered. IsTrue (is_closed ordered.counted)) }
-    ensures ascending { IfOk result (λ ordered. (n : ℕ) → IsStrictlyIncreasing (row ordered.counted n)) }
+    ensures dropped { IfOk result (λ ordered. IsDropped (unwrap_or required hard) soft ordered.soft_dropped) }
     ensures acyclic { IfOk result (λ _. HasCycle (unwrap_or required hard) → ⊥) }
-    ensures order { IfOk result (λ ordered. IsPlan ordered.counted ordered.order.items) }
+    ensures order { IfOk result (λ ordered. IsPlan (counting (unwrap_or required hard) soft ordered.soft_dropped) ordered.order.items) }
     ensures fault { IfErr result (IsCycleFault (unwrap_or required hard) names.now) }
 {
-    let Counted {
-        edges,
-        dropped,
-        order,
-    } = count_edges(alloc, required_or(&required, &hard), &soft)?;
+    let CountedOrder { dropped, order } = counted_order(
+        alloc,
+        required_or(&required, &hard),
+        &soft,
+    )?;
     match order {
         Order::Cycle(cycle) => Err(RuleFault::Cycle(cycle_names(alloc, names, &cycle)?)),
         Order::Plan(order) => Ok(Ordered {
             hard,
             required,
             soft,
-            counted: edges,
             order,
             soft_dropped: dropped,
         }),

@@ -5,5 +5,5 @@ use Rattle.dmk_drive.proofs.planning.judged_graph.Goals as goal
 
 pub returns : goal.returns
 returns c =
-    with_state c.args.graph c.with_key.result _ _ _ _ _ _ _ _ _ _ _ _ _ _
+    with_state c.args.graph c.with_key.result _ _ _ _ _ _ _ _ _ _ _
     ∙ ap (λ s. record c.args.graph { state = s }) c.with_key.ensures ∙ ap (λ all. judged_graph all c.args.graph) (sym c.if-not-all.false)

@@ -1,9 +1,10 @@
 use Rattle.std.proofs.Common.{◌≡◌, ◌<◌, ℕ, true, nat_lt, List, length, sym, ap, subst, ◌∙◌}
 use Rattle.std.specs.Prelude.{unwrap_or}
 use Rattle.std.specs.List.{list_all}
-use Rattle.mk_graph.specs.Counted.{AreCounted}
+use Rattle.mk_graph.specs.Counted.{counting, IsDropped}
 use Rattle.mk_graph.specs.Cycle.{HasCycle}
 use Rattle.mk_graph.specs.Edges.{row, is_closed}
+use Rattle.mk_graph.specs.Plan.{IsPlan}
 use Rattle.mk_graph.specs.Numbering.{AreDescribed, has_name, name_at}
 use Rattle.mk_graph.proofs.CycleLemmas.{closed_row}
 use Rattle.mk_graph.specs.declared.numbering.Numbered.{Numbered}
@@ -69,9 +70,10 @@ returns-clause-graph c = λ inputs named are found state entries graph whole.
     (c.in_ok-required.ensures.required inputs (subst (AreDescribed (IsKnown inputs) n.names) (sym c.deref.ensures.value) found.known) (hard_are inputs named n found c.requires.node_count h hard.hard_count hard.hard)
     (inside inputs named n found c.requires.node_count c.requires.row_count c.requires.closed)))
     (subst (AreSoft inputs n.names) (sym is.soft) (c.in_ok-soft.ensures.soft inputs are found.rows_are found.known))
-    (subst (λ e. AreCounted e o.soft o.counted o.soft_dropped) same (subst (λ s. AreCounted edges s o.counted o.soft_dropped) (sym is.soft) is.counted))
+    (subst (λ e. IsDropped e o.soft o.soft_dropped) same (subst (λ s. IsDropped edges s o.soft_dropped) (sym is.soft) is.dropped))
     (subst (λ e. HasCycle e → ⊥) same is.acyclic)
-    is.order
+    (subst (λ e. IsPlan (counting e o.soft o.soft_dropped) o.order.items) same
+    (subst (λ s. IsPlan (counting edges s o.soft_dropped) o.order.items) (sym is.soft) is.order))
     (ap length is.soft ∙ c.in_ok-soft.ensures.count)
     (subst (EachRow (IsSoftRow n.rows n.nodes.items)) (sym is.soft) c.in_ok-soft.ensures.rows)
     (ap is_closed is.soft ∙ c.in_ok-soft.ensures.closed) state entries graph c.named_nodes-named.result c.named_nodes-named.ensures whole

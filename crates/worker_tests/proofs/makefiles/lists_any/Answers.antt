@@ -9,9 +9,6 @@ invariant_of-graph-clause-required_closed c = c.in_ok-graph.graph.required_close
 pub invariant_of-graph-clause-required_rows : goal.invariant_of-graph-clause-required_rows
 invariant_of-graph-clause-required_rows c = c.in_ok-graph.graph.required_rows
 
-pub invariant_of-graph-clause-counted_ascending : goal.invariant_of-graph-clause-counted_ascending
-invariant_of-graph-clause-counted_ascending c = c.in_ok-graph.graph.counted_ascending
-
 pub invariant_of-graph-clause-suffixes_are : goal.invariant_of-graph-clause-suffixes_are
 invariant_of-graph-clause-suffixes_are c = c.in_ok-graph.graph.suffixes_are
 

@@ -1,0 +1,78 @@
+use Rattle.std.proofs.Common.{◌≡◌, ℕ, ◌≤◌, ◌++◌, List, length, take, sum, sym, ap, ◌∙◌, subst, arith}
+use Rattle.std.specs.Vec.{with_items}
+use Rattle.std.proofs.lemmas.Bool.Decides.{nat_tests}
+use Rattle.std.proofs.lemmas.List.{with_items_is, length-take-le}
+use Rattle.std.proofs.lemmas.Result.{IfOk-weaker}
+use Rattle.mk_graph.specs.Counted.{joined}
+use Rattle.mk_graph.specs.Edges.{times, AreUsers}
+use Rattle.mk_graph.specs.Users.{ends_from, AreStarts, HasRoom}
+use Rattle.mk_graph.proofs.BothLemmas.{room_of_both}
+use Rattle.mk_graph.proofs.JoinLemmas.{joined_none}
+use Rattle.mk_graph.proofs.FillLemmas.{ends_still, users_still}
+use Rattle.mk_graph.proofs.edges.Edges.reversed_with.Goals as goal
+
+pub note_users_with-requires-clause-room : goal.note_users_with-requires-clause-room
+note_users_with-requires-clause-room c =
+    let g = joined c.args.self.now c.args.more.now in
+    let xs : List ℕ = c.self.inside.numbers.items in
+    let ys : List ℕ = c.more.inside.numbers.items in
+    let numbers : List ℕ = xs ++ ys in
+    let all : c.in_ok-users.users.items ≡ numbers
+    = c.in_ok-users.ensures ∙ ap (λ (l : List ℕ). l ++ c.as_slice-2.result.now) c.as_slice.ensures.value ∙ ap (λ (l : List ℕ). xs ++ l) c.as_slice-2.ensures.value in
+    let counts : List ℕ = c.in_ok-next.next.items in
+    let starts' : List ℕ = c.starts_of-size.new.lengths in
+    let same : length counts ≡ length c.args.self.now = c.in_ok-next.ensures.nodes ∙ c.len.ensures in
+    let given : c.deref_mut.result.now ≡ counts = c.deref_mut.ensures.value in
+    let starts : AreStarts (ends_from 0 counts) starts' = subst (λ l. AreStarts (ends_from 0 l) starts') given c.starts_of-size.ensures.starts in
+    let total : c.starts_of-size.result ≡ sum counts = c.starts_of-size.ensures.end ∙ ap sum given in
+    let few : sum counts ≤ length numbers = subst (λ l. sum counts ≤ length l) (c.deref.ensures.value ∙ all) c.in_ok-next.ensures.sum in
+    let next : c.deref_mut-2.result.now ≡ starts' = c.deref_mut-2.ensures.value ∙ with_items_is c.in_ok-next.next starts' (grind arith) in
+    let cut : c.deref_mut-3.result.now ≡ take c.starts_of-size.result numbers
+    = c.deref_mut-3.ensures.value ∙ c.truncate.ensures.items ∙ ap (take c.starts_of-size.result) all in
+    let size : length c.deref_mut-3.result.now ≡ sum counts = ap length cut ∙ length-take-le c.starts_of-size.result numbers (omega arith) ∙ total in
+    subst (HasRoom g (length c.deref_mut-3.result.now)) (sym next)
+    (room_of_both c.args.self.now c.args.more.now xs c.self.inside.ends.items ys c.more.inside.ends.items counts starts' (length c.deref_mut-3.result.now) c.requires
+    c.self.invariant c.self.view_is c.more.invariant c.more.view_is same
+    (λ n below. c.in_ok-next.ensures.times n (omega (arith, same, below)) ∙ ap (times n) (c.deref.ensures.value ∙ all)) starts size)
+
+pub note_users_with-requires-clause-few : goal.note_users_with-requires-clause-few
+note_users_with-requires-clause-few c =
+    let xs : List ℕ = c.self.inside.numbers.items in
+    let ys : List ℕ = c.more.inside.numbers.items in
+    let numbers : List ℕ = xs ++ ys in
+    let all : c.in_ok-users.users.items ≡ numbers
+    = c.in_ok-users.ensures ∙ ap (λ (l : List ℕ). l ++ c.as_slice-2.result.now) c.as_slice.ensures.value ∙ ap (λ (l : List ℕ). xs ++ l) c.as_slice-2.ensures.value in
+    let counts : List ℕ = c.in_ok-next.next.items in
+    let total : c.starts_of-size.result ≡ sum counts = c.starts_of-size.ensures.end ∙ ap sum c.deref_mut.ensures.value in
+    let few : sum counts ≤ length numbers = subst (λ l. sum counts ≤ length l) (c.deref.ensures.value ∙ all) c.in_ok-next.ensures.sum in
+    let cut : c.deref_mut-3.result.now ≡ take c.starts_of-size.result numbers
+    = c.deref_mut-3.ensures.value ∙ c.truncate.ensures.items ∙ ap (take c.starts_of-size.result) all in
+    let size : length c.deref_mut-3.result.now ≡ sum counts = ap length cut ∙ length-take-le c.starts_of-size.result numbers (omega arith) ∙ total in
+    let limit = c.in_ok-next.ensures.few in
+    omega arith
+
+pub invariant_of-result : goal.invariant_of-result
+invariant_of-result c =
+    let next' : List ℕ = c.note_users_with.new.next in
+    let users' : List ℕ = c.note_users_with.new.users in
+    ends_still users' _ next' _ (length c.deref_mut-3.result.now)
+    (with_items_is c.truncate.new.self users' (grind arith))
+    (with_items_is (with_items c.in_ok-next.next c.starts_of-size.new.lengths) next' (grind arith))
+    c.note_users_with.auto.users c.in_ok-note_users_with.ensures.ends
+
+pub returns : goal.returns
+returns c =
+    let next' : List ℕ = c.note_users_with.new.next in
+    let users' : List ℕ = c.note_users_with.new.users in
+    users_still (joined c.args.self.now c.args.more.now) users' _ next' _
+    (with_items_is c.truncate.new.self users' (grind arith))
+    (with_items_is (with_items c.in_ok-next.next c.starts_of-size.new.lengths) next' (grind arith))
+    c.in_ok-note_users_with.ensures.users
+
+pub returns-then-is_empty : goal.returns-then-is_empty
+returns-then-is_empty c =
+    let first = c.args.self.now in
+    let numbers = c.more.inside.numbers.items in
+    let none : length numbers ≡ 0 = grind (arith, nat_tests) in
+    let same : joined first c.args.more.now ≡ first = ap (joined first) (sym c.more.view_is) ∙ joined_none first numbers 0 c.more.inside.ends.items none in
+    IfOk-weaker c.reversed.result (AreUsers first) (AreUsers (joined first c.args.more.now)) (λ users are. subst (λ g. AreUsers g users) (sym same) are) c.reversed.ensures
