@@ -39,12 +39,6 @@ HasCycle-wider g h wider c = (c.0, IsCycle-wider g h wider c.0 c.1)
 pub wider_joined : (hard soft : List (List ℕ)) → length soft ≡ length hard → (n m : ℕ) → has (row hard n) m ≡ true → has (row (joined hard soft) n) m ≡ true
 wider_joined hard soft same n m h = has-joined hard soft same n m ∙ ap (λ b. b || has (row soft n) m) h
 
-pub wider_sets : (g sets : List (List ℕ)) → AreSets g sets → (n m : ℕ) → has (row g n) m ≡ true → has (row sets n) m ≡ true
-wider_sets g sets are n m h = are.members n m ∙ h
-
-pub wider_from_sets : (g sets : List (List ℕ)) → AreSets g sets → (n m : ℕ) → has (row sets n) m ≡ true → has (row g n) m ≡ true
-wider_from_sets g sets are n m h = sym (are.members n m) ∙ h
-
 -- ---- closed graphs, by members
 
 list_all_from_has : (p : ℕ → Bool) (xs : List ℕ) → ((n : ℕ) → has xs n ≡ true → p n ≡ true) → list_all p xs ≡ true
@@ -96,9 +90,6 @@ pub closed_counting : (hard soft : List (List ℕ)) (dropped : Bool) → length 
 closed_counting hard soft true same of_hard of_soft = of_hard
 closed_counting hard soft false same of_hard of_soft = closed_joined hard soft same of_hard of_soft
 
-pub closed_sets : (g sets : List (List ℕ)) → AreSets g sets → is_closed g ≡ true → is_closed sets ≡ true
-closed_sets g sets are closed = closed_from_below sets (λ n m there. let b = below_from_closed g closed n m (wider_from_sets g sets are n m there) in let l = are.nodes in omega arith)
-
 -- ---- rows made one by one
 
 -- what relates rows at each place relates them with one more
@@ -134,10 +125,3 @@ has-dedup xs n = same_answer (has (dedup nat_eq xs) n) (has xs n)
     same_answer true b f g = sym (f refl)
     same_answer false true f g = g refl
     same_answer false false f g = refl
-
--- a graph and its rows as sets have the same cycles
-pub no_cycle_in : (g sets : List (List ℕ)) → AreSets g sets → (HasCycle sets → ⊥) → HasCycle g → ⊥
-no_cycle_in g sets are none c = none (HasCycle-wider g sets (wider_sets g sets are) c)
-
-pub cycle_in : (g sets : List (List ℕ)) → AreSets g sets → HasCycle sets → HasCycle g
-cycle_in g sets are = HasCycle-wider sets g (wider_from_sets g sets are)
