@@ -5,7 +5,7 @@ use crate::sets::are_sets;
 use bd_links::Node;
 use bd_lists::{Board, Told};
 use byte_strings::ByteString;
-use mk_graph::{Edges, count_edges};
+use mk_graph::{Edges, counted_edges, counted_order};
 use row_files::{Answered, RowFault};
 use std::alloc::{AllocError, Global};
 
@@ -108,7 +108,8 @@ fn counted(alloc: Global, hard: &Edges, soft: &Edges) -> Result<Edges, RowFault>
     if soft.len() != hard.len() || !hard.is_closed() || !soft.is_closed() {
         return Err(RowFault::Word);
     }
-    Ok(count_edges(alloc, hard, soft)?.edges)
+    let dropped = counted_order(alloc, hard, soft)?.dropped;
+    Ok(counted_edges(alloc, hard, soft, dropped)?)
 }
 
 fn board<T: Told>(
