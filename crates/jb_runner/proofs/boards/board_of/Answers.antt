@@ -1,7 +1,6 @@
-use Rattle.std.proofs.Common.{◌≡◌, ◌≤◌, ℕ, List, length, sym, ap, subst, ◌∙◌}
+use Rattle.std.proofs.Common.{◌≡◌, ℕ, List, length, sym, ap, subst, ◌∙◌, rules, arith}
 use Rattle.std.proofs.lemmas.Result.{IfOk-weaker}
 use Rattle.mk_graph.specs.Counted.{AreSets}
-use Rattle.mk_graph.specs.Edges.{row, times}
 use Rattle.bd_ledger.specs.Sheet.{AreDistinct, first_sheet}
 use Rattle.bd_lists.proofs.OnceLemmas.{times_once}
 use Rattle.mk_rules.specs.Graph.{required_in, counting_in}
@@ -20,8 +19,35 @@ of-requires-clause-names c =
     ap length c.in_ok-names.ensures ∙ graph.named ∙ sym graph.required_rows
     ∙ sym (c.in_ok-counted.ensures.nodes ∙ length-counting (required_in graph) graph.soft graph.soft_dropped)
 
+pub of-requires-clause-room : goal.of-requires-clause-room
+of-requires-clause-room c =
+    let graph = c.args.graph.now in
+    let nodes : length c.in_ok-counted.counted ≡ length graph.nodes.items =
+        c.in_ok-counted.ensures.nodes ∙ length-counting (required_in graph) graph.soft graph.soft_dropped ∙ graph.required_rows in
+    let names : length c.in_ok-counted.counted ≡ length c.in_ok-names.names.items = nodes ∙ sym (ap length c.in_ok-names.ensures ∙ graph.named) in
+    first_of (omega arith, first_of (omega (arith, nodes, names), search (rules, nodes, names)))
+
 pub of-requires-clause-distinct : goal.of-requires-clause-distinct
 of-requires-clause-distinct c = subst AreDistinct (sym c.in_ok-names.ensures) c.args.graph.now.distinct
 
 pub of-requires-clause-once : goal.of-requires-clause-once
 of-requires-clause-once c = λ u n. times_once _ (c.in_ok-counted.ensures.ascending u) n
+
+-- a board of rows that are equal
+same_board : (counted hard required : List (List ℕ)) (copied names : List (List ℕ)) → hard ≡ required → copied ≡ names →
+    first_sheet (record { counted = counted; hard = hard }) copied ≡ first_sheet (record { counted = counted; hard = required }) names
+same_board counted hard required copied names of_hard of_names =
+    ap (λ h. first_sheet (record { counted = counted; hard = h }) copied) of_hard
+    ∙ ap (λ ns. first_sheet (record { counted = counted; hard = required }) ns) of_names
+
+pub returns : goal.returns
+returns c =
+    let graph = c.args.graph.now in
+    let counted : List (List ℕ) = c.in_ok-counted.counted in
+    let hard : List (List ℕ) = c.in_ok-hard.hard in
+    let names : List (List ℕ) = c.in_ok-names.names.items in
+    IfOk-weaker c.of.result
+    (λ b. b ≡ first_sheet (record { counted = counted; hard = hard }) names)
+    (λ b. (counted : List (List ℕ)) × AreSets (counting_in graph) counted × (b ≡ first_sheet (record { counted = counted; hard = required_in graph }) graph.names))
+    (λ b is. (counted, c.in_ok-counted.ensures, is ∙ same_board counted hard (required_in graph) names graph.names (c.in_ok-hard.ensures ∙ c.required_edges.ensures) c.in_ok-names.ensures))
+    c.of.ensures
