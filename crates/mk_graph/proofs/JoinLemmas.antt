@@ -29,3 +29,8 @@ joined_none (ns ∷ first) numbers start (end ∷ ends) none =
     let same : ns ++ slice_range numbers start end ≡ ns = ap (λ l. ns ++ l) (range_none numbers start end none) ∙ append-nil ns in
     let rest = joined_none first numbers end ends none in
     (λ i. same i ∷ rest i)
+
+pub row_blank : (numbers : List ℕ) (start : ℕ) (ends : List ℕ) (n : ℕ) → length numbers ≡ 0 → row (pieces numbers start ends) n ≡ []
+row_blank numbers start [] n none = refl
+row_blank numbers start (end ∷ ends) zero none = range_none numbers start end none
+row_blank numbers start (end ∷ ends) (suc n) none = row_blank numbers end ends n none

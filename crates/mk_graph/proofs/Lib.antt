@@ -5,7 +5,6 @@ pub mod NameLemmas
 pub mod CycleLemmas
 pub mod RowLemmas
 pub mod PlanLemmas
-pub mod ReadyLemmas
 pub mod WholeLemmas
 pub mod EdgeLemmas
 pub mod UserLemmas
@@ -17,4 +16,7 @@ pub mod ChainLemmas
 pub mod LinkLemmas
 pub mod OwnRowLemmas
 pub mod PassedLemmas
+pub mod NodeListLemmas
+pub mod WatchLemmas
+pub mod SeenLemmas
 mod BothLemmas

@@ -66,10 +66,6 @@ times_room xs i h =
     let part = sum_by-take-le (λ y. cond (nat_eq (get_or xs i 0) y) 1 0) xs (i + 1) in
     omega arith
 
--- a place that holds something is there
-pub below_from_positive : (xs : List ℕ) (i : ℕ) → 1 ≤ get_or xs i 0 → i < length xs
-below_from_positive xs i h = ⊎_elim (λ lt. lt) (λ past. let z = get_or_past xs i 0 past in absurd (omega arith)) (cases_lt i (length xs))
-
 -- what is in a beginning that is one longer
 pub has-more : (xs : List ℕ) (i n : ℕ) → i < length xs → has (take (i + 1) xs) n ≡ (has (take i xs) n || nat_eq n (get_or xs i 0))
 has-more xs i n h = list_any_more (nat_eq n) xs i 0 h

@@ -87,9 +87,6 @@ sets_of_ascending g ascending = record {
   ascending = ascending;
 }
 
-pub has_own_users : (g us : List (List ℕ)) → AreUsers g us → HasUsers g us
-has_own_users g us are = record { nodes = are.nodes; counts = are.counts }
-
 -- the users of the users of a graph, the repeats of which were dropped
 module _ (g us ss es : List (List ℕ)) (closed : is_closed g ≡ true) (u : AreUsers g us) (s : AreSets us ss) (e : AreUsers ss es) where
   many : length ss ≡ length g

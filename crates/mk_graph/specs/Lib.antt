@@ -13,3 +13,5 @@ pub mod Ready
 pub mod Ring
 pub mod Users
 pub mod Waits
+pub mod NodeLists
+pub mod Watching

@@ -188,6 +188,14 @@ impl Edges {
         self.ends.len()
     }
 
+    /// Whether no node has prerequisites.
+    #[inline(always)]
+    pub(crate) fn is_blank(&self) -> bool
+        ensures { result ≡ true → (n : ℕ) → row self.now n ≡ [] }
+    {
+        self.numbers.is_empty()
+    }
+
     /// The prerequisites of a node.
     #[inline(always)]
     pub fn row(&self, node: usize) -> &[u32]

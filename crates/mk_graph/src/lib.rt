@@ -8,6 +8,7 @@ mod cycles;
 mod edges;
 mod hashing;
 mod names;
+mod node_lists;
 mod numbering;
 mod planning;
 mod ready;
@@ -15,6 +16,7 @@ mod room;
 mod texts;
 mod users;
 mod waiting;
+mod watching;
 
 pub use counting::{CountedOrder, counted_edges, counted_order};
 pub use cycles::{Order, order_nodes};
