@@ -1,8 +1,9 @@
 -- The rows of two graphs together.
-use Rattle.std.proofs.Common.{◌≡◌, ℕ, ◌-◌, List, [], ◌∷◌, ◌++◌, length, take, suc, zero, refl, ap, ◌∙◌, arith, append-nil}
+use Rattle.std.proofs.Common.{◌≡◌, ℕ, ◌-◌, List, [], ◌∷◌, ◌++◌, length, take, replicate, suc, zero, refl, sym, ap, ◌∙◌, subst, arith, append-nil}
 use Rattle.std.specs.Prelude.{slice_range}
-use Rattle.std.proofs.lemmas.List.{drop_all, take_all}
-use Rattle.byte_strings.specs.Pieces.{pieces}
+use Rattle.std.proofs.lemmas.List.{drop_all, take_all, length-replicate}
+use Rattle.byte_strings.specs.Pieces.{pieces, AreEnds}
+use Rattle.byte_strings.proofs.PieceLemmas.{length-pieces}
 use Rattle.mk_graph.specs.Edges.{row}
 use Rattle.mk_graph.specs.Counted.{joined}
 
@@ -34,3 +35,16 @@ pub row_blank : (numbers : List ℕ) (start : ℕ) (ends : List ℕ) (n : ℕ) �
 row_blank numbers start [] n none = refl
 row_blank numbers start (end ∷ ends) zero none = range_none numbers start end none
 row_blank numbers start (end ∷ ends) (suc n) none = row_blank numbers end ends n none
+
+pub ends_blank : (numbers ends : List ℕ) (nodes : ℕ) → ends ≡ replicate nodes 0 → numbers ≡ [] → AreEnds (length numbers) 0 ends
+ends_blank numbers ends nodes are none = subst (λ l. AreEnds (length l) 0 ends) (sym none) (subst (AreEnds 0 0) (sym are) (zeros nodes))
+  where
+    zeros : (nodes : ℕ) → AreEnds 0 0 (replicate nodes 0)
+    zeros zero = refl
+    zeros (suc nodes) = (omega arith, zeros nodes)
+
+pub length_blank : (numbers ends : List ℕ) (nodes : ℕ) → ends ≡ replicate nodes 0 → length (pieces numbers 0 ends) ≡ nodes
+length_blank numbers ends nodes are = length-pieces numbers 0 ends ∙ ap length are ∙ length-replicate nodes 0
+
+pub joined_blank : (first : List (List ℕ)) (numbers ends : List ℕ) → numbers ≡ [] → joined first (pieces numbers 0 ends) ≡ first
+joined_blank first numbers ends none = joined_none first numbers 0 ends (ap length none)

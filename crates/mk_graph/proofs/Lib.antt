@@ -19,4 +19,3 @@ pub mod PassedLemmas
 pub mod NodeListLemmas
 pub mod WatchLemmas
 pub mod SeenLemmas
-mod BothLemmas

@@ -9,8 +9,8 @@ ghost use Rattle.mk_graph.specs.Users.{HasRoom, HasUsers};
 ghost use Rattle.byte_strings.specs.Pieces.{pieces, AreEnds};
 ghost use Rattle.std.specs.List.{list_all};
 
-use crate::room::{append, appended, make_room, push};
-use crate::users::{counted, note_both, note_user, starts_behind, starts_of};
+use crate::room::{append, make_room, push};
+use crate::users::{counted, note_user, starts_behind, starts_of};
 use std::alloc::{AllocError, Global};
 use std::marker::Model;
 
@@ -218,36 +218,6 @@ impl Edges {
         })
     }
 
-    /// How many prerequisites each node has.
-    fn lengths(&self, alloc: Global) -> Result<Vec<u32>, AllocError>
-        ensures { IfOk result (λ lengths. lengths.items ≡ map length self.now) }
-    {
-        let ends = self.ends.as_slice();
-        let mut lengths = Vec::with_capacity(alloc, ends.len())?;
-        let mut start = 0;
-        for end in ends {
-            push(&mut lengths, *end - start)?;
-            start = *end;
-        }
-        Ok(lengths)
-    }
-
-    /// How many prerequisites each node has by two graphs together.
-    pub(crate) fn lengths_with(&self, alloc: Global, more: &Edges) -> Result<Vec<u32>, AllocError>
-        requires { length more.now ≡ length self.now }
-        ensures { IfOk result (λ lengths. lengths.items ≡ map length (joined self.now more.now)) }
-    {
-        if more.numbers.is_empty() {
-            return self.lengths(alloc);
-        }
-        let mut lengths = Vec::with_capacity(alloc, self.len())?;
-        for node in 0..self.len() {
-            let length = short(self.row(node).len() + more.row(node).len())?;
-            push(&mut lengths, length)?;
-        }
-        Ok(lengths)
-    }
-
     /// Whether each number in a row is that of a node.
     pub fn is_closed(&self) -> bool
         ensures { result ≡ is_closed self.now }
@@ -282,32 +252,6 @@ impl Edges {
         Ok(())
     }
 
-    /// The same of the prerequisites by two graphs together.
-    fn note_users_with(
-        &self,
-        more: &Edges,
-        next: &mut [u32],
-        users: &mut [u32],
-    ) -> Result<(), AllocError>
-        requires nodes { length more.now ≡ length self.now }
-        requires room { HasRoom (joined self.now more.now) (length users.old) next.old }
-        requires few { length users.old < 2 ^ 32 }
-        ensures ends { OnOk result (AreEnds (length users.old) 0 next.new) }
-        ensures users { OnOk result (AreUsers (joined self.now more.now) (pieces users.new 0 next.new)) }
-    {
-        let nodes = short(self.len())?;
-        for node in 0..nodes {
-            note_both(
-                node,
-                self.row(node as usize),
-                more.row(node as usize),
-                next,
-                users,
-            );
-        }
-        Ok(())
-    }
-
     /// The users of each node in their order: a node has one for each time that a row names it. Numbers past the end
     /// have none.
     pub fn reversed(&self, alloc: Global) -> Result<Edges, AllocError>
@@ -319,26 +263,6 @@ impl Edges {
         let mut users = Vec::from_slice(alloc, self.numbers.as_slice())?;
         users.truncate(size as usize);
         self.note_users(&mut next, &mut users)?;
-        Ok(Edges {
-            numbers: users,
-            ends: next,
-        })
-    }
-
-    /// The users of each node by two graphs together.
-    pub(crate) fn reversed_with(&self, alloc: Global, more: &Edges) -> Result<Edges, AllocError>
-        requires { length more.now ≡ length self.now }
-        ensures { IfOk result (AreUsers (joined self.now more.now)) }
-    {
-        if more.numbers.is_empty() {
-            return self.reversed(alloc);
-        }
-        // Each of these numbers is written over, too.
-        let mut users = appended(alloc, self.numbers.as_slice(), more.numbers.as_slice())?;
-        let mut next = counted(alloc, &users, self.len())?;
-        let size = starts_of(&mut next);
-        users.truncate(size as usize);
-        self.note_users_with(more, &mut next, &mut users)?;
         Ok(Edges {
             numbers: users,
             ends: next,

@@ -1,6 +1,6 @@
 //! Appending to vectors: where there is room, no function is called.
 
-ghost use Rattle.std.specs.Prelude.{◌≡◌, ◌+◌, ◌≤◌, ◌++◌, [], ◌∷◌, vec_len, vec_capacity, IfOk, OnOk, OnErr};
+ghost use Rattle.std.specs.Prelude.{◌≡◌, ◌+◌, ◌≤◌, ◌++◌, [], ◌∷◌, vec_len, vec_capacity, OnOk, OnErr};
 
 use std::alloc::{AllocError, Global};
 
@@ -55,14 +55,4 @@ pub fn append(numbers: &mut Vec<u32>, more: &[u32]) -> Result<(), AllocError>
         numbers.push_reserved(*number);
     }
     Ok(())
-}
-
-/// Two lists of numbers, one behind the other.
-pub fn appended(alloc: Global, first: &[u32], second: &[u32]) -> Result<Vec<u32>, AllocError>
-    ensures { IfOk result (λ both. both.items ≡ first.now ++ second.now) }
-{
-    let mut both = Vec::with_capacity(alloc, first.len() + second.len())?;
-    both.extend_from_slice(first)?;
-    both.extend_from_slice(second)?;
-    Ok(both)
 }

@@ -72,15 +72,3 @@ pub fn note_user(node: u32, prerequisites: &[u32], next: &mut [u32], users: &mut
         }
     }
 }
-
-/// Notes a node in the same way where the prerequisites are those of two lists.
-pub fn note_both(node: u32, first: &[u32], second: &[u32], next: &mut [u32], users: &mut [u32])
-    requires room { (n : ℕ) → n < length next.old → slice_index next.old n + times n (first.now ++ second.now) ≤ length users.old }
-    requires few { length users.old < 2 ^ 32 }
-    ensures next { (n : ℕ) → n < length next.old → slice_index next.new n ≡ slice_index next.old n + times n (first.now ++ second.now) }
-    ensures rows { (ends : List ℕ) → CanTake (length users.old) ends next.old (first.now ++ second.now) → (n : ℕ) → n < length ends
-        → filled users.new ends next.new n ≡ filled users.old ends next.old n ++ replicate (times n (first.now ++ second.now)) node }
-{
-    note_user(node, first, next, users);
-    note_user(node, second, next, users);
-}

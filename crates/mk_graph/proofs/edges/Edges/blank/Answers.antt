@@ -1,5 +1,5 @@
 use Rattle.std.proofs.Common.{◌∙◌}
-use Rattle.mk_graph.proofs.BothLemmas.{ends_blank, joined_blank, length_blank}
+use Rattle.mk_graph.proofs.JoinLemmas.{ends_blank, joined_blank, length_blank}
 use Rattle.mk_graph.proofs.edges.Edges.blank.Goals as goal
 
 pub invariant_of-result : goal.invariant_of-result
