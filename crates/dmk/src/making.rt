@@ -46,7 +46,7 @@ fn host_printer<'a, R: Wait>(
 /// Takes targets as they are, where nothing is recorded of any; the status where that ends the run. The state's disk comes back.
 fn trust_here<R: Wait, O: Write + Drop, W: Write + Drop>(
     host: HostRuntime,
-    means: &Means<'_, Handing<'_, Shell<'_>>, Printer<'_, R, O, W>, HostPlace>,
+    means: &Means<'_, Handing<'_, Shell<'_>>, Printer<'_, R, O, W>, HostPlace<'_, R>>,
     guard: &mut StateLock<'_>,
     options: &Options,
     tree: &mut FileTree<HostFiles<'_>>,
@@ -71,7 +71,7 @@ fn trust_here<R: Wait, O: Write + Drop, W: Write + Drop>(
 fn make_here<R, O, W>(
     rt: &R,
     host: HostRuntime,
-    means: &Means<'_, Handing<'_, Shell<'_>>, Printer<'_, R, O, W>, HostPlace>,
+    means: &Means<'_, Handing<'_, Shell<'_>>, Printer<'_, R, O, W>, HostPlace<'_, R>>,
     guard: &mut StateLock<'_>,
     options: Options,
     trusts_files: bool,
@@ -149,7 +149,7 @@ pub fn make<R: Threads + Wait + Sync>(
         handed: handed.as_ref(),
         exec: &shell,
     };
-    let place = HostPlace::new(host);
+    let place = HostPlace::new(rt, host);
     let means = Means {
         key: HashKey::from_system(&host),
         environment,

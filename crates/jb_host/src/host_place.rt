@@ -1,11 +1,13 @@
 //! The files of the system.
 
+use crate::shared_syncs::SharedSyncs;
 use jb_recipe::{Place, PlaceFault};
 use std::alloc::Global;
 use std::fs::{self, File, Metadata, OpenOptions};
 use std::io::{self, ErrorKind};
 use std::os::unix::fs::MetadataExt;
 use std::process::{Command, Stdio};
+use std::sync::Wait;
 
 /// The system's number of 'no such device or address'.
 const NO_SUCH_DEVICE: i32 = 6;
@@ -47,58 +49,62 @@ fn fault_of(error: io::Error) -> PlaceFault {
     }
 }
 
-/// Reports and targets in the folder in which dmk runs. A name that isn't UTF-8 has no file here.
-#[derive(Drop)]
-pub struct HostPlace {
-    rt: HostRuntime,
+// The folder that a name's last part stands in.
+fn folder_of(name: &str) -> &str {
+    match name.rsplit_once('/') {
+        None => ".",
+        Some(("", _)) => "/",
+        Some((folder, _)) => folder,
+    }
 }
 
-impl HostPlace {
-    pub fn new(rt: HostRuntime) -> HostPlace {
-        HostPlace { rt }
+// What may not be read is opened to be written, and all file systems are synced where that is refused too: a folder, or a
+// file that may only be run.
+fn sync_path(host: HostRuntime, path: &str) -> io::Result<()> {
+    match File::open(&host, path) {
+        Ok(file) => file.sync_all(),
+        Err(error) if error.kind() == ErrorKind::PermissionDenied => sync_unread(host, path),
+        Err(error) if is_passed_over(&error) => Ok(()),
+        Err(error) => Err(error),
     }
+}
 
-    // The folder that a name's last part stands in.
-    fn folder_of(name: &str) -> &str {
-        match name.rsplit_once('/') {
-            None => ".",
-            Some(("", _)) => "/",
-            Some((folder, _)) => folder,
-        }
+fn sync_unread(host: HostRuntime, path: &str) -> io::Result<()> {
+    match OpenOptions::new().write(true).open(&host, path) {
+        Ok(file) => file.sync_all(),
+        Err(_) => sync_all_files(host),
     }
+}
 
-    // What may not be read is opened to be written, and all file systems are synced where that is refused too: a folder, or a
-    // file that may only be run.
-    fn sync_path(&self, path: &str) -> io::Result<()> {
-        match File::open(&self.rt, path) {
-            Ok(file) => file.sync_all(),
-            Err(error) if error.kind() == ErrorKind::PermissionDenied => self.sync_unread(path),
-            Err(error) if is_passed_over(&error) => Ok(()),
-            Err(error) => Err(error),
-        }
+// The program sync, by which any user may have all file systems synced.
+fn sync_all_files(host: HostRuntime) -> io::Result<()> {
+    let mut command = Command::new(host.alloc(), "/bin/sh")?;
+    command.arg("-c")?.arg("sync")?;
+    command.stdin(Stdio::null());
+    match command.output(&host)?.status.code() {
+        Some(0) => Ok(()),
+        _ => Err(io::Error::other("the program sync failed")),
     }
+}
 
-    fn sync_unread(&self, path: &str) -> io::Result<()> {
-        match OpenOptions::new().write(true).open(&self.rt, path) {
-            Ok(file) => file.sync_all(),
-            Err(_) => self.sync_all_files(),
-        }
-    }
+/// Reports and targets in the folder in which dmk runs. A name that isn't UTF-8 has no file here.
+#[derive(Drop)]
+pub struct HostPlace<'a, R: Wait> {
+    host: HostRuntime,
+    folders: SharedSyncs<'a, R>,
+}
 
-    // The program sync, by which any user may have all file systems synced.
-    fn sync_all_files(&self) -> io::Result<()> {
-        let mut command = Command::new(self.rt.alloc(), "/bin/sh")?;
-        command.arg("-c")?.arg("sync")?;
-        command.stdin(Stdio::null());
-        match command.output(&self.rt)?.status.code() {
-            Some(0) => Ok(()),
-            _ => Err(io::Error::other("the program sync failed")),
+impl<'a, R: Wait> HostPlace<'a, R> {
+    pub fn new(rt: &'a R, host: HostRuntime) -> HostPlace<'a, R> {
+        HostPlace {
+            host,
+            folders: SharedSyncs::new(rt, host.alloc()),
         }
     }
 
     // Only an ordinary file or a folder is opened: a pipe would be waited for, and a device has nothing to be kept.
     fn sync_named(&self, name: &str) -> io::Result<()> {
-        match if_there(fs::symlink_metadata(&self.rt, name))? {
+        match if_there(fs::symlink_metadata(&self.host, name))? {
             Some(found) if found.is_symlink() => self.sync_link(name),
             Some(found) if is_kept(&found) => self.sync_in_folder(name),
             _ => Ok(()),
@@ -106,31 +112,35 @@ impl HostPlace {
     }
 
     fn sync_in_folder(&self, name: &str) -> io::Result<()> {
-        self.sync_path(name)?;
-        self.sync_path(HostPlace::folder_of(name))
+        sync_path(self.host, name)?;
+        self.sync_folder(folder_of(name))
+    }
+
+    fn sync_folder(&self, folder: &str) -> io::Result<()> {
+        self.folders.sync(folder, || sync_path(self.host, folder))
     }
 
     // Of a link, what it leads to stands in a folder of its own.
     fn sync_link(&self, name: &str) -> io::Result<()> {
-        match if_there(fs::metadata(&self.rt, name))? {
+        match if_there(fs::metadata(&self.host, name))? {
             Some(found) if is_kept(&found) => {}
             _ => return Ok(()),
         }
         self.sync_in_folder(name)?;
-        match if_there(fs::canonicalize(&self.rt, name))? {
+        match if_there(fs::canonicalize(&self.host, name))? {
             Some(led_to) => {
                 let led_to = led_to.into_string();
-                self.sync_path(HostPlace::folder_of(led_to.as_str()))
+                self.sync_folder(folder_of(led_to.as_str()))
             }
             None => Ok(()),
         }
     }
 }
 
-impl Place for HostPlace {
+impl<R: Wait> Place for HostPlace<'_, R> {
     fn remove(&self, path: &[u8]) {
         if let Ok(name) = std::str::from_utf8(path) {
-            let _ = fs::remove_file(&self.rt, name);
+            let _ = fs::remove_file(&self.host, name);
         }
     }
 
@@ -138,12 +148,12 @@ impl Place for HostPlace {
         let Ok(name) = std::str::from_utf8(path) else {
             return Ok(None);
         };
-        match fs::metadata(&self.rt, name) {
+        match fs::metadata(&self.host, name) {
             Ok(found) if !found.is_file() => return Err(PlaceFault::Device(not_ordinary())),
             Err(error) if error.kind() == ErrorKind::NotFound => return Ok(None),
             _ => {}
         }
-        match fs::read(&self.rt, name) {
+        match fs::read(&self.host, name) {
             Ok(bytes) => Ok(Some(bytes)),
             Err(error) if error.kind() == ErrorKind::NotFound => Ok(None),
             Err(error) => Err(fault_of(error)),
@@ -153,7 +163,7 @@ impl Place for HostPlace {
     // A link is no ordinary file, whatever it leads to.
     fn stamp(&self, target: &[u8]) -> Option<i128> {
         let name = std::str::from_utf8(target).ok()?;
-        let found = fs::symlink_metadata(&self.rt, name).ok()?;
+        let found = fs::symlink_metadata(&self.host, name).ok()?;
         if !found.is_file() {
             return None;
         }

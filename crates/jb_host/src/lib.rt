@@ -2,10 +2,14 @@
 #![tactic(auto)]
 
 mod dry_shell;
+mod folder_syncs;
 mod host_place;
+mod laws;
+mod shared_syncs;
 mod shell;
 mod surroundings;
 
 pub use dry_shell::{DryShell, Written};
 pub use host_place::HostPlace;
+pub use laws::served_by_later_syncs;
 pub use shell::{HOLDS, HeldLock, Shell};
