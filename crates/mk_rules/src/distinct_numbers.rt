@@ -65,6 +65,7 @@ impl DistinctNumbers {
     }
 
     /// Takes in that a number is mentioned, and tells whether it is new.
+    #[inline(always)]
     pub fn mention(&mut self, number: u32) -> Result<bool, AllocError>
         ensures fresh { IfOk result (λ is_new. is_new ≡ not (has self.old number)) }
         ensures ok { OnOk result (self.new ≡ (if has self.old number then self.old else self.old ++ number ∷ [])) }

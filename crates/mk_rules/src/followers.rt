@@ -38,8 +38,9 @@ impl Followers {
     }
 
     /// The number that followed the last time, where it is that of the name.
+    #[inline(always)]
     #[tactic(auto, using(crate::proofs::RowLemmas::same_name))]
-    fn guess(&self, names: &Names, name: &[u8]) -> Option<u32>
+    pub fn guess(&self, names: &Names, name: &[u8]) -> Option<u32>
         ensures { IfSome result (λ n. (n < length names.now) × (name_at names.now n ≡ name.now)) }
     {
         let number = *self.next.get(self.before? as usize)?;
@@ -61,6 +62,11 @@ impl Followers {
         Ok(())
     }
 
+    /// The name of this number, which was guessed, comes next.
+    pub fn pass(&mut self, number: u32) {
+        self.before = Some(number);
+    }
+
     /// Notes that the name of this number comes next.
     fn follow(&mut self, number: u32) -> Result<(), AllocError> {
         if let Some(before) = self.before {
@@ -74,10 +80,6 @@ impl Followers {
     pub fn number_of(&mut self, names: &Names, name: &[u8]) -> Result<Option<u32>, AllocError>
         ensures { IfOk result (λ of. IfSome of (λ n. (n < length names.now) × (name_at names.now n ≡ name.now))) }
     {
-        if let Some(number) = self.guess(names, name) {
-            self.before = Some(number);
-            return Ok(Some(number));
-        }
         let Some(number) = names.number_of(name) else {
             return Ok(None);
         };
@@ -86,6 +88,7 @@ impl Followers {
     }
 
     /// The number of a name, which is given the next one where it has none.
+    #[inline(always)]
     #[tactic(auto, using(crate::proofs::RowLemmas::added_known))]
     pub fn numbered(
         &mut self,
@@ -96,7 +99,7 @@ impl Followers {
         ensures { IfOk result (λ n. (names.new ≡ added names.old name.now) × (n < length names.new) × (name_at names.new n ≡ name.now)) }
     {
         if let Some(number) = self.guess(names, name) {
-            self.before = Some(number);
+            self.pass(number);
             return Ok(number);
         }
         let number = names.numbered(alloc, name)?;

@@ -50,7 +50,8 @@ fn node_number<T: Tree>(
     Ok(Some(number))
 }
 
-/// Takes in one hidden prerequisite.
+/// Takes in one hidden prerequisite, whose number isn't guessed.
+#[inline(never)]
 fn take_hidden<T: Tree>(
     alloc: Global,
     rules: &Rules,
@@ -103,7 +104,10 @@ pub(crate) fn add_hidden<T: Tree>(
 {
     notes.followers.start();
     for name in hidden.iter() {
-        take_hidden(alloc, rules, tree, names, notes, mentioned, name)?;
+        match notes.guess(names, name) {
+            Some(number) => mentioned.add_hidden(alloc, names, name, Some(number))?,
+            None => take_hidden(alloc, rules, tree, names, notes, mentioned, name)?,
+        }
     }
     Ok(())
 }

@@ -91,6 +91,7 @@ impl Mentioned {
     }
 
     /// Takes in the number of a hidden prerequisite that is a node.
+    #[inline(always)]
     fn add_node(&mut self, number: u32) -> Result<(), AllocError>
         ensures nodes { OnOk result (self.new.nodes ≡ (if has self.old.nodes number then self.old.nodes else self.old.nodes ++ number ∷ [])) }
         ensures gone { OnOk result (self.new.gone ≡ self.old.gone) }
@@ -120,6 +121,7 @@ impl Mentioned {
     }
 
     /// Takes in a hidden prerequisite by its number among the names, or one that is gone.
+    #[inline(always)]
     pub fn add_hidden(
         &mut self,
         alloc: Global,

@@ -55,6 +55,21 @@ impl NodeNotes {
         Ok(())
     }
 
+    /// The number that is guessed of a name, where it is known to be a node.
+    #[inline(always)]
+    pub fn guess(&mut self, names: &Names, name: &[u8]) -> Option<u32>
+        ensures name { IfSome result (λ n. (n < length names.now) × (name_at names.now n ≡ name.now)) }
+        ensures marked { IfSome result (λ n. is_marked self.old.marks.items n ≡ true) }
+        ensures same { self.new.marks.items ≡ self.old.marks.items }
+    {
+        let number = self.followers.guess(names, name)?;
+        if !is_marked(&self.marks, number as usize) {
+            return None;
+        }
+        self.followers.pass(number);
+        Some(number)
+    }
+
     /// The number of a name that is known to be a node.
     pub fn number_of(&mut self, names: &Names, name: &[u8]) -> Result<Option<u32>, AllocError>
         ensures name { IfOk result (λ of. IfSome of (λ n. (n < length names.now) × (name_at names.now n ≡ name.now))) }
