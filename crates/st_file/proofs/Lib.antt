@@ -3,6 +3,7 @@ pub mod LayoutLemmas
 pub mod BatchLemmas
 pub mod FrameLemmas
 pub mod SideLemmas
+pub mod WindowLemmas
 pub mod WalkLemmas
 pub mod ReadingLemmas
 pub mod DecisionLemmas

@@ -16,3 +16,5 @@ pub mod Gated
 pub mod Created
 -- what one more batch makes of a side
 pub mod Grown
+-- what is in memory of a side that is read forward
+pub mod Window

@@ -83,6 +83,16 @@ pub record IsBroken (x : List ℕ) (place : ℕ) : Type 0 where
 abbrev pub IsDamagedAt : List ℕ → ℕ → Type 0
 IsDamagedAt x place = ((place ≡ 9) × LacksVersion x) ⊎ (((place ≡ 11) × LacksGeneration x) ⊎ IsBroken x place)
 
+-- the side has no header that can be read, and this is its fault
+abbrev pub LacksHeader : Which → List ℕ → OpenFault → Type 0
+LacksHeader side x (faults.NotState s) = (s ≡ side) × IsForeign x
+LacksHeader side x (faults.UnknownVersion s version) = (s ≡ side) × HasOtherVersion x version
+LacksHeader side x (faults.Damaged s place) =
+    (s ≡ side) × (((place ≡ 9) × LacksVersion x) ⊎ ((place ≡ 11) × LacksGeneration x))
+LacksHeader side x faults.Device = ⊥
+LacksHeader side x faults.OutOfMemory = ⊥
+LacksHeader side x faults.SameGeneration = ⊥
+
 -- the side is refused with this fault
 abbrev pub IsRefused : Which → List ℕ → OpenFault → Type 0
 IsRefused side x (faults.NotState s) = (s ≡ side) × IsForeign x

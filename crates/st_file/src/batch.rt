@@ -8,6 +8,7 @@ ghost use Rattle.st_records.specs.Limits.{IsGood};
 ghost use Rattle.st_records.specs.Faults.{HasWholeTarget};
 ghost use Rattle.st_file.specs.Sink.{AddsRecords};
 ghost use Rattle.st_file.specs.Batch.{may_stand, framed, FillBatch, IsBody, IsFramed, ComesToTarget};
+ghost use Rattle.st_file.specs.Window.{IsEnough};
 
 use crate::layout::u32_of;
 use crate::sink::RecordSink;
@@ -16,6 +17,9 @@ use std::alloc::{AllocError, Global};
 
 /// The bytes that the body of a batch may have.
 pub const MAX_BODY_BYTES: usize = 1 << 30;
+
+/// The bytes of a batch before its body: its gate and two numbers.
+pub(crate) const FRAME_BYTES: usize = 9;
 
 /// The number of records, the body and what is behind it. None where they aren't all there or the body is too long.
 fn frame_of(bytes: &[u8]) -> Option<(u32, &[u8], &[u8])>
@@ -129,6 +133,29 @@ pub(crate) fn read_batch<'a, S: RecordSink>(
     Ok(Some(rest))
 }
 
+/// How many bytes, of so many that are left of a side, have to be in memory for the batch that these begin with: all of it, as
+/// far as its length can be believed, else its gate.
+pub(crate) fn batch_len(front: &[u8], left: usize) -> usize
+    requires some { 0 < left }
+    requires within { length front.now ≤ left }
+    ensures some { 0 < result }
+    ensures within { result ≤ left }
+    ensures enough { IsEnough front.now left result }
+{
+    if front.is_empty() {
+        return 1;
+    }
+    let (_gate, frame) = front.split_at(1);
+    let Some((length, _count)) = u32_of(frame) else {
+        return 1;
+    };
+    let length = length as usize;
+    if length > MAX_BODY_BYTES || length + FRAME_BYTES > left {
+        return 1;
+    }
+    length + FRAME_BYTES
+}
+
 // A record of an empty text has as many.
 const LEAST_RECORD_BYTES: usize = 5;
 
@@ -146,4 +173,27 @@ pub(crate) fn records_in(batches: &[u8]) -> usize {
         rest = after;
     }
     total
+}
+
+/// About how many records so many bytes of batches have, by the first of them. It only decides how much memory is taken at
+/// once.
+pub(crate) fn records_about(batches: &[u8], left: usize) -> usize {
+    let mut records: usize = 0;
+    let mut bytes: usize = 0;
+    let mut rest = batches;
+    while rest.len() >= FRAME_BYTES && rest[0] != 0 {
+        let length = u32::from_le_bytes([rest[1], rest[2], rest[3], rest[4]]) as usize;
+        let count = u32::from_le_bytes([rest[5], rest[6], rest[7], rest[8]]) as usize;
+        records = records.saturating_add(count.min(length / LEAST_RECORD_BYTES));
+        bytes = bytes.saturating_add(length + FRAME_BYTES);
+        if length + FRAME_BYTES > rest.len() {
+            break;
+        }
+        rest = &rest[length + FRAME_BYTES..];
+    }
+    if bytes == 0 {
+        return 0;
+    }
+    let about = (records.saturating_mul(left) / bytes).min(left / LEAST_RECORD_BYTES);
+    about.saturating_add(about / 64)
 }

@@ -29,8 +29,8 @@ pub fn read_whole<D: Disk>(alloc: Global, disk: &mut D, side: Which) -> Result<V
     Ok(bytes)
 }
 
-// So many zeros, copied by the block, where `vec!` and `resize` set one after the other.
-fn zeros(alloc: Global, len: usize) -> Result<Vec<u8>, AllocError>
+/// So many zeros, copied by the block, where `vec!` and `resize` set one after the other.
+pub(crate) fn zeros(alloc: Global, len: usize) -> Result<Vec<u8>, AllocError>
     ensures len { IfOk result (λ bytes. length bytes.items ≡ len) }
     ensures memory { OnErr result (0 < len) }
 {

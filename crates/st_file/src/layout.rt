@@ -4,7 +4,7 @@ ghost use Rattle.std.specs.Prelude.{◌≡◌, ◌≢◌, ◌↔◌, ℕ, ◌<�
 ghost use Rattle.std.specs.Int.{w16, w32, w64, to_le_bytes};
 ghost use Rattle.st_records.specs.declared.version.Version.TheVariants as versions;
 ghost use Rattle.st_file.specs.Layout.{magic, version_number, header_text, IsUnknownVersion, IsNamed, HasHeader};
-ghost use Rattle.st_file.specs.Side.{IsVoid, IsForeign, IsRefused};
+ghost use Rattle.st_file.specs.Side.{IsVoid, IsForeign, LacksHeader};
 
 use crate::fault::OpenFault;
 use st_disk::Which;
@@ -101,7 +101,7 @@ fn version_of(number: u16) -> Option<Version>
 pub(crate) fn header_of(side: Which, bytes: &[u8]) -> Result<(Version, u64, &[u8]), OpenFault>
     requires { IsVoid bytes.now → ⊥ }
     ensures whole { IfOk result (λ h. HasHeader bytes.now h.0 h.1 h.2.now) }
-    ensures refused { IfErr result (λ fault. IsRefused side bytes.now fault) }
+    ensures refused { IfErr result (LacksHeader side bytes.now) }
 {
     let Some(rest) = opened(bytes) else {
         return Err(OpenFault::NotState(side));

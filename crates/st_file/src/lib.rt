@@ -10,8 +10,10 @@ mod from_disk;
 mod gated;
 mod layout;
 mod log;
+mod reader;
 mod side;
 mod sink;
+mod window;
 
 pub use batch::MAX_BODY_BYTES;
 pub use commit_fault::CommitFault;
@@ -21,5 +23,6 @@ pub use from_disk::{read_log, read_whole};
 pub use gated::append_gated;
 pub use layout::{HEADER_BYTES, new_header};
 pub use log::{Log, MAX_SIDE_BYTES};
+pub use reader::read_from;
 pub use side::{Extent, Side, every_side_has_a_reading, one_reading, read_side, side_of};
 pub use sink::RecordSink;
