@@ -16,7 +16,7 @@ use Rattle.st_file.specs.Side.{IsVoid, HoldsUpTo, HoldsRecords, IsRefused, Readi
 use Rattle.st_records.proofs.Fields.{IsBytes}
 use Rattle.st_file.proofs.ReadingLemmas.{one_reading}
 use Rattle.st_file.proofs.TotalLemmas.{every_reading}
-use Rattle.st_recovery.specs.Recovers.{Wins, IsChosen, Recovers, IsWhole, HaveOneGeneration, RefusesWith, Outcome, recovered, refused, HasOutcome, outcome_of}
+use Rattle.st_recovery.specs.Recovers.{Wins, WasRead, IsChosen, Recovers, IsWhole, HaveOneGeneration, RefusesWith, Outcome, recovered, refused, HasOutcome, outcome_of}
 
 -- what comes of two sides that hold records
 abbrev of_two : ℕ → List Record → ℕ → List Record → Outcome
@@ -252,6 +252,17 @@ every_outcome a b a_fits b_fits =
 pub whole_of_read : (T : Type 0) (P : List Record → Type 0) (x : List ℕ) (read : Option Extent) → IfNone read (IsVoid x × T) → IfSome read (λ e. (held : List Record) × HoldsUpTo x e.version e.generation held e.end × P held) → IsWhole x
 whole_of_read T P x None void held = inl void.0
 whole_of_read T P x (Some e) void held = inr (e.generation, (held.0, (e.version, e.end, held.1)))
+
+-- what was read off is as it was read
+pub was_read : (T : Type 0) (x : List ℕ) (read : Option Extent) (m : StateMap) → IfNone read (IsVoid x × T) → IfSome read (λ e. (held : List Record) × HoldsUpTo x e.version e.generation held e.end × (m ≡ replay map.empty held)) → WasRead x read m
+was_read T x None m void held = void.0
+was_read T x (Some e) m void held = held
+
+-- a refusal of side B is one of the pair where side A isn't refused
+pub second_refused : (a b : List ℕ) (f : OpenFault) → IsWhole a → (f ≡ faults.Device) ⊎ ((f ≡ faults.OutOfMemory) ⊎ IsRefused sides.B b f) → (f ≡ faults.Device) ⊎ ((f ≡ faults.OutOfMemory) ⊎ RefusesWith a b f)
+second_refused a b f whole (inl device) = inl device
+second_refused a b f whole (inr (inl memory)) = inr (inl memory)
+second_refused a b f whole (inr (inr is)) = inr (inr (inr (inl (whole, is))))
 
 -- one fault in answers of two types
 pub same_fault : {S T : Type 0} (f g : OpenFault) → IsErrOf {T = S} (Err f) g → IsErrOf {T = T} (Err f) g

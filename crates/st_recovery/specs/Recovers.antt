@@ -8,6 +8,7 @@ use Rattle.st_records.specs.declared.record.Record.{Record}
 use Rattle.st_state.specs.State.{StateMap, replay}
 use Rattle.st_file.specs.declared.fault.OpenFault.{OpenFault}
 use Rattle.st_file.specs.declared.fault.OpenFault.TheVariants as faults
+use Rattle.st_file.specs.declared.side.Extent.{Extent}
 use Rattle.st_file.specs.Side.{IsVoid, HoldsUpTo, HoldsRecords, IsRefused, ComesToRecords}
 
 -- the side holds records and this generation
@@ -37,6 +38,12 @@ IsChosen a b sides.B v generation end m = Counts b a v generation end m
 -- the pair recovers this state: the empty one where both sides are void, else that of the side which counts
 abbrev pub Recovers : List ℕ → List ℕ → StateMap → Type 0
 Recovers a b m = (IsVoid a × IsVoid b × (m ≡ map.empty)) ⊎ (Wins a b m ⊎ Wins b a m)
+
+-- a side was read off so: it is void, or it holds up to this end records that make this state of the empty one
+abbrev pub WasRead : List ℕ → Option Extent → StateMap → Type 0
+WasRead x None m = IsVoid x
+WasRead x (Some e) m =
+    (held : List Record) × HoldsUpTo x e.version e.generation held e.end × (m ≡ replay map.empty held)
 
 -- the side isn't refused by itself: it is void or holds records
 abbrev pub IsWhole : List ℕ → Type 0

@@ -8,5 +8,5 @@ mod store;
 
 pub use laws::{every_pair_has_an_outcome, one_recovery};
 pub use opening::open;
-pub use recovery::{Chosen, choose, recover};
+pub use recovery::{Chosen, choose, choose_from, recover, recover_from};
 pub use store::Store;

@@ -11,10 +11,10 @@ ghost use Rattle.st_file.specs.declared.fault.OpenFault.TheVariants as faults;
 ghost use Rattle.st_recovery.specs.Recovers.{Recovers, RefusesWith, IsChosen};
 ghost use Rattle.st_recovery.specs.Stored.{AllRecover, IsNewLog, ArePossible, ArePossibleOrNew, AreFewCalls, HaveBytes};
 
-use crate::recovery::{Chosen, choose};
+use crate::recovery::{Chosen, choose_from};
 use crate::store::Store;
 use st_disk::{DeviceFault, Disk, Which};
-use st_file::{HEADER_BYTES, Log, OpenFault, create, read_whole};
+use st_file::{HEADER_BYTES, Log, OpenFault, create};
 use st_records::{HashKey, Version};
 use st_state::State;
 use std::alloc::Global;
@@ -149,9 +149,7 @@ fn find<D: Disk + Drop>(
     ensures calls { D.honest → (D.moments disk.new).newest ≤ (D.moments disk.old).newest + 2 }
 {
     settle_both(disk)?;
-    let a = read_whole(alloc, disk, Which::A)?;
-    let b = read_whole(alloc, disk, Which::B)?;
-    choose(alloc, key, &a, &b)
+    choose_from(alloc, key, disk)
 }
 
 /// Syncs both sides.

@@ -1,12 +1,15 @@
 //! The state that a pair of sides recovers, or why it is refused.
 
-ghost use Rattle.std.specs.Prelude.{◌≡◌, ◌⊎◌, IfSome, IfNone, IfOk, IfErr, IsErrOf};
+ghost use Rattle.std.specs.Prelude.{◌≡◌, ◌≢◌, ◌⊎◌, ℕ, List, IfSome, IfNone, IfOk, IfErr, OnOk, IsErrOf};
+ghost use Rattle.st_disk.specs.Faults.{Rises};
+ghost use Rattle.st_state.specs.Keepable.{AllCanBeKept};
 ghost use Rattle.st_file.specs.Side.{IsVoid};
 ghost use Rattle.st_file.specs.declared.fault.OpenFault.TheVariants as faults;
-ghost use Rattle.st_recovery.specs.Recovers.{IsChosen, RefusesWith, PairComesToRecords, Outcome, HasOutcome, outcome_of};
+ghost use Rattle.st_recovery.specs.Recovers.{Recovers, WasRead, IsChosen, RefusesWith, PairComesToRecords, Outcome, HasOutcome, outcome_of};
+ghost use Rattle.st_recovery.specs.Stored.{HaveBytes};
 
-use st_disk::Which;
-use st_file::{Extent, OpenFault, read_side};
+use st_disk::{Disk, Which};
+use st_file::{Extent, OpenFault, read_from, read_side};
 use st_records::HashKey;
 use st_state::State;
 use std::alloc::Global;
@@ -60,6 +63,25 @@ pub fn choose(alloc: Global, key: HashKey, a: &[u8], b: &[u8]) -> Result<Option<
     let a_extent = read_side(alloc, Which::A, a, &mut a_state)?;
     let mut b_state = State::with_key(alloc, key);
     let b_extent = read_side(alloc, Which::B, b, &mut b_state)?;
+    newer(a_extent, a_state, b_extent, b_state)
+}
+
+/// Of two sides that were read off the one that counts; None where both are void.
+fn newer(
+    a_extent: Option<Extent>,
+    a_state: State,
+    b_extent: Option<Extent>,
+    b_state: State,
+) -> Result<Option<Chosen>, OpenFault>
+    ensures chosen { (a b : List ℕ) → WasRead a a_extent a_state → WasRead b b_extent b_state
+        → IfOk result (λ o. IfSome o (λ c. IsChosen a b c.side c.extent.version c.extent.generation c.extent.end c.state)) }
+    ensures void { (a b : List ℕ) → WasRead a a_extent a_state → WasRead b b_extent b_state
+        → IfOk result (λ o. IfNone o (IsVoid a × IsVoid b)) }
+    ensures refused { (a b : List ℕ) → WasRead a a_extent a_state → WasRead b b_extent b_state
+        → IfErr result (RefusesWith a b) }
+    ensures keepable { AllCanBeKept a_state → AllCanBeKept b_state → IfOk result (λ o. IfSome o (λ c. AllCanBeKept c.state)) }
+    ensures cause { IfErr result (λ fault. fault ≡ faults.SameGeneration) }
+{
     match (a_extent, b_extent) {
         (None, None) => Ok(None),
         (Some(extent), None) => Ok(Some(Chosen {
@@ -88,6 +110,78 @@ pub fn choose(alloc: Global, key: HashKey, a: &[u8], b: &[u8]) -> Result<Option<
                     extent: b_extent,
                     state: b_state,
                 }))
+            }
+        }
+    }
+}
+
+/// The state that the two sides of a disk recover, or why they are refused: as `recover` has it of their bytes, but for a side
+/// that can't be read, which is told first.
+pub fn recover_from<D: Disk>(alloc: Global, key: HashKey, disk: &mut D) -> Result<State, OpenFault>
+    ensures found { D.honest → IfOk result (λ state. Recovers (D.seen disk.old Which.A) (D.seen disk.old Which.B) state) }
+    ensures refused { D.honest → IfErr result (λ fault. (fault ≡ faults.Device) ⊎ ((fault ≡ faults.OutOfMemory)
+        ⊎ RefusesWith (D.seen disk.old Which.A) (D.seen disk.old Which.B) fault)) }
+    ensures seen { D.honest → D.seen disk.new ≡ D.seen disk.old }
+    ensures moments { D.honest → D.moments disk.new ≡ D.moments disk.old }
+    ensures success { OnOk result (D.faults disk.new ≡ D.faults disk.old) }
+    ensures device { IsErrOf result faults.Device → Rises (D.faults disk.old) (D.faults disk.new) }
+    // Memory is wanted only where a side has a byte.
+    ensures memory { D.honest → IsErrOf result faults.OutOfMemory
+        → HaveBytes (D.seen disk.old Which.A) (D.seen disk.old Which.B) }
+{
+    match choose_from(alloc, key, disk) {
+        Ok(Some(found)) => Ok(found.state),
+        Ok(None) => Ok(State::with_key(alloc, key)),
+        Err(fault) => Err(fault),
+    }
+}
+
+/// The side of a disk that counts; None where both are void. Both are read, block after block, before either is judged, and
+/// refused as `recover_from` refuses them.
+pub fn choose_from<D: Disk>(
+    alloc: Global,
+    key: HashKey,
+    disk: &mut D,
+) -> Result<Option<Chosen>, OpenFault>
+    ensures chosen { D.honest → IfOk result (λ o. IfSome o (λ c. IsChosen (D.seen disk.old Which.A) (D.seen disk.old Which.B)
+        c.side c.extent.version c.extent.generation c.extent.end c.state)) }
+    ensures keepable { IfOk result (λ o. IfSome o (λ c. AllCanBeKept c.state)) }
+    ensures void { D.honest → IfOk result (λ o. IfNone o (IsVoid (D.seen disk.old Which.A) × IsVoid (D.seen disk.old Which.B))) }
+    ensures refused { D.honest → IfErr result (λ fault. (fault ≡ faults.Device) ⊎ ((fault ≡ faults.OutOfMemory)
+        ⊎ RefusesWith (D.seen disk.old Which.A) (D.seen disk.old Which.B) fault)) }
+    ensures seen { D.honest → D.seen disk.new ≡ D.seen disk.old }
+    ensures moments { D.honest → D.moments disk.new ≡ D.moments disk.old }
+    ensures success { OnOk result (D.faults disk.new ≡ D.faults disk.old) }
+    ensures device { IsErrOf result faults.Device → Rises (D.faults disk.old) (D.faults disk.new) }
+    ensures memory { D.honest → IsErrOf result faults.OutOfMemory
+        → HaveBytes (D.seen disk.old Which.A) (D.seen disk.old Which.B) }
+{
+    let mut a_state = State::with_key(alloc, key);
+    match read_from(alloc, disk, Which::A, &mut a_state) {
+        Ok(a_extent) => {
+            let mut b_state = State::with_key(alloc, key);
+            let b_extent = read_from(alloc, disk, Which::B, &mut b_state)?;
+            newer(a_extent, a_state, b_extent, b_state)
+        }
+        Err(fault) => Err(told_first(alloc, key, disk, fault)),
+    }
+}
+
+/// What is told where side A has this fault: that side B can't be read comes before a refusal of side A's bytes.
+fn told_first<D: Disk>(alloc: Global, key: HashKey, disk: &mut D, fault: OpenFault) -> OpenFault
+    ensures told { (result ≡ fault) ⊎ (result ≡ faults.Device) }
+    ensures seen { D.honest → D.seen disk.new ≡ D.seen disk.old }
+    ensures moments { D.honest → D.moments disk.new ≡ D.moments disk.old }
+    ensures first { fault ≡ faults.Device → D.faults disk.new ≡ D.faults disk.old }
+    ensures device { result ≡ faults.Device → fault ≢ faults.Device → Rises (D.faults disk.old) (D.faults disk.new) }
+{
+    match fault {
+        OpenFault::Device | OpenFault::OutOfMemory => fault,
+        _ => {
+            let mut state = State::with_key(alloc, key);
+            match read_from(alloc, disk, Which::B, &mut state) {
+                Err(OpenFault::Device) => OpenFault::Device,
+                _ => fault,
             }
         }
     }
