@@ -1,5 +1,5 @@
 -- The fault of a stage as one of the run.
-use Rattle.std.proofs.Common.{◌≡◌, ◌∙◌, ℕ, List, Option, None, Some, refl, sym, subst, Result, Ok, Err, IfErr, IsErrAnd, IsErrOf, IfSome}
+use Rattle.std.proofs.Common.{◌≡◌, ◌∙◌, ℕ, List, Option, None, Some, refl, sym, subst, Result, Ok, Err, IfErr, IsErrAnd, IsErrOf, ◌⊎◌, inl, inr, IfSome}
 use Rattle.mk_reader.specs.declared.item.Item.{Item}
 use Rattle.st_disk.specs.declared.which.Which.{Which}
 use Rattle.st_disk.specs.declared.which.Which.TheVariants as sides
@@ -7,7 +7,7 @@ use Rattle.st_file.specs.Side.{IsOfSide}
 use Rattle.st_file.specs.declared.fault.OpenFault.{OpenFault}
 use Rattle.st_file.specs.declared.fault.OpenFault.TheVariants as open_fault
 use Rattle.st_state.specs.State.{StateMap}
-use Rattle.st_recovery.specs.Recovers.{HasOutcome, outcome_of}
+use Rattle.st_recovery.specs.Recovers.{RefusesWith}
 use Rattle.dmk_drive.specs.Faults.{IsOpenFault, IsRunFault}
 use Rattle.dmk_drive.specs.Messages.{fault_text}
 use Rattle.dmk_drive.specs.declared.fault.Fault.{Fault}
@@ -43,8 +43,7 @@ no_state Text (Ok x) fault f is meets none of = absurd is
 no_state Text (Err g) fault f is meets none of = let same : g ≡ State f = cc in none (subst Text (sym is ∙ same) meets)
 
 -- a pair of sides that is refused has the fault that is answered
-pub refused_pair : (seen : Which → List ℕ) (f : OpenFault) → IfSome (outcome_of (Err f)) (HasOutcome (seen sides.A) (seen sides.B)) →
-    IsOpenFault seen f
+refused_pair : (seen : Which → List ℕ) (f : OpenFault) → RefusesWith (seen sides.A) (seen sides.B) f → IsOpenFault seen f
 refused_pair seen open_fault.Device refuses = tt
 refused_pair seen open_fault.OutOfMemory refuses = tt
 refused_pair seen (open_fault.NotState s) refuses = refuses
@@ -52,12 +51,17 @@ refused_pair seen (open_fault.UnknownVersion s version) refuses = refuses
 refused_pair seen (open_fault.Damaged s place) refuses = refuses
 refused_pair seen open_fault.SameGeneration refuses = refuses
 
-pub pair_refused : (seen : Which → List ℕ) (a b : List ℕ) (found : Result StateMap OpenFault) → a ≡ seen sides.A → b ≡ seen sides.B →
-    IfSome (outcome_of found) (HasOutcome a b) → IfErr found (IsOpenFault seen)
-pair_refused seen a b (Ok m) is_a is_b has = tt
-pair_refused seen a b (Err f) is_a is_b has =
-    refused_pair seen f (subst (λ x. IfSome (outcome_of (Err f)) (HasOutcome x (seen sides.B))) is_a
-    (subst (λ y. IfSome (outcome_of (Err f)) (HasOutcome a y)) is_b has))
+open_fault_of : (seen : Which → List ℕ) (f : OpenFault) →
+    (f ≡ open_fault.Device) ⊎ ((f ≡ open_fault.OutOfMemory) ⊎ RefusesWith (seen sides.A) (seen sides.B) f) → IsOpenFault seen f
+open_fault_of seen f (inl is) = subst (IsOpenFault seen) (sym is) tt
+open_fault_of seen f (inr (inl is)) = subst (IsOpenFault seen) (sym is) tt
+open_fault_of seen f (inr (inr refuses)) = refused_pair seen f refuses
+
+pub pair_refused : (seen : Which → List ℕ) (found : Result StateMap OpenFault) →
+    IfErr found (λ f. (f ≡ open_fault.Device) ⊎ ((f ≡ open_fault.OutOfMemory) ⊎ RefusesWith (seen sides.A) (seen sides.B) f)) →
+    IfErr found (IsOpenFault seen)
+pair_refused seen (Ok m) is = tt
+pair_refused seen (Err f) is = open_fault_of seen f is
 
 -- of the text of a fault of one side nothing is said here
 side_text : (f : OpenFault) (side : Which) → IsOfSide side f → fault_text (State f) ≡ None

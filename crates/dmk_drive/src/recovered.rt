@@ -7,10 +7,10 @@ ghost use Rattle.st_file.specs.declared.fault.OpenFault.TheVariants as open_faul
 ghost use Rattle.dmk_drive.specs.Planned.{IsStateOn};
 ghost use Rattle.dmk_drive.specs.Faults.{IsOpenFault};
 
-use st_disk::{Disk, Which};
-use st_file::{OpenFault, read_whole};
+use st_disk::Disk;
+use st_file::OpenFault;
 use st_records::HashKey;
-use st_recovery::recover;
+use st_recovery::recover_from;
 use st_state::State;
 use std::alloc::Global;
 
@@ -23,9 +23,7 @@ fn recovered<D: Disk>(alloc: Global, key: HashKey, disk: &mut D) -> Result<State
     // A device fault is a call of the disk that failed.
     ensures device { IsErrOf result open_faults.Device → Rises (D.faults disk.old) (D.faults disk.new) }
 {
-    let a = read_whole(alloc, disk, Which::A)?;
-    let b = read_whole(alloc, disk, Which::B)?;
-    recover(alloc, key, &a, &b)
+    recover_from(alloc, key, disk)
 }
 
 /// The state that a run goes by. Where none is kept the disk isn't looked at.
