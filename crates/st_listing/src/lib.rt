@@ -4,4 +4,4 @@
 mod listing;
 mod text;
 
-pub use listing::{ListFault, list};
+pub use listing::{ListFault, list, list_from};
