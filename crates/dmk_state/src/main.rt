@@ -10,8 +10,9 @@ mod sides;
 use command_line::{Request, read_words};
 use output::{print_failed_call, refuse, show};
 use sides::{Reading, Sides, read_sides};
+use st_disk::{FileDisk, SystemFolder};
 use st_file::OpenFault;
-use st_listing::{ListFault, list};
+use st_listing::{ListFault, list, list_from};
 use st_records::HashKey;
 use std::process::ExitCode;
 use std::thread;
@@ -34,12 +35,30 @@ fn main(rt: HostRuntime) -> ExitCode {
     }
 }
 
-/// Lists what FILE and FILE.2 hold. What a run beside it may have brought about is read again before it is told, until two readings
-/// are the same.
+/// Lists what FILE and FILE.2 hold: block after block, and where that lists nothing or is refused, as they are read whole.
 fn list_file(rt: HostRuntime, file: &str) -> u8
     ensures status { (result ≡ 0) ⊎ (result ≡ 2) }
 {
     let key = HashKey::from_system(&rt);
+    match list_disk(rt, key, file) {
+        Ok(true) => 0,
+        Err(ListFault::Write) => refuse(file, ListFault::Write, &mut rt.stderr()),
+        Ok(false) | Err(ListFault::Open(_)) => list_whole(rt, key, file),
+    }
+}
+
+fn list_disk(rt: HostRuntime, key: HashKey, file: &str) -> Result<bool, ListFault> {
+    let alloc = rt.alloc();
+    let folder = SystemFolder::new(rt, alloc, file)?;
+    let mut disk = FileDisk::new(folder);
+    list_from(alloc, key, &mut disk, &mut rt.stdout())
+}
+
+/// Lists what FILE and FILE.2 hold as they are read whole. What a run beside it may have brought about is read again before it
+/// is told, until two readings are the same.
+fn list_whole(rt: HostRuntime, key: HashKey, file: &str) -> u8
+    ensures status { (result ≡ 0) ⊎ (result ≡ 2) }
+{
     let mut reading = read_sides(rt, file);
     for _ in 1..MAX_READINGS {
         let void = are_void(&reading.sides);
