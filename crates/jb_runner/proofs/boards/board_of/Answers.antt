@@ -23,7 +23,7 @@ pub of-requires-clause-room : goal.of-requires-clause-room
 of-requires-clause-room c =
     let graph = c.args.graph.now in
     let nodes : length c.in_ok-counted.counted ≡ length graph.nodes.items =
-        c.in_ok-counted.ensures.nodes ∙ length-counting (required_in graph) graph.soft graph.soft_dropped ∙ graph.required_rows in
+    c.in_ok-counted.ensures.nodes ∙ length-counting (required_in graph) graph.soft graph.soft_dropped ∙ graph.required_rows in
     let names : length c.in_ok-counted.counted ≡ length c.in_ok-names.names.items = nodes ∙ sym (ap length c.in_ok-names.ensures ∙ graph.named) in
     first_of (omega arith, first_of (omega (arith, nodes, names), search (rules, nodes, names)))
 
