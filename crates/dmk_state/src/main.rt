@@ -12,8 +12,10 @@ use output::{print_failed_call, refuse, show};
 use sides::{Reading, Sides, read_sides};
 use st_disk::{FileDisk, SystemFolder};
 use st_file::OpenFault;
-use st_listing::{ListFault, list, list_from};
+use st_listing::{ListFault, list, write_listing};
 use st_records::HashKey;
+use st_recovery::recover_from;
+use st_state::State;
 use std::process::ExitCode;
 use std::thread;
 use std::time::Duration;
@@ -47,11 +49,20 @@ fn list_file(rt: HostRuntime, file: &str) -> u8
     }
 }
 
-fn list_disk(rt: HostRuntime, key: HashKey, file: &str) -> Result<bool, ListFault> {
+/// The state that FILE and FILE.2 recover, read block after block.
+fn recovered(rt: HostRuntime, key: HashKey, file: &str) -> Result<State, ListFault> {
     let alloc = rt.alloc();
     let folder = SystemFolder::new(rt, alloc, file)?;
     let mut disk = FileDisk::new(folder);
-    list_from(alloc, key, &mut disk, &mut rt.stdout())
+    recover_from(alloc, key, &mut disk).map_err(|fault| ListFault::Open(fault))
+}
+
+/// Lists the state that they recover, and answers whether it has names. Nothing is written before their files are closed: where
+/// standard output is closed, the first file that is opened stands in its place.
+fn list_disk(rt: HostRuntime, key: HashKey, file: &str) -> Result<bool, ListFault> {
+    let state = recovered(rt, key, file)?;
+    write_listing(rt.alloc(), &state, &mut rt.stdout())?;
+    Ok(state.len() > 0)
 }
 
 /// Lists what FILE and FILE.2 hold as they are read whole. What a run beside it may have brought about is read again before it

@@ -1,5 +1,5 @@
 -- What follows of `recover`'s answer, whose clauses leave one case open: that memory ran out.
-use Rattle.std.proofs.Common.{◌≡◌, ◌∙◌, ◌⊎◌, Option, inl, inr, ℕ, List, [], ◌∷◌, ◌++◌, ◌-◌, ◌<◌, length, take, drop, append_assoc, Result, Ok, Err, refl, sym, subst, MatchResult, IfErr, OnOk, IfSome, IsErrOf, ap, arith}
+use Rattle.std.proofs.Common.{◌≡◌, ◌∙◌, ◌⊎◌, Option, inl, inr, ℕ, List, [], ◌∷◌, ◌++◌, ◌-◌, length, take, drop, append_assoc, Result, Ok, Err, refl, sym, subst, MatchResult, IfErr, OnOk, IfSome, IsErrOf, ap, arith}
 use Rattle.std.proofs.lemmas.List.{take-append-drop, take_rest}
 use Rattle.std.specs.List.{flat_map}
 use Rattle.std.specs.FinMap as map
@@ -9,9 +9,6 @@ use Rattle.st_file.specs.declared.fault.OpenFault.{OpenFault}
 use Rattle.st_file.specs.declared.fault.OpenFault.TheVariants as open_faults
 use Rattle.st_state.specs.State.{StateMap}
 use Rattle.st_recovery.specs.Recovers.{Recovers, RefusesWith, Outcome, HasOutcome, outcome_of, recovered, refused}
-use Rattle.st_file.specs.Side.{ComesToRecords}
-use Rattle.st_recovery.specs.Stored.{HaveBytes}
-use Rattle.st_recovery.proofs.MemoryLemmas.{comes_of_state}
 use Rattle.st_listing.specs.Listing.{entry_lines, listing}
 use Rattle.st_listing.specs.Writing.{IsCause, IsOfMachine, LeavesText, LeavesWriter}
 use Rattle.st_listing.specs.declared.listing.ListFault.{ListFault}
@@ -85,26 +82,6 @@ met_before T f g e =
     let same : f ≡ g = cc in
     let wrapped : OpenFault → Result StateMap OpenFault = λ h. Err h in
     ap wrapped same
-
--- one fault in answers of two types
-pub same_error : {S T : Type 0} (f g : ListFault) → IsErrOf {T = S} (Err f) g → IsErrOf {T = T} (Err f) g
-same_error {S} {T} f g e =
-    let same : f ≡ g = cc in
-    let wrapped : ListFault → Result T ListFault = λ h. Err h in
-    ap wrapped same
-
--- ---- sides of a disk
-
-bytes_of_records : (x : List ℕ) → ComesToRecords x → 0 < length x
-bytes_of_records x comes = omega (arith, ap length comes.reached.header.named.text)
-
--- a pair that recovers names has bytes
-pub bytes_of_names : (a b : List ℕ) (m : StateMap) → Recovers a b m → 0 < map.len m → HaveBytes a b
-bytes_of_names a b m found some =
-    elim (comes_of_state a b m found some) [
-      | inl comes ↦ inl (bytes_of_records a comes)
-      | inr comes ↦ inr (bytes_of_records b comes.1)
-    ]
 
 -- ---- a state with names, and one without
 

@@ -4,4 +4,4 @@
 mod listing;
 mod text;
 
-pub use listing::{ListFault, list, list_from};
+pub use listing::{ListFault, list, write_listing};

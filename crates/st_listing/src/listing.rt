@@ -7,16 +7,14 @@ ghost use Rattle.st_state.specs.State.{StateMap};
 ghost use Rattle.st_file.specs.declared.fault.OpenFault.{OpenFault};
 ghost use Rattle.st_file.specs.declared.fault.OpenFault.TheVariants as open_faults;
 ghost use Rattle.st_recovery.specs.Recovers.{Recovers, RefusesWith, PairComesToRecords};
-ghost use Rattle.st_recovery.specs.Stored.{HaveBytes};
 ghost use Rattle.st_listing.specs.Listing.{listing};
 ghost use Rattle.st_listing.specs.Writing.{IsCause, AppendsPart, LeavesText, LeavesWriter, IsOfMachine};
 ghost use Rattle.st_listing.specs.declared.listing.ListFault.TheVariants as faults;
 
 use crate::text::listing_text;
-use st_disk::{Disk, Which};
 use st_file::OpenFault;
 use st_records::HashKey;
-use st_recovery::{recover, recover_from};
+use st_recovery::recover;
 use st_state::State;
 use std::alloc::{AllocError, Global};
 use std::io::{self, Write};
@@ -77,35 +75,6 @@ pub fn list<W: Write>(
     }
 }
 
-/// Writes the listing of the state that the two sides of a disk recover, and answers whether that has names. The disk is
-/// only read, block after block.
-pub fn list_from<D: Disk, W: Write>(
-    alloc: Global,
-    key: HashKey,
-    disk: &mut D,
-    writer: &mut W,
-) -> Result<bool, ListFault>
-    // What is listed was recovered, and what is answered as a fault is so. A pair has one outcome.
-    ensures found { D.honest → MatchResult result
-        (λ _. (m : StateMap) × (Recovers (D.seen disk.old Which.A) (D.seen disk.old Which.B) m
-        × Appends (W.contents writer.old) (W.contents writer.new) (listing m)))
-        (λ f. (f ≡ faults.Open open_faults.Device) ⊎ IsCause (D.seen disk.old Which.A) (D.seen disk.old Which.B) f) }
-    ensures memory { D.honest → IsErrOf result (faults.Open open_faults.OutOfMemory)
-        → HaveBytes (D.seen disk.old Which.A) (D.seen disk.old Which.B) }
-    ensures left { D.honest → IfErr result (λ f. LeavesWriter (D.seen disk.old Which.A) (D.seen disk.old Which.B) f
-        (W.contents writer.old) (W.contents writer.new)) }
-    ensures seen { D.honest → D.seen disk.new ≡ D.seen disk.old }
-    ensures moments { D.honest → D.moments disk.new ≡ D.moments disk.old }
-{
-    match recover_from(alloc, key, disk) {
-        Ok(state) => match write_listing(alloc, &state, writer) {
-            Ok(()) => Ok(state.len() > 0),
-            Err(fault) => Err(fault),
-        },
-        Err(refusal) => Err(ListFault::Open(refusal)),
-    }
-}
-
 // Lets the bytes of both sides go, where the state that they recover has names.
 fn let_go(alloc: Global, state: &State, a: &mut Vec<u8>, b: &mut Vec<u8>)
     ensures { map.len state.now ≡ 0 → (a.new ≡ a.old) × (b.new ≡ b.old) }
@@ -116,9 +85,13 @@ fn let_go(alloc: Global, state: &State, a: &mut Vec<u8>, b: &mut Vec<u8>)
     }
 }
 
-// The listing is whole before its first byte is written, so no want of memory comes after that. A state without names
-// takes no memory.
-fn write_listing<W: Write>(alloc: Global, state: &State, writer: &mut W) -> Result<(), ListFault>
+/// Writes the listing of a state. It is whole before its first byte is written, so no want of memory comes after that. A state
+/// without names takes no memory.
+pub fn write_listing<W: Write>(
+    alloc: Global,
+    state: &State,
+    writer: &mut W,
+) -> Result<(), ListFault>
     ensures listed { OnOk result (Appends (W.contents writer.old) (W.contents writer.new) (listing state.now)) }
     ensures cause { IfErr result IsOfMachine }
     ensures memory { IsErrOf result (faults.Open open_faults.OutOfMemory) → 0 < map.len state.now }
