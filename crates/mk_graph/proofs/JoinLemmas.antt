@@ -23,7 +23,7 @@ row-joined (ns ∷ hard) (ms ∷ soft) same (suc n) = row-joined hard soft (omeg
 range_none : (numbers : List ℕ) (start end : ℕ) → length numbers ≡ 0 → slice_range numbers start end ≡ []
 range_none numbers start end none = ap (take (end - start)) (drop_all start numbers (omega arith)) ∙ take_all (end - start) [] (omega arith)
 
-pub joined_none : (first : List (List ℕ)) (numbers : List ℕ) (start : ℕ) (ends : List ℕ) → length numbers ≡ 0 → joined first (pieces numbers start ends) ≡ first
+joined_none : (first : List (List ℕ)) (numbers : List ℕ) (start : ℕ) (ends : List ℕ) → length numbers ≡ 0 → joined first (pieces numbers start ends) ≡ first
 joined_none [] numbers start ends none = refl
 joined_none (ns ∷ first) numbers start [] none = refl
 joined_none (ns ∷ first) numbers start (end ∷ ends) none =

@@ -16,6 +16,7 @@ pub mod ChainLemmas
 pub mod LinkLemmas
 pub mod OwnRowLemmas
 pub mod PassedLemmas
+pub mod SpanLemmas
 pub mod NodeListLemmas
 pub mod WatchLemmas
 pub mod SeenLemmas

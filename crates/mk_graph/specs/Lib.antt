@@ -2,6 +2,7 @@ pub mod Chains
 pub mod Counted
 pub mod Cycle
 pub mod Edges
+pub mod Forms
 pub mod Hashing
 pub mod Links
 pub mod Numbering
@@ -11,6 +12,7 @@ pub mod Parts
 pub mod Plan
 pub mod Ready
 pub mod Ring
+pub mod Spans
 pub mod Users
 pub mod Waits
 pub mod NodeLists

@@ -1,66 +1,41 @@
 //! A graph: the prerequisites of each node.
 
-ghost use Rattle.std.specs.Prelude.{◌≡◌, ℕ, ◌+◌, ◌<◌, ◌≤◌, ◌^◌, true, [], ◌∷◌, ◌++◌, length, map, take, drop, slice_index, IfOk, IsTrue, OnOk, OnErr, nat_lt};
+ghost use Rattle.std.specs.Prelude.{◌≡◌, ℕ, ◌<◌, true, [], ◌∷◌, ◌++◌, length, map, IfOk, IsTrue, OnOk, OnErr, nat_lt};
 ghost use Rattle.std.specs.List.Sorted.{IsStrictlyIncreasing};
 ghost use Rattle.mk_graph.specs.Edges.{row, is_closed, AreUsers};
+ghost use Rattle.mk_graph.specs.Forms.{rows_of};
 ghost use Rattle.mk_graph.specs.Counted.{joined};
 ghost use Rattle.mk_graph.specs.Parts.{fronts, backs};
-ghost use Rattle.mk_graph.specs.Users.{HasRoom, HasUsers};
-ghost use Rattle.byte_strings.specs.Pieces.{pieces, AreEnds};
+ghost use Rattle.mk_graph.specs.Users.{HasUsers};
 ghost use Rattle.std.specs.List.{list_all};
 
-use crate::room::{append, make_room, push};
-use crate::users::{counted, note_user, starts_behind, starts_of};
+use crate::packed_rows::{PackedRows, short};
+use crate::room::{append, push};
+use crate::shared_rows::SharedRows;
 use std::alloc::{AllocError, Global};
 use std::marker::Model;
 
+/// How the rows of a graph lie.
+#[derive(Debug, Drop)]
+enum Form {
+    Packed(PackedRows),
+    Shared(SharedRows),
+}
+
 /// The prerequisites of each node, by number. A number may stand in a row more than once. The numbers of all rows are one
-/// allocation, and the rows' ends another.
+/// list, which several graphs may share.
 #[derive(Debug, Drop)]
 pub struct Edges {
-    numbers: Vec<u32>,
-    ends: Vec<u32>,
+    form: Form,
 }
 
 impl Model for Edges {
-    ghost use Rattle.std.specs.Prelude.{ℕ, List, length};
-    ghost use Rattle.byte_strings.specs.Pieces.{pieces, AreEnds};
+    ghost use Rattle.std.specs.Prelude.{ℕ, List};
+    ghost use Rattle.mk_graph.specs.Forms.{rows_of};
 
     ghost Value = { List (List ℕ) };
 
-    ghost view = { λ e. pieces e.numbers.items 0 e.ends.items };
-
-    ghost invariant = { λ e. AreEnds (length e.numbers.items) 0 e.ends.items };
-}
-
-/// Where the row of a node begins: at the end of the one before it.
-fn start_of(ends: &[u32], node: usize) -> usize
-    requires { node ≤ length ends.now }
-    ensures { result ≡ slice_index (0 ∷ ends.now) node }
-{
-    if node == 0 {
-        0
-    } else {
-        ends[node - 1] as usize
-    }
-}
-
-/// The first numbers of a row, as many as the count says, and those behind them.
-fn parted_at(row: &[u32], count: usize) -> (&[u32], &[u32])
-    ensures front { result.0.now ≡ take count row.now }
-    ensures back { result.1.now ≡ drop count row.now }
-{
-    if count >= row.len() {
-        return (row, &[]);
-    }
-    row.split_at(count)
-}
-
-/// A count of 32 bits. There is no memory for 2^32 or more.
-fn short(count: usize) -> Result<u32, AllocError>
-    ensures { IfOk result (λ short. short ≡ count) }
-{
-    u32::try_from(count).map_err(|_| AllocError)
+    ghost view = { λ e. rows_of e.form };
 }
 
 fn all_below(numbers: &[u32], limit: usize) -> bool
@@ -91,35 +66,72 @@ pub struct Parts {
     pub backs: Edges,
 }
 
+/// The rows in the list of the graph that is parted.
+fn parts_of(alloc: Global, rows: &SharedRows, counts: &[usize]) -> Result<Parts, AllocError>
+    requires { length counts.now ≡ length rows.now }
+    ensures fronts { IfOk result (λ parts. parts.fronts ≡ fronts counts.now rows.now) }
+    ensures backs { IfOk result (λ parts. parts.backs ≡ backs counts.now rows.now) }
+{
+    let (fronts, backs) = rows.parted(alloc, counts)?;
+    Ok(Parts {
+        fronts: Edges::of_shared(fronts),
+        backs: Edges::of_shared(backs),
+    })
+}
+
 impl Edges {
+    fn of_packed(rows: PackedRows) -> Edges
+        ensures { result ≡ rows }
+    {
+        Edges {
+            form: Form::Packed(rows),
+        }
+    }
+
+    fn of_shared(rows: SharedRows) -> Edges
+        ensures { result ≡ rows }
+    {
+        Edges {
+            form: Form::Shared(rows),
+        }
+    }
+
+    /// The same rows, one behind the other.
+    fn into_packed(self) -> Result<PackedRows, AllocError>
+        ensures { IfOk result (λ rows. rows ≡ self) }
+    {
+        match self.form {
+            Form::Packed(rows) => Ok(rows),
+            Form::Shared(rows) => rows.packed(),
+        }
+    }
+
+    /// The same rows, which are parted without a copy of their numbers where there is memory for it.
+    pub(crate) fn shared(self, alloc: Global) -> Edges
+        ensures { result ≡ self }
+    {
+        match self.form {
+            Form::Packed(rows) => match SharedRows::of(alloc, rows) {
+                Ok(rows) => Edges::of_shared(rows),
+                Err(rows) => Edges::of_packed(rows),
+            },
+            Form::Shared(rows) => Edges::of_shared(rows),
+        }
+    }
+
     /// No nodes, which takes no memory.
     pub fn empty(alloc: Global) -> Edges
         ensures { result ≡ [] }
     {
-        Edges {
-            numbers: Vec::new(alloc),
-            ends: Vec::new(alloc),
-        }
+        Edges::of_packed(PackedRows::empty(alloc))
     }
 
     /// No nodes, with room for so many; no clause says that pushes then succeed.
     pub fn with_capacity(alloc: Global, nodes: usize) -> Result<Edges, AllocError>
         ensures { IfOk result (λ e. e ≡ []) }
     {
-        Ok(Edges {
-            numbers: Vec::new(alloc),
-            ends: Vec::with_capacity(alloc, nodes)?,
-        })
-    }
-
-    /// No nodes, with room for so many and for so many numbers.
-    fn with_room(alloc: Global, nodes: usize, numbers: usize) -> Result<Edges, AllocError>
-        ensures { IfOk result (λ e. e ≡ []) }
-    {
-        Ok(Edges {
-            numbers: Vec::with_capacity(alloc, numbers)?,
-            ends: Vec::with_capacity(alloc, nodes)?,
-        })
+        let rows = PackedRows::with_capacity(alloc, nodes)?;
+        Ok(Edges::of_packed(rows))
     }
 
     /// A node for each of these rows.
@@ -138,18 +150,14 @@ impl Edges {
         requires { length second.now ≡ length first.now }
         ensures { IfOk result (λ e. e ≡ joined first.now second.now) }
     {
-        if second.numbers.is_empty() {
-            return first.copy(alloc);
-        }
-        let room = first.numbers.len() + second.numbers.len();
-        let mut numbers = Vec::with_capacity(alloc, room)?;
+        let mut numbers = Vec::new(alloc);
         let mut ends = Vec::with_capacity(alloc, first.len())?;
         for node in 0..first.len() {
             append(&mut numbers, first.row(node))?;
             append(&mut numbers, second.row(node))?;
             push(&mut ends, short(numbers.len())?)?;
         }
-        Ok(Edges { numbers, ends })
+        Ok(Edges::of_packed(PackedRows { numbers, ends }))
     }
 
     /// Adds the prerequisites of one more node. There is no memory for 2^32 numbers or more.
@@ -158,10 +166,14 @@ impl Edges {
         ensures ok { OnOk result (self.new ≡ self.old ++ prerequisites.now ∷ []) }
         ensures err { OnErr result (self.new ≡ self.old) }
     {
-        let end = short(self.numbers.len() + prerequisites.len())?;
-        make_room(&mut self.ends, 1)?;
-        append(&mut self.numbers, prerequisites)?;
-        self.ends.push_reserved(end);
+        match &mut self.form {
+            Form::Packed(rows) => rows.push_row(prerequisites)?,
+            Form::Shared(rows) => {
+                let mut packed = rows.packed()?;
+                packed.push_row(prerequisites)?;
+                self.form = Form::Packed(packed);
+            }
+        }
         Ok(())
     }
 
@@ -171,29 +183,23 @@ impl Edges {
         ensures fronts { IfOk result (λ parts. parts.fronts ≡ fronts counts.now self.now) }
         ensures backs { IfOk result (λ parts. parts.backs ≡ backs counts.now self.now) }
     {
-        let mut fronts = Edges::with_room(alloc, self.len(), self.numbers.len())?;
-        let mut backs = Edges::with_room(alloc, self.len(), self.numbers.len())?;
-        for (node, count) in counts.iter().enumerate() {
-            let (front, back) = parted_at(self.row(node), *count);
-            fronts.push_row(front)?;
-            backs.push_row(back)?;
+        match &self.form {
+            Form::Packed(rows) => match SharedRows::of(alloc, rows.copy(alloc)?) {
+                Ok(shared) => parts_of(alloc, &shared, counts),
+                Err(_) => Err(AllocError),
+            },
+            Form::Shared(rows) => parts_of(alloc, rows, counts),
         }
-        Ok(Parts { fronts, backs })
     }
 
     /// The number of nodes.
     pub fn len(&self) -> usize
         ensures { result ≡ length self.now }
     {
-        self.ends.len()
-    }
-
-    /// Whether no node has prerequisites.
-    #[inline(always)]
-    pub(crate) fn is_blank(&self) -> bool
-        ensures { result ≡ true → (n : ℕ) → row self.now n ≡ [] }
-    {
-        self.numbers.is_empty()
+        match &self.form {
+            Form::Packed(rows) => rows.len(),
+            Form::Shared(rows) => rows.len(),
+        }
     }
 
     /// The prerequisites of a node.
@@ -202,9 +208,10 @@ impl Edges {
         requires { node < length self.now }
         ensures { result.now ≡ row self.now node }
     {
-        let end = self.ends[node] as usize;
-        let start = start_of(&self.ends, node);
-        &self.numbers[start..end]
+        match &self.form {
+            Form::Packed(rows) => rows.row(node),
+            Form::Shared(rows) => rows.row(node),
+        }
     }
 
     /// As many nodes, without prerequisites.
@@ -212,17 +219,34 @@ impl Edges {
         ensures nodes { IfOk result (λ e. length e ≡ length self.now) }
         ensures joined { IfOk result (λ e. joined self.now e ≡ self.now) }
     {
-        Ok(Edges {
+        let rows = PackedRows {
             numbers: Vec::new(alloc),
             ends: Vec::from_elem(alloc, 0, self.len())?,
-        })
+        };
+        Ok(Edges::of_packed(rows))
+    }
+
+    /// Whether no node has prerequisites. Rows in a shared list may have none, though they aren't asked.
+    #[inline(always)]
+    pub(crate) fn is_blank(&self) -> bool
+        ensures { result ≡ true → (n : ℕ) → row self.now n ≡ [] }
+    {
+        match &self.form {
+            Form::Packed(rows) => rows.is_blank(),
+            Form::Shared(_) => false,
+        }
     }
 
     /// Whether each number in a row is that of a node.
     pub fn is_closed(&self) -> bool
         ensures { result ≡ is_closed self.now }
     {
-        all_below(&self.numbers, self.ends.len())
+        for node in 0..self.len() {
+            if !all_below(self.row(node), self.len()) {
+                return false;
+            }
+        }
+        true
     }
 
     /// Whether the numbers of each row ascend, so that none stands there twice.
@@ -237,36 +261,16 @@ impl Edges {
         true
     }
 
-    /// Notes each node where the next users of its prerequisites go: from where their rows start to where these end, which
-    /// is where the rows behind them started.
-    fn note_users(&self, next: &mut [u32], users: &mut [u32]) -> Result<(), AllocError>
-        requires room { HasRoom self.now (length users.old) next.old }
-        requires few { length users.old < 2 ^ 32 }
-        ensures ends { OnOk result (AreEnds (length users.old) 0 next.new) }
-        ensures users { OnOk result (AreUsers self.now (pieces users.new 0 next.new)) }
-    {
-        let nodes = short(self.len())?;
-        for node in 0..nodes {
-            note_user(node, self.row(node as usize), next, users);
-        }
-        Ok(())
-    }
-
     /// The users of each node in their order: a node has one for each time that a row names it. Numbers past the end
     /// have none.
     pub fn reversed(&self, alloc: Global) -> Result<Edges, AllocError>
         ensures { IfOk result (AreUsers self.now) }
     {
-        let mut next = counted(alloc, &self.numbers, self.len())?;
-        let size = starts_of(&mut next);
-        // Each of these numbers is written over; copying them is cheaper than setting as many zeros one by one.
-        let mut users = Vec::from_slice(alloc, self.numbers.as_slice())?;
-        users.truncate(size as usize);
-        self.note_users(&mut next, &mut users)?;
-        Ok(Edges {
-            numbers: users,
-            ends: next,
-        })
+        let users = match &self.form {
+            Form::Packed(rows) => rows.reversed(alloc)?,
+            Form::Shared(rows) => rows.packed()?.reversed(alloc)?,
+        };
+        Ok(Edges::of_packed(users))
     }
 
     /// The same of the users of a graph, whose own rows have just the room that is needed: each gets its numbers back, in
@@ -276,22 +280,20 @@ impl Edges {
         requires users { HasUsers rows self.now }
         ensures { IfOk result (AreUsers self.now) }
     {
-        let Edges {
-            mut numbers,
-            mut ends,
-        } = rows;
-        starts_behind(&mut ends);
-        self.note_users(&mut ends, &mut numbers)?;
-        Ok(Edges { numbers, ends })
+        let rows = rows.into_packed()?;
+        match &self.form {
+            Form::Packed(users) => Ok(Edges::of_packed(users.reversed_into(rows)?)),
+            Form::Shared(users) => Ok(Edges::of_packed(users.packed()?.reversed_into(rows)?)),
+        }
     }
 
     /// The same rows.
     pub fn copy(&self, alloc: Global) -> Result<Edges, AllocError>
         ensures { IfOk result (λ e. e ≡ self.now) }
     {
-        Ok(Edges {
-            numbers: Vec::from_slice(alloc, self.numbers.as_slice())?,
-            ends: Vec::from_slice(alloc, self.ends.as_slice())?,
-        })
+        match &self.form {
+            Form::Packed(rows) => Ok(Edges::of_packed(rows.copy(alloc)?)),
+            Form::Shared(rows) => Ok(Edges::of_shared(rows.copy(alloc)?)),
+        }
     }
 }

@@ -165,6 +165,24 @@ impl<N: Drop> Numbered<N> {
         })
     }
 
+    /// The same, whose rows are parted without a copy.
+    fn shared(self, alloc: Global) -> Numbered<N>
+        ensures { result ≡ self }
+    {
+        let Numbered {
+            names,
+            goals,
+            rows,
+            nodes,
+        } = self;
+        Numbered {
+            names,
+            goals,
+            rows: rows.shared(alloc),
+            nodes,
+        }
+    }
+
     /// Takes in the row and the node of the first name that has no row yet, once its prerequisites have numbers.
     fn take_in<F>(&mut self, row: &[u32], node: N, limit: usize) -> Result<(), NumberingFault<F>>
         ensures names { OnOk result (self.new.names ≡ self.old.names) }
@@ -224,7 +242,7 @@ pub fn number<R: Dependencies>(
             Err(cause) => return Err(NumberingFault::Source(cause)),
         }
     }
-    Ok(numbered)
+    Ok(numbered.shared(alloc))
 }
 
 /// No name has two numbers.

@@ -1,11 +1,9 @@
 use Rattle.std.proofs.Common.{◌≡◌, ℕ, List, [], ◌∷◌, ◌++◌, length, take, sym, ap, ◌∙◌, arith, append_assoc}
 use Rattle.std.proofs.lemmas.List.{take_all, take_more}
-use Rattle.std.proofs.lemmas.Bool.Decides.{nat_tests}
-use Rattle.std.proofs.lemmas.Result.{IfOk-weaker}
 use Rattle.byte_strings.proofs.PieceLemmas.{pieces-push, AreEnds-push}
 use Rattle.mk_graph.specs.Edges.{row}
 use Rattle.mk_graph.specs.Counted.{joined}
-use Rattle.mk_graph.proofs.JoinLemmas.{length-joined, row-joined, joined_none}
+use Rattle.mk_graph.proofs.JoinLemmas.{length-joined, row-joined}
 use Rattle.mk_graph.proofs.edges.Edges.joined.Goals as goal
 
 pub loop-node-preserved : goal.loop-node-preserved
@@ -32,12 +30,4 @@ loop-node-preserved c =
 pub returns : goal.returns
 returns c =
     let l = length-joined c.args.first.now c.args.second.now in
-    c.loop-node.invariant.rows ∙ take_all c.loop-node.node (joined c.args.first.now c.args.second.now) (omega arith)
-
-pub returns-then-is_empty : goal.returns-then-is_empty
-returns-then-is_empty c =
-    let first = c.args.first.now in
-    let numbers = c.second.inside.numbers.items in
-    let none : length numbers ≡ 0 = grind (arith, nat_tests) in
-    let same : joined first c.args.second.now ≡ first = ap (joined first) (sym c.second.view_is) ∙ joined_none first numbers 0 c.second.inside.ends.items none in
-    IfOk-weaker c.copy.result (λ e. e ≡ first) (λ e. e ≡ joined first c.args.second.now) (λ e is. is ∙ sym same) c.copy.ensures
+    c.of_packed.ensures ∙ c.loop-node.invariant.rows ∙ take_all c.loop-node.node (joined c.args.first.now c.args.second.now) (omega arith)

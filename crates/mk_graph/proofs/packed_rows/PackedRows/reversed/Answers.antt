@@ -4,7 +4,7 @@ use Rattle.std.proofs.lemmas.List.{with_items_is, length-take-le}
 use Rattle.mk_graph.specs.Edges.{times}
 use Rattle.mk_graph.specs.Users.{ends_from, AreStarts, HasRoom}
 use Rattle.mk_graph.proofs.FillLemmas.{room_of_counts, ends_still, users_still}
-use Rattle.mk_graph.proofs.edges.Edges.reversed.Goals as goal
+use Rattle.mk_graph.proofs.packed_rows.PackedRows.reversed.Goals as goal
 
 pub note_users-requires-clause-room : goal.note_users-requires-clause-room
 note_users-requires-clause-room c =

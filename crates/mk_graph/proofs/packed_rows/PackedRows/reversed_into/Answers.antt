@@ -5,7 +5,7 @@ use Rattle.mk_graph.specs.Users.{AreStarts, HasRoom}
 use Rattle.mk_graph.proofs.UserLemmas.{few_numbers}
 use Rattle.mk_graph.proofs.FillLemmas.{ends_still, users_still}
 use Rattle.mk_graph.proofs.OwnRowLemmas.{room_of_own}
-use Rattle.mk_graph.proofs.edges.Edges.reversed_into.Goals as goal
+use Rattle.mk_graph.proofs.packed_rows.PackedRows.reversed_into.Goals as goal
 
 pub note_users-requires-clause-room : goal.note_users-requires-clause-room
 note_users-requires-clause-room c =

@@ -2,7 +2,7 @@ use Rattle.std.proofs.Common.{◌≡◌, ℕ, List, length, sym, ap, ◌∙◌, 
 use Rattle.std.proofs.lemmas.Bool.Decides.{nat_tests}
 use Rattle.mk_graph.specs.Edges.{row}
 use Rattle.mk_graph.proofs.JoinLemmas.{row_blank}
-use Rattle.mk_graph.proofs.edges.Edges.is_blank.Goals as goal
+use Rattle.mk_graph.proofs.packed_rows.PackedRows.is_blank.Goals as goal
 
 pub returns : goal.returns
 returns c = λ is n.

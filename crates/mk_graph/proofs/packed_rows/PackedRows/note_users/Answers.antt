@@ -2,7 +2,7 @@ use Rattle.std.proofs.Common.{◌≡◌, ℕ, ◌+◌, ◌<◌, ◌≤◌, ◌++
 use Rattle.mk_graph.specs.Edges.{row, times}
 use Rattle.mk_graph.specs.Users.{filled, CanTake}
 use Rattle.mk_graph.proofs.FillLemmas.{filling_none, filling_room, filling_more, filled_ends, filled_users}
-use Rattle.mk_graph.proofs.edges.Edges.note_users.Goals as goal
+use Rattle.mk_graph.proofs.packed_rows.PackedRows.note_users.Goals as goal
 
 pub loop-node-init : goal.loop-node-init
 loop-node-init c = filling_none c.args.self.now (length c.args.users.now) c.args.users.now c.args.next.now c.requires.room
