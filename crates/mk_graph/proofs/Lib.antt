@@ -20,3 +20,4 @@ pub mod SpanLemmas
 pub mod NodeListLemmas
 pub mod WatchLemmas
 pub mod SeenLemmas
+pub mod EndsLemmas

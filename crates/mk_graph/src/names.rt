@@ -11,7 +11,7 @@ use crate::hashing::hash_of;
 use crate::room;
 use crate::texts::Texts;
 use byte_strings::ByteStrings;
-use name_keys::NameRef;
+use name_keys::{NameEnds, NameRef};
 use std::alloc::{AllocError, Global};
 use std::marker::Model;
 
@@ -22,17 +22,20 @@ pub struct Names {
     names: Texts,
     links: Vec<Link>,
     heads: Vec<u32>,
+    /// How the names begin and end.
+    ends: NameEnds,
 }
 
 impl Model for Names {
     ghost use Rattle.std.specs.Prelude.{ℕ, List};
+    ghost use Rattle.mk_graph.specs.Ends.{AreEndsOf};
     ghost use Rattle.mk_graph.specs.Links.{AreFoundBy};
 
     ghost Value = { List (List ℕ) };
 
     ghost view = { λ n. n.names };
 
-    ghost invariant = { λ n. AreFoundBy n.names n.links.items n.heads.items };
+    ghost invariant = { λ n. AreFoundBy n.names n.links.items n.heads.items × AreEndsOf n.ends n.names };
 }
 
 impl Names {
@@ -44,6 +47,7 @@ impl Names {
             names: Texts::empty(alloc),
             links: Vec::new(alloc),
             heads: Vec::new(alloc),
+            ends: NameEnds::none(),
         }
     }
 
@@ -55,6 +59,7 @@ impl Names {
             names: Texts::with_room(alloc, names),
             links: room::with_room(alloc, names),
             heads: buckets_for(alloc, names),
+            ends: NameEnds::none(),
         }
     }
 
@@ -122,6 +127,9 @@ impl Names {
         ensures number { IfSome result (λ n. (n < length self.now) × (name_at self.now n ≡ name.now)) }
         ensures none { is_some result ≡ has_name self.now name.now }
     {
+        if !self.ends.may_have(name) {
+            return None;
+        }
         self.find(name, hash_of(name))
     }
 
@@ -149,6 +157,7 @@ impl Names {
         let number = self.links.len() as u32;
         let before = put_last(&mut self.heads, hash, number + 1);
         self.links.push_reserved(Link { hash, before });
+        self.ends.mark(name);
         Ok(number)
     }
 

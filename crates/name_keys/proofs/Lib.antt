@@ -1,1 +1,2 @@
+mod EndsLemmas
 mod SameLemmas

@@ -3,3 +3,4 @@ pub mod KeepableLemmas
 pub mod KeptLemmas
 pub mod RankLemmas
 pub mod Listed
+pub mod EndsLemmas

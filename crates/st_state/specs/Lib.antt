@@ -6,3 +6,5 @@ pub mod Keepable
 pub mod Staged
 -- ranks of names, by which a listing is sorted
 pub mod Ranks
+-- how the names of a state begin and end
+pub mod Ends

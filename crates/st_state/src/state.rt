@@ -9,9 +9,9 @@ ghost use Rattle.st_state.specs.State.{SetsEntry, apply_record, known_hidden, un
 
 use crate::name_order::{with_ranks, without_ranks};
 use crate::staged::Staged;
-use crate::taking::take_in;
+use crate::taking::take_event;
 use indexmap::{Equivalent, IndexMap};
-use name_keys::{Name, NameRef};
+use name_keys::{Name, NameEnds, NameRef};
 use st_records::{HashKey, PackedEntry, PackedRecord, Phase, Record, room_after_kept};
 use st_unfinished::leave_unfinished;
 use std::alloc::{AllocError, Global};
@@ -27,16 +27,21 @@ pub(crate) type Entries = IndexMap<Name, PackedEntry, HashKey>;
 #[derive(Debug, Drop)]
 pub struct State {
     entries: Entries,
+    /// How the names begin and end.
+    ends: NameEnds,
 }
 
 impl Model for State {
     ghost use Rattle.st_state.specs.State.{StateMap, state_code, by_name};
+    ghost use Rattle.st_state.specs.Ends.{AreEndsOf};
 
     ghost Value = { StateMap };
 
     ghost coded = { state_code };
 
     ghost view = { λ a. by_name (λ k. k) a.entries.entries };
+
+    ghost invariant = { λ a. AreEndsOf a.ends (by_name (λ k. k) a.entries.entries) };
 }
 
 impl State {
@@ -57,6 +62,7 @@ impl State {
     {
         State {
             entries: IndexMap::with_hasher(alloc, key),
+            ends: NameEnds::none(),
         }
     }
 
@@ -82,12 +88,16 @@ impl State {
     }
 
     /// What the state knows of `name`, and the place to hand over with the next name. The entry at `place` is tried first,
-    /// so that names asked for in the order in which they were first seen are found without a search.
+    /// so that names asked for in the order in which they were first seen are found without a search, and of one that
+    /// begins or ends as no name of the state does none is made.
     pub fn near(&self, name: &[u8], place: usize) -> (Option<&PackedEntry>, usize)
         ensures { option_copied result.0 ≡ map.get self.now name.now }
     {
         if let Some(entry) = self.entry_at(name, place) {
             return (Some(entry), place.saturating_add(1));
+        }
+        if !self.ends.may_have(name) {
+            return (None, place);
         }
         match self.entries.get_full(NameRef { bytes: name }) {
             Some((found, _, entry)) => (Some(entry), found.saturating_add(1)),
@@ -196,19 +206,24 @@ impl State {
         // Any record takes memory for a new target alone.
         ensures memory { OnErr result (map.get self.old (target_of event) ≡ None) }
     {
-        take_in(alloc, &mut self.entries, event)
+        let (target, event) = event.into_parts();
+        self.ends.mark(target.as_slice());
+        take_event(alloc, &mut self.entries, Name::new(target), event)
     }
 
     pub(crate) fn from_entries(entries: Entries) -> State
         ensures { result ≡ by_name (λ k. k) entries.entries }
     {
-        State { entries }
+        State {
+            entries,
+            ends: NameEnds::any(),
+        }
     }
 
     fn into_entries(self) -> Entries
         ensures { by_name (λ k. k) result.entries ≡ self }
     {
-        let State { entries } = self;
+        let State { entries, .. } = self;
         entries
     }
 
@@ -218,6 +233,7 @@ impl State {
         ensures err { OnErr result (self.new ≡ self.old) }
         ensures memory { OnErr result (map.get self.old name.now ≡ None) }
     {
+        self.ends.mark(name);
         if let Some(known) = self.entries.get_mut(NameRef { bytes: name }) {
             leave_unfinished(known, phase);
             return Ok(());
@@ -230,6 +246,7 @@ impl State {
         ensures err { OnErr result (self.new ≡ self.old) }
         ensures memory { OnErr result (map.get self.old name.now ≡ None) }
     {
+        self.ends.mark(name);
         if let Some(known) = self.entries.get_mut(NameRef { bytes: name }) {
             *known = entry;
             return Ok(());
@@ -241,6 +258,7 @@ impl State {
         ensures ok { OnOk result (self.new ≡ map.insert self.old name.now entry) }
         ensures err { OnErr result (self.new ≡ self.old) }
     {
+        self.ends.mark(name);
         self.entries.insert(Name::from_slice(alloc, name)?, entry)?;
         Ok(())
     }

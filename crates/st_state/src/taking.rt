@@ -29,7 +29,8 @@ pub(crate) fn take_in(
     take_event(alloc, entries, Name::new(target), event)
 }
 
-fn take_event(
+/// Takes in what happened to the target of this name, as `take_in` does.
+pub(crate) fn take_event(
     alloc: Global,
     entries: &mut Entries,
     name: Name,

@@ -1,6 +1,7 @@
-use Rattle.std.proofs.Common.{inr, refl, subst}
+use Rattle.std.proofs.Common.{inr, refl, subst, ap, ◌∙◌}
 use Rattle.std.specs.FinMap as finmap
-use Rattle.mk_rules.specs.Faults.{IsRuleFault}
+use Rattle.mk_rule_lines.specs.Lines.{behind_items}
+use Rattle.mk_rules.specs.Faults.{AreInputs, IsRuleFault}
 use Rattle.dmk_drive.specs.Definitions.{first_defined}
 use Rattle.dmk_drive.proofs.planning.graph_of.Goals as goal
 
@@ -17,3 +18,14 @@ returns-in-Err-clause-fault g c =
           c.in_ok-macros.ensures
           (c.in-Err.ensures.fault times allows)),
     )
+
+-- and so are those before its items
+pub returns-in-Ok-clause-graph : goal.returns-in-Ok-clause-graph
+returns-in-Ok-clause-graph g c = λ times allows.
+    let built = c.in-Ok.ensures.graph times allows in
+    record {
+      inputs = built.0;
+      are_inputs = subst (λ given. AreInputs given c.args.items.items times (finmap.get c.args.state) built.0) c.in_ok-macros.ensures built.1;
+      is_graph = built.2;
+      macros = c.in-Ok.ensures.macros ∙ ap (λ given. behind_items given c.args.items.items) c.in_ok-macros.ensures;
+    }

@@ -3,7 +3,8 @@ use Rattle.std.specs.Cmp.Lexicographic.{nat_list_cmp_total}
 use Rattle.std.specs.FinMap.{same_map}
 use Rattle.std.specs.FinMap as finmap
 use Rattle.mk_macros.specs.Ranks.{Defined, defined_by}
-use Rattle.mk_rules.specs.Faults.{IsRuleFault}
+use Rattle.mk_rule_lines.specs.Lines.{behind_items}
+use Rattle.mk_rules.specs.Faults.{AreInputs, IsRuleFault}
 use Rattle.mk_rules.specs.Limit.{node_limit}
 use Rattle.st_state.proofs.StateLemmas.{by_bytes-exact}
 use Rattle.dmk_run.proofs.planning.graph_of.Goals as goal
@@ -28,3 +29,14 @@ returns-in-Err-clause-fault g c =
           (subst (λ (limit : ℕ). IsRuleFault (defined_by c.in_ok-macros.macros) items times (finmap.get c.args.state) refuses c.args.targets limit fault) c.node_limit-limit.ensures
           (c.in-Err.ensures.fault times may)),
     )
+
+-- and so are those before its items
+pub returns-in-Ok-clause-graph : goal.returns-in-Ok-clause-graph
+returns-in-Ok-clause-graph g c = λ times allows.
+    let built = c.in-Ok.ensures.graph times allows in
+    record {
+      inputs = built.0;
+      are_inputs = subst (λ given. AreInputs given c.args.items.items times (finmap.get c.args.state) built.0) c.in_ok-macros.ensures built.1;
+      is_graph = built.2;
+      macros = c.in-Ok.ensures.macros ∙ ap (λ given. behind_items given c.args.items.items) c.in_ok-macros.ensures;
+    }

@@ -16,6 +16,12 @@ returns-clause-chosen c =
     (was_read _ _ _ _ c.in_ok-a_extent.ensures.void c.in_ok-a_extent.ensures.held)
     (was_read _ _ _ _ c.in_ok-b_extent.ensures.void c.in_ok-b_extent.ensures.held)
 
+pub returns-clause-void : goal.returns-clause-void
+returns-clause-void c =
+    c.newer.ensures.void c.args.a.now c.args.b.now
+    (was_read _ _ _ _ c.in_ok-a_extent.ensures.void c.in_ok-a_extent.ensures.held)
+    (was_read _ _ _ _ c.in_ok-b_extent.ensures.void c.in_ok-b_extent.ensures.held)
+
 pub returns-clause-refused : goal.returns-clause-refused
 returns-clause-refused c =
     IfErr-weaker c.newer.result _ _ (λ fault refused. inr refused)

@@ -8,7 +8,7 @@ pub loop-place-init : goal.loop-place-init
 loop-place-init c =
     let links = c.self.inside.links.items in
     let heads = c.self.inside.heads.items in
-    let found : AreFoundBy c.args.self.now links heads = subst (λ names. AreFoundBy names links heads) c.self.view_is c.self.invariant in
+    let found : AreFoundBy c.args.self.now links heads = subst (λ names. AreFoundBy names links heads) c.self.view_is c.self.invariant.0 in
     seeks_start c.args.self.now (hashes_of links) (befores_of links) heads c.args.name.now c.args.hash c.len.result c.bucket_of.result c.index-place.result.now
     found.hashed found.chained c.requires (omega arith) c.bucket_of.ensures.within c.bucket_of.ensures.value c.index-place.ensures
 
@@ -16,7 +16,7 @@ pub loop-place-preserved : goal.loop-place-preserved
 loop-place-preserved c =
     let links = c.self.inside.links.items in
     let heads = c.self.inside.heads.items in
-    let found : AreFoundBy c.args.self.now links heads = subst (λ names. AreFoundBy names links heads) c.self.view_is c.self.invariant in
+    let found : AreFoundBy c.args.self.now links heads = subst (λ names. AreFoundBy names links heads) c.self.view_is c.self.invariant.0 in
     seeks_link c.args.self.now links heads c.args.name.now c.loop-place.place c.index.result.now
     found c.loop-place.invariant c.loop-place-test.true (sym c.is_at.ensures ∙ c.if-is_at.false) c.index.ensures
 

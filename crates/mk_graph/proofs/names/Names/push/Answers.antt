@@ -2,6 +2,7 @@ use Rattle.std.proofs.Common.{◌≡◌, ℕ, ◌+◌, List, [], ◌∷◌, ◌+
 use Rattle.std.proofs.lemmas.List.{with_items_is}
 use Rattle.mk_graph.specs.Chains.{bucket}
 use Rattle.mk_graph.specs.declared.chains.Link.{Link}
+use Rattle.mk_graph.proofs.EndsLemmas.{ends_push}
 use Rattle.mk_graph.proofs.LinkLemmas.{linked_push}
 use Rattle.mk_graph.proofs.names.Names.push.Goals as goal
 
@@ -16,7 +17,9 @@ invariant_of-self-2 c =
     let longer : c.push_reserved.new.self.items ≡ links ++ link ∷ [] = c.push_reserved.ensures.items ∙ ap (λ (l : List Link). l ++ link ∷ []) c.make_room-2.ensures.items in
     let place : c.len-number.result ≡ length links = omega (arith, ap length c.make_room-2.ensures.items) in
     let many : length heads' ≡ length heads = ap length put ∙ length-set heads _ _ in
-    let same = with_items_is c.make_room.new.heads heads' (grind arith) in
-    linked_push c.self.inside.names links heads c.args.name.now link c.push.new.self c.push_reserved.new.self.items _
-    (c.make_room.ensures.same ∙ c.self.invariant.hashed) c.make_room.ensures.chained c.in_ok-make_room.ensures.room c.requires was c.in_ok-push.ensures.ok longer
-    (same ∙ put ∙ ap (λ k. set heads (bucket (length heads) c.args.hash) (k + 1)) place)
+    let same = with_items_is c.make_room.new.heads heads' (grind arith) in (
+      linked_push c.self.inside.names links heads c.args.name.now link c.push.new.self c.push_reserved.new.self.items _
+          (c.make_room.ensures.same ∙ c.self.invariant.0.hashed) c.make_room.ensures.chained c.in_ok-make_room.ensures.room c.requires was c.in_ok-push.ensures.ok longer
+          (same ∙ put ∙ ap (λ k. set heads (bucket (length heads) c.args.hash) (k + 1)) place),
+      ends_push c.self.inside.ends c.mark.new.self c.self.inside.names c.push.new.self c.args.name.now c.mark.ensures.kept c.mark.ensures.marked c.self.invariant.1 c.in_ok-push.ensures.ok,
+    )

@@ -4,6 +4,7 @@ use Rattle.std.specs.Str.{bytes_eq}
 use Rattle.std.specs.Map.{lookup}
 use Rattle.std.specs.FinMap as map
 use Rattle.st_state.specs.State.{by_name, known_hidden, unfinished}
+use Rattle.st_state.proofs.EndsLemmas.{ends_set}
 use Rattle.st_state.proofs.StateLemmas.{by_name-set_value, some_of, known_hidden-some, known_hidden-none, on_err, absent-by_name}
 use Rattle.st_state.proofs.state.State.set_unfinished.Goals as goal
 
@@ -34,3 +35,10 @@ returns-clause-memory c =
     let es = c.self.inside.entries.entries in
     let missing : None ≡ lookup (λ k. bytes_eq c.args.name.now k) es = ap option_copied_mut (sym c.in_default.is) ∙ c.get_mut.ensures.value in
     on_err c.add.result (subst (λ m. map.get m c.args.name.now ≡ None) c.self.view_is (absent-by_name (λ k. k) c.args.name.now es missing))
+
+pub invariant_of-self : goal.invariant_of-self
+invariant_of-self c =
+    let es = c.self.inside.entries.entries in
+    ends_set c.self.inside.ends c.mark.new.self (by_name (λ k. k) es) _ c.args.name.now c.leave_unfinished.new.known c.mark.ensures.kept c.mark.ensures.marked c.self.invariant
+    (ap (by_name (λ k. k)) (c.get_mut.follows.holds c.leave_unfinished.new.known).0
+    ∙ by_name-set_value (λ k. k) c.args.name.now _ es (some_of _ _ c.in-Some.ensures.value))
