@@ -34,18 +34,13 @@ impl Model for LineWords {
 fn is_sign(byte: u8) -> bool
     ensures { result ≡ is_sign byte }
 {
-    (byte == b'$') | (byte == b'%') | (byte == b'(') | (byte == b'+') | (byte == b'|')
+    matches!(byte, b'$' | b'%' | b'(' | b'+' | b'|')
 }
 
-/// Looks at all bytes, as most texts have no sign: without a way out many of them are looked at at once.
 pub(crate) fn any_is_sign(text: &[u8]) -> bool
     ensures { result ≡ list_any is_sign text.now }
 {
-    let mut found = false;
-    for byte in text {
-        found |= is_sign(*byte);
-    }
-    found
+    text.iter().any(|byte| is_sign(*byte))
 }
 
 fn all_are_blank(text: &[u8]) -> bool

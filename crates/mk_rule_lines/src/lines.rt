@@ -67,9 +67,8 @@ fn is_plain(text: &[u8]) -> bool
     text.len() <= MAX_EXPANSION_BYTES && !any_is_sign(text)
 }
 
-/// The words of what a text in which signs may stand expands to.
-#[inline(never)]
-fn expanded_words(alloc: Global, macros: &Macros, text: ByteString) -> Result<LineWords, MacroFault>
+/// The words of what the text of a rule line expands to.
+fn words_of(alloc: Global, macros: &Macros, text: ByteString) -> Result<LineWords, MacroFault>
     ensures words { IfOk result (λ words. AreWordsOf (defined_by macros.now) text words) }
     ensures fault { IfErr result (ExpandsToFault (rule_meanings (defined_by macros.now)) text) }
 {
@@ -80,20 +79,9 @@ fn expanded_words(alloc: Global, macros: &Macros, text: ByteString) -> Result<Li
     Ok(LineWords::new(ByteString::new(expansion)))
 }
 
-/// The words of what the text of a rule line expands to.
-#[inline(always)]
-fn words_of(alloc: Global, macros: &Macros, text: ByteString) -> Result<LineWords, MacroFault>
-    ensures words { IfOk result (λ words. AreWordsOf (defined_by macros.now) text words) }
-    ensures fault { IfErr result (ExpandsToFault (rule_meanings (defined_by macros.now)) text) }
-{
-    if is_plain(text.as_slice()) {
-        return Ok(LineWords::plain(text));
-    }
-    expanded_words(alloc, macros, text)
-}
-
-/// The words of a rule's two texts.
-fn both_words(
+/// The words of a rule's two texts, in which signs may stand.
+#[inline(never)]
+fn expanded_words(
     alloc: Global,
     macros: &Macros,
     targets: ByteString,
@@ -106,6 +94,24 @@ fn both_words(
     let targets = words_of(alloc, macros, targets)?;
     let prerequisites = words_of(alloc, macros, prerequisites)?;
     Ok((targets, prerequisites))
+}
+
+/// The words of a rule's two texts.
+#[inline(always)]
+fn both_words(
+    alloc: Global,
+    macros: &Macros,
+    targets: ByteString,
+    prerequisites: ByteString,
+) -> Result<(LineWords, LineWords), MacroFault>
+    ensures targets { IfOk result (λ both. AreWordsOf (defined_by macros.now) targets both.0) }
+    ensures prerequisites { IfOk result (λ both. AreWordsOf (defined_by macros.now) prerequisites both.1) }
+    ensures fault { IfErr result (AreTextsFault (defined_by macros.now) targets prerequisites) }
+{
+    if is_plain(targets.as_slice()) && is_plain(prerequisites.as_slice()) {
+        return Ok((LineWords::plain(targets), LineWords::plain(prerequisites)));
+    }
+    expanded_words(alloc, macros, targets, prerequisites)
 }
 
 /// The line of `.PHONY` as a rule line for the names that it lists.
