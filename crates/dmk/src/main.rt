@@ -14,6 +14,7 @@ mod host_files;
 mod job_words;
 mod lock_file;
 mod making;
+mod memory;
 mod pool_path;
 mod reasons;
 mod standard_streams;
@@ -29,6 +30,7 @@ use folder::{FolderFault, enter, tell};
 use host_files::read_input;
 use job_words::processors;
 use making::make;
+use memory::keep_blocks;
 use standard_streams::held_streams;
 use std::alloc::AllocError;
 use std::process::ExitCode;
@@ -36,6 +38,7 @@ use std::sync::Wait;
 use std::thread::Threads;
 
 fn main(rt: HostRuntime) -> ExitCode {
+    keep_blocks(rt.alloc());
     match read_words(rt, processors(&rt)) {
         Ok(Request::Make(asked)) => match run_anew(rt, asked.reads_input()) {
             Some(status) => ExitCode::from(status),
