@@ -18,12 +18,12 @@ trap 'rm -rf "$work"' EXIT
 rounds() {
     python3 -c 'import os, shutil, subprocess, sys
 words = [line.split() for line in sys.argv[2:]]
-least, most, status = [None] * len(words), [0] * len(words), [0] * len(words)
+least, most, status = [None] * len(words), ["memory not measured"] * len(words), [0] * len(words)
 nowhere = [(os.POSIX_SPAWN_OPEN, 1, "/dev/null", os.O_WRONLY, 0), (os.POSIX_SPAWN_DUP2, 1, 2)]
 for number, command in enumerate(words):
     if shutil.which("time"):
         told = subprocess.run(["time", "-q", "-f", "%M", *command], stdout=subprocess.DEVNULL, stderr=subprocess.PIPE)
-        most[number] = int(told.stderr.split()[-1])
+        most[number] = f"{int(told.stderr.split()[-1]) / 1024:.1f} MB"
 for _ in range(int(sys.argv[1])):
     for number, command in enumerate(words):
         process = os.posix_spawnp(command[0], command, os.environ, file_actions=nowhere)
@@ -33,7 +33,7 @@ for _ in range(int(sys.argv[1])):
         status[number] = os.waitstatus_to_exitcode(ended)
 for number, command in enumerate(words):
     name = " ".join([os.path.basename(command[0]), *command[1:]])
-    print(f"  {name:<14} {1000 * least[number]:.1f} ms, {most[number] / 1024:.1f} MB (status {status[number]})")' "${ROUNDS:-5}" "$@"
+    print(f"  {name:<14} {1000 * least[number]:.1f} ms, {most[number]} (status {status[number]})")' "${ROUNDS:-5}" "$@"
 }
 
 measure() {
