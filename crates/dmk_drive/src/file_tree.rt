@@ -169,8 +169,8 @@ impl<C: FileCalls + Drop> Tree for FileTree<C> {
         self.first_look(alloc, name)
     }
 
-    fn begin(&mut self, alloc: Global) -> Result<(), AllocError> {
-        self.stamps.find_listed(alloc)
+    fn begin(&mut self, alloc: Global, expected: usize) -> Result<(), AllocError> {
+        self.stamps.find_listed(alloc, expected)
     }
 
     ghost possible = { λ tree. (

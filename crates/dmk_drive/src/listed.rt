@@ -1,8 +1,12 @@
 //! Names in the order in which they came, which nobody looks for.
 ghost use Rattle.std.specs.Prelude.{◌≡◌, ◌<◌, ◌≤◌, ◌+◌, [], ◌∷◌, ◌++◌, length, OnOk, OnErr, slice_index, slice_index_or, vec_len, vec_capacity};
 
+use mk_graph::with_room;
 use std::alloc::{AllocError, Global};
 use std::marker::Model;
+
+// Room is taken for names of so many bytes.
+const USUAL_BYTES: usize = 16;
 
 /// The bytes of all names are one allocation, and their ends another.
 #[derive(Drop)]
@@ -55,6 +59,16 @@ impl Listed {
         Listed {
             bytes: Vec::new(alloc),
             ends: Vec::new(alloc),
+        }
+    }
+
+    /// No names, with room for as many, where there is memory for it.
+    pub(crate) fn with_room(alloc: Global, names: usize) -> Listed
+        ensures { result ≡ [] }
+    {
+        Listed {
+            bytes: with_room(alloc, names.saturating_mul(USUAL_BYTES)),
+            ends: with_room(alloc, names),
         }
     }
 

@@ -91,14 +91,15 @@ impl Stamps {
         }
     }
 
-    /// Makes all names be found. What is known of them stays as it is.
-    pub fn find_listed(&mut self, alloc: Global) -> Result<(), AllocError>
+    /// Makes all names be found, and takes room for so many others, where there is memory for it. What is known of names stays as it is.
+    pub fn find_listed(&mut self, alloc: Global, others: usize) -> Result<(), AllocError>
         ensures same { KnowsTheSame self.old self.new }
         ensures listed { (n : List ℕ) → has_name self.new.listed n ≡ true → has_name self.old.listed n ≡ true }
         ensures none { OnOk result (self.new.listed ≡ []) }
     {
         find_all(alloc, &mut self.found, &self.listed)?;
-        self.listed = Listed::empty(alloc);
+        self.listed = Listed::with_room(alloc, others);
+        let _ = self.told.reserve(others);
         Ok(())
     }
 

@@ -134,6 +134,13 @@ impl Edges {
         Ok(Edges::of_packed(rows))
     }
 
+    /// No nodes, with room for so many and for so many numbers in their rows, where there is memory for it.
+    pub(crate) fn with_room(alloc: Global, nodes: usize, numbers: usize) -> Edges
+        ensures { result ≡ [] }
+    {
+        Edges::of_packed(PackedRows::with_room(alloc, nodes, numbers))
+    }
+
     /// A node for each of these rows.
     pub fn of_rows(alloc: Global, rows: &[Vec<u32>]) -> Result<Edges, AllocError>
         ensures { IfOk result (λ e. e ≡ map (λ r. r.items) rows.now) }

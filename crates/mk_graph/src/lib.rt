@@ -24,6 +24,7 @@ pub use counting::{CountedOrder, counted_edges, counted_order};
 pub use cycles::{Order, order_nodes};
 pub use edges::{Edges, Parts};
 pub use names::Names;
-pub use numbering::{Dependencies, Numbered, NumberingFault, distinct_names, number};
+pub use numbering::{Dependencies, Expected, Numbered, NumberingFault, distinct_names, number};
 pub use planning::{one_plan, plan, whole_plan};
+pub use room::with_room;
 pub use waiting::add_waits;

@@ -51,12 +51,12 @@ impl Names {
         }
     }
 
-    /// No names, with room for as many, where there is memory for it.
-    pub fn with_room(alloc: Global, names: usize) -> Names
+    /// No names, with room for as many of so many bytes in all, where there is memory for it.
+    pub fn with_room(alloc: Global, names: usize, bytes: usize) -> Names
         ensures { result ≡ [] }
     {
         Names {
-            names: Texts::with_room(alloc, names),
+            names: Texts::with_room(alloc, names, bytes),
             links: room::with_room(alloc, names),
             heads: buckets_for(alloc, names),
             ends: NameEnds::none(),

@@ -13,6 +13,17 @@ use crate::room::with_room;
 use byte_strings::ByteStrings;
 use std::alloc::{AllocError, AllocFailed, Global};
 
+// Room is taken for names of so many bytes.
+const USUAL_BYTES: usize = 16;
+
+/// How much may be expected of a graph before its names are looked up. It decides nothing but how much room is taken at first.
+#[derive(Clone, Copy)]
+pub struct Expected {
+    pub names: usize,
+    /// The prerequisites of all names together.
+    pub prerequisites: usize,
+}
+
 /// What gives the prerequisites of a name. It is asked for a name once at most.
 pub trait Dependencies {
     /// Why prerequisites can't be given.
@@ -46,11 +57,11 @@ pub trait Dependencies {
     /// The numbers of the prerequisites of the name that was asked for last, in order; one may stand there more than once.
     ghost row: { Self.Notes → List ℕ };
 
-    /// How many names may be expected, of which nothing is promised.
-    fn expected(&self) -> usize;
+    /// How much may be expected, of which nothing is promised.
+    fn expected(&self) -> Expected;
 
-    /// No notes, which fit any names.
-    fn notes(&self, alloc: Global) -> Self::Notes
+    /// No notes, with room for those of so many names, where there is memory for it. They fit any names.
+    fn notes(&self, alloc: Global, expected: usize) -> Self::Notes
         ensures { (names : List (List ℕ)) → fits self.now names result };
 
     /// The row of the name that was asked for last, as it stands in the notes.
@@ -143,7 +154,7 @@ impl<N: Drop> Numbered<N> {
         alloc: Global,
         goals: &ByteStrings,
         limit: usize,
-        expected: usize,
+        expected: Expected,
     ) -> Result<Numbered<N>, NumberingFault<F>>
         ensures names { IfOk result (λ n. n.names ≡ all_added [] goals.now) }
         ensures goals { IfOk result (λ n. map (name_at n.names) n.goals.items ≡ goals.now) }
@@ -153,15 +164,17 @@ impl<N: Drop> Numbered<N> {
         ensures within { IfOk result (λ n. length n.names ≤ limit) }
         ensures fault { IfErr result (IsLimitFault limit (all_added [] goals.now)) }
     {
-        let mut names = Names::with_room(alloc, expected);
+        let nodes = with_room(alloc, expected.names);
+        let bytes = expected.names.saturating_mul(USUAL_BYTES);
+        let mut names = Names::with_room(alloc, expected.names, bytes);
         let Some(goals) = names.add_all(alloc, goals, limit)? else {
             return Err(NumberingFault::TooMany);
         };
         Ok(Numbered {
             names,
             goals,
-            rows: Edges::empty(alloc),
-            nodes: with_room(alloc, expected),
+            rows: Edges::with_room(alloc, expected.names, expected.prerequisites),
+            nodes,
         })
     }
 
@@ -201,6 +214,14 @@ impl<N: Drop> Numbered<N> {
     }
 }
 
+/// What may be expected where there are no more names than the limit.
+fn within(expected: Expected, limit: usize) -> Expected {
+    Expected {
+        names: expected.names.min(limit),
+        ..expected
+    }
+}
+
 /// Numbers the goals and all names that they lead to: the goals by first mention, then, name by name in the order of
 /// their numbers, the prerequisites that are new.
 ///
@@ -232,9 +253,9 @@ pub fn number<R: Dependencies>(
     ensures grows { (of : List ℕ → List (List ℕ)) → R.allows source.new of → R.allows source.old of }
     ensures follows { R.follows source.old (is_ok result) source.new }
 {
-    let expected = source.expected().min(limit);
+    let expected = within(source.expected(), limit);
     let mut numbered = Numbered::of_goals(alloc, goals, limit, expected)?;
-    let mut notes = source.notes(alloc);
+    let mut notes = source.notes(alloc, expected.names);
     while numbered.rows.len() < numbered.names.len() {
         let number = numbered.rows.len();
         match source.prerequisites(alloc, &mut numbered.names, &mut notes, number) {

@@ -5,7 +5,7 @@ ghost use Rattle.mk_graph.specs.Edges.{row, is_closed, AreUsers};
 ghost use Rattle.mk_graph.specs.Users.{HasRoom, HasUsers};
 ghost use Rattle.byte_strings.specs.Pieces.{pieces, AreEnds};
 
-use crate::room::{append, make_room};
+use crate::room::{append, make_room, with_room};
 use crate::users::{counted, note_user, starts_behind, starts_of};
 use std::alloc::{AllocError, Global};
 use std::marker::Model;
@@ -55,6 +55,16 @@ impl PackedRows {
         PackedRows {
             numbers: Vec::new(alloc),
             ends: Vec::new(alloc),
+        }
+    }
+
+    /// No rows, with room for so many and for so many numbers, where there is memory for it.
+    pub fn with_room(alloc: Global, rows: usize, numbers: usize) -> PackedRows
+        ensures { result ≡ [] }
+    {
+        PackedRows {
+            numbers: with_room(alloc, numbers),
+            ends: with_room(alloc, rows),
         }
     }
 

@@ -6,9 +6,6 @@ use crate::room::{make_room, with_room};
 use std::alloc::{AllocError, Global};
 use std::marker::Model;
 
-// Room is taken for strings of so many bytes.
-const USUAL_BYTES: usize = 16;
-
 /// Byte strings in their order. The bytes of all of them are one allocation, and their ends another.
 #[derive(Drop)]
 pub(crate) struct Texts {
@@ -50,12 +47,12 @@ impl Texts {
         }
     }
 
-    /// No strings, with room for as many, where there is memory for it.
-    pub(crate) fn with_room(alloc: Global, strings: usize) -> Texts
+    /// No strings, with room for as many of so many bytes in all, where there is memory for it.
+    pub(crate) fn with_room(alloc: Global, strings: usize, bytes: usize) -> Texts
         ensures { result ≡ [] }
     {
         Texts {
-            bytes: with_room(alloc, strings.saturating_mul(USUAL_BYTES)),
+            bytes: with_room(alloc, bytes),
             ends: with_room(alloc, strings),
         }
     }

@@ -6,6 +6,7 @@ use Rattle.mk_profile.specs.Profile.{is_wide}
 use Rattle.mk_profile.specs.declared.profile.Profile.{Profile}
 use Rattle.mk_reader.specs.declared.item.RecipeLine.{RecipeLine}
 use Rattle.mk_rule_lines.specs.Doubles.{double_lines}
+use Rattle.mk_rule_lines.specs.Rules.{told_file}
 use Rattle.mk_rule_lines.specs.declared.rule_line.RuleLine.{RuleLine}
 use Rattle.mk_rules.specs.declared.graph.Graph.{Graph}
 use Rattle.mk_plan.specs.Nodes.{node_at}
@@ -33,7 +34,7 @@ recipe_of graph n = option_map (parts_of (language_of graph) graph.lines.items (
 
 -- the file that holds the first of these lines, as it is told
 abbrev pub file_of : Graph → (n : ℕ) → Option (List ℕ)
-file_of graph n = option_and_then (λ l. l.file) (recipe_line graph n)
+file_of graph n = option_and_then (λ l. told_file l.profile l.file) (recipe_line graph n)
 
 -- the lines of its recipe
 abbrev pub first_lines : Graph → (n : ℕ) → Option (List RecipeLine)

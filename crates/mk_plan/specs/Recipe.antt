@@ -10,6 +10,7 @@ use Rattle.mk_macros.specs.declared.fault.MacroFault.TheVariants.{OutOfMemory}
 use Rattle.mk_reader.specs.declared.item.RecipeLine.{RecipeLine}
 use Rattle.mk_rule_lines.specs.declared.fault.TextFault.{TextFault}
 use Rattle.mk_rule_lines.specs.declared.fault.TextPlace.{TextPlace}
+use Rattle.mk_rule_lines.specs.Rules.{told_file}
 use Rattle.mk_rule_lines.specs.declared.rule_line.RuleLine.{RuleLine}
 use Rattle.mk_recipe.specs.Line.{IsLine}
 use Rattle.mk_recipe.specs.declared.line.Line.{Line}
@@ -105,7 +106,7 @@ AreLinesOf graph marks n (l ∷ parts) lines =
 
 -- the fault is that of the first faulty line of that part
 abbrev pub IsFaultOfLine : Graph → (marks : List Bool) → (n : ℕ) → RuleLine → TextFault → Type 0
-IsFaultOfLine graph marks n l f = (names : RecipeNames) × AreNames graph marks n l names × HasFirstFault (recipe_meaning graph names) l.file l.recipe f
+IsFaultOfLine graph marks n l f = (names : RecipeNames) × AreNames graph marks n l names × HasFirstFault (recipe_meaning graph names) (told_file l.profile l.file) l.recipe f
 
 abbrev pub IsFaultOfPart : Graph → (marks : List Bool) → (n : ℕ) → RuleLine → RecipeFault → Type 0
 IsFaultOfPart graph marks n l fault.OutOfMemory = Unit {0}

@@ -70,10 +70,7 @@ pub fn parts_of<'g>(
 fn file_of(graph: &Graph, node: usize) -> Option<&[u8]>
     ensures { option_map (λ file. file.now) result ≡ file_of graph.now node }
 {
-    match &recipe_line(graph, node)?.file {
-        Some(file) => Some(file.as_slice()),
-        None => None,
-    }
+    recipe_line(graph, node)?.told_file()
 }
 
 /// Where a line stands, as it is told.

@@ -134,11 +134,13 @@ fn lines_with(
     ensures fault { IfErr result (IsFaultOfPart graph.now marks.now node line.now) }
 {
     let dynamic = Dynamic::RecipeLine(names_for(graph, marks, node, line, words));
-    let file = match &line.file {
-        Some(file) => Some(file.as_slice()),
-        None => None,
-    };
-    expanded_lines(alloc, &graph.macros, &dynamic, file, line.recipe.lines())
+    expanded_lines(
+        alloc,
+        &graph.macros,
+        &dynamic,
+        line.told_file(),
+        line.recipe.lines(),
+    )
 }
 
 /// The lines of the recipe of a line with `::`.

@@ -18,7 +18,7 @@ use Rattle.mk_reader.specs.declared.special.SpecialName.TheVariants.{Phony}
 use Rattle.mk_rule_lines.specs.Rules.{is_phony_list}
 use Rattle.mk_rule_lines.specs.declared.rule_line.RuleLine.{RuleLine}
 use Rattle.mk_macros.specs.Ranks.{Defined, rule_meanings}
-use Rattle.mk_rule_lines.specs.Lines.{AreWordsOf, IsRuleLine, AreRuleLines, no_items, behind_definition, a_rule, a_special, behind, behind_items, AreTextsFault, IsRuleLineFault, IsLinesFault, IsToldAt, told_place, told_file}
+use Rattle.mk_rule_lines.specs.Lines.{AreWordsOf, IsRuleLine, AreRuleLines, no_items, behind_definition, a_rule, a_special, behind, behind_items, AreTextsFault, IsRuleLineFault, IsLinesFault, IsToldAt, told_place}
 
 -- a fault of a rule's targets, or of its prerequisites, is one of its texts
 pub targets_fault : (given : Defined) (targets prerequisites : List ℕ) (f : MacroFault) → ExpandsToFault (rule_meanings given) targets f → AreTextsFault given targets prerequisites f
@@ -80,14 +80,14 @@ no_words = refl
 
 -- a line of `.PHONY` is a rule line for the names that it lists, and any other line has its own texts
 pub phony_line_is : (given : Defined) (special : Option SpecialName) (rule : Rule) (l : RuleLine) → is_phony_list special ≡ true →
-    l.file ≡ told_file given.language rule.file → l.line ≡ rule.line → l.profile ≡ given.language →
+    l.file ≡ rule.file → l.line ≡ rule.line → l.profile ≡ given.language →
     l.special ≡ Some Phony → AreWordsOf given rule.prerequisites l.targets → l.prerequisites ≡ [] → l.recipe ≡ [] → l.is_double ≡ false → IsRuleLine given special rule l
 phony_line_is given None rule l is_list f n o s t p r d = absurd cc
 phony_line_is given (Some Phony) rule l is_list f n o s t p r d = record { file = f; number = n; profile = o; name = s; targets = t; prerequisites = p; recipe = r; double = d }
 phony_line_is given (Some other) rule l is_list f n o s t p r d = absurd cc
 
 pub other_line_is : (given : Defined) (special : Option SpecialName) (rule : Rule) (l : RuleLine) → is_phony_list special ≡ false →
-    l.file ≡ told_file given.language rule.file → l.line ≡ rule.line → l.profile ≡ given.language →
+    l.file ≡ rule.file → l.line ≡ rule.line → l.profile ≡ given.language →
     l.special ≡ special → AreWordsOf given rule.targets l.targets → AreWordsOf given rule.prerequisites l.prerequisites → l.recipe ≡ rule.recipe →
     l.is_double ≡ (is_none special && rule.is_double) → IsRuleLine given special rule l
 other_line_is given None rule l no_phony f n o s t p r d = record { file = f; number = n; profile = o; name = s; targets = t; prerequisites = p; recipe = r; double = d }

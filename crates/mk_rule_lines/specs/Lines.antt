@@ -53,14 +53,10 @@ abbrev pub recipe_in : Option SpecialName → Rule → List RecipeLine
 recipe_in (Some Phony) rule = []
 recipe_in _ rule = rule.recipe
 
--- the file of a line as it is told: in the wide profile (own)
-abbrev pub told_file : Profile → (file : List ℕ) → Option (List ℕ)
-told_file profile file = if is_wide profile then Some file else None
-
 -- the line is that of a rule, which may be a special one. A line of `.PHONY` is a rule line for the names that it lists, without
 -- prerequisites and recipe. A special rule means the same with `::`
 pub record IsRuleLine (given : Defined) (special : Option SpecialName) (rule : Rule) (l : RuleLine) : Type 0 where
-  pub file : l.file ≡ told_file given.language rule.file
+  pub file : l.file ≡ rule.file
   pub number : l.line ≡ rule.line
   pub profile : l.profile ≡ given.language
   pub name : l.special ≡ special

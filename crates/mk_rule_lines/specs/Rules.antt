@@ -1,8 +1,10 @@
 -- What the rule lines of a makefile say of a name. A line stands here with its texts expanded and cut into words.
-use Rattle.std.specs.Prelude.{ℕ, ◌+◌, Bool, true, false, not, ◌&&◌, ◌||◌, ◌==◌, List, [], ◌∷◌, ◌++◌, filter, Option, Some, is_none, bytes_eq, if◌then◌else◌}
+use Rattle.std.specs.Prelude.{ℕ, ◌+◌, Bool, true, false, not, ◌&&◌, ◌||◌, ◌==◌, List, [], ◌∷◌, ◌++◌, filter, Option, None, Some, is_none, bytes_eq, if◌then◌else◌}
 use Rattle.std.specs.List.{list_any}
 use Rattle.std.specs.Option.{option_map_or}
 use Rattle.mk_macros.specs.Words.{without_front}
+use Rattle.mk_profile.specs.Profile.{is_wide}
+use Rattle.mk_profile.specs.declared.profile.Profile.{Profile}
 use Rattle.mk_reader.specs.Text.{is_empty}
 use Rattle.mk_reader.specs.declared.special.SpecialName.{SpecialName}
 use Rattle.mk_reader.specs.declared.special.SpecialName.TheVariants.{Suffixes, Phony, Default}
@@ -18,6 +20,10 @@ is_percent b = b == 37
 
 abbrev pub has_percent : (name : List ℕ) → Bool
 has_percent name = list_any is_percent name
+
+-- the file of a line as it is told: in the wide profile (own)
+abbrev pub told_file : Profile → (file : List ℕ) → Option (List ℕ)
+told_file profile file = if is_wide profile then Some file else None
 
 -- a line that is no special rule
 abbrev pub is_rule : RuleLine → Bool

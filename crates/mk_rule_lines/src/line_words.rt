@@ -69,11 +69,16 @@ impl LineWords {
         }
     }
 
+    /// How many bytes the text has.
+    pub(crate) fn text_len(&self) -> usize {
+        self.text.as_slice().len()
+    }
+
     /// No strings, with room for about as many as these words: about four bytes a word.
     pub(crate) fn room(&self, alloc: Global) -> Result<ByteStrings, AllocError>
         ensures { IfOk result (λ strings. strings ≡ []) }
     {
-        let bytes = self.text.as_slice().len();
+        let bytes = self.text_len();
         ByteStrings::with_capacity(alloc, bytes / 4, bytes)
     }
 

@@ -3,7 +3,7 @@ ghost use Rattle.std.specs.Prelude.{◌≡◌, ℕ, List, [], None, Some, false,
 ghost use Rattle.std.specs.List.{list_any};
 ghost use Rattle.mk_reader.specs.declared.special.SpecialName.TheVariants.{Phony};
 ghost use Rattle.mk_macros.specs.Ranks.{defined_by, rule_meanings};
-ghost use Rattle.mk_rule_lines.specs.Lines.{behind, behind_items, AreWordsOf, IsRuleLine, AreRuleLines, AreTextsFault, IsRuleLineFault, IsLinesFault, IsToldAt, told_place, told_file};
+ghost use Rattle.mk_rule_lines.specs.Lines.{behind, behind_items, AreWordsOf, IsRuleLine, AreRuleLines, AreTextsFault, IsRuleLineFault, IsLinesFault, IsToldAt, told_place};
 ghost use Rattle.mk_macros.specs.Expansion.{Meanings, ExpandsTo, ExpandsToFault, gives};
 ghost use Rattle.mk_rule_lines.specs.Signs.{is_sign};
 
@@ -31,13 +31,6 @@ fn told_place(
     }
     let file = ByteString::from_slice(alloc, file.as_slice())?;
     Ok(Some(TextPlace { file, line }))
-}
-
-/// The file of a line as it is told in this language.
-fn told_file(profile: Profile, file: FileName) -> Option<FileName>
-    ensures { result ≡ told_file profile file }
-{
-    if profile.is_wide() { Some(file) } else { None }
 }
 
 /// The fault of a rule's texts, told of this place.
@@ -117,7 +110,7 @@ fn both_words(
 /// The line of `.PHONY` as a rule line for the names that it lists.
 fn phony_line(
     alloc: Global,
-    file: Option<FileName>,
+    file: FileName,
     line: u32,
     profile: Profile,
     names: LineWords,
@@ -173,7 +166,6 @@ fn rule_line(
         return Err(RuleFault::OutOfMemory);
     };
     let profile = macros.profile();
-    let file = told_file(profile, file);
     if is_phony_list(special) {
         return Ok(phony_line(alloc, file, line, profile, prerequisites));
     }

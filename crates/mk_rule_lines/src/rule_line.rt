@@ -1,7 +1,8 @@
 //! One rule line of a makefile, with its texts expanded and cut into words.
-ghost use Rattle.std.specs.Prelude.{◌≡◌, ◌&&◌, ◌||◌, not, IfOk};
+ghost use Rattle.std.specs.Prelude.{◌≡◌, ◌&&◌, ◌||◌, not, option_copied, IfOk};
 ghost use Rattle.std.specs.List.{list_any};
 ghost use Rattle.mk_reader.specs.Text.{is_empty};
+ghost use Rattle.mk_rule_lines.specs.Rules.{told_file};
 ghost use Rattle.mk_rule_lines.specs.Rules.{has, has_percent, is_rule, is_pattern_rule, is_phony_list, is_default_rule, makes_targets, is_suffix_list, joins, is_suffix_name, lacks_single, is_double_recipe, is_always, may_be_suffix_rule, is_suffix_target, comes_out, targets_by};
 
 use crate::line_words::LineWords;
@@ -13,8 +14,8 @@ use std::alloc::{AllocError, Global};
 /// A rule line, or the line of a special rule. That of `.PHONY` has the names that it lists as its targets.
 #[derive(Drop)]
 pub struct RuleLine {
-    /// The file that holds it, in the wide profile: in the strict one no place of its recipe is told.
-    pub file: Option<FileName>,
+    /// The file that holds it.
+    pub file: FileName,
     /// The number of the line, from 1, in the file that holds it.
     pub line: u32,
     /// The language that it is read in.
@@ -94,6 +95,17 @@ fn comes_out(wanted: bool, answer: bool) -> bool
 }
 
 impl RuleLine {
+    /// The file that holds it, as it is told: in the strict profile no place of its recipe is.
+    pub fn told_file(&self) -> Option<&[u8]>
+        ensures { option_copied result ≡ told_file self.now.profile self.now.file }
+    {
+        if self.profile.is_wide() {
+            Some(self.file.as_slice())
+        } else {
+            None
+        }
+    }
+
     /// Whether it is no special rule.
     pub fn is_rule(&self) -> bool
         ensures { result ≡ is_rule self.now }

@@ -59,6 +59,15 @@ fn is_last(number: usize, numbers: &[usize]) -> bool
     }
 }
 
+/// How many bytes stand before the colons of these lines.
+fn target_bytes(lines: &[RuleLine]) -> usize {
+    let mut bytes: usize = 0;
+    for line in lines {
+        bytes = bytes.saturating_add(line.targets.text_len());
+    }
+    bytes
+}
+
 impl ManyLines {
     /// Takes in that a line names the target.
     fn add(&mut self, line: usize, has_recipe: bool) -> Result<(), AllocError>
@@ -157,10 +166,10 @@ impl TargetTable {
     ) -> Result<TargetTable, AllocError>
         ensures { IfOk result (λ table. (name : List ℕ) → named_at table name ≡ nothing_named) }
     {
-        let room = if suffix_rules { 0 } else { lines.len() };
+        let lines = if suffix_rules { &[] } else { lines };
         Ok(TargetTable {
-            names: Names::with_room(alloc, room),
-            targets: Vec::with_capacity(alloc, room)?,
+            names: Names::with_room(alloc, lines.len(), target_bytes(lines)),
+            targets: Vec::with_capacity(alloc, lines.len())?,
         })
     }
 

@@ -26,7 +26,7 @@ ghost use Rattle.st_state.specs.State.{StateMap};
 ghost use Rattle.mk_rules.specs.Faults.{AreInputs, IsGraphFault, IsRuleFault};
 
 use crate::chain::steps_of;
-use crate::finder::Finder;
+use crate::finder::{Finder, expected};
 use crate::graph::{Graph, Node};
 use crate::left_over::default_of;
 use crate::links::links_of;
@@ -98,7 +98,7 @@ fn numbered_names<T: Tree>(
     ensures narrows { (times : List ℕ → Option ℤ) → T.allows tree.new times → T.allows tree.old times }
     ensures asked { AskedOnce (T.asked tree.old) (λ _. true) (T.asked tree.new) }
 {
-    tree.begin(alloc)?;
+    tree.begin(alloc, expected(&rules).names.min(limit))?;
     let mut finder = Finder { rules, tree };
     found_names(alloc, &mut finder, goals, limit)
 }

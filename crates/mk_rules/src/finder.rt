@@ -28,11 +28,14 @@ use crate::recorded::{add_recorded, entry_of};
 use crate::rules::Rules;
 use crate::seen::seen_of;
 use crate::tree::Tree;
-use mk_graph::{Dependencies, Names};
+use mk_graph::{Dependencies, Expected, Names};
 use mk_rule_lines::RuleFault;
 use st_records::PackedEntry;
 use std::alloc::{AllocError, Global};
 use std::boxed::Box;
+
+/// Room is taken for so many prerequisites of each target, the hidden ones among them. What isn't needed of it is never written.
+const USUAL_PREREQUISITES: usize = 24;
 
 #[inline(never)]
 fn rare_of(given: Box<Given>) -> RareParts
@@ -230,6 +233,15 @@ fn look_up<T: Tree>(
     numbered(alloc, rules, tree, names, notes, seen, entry)
 }
 
+/// How much may be expected of these rules: each target has a source or so, and each other one a header.
+pub(crate) fn expected(rules: &Rules) -> Expected {
+    let targets = rules.lines.len();
+    Expected {
+        names: targets.saturating_mul(2).saturating_add(targets / 2),
+        prerequisites: targets.saturating_mul(USUAL_PREREQUISITES),
+    }
+}
+
 /// Looks names up in the rules, the state and a tree.
 #[derive(Drop)]
 pub(crate) struct Finder<'m, 't, T: Tree> {
@@ -268,14 +280,12 @@ impl<'m, 't, T: Tree> Dependencies for Finder<'m, 't, T> {
 
     ghost row = { λ notes. notes.row };
 
-    // Each target has a source or so, and each other one a header.
-    fn expected(&self) -> usize {
-        let targets = self.rules.lines.len();
-        targets.saturating_mul(2).saturating_add(targets / 2)
+    fn expected(&self) -> Expected {
+        expected(&self.rules)
     }
 
-    fn notes(&self, alloc: Global) -> NodeNotes {
-        NodeNotes::new(alloc)
+    fn notes(&self, alloc: Global, expected: usize) -> NodeNotes {
+        NodeNotes::with_room(alloc, expected)
     }
 
     fn row_in<'n>(&self, notes: &'n NodeNotes) -> &'n [u32] {

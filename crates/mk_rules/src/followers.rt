@@ -3,7 +3,7 @@ ghost use Rattle.std.specs.Prelude.{◌≡◌, ◌<◌, length, IfOk, IfSome};
 ghost use Rattle.std.specs.Str.{bytes_eq};
 ghost use Rattle.mk_graph.specs.Numbering.{name_at, added};
 
-use mk_graph::Names;
+use mk_graph::{Names, with_room};
 use name_keys::NameRef;
 use std::alloc::{AllocError, Global};
 
@@ -24,10 +24,10 @@ pub(crate) struct Followers {
 }
 
 impl Followers {
-    /// No guesses, which takes no memory.
-    pub fn new(alloc: Global) -> Followers {
+    /// No guesses, with room for those of so many names, where there is memory for it.
+    pub fn with_room(alloc: Global, names: usize) -> Followers {
         Followers {
-            next: Vec::new(alloc),
+            next: with_room(alloc, names),
             before: None,
         }
     }

@@ -6,7 +6,7 @@ ghost use Rattle.mk_rules.specs.NodeNotes.{is_marked, AreKnownNodes};
 use crate::distinct_numbers::DistinctNumbers;
 use crate::followers::Followers;
 use crate::marks::{is_marked, make_room};
-use mk_graph::Names;
+use mk_graph::{Names, with_room};
 use std::alloc::{AllocError, Global};
 use std::mem;
 
@@ -25,14 +25,14 @@ pub(crate) struct NodeNotes {
 }
 
 impl NodeNotes {
-    /// No notes, which takes no memory.
-    pub fn new(alloc: Global) -> NodeNotes
+    /// No notes, with room for those of so many names, where there is memory for it.
+    pub fn with_room(alloc: Global, names: usize) -> NodeNotes
         ensures { result.marks.items ≡ [] }
     {
         NodeNotes {
-            marks: Vec::new(alloc),
+            marks: with_room(alloc, names),
             row: DistinctNumbers::new(alloc),
-            followers: Followers::new(alloc),
+            followers: Followers::with_room(alloc, names),
             target: 0,
             place: 0,
         }

@@ -54,8 +54,9 @@ pub trait Tree {
         ensures once { LooksOnce (asked self.old) (asked self.new) }
         ensures firsts { (n : List ℕ) → firsts self.new n → (firsts self.old n) ⊎ (n ≡ name.now) };
 
-    /// Begins looks anew: each name may be asked for first once more. What was answered so far holds on.
-    fn begin(&mut self, alloc: Global) -> Result<(), AllocError>
+    /// Begins looks anew: each name may be asked for first once more. What was answered so far holds on. So many names may be
+    /// expected, of which nothing is promised.
+    fn begin(&mut self, alloc: Global, expected: usize) -> Result<(), AllocError>
         ensures none { OnOk result ((n : List ℕ) → ¬ (firsts self.new n)) }
         ensures grows { (times : List ℕ → Option ℤ) → allows self.new times → allows self.old times }
         ensures kept { (n : List ℕ) → refuses self.old n → refuses self.new n }

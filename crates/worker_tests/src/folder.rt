@@ -59,7 +59,7 @@ impl Tree for Folder {
         self.stamp(alloc, name)
     }
 
-    fn begin(&mut self, _alloc: Global) -> Result<(), AllocError> {
+    fn begin(&mut self, _alloc: Global, _expected: usize) -> Result<(), AllocError> {
         Ok(())
     }
 
