@@ -73,12 +73,12 @@ pub(crate) fn write_state(
     state: &State,
     out: &mut String,
 ) -> Result<(), AllocError> {
-    let entries = state.in_byte_order(alloc)?;
-    for place in 0..entries.len() {
+    let named = state.in_byte_order(alloc)?;
+    for place in 0..named.len() {
         if place > 0 {
             out.push_str(", ")?;
         }
-        let (name, entry) = entries[place];
+        let (name, entry) = named.at(place);
         write_entry(alloc, name, entry.phase(), out)?;
     }
     Ok(())

@@ -1,34 +1,34 @@
 -- The text of names with their entries.
-use Rattle.std.proofs.Common.{◌≡◌, ℕ, ◌<◌, ◌≤◌, ◌^◌, List, [], ◌∷◌, ◌++◌, length, refl, sym, ap, ◌∙◌, arith, append_assoc}
-use Rattle.std.proofs.Common.{map as list_map}
-use Rattle.std.specs.Borrow.{Bor}
-use Rattle.std.specs.FinMap as map
+use Rattle.std.proofs.Common.{◌≡◌, ℕ, suc, ◌+◌, ◌<◌, ◌≤◌, ◌^◌, List, [], ◌∷◌, ◌++◌, length, drop, drop-cons, slice_get, Some, refl, sym, ap, ◌∙◌, arith, append_assoc}
+use Rattle.std.proofs.lemmas.Option.{get_or_from_slice_get, slice_get_within}
 use Rattle.st_records.specs.declared.version.Version.TheVariants as versions
 use Rattle.st_records.specs.declared.record.Entry.{Entry}
 use Rattle.st_records.specs.declared.record.Record.{Record}
 use Rattle.st_records.specs.Encoding.{number}
-use Rattle.st_state.specs.State.{StateMap}
-use Rattle.st_state.specs.Keepable.{kept_record, kept_records}
 use Rattle.st_file.specs.Batch.{body, framed}
 use Rattle.st_file.specs.Grown.{IsFull}
 use Rattle.st_file.specs.declared.layout.TheConstants.{HEADER_BYTES}
 use Rattle.st_file.proofs.FrameLemmas.{length-body}
 use Rattle.st_file.proofs.CommitLemmas.{not_full}
 use Rattle.st_compaction.specs.Compacted.{one_batch}
-use Rattle.st_compaction.specs.Named.{entry_behind, records_of_names}
+use Rattle.st_compaction.specs.Named.{records_of_names}
 
 -- one record a name
-pub length-records_of_names : (named : List (Bor (List ℕ) × Bor Entry)) → length (records_of_names named) ≡ length named
+pub length-records_of_names : (named : List (List ℕ × Entry)) → length (records_of_names named) ≡ length named
 length-records_of_names [] = refl
 length-records_of_names (one ∷ named) = omega (arith, length-records_of_names named)
 
 -- no more names than bytes
-pub few_names : (named : List (Bor (List ℕ) × Bor Entry)) → length named ≤ length (body versions.Two (records_of_names named))
+pub few_names : (named : List (List ℕ × Entry)) → length named ≤ length (body versions.Two (records_of_names named))
 few_names named = omega (arith, length-records_of_names named, length-body versions.Two (records_of_names named))
 
--- the names of a state, with their entries, as its kept records
-pub state_of_names : (named : List (Bor (List ℕ) × Bor Entry)) (m : StateMap) → list_map entry_behind named ≡ map.entries m → records_of_names named ≡ kept_records m
-state_of_names named m all = ap (list_map kept_record) all
+-- what is left of the names begins with the one at this place
+pub rest_from : (named : List (List ℕ × Entry)) (place : ℕ) (e : List ℕ × Entry) → slice_get named place ≡ Some e → drop place named ≡ e ∷ drop (place + 1) named
+rest_from named place e found =
+    let next : suc place ≡ place + 1 = omega arith in
+    drop-cons named place e (slice_get_within named place e found)
+    ∙ ap (λ x. x ∷ drop (suc place) named) (get_or_from_slice_get named place e e found)
+    ∙ ap (λ n. e ∷ drop n named) next
 
 pub no_batch : (rs : List Record) → length rs ≡ 0 → one_batch rs ≡ []
 no_batch [] none = refl

@@ -13,8 +13,8 @@ ghost use Rattle.st_compaction.specs.Compacted.{one_batch, compacted_bytes};
 ghost use Rattle.st_compaction.specs.Named.{records_of_names};
 
 use st_file::{CommitFault, HEADER_BYTES, MAX_BODY_BYTES, new_header};
-use st_records::{PackedEntry, append_kept};
-use st_state::State;
+use st_records::append_kept;
+use st_state::{Listed, State};
 use std::alloc::{AllocError, Global};
 
 /// The bytes of a batch beside its body: the gate and two lengths.
@@ -63,7 +63,7 @@ fn text_of(
     let named = state.in_byte_order(alloc)?;
     let text = Vec::with_capacity(alloc, HEADER_BYTES + BATCH_BYTES + body_length)?;
     let text = with_header(text, generation)?;
-    let mut text = with_batch(text, named.as_slice(), body_length)?;
+    let mut text = with_batch(text, &named, body_length)?;
     text.push(0)?;
     Ok(text)
 }
@@ -79,17 +79,13 @@ fn with_header(text: Vec<u8>, generation: u64) -> Result<Vec<u8>, AllocError>
 }
 
 /// The text with one batch behind it: an open gate and a kept record for each name. Without names it stays as it is.
-fn with_batch(
-    text: Vec<u8>,
-    named: &[(&[u8], &PackedEntry)],
-    body_length: usize,
-) -> Result<Vec<u8>, AllocError>
+fn with_batch(text: Vec<u8>, named: &Listed<'_>, body_length: usize) -> Result<Vec<u8>, AllocError>
     requires good { AllByRecursion (IsGood versions.Two) (records_of_names named.now) }
     requires whole { body_length ≡ length (body versions.Two (records_of_names named.now)) }
     requires short { body_length ≤ 2 ^ 30 }
     ensures { IfOk result (λ longer. longer.items ≡ text.items ++ one_batch (records_of_names named.now)) }
 {
-    if named.is_empty() {
+    if named.len() == 0 {
         return Ok(text);
     }
     let mut text = text;
@@ -101,13 +97,14 @@ fn with_batch(
 }
 
 /// The text with a kept record for each name behind it.
-fn with_records(text: Vec<u8>, named: &[(&[u8], &PackedEntry)]) -> Result<Vec<u8>, AllocError>
+fn with_records(text: Vec<u8>, named: &Listed<'_>) -> Result<Vec<u8>, AllocError>
     requires { AllByRecursion (IsGood versions.Two) (records_of_names named.now) }
     ensures { IfOk result (λ longer. longer.items ≡ text.items ++ body versions.Two (records_of_names named.now)) }
 {
     let mut text = text;
-    for one in named {
-        append_kept(&mut text, one.0, one.1)?;
+    for place in 0..named.len() {
+        let (name, entry) = named.at(place);
+        append_kept(&mut text, name, entry)?;
     }
     Ok(text)
 }

@@ -1,6 +1,8 @@
 -- What follows of `recover`'s answer, whose clauses leave one case open: that memory ran out.
-use Rattle.std.proofs.Common.{◌≡◌, ◌∙◌, ◌⊎◌, Option, inl, inr, ℕ, List, [], ◌∷◌, ◌++◌, ◌-◌, length, take, drop, append_assoc, Result, Ok, Err, refl, sym, subst, MatchResult, IfErr, OnOk, IfSome, IsErrOf, ap, arith}
-use Rattle.std.proofs.lemmas.List.{take-append-drop, take_rest}
+use Rattle.std.proofs.Common.{◌≡◌, ◌∙◌, ◌⊎◌, Option, Some, inl, inr, ℕ, List, [], ◌∷◌, ◌++◌, ◌+◌, ◌-◌, length, take, drop, slice_get, append_assoc, Result, Ok, Err, refl, sym, subst, MatchResult, IfErr, OnOk, IfSome, IsErrOf, ap, arith}
+use Rattle.std.proofs.lemmas.Grind.{flat_map-append}
+use Rattle.std.proofs.lemmas.List.{append-nil, take-append-drop, take_more, take_rest}
+use Rattle.std.proofs.lemmas.Option.{get_or_from_slice_get, slice_get_within}
 use Rattle.std.specs.List.{flat_map}
 use Rattle.std.specs.FinMap as map
 use Rattle.std.specs.FinMap.{len-entries}
@@ -92,6 +94,15 @@ none_of (x ∷ es) e = absurd (omega (arith, e))
 -- of a state without names nothing is listed
 pub nothing_listed : (m : StateMap) → map.len m ≡ 0 → listing m ≡ []
 nothing_listed m none = none_of (map.entries m) (sym (len-entries m) ∙ none)
+
+-- the lines of the first entries, and of one more
+pub lines_of_more : (es : List (List ℕ × Entry)) (place : ℕ) (e : List ℕ × Entry) → slice_get es place ≡ Some e
+    → flat_map entry_lines (take (place + 1) es) ≡ flat_map entry_lines (take place es) ++ entry_lines e
+lines_of_more es place e found =
+    ap (flat_map entry_lines) (take_more es place e (slice_get_within es place e found))
+    ∙ ap (λ x. flat_map entry_lines (take place es ++ x ∷ [])) (get_or_from_slice_get es place e e found)
+    ∙ flat_map-append entry_lines (take place es) (e ∷ [])
+    ∙ ap (λ lines. flat_map entry_lines (take place es) ++ lines) (append-nil (entry_lines e))
 
 -- ---- what is left in the writer
 

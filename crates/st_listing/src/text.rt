@@ -5,7 +5,7 @@ ghost use Rattle.std.specs.List.{flat_map};
 ghost use Rattle.st_listing.specs.Listing.{listing, entry_lines, phase_text, command_text, hidden_text, explicit_text, line, continued};
 
 use st_records::{Iter, PackedEntry, Phase};
-use st_state::State;
+use st_state::{Listed, State};
 use std::alloc::{AllocError, Global};
 
 // How many entries are looked at before their lines are written.
@@ -18,58 +18,51 @@ const USUAL_LINE: usize = 32;
 pub fn listing_text(alloc: Global, state: &State) -> Result<Vec<u8>, AllocError>
     ensures { IfOk result (λ text. text.items ≡ listing state.now) }
 {
-    let entries = state.in_byte_order(alloc)?;
+    let named = state.in_byte_order(alloc)?;
     let mut text = Vec::new(alloc);
-    append_blocks(alloc, &mut text, entries.as_slice())?;
+    append_entries(alloc, &mut text, &named)?;
     Ok(text)
 }
 
-fn append_blocks(
-    alloc: Global,
-    text: &mut Vec<u8>,
-    entries: &[(&[u8], &PackedEntry)],
-) -> Result<(), AllocError>
-    ensures { OnOk result (text.new.items ≡ text.old.items ++ flat_map (λ e. entry_lines (e.0.now, e.1.now)) entries.now) }
+fn append_entries(alloc: Global, text: &mut Vec<u8>, named: &Listed<'_>) -> Result<(), AllocError>
+    ensures { OnOk result (text.new.items ≡ text.old.items ++ flat_map entry_lines named.now) }
 {
-    let mut at = 0;
-    while at < entries.len() {
-        let end = at + BLOCK.min(entries.len() - at);
-        append_block(alloc, text, &entries[at..end])?;
-        at = end;
-    }
-    Ok(())
-}
-
-fn append_block(
-    alloc: Global,
-    text: &mut Vec<u8>,
-    block: &[(&[u8], &PackedEntry)],
-) -> Result<(), AllocError>
-    ensures { OnOk result (text.new.items ≡ text.old.items ++ flat_map (λ e. entry_lines (e.0.now, e.1.now)) block.now) }
-{
-    text.reserve(usual_len(block))?;
-    for (name, entry) in block.iter() {
+    for place in 0..named.len() {
+        make_room(text, named, place)?;
+        let (name, entry) = named.at(place);
         append_entry(alloc, text, name, entry)?;
     }
     Ok(())
 }
 
-// How many bytes the lines of these entries usually take. It decides nothing but how much room is made at once.
+// Room for a block of entries at once, before the first of them.
+fn make_room(text: &mut Vec<u8>, named: &Listed<'_>, place: usize) -> Result<(), AllocError>
+    ensures { text.new.items ≡ text.old.items }
+{
+    if place % BLOCK != 0 {
+        return Ok(());
+    }
+    text.reserve(usual_len(named, place))
+}
+
+// How many bytes the lines of the entries of a block, from its first one on, usually take. It decides nothing but how much
+// room is made at once.
 //
 // Names and entries lie all over memory, and to fetch one takes longer than to write its lines. Looked at here one right
 // after another, many are fetched at a time; the first byte of a name is read for that alone.
-fn usual_len(block: &[(&[u8], &PackedEntry)]) -> usize {
+fn usual_len(named: &Listed<'_>, first: usize) -> usize {
     let mut len: usize = 0;
-    for (name, entry) in block.iter() {
+    for place in first..named.len().min(first.saturating_add(BLOCK)) {
+        let (name, entry) = named.at(place);
         let mark = match entry.phase() {
             Phase::Begun => 7,
             Phase::Done => 6,
             Phase::Failed(_) => 10,
         };
-        let first = usize::from(name.first() == Some(&b'/'));
+        let rooted = usize::from(name.first() == Some(&b'/'));
         let below = entry.commands().len().saturating_add(entry.hidden().len());
         len = len
-            .saturating_add(mark + first)
+            .saturating_add(mark + rooted)
             .saturating_add(name.len())
             .saturating_add(below.saturating_mul(USUAL_LINE));
     }

@@ -2,5 +2,5 @@ pub mod StateLemmas
 pub mod KeepableLemmas
 pub mod KeptLemmas
 pub mod RankLemmas
-pub mod Listed
+pub mod ListedLemmas
 pub mod EndsLemmas

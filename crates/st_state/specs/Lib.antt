@@ -8,3 +8,5 @@ pub mod Staged
 pub mod Ranks
 -- how the names of a state begin and end
 pub mod Ends
+-- names with their entries, by their places
+pub mod Listed

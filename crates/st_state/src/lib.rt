@@ -3,11 +3,13 @@
 #![tactic(auto)]
 
 mod laws;
+mod listed;
 mod name_order;
 mod staged;
 mod state;
 mod taking;
 
 pub use laws::entries_can_be_kept;
+pub use listed::Listed;
 pub use staged::Staged;
 pub use state::State;

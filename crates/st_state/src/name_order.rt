@@ -2,53 +2,76 @@
 //! seldom has to look at the names themselves.
 
 ghost use Rattle.std.specs.Prelude.{◌≡◌, ◌<◌, ◌≤◌, List, ℕ, length, slice_index, IfOk, map as list_map};
+ghost use Rattle.std.specs.Cmp.Lexicographic.{slice_cmp};
+ghost use Rattle.std.specs.FinMap as map;
 ghost use Rattle.std.specs.List.{All};
+ghost use Rattle.std.specs.Ordering.{nat_cmp, ordering_then};
 ghost use Rattle.std.specs.Str.{bytes_eq};
-ghost use Rattle.std.proofs.lemmas.Map.Lookups.{map_keys};
 ghost use Rattle.indexmap.specs.IndexMap.{IsUnique};
+ghost use Rattle.st_state.specs.Listed.{entry_at};
 ghost use Rattle.st_state.specs.Ranks.{HasRank, number_from, rank};
+ghost use Rattle.st_state.specs.State.{by_name};
 
 use crate::state::Entries;
-use st_records::PackedEntry;
 use std::alloc::{AllocError, Global};
+use std::cmp::Ordering;
 
 // How many names show what most of them begin with.
 const SAMPLES: usize = 16;
 
-/// A name with its entry and its rank.
-#[derive(Drop)]
-pub(crate) struct Ranked<'a> {
+/// Where a name stands in the map, and its rank.
+#[derive(Clone, Copy)]
+pub(crate) struct Ranked {
     pub rank: u64,
-    pub name: &'a [u8],
-    pub entry: &'a PackedEntry,
+    pub place: usize,
 }
 
-/// Each name with its rank, in the order of the map.
-pub(crate) fn with_ranks(alloc: Global, entries: &Entries) -> Result<Vec<Ranked<'_>>, AllocError>
-    ensures all { IfOk result (λ ranked. list_map (λ e. (e.name.now, e.entry.now)) ranked.items ≡ map_keys (λ k. k) entries.now.entries) }
+/// The places of all names, in byte order of the names.
+pub(crate) fn in_order(alloc: Global, entries: &Entries) -> Result<Vec<Ranked>, AllocError>
+    ensures sorted { IfOk result (λ order. list_map (λ r. entry_at entries.now.entries r.place) order.items ≡ map.entries (by_name (λ k. k) entries.now.entries)) }
+    ensures within { IfOk result (λ order. All (λ r. r.place < length entries.now.entries) order.items) }
+{
+    let mut order = with_ranks(alloc, entries)?;
+    order.sort_unstable_by(|a, b| compare(entries, *a, *b));
+    Ok(order)
+}
+
+/// The places of all names, with their ranks, in the order of the map.
+fn with_ranks(alloc: Global, entries: &Entries) -> Result<Vec<Ranked>, AllocError>
+    ensures all { IfOk result (λ ranked. list_map (λ r. entry_at entries.now.entries r.place) ranked.items ≡ entries.now.entries) }
+    ensures within { IfOk result (λ ranked. All (λ r. r.place < length entries.now.entries) ranked.items) }
     ensures unique { IfOk result (λ _. IsUnique bytes_eq entries.now) }
-    ensures ranks { IfOk result (λ ranked. (beginning : List ℕ) × All (λ e. HasRank beginning e.name.now e.rank) ranked.items) }
+    ensures ranks { IfOk result (λ ranked. (beginning : List ℕ) × All (λ r. HasRank beginning (entry_at entries.now.entries r.place).0 r.rank) ranked.items) }
 {
     let beginning = usual_beginning(entries);
     let mut ranked = Vec::with_capacity(alloc, entries.len())?;
-    for (name, entry) in entries.iter() {
-        let name = bytes_of(name.as_slice());
-        let rank = rank_of(beginning, name);
-        ranked.push(Ranked { rank, name, entry })?;
+    for place in 0..entries.len() {
+        let rank = rank_of(beginning, name_at(entries, place));
+        ranked.push(Ranked { rank, place })?;
     }
     Ok(ranked)
 }
 
-pub(crate) fn without_ranks<'a>(
-    alloc: Global,
-    ranked: &[Ranked<'a>],
-) -> Result<Vec<(&'a [u8], &'a PackedEntry)>, AllocError>
-    ensures { IfOk result (λ listed. listed.items ≡ list_map (λ e. (e.name, e.entry)) ranked.now) }
+// The names are looked at only where the ranks don't tell.
+fn compare(entries: &Entries, a: Ranked, b: Ranked) -> Ordering
+    ensures { result ≡ ordering_then (nat_cmp a.rank b.rank)
+        (slice_cmp nat_cmp (entry_at entries.now.entries a.place).0 (entry_at entries.now.entries b.place).0) }
 {
-    ranked
-        .iter()
-        .map(|named| (named.name, named.entry))
-        .collect(alloc)
+    match a.rank.cmp(&b.rank) {
+        Ordering::Less => Ordering::Less,
+        Ordering::Equal => name_at(entries, a.place).cmp(&name_at(entries, b.place)),
+        Ordering::Greater => Ordering::Greater,
+    }
+}
+
+fn name_at(entries: &Entries, place: usize) -> &[u8]
+    ensures same { result.now ≡ (entry_at entries.now.entries place).0 }
+    ensures bytes { (i : ℕ) → slice_index result.now i < 256 }
+{
+    match entries.get_index(place) {
+        Some((name, _)) => bytes_of(name.as_slice()),
+        None => &[],
+    }
 }
 
 // The bytes of a name again. What follows from the type, that each is below 256, has to be said for the ranks.

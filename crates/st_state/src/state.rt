@@ -7,7 +7,8 @@ ghost use Rattle.st_state.specs.Keepable.{kept_bytes};
 ghost use Rattle.st_records.specs.Parts.{target_of};
 ghost use Rattle.st_state.specs.State.{SetsEntry, apply_record, known_hidden, unfinished};
 
-use crate::name_order::{with_ranks, without_ranks};
+use crate::listed::Listed;
+use crate::name_order::in_order;
 use crate::staged::Staged;
 use crate::taking::take_event;
 use indexmap::{Equivalent, IndexMap};
@@ -118,12 +119,11 @@ impl State {
     }
 
     /// Each name with what is known of it, in byte order of the names.
-    pub fn in_byte_order(&self, alloc: Global) -> Result<Vec<(&[u8], &PackedEntry)>, AllocError>
-        ensures { IfOk result (λ listed. list_map (λ e. (e.0.now, e.1.now)) listed.items ≡ map.entries self.now) }
+    pub fn in_byte_order(&self, alloc: Global) -> Result<Listed<'_>, AllocError>
+        ensures { IfOk result (λ listed. listed ≡ map.entries self.now) }
     {
-        let mut ranked = with_ranks(alloc, &self.entries)?;
-        ranked.sort_unstable_by_key(|named| (named.rank, named.name));
-        without_ranks(alloc, ranked.as_slice())
+        let order = in_order(alloc, &self.entries)?;
+        Ok(Listed::new(&self.entries, order))
     }
 
     /// What is left of `room` after the bytes of a kept record for each entry, in a file of version 2; None where they do

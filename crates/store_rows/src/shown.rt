@@ -2,7 +2,7 @@
 use byte_strings::Iter;
 use row_files::bytes;
 use st_records::{PackedEntry, Phase};
-use st_state::State;
+use st_state::{Listed, State};
 use std::alloc::{AllocError, Global};
 
 fn say_marked(said: &mut String, mark: &str, items: Iter<'_>) -> Result<(), AllocError> {
@@ -47,8 +47,9 @@ fn say_entry(said: &mut String, name: &[u8], entry: &PackedEntry) -> Result<(), 
     said.push(';')
 }
 
-fn say_entries(said: &mut String, entries: &[(&[u8], &PackedEntry)]) -> Result<(), AllocError> {
-    for (name, entry) in entries {
+fn say_entries(said: &mut String, named: &Listed<'_>) -> Result<(), AllocError> {
+    for place in 0..named.len() {
+        let (name, entry) = named.at(place);
         say_entry(said, name, entry)?;
     }
     Ok(())
@@ -56,11 +57,11 @@ fn say_entries(said: &mut String, entries: &[(&[u8], &PackedEntry)]) -> Result<(
 
 /// Says what a state knows; of no names, `nothing`.
 pub(crate) fn say_state(alloc: Global, said: &mut String, state: &State) -> Result<(), AllocError> {
-    let entries = state.in_byte_order(alloc)?;
-    if entries.is_empty() {
+    let named = state.in_byte_order(alloc)?;
+    if named.len() == 0 {
         return said.push_str("nothing");
     }
-    say_entries(said, entries.as_slice())
+    say_entries(said, &named)
 }
 
 /// Says a text unless it is among those that were said, with ` or ` between them.

@@ -90,13 +90,13 @@ fn begin(alloc: Global, state: &mut State, name: &str) -> Result<(), RowFault> {
 }
 
 fn say_names(alloc: Global, said: &mut String, state: &State) -> Result<(), AllocError> {
-    let mut is_first = true;
-    for (name, _entry) in state.in_byte_order(alloc)? {
-        if !is_first {
+    let named = state.in_byte_order(alloc)?;
+    for place in 0..named.len() {
+        if place > 0 {
             said.push(' ')?;
         }
+        let (name, _entry) = named.at(place);
         bytes::say(said, name)?;
-        is_first = false;
     }
     Ok(())
 }

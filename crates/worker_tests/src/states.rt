@@ -61,7 +61,9 @@ fn push_lines(
 /// The state as a text: each name in byte order behind its phase, then its commands, its hidden and its explicit names.
 pub fn listing(alloc: Global, state: &State) -> Result<String, AllocError> {
     let mut text = String::new(alloc);
-    for (name, entry) in state.in_byte_order(alloc)? {
+    let named = state.in_byte_order(alloc)?;
+    for place in 0..named.len() {
+        let (name, entry) = named.at(place);
         text.push_str(phase_line(alloc, name, entry.phase())?.as_str())?;
         push_lines(alloc, &mut text, '$', entry.commands())?;
         push_lines(alloc, &mut text, '<', entry.hidden())?;

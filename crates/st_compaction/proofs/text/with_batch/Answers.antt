@@ -2,5 +2,5 @@ use Rattle.std.proofs.Common.{arith}
 use Rattle.st_compaction.proofs.NamedLemmas.{few_names}
 use Rattle.st_compaction.proofs.text.with_batch.Goals as goal
 
-pub overflow_cast-named : goal.overflow_cast-named
-overflow_cast-named c = omega (arith, few_names c.args.named.now, c.requires.whole, c.requires.short)
+pub overflow_cast-len : goal.overflow_cast-len
+overflow_cast-len c = omega (arith, c.len-2.ensures, few_names c.args.named.now, c.requires.whole, c.requires.short)
