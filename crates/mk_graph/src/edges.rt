@@ -67,7 +67,7 @@ pub struct Parts {
 }
 
 /// The rows in the list of the graph that is parted.
-fn parts_of(alloc: Global, rows: &SharedRows, counts: &[usize]) -> Result<Parts, AllocError>
+fn parts_of(alloc: Global, rows: &SharedRows, counts: &[u32]) -> Result<Parts, AllocError>
     requires { length counts.now ≡ length rows.now }
     ensures fronts { IfOk result (λ parts. parts.fronts ≡ fronts counts.now rows.now) }
     ensures backs { IfOk result (λ parts. parts.backs ≡ backs counts.now rows.now) }
@@ -185,7 +185,7 @@ impl Edges {
     }
 
     /// The first numbers of each row, as many as its count says, and those behind them.
-    pub fn parted(&self, alloc: Global, counts: &[usize]) -> Result<Parts, AllocError>
+    pub fn parted(&self, alloc: Global, counts: &[u32]) -> Result<Parts, AllocError>
         requires { length counts.now ≡ length self.now }
         ensures fronts { IfOk result (λ parts. parts.fronts ≡ fronts counts.now self.now) }
         ensures backs { IfOk result (λ parts. parts.backs ≡ backs counts.now self.now) }

@@ -106,7 +106,7 @@ impl SharedRows {
     pub fn parted(
         &self,
         alloc: Global,
-        counts: &[usize],
+        counts: &[u32],
     ) -> Result<(SharedRows, SharedRows), AllocError>
         requires { length counts.now ≡ length self.now }
         ensures fronts { IfOk result (λ parts. parts.0 ≡ fronts counts.now self.now) }
@@ -115,7 +115,7 @@ impl SharedRows {
         let mut fronts = Vec::with_capacity(alloc, counts.len())?;
         let mut backs = Vec::with_capacity(alloc, counts.len())?;
         for (node, count) in counts.iter().enumerate() {
-            let (front, back) = cut(self.spans[node], *count);
+            let (front, back) = cut(self.spans[node], *count as usize);
             fronts.push_reserved(front);
             backs.push_reserved(back);
         }

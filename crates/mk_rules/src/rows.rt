@@ -28,12 +28,12 @@ pub(crate) fn behind(row: &[u32], count: usize) -> &[u32]
 }
 
 /// How many hard prerequisites each node has.
-fn hard_counts(alloc: Global, known: &[Node]) -> Result<Vec<usize>, AllocError>
+fn hard_counts(alloc: Global, known: &[Node]) -> Result<Vec<u32>, AllocError>
     ensures { IfOk result (λ counts. counts.items ≡ map (λ k. k.hard) known.now) }
 {
     let mut counts = Vec::with_capacity(alloc, known.len())?;
     for found in known {
-        counts.push_reserved(found.hard as usize);
+        counts.push_reserved(found.hard);
     }
     Ok(counts)
 }

@@ -159,25 +159,38 @@ pub(crate) fn batch_len(front: &[u8], left: usize) -> usize
 // A record of an empty text has as many.
 const LEAST_RECORD_BYTES: usize = 5;
 
-/// How many records the batches say that they have, as far as their bodies bear it out. It only decides how much memory
-/// is taken at once.
-pub(crate) fn records_in(batches: &[u8]) -> usize {
-    let mut total: usize = 0;
+// The record of a recipe that begins starts with it.
+const BEGUN_BYTE: u8 = 1;
+
+/// About how many names so many records of these batches have: one each where they begin with names that were kept, and half as
+/// many where they begin with a recipe, which leaves a record as it begins and one as it ends.
+fn names_of(batches: &[u8], records: usize) -> usize {
+    if batches.get(FRAME_BYTES) == Some(&BEGUN_BYTE) {
+        records / 2
+    } else {
+        records
+    }
+}
+
+/// About how many names the batches have, as far as their bodies bear out the records that they say they have. It only
+/// decides how much memory is taken at once.
+pub(crate) fn names_in(batches: &[u8]) -> usize {
+    let mut records: usize = 0;
     let mut rest = batches;
     while !rest.is_empty() && rest[0] != 0 {
         let (_gate, behind) = rest.split_at(1);
         let Some((count, body, after)) = frame_of(behind) else {
-            return total;
+            break;
         };
-        total = total.saturating_add((count as usize).min(body.len() / LEAST_RECORD_BYTES));
+        records = records.saturating_add((count as usize).min(body.len() / LEAST_RECORD_BYTES));
         rest = after;
     }
-    total
+    names_of(batches, records)
 }
 
-/// About how many records so many bytes of batches have, by the first of them. It only decides how much memory is taken at
+/// About how many names so many bytes of batches have, by the first of them. It only decides how much memory is taken at
 /// once.
-pub(crate) fn records_about(batches: &[u8], left: usize) -> usize {
+pub(crate) fn names_about(batches: &[u8], left: usize) -> usize {
     let mut records: usize = 0;
     let mut bytes: usize = 0;
     let mut rest = batches;
@@ -195,5 +208,5 @@ pub(crate) fn records_about(batches: &[u8], left: usize) -> usize {
         return 0;
     }
     let about = (records.saturating_mul(left) / bytes).min(left / LEAST_RECORD_BYTES);
-    about.saturating_add(about / 64)
+    names_of(batches, about.saturating_add(about / 64))
 }

@@ -9,7 +9,7 @@ ghost use Rattle.st_file.specs.Side.{IsVoid, HoldsUpTo, IsRefused};
 ghost use Rattle.st_file.specs.Sink.{HasTakenGood};
 ghost use Rattle.st_file.specs.Window.{IsSound, Shows};
 
-use crate::batch::{read_batch, records_about};
+use crate::batch::{names_about, read_batch};
 use crate::fault::OpenFault;
 use crate::layout::{header_of, is_void};
 use crate::side::Extent;
@@ -50,7 +50,7 @@ pub fn read_from<D: Disk, S: RecordSink>(
     }
     let (version, generation, batches) = header_of(side, front)?;
     let header = front.len() - batches.len();
-    sink.make_room(records_about(batches, window.len));
+    sink.make_room(names_about(batches, window.len));
     window.pass(header);
     Ok(Some(read_batches_from(alloc, disk, &mut window, version, generation, sink)?))
 }

@@ -8,7 +8,7 @@ ghost use Rattle.st_file.specs.declared.fault.OpenFault.TheVariants as faults;
 ghost use Rattle.st_file.specs.Side.{IsVoid, HoldsUpTo, IsRefused, Reading, Reads, ComesToRecords};
 ghost use Rattle.st_file.specs.Answer.{reading_of};
 
-use crate::batch::{read_batch, records_in};
+use crate::batch::{names_in, read_batch};
 use crate::fault::OpenFault;
 use crate::layout::{header_of, is_void};
 use crate::sink::RecordSink;
@@ -97,7 +97,7 @@ pub fn read_side<S: RecordSink>(
         return Ok(None);
     }
     let (version, generation, batches) = header_of(side, bytes)?;
-    sink.make_room(records_in(batches));
+    sink.make_room(names_in(batches));
     Ok(Some(read_batches(alloc, side, bytes, version, generation, batches, sink)?))
 }
 

@@ -15,8 +15,8 @@ pub trait RecordSink {
     /// It has taken in just these records, in their order.
     ghost has_taken: { Self → List Record → Type 0 };
 
-    /// Takes room for as many more records, where there is memory for it.
-    fn make_room(&mut self, records: usize)
+    /// Takes room for the records of as many more names, where there is memory for it.
+    fn make_room(&mut self, names: usize)
         ensures { (taken : List Record) → has_taken self.old taken → has_taken self.new taken };
 
     /// Takes in one more record.
@@ -28,8 +28,8 @@ pub trait RecordSink {
 impl RecordSink for Vec<Record> {
     ghost has_taken = { λ v rs. v.items ≡ rs };
 
-    fn make_room(&mut self, records: usize) {
-        let _ = self.reserve(records);
+    fn make_room(&mut self, names: usize) {
+        let _ = self.reserve(names);
     }
 
     fn take(&mut self, alloc: Global, event: PackedRecord) -> Result<(), AllocError> {
@@ -42,8 +42,8 @@ impl RecordSink for Vec<Record> {
 impl RecordSink for State {
     ghost has_taken = { λ m rs. m ≡ replay map.empty rs };
 
-    fn make_room(&mut self, records: usize) {
-        self.reserve(records);
+    fn make_room(&mut self, names: usize) {
+        self.reserve(names);
     }
 
     fn take(&mut self, alloc: Global, event: PackedRecord) -> Result<(), AllocError> {
