@@ -179,7 +179,7 @@ impl<N: Drop> Numbered<N> {
     }
 
     /// The same, whose rows are parted without a copy.
-    fn shared(self, alloc: Global) -> Numbered<N>
+    pub fn shared(self, alloc: Global) -> Numbered<N>
         ensures { result ≡ self }
     {
         let Numbered {
@@ -263,7 +263,7 @@ pub fn number<R: Dependencies>(
             Err(cause) => return Err(NumberingFault::Source(cause)),
         }
     }
-    Ok(numbered.shared(alloc))
+    Ok(numbered)
 }
 
 /// No name has two numbers.

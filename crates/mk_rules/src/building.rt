@@ -191,6 +191,7 @@ fn order_found(
     ensures fault { IfErr result (λ fault. (inputs : Inputs) (named : List (List ℕ)) → inputs.lines ≡ lines.now
         → AreFound inputs (goals_of inputs.lines named) numbered → IsGraphlessFault inputs named fault) }
 {
+    let numbered = numbered.shared(alloc);
     let Parts {
         fronts: hard,
         backs: waited,

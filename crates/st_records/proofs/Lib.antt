@@ -8,6 +8,7 @@ pub mod Decoding
 pub mod Unfinished
 pub mod Stops
 pub mod FaultLemmas
+mod PackedLemmas
 mod Texts
 mod Low
 mod Clean

@@ -1,15 +1,35 @@
 -- Lists of strings that lie one behind the other in one text: where each of them lies, and which still count.
-use Rattle.std.specs.Prelude.{ℕ, ◌≤◌, List, [], Option, None, Some, length, take, drop}
-use Rattle.byte_strings.specs.Texts.{AreTexts}
+use Rattle.std.specs.Prelude.{ℕ, zero, suc, ◌+◌, ◌≤◌, List, [], Option, None, Some, length, take, drop}
+use Rattle.byte_strings.specs.Texts.{AreTexts, size_of, behind_first}
 use Rattle.st_records.specs.declared.record.Explicit.{Explicit}
 use Rattle.st_records.specs.declared.record.Explicit.TheVariants.{Unknown, Known}
+use Rattle.st_records.specs.declared.record.Phase.{Phase}
+use Rattle.st_records.specs.declared.record.Phase.TheVariants as phases
 use Rattle.st_records.specs.declared.packed.Counted.{Counted}
 use Rattle.st_records.specs.declared.packed.Counted.TheVariants.{All, Unnamed, HiddenAlone}
+use Rattle.st_records.specs.declared.packed.Standing.{Standing}
+use Rattle.st_records.specs.declared.packed.Standing.TheVariants as standings
 
 -- explicit names from strings or none
 abbrev pub explicit_from : Option (List (List ℕ)) → Explicit
 explicit_from None = Unknown
 explicit_from (Some names) = Known names
+
+-- the phase, and which lists count
+abbrev pub phase_in : Standing → Phase
+phase_in (standings.Begun counted) = phases.Begun
+phase_in (standings.Done counted) = phases.Done
+phase_in (standings.Failed counted status) = phases.Failed status
+
+abbrev pub counted_in : Standing → Counted
+counted_in (standings.Begun counted) = counted
+counted_in (standings.Done counted) = counted
+counted_in (standings.Failed counted status) = counted
+
+-- how many bytes so many strings take that lie at the front of these, each behind its length
+abbrev pub texts_size : (count : ℕ) (bytes : List ℕ) → ℕ
+texts_size zero bytes = 0
+texts_size (suc count) bytes = 4 + (size_of bytes + texts_size count (behind_first bytes))
 
 -- the commands that count
 abbrev pub commands_in : Counted → List (List ℕ) → List (List ℕ)

@@ -1,16 +1,20 @@
 //! An entry whose strings stand in one piece of memory: what the state keeps of each target.
 
-ghost use Rattle.std.specs.Prelude.{◌≡◌, ◌||◌, ◌++◌, [], IfOk, nat_lt, length};
+ghost use Rattle.std.specs.Prelude.{◌≡◌, ◌≤◌, ◌||◌, ◌++◌, [], IfOk, nat_lt, length, take, drop};
+ghost use Rattle.byte_strings.specs.Texts.{AreTexts, size_of, behind_first};
 ghost use Rattle.st_records.specs.declared.record.Explicit.TheVariants as explicits;
 ghost use Rattle.st_records.specs.declared.record.Phase.TheVariants as phases;
 ghost use Rattle.st_records.specs.Parts.{names_known};
-ghost use Rattle.st_records.specs.Packed.{explicit_from, commands_in, explicit_in};
+ghost use Rattle.st_records.specs.Packed.{explicit_from, phase_in, counted_in, commands_in, explicit_in, texts_size};
 
 use crate::limits::{MAX_COMMANDS, MAX_EXPLICIT_NAMES, MAX_HIDDEN_NAMES};
 use crate::record::{Entry, Explicit, Phase};
 use byte_strings::{ByteStrings, Iter};
 use std::alloc::{AllocError, Global};
 use std::marker::Model;
+
+/// So many bytes in front of a string have its length.
+const LENGTH_BYTES: usize = 4;
 
 /// Which of the lists in a piece of memory still count.
 #[derive(Clone, Copy, Debug, PartialEq, Eq)]
@@ -22,18 +26,57 @@ enum Counted {
     HiddenAlone,
 }
 
+/// The phase of a target and which of its lists still count, in eight bytes.
+#[derive(Clone, Copy, Debug, PartialEq, Eq)]
+enum Standing {
+    Begun(Counted),
+    Done(Counted),
+    Failed(Counted, u32),
+}
+
+impl Standing {
+    fn new(phase: Phase, counted: Counted) -> Standing
+        ensures phase { phase_in result ≡ phase }
+        ensures counted { counted_in result ≡ counted }
+    {
+        match phase {
+            Phase::Begun => Standing::Begun(counted),
+            Phase::Done => Standing::Done(counted),
+            Phase::Failed(status) => Standing::Failed(counted, status),
+        }
+    }
+
+    fn phase(self) -> Phase
+        ensures { result ≡ phase_in self }
+    {
+        match self {
+            Standing::Begun(_) => Phase::Begun,
+            Standing::Done(_) => Phase::Done,
+            Standing::Failed(_, status) => Phase::Failed(status),
+        }
+    }
+
+    fn counted(self) -> Counted
+        ensures { result ≡ counted_in self }
+    {
+        match self {
+            Standing::Begun(counted) => counted,
+            Standing::Done(counted) => counted,
+            Standing::Failed(counted, _) => counted,
+        }
+    }
+}
+
 /// What the state knows of a target. Contracts see it as the entry.
 ///
 /// Commands, hidden names and explicit ones stand one behind the other in one allocation, each string behind its length. An
-/// entry without strings has none.
+/// entry without strings has none. Where the commands end is told by their lengths: most entries have one.
 #[derive(Debug, Drop)]
 pub struct PackedEntry {
-    phase: Phase,
-    counted: Counted,
+    standing: Standing,
     commands: u32,
     hidden: u32,
     explicit: u32,
-    command_bytes: u32,
     hidden_bytes: u32,
     bytes: Vec<u8>,
 }
@@ -45,16 +88,16 @@ impl Model for PackedEntry {
 
     ghost Value = { Entry };
 
-    ghost use Rattle.st_records.specs.Packed.{commands_in, explicit_in, AreLists};
+    ghost use Rattle.st_records.specs.Packed.{phase_in, counted_in, commands_in, explicit_in, texts_size, AreLists};
 
     ghost view = { λ e. record {
-      phase = e.phase;
-      commands = commands_in e.counted (texts e.commands (take e.command_bytes e.bytes.items));
-      hidden = texts e.hidden (take e.hidden_bytes (drop e.command_bytes e.bytes.items));
-      explicit = explicit_in e.counted (texts e.explicit (drop e.hidden_bytes (drop e.command_bytes e.bytes.items)));
+      phase = phase_in e.standing;
+      commands = commands_in (counted_in e.standing) (texts e.commands (take (texts_size e.commands e.bytes.items) e.bytes.items));
+      hidden = texts e.hidden (take e.hidden_bytes (drop (texts_size e.commands e.bytes.items) e.bytes.items));
+      explicit = explicit_in (counted_in e.standing) (texts e.explicit (drop e.hidden_bytes (drop (texts_size e.commands e.bytes.items) e.bytes.items)));
     } };
 
-    ghost invariant = { λ e. AreLists e.commands e.hidden e.explicit e.command_bytes e.hidden_bytes e.bytes.items };
+    ghost invariant = { λ e. AreLists e.commands e.hidden e.explicit (texts_size e.commands e.bytes.items) e.hidden_bytes e.bytes.items };
 }
 
 impl PackedEntry {
@@ -63,12 +106,10 @@ impl PackedEntry {
         ensures { result ≡ record { phase = phase; commands = []; hidden = []; explicit = explicits.Unknown } }
     {
         PackedEntry {
-            phase,
-            counted: Counted::HiddenAlone,
+            standing: Standing::new(phase, Counted::HiddenAlone),
             commands: 0,
             hidden: 0,
             explicit: 0,
-            command_bytes: 0,
             hidden_bytes: 0,
             bytes: Vec::new(alloc),
         }
@@ -108,7 +149,7 @@ impl PackedEntry {
         let (commands, command_texts) = commands.texts();
         let (hidden, hidden_texts) = hidden.texts();
         let (explicit, explicit_texts) = explicit.texts();
-        let Ok(command_bytes) = u32::try_from(command_texts.len()) else {
+        let Ok(commands) = u32::try_from(commands) else {
             return Err(AllocError);
         };
         let Ok(hidden_bytes) = u32::try_from(hidden_texts.len()) else {
@@ -118,14 +159,12 @@ impl PackedEntry {
             return Err(AllocError);
         };
         let bytes = joined(alloc, command_texts, hidden_texts, explicit_texts)?;
-        // There are no more strings than bytes in which they lie.
+        // There are no more hidden names than bytes in which they lie.
         Ok(PackedEntry {
-            phase,
-            counted,
-            commands: commands as u32,
+            standing: Standing::new(phase, counted),
+            commands,
             hidden: hidden as u32,
             explicit,
-            command_bytes,
             hidden_bytes,
             bytes,
         })
@@ -166,18 +205,17 @@ impl PackedEntry {
     pub fn phase(&self) -> Phase
         ensures { result ≡ self.now.phase }
     {
-        self.phase
+        self.standing.phase()
     }
 
     /// The commands that were run, each as one text.
     pub fn commands(&self) -> Iter<'_>
         ensures { result ≡ self.now.commands }
     {
-        match self.counted {
+        match self.standing.counted() {
             Counted::HiddenAlone => Iter::empty(),
             _ => {
-                let bytes = self.bytes.as_slice();
-                let (commands, _behind) = bytes.split_at(self.command_bytes as usize);
+                let (commands, _behind) = parted(self.commands, self.bytes.as_slice());
                 Iter::of_texts(self.commands as usize, commands)
             }
         }
@@ -187,7 +225,7 @@ impl PackedEntry {
     pub fn hidden(&self) -> Iter<'_>
         ensures { result ≡ self.now.hidden }
     {
-        let (_commands, behind) = self.bytes.as_slice().split_at(self.command_bytes as usize);
+        let (_commands, behind) = parted(self.commands, self.bytes.as_slice());
         let (hidden, _explicit) = behind.split_at(self.hidden_bytes as usize);
         Iter::of_texts(self.hidden as usize, hidden)
     }
@@ -196,14 +234,11 @@ impl PackedEntry {
     pub fn explicit(&self) -> Option<Iter<'_>>
         ensures { explicit_from result ≡ self.now.explicit }
     {
-        match self.counted {
+        match self.standing.counted() {
             Counted::HiddenAlone => None,
             Counted::Unnamed => None,
             Counted::All => {
-                let (_commands, behind) = self
-                    .bytes
-                    .as_slice()
-                    .split_at(self.command_bytes as usize);
+                let (_commands, behind) = parted(self.commands, self.bytes.as_slice());
                 let (_hidden, explicit) = behind.split_at(self.hidden_bytes as usize);
                 Some(Iter::of_texts(self.explicit as usize, explicit))
             }
@@ -234,8 +269,7 @@ impl PackedEntry {
     pub fn leave_unfinished(&mut self, phase: Phase)
         ensures { self.new ≡ record { phase = phase; commands = []; hidden = self.old.hidden; explicit = explicits.Unknown } }
     {
-        self.phase = phase;
-        self.counted = Counted::HiddenAlone;
+        self.standing = Standing::new(phase, Counted::HiddenAlone);
     }
 
     /// The same strings of a recipe that was run to its end.
@@ -243,7 +277,7 @@ impl PackedEntry {
         ensures { result ≡ record { phase = phases.Done; commands = self.commands; hidden = self.hidden; explicit = self.explicit } }
     {
         let mut done = self;
-        done.phase = Phase::Done;
+        done.standing = Standing::Done(done.standing.counted());
         done
     }
 
@@ -251,12 +285,10 @@ impl PackedEntry {
         ensures { IfOk result (λ copied. copied ≡ self.now) }
     {
         Ok(PackedEntry {
-            phase: self.phase,
-            counted: self.counted,
+            standing: self.standing,
             commands: self.commands,
             hidden: self.hidden,
             explicit: self.explicit,
-            command_bytes: self.command_bytes,
             hidden_bytes: self.hidden_bytes,
             bytes: Vec::from_slice(alloc, self.bytes.as_slice())?,
         })
@@ -276,6 +308,43 @@ impl PackedEntry {
             },
         })
     }
+}
+
+/// The string that stands first, behind its length, is passed over.
+fn behind_first(bytes: &[u8]) -> &[u8]
+    requires length { 4 ≤ length bytes.now }
+    requires string { size_of bytes.now ≤ length (drop 4 bytes.now) }
+    ensures { result.now ≡ behind_first bytes.now }
+{
+    let (front, rest) = bytes.split_at(LENGTH_BYTES);
+    let len = u32::from_le_bytes([front[0], front[1], front[2], front[3]]);
+    let (_string, behind) = rest.split_at(len as usize);
+    behind
+}
+
+/// How many bytes so many strings take, which lie at the front of these, each behind its length.
+fn texts_len(count: u32, bytes: &[u8]) -> usize
+    requires fit { texts_size count bytes.now ≤ length bytes.now }
+    requires lie { AreTexts count (take (texts_size count bytes.now) bytes.now) }
+    ensures { result ≡ texts_size count bytes.now }
+{
+    let mut left = count;
+    let mut rest = bytes;
+    while left > 0 {
+        rest = behind_first(rest);
+        left -= 1;
+    }
+    bytes.len() - rest.len()
+}
+
+/// The bytes of so many strings, which lie at the front of these, and those behind them.
+fn parted(count: u32, bytes: &[u8]) -> (&[u8], &[u8])
+    requires fit { texts_size count bytes.now ≤ length bytes.now }
+    requires lie { AreTexts count (take (texts_size count bytes.now) bytes.now) }
+    ensures front { result.0.now ≡ take (texts_size count bytes.now) bytes.now }
+    ensures behind { result.1.now ≡ drop (texts_size count bytes.now) bytes.now }
+{
+    bytes.split_at(texts_len(count, bytes))
 }
 
 /// The three texts one behind the other.

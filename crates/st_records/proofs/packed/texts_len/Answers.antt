@@ -1,0 +1,15 @@
+use Rattle.std.proofs.Common.{◌∙◌, ◌≡◌, ◌+◌, ◌-◌, length, sym, subst, ap, arith}
+use Rattle.byte_strings.specs.Texts.{behind_first}
+use Rattle.st_records.specs.Packed.{texts_size}
+use Rattle.st_records.proofs.PackedLemmas.{LieInFront, first_whole, first_passed}
+use Rattle.st_records.proofs.packed.texts_len.Goals as goal
+
+pub behind_first-rest-requires-clause-string : goal.behind_first-rest-requires-clause-string
+behind_first-rest-requires-clause-string c =
+    (first_whole c.loop-left.left c.loop-left.rest.now (omega (arith, c.loop-left-test.true)) c.loop-left.invariant.0).1
+
+pub loop-left-preserved : goal.loop-left-preserved
+loop-left-preserved c =
+    let rest = c.loop-left.rest.now in
+    let passed = first_passed c.loop-left.left rest (omega (arith, c.loop-left-test.true)) c.loop-left.invariant.0 in
+    rw c.behind_first-rest.ensures (passed.0, omega (arith, passed.1, c.loop-left.invariant.1))
