@@ -1,5 +1,5 @@
 -- What follows of `recover`'s answer, whose clauses leave one case open: that memory ran out.
-use Rattle.std.proofs.Common.{◌≡◌, ◌∙◌, ◌⊎◌, Option, Some, inl, inr, ℕ, List, [], ◌∷◌, ◌++◌, ◌+◌, ◌-◌, length, take, drop, slice_get, append_assoc, Result, Ok, Err, refl, sym, subst, MatchResult, IfErr, OnOk, IfSome, IsErrOf, ap, arith}
+use Rattle.std.proofs.Common.{◌≡◌, ◌∙◌, ◌⊎◌, Option, Some, inl, inr, ℕ, List, [], ◌∷◌, ◌++◌, ◌+◌, ◌-◌, length, take, drop, slice_get, append_assoc, Result, Ok, Err, refl, sym, MatchResult, IfErr, OnOk, IfSome, IsErrOf, ap, arith}
 use Rattle.std.proofs.lemmas.Grind.{flat_map-append}
 use Rattle.std.proofs.lemmas.List.{append-nil, take-append-drop, take_more, take_rest}
 use Rattle.std.proofs.lemmas.Option.{get_or_from_slice_get, slice_get_within}

@@ -1,5 +1,5 @@
 -- What a listing fault says of the two sides, and what it leaves in the writer.
-use Rattle.std.specs.Prelude.{◌≡◌, ◌⊎◌, ℕ, ◌<◌, List, ◌++◌, length, Option, ⊤}
+use Rattle.std.specs.Prelude.{◌≡◌, ◌⊎◌, ℕ, ◌<◌, List, ◌++◌, length, Option, Result, ⊤, MatchResult}
 use Rattle.std.specs.Io.KnownBytes.{Appends, Keeps}
 use Rattle.st_disk.specs.declared.which.Which.{Which}
 use Rattle.st_file.specs.Side as side_file
@@ -22,6 +22,17 @@ pub record AppendsPart (old new : Option (List ℕ)) (text : List ℕ) : Type 0 
   pub parts : text ≡ front ++ rest
   pub missing : 0 < length rest
   pub appended : Appends old new front
+
+-- what waited and then this text are what went out and then what waits now
+pub record Sends (old new : Option (List ℕ)) (waited waits text : List ℕ) : Type 0 where
+  pub front : List ℕ
+  pub parts : waited ++ text ≡ front ++ waits
+  pub appended : Appends old new front
+
+-- this text was sent; or a part of what waited and of this text went out, and not all of it
+abbrev pub SendsOrPart : {T E : Type 0} → Result T E → Option (List ℕ) → Option (List ℕ) → List ℕ → List ℕ → List ℕ → Type 0
+SendsOrPart r old new waited waits text =
+    MatchResult r (λ _. Sends old new waited waits text) (λ _. AppendsPart old new (waited ++ text))
 
 -- an opening fault comes before the first write; where a write of this text failed, a part of it went out
 abbrev pub LeavesText : List ℕ → ListFault → Option (List ℕ) → Option (List ℕ) → Type 0

@@ -2,6 +2,7 @@
 #![tactic(auto)]
 
 mod listing;
+mod output;
 mod text;
 
 pub use listing::{ListFault, list, write_listing};

@@ -11,14 +11,18 @@ ghost use Rattle.st_listing.specs.Listing.{listing};
 ghost use Rattle.st_listing.specs.Writing.{IsCause, AppendsPart, LeavesText, LeavesWriter, IsOfMachine};
 ghost use Rattle.st_listing.specs.declared.listing.ListFault.TheVariants as faults;
 
-use crate::text::listing_text;
+use crate::output::WriteFailed;
+use crate::text::write_lines;
 use st_file::OpenFault;
 use st_records::HashKey;
 use st_recovery::recover;
 use st_state::State;
 use std::alloc::{AllocError, Global};
-use std::io::{self, Write};
+use std::io::Write;
 use thiserror::Error;
+
+// As much of the listing waits until it is written.
+const BUFFER_BYTES: usize = 1 << 16;
 
 /// Why a state isn't listed, or not as a whole.
 #[derive(Clone, Copy, Debug, PartialEq, Eq, Error)]
@@ -39,8 +43,16 @@ impl From<AllocError> for ListFault {
     }
 }
 
+impl From<WriteFailed> for ListFault {
+    ghost from_gives = { λ _ e. e ≡ faults.Write };
+
+    fn from(_error: WriteFailed) -> ListFault {
+        ListFault::Write
+    }
+}
+
 /// Writes the listing of the state that the bytes of the two sides recover. Where names are listed, the bytes are let go
-/// first, so that they and the text of the listing aren't in memory together.
+/// first, so that they and the order of the names aren't in memory together.
 pub fn list<W: Write>(
     alloc: Global,
     key: HashKey,
@@ -85,8 +97,8 @@ fn let_go(alloc: Global, state: &State, a: &mut Vec<u8>, b: &mut Vec<u8>)
     }
 }
 
-/// Writes the listing of a state. It is whole before its first byte is written, so no want of memory comes after that. A state
-/// without names takes no memory.
+/// Writes the listing of a state, a buffer's fill at a time. All memory is taken before its first byte is written, so no want of
+/// memory comes after that. A state without names takes none.
 pub fn write_listing<W: Write>(
     alloc: Global,
     state: &State,
@@ -100,40 +112,8 @@ pub fn write_listing<W: Write>(
     if state.len() == 0 {
         return Ok(());
     }
-    let text = listing_text(alloc, state)?;
-    write_text(text.as_slice(), writer)
-}
-
-fn write_text<W: Write>(text: &[u8], writer: &mut W) -> Result<(), ListFault>
-    ensures whole { OnOk result (Appends (W.contents writer.old) (W.contents writer.new) text.now) }
-    ensures part { OnErr result (AppendsPart (W.contents writer.old) (W.contents writer.new) text.now) }
-    ensures cause { IfErr result (λ f. f ≡ faults.Write) }
-{
-    let mut rest = text;
-    let mut tries = u64::MAX;
-    while !rest.is_empty() {
-        if tries == 0 {
-            return Err(ListFault::Write);
-        }
-        tries -= 1;
-        let written = write_some(rest, writer)?;
-        rest = &rest[written..];
-    }
+    let named = state.in_byte_order(alloc)?;
+    let mut buffer = Vec::with_capacity(alloc, BUFFER_BYTES)?;
+    write_lines(&mut buffer, writer, &named)?;
     Ok(())
-}
-
-// How many of the bytes were written, from the first on. A write that was interrupted wrote none.
-fn write_some<W: Write>(bytes: &[u8], writer: &mut W) -> Result<usize, ListFault>
-    ensures some { IfOk result (λ n. (n ≤ length bytes.now) × Appends (W.contents writer.old) (W.contents writer.new) (take n bytes.now)) }
-    ensures none { OnErr result (Keeps (W.contents writer.old) (W.contents writer.new)) }
-    ensures cause { IfErr result (λ f. f ≡ faults.Write) }
-{
-    match writer.write(bytes) {
-        Ok(0) => Err(ListFault::Write),
-        Ok(written) => Ok(written),
-        Err(fault) => match fault.kind() {
-            io::ErrorKind::Interrupted => Ok(0),
-            _ => Err(ListFault::Write),
-        },
-    }
 }

@@ -1,52 +1,71 @@
-//! The text of a listing, made in memory as a whole.
+//! The lines of a listing, sent one after another.
 
-ghost use Rattle.std.specs.Prelude.{◌≡◌, ◌++◌, OnOk, IfOk};
+ghost use Rattle.std.specs.Prelude.{◌≡◌, ◌++◌, [], codes, length, OnOk, OnErr};
+ghost use Rattle.std.specs.Io.KnownBytes.{Appends};
+ghost use Rattle.std.specs.Fmt.{decimal};
 ghost use Rattle.std.specs.List.{flat_map};
-ghost use Rattle.st_listing.specs.Listing.{listing, entry_lines, phase_text, command_text, hidden_text, explicit_text, line, continued};
+ghost use Rattle.st_listing.specs.Listing.{entry_lines, phase_text, command_text, hidden_text, explicit_text, line};
+ghost use Rattle.st_listing.specs.Writing.{AppendsPart, SendsOrPart};
 
+use crate::output::{WriteFailed, make_room, send_both, send_line, write_text};
+use itoa::Buffer;
+use memchr::memchr;
 use st_records::{Iter, PackedEntry, Phase};
-use st_state::{Listed, State};
-use std::alloc::{AllocError, Global};
+use st_state::Listed;
+use std::io::Write;
 
-// How many entries are looked at before their lines are written.
+// How many entries are looked at before their lines are sent.
 const BLOCK: usize = 64;
 
 // The bytes of a line for a command or a prerequisite, as most are.
 const USUAL_LINE: usize = 32;
 
-/// The listing of a state: for each name, in byte order, its phase, its commands, its hidden and its explicit names.
-pub fn listing_text(alloc: Global, state: &State) -> Result<Vec<u8>, AllocError>
-    ensures { IfOk result (λ text. text.items ≡ listing state.now) }
+/// Writes what waits in the buffer and then the lines of the entries.
+pub fn write_lines<W: Write>(
+    buffer: &mut Vec<u8>,
+    writer: &mut W,
+    named: &Listed<'_>,
+) -> Result<(), WriteFailed>
+    ensures whole { OnOk result (Appends (W.contents writer.old) (W.contents writer.new) (buffer.old.items ++ flat_map entry_lines named.now)) }
+    ensures part { OnErr result (AppendsPart (W.contents writer.old) (W.contents writer.new) (buffer.old.items ++ flat_map entry_lines named.now)) }
 {
-    let named = state.in_byte_order(alloc)?;
-    let mut text = Vec::new(alloc);
-    append_entries(alloc, &mut text, &named)?;
-    Ok(text)
+    send_entries(buffer, writer, named)?;
+    write_text(buffer.as_slice(), writer)
 }
 
-fn append_entries(alloc: Global, text: &mut Vec<u8>, named: &Listed<'_>) -> Result<(), AllocError>
-    ensures { OnOk result (text.new.items ≡ text.old.items ++ flat_map entry_lines named.now) }
+fn send_entries<W: Write>(
+    buffer: &mut Vec<u8>,
+    writer: &mut W,
+    named: &Listed<'_>,
+) -> Result<(), WriteFailed>
+    ensures { SendsOrPart result (W.contents writer.old) (W.contents writer.new) buffer.old.items buffer.new.items
+        (flat_map entry_lines named.now) }
 {
     for place in 0..named.len() {
-        make_room(text, named, place)?;
+        look_ahead(buffer, writer, named, place)?;
         let (name, entry) = named.at(place);
-        append_entry(alloc, text, name, entry)?;
+        send_entry(buffer, writer, name, entry)?;
     }
     Ok(())
 }
 
-// Room for a block of entries at once, before the first of them.
-fn make_room(text: &mut Vec<u8>, named: &Listed<'_>, place: usize) -> Result<(), AllocError>
-    ensures { text.new.items ≡ text.old.items }
+// Before the first entry of a block: writes what waits where the lines of the block usually find no room behind it.
+fn look_ahead<W: Write>(
+    buffer: &mut Vec<u8>,
+    writer: &mut W,
+    named: &Listed<'_>,
+    place: usize,
+) -> Result<(), WriteFailed>
+    ensures { SendsOrPart result (W.contents writer.old) (W.contents writer.new) buffer.old.items buffer.new.items [] }
 {
     if place % BLOCK != 0 {
         return Ok(());
     }
-    text.reserve(usual_len(named, place))
+    make_room(buffer, writer, usual_len(named, place))
 }
 
-// How many bytes the lines of the entries of a block, from its first one on, usually take. It decides nothing but how much
-// room is made at once.
+// How many bytes the lines of the entries of a block, from its first one on, usually take. It decides nothing but when
+// bytes that wait are written.
 //
 // Names and entries lie all over memory, and to fetch one takes longer than to write its lines. Looked at here one right
 // after another, many are fetched at a time; the first byte of a name is read for that alone.
@@ -69,96 +88,117 @@ fn usual_len(named: &Listed<'_>, first: usize) -> usize {
     len
 }
 
-fn append_entry(
-    alloc: Global,
-    text: &mut Vec<u8>,
+fn send_entry<W: Write>(
+    buffer: &mut Vec<u8>,
+    writer: &mut W,
     name: &[u8],
     entry: &PackedEntry,
-) -> Result<(), AllocError>
-    ensures { OnOk result (text.new.items ≡ text.old.items ++ entry_lines (name.now, entry.now)) }
+) -> Result<(), WriteFailed>
+    ensures { SendsOrPart result (W.contents writer.old) (W.contents writer.new) buffer.old.items buffer.new.items (entry_lines (name.now, entry.now)) }
 {
     let (commands, hidden, names) = (entry.commands(), entry.hidden(), entry.names());
-    append_lines(alloc, text, name, entry.phase(), &commands, &hidden, &names)
+    send_lines(
+        buffer,
+        writer,
+        name,
+        entry.phase(),
+        &commands,
+        &hidden,
+        &names,
+    )
 }
 
-fn append_lines(
-    alloc: Global,
-    text: &mut Vec<u8>,
+fn send_lines<W: Write>(
+    buffer: &mut Vec<u8>,
+    writer: &mut W,
     name: &[u8],
     phase: Phase,
     commands: &Iter<'_>,
     hidden: &Iter<'_>,
     names: &Iter<'_>,
-) -> Result<(), AllocError>
-    ensures { OnOk result (text.new.items ≡ text.old.items
-        ++ (line (phase_text name.now phase) ++ flat_map (λ c. line (command_text c)) commands.now ++ flat_map (λ h. line (hidden_text h)) hidden.now
-        ++ flat_map (λ n. line (explicit_text n)) names.now)) }
+) -> Result<(), WriteFailed>
+    ensures { SendsOrPart result (W.contents writer.old) (W.contents writer.new) buffer.old.items buffer.new.items
+        (line (phase_text name.now phase) ++ flat_map (λ c. line (command_text c)) commands.now ++ flat_map (λ h. line (hidden_text h)) hidden.now
+        ++ flat_map (λ n. line (explicit_text n)) names.now) }
 {
-    append_phase(alloc, text, name, phase)?;
-    append_commands(text, commands)?;
-    append_names(text, b"    < ", hidden)?;
-    append_names(text, b"    : ", names)
+    send_phase(buffer, writer, name, phase)?;
+    send_commands(buffer, writer, commands)?;
+    send_names(buffer, writer, b"    < ", hidden)?;
+    send_names(buffer, writer, b"    : ", names)
 }
 
-fn append_phase(
-    alloc: Global,
-    text: &mut Vec<u8>,
+fn send_phase<W: Write>(
+    buffer: &mut Vec<u8>,
+    writer: &mut W,
     name: &[u8],
     phase: Phase,
-) -> Result<(), AllocError>
-    ensures { OnOk result (text.new.items ≡ text.old.items ++ line (phase_text name.now phase)) }
+) -> Result<(), WriteFailed>
+    ensures { SendsOrPart result (W.contents writer.old) (W.contents writer.new) buffer.old.items buffer.new.items (line (phase_text name.now phase)) }
 {
     match phase {
-        Phase::Begun => {
-            text.extend_from_slice(b"begun ")?;
-            text.extend_from_slice(name)?;
-        }
-        Phase::Done => {
-            text.extend_from_slice(b"done ")?;
-            text.extend_from_slice(name)?;
-        }
-        Phase::Failed(status) => {
-            text.extend_from_slice(b"failed ")?;
-            text.extend_from_slice(name)?;
-            text.extend_from_slice(b" ")?;
-            text.extend_from_slice(format!(in alloc; "{status}")?.as_bytes())?;
-        }
+        Phase::Begun => send_line(buffer, writer, b"begun ", name),
+        Phase::Done => send_line(buffer, writer, b"done ", name),
+        Phase::Failed(status) => send_failed(buffer, writer, name, status),
     }
-    text.push(b'\n')?;
-    Ok(())
 }
 
-fn append_commands(text: &mut Vec<u8>, commands: &Iter<'_>) -> Result<(), AllocError>
-    ensures { OnOk result (text.new.items ≡ text.old.items ++ flat_map (λ c. line (command_text c)) commands.now) }
+fn send_failed<W: Write>(
+    buffer: &mut Vec<u8>,
+    writer: &mut W,
+    name: &[u8],
+    status: u32,
+) -> Result<(), WriteFailed>
+    ensures { SendsOrPart result (W.contents writer.old) (W.contents writer.new) buffer.old.items buffer.new.items
+        (line (codes "failed " ++ name.now ++ codes " " ++ decimal status)) }
+{
+    let mut digits = Buffer::new();
+    send_both(buffer, writer, b"failed ", name)?;
+    send_line(buffer, writer, b" ", digits.format(status).as_bytes())
+}
+
+fn send_commands<W: Write>(
+    buffer: &mut Vec<u8>,
+    writer: &mut W,
+    commands: &Iter<'_>,
+) -> Result<(), WriteFailed>
+    ensures { SendsOrPart result (W.contents writer.old) (W.contents writer.new) buffer.old.items buffer.new.items
+        (flat_map (λ c. line (command_text c)) commands.now) }
 {
     for command in commands.iter() {
-        text.extend_from_slice(b"    $ ")?;
-        append_continued(text, command)?;
-        text.push(b'\n')?;
+        send_command(buffer, writer, command)?;
     }
     Ok(())
 }
 
-fn append_continued(text: &mut Vec<u8>, command: &[u8]) -> Result<(), AllocError>
-    ensures { OnOk result (text.new.items ≡ text.old.items ++ flat_map continued command.now) }
+fn send_command<W: Write>(
+    buffer: &mut Vec<u8>,
+    writer: &mut W,
+    command: &[u8],
+) -> Result<(), WriteFailed>
+    ensures { SendsOrPart result (W.contents writer.old) (W.contents writer.new) buffer.old.items buffer.new.items (line (command_text command.now)) }
 {
-    for byte in command {
-        text.push(*byte)?;
-        if *byte == b'\n' {
-            text.extend_from_slice(b"    > ")?;
-        }
+    let mut mark = b"    $ ";
+    let mut rest = command;
+    while let Some(end) = memchr(b'\n', rest) {
+        let (text, after) = rest.split_at(end);
+        send_line(buffer, writer, mark, text)?;
+        mark = b"    > ";
+        rest = &after[1..];
     }
-    Ok(())
+    send_line(buffer, writer, mark, rest)
 }
 
 // One line for each name, the mark before it.
-fn append_names(text: &mut Vec<u8>, mark: &[u8], names: &Iter<'_>) -> Result<(), AllocError>
-    ensures { OnOk result (text.new.items ≡ text.old.items ++ flat_map (λ n. line (mark.now ++ n)) names.now) }
+fn send_names<W: Write>(
+    buffer: &mut Vec<u8>,
+    writer: &mut W,
+    mark: &[u8],
+    names: &Iter<'_>,
+) -> Result<(), WriteFailed>
+    ensures { SendsOrPart result (W.contents writer.old) (W.contents writer.new) buffer.old.items buffer.new.items (flat_map (λ n. line (mark.now ++ n)) names.now) }
 {
     for name in names.iter() {
-        text.extend_from_slice(mark)?;
-        text.extend_from_slice(name)?;
-        text.push(b'\n')?;
+        send_line(buffer, writer, mark, name)?;
     }
     Ok(())
 }

@@ -1,7 +1,7 @@
 use Rattle.std.proofs.Common.{◌++◌, take}
 use Rattle.std.proofs.KnownBytes.{Appends-trans}
 use Rattle.st_listing.proofs.ListingLemmas.{front_moved}
-use Rattle.st_listing.proofs.listing.write_text.Goals as goal
+use Rattle.st_listing.proofs.output.write_text.Goals as goal
 
 pub loop-rest-preserved : goal.loop-rest-preserved
 loop-rest-preserved g c =
