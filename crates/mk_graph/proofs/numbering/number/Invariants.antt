@@ -5,8 +5,8 @@ use Rattle.mk_graph.specs.Numbering.{name_at, has_name, AreDescribed}
 use Rattle.mk_graph.proofs.NumberingLemmas.{Numbers}
 use Rattle.mk_graph.proofs.numbering.number.Given as goal
 
-abbrev pub invariant-loop-numbered : goal.invariant-loop-numbered
-invariant-loop-numbered g l = record {
+abbrev pub invariant-loop-alloc : goal.invariant-loop-alloc
+invariant-loop-alloc g l = record {
   numbers : (of : List ℕ → List (List ℕ)) → g.R.Dependencies.allows l.source of → Numbers of l.goals l.numbered.names l.numbered.rows;
   below : list_all (λ ns. list_all (λ n. nat_lt n (length l.numbered.names)) ns) l.numbered.rows ≡ true;
   looked : length l.numbered.rows ≤ length l.numbered.names;
@@ -22,5 +22,5 @@ invariant-loop-numbered g l = record {
   follows : g.R.Dependencies.follows l.fn.source true l.source;
 }
 
-abbrev pub decreases-loop-numbered : goal.decreases-loop-numbered
-decreases-loop-numbered g l = l.limit - length l.numbered.rows
+abbrev pub decreases-loop-alloc : goal.decreases-loop-alloc
+decreases-loop-alloc g l = l.limit - length l.numbered.rows
