@@ -191,7 +191,6 @@ fn order_found(
     ensures fault { IfErr result (λ fault. (inputs : Inputs) (named : List (List ℕ)) → inputs.lines ≡ lines.now
         → AreFound inputs (goals_of inputs.lines named) numbered → IsGraphlessFault inputs named fault) }
 {
-    let numbered = numbered.shared(alloc);
     let Parts {
         fronts: hard,
         backs: waited,
@@ -256,6 +255,7 @@ fn graph_of(
     )?;
     // The table is let go where nothing asks for it later, before the order takes memory.
     let (lines, targets, suffixes) = parts_of(makefile, profile);
+    let numbered = numbered.shared(alloc);
     let (named, ordered) = order_found(alloc, &lines, &suffixes, numbered)?;
     Ok(put_together(
         alloc, lines, targets, suffixes, macros, named, ordered, state,

@@ -1,6 +1,11 @@
 use Rattle.std.proofs.Common.{◌≡◌, ℕ, List, sym, ap, subst, ◌∙◌}
 use Rattle.std.specs.Prelude.{codes}
+use Rattle.mk_graph.specs.Numbering.{AreDescribed}
+use Rattle.mk_graph.specs.declared.numbering.Numbered.{Numbered}
 use Rattle.mk_rules.specs.Found.{AreFound, IsGraphlessFault}
+use Rattle.mk_rules.specs.Graph.{AreMade}
+use Rattle.mk_rules.specs.Known.{IsKnown}
+use Rattle.mk_rules.specs.declared.graph.Node.{Node}
 use Rattle.mk_rule_lines.specs.Explicit.{explicit_targets}
 use Rattle.mk_rule_lines.specs.Rules.{recipe_places}
 use Rattle.mk_rule_lines.specs.Goals.{goals_of}
@@ -14,6 +19,10 @@ use Rattle.mk_rules.proofs.DistinctLemmas.{distinct_numbers}
 use Rattle.mk_rules.proofs.FoundLemmas.{target_is}
 use Rattle.mk_rule_lines.proofs.LineLemmas.{handed_on}
 use Rattle.mk_rules.proofs.building.graph_of.Goals as goal
+
+-- the same of what was numbered once its rows are shared
+as_shared : (inputs : Inputs) (named : List (List ℕ)) (n shared : Numbered Node) → shared ≡ n → AreFound inputs (goals_of inputs.lines named) n → AreFound inputs (goals_of inputs.lines named) shared
+as_shared inputs named n shared same found = subst (AreFound inputs (goals_of inputs.lines named)) (sym same) found
 
 pub check_made-requires-clause-table : goal.check_made-requires-clause-table
 check_made-requires-clause-table c = λ name.
@@ -42,7 +51,9 @@ order_found-requires-clause-taken c =
 pub order_found-requires-clause-made : goal.order_found-requires-clause-made
 order_found-requires-clause-made c = λ inputs are known.
     let same : c.deref-2.result.now ≡ c.deref.result.now = cc in
-    c.in_ok-check_made.ensures.made inputs (are ∙ same) known
+    let shared = c.shared-numbered.ensures in
+    subst (λ n. AreMade inputs n.names) (sym shared)
+    (c.in_ok-check_made.ensures.made inputs (are ∙ same) (subst (λ n. AreDescribed (IsKnown inputs) n.names n.nodes.items) shared known))
 
 pub returns-in_err-named-clause-fault : goal.returns-in_err-named-clause-fault
 returns-in_err-named-clause-fault c =
@@ -51,7 +62,7 @@ returns-in_err-named-clause-fault c =
     handed_on _
     (λ f. (inputs : Inputs) → (named : List (List ℕ)) → inputs.lines ≡ lines → AreFound inputs (goals_of inputs.lines named) n → IsGraphlessFault inputs named f)
     c.in_err-named.field-0.0 (c.from_residual-in_err-named.ensures).1
-    (λ inputs named are found. let same : lines ≡ c.deref-2.result.now = cc in c.in_err-named.ensures.fault inputs named (are ∙ same) found)
+    (λ inputs named are found. let same : lines ≡ c.deref-2.result.now = cc in c.in_err-named.ensures.fault inputs named (are ∙ same) (as_shared inputs named n c.shared-numbered.result c.shared-numbered.ensures found))
 
 pub returns-in_err-put_together-clause-fault : goal.returns-in_err-put_together-clause-fault
 returns-in_err-put_together-clause-fault c =
@@ -64,8 +75,10 @@ returns-in_err-put_together-clause-fault c =
 pub returns-clause-graph : goal.returns-clause-graph
 returns-clause-graph c = λ inputs named are entries found.
     let same : c.args.makefile.lines.items ≡ c.deref-2.result.now = cc in
-    c.in_ok-named.ensures.graph inputs named (are ∙ same) found c.args.state entries c.in_ok-put_together.field-0
+    c.in_ok-named.ensures.graph inputs named (are ∙ same) (as_shared inputs named c.args.numbered c.shared-numbered.result c.shared-numbered.ensures found) c.args.state entries c.in_ok-put_together.field-0
     (rw (sym c.deref-2.ensures.value) at c.in_ok-put_together.ensures.graph)
 
 pub put_together-requires-clause-names : goal.put_together-requires-clause-names
-put_together-requires-clause-names c = subst EachHasOneNumber (sym c.in_ok-named.ensures.named.names) (distinct_numbers c.args.numbered.names c.requires.names)
+put_together-requires-clause-names c =
+    subst EachHasOneNumber (sym c.in_ok-named.ensures.named.names)
+    (subst (λ n. EachHasOneNumber n.names) (sym c.shared-numbered.ensures) (distinct_numbers c.args.numbered.names c.requires.names))
