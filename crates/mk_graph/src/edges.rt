@@ -119,13 +119,6 @@ impl Edges {
         }
     }
 
-    /// No nodes, which takes no memory.
-    pub fn empty(alloc: Global) -> Edges
-        ensures { result ≡ [] }
-    {
-        Edges::of_packed(PackedRows::empty(alloc))
-    }
-
     /// No nodes, with room for so many; no clause says that pushes then succeed.
     pub fn with_capacity(alloc: Global, nodes: usize) -> Result<Edges, AllocError>
         ensures { IfOk result (λ e. e ≡ []) }

@@ -48,16 +48,6 @@ pub fn short(count: usize) -> Result<u32, AllocError>
 }
 
 impl PackedRows {
-    /// No rows, which takes no memory.
-    pub fn empty(alloc: Global) -> PackedRows
-        ensures { result ≡ [] }
-    {
-        PackedRows {
-            numbers: Vec::new(alloc),
-            ends: Vec::new(alloc),
-        }
-    }
-
     /// No rows, with room for so many and for so many numbers, where there is memory for it.
     pub fn with_room(alloc: Global, rows: usize, numbers: usize) -> PackedRows
         ensures { result ≡ [] }
