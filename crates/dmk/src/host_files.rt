@@ -1,5 +1,6 @@
 //! Files and folders by the system's own calls, and the commands of definitions by its shell.
 use crate::always_run::NONE;
+use crate::looks::Looks;
 use crate::standard_streams::with_patience;
 use bd_lists::Variable;
 use byte_strings::ByteStrings;
@@ -8,15 +9,15 @@ use jb_host::{DryShell, Written};
 use std::alloc::{AllocError, Global};
 use std::fs::{self, File};
 use std::io::{self, ErrorKind, Read, Write};
-use std::os::unix::fs::MetadataExt;
 
 /// The name under which standard input is read as a makefile.
 pub const INPUT: &[u8] = b"-";
 
 /// The files of the current folder, and those that names lead to from there.
-#[derive(Clone, Copy)]
+#[derive(Drop)]
 pub struct HostFiles<'a> {
     rt: HostRuntime,
+    looks: Looks,
     /// What standard input held, which then is the text of the name `-`.
     input: Option<&'a [u8]>,
     /// What the environment of commands has beside dmk's own.
@@ -52,6 +53,7 @@ impl<'a> HostFiles<'a> {
             rt.alloc(),
             HostFiles {
                 rt,
+                looks: Looks::new(),
                 input: None,
                 env: &[],
             },
@@ -64,7 +66,16 @@ impl<'a> HostFiles<'a> {
         input: Option<&'a [u8]>,
         env: &'a [Variable],
     ) -> FileTexts<HostFiles<'a>> {
-        FileTexts::new(rt.alloc(), HostFiles { rt, input, env })
+        let looks = Looks::new();
+        FileTexts::new(
+            rt.alloc(),
+            HostFiles {
+                rt,
+                looks,
+                input,
+                env,
+            },
+        )
     }
 
     // The file's name stands in the note as it is: it may be no text.
@@ -100,12 +111,7 @@ impl FileCalls for HostFiles<'_> {
                 is_ordinary: true,
             });
         }
-        let metadata = fs::metadata(&self.rt, name)?;
-        Ok(FileStatus {
-            seconds: metadata.mtime(),
-            nanoseconds: metadata.mtime_nsec(),
-            is_ordinary: metadata.is_file(),
-        })
+        self.looks.status(name)
     }
 
     fn contents(&mut self, alloc: Global, name: &str) -> io::Result<Vec<u8>> {

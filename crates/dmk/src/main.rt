@@ -13,6 +13,7 @@ mod folder;
 mod host_files;
 mod job_words;
 mod lock_file;
+mod looks;
 mod making;
 mod memory;
 mod pool_path;
@@ -20,6 +21,7 @@ mod reasons;
 mod standard_streams;
 mod state_lock;
 mod terminal;
+mod unfilled;
 
 use asking::ask;
 use child_signal::run_anew;

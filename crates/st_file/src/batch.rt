@@ -162,8 +162,8 @@ const LEAST_RECORD_BYTES: usize = 5;
 // The record of a recipe that begins starts with it.
 const BEGUN_BYTE: u8 = 1;
 
-/// About how many names so many records of these batches have: one each where they begin with names that were kept, and half as
-/// many where they begin with a recipe, which leaves a record as it begins and one as it ends.
+/// About how many names so many records of these batches have: half as many where the first is that of a recipe that begins, which leaves
+/// another as it ends, and else one each, as where names were kept.
 fn names_of(batches: &[u8], records: usize) -> usize {
     if batches.get(FRAME_BYTES) == Some(&BEGUN_BYTE) {
         records / 2
