@@ -10,7 +10,7 @@ struct Moment {
     spare: i32,
 }
 
-// The fields of `libc::types::statx`, in its order and of its types: the check refuses any others where one is read as the other.
+// The fields of `libc::types::statx`, in its order and of its types, so that one may be read as the other.
 #[repr(C)]
 #[derive(Drop)]
 struct Fields {
