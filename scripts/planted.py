@@ -18,7 +18,9 @@ only since a stored proof names what the edit took away. So does a folder plante
   answer  the stored proof of the goal doesn't prove it any more
 
 scripts/planted.record has for each crate a sum of all that its verdicts rest on (kit, files, edits, what these name of the
-crates below). A crate whose sum is there is passed over, but for --all. The last line is 'N passed, M failed'.
+crates below). A crate whose sum is there is passed over, but for --all. --stale tries nothing and lists the crates that
+would be tried, with status 1 where there are any. --record writes the sums of those that passed, and 'goal:' lines into edits
+that have none. The last line is 'N passed, M failed'.
 """
 import argparse
 import concurrent.futures
@@ -95,21 +97,36 @@ def verdict(finding, goals, wants_goals):
     return True, f"refused ({finding.kind}): {finding.why}"
 
 
-def try_crate(crate, edits, wants_goals, flags, keeps, log):
+def name_goals(edit, finding):
+    """Writes the goals at which an edit is refused into its file."""
+    with open(edit, "a", encoding="utf-8") as file:
+        file.writelines(f"goal: {name}\n" for name in sorted(finding.goals))
+
+
+def try_crate(crate, edits, wants_goals, options, log):
     """Returns for each edit whether it is refused as it has to be, and what to say."""
-    source = source_of(crate)
+    source, flags, keeps = source_of(crate), ["--jobs", options.jobs], options.kept
     if any(STEM.encode() in text for text in source.data.values()):
         return {it: (False, f"BAD EDIT: a name of the crate has {STEM}") for it in edits}
+
+    def answer(edit, finding):
+        goals = goals_of(edit)
+        well, text = verdict(finding, goals, wants_goals)
+        if options.record and wants_goals and well and not goals:
+            name_goals(edit, finding)
+            text += " (written into the edit)"
+        return well, text
+
     with tempfile.TemporaryDirectory(prefix="planted-kept-") as kept:
         if keeps and crate.has_kept():
             shutil.copytree(f"{crate.folder}/out/incremental", kept, dirs_exist_ok=True, copy_function=shutil.copyfile)
         judged, others = beside(crate, source, edits, flags, kept, log)
         answers = {}
         for edit, (finding, seconds) in judged.items():
-            well, text = verdict(finding, goals_of(edit), wants_goals)
+            well, text = answer(edit, finding)
             answers[edit] = well, f"{seconds:.0f} s: {text}"
         for edit, finding in in_place(crate, others, flags, kept, log):
-            well, text = verdict(finding, goals_of(edit), wants_goals)
+            well, text = answer(edit, finding)
             answers[edit] = well, f"in place, since {others[edit]}: {text}"
     return answers
 
@@ -138,19 +155,24 @@ class Run:
         with self.building:
             return any(not is_fresh(it) and it.build_rlib(["--jobs", self.options.jobs], anew=False) for it in crate.below())
 
-    def crate(self, crate, log):
-        """Tries the edits of a crate, unless they are recorded."""
+    def files_of(self, crate):
+        """Returns the names of the files in the crate's folder of edits, and the paths of its edits."""
         folder = f"{crate.folder}/{self.options.folder}"
         files = sorted(os.listdir(folder)) if os.path.isdir(folder) else []
-        edits = [f"{folder}/{it}" for it in files if it.endswith(".edit")]
+        return files, [f"{folder}/{it}" for it in files if it.endswith(".edit")]
+
+    def is_recorded(self, crate, edits):
+        return self.known.get(crate.name) == (record.key_of(crate, edits), len(edits))
+
+    def crate(self, crate, log):
+        """Tries the edits of a crate, unless they are recorded."""
+        files, edits = self.files_of(crate)
         is_planted = self.options.folder == "planted"
-        key = record.key_of(crate, edits) if is_planted and edits else None
-        is_known = bool(edits) and not self.options.all and self.known.get(crate.name) == (key, len(edits))
+        is_known = bool(edits) and is_planted and not self.options.all and self.is_recorded(crate, edits)
         started, answers, why = time.monotonic(), {}, None if edits else f"no edits in {self.options.folder}/"
         if edits and not is_known:
             why = "a library below it isn't proved" if self.lacks_libraries(crate) else None
-            flags = ["--jobs", self.options.jobs]
-            answers = {} if why else try_crate(crate, edits, is_planted, flags, self.options.kept, log)
+            answers = {} if why else try_crate(crate, edits, is_planted, self.options, log)
         with self.telling:
             before = self.failed
             for odd in [it for it in files if not it.endswith((".edit", ".md"))]:
@@ -165,23 +187,30 @@ class Run:
                 print(f"{crate.name}: {len(edits)} edits, {time.monotonic() - started:.0f} s")
                 for edit in edits:
                     self.tell(f"{crate.name}/{os.path.basename(edit)}", *answers[edit])
-                self.note(crate, key, len(edits), self.failed == before)
+                if self.options.record and is_planted:
+                    self.note(crate, edits, self.failed == before)
 
-    def note(self, crate, key, count, is_well):
+    def note(self, crate, edits, is_well):
         """Writes a crate that passed into the record, and takes one that failed out of it."""
-        if not self.options.record or not key:
-            return
         self.known.pop(crate.name, None)
         if is_well:
-            self.known[crate.name] = key, count
+            self.known[crate.name] = record.key_of(crate, edits), len(edits)
         record.write(self.known)
+
+    def stale(self, crates):
+        """Lists the crates whose edits would be tried, and returns how many."""
+        known = {it.name: self.is_recorded(it, self.files_of(it)[1]) for it in crates}
+        for crate in [it for it in crates if not known[it.name]]:
+            print(f"{crate.name}: {len(self.files_of(crate)[1])} edits, not as recorded")
+        return len(crates) - sum(known.values())
 
 
 def options_of(words):
     parser = argparse.ArgumentParser(description=__doc__, formatter_class=argparse.RawDescriptionHelpFormatter)
     parser.add_argument("crates", nargs="*", metavar="CRATE", help="the crates to try (each that has planted/)")
     parser.add_argument("--all", action="store_true", help="try recorded crates too")
-    parser.add_argument("--record", action="store_true", help="write the record")
+    parser.add_argument("--stale", action="store_true", help="list the crates whose edits are not as recorded, and try none")
+    parser.add_argument("--record", action="store_true", help="write the record, and the goals of edits that name none")
     parser.add_argument("--kept", action="store_true", help="begin with the work that `rt check` kept in out/")
     other = "take the edits of another folder, such as must-fail, which need no goal"
     parser.add_argument("--from", dest="folder", default="planted", metavar="FOLDER", help=other)
@@ -198,6 +227,8 @@ def main(words):
     crates = {it.name: it for it in rtlib.crates_below(os.getcwd())}
     names = options.crates or [it for it in crates if os.path.isdir(f"{crates[it].folder}/{options.folder}")]
     run = Run(options)
+    if options.stale:
+        return 1 if run.stale([crates[it] for it in names if it in crates]) else 0
     for name in names:
         if name not in crates:
             run.tell(name, False, "crates.txt has no such crate")
@@ -207,7 +238,7 @@ def main(words):
             done.result()
     if not names:
         run.tell("planted", False, "no edits were found")
-    print(f"{run.tried} edits were tried, {run.recorded} are as recorded")
+    print(f"{run.tried} edits were tried for want of a record, {run.recorded} are as recorded")
     print(f"{run.passed} passed, {run.failed} failed")
     return 1 if run.failed else 0
 

@@ -2,14 +2,16 @@
 # Every check, from nothing. The last line is 'N passed, M failed'; the status is 0 only where M is 0.
 set -u -o pipefail
 cd "$(dirname "$0")/.." || exit 2
-passed=0 failed=0
+passed=0 failed=0 said='' planted=''
 
-# run_part COMMAND..: shows its output, and adds the counts of its last line. A part with no count is one failure.
+# run_part COMMAND..: shows its output, and adds the counts of its last line. A part with no count is one failure. The line before
+# the last one is left in `said`.
 run_part() {
     local log good bad status=0
     log=$(mktemp) || exit 2
     "$@" 2>&1 | tee "$log" || status=$?
     read -r good bad <<<"$(tail -n 1 "$log" | sed -nE 's/^([0-9]+) passed, ([0-9]+) failed$/\1 \2/p')"
+    said=$(tail -n 2 "$log" | head -n 1)
     rm -f "$log"
     good=${good:-0} bad=${bad:-1}
     [ "$status" -eq 0 ] || [ "$bad" -gt 0 ] || bad=1
@@ -30,6 +32,7 @@ run_part env RT_JOBS="${RT_JOBS:-$lanes}" rt ci
 if [ "$failed" -eq 0 ]; then
     run_part bash scripts/must_not_compile.sh
     run_part python3 scripts/planted.py --built --lanes "$lanes"
+    planted=$said
     run_part bash scripts/cases.sh
     run_part python3 scripts/rows.py
     run_part bash scripts/store_rows.sh
@@ -51,6 +54,7 @@ kill "$sampler" 2>/dev/null
 wait "$sampler"
 cat "$cost"
 rm -f "$cost"
+[ -z "$planted" ] || echo "planted: $planted"
 echo "wall time: $((SECONDS - started)) s"
 echo "$passed passed, $failed failed"
 [ "$failed" -eq 0 ]

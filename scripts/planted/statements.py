@@ -7,9 +7,12 @@ functions, attributes and comments never count. Where two things have one name b
 """
 import collections
 import functools
+import hashlib
+import json
+import os
 import re
 
-from .toolchain import bodies, rtlib
+from .toolchain import KIT, bodies, rtlib
 
 WORD = re.compile(r"\w+")
 COMMENT = re.compile(r'(?s){-.*?-}|(?<![^ \n(){}.;,@"»])--[^\n]*')
@@ -41,7 +44,34 @@ def named_below(crate, files):
 
 @functools.cache
 def statements_of(crate):
-    """Returns the statements of a crate, each once."""
+    """Returns the statements of a crate, each once. They are kept in its out/, with a sum of what they were read from."""
+    kept, key = f"{crate.folder}/out/statements.json", sum_of_texts(crate)
+    try:
+        with open(kept, encoding="utf-8") as file:
+            known = json.load(file)
+        if known["key"] == key:
+            return [Statement(crate.name, row[0], frozenset(row[1]), frozenset(row[2]), row[3]) for row in known["rows"]]
+    except (OSError, ValueError, KeyError):
+        pass  # nothing is kept, or not of this form
+    found = read_statements(crate)
+    rows = [[it.is_public, sorted(it.name), sorted(it.words), it.text] for it in found]
+    os.makedirs(os.path.dirname(kept), exist_ok=True)
+    part = f"{kept}.{os.getpid()}"
+    with open(part, "w", encoding="utf-8") as file:
+        json.dump({"key": key, "rows": rows}, file)
+    os.replace(part, kept)
+    return found
+
+
+def sum_of_texts(crate):
+    """Returns a sum of all that a crate's statements are read from: its src/ and specs/, the toolchain's lexer, and this file."""
+    texts = [it for it in rtlib.files_of(crate.folder) if not it.startswith(f"{crate.folder}/proofs/")]
+    rows = [(os.path.relpath(it, crate.folder), rtlib.sum_of(it)) for it in texts]
+    return hashlib.sha256(repr([rtlib.sum_of(f"{KIT}/KIT-ID"), rtlib.sum_of(__file__), *rows]).encode()).hexdigest()
+
+
+def read_statements(crate):
+    """Reads the statements of a crate, each once."""
     found = {}
 
     def add(is_public, name, words):
