@@ -1,39 +1,13 @@
 //! make with a state that remembers what each recipe was, and whether it ended.
 #![tactic(auto)]
 
-mod always_run;
-mod arguments;
-mod asking;
-mod base;
-mod child_signal;
-mod command_line;
-mod environment;
-mod flags;
-mod folder;
-mod host_files;
-mod job_words;
-mod lock_file;
-mod looks;
 mod making;
-mod memory;
-mod pool_path;
-mod reasons;
-mod standard_streams;
 mod state_lock;
-mod terminal;
-mod unfilled;
 
-use asking::ask;
-use child_signal::run_anew;
-use command_line::{Asked, Later, Request, read_words};
 use dmk_drive::{Fault, Message, Mode, Options, value_of};
-use environment::{macro_variables, with_environment};
-use folder::{FolderFault, enter, tell};
-use host_files::read_input;
-use job_words::processors;
+use dmk_host::{FolderFault, ask, enter, held_streams, keep_blocks, read_input, run_anew, tell};
+use dmk_words::{Asked, Later, Request, macro_variables, processors, read_words, with_environment};
 use making::make;
-use memory::keep_blocks;
-use standard_streams::held_streams;
 use std::alloc::AllocError;
 use std::process::ExitCode;
 use std::sync::Wait;

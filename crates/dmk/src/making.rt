@@ -3,28 +3,40 @@ ghost use Rattle.std.specs.Prelude.{codes};
 ghost use Rattle.dmk_drive.specs.Keeping.{value_in};
 ghost use Rattle.dmk_drive.specs.Output.{AsksToRun};
 
-use crate::always_run::beside_recipes;
-use crate::base::base_asked;
-use crate::command_line::Later;
-use crate::flags::handed_on;
-use crate::host_files::HostFiles;
-use crate::pool_path::PoolPath;
-use crate::reasons::{needs_usual_makefile, print_gnu_makefile, print_notes, print_reasons};
-use crate::standard_streams::{Patient, buffered, with_patience};
-use crate::state_lock::StateLock;
-use crate::terminal::status_columns;
-use bd_lists::Variable;
-use dmk_drive::{FileTexts, FileTree, Options, value_of};
-use dmk_run::{Means, Printer, build_targets, followed, trust_files};
-use jb_flags::Handing;
+use crate::state_lock::{LockPlace, StateLock};
+use bd_flusher::Receipt;
+use bd_lists::{Exec, Variable};
+use dmk_drive::{FileTexts, Options, value_of};
+use dmk_host::{
+    HostFiles, Patient, PoolPath, base_asked, beside_recipes, buffered, needs_usual_makefile,
+    print_gnu_makefile, print_notes, print_reasons, status_columns, with_patience,
+};
+use dmk_run::{Guard, Means, Printer, build_targets, followed, trust_files};
+use dmk_words::{Later, handed_on};
+use jb_flags::{Handed, Handing};
 use jb_host::{HOLDS, HostPlace, Shell};
-use jb_slots::FifoBanks;
-use st_disk::{FileDisk, SystemFolder};
+use jb_recipe::Place;
+use jb_slots::{Banks, FifoBanks};
+use mk_eval::Includes;
+use mk_rules::Tree;
+use st_disk::{Disk, FileDisk, SystemFolder};
 use st_records::HashKey;
-use std::alloc::AllocError;
+use std::alloc::{AllocError, Global};
 use std::io::{BufWriter, Stderr, Stdout, Write};
 use std::sync::{OnceLock, Wait};
 use std::thread::Threads;
+
+type HostPrinter<'a, R> = Printer<'a, R, BufWriter<Patient<Stdout>>, BufWriter<Patient<Stderr>>>;
+
+/// What a run has of this machine, found before a makefile is made of anything.
+#[derive(Drop)]
+struct Outfit<'a, R: Wait> {
+    folder: SystemFolder,
+    pool: PoolPath,
+    handed: Option<Handed>,
+    lock: LockPlace,
+    printer: HostPrinter<'a, R>,
+}
 
 /// A printer on the standard streams.
 fn host_printer<'a, R: Wait>(
@@ -32,7 +44,7 @@ fn host_printer<'a, R: Wait>(
     host: HostRuntime,
     environment: &[Variable],
     is_silent: bool,
-) -> Result<Printer<'a, R, BufWriter<Patient<Stdout>>, BufWriter<Patient<Stderr>>>, AllocError> {
+) -> Result<HostPrinter<'a, R>, AllocError> {
     let alloc = host.alloc();
     Ok(Printer::new(
         rt,
@@ -43,56 +55,78 @@ fn host_printer<'a, R: Wait>(
     ))
 }
 
-/// Takes targets as they are, where nothing is recorded of any; the status where that ends the run. The state's disk comes back.
-fn trust_here<R: Wait, O: Write + Drop, W: Write + Drop>(
+fn outfit_of<'a, R: Wait>(
+    rt: &'a R,
     host: HostRuntime,
-    means: &Means<'_, Handing<'_, Shell<'_>>, Printer<'_, R, O, W>, HostPlace<'_, R>>,
-    guard: &mut StateLock<'_>,
     options: &Options,
-    tree: &mut FileTree<HostFiles<'_>>,
-    makefiles: &mut FileTexts<HostFiles<'_>>,
-    disk: FileDisk<SystemFolder>,
-) -> (Option<u8>, FileDisk<SystemFolder>) {
-    let (found, disk) = trust_files(
-        host.alloc(),
-        means.key,
-        means.environment,
-        means.say,
-        guard,
-        options,
-        tree,
-        makefiles,
-        disk,
-    );
-    (found.err(), disk)
+    later: Later,
+    environment: &[Variable],
+) -> Result<Outfit<'a, R>, AllocError> {
+    let alloc = host.alloc();
+    let state = options.state.as_str();
+    let flags = value_of(environment, b"MAKEFLAGS");
+    let before = later.definitions_before(environment);
+    let handed = handed_on(alloc, options, later.environment_counts, before, flags)?;
+    let lock = LockPlace::of(host, state)?;
+    let folder = SystemFolder::new(host, alloc, state)?;
+    let pool = PoolPath::new(host, state, flags, usize::from(options.workers))?;
+    let printer = host_printer(rt, host, environment, options.is_silent)?;
+    Ok(Outfit {
+        folder,
+        pool,
+        handed,
+        lock,
+        printer,
+    })
 }
 
-/// Makes the targets over the files of the current folder, and answers the status. The state's disk comes back.
-fn make_here<R, O, W>(
+/// Takes targets as they are where that is asked for, makes the targets, and answers the status. The state's disk comes back.
+///
+/// The parts of this machine are of any types here: made concrete once, at the call.
+fn make_over<R, T, I, E, O, W, P, G, K, D>(
     rt: &R,
-    host: HostRuntime,
-    means: &Means<'_, Handing<'_, Shell<'_>>, Printer<'_, R, O, W>, HostPlace<'_, R>>,
-    guard: &mut StateLock<'_>,
+    alloc: Global,
+    means: &Means<'_, E, Printer<'_, R, O, W>, P>,
+    guard: &mut G,
     options: Options,
     trusts_files: bool,
-    makefiles: &mut FileTexts<HostFiles<'_>>,
-    folder: SystemFolder,
-) -> (u8, FileDisk<SystemFolder>)
+    tree: &mut T,
+    makefiles: &mut I,
+    banks: &mut K,
+    disk: D,
+) -> (u8, D)
 where
     R: Threads + Wait + Sync,
+    T: Tree,
+    I: Includes,
+    E: Exec<Receipt> + Sync,
     O: Write + Drop + Send,
     W: Write + Drop + Send,
+    P: Place + Sync,
+    G: Guard,
+    K: Banks,
+    K::End: Drop + Send,
+    D: Disk + Drop + Send,
     requires { AsksToRun options (value_in means.now.environment.now (codes "MAKEFLAGS")) }
 {
-    let mut tree = HostFiles::tree(host);
-    let disk = FileDisk::new(folder);
-    let (ended, disk) = if trusts_files {
-        trust_here(host, means, guard, &options, &mut tree, makefiles, disk)
-    } else {
-        (None, disk)
-    };
-    if let Some(status) = ended {
-        return (status, disk);
+    let mut disk = disk;
+    if trusts_files {
+        let (found, same) = trust_files(
+            alloc,
+            means.key,
+            means.environment,
+            means.say,
+            guard,
+            &options,
+            tree,
+            makefiles,
+            disk,
+        );
+        if let Err(status) = found {
+            drop(options);
+            return (status, same);
+        }
+        disk = same;
     }
     followed(
         rt,
@@ -101,49 +135,37 @@ where
             requires { AsksToRun options (value_in means.now.environment.now (codes "MAKEFLAGS")) }
         {
             build_targets(
-                rt,
-                host.alloc(),
-                means,
-                guard,
-                options,
-                &mut tree,
-                makefiles,
-                &mut FifoBanks::new(host, "mkfifo"),
-                disk,
+                rt, alloc, means, guard, options, tree, makefiles, banks, disk,
             )
         },
     )
 }
 
-/// Runs recipes, and answers the status.
-pub fn make<R: Threads + Wait + Sync>(
+/// Makes the targets with what was found, lets that go, and answers the status. What the system said of files is told at the end.
+fn make_with<R: Threads + Wait + Sync>(
     rt: &R,
     host: HostRuntime,
     options: Options,
-    later: Later,
+    trusts_files: bool,
     environment: &[Variable],
-    input: Option<&[u8]>,
-) -> Result<u8, AllocError>
+    makefiles: &mut FileTexts<HostFiles<'_>>,
+    outfit: Outfit<'_, R>,
+) -> u8
     requires { AsksToRun options (value_in environment.now (codes "MAKEFLAGS")) }
 {
+    let Outfit {
+        folder,
+        pool,
+        handed,
+        lock,
+        printer,
+    } = outfit;
     let alloc = host.alloc();
-    let env = beside_recipes(host, &options, later, environment)?;
-    let mut makefiles = HostFiles::texts(host, input, &env);
-    makefiles.define(options.profile, &options.definitions);
-    makefiles.define(options.profile, environment);
-    let base = base_asked(host, &options, environment, &mut makefiles)?;
     let is_usual = needs_usual_makefile(&options);
-    let folder = SystemFolder::new(host, alloc, options.state.as_str())?;
-    let flags = value_of(environment, b"MAKEFLAGS");
-    let workers = usize::from(options.workers);
-    let pool = PoolPath::new(host, options.state.as_str(), flags, workers)?;
-    let printer = host_printer(rt, host, environment, options.is_silent)?;
     let held = OnceLock::new();
     let above = str::from_utf8(value_of(environment, HOLDS.as_bytes())).unwrap_or("");
-    let mut guard = StateLock::new(host, options.state.as_str(), above, &held)?;
+    let mut guard = StateLock::new(host, lock, above, &held);
     let shell = Shell::new(host, alloc, &held);
-    let before = later.definitions_before(environment);
-    let handed = handed_on(alloc, &options, later.environment_counts, before, flags)?;
     let exec = Handing {
         alloc,
         handed: handed.as_ref(),
@@ -158,21 +180,54 @@ pub fn make<R: Threads + Wait + Sync>(
         say: &printer,
         place: &place,
     };
-    printer.text(&base);
-    let (status, disk) = make_here(
+    let mut tree = HostFiles::tree(host);
+    let mut banks = FifoBanks::new(host, "mkfifo");
+    let (status, disk) = make_over(
         rt,
-        host,
+        alloc,
         &means,
         &mut guard,
         options,
-        later.trusts_files,
-        &mut makefiles,
-        folder,
+        trusts_files,
+        &mut tree,
+        makefiles,
+        &mut banks,
+        FileDisk::new(folder),
     );
+    drop(tree);
     pool.release();
     let (_out, mut err) = printer.into_streams();
-    print_notes(&mut err, &makefiles);
-    print_reasons(&mut err, &makefiles, &disk);
+    print_notes(&mut err, makefiles);
+    print_reasons(&mut err, makefiles, &disk);
     print_gnu_makefile(host, &mut err, is_usual && status == 2);
-    Ok(status)
+    status
+}
+
+/// Runs recipes, and answers the status.
+pub fn make<R: Threads + Wait + Sync>(
+    rt: &R,
+    host: HostRuntime,
+    options: Options,
+    later: Later,
+    environment: &[Variable],
+    input: Option<&[u8]>,
+) -> Result<u8, AllocError>
+    requires { AsksToRun options (value_in environment.now (codes "MAKEFLAGS")) }
+{
+    let env = beside_recipes(host, &options, later, environment)?;
+    let mut makefiles = HostFiles::texts(host, input, &env);
+    makefiles.define(options.profile, &options.definitions);
+    makefiles.define(options.profile, environment);
+    let base = base_asked(host, &options, environment, &mut makefiles)?;
+    let outfit = outfit_of(rt, host, &options, later, environment)?;
+    outfit.printer.text(&base);
+    Ok(make_with(
+        rt,
+        host,
+        options,
+        later.trusts_files,
+        environment,
+        &mut makefiles,
+        outfit,
+    ))
 }

@@ -1,6 +1,6 @@
 //! The lock on a state: on an empty file beside it, which stays. Recipes inherit a handle to it, and so hold the lock too.
 
-use crate::lock_file::{LockFile, Tried};
+use dmk_host::{LockFile, Tried};
 use dmk_run::{Guard, Hold};
 use jb_host::HeldLock;
 use std::alloc::AllocError;
@@ -8,12 +8,18 @@ use std::fs;
 use std::io::{self, ErrorKind};
 use std::sync::OnceLock;
 
+/// The name of a state, and the path of the lock on it.
+#[derive(Drop)]
+pub struct LockPlace {
+    state: String,
+    path: String,
+}
+
 /// Takes the lock on a state, and puts it where recipes are given it.
 #[derive(Drop)]
 pub struct StateLock<'a> {
     rt: HostRuntime,
-    state: String,
-    path: String,
+    place: LockPlace,
     /// The locks that the runs above hold, as the environment has them.
     above: &'a str,
     held: &'a OnceLock<HeldLock>,
@@ -63,26 +69,34 @@ fn lock_path(rt: HostRuntime, state: &str) -> Result<String, AllocError> {
     format!(in alloc; "{state}.lock")
 }
 
+impl LockPlace {
+    pub fn of(rt: HostRuntime, state: &str) -> Result<LockPlace, AllocError> {
+        Ok(LockPlace {
+            state: String::from_str(rt.alloc(), state)?,
+            path: lock_path(rt, state)?,
+        })
+    }
+}
+
 impl<'a> StateLock<'a> {
     pub fn new(
         rt: HostRuntime,
-        state: &str,
+        place: LockPlace,
         above: &'a str,
         held: &'a OnceLock<HeldLock>,
-    ) -> Result<StateLock<'a>, AllocError> {
-        Ok(StateLock {
+    ) -> StateLock<'a> {
+        StateLock {
             rt,
-            state: String::from_str(rt.alloc(), state)?,
-            path: lock_path(rt, state)?,
+            place,
             above,
             held,
             is_settled: false,
-        })
+        }
     }
 
     // What stands under the state's name and is no ordinary file is refused when it is opened: it has no lock.
     fn is_ordinary_or_missing(&self) -> bool {
-        match fs::metadata(&self.rt, self.state.as_str()) {
+        match fs::metadata(&self.rt, self.place.state.as_str()) {
             Ok(found) => found.is_file(),
             Err(error) => error.kind() == ErrorKind::NotFound,
         }
@@ -110,9 +124,9 @@ impl<'a> StateLock<'a> {
     // One attempt; the opened file where another run has the lock.
     fn try_once(&self) -> Result<Result<Hold, LockFile>, LockFault> {
         for _ in 0..u64::MAX {
-            match LockFile::try_lock(self.rt, self.path.as_str())? {
+            match LockFile::try_lock(self.rt, self.place.path.as_str())? {
                 Tried::Locked(opened) => {
-                    if opened.is_at(self.rt, self.path.as_str()) {
+                    if opened.is_at(self.rt, self.place.path.as_str()) {
                         return Ok(Ok(self.keep(opened)?));
                     }
                 }
@@ -133,7 +147,7 @@ impl<'a> StateLock<'a> {
                 Ok(hold) => return Ok(hold),
                 Err(opened) => {
                     opened.wait()?;
-                    if opened.is_at(self.rt, self.path.as_str()) {
+                    if opened.is_at(self.rt, self.place.path.as_str()) {
                         return self.keep(opened);
                     }
                 }

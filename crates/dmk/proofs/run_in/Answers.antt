@@ -1,7 +1,7 @@
 use Rattle.std.proofs.Common.{◌≡◌, ◌∙◌, ℕ, List, ap, sym, codes}
 use Rattle.bd_lists.specs.declared.recipe.Variable.{Variable}
 use Rattle.dmk_drive.specs.Keeping.{value_in}
-use Rattle.dmk.proofs.ModeLemmas.{runs, looks}
+use Rattle.dmk_host.proofs.ModeLemmas.{runs, looks}
 use Rattle.dmk.proofs.run_in.Goals as goal
 
 -- MAKEFLAGS as it was read is that of the environment

@@ -1,11 +1,9 @@
 //! The words of the command line, read by `clap`.
-ghost use Rattle.std.specs.Prelude.{◌≡◌};
-
 use crate::arguments::find;
 use crate::environment::read_environment;
 use crate::flags::taken_words;
-use crate::host_files::INPUT;
 use crate::job_words::with_numbers;
+use crate::request::{Asked, INPUT, Later, Request, WordsFault};
 use bd_lists::Variable;
 use byte_strings::{ByteString, ByteStrings};
 use clap::ArgMatches;
@@ -14,127 +12,61 @@ use dmk_drive::{Makefiles, Mode, Options, Telling, value_of};
 use jb_flags::PROFILE;
 use mk_profile::Profile;
 use std::alloc::{AllocError, Global};
-use std::{env, io};
-use thiserror::Error;
+use std::env;
 
-/// What the words ask of a run, and in which folder.
-#[derive(Drop)]
-pub struct Asked {
-    /// The folders that are gone to first, each from the one before.
-    pub folders: Vec<String>,
-    /// The folder is told where the run begins and where it ends.
-    pub tells_folder: bool,
-    pub later: Later,
-    pub options: Options,
+/// The words of the command line, each -j without a number with that of the processors.
+fn given_words(rt: HostRuntime, processors: &str) -> Result<Vec<String>, WordsFault> {
+    let words = env::args(&rt)?.collect::<Vec<String>>(rt.alloc())?;
+    Ok(with_numbers(rt.alloc(), words, processors)?)
 }
 
-/// What the words ask for beside the options, most of it before the environment is known.
-#[derive(Clone, Copy)]
-pub struct Later {
-    /// The environment's variables count as definitions of the command line, before its own.
-    pub environment_counts: bool,
-    /// -K names the state. Else it goes by the language.
-    pub names_state: bool,
-    /// Targets are taken as they are before the run, where nothing is recorded of any.
-    pub trusts_files: bool,
-}
-
-/// What the words ask for.
-#[derive(Drop)]
-pub enum Request {
-    Make(Asked),
-    /// Nothing more: what there was to say was said. The program ends with this status.
-    Leave(u8),
-}
-
-/// Why the words aren't followed, where nothing was said of it yet.
-#[derive(Clone, Copy, Debug, PartialEq, Eq, Error)]
-pub enum WordsFault {
-    #[error("out of memory")]
-    OutOfMemory,
-    #[error("a word of the command line isn't UTF-8")]
-    NotText,
-    #[error("a definition in MAKEFLAGS isn't UTF-8")]
-    FlagsNotText,
-    /// The help or the version was asked for and couldn't be printed.
-    #[error("cannot write")]
-    Write,
-    /// `-K -`.
-    #[error("standard input can't hold the state")]
-    StateInput,
-    #[error("-f - stands twice: standard input can be read once")]
-    InputTwice,
-    #[error("-t isn't supported: it would call targets made that aren't")]
-    Touch,
-    #[error("-l isn't supported: how busy the machine is isn't looked at")]
-    Load,
-    #[error("--trust-files needs --posix")]
-    TrustInStrict,
-    #[error("--trust-files doesn't go with -n or -q, which record nothing")]
-    TrustToLook,
-    #[error("--trust-files doesn't go with -B, which makes each target")]
-    TrustToMakeAll,
-}
-
-impl Later {
-    /// How many definitions stand before those of the command line.
-    pub fn definitions_before(self, environment: &[Variable]) -> usize {
-        if self.environment_counts {
-            environment.len()
-        } else {
-            0
-        }
-    }
-}
-
-impl From<io::Error> for WordsFault {
-    fn from(fault: io::Error) -> WordsFault {
-        match fault.kind() {
-            io::ErrorKind::OutOfMemory => WordsFault::OutOfMemory,
-            _ => WordsFault::NotText,
-        }
-    }
-}
-
-impl From<AllocError> for WordsFault {
-    fn from(_fault: AllocError) -> WordsFault {
-        WordsFault::OutOfMemory
+/// What these words ask for. The help, the version or what is wrong with them is printed.
+fn asked_by(rt: HostRuntime, processors: &str, words: &[String]) -> Result<Request, WordsFault> {
+    match find(rt.alloc(), processors, words) {
+        Ok(found) => request_of(rt.alloc(), &found),
+        Err(answer) => say(rt, answer),
     }
 }
 
 /// Reads the words, and prints the help, the version or what is wrong with them. A -j without a number has that of the processors.
 pub fn read_words(rt: HostRuntime, processors: u16) -> Result<Request, WordsFault> {
-    let alloc = rt.alloc();
-    let processors = format!(in alloc; "{processors}")?;
-    let words = env::args(&rt)?.collect::<Vec<String>>(alloc)?;
-    let words = with_numbers(alloc, words, processors.as_str())?;
-    let request = match find(alloc, processors.as_str(), words.as_slice()) {
-        Ok(found) => request_of(alloc, &found)?,
-        Err(answer) => return say(rt, answer),
-    };
+    let processors = format!(in rt.alloc(); "{processors}")?;
     let environment = read_environment(rt)?;
     let makeflags = value_of(&environment, b"MAKEFLAGS");
-    if !is_wide(&request, &environment) {
-        return checked(request, makeflags);
+    let words = given_words(rt, processors.as_str())?;
+    let asked = asked_by(rt, processors.as_str(), words.as_slice());
+    if !is_wide(&asked, &environment) {
+        return checked(asked, makeflags);
     }
-    let Some(words) = with_flags(alloc, words, makeflags)? else {
+    drop(asked);
+    let Some(words) = with_flags(rt.alloc(), words, makeflags)? else {
         return Err(WordsFault::FlagsNotText);
     };
-    match find(alloc, processors.as_str(), words.as_slice()) {
-        Ok(found) => checked(request_of(alloc, &found)?, makeflags),
-        Err(answer) => say(rt, answer),
-    }
+    checked(
+        asked_by(rt, processors.as_str(), words.as_slice()),
+        makeflags,
+    )
 }
 
 /// What is asked for, unless targets are to be taken as they are where that has no meaning.
-fn checked(request: Request, makeflags: &[u8]) -> Result<Request, WordsFault> {
-    match &request {
-        Request::Make(asked) if asked.later.trusts_files => {
-            check_trust(&asked.options, makeflags)?;
+fn checked(asked: Result<Request, WordsFault>, makeflags: &[u8]) -> Result<Request, WordsFault> {
+    match trust_fault(&asked, makeflags) {
+        None => asked,
+        Some(fault) => {
+            drop(asked);
+            Err(fault)
         }
-        _ => {}
     }
-    Ok(request)
+}
+
+/// Why targets can't be taken as they are, where that is asked for.
+fn trust_fault(asked: &Result<Request, WordsFault>, makeflags: &[u8]) -> Option<WordsFault> {
+    match asked {
+        Ok(Request::Make(asked)) if asked.later.trusts_files => {
+            check_trust(&asked.options, makeflags).err()
+        }
+        _ => None,
+    }
 }
 
 fn check_trust(options: &Options, makeflags: &[u8]) -> Result<(), WordsFault> {
@@ -151,17 +83,17 @@ fn check_trust(options: &Options, makeflags: &[u8]) -> Result<(), WordsFault> {
 }
 
 /// Whether the wide profile is asked for: by the words, by MAKEFLAGS or by a run above that has it.
-fn is_wide(request: &Request, environment: &[Variable]) -> bool {
+fn is_wide(asked: &Result<Request, WordsFault>, environment: &[Variable]) -> bool {
     let (name, wide) = PROFILE;
-    match request {
-        Request::Make(asked) => {
+    match asked {
+        Ok(Request::Make(asked)) => {
             value_of(environment, name) == wide
                 || asked
                     .options
                     .language(value_of(environment, b"MAKEFLAGS"))
                     .is_wide()
         }
-        Request::Leave(_) => false,
+        _ => false,
     }
 }
 

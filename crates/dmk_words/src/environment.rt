@@ -1,5 +1,5 @@
 //! The variables of the environment, as bytes.
-use crate::command_line::Later;
+use crate::request::Later;
 use bd_lists::Variable;
 use byte_strings::ByteString;
 use dmk_drive::{Options, usual_state, value_of};

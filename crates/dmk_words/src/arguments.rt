@@ -47,74 +47,61 @@ fn flag<'a>(alloc: Global, group: &'a str, letter: char, id: &'a str, help: &'a 
 }
 
 fn with_files(alloc: Global, command: Command<'_>) -> Result<Command<'_>, AllocError> {
-    let folders = Arg::new(alloc, "folders")
-        .short('C')
-        .value_name("DIR")
-        .action(ArgAction::Append)
-        .help_heading(FILES)
-        .help("Go to DIR before all else; a further one counts from there");
-    let makefiles = Arg::new(alloc, "makefiles")
-        .short('f')
-        .value_name("FILE")
-        .action(ArgAction::Append)
-        .help_heading(FILES)
-        .help("Read FILE as the makefile, several one behind the other; - is standard input");
-    let state = value(
+    let command = command.arg(
+        Arg::new(alloc, "folders")
+            .short('C')
+            .value_name("DIR")
+            .action(ArgAction::Append)
+            .help_heading(FILES)
+            .help("Go to DIR before all else; a further one counts from there"),
+    )?;
+    let command = command.arg(
+        Arg::new(alloc, "makefiles")
+            .short('f')
+            .value_name("FILE")
+            .action(ArgAction::Append)
+            .help_heading(FILES)
+            .help("Read FILE as the makefile, several one behind the other; - is standard input"),
+    )?;
+    command.arg(value(
         alloc,
         FILES,
         'K',
         "state",
         "FILE",
         "Keep the state in FILE and FILE.2",
-    );
-    command.arg(folders)?.arg(makefiles)?.arg(state)
+    ))
 }
 
 fn with_language(alloc: Global, command: Command<'_>) -> Result<Command<'_>, AllocError> {
-    let environment = flag(
+    let command = command.arg(flag(
         alloc,
         FILES,
         'e',
         "environment",
         "Have the environment's variables count before the makefile's definitions",
-    );
-    let no_rules = flag(
+    ))?;
+    let command = command.arg(flag(
         alloc,
         FILES,
         'r',
         "no_rules",
         "Leave out the rules and suffixes that the wide profile has built in",
-    );
-    let posix = Arg::new(alloc, "posix")
-        .long("posix")
-        .action(ArgAction::Count)
-        .help_heading(FILES)
-        .help(
-            "Read the makefile in the wide profile: built-in rules, references in references, 1,000,000 names",
-        );
-    command.arg(environment)?.arg(no_rules)?.arg(posix)
+    ))?;
+    command.arg(
+        Arg::new(alloc, "posix")
+            .long("posix")
+            .action(ArgAction::Count)
+            .help_heading(FILES)
+            .help(
+                "Read the makefile in the wide profile: built-in rules, references in references, 1,000,000 names",
+            ),
+    )
 }
 
-fn with_running<'a>(
-    alloc: Global,
-    command: Command<'a>,
-    processors: &'a str,
-) -> Result<Command<'a>, AllocError> {
-    let makes_all = flag(
-        alloc,
-        RUNNING,
-        'B',
-        "makes_all",
-        "Make each target, whatever the files and the state say of it",
-    );
-    let trusts_files = Arg::new(alloc, "trusts_files")
-        .long("trust-files")
-        .action(ArgAction::Count)
-        .help_heading(RUNNING)
-        .help(
-            "With --posix, once: where nothing is recorded take targets as they are whose files are up to date by their times",
-        );
-    let workers = value(
+/// How many recipes may run at once.
+fn workers<'a>(alloc: Global, processors: &'a str) -> Arg<'a> {
+    value(
         alloc,
         RUNNING,
         'j',
@@ -125,8 +112,31 @@ fn with_running<'a>(
     .value_parser(clap::value_parser!(u16).range(1..=i64::from(MAX_WORKERS)))
     .num_args(0..=1)
     .default_missing_value(processors)
-    .default_value("2");
-    command.arg(makes_all)?.arg(workers)?.arg(trusts_files)
+    .default_value("2")
+}
+
+fn with_running<'a>(
+    alloc: Global,
+    command: Command<'a>,
+    processors: &'a str,
+) -> Result<Command<'a>, AllocError> {
+    let command = command.arg(flag(
+        alloc,
+        RUNNING,
+        'B',
+        "makes_all",
+        "Make each target, whatever the files and the state say of it",
+    ))?;
+    let command = command.arg(workers(alloc, processors))?;
+    command.arg(
+        Arg::new(alloc, "trusts_files")
+            .long("trust-files")
+            .action(ArgAction::Count)
+            .help_heading(RUNNING)
+            .help(
+                "With --posix, once: where nothing is recorded take targets as they are whose files are up to date by their times",
+            ),
+    )
 }
 
 fn with_failures(alloc: Global, command: Command<'_>) -> Result<Command<'_>, AllocError> {
@@ -136,95 +146,89 @@ fn with_failures(alloc: Global, command: Command<'_>) -> Result<Command<'_>, All
         'k',
         "goes_on",
         "Go on with what doesn't depend on a failed target",
-    )
-    .overrides_with("stops")?;
+    );
+    let command = command.arg(goes_on.overrides_with("stops")?)?;
     let stops = flag(
         alloc,
         RUNNING,
         'S',
         "stops",
         "Begin nothing more behind a failed target, as without -k; the last one counts",
-    )
-    .overrides_with("goes_on")?;
-    let ignores = flag(
+    );
+    let command = command.arg(stops.overrides_with("goes_on")?)?;
+    command.arg(flag(
         alloc,
         RUNNING,
         'i',
         "ignore",
         "Ignore the statuses of all lines",
-    );
-    command.arg(goes_on)?.arg(stops)?.arg(ignores)
+    ))
 }
 
 fn with_asking(alloc: Global, command: Command<'_>) -> Result<Command<'_>, AllocError> {
-    let lists = flag(
+    let command = command.arg(flag(
         alloc,
         ASKING,
         'n',
         "dry",
         "Print the recipes of the targets that are out of date, and make none",
-    );
-    let asks = flag(
+    ))?;
+    command.arg(flag(
         alloc,
         ASKING,
         'q',
         "asks",
         "Print nothing and make nothing; status 1 where a target is out of date, else 0",
-    );
-    command.arg(lists)?.arg(asks)
+    ))
 }
 
 fn with_telling(alloc: Global, command: Command<'_>) -> Result<Command<'_>, AllocError> {
-    let tells = flag(
+    let command = command.arg(flag(
         alloc,
         TELLING,
         'd',
         "tells",
         "Tell why each target is made; -dd also which aren't, and what changed of commands",
-    );
-    let base = flag(
+    ))?;
+    let command = command.arg(flag(
         alloc,
         TELLING,
         'p',
         "base",
         "Print macros and rules first, as they were read, with file and line",
-    );
-    let silent = flag(
+    ))?;
+    let command = command.arg(flag(
         alloc,
         TELLING,
         's',
         "silent",
         "Don't print lines before they are run",
-    );
-    let told = flag(
+    ))?;
+    let command = command.arg(flag(
         alloc,
         TELLING,
         'w',
         "told",
         "Tell the folder at the beginning and at the end, as -C does",
-    );
-    let untold = Arg::new(alloc, "untold")
-        .long("no-print-directory")
-        .action(ArgAction::Count)
-        .help_heading(TELLING)
-        .help("Don't tell the folder, though there is -C");
-    command
-        .arg(tells)?
-        .arg(base)?
-        .arg(silent)?
-        .arg(told)?
-        .arg(untold)
+    ))?;
+    command.arg(
+        Arg::new(alloc, "untold")
+            .long("no-print-directory")
+            .action(ArgAction::Count)
+            .help_heading(TELLING)
+            .help("Don't tell the folder, though there is -C"),
+    )
 }
 
 // Options of other makes that are refused by name, with the reason.
 fn with_refused(alloc: Global, command: Command<'_>) -> Result<Command<'_>, AllocError> {
-    let load = Arg::new(alloc, "load")
-        .short('l')
-        .num_args(0..=1)
-        .hide(true);
-    command
-        .arg(flag(alloc, RUNNING, 't', "touches", "").hide(true))?
-        .arg(load)
+    let command = command.arg(flag(alloc, RUNNING, 't', "touches", "").hide(true))?;
+    command.arg(
+        Arg::new(alloc, "load")
+            .short('l')
+            .num_args(0..=1)
+            .hide(true),
+    )
 }
 
 fn with_words(alloc: Global, command: Command<'_>) -> Result<Command<'_>, AllocError> {
@@ -236,6 +240,30 @@ fn with_words(alloc: Global, command: Command<'_>) -> Result<Command<'_>, AllocE
     command.arg(words)
 }
 
+fn with_options<'a>(
+    alloc: Global,
+    command: Command<'a>,
+    processors: &'a str,
+) -> Result<Command<'a>, AllocError> {
+    let command = with_files(alloc, command)?;
+    let command = with_language(alloc, command)?;
+    let command = with_running(alloc, command, processors)?;
+    let command = with_failures(alloc, command)?;
+    let command = with_asking(alloc, command)?;
+    with_telling(alloc, command)
+}
+
+fn command<'a>(alloc: Global, processors: &'a str) -> Result<Command<'a>, AllocError> {
+    let command = Command::new(alloc, "dmk")
+        .bin_name("dmk")?
+        .version("0.1.0")
+        .about(ABOUT)
+        .after_help(AFTER);
+    let command = with_options(alloc, command, processors)?;
+    let command = with_refused(alloc, command)?;
+    with_words(alloc, command)
+}
+
 /// The words by what they are, or clap's answer where there is help, the version or a mistake to be told of. A -j without a number has
 /// that of the processors.
 pub fn find<'w>(
@@ -243,17 +271,5 @@ pub fn find<'w>(
     processors: &'w str,
     words: &'w [String],
 ) -> Result<ArgMatches<'w>, clap::Error> {
-    let command = Command::new(alloc, "dmk")
-        .bin_name("dmk")?
-        .version("0.1.0")
-        .about(ABOUT)
-        .after_help(AFTER);
-    let command = with_files(alloc, command)?;
-    let command = with_language(alloc, command)?;
-    let command = with_running(alloc, command, processors)?;
-    let command = with_failures(alloc, command)?;
-    let command = with_asking(alloc, command)?;
-    let command = with_telling(alloc, command)?;
-    let command = with_refused(alloc, command)?;
-    with_words(alloc, command)?.try_get_matches_from(words)
+    command(alloc, processors)?.try_get_matches_from(words)
 }

@@ -5,8 +5,6 @@ ghost use Rattle.dmk_drive.specs.Output.{AsksToLook};
 
 use crate::always_run::{AlwaysLines, beside_recipes};
 use crate::base::base_asked;
-use crate::command_line::{Later, Request, read_words};
-use crate::environment::with_environment;
 use crate::host_files::HostFiles;
 use crate::reasons::{needs_usual_makefile, print_gnu_makefile, print_notes, print_reasons};
 use crate::standard_streams::with_patience;
@@ -14,6 +12,7 @@ use bd_lists::Variable;
 use dmk_drive::{
     AlwaysRun, Fault, FileTexts, Message, Mode, Options, drive, print_fault, value_of,
 };
+use dmk_words::{Later, Request, read_words, with_environment};
 use st_disk::{FileDisk, SystemFolder};
 use st_records::HashKey;
 use std::alloc::AllocError;
@@ -42,7 +41,80 @@ struct Look {
     always: Vec<AlwaysRun>,
 }
 
+/// What a look is made with.
+#[derive(Drop)]
+struct Room {
+    folder: SystemFolder,
+    /// What -p prints.
+    base: Vec<u8>,
+    err: Vec<u8>,
+}
+
+impl Room {
+    fn of(
+        host: HostRuntime,
+        options: &Options,
+        environment: &[Variable],
+        makefiles: &mut FileTexts<HostFiles<'_>>,
+    ) -> Result<Room, AllocError> {
+        let alloc = host.alloc();
+        let folder = SystemFolder::new(host, alloc, options.state.as_str())?;
+        let err = Vec::with_capacity(alloc, FAULT_BYTES)?;
+        let base = base_asked(host, options, environment, makefiles)?;
+        Ok(Room { folder, base, err })
+    }
+}
+
 impl Look {
+    /// Looks with this room.
+    fn with(
+        host: HostRuntime,
+        options: Options,
+        environment: &[Variable],
+        makefiles: &mut FileTexts<HostFiles<'_>>,
+        room: Room,
+    ) -> Result<Look, AllocError>
+        requires { AsksToLook options (value_in environment.now (codes "MAKEFLAGS")) }
+    {
+        let Room {
+            folder,
+            base: mut out,
+            mut err,
+        } = room;
+        let before = out.len();
+        let is_usual = needs_usual_makefile(&options);
+        let mut tree = HostFiles::tree(host);
+        let (reply, disk, always) = drive(
+            host.alloc(),
+            HashKey::from_system(&host),
+            options,
+            environment,
+            &mut tree,
+            makefiles,
+            FileDisk::new(folder),
+            &mut out,
+            &mut err,
+        );
+        drop(tree);
+        print_notes(&mut err, makefiles);
+        print_reasons(&mut err, makefiles, &disk);
+        drop(disk);
+        print_gnu_makefile(host, &mut err, is_usual && reply.status == 2);
+        let look = Look {
+            status: reply.status,
+            out,
+            before,
+            err,
+            always,
+        };
+        // A vector takes a line as long as there is memory.
+        if reply.is_told {
+            return Ok(look);
+        }
+        drop(look);
+        Err(AllocError)
+    }
+
     /// Looks once.
     fn of(
         host: HostRuntime,
@@ -52,37 +124,13 @@ impl Look {
     ) -> Result<Look, AllocError>
         requires { AsksToLook options (value_in environment.now (codes "MAKEFLAGS")) }
     {
-        let alloc = host.alloc();
-        let folder = SystemFolder::new(host, alloc, options.state.as_str())?;
-        let mut err = Vec::with_capacity(alloc, FAULT_BYTES)?;
-        let mut out = base_asked(host, &options, environment, makefiles)?;
-        let before = out.len();
-        let is_usual = needs_usual_makefile(&options);
-        let (reply, disk, always) = drive(
-            alloc,
-            HashKey::from_system(&host),
-            options,
-            environment,
-            &mut HostFiles::tree(host),
-            makefiles,
-            FileDisk::new(folder),
-            &mut out,
-            &mut err,
-        );
-        // A vector takes a line as long as there is memory.
-        if !reply.is_told {
-            return Err(AllocError);
+        match Room::of(host, &options, environment, makefiles) {
+            Ok(room) => Look::with(host, options, environment, makefiles, room),
+            Err(error) => {
+                drop(options);
+                Err(error)
+            }
         }
-        print_notes(&mut err, makefiles);
-        print_reasons(&mut err, makefiles, &disk);
-        print_gnu_makefile(host, &mut err, is_usual && reply.status == 2);
-        Ok(Look {
-            status: reply.status,
-            out,
-            before,
-            err,
-            always,
-        })
     }
 
     /// Looks, unless a run is asked for.
@@ -131,6 +179,27 @@ impl Look {
             && self.err.as_slice() == other.err.as_slice()
     }
 
+    /// The look behind this one, and whether nothing more is to be looked for: it came to the same, or is this one.
+    fn looked_again(
+        self,
+        host: HostRuntime,
+        environment: &[Variable],
+        makefiles: &mut FileTexts<HostFiles<'_>>,
+    ) -> Result<(Look, bool), AllocError> {
+        match Look::again(host, environment, makefiles) {
+            Ok(Some(again)) => {
+                let is_same = self.is_same(&again);
+                drop(self);
+                Ok((again, is_same))
+            }
+            Ok(None) => Ok((self, true)),
+            Err(error) => {
+                drop(self);
+                Err(error)
+            }
+        }
+    }
+
     // What standard error doesn't take is lost: there is nobody left to tell.
     fn print(&self, host: HostRuntime, lines: &AlwaysLines<'_>) -> io::Result<bool> {
         let _ = with_patience(host, host.stderr()).write_all(&self.err);
@@ -139,19 +208,51 @@ impl Look {
 
     /// Prints it, runs its lines, and answers the status: 2 where one of them failed.
     fn tell(self, host: HostRuntime, lines: &AlwaysLines<'_>) -> u8 {
-        match self.print(host, lines) {
-            Ok(true) => return self.status,
-            Ok(false) => return 2,
-            Err(_) => {}
+        let printed = self.print(host, lines);
+        let status = self.status;
+        drop(self);
+        match printed {
+            Ok(true) => status,
+            Ok(false) => 2,
+            Err(_) => {
+                tell_unwritten(host);
+                2
+            }
         }
-        let fault = Fault::Write;
-        let message = Message {
-            state: "",
-            fault: &fault,
-        };
-        print_fault(&mut with_patience(host, host.stderr()), message);
-        2
     }
+}
+
+fn tell_unwritten(host: HostRuntime) {
+    let fault = Fault::Write;
+    let message = Message {
+        state: "",
+        fault: &fault,
+    };
+    print_fault(&mut with_patience(host, host.stderr()), message);
+}
+
+/// Looks until there is no fault, or two looks, one behind the other, have come to the same one.
+fn last_look(
+    host: HostRuntime,
+    options: Options,
+    environment: &[Variable],
+    makefiles: &mut FileTexts<HostFiles<'_>>,
+) -> Result<Look, AllocError>
+    requires { AsksToLook options (value_in environment.now (codes "MAKEFLAGS")) }
+{
+    let mut look = Look::of(host, options, environment, makefiles)?;
+    for _ in 1..MAX_LOOKS {
+        if !look.is_fault() {
+            break;
+        }
+        thread::sleep(&host, Duration::from_millis(PAUSE_MILLISECONDS));
+        let (next, is_settled) = look.looked_again(host, environment, makefiles)?;
+        look = next;
+        if is_settled {
+            break;
+        }
+    }
+    Ok(look)
 }
 
 /// Lists what a run would make, or asks whether there is anything. A run that writes the state meanwhile may make a reading of it fail;
@@ -166,25 +267,21 @@ pub fn ask(
 ) -> Result<u8, AllocError>
     requires { AsksToLook options (value_in environment.now (codes "MAKEFLAGS")) }
 {
-    let env = beside_recipes(host, &options, later, environment)?;
+    let env = match beside_recipes(host, &options, later, environment) {
+        Ok(env) => env,
+        Err(error) => {
+            drop(options);
+            return Err(error);
+        }
+    };
     let lines = AlwaysLines::new(host, &options, &env);
     let mut makefiles = HostFiles::texts(host, input, &env);
     makefiles.define(options.profile, &options.definitions);
     makefiles.define(options.profile, environment);
-    let mut look = Look::of(host, options, environment, &mut makefiles)?;
-    for _ in 1..MAX_LOOKS {
-        if !look.is_fault() {
-            break;
-        }
-        thread::sleep(&host, Duration::from_millis(PAUSE_MILLISECONDS));
-        let Some(again) = Look::again(host, environment, &mut makefiles)? else {
-            break;
-        };
-        let is_same = look.is_same(&again);
-        look = again;
-        if is_same {
-            break;
-        }
+    let look = last_look(host, options, environment, &mut makefiles);
+    drop(makefiles);
+    match look {
+        Ok(look) => Ok(look.tell(host, &lines)),
+        Err(error) => Err(error),
     }
-    Ok(look.tell(host, &lines))
 }

@@ -1,7 +1,7 @@
 use Rattle.std.proofs.Common.{codes}
 use Rattle.dmk_drive.specs.Keeping.{value_in}
-use Rattle.dmk.proofs.ModeLemmas.{looks}
-use Rattle.dmk.proofs.asking.Look.if_asked.Goals as goal
+use Rattle.dmk_host.proofs.ModeLemmas.{looks}
+use Rattle.dmk_host.proofs.asking.Look.if_asked.Goals as goal
 
 pub of-requires : goal.of-requires
 of-requires c =

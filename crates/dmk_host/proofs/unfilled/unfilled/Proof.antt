@@ -27,10 +27,10 @@ use Rattle.std.proofs.raw_atomic.Walks.{proved, leaves}
 use Rattle.libc.specs.contracts.types.statx as statx
 use Rattle.libc.specs.contracts.types.statx_timestamp as timestamp
 use Rattle.libc.proofs.types.statx.TheLaws as statx_laws
-use Rattle.dmk.proofs.unfilled.Fields.TheLaws as fields_laws
-use Rattle.dmk.specs.contracts.unfilled.unfilled as f
-use Rattle.dmk.proofs.unfilled.unfilled.Statement.{statement}
-use Rattle.dmk.proofs.unfilled.unfilled.Code as code
+use Rattle.dmk_host.proofs.unfilled.Fields.TheLaws as fields_laws
+use Rattle.dmk_host.specs.contracts.unfilled.unfilled as f
+use Rattle.dmk_host.proofs.unfilled.unfilled.Statement.{statement}
+use Rattle.dmk_host.proofs.unfilled.unfilled.Code as code
 
 -- the values that the code makes
 abbrev moment : Val

@@ -19,7 +19,7 @@ pub fn base_asked(
     let definitions = options.definitions.as_slice();
     let named = &options.makefiles;
     let mut tree = HostFiles::tree(host);
-    match base_of(
+    let found = base_of(
         alloc,
         profile,
         definitions,
@@ -27,9 +27,11 @@ pub fn base_asked(
         named,
         &mut tree,
         makefiles,
-    ) {
-        Ok(text) => Ok(text),
+    );
+    drop(tree);
+    match found {
         Err(fault) if fault.is_of_memory() => Err(AllocError),
         Err(_) => Ok(Vec::new(alloc)),
+        Ok(text) => Ok(text),
     }
 }

@@ -5,13 +5,11 @@ use crate::standard_streams::with_patience;
 use bd_lists::Variable;
 use byte_strings::ByteStrings;
 use dmk_drive::{FileCalls, FileStatus, FileTexts, FileTree};
+use dmk_words::INPUT;
 use jb_host::{DryShell, Written};
 use std::alloc::{AllocError, Global};
 use std::fs::{self, File};
 use std::io::{self, ErrorKind, Read, Write};
-
-/// The name under which standard input is read as a makefile.
-pub const INPUT: &[u8] = b"-";
 
 /// The files of the current folder, and those that names lead to from there.
 #[derive(Drop)]
@@ -49,11 +47,12 @@ fn read_whole<R: Read>(alloc: Global, file: &mut R, length: u64) -> io::Result<V
 impl<'a> HostFiles<'a> {
     /// The files as they are judged.
     pub fn tree(rt: HostRuntime) -> FileTree<HostFiles<'a>> {
+        let looks = Looks::new();
         FileTree::new(
             rt.alloc(),
             HostFiles {
                 rt,
-                looks: Looks::new(),
+                looks,
                 input: None,
                 env: &[],
             },

@@ -1,0 +1,30 @@
+//! This machine as a run sees it, its files, locks and streams; and what is told of it without a run.
+#![tactic(auto)]
+
+mod always_run;
+mod asking;
+mod base;
+mod child_signal;
+mod folder;
+mod host_files;
+mod lock_file;
+mod looks;
+mod memory;
+mod pool_path;
+mod reasons;
+mod standard_streams;
+mod terminal;
+mod unfilled;
+
+pub use always_run::beside_recipes;
+pub use asking::ask;
+pub use base::base_asked;
+pub use child_signal::run_anew;
+pub use folder::{FolderFault, enter, tell};
+pub use host_files::{HostFiles, read_input};
+pub use lock_file::{LockFile, Tried};
+pub use memory::keep_blocks;
+pub use pool_path::PoolPath;
+pub use reasons::{needs_usual_makefile, print_gnu_makefile, print_notes, print_reasons};
+pub use standard_streams::{Patient, buffered, held_streams, with_patience};
+pub use terminal::status_columns;

@@ -1,0 +1,15 @@
+//! The words of the command line and of MAKEFLAGS, with the environment: what they ask of a run.
+#![tactic(auto)]
+
+mod arguments;
+mod command_line;
+mod environment;
+mod flags;
+mod job_words;
+mod request;
+
+pub use command_line::read_words;
+pub use environment::{macro_variables, with_environment};
+pub use flags::handed_on;
+pub use job_words::processors;
+pub use request::{Asked, INPUT, Later, Request, WordsFault};

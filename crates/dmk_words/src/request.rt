@@ -1,0 +1,96 @@
+//! What the words of the command line ask for, or why they aren't followed.
+ghost use Rattle.std.specs.Prelude.{◌≡◌};
+
+use bd_lists::Variable;
+use dmk_drive::Options;
+use std::alloc::AllocError;
+use std::io;
+use thiserror::Error;
+
+/// The name under which standard input is read as a makefile.
+pub const INPUT: &[u8] = b"-";
+
+/// What the words ask of a run, and in which folder.
+#[derive(Drop)]
+pub struct Asked {
+    /// The folders that are gone to first, each from the one before.
+    pub folders: Vec<String>,
+    /// The folder is told where the run begins and where it ends.
+    pub tells_folder: bool,
+    pub later: Later,
+    pub options: Options,
+}
+
+/// What the words ask for beside the options, most of it before the environment is known.
+#[derive(Clone, Copy)]
+pub struct Later {
+    /// The environment's variables count as definitions of the command line, before its own.
+    pub environment_counts: bool,
+    /// -K names the state. Else it goes by the language.
+    pub names_state: bool,
+    /// Targets are taken as they are before the run, where nothing is recorded of any.
+    pub trusts_files: bool,
+}
+
+/// What the words ask for.
+#[derive(Drop)]
+pub enum Request {
+    Make(Asked),
+    /// Nothing more: what there was to say was said. The program ends with this status.
+    Leave(u8),
+}
+
+/// Why the words aren't followed, where nothing was said of it yet.
+#[derive(Clone, Copy, Debug, PartialEq, Eq, Error)]
+pub enum WordsFault {
+    #[error("out of memory")]
+    OutOfMemory,
+    #[error("a word of the command line isn't UTF-8")]
+    NotText,
+    #[error("a definition in MAKEFLAGS isn't UTF-8")]
+    FlagsNotText,
+    /// The help or the version was asked for and couldn't be printed.
+    #[error("cannot write")]
+    Write,
+    /// `-K -`.
+    #[error("standard input can't hold the state")]
+    StateInput,
+    #[error("-f - stands twice: standard input can be read once")]
+    InputTwice,
+    #[error("-t isn't supported: it would call targets made that aren't")]
+    Touch,
+    #[error("-l isn't supported: how busy the machine is isn't looked at")]
+    Load,
+    #[error("--trust-files needs --posix")]
+    TrustInStrict,
+    #[error("--trust-files doesn't go with -n or -q, which record nothing")]
+    TrustToLook,
+    #[error("--trust-files doesn't go with -B, which makes each target")]
+    TrustToMakeAll,
+}
+
+impl Later {
+    /// How many definitions stand before those of the command line.
+    pub fn definitions_before(self, environment: &[Variable]) -> usize {
+        if self.environment_counts {
+            environment.len()
+        } else {
+            0
+        }
+    }
+}
+
+impl From<io::Error> for WordsFault {
+    fn from(fault: io::Error) -> WordsFault {
+        match fault.kind() {
+            io::ErrorKind::OutOfMemory => WordsFault::OutOfMemory,
+            _ => WordsFault::NotText,
+        }
+    }
+}
+
+impl From<AllocError> for WordsFault {
+    fn from(_fault: AllocError) -> WordsFault {
+        WordsFault::OutOfMemory
+    }
+}
