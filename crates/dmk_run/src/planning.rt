@@ -83,6 +83,30 @@ fn to_forget(alloc: Global, all: bool, state: &State) -> Result<Option<State>, A
     }
 }
 
+/// What the graph is to forget, and how the run over it goes.
+fn prepared(
+    alloc: Global,
+    wishes: &Wishes,
+    keeping: bool,
+    definitions: Vec<Variable>,
+    state: &State,
+) -> Result<(Option<State>, Conduct), AllocError>
+    ensures forgotten { IfOk result (λ made. wishes.now.makes_all ≡ true → made.0 ≡ Some state.now) }
+    ensures none { IfOk result (λ made. wishes.now.makes_all ≡ false → made.0 ≡ None) }
+    ensures keeping { IfOk result (λ made. made.1.keeps_state ≡ keeping) }
+    ensures records { IfOk result (λ made. made.1.counts_records ≡ wishes.now.makes_all || keeping) }
+    ensures definitions { IfOk result (λ made. made.1.definitions ≡ definitions) }
+{
+    let conduct = wishes.conduct(alloc, keeping, definitions)?;
+    match to_forget(alloc, wishes.makes_all, state) {
+        Ok(forgotten) => Ok((forgotten, conduct)),
+        Err(error) => {
+            drop(conduct);
+            Err(error)
+        }
+    }
+}
+
 /// The graph of what is to be made, by this state.
 pub(crate) fn graph_of<T: Tree>(
     alloc: Global,
@@ -138,21 +162,35 @@ pub(crate) fn planned<R: Wait, T: Tree, O: Write + Drop, W: Write + Drop>(
         definitions,
         targets,
     } = goals;
-    let forgotten = to_forget(alloc, wishes.makes_all, &state)?;
-    let graph = graph_of(
+    let (forgotten, conduct) = match prepared(alloc, wishes, keeping, definitions, &state) {
+        Ok(made) => made,
+        Err(error) => {
+            drop(items);
+            drop(state);
+            return Err(Stop::from(error));
+        }
+    };
+    let found = graph_of(
         alloc,
         profile,
         environment,
-        &definitions,
+        &conduct.definitions,
         targets,
         tree,
         items,
         state,
-    )?;
+    );
+    let graph = match found {
+        Ok(graph) => graph,
+        Err(stop) => {
+            drop(forgotten);
+            drop(conduct);
+            return Err(stop);
+        }
+    };
     if graph.soft_dropped {
         printer.soft_edges_dropped();
     }
-    let conduct = wishes.conduct(alloc, keeping, definitions)?;
     let graph = judged_graph(alloc, key, wishes.makes_all, graph);
     Ok(Plan {
         graph,
