@@ -127,10 +127,13 @@ fn trust_over<T: Tree, D: Disk + Drop>(
     ensures times { (times : List ℕ → Option ℤ) → T.allows tree.new times → T.allows tree.old times }
 {
     if knows_any(store.state()) {
+        drop(items);
         return Ok(Trusted::Known);
     }
     let graph = graph_asked(alloc, environment, options, tree, items, store.state())?;
-    let count = record_taken(alloc, &graph, store)?;
+    let taken = record_taken(alloc, &graph, store);
+    drop(graph);
+    let count = taken?;
     Ok(Trusted::Taken(count))
 }
 
@@ -210,9 +213,11 @@ where
         Err(fault) => return (Err(Stop::Before(fault)), disk),
     };
     if !keeps_state(environment, &items) {
+        drop(items);
         return (Ok(Trusted::Unkept), disk);
     }
     if let Err(stop) = hold_state(guard, printer, options.state.as_str()) {
+        drop(items);
         return (Err(stop), disk);
     }
     trust_on(alloc, key, environment, options, tree, items, disk)

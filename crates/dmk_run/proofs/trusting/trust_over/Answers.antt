@@ -33,41 +33,11 @@ returns-in_err-graph-clause-any_moment g c = λ honest times may.
     let wanted = IsGraphOf c.args.options.now.profile c.args.options.now.definitions.items c.args.environment.now c.args.options.now.targets times c.args.items.items map.empty in
     without_calls wanted store.state (started moments (all_recover store.log.side (now moments) (store.stored honest c.requires)))
 
-pub record_taken-requires-clause-order : goal.record_taken-requires-clause-order
-record_taken-requires-clause-order g c =
+pub record_taken-taken-requires-clause-order : goal.record_taken-taken-requires-clause-order
+record_taken-taken-requires-clause-order g c =
     let (times, may) = g.met.T.Tree.possible c.graph_asked.new.tree in
     let is = c.in_ok-graph.ensures.graph times may in
     order_below is.inputs c.args.options.now.targets c.in_ok-graph.graph is.is_graph
-
-pub invariant_of-graph : goal.invariant_of-graph
-invariant_of-graph g c = record {
-  named = c.in_ok-graph.graph.named;
-  distinct = c.in_ok-graph.graph.distinct;
-  hard_rows = c.in_ok-graph.graph.hard_rows;
-  required_rows = c.in_ok-graph.graph.required_rows;
-  required_closed = c.in_ok-graph.graph.required_closed;
-  soft_rows = c.in_ok-graph.graph.soft_rows;
-  hard_closed = c.in_ok-graph.graph.hard_closed;
-  soft_closed = c.in_ok-graph.graph.soft_closed;
-  suffixes_are = c.in_ok-graph.graph.suffixes_are;
-  kept = c.in_ok-graph.graph.kept;
-  table = c.in_ok-graph.graph.table;
-}
-
-pub invariant_of-graph-2 : goal.invariant_of-graph-2
-invariant_of-graph-2 g c = record {
-  named = c.in_ok-graph.graph.named;
-  distinct = c.in_ok-graph.graph.distinct;
-  hard_rows = c.in_ok-graph.graph.hard_rows;
-  required_rows = c.in_ok-graph.graph.required_rows;
-  required_closed = c.in_ok-graph.graph.required_closed;
-  soft_rows = c.in_ok-graph.graph.soft_rows;
-  hard_closed = c.in_ok-graph.graph.hard_closed;
-  soft_closed = c.in_ok-graph.graph.soft_closed;
-  suffixes_are = c.in_ok-graph.graph.suffixes_are;
-  kept = c.in_ok-graph.graph.kept;
-  table = c.in_ok-graph.graph.table;
-}
 
 pub returns-in_err-count-clause-any_moment : goal.returns-in_err-count-clause-any_moment
 returns-in_err-count-clause-any_moment g c = λ honest times may.
@@ -79,7 +49,7 @@ returns-in_err-count-clause-any_moment g c = λ honest times may.
     graph store.state none
     (subst (λ m. IsGraphOf options.profile options.definitions.items c.args.environment.now options.targets times c.args.items.items m graph)
     (c.state-2.ensures ∙ none) (c.in_ok-graph.ensures.graph times may))
-    (c.record_taken.ensures.any_moment honest)
+    (c.record_taken-taken.ensures.any_moment honest)
 
 pub returns-clause-any_moment : goal.returns-clause-any_moment
 returns-clause-any_moment g c = λ honest times may.
@@ -91,7 +61,7 @@ returns-clause-any_moment g c = λ honest times may.
     graph store.state none
     (subst (λ m. IsGraphOf options.profile options.definitions.items c.args.environment.now options.targets times c.args.items.items m graph)
     (c.state-2.ensures ∙ none) (c.in_ok-graph.ensures.graph times may))
-    (c.record_taken.ensures.any_moment honest)
+    (c.record_taken-taken.ensures.any_moment honest)
 
 pub returns-clause-left : goal.returns-clause-left
 returns-clause-left g c = λ times may.
@@ -102,7 +72,7 @@ returns-clause-left g c = λ times may.
     let (taken, are, is, counted) = c.in_ok-count.ensures.taken in (
       none,
       of_taken (IsGraphOf options.profile options.definitions.items c.args.environment.now options.targets times c.args.items.items map.empty)
-          graph store.state c.record_taken.new.store.state taken c.in_ok-count.count none
+          graph store.state c.record_taken-taken.new.store.state taken c.in_ok-count.count none
           (subst (λ m. IsGraphOf options.profile options.definitions.items c.args.environment.now options.targets times c.args.items.items m graph)
           (c.state-2.ensures ∙ none) (c.in_ok-graph.ensures.graph times may))
           are is counted,
