@@ -170,12 +170,14 @@ where
     ensures let_go { K.serves banks.old ≡ false → K.serves banks.new ≡ false }
 {
     if store.is_dead() {
+        drop(conduct);
         return dead(store);
     }
     tell_planned(alloc, conduct.counts_records, graph, means.say);
     let site = match Site::new(alloc, store) {
         Ok(site) => site,
         Err((_, store)) => {
+            drop(conduct);
             return Built {
                 found: Err(RunFault::OutOfMemory),
                 store,

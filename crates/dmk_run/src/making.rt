@@ -61,7 +61,11 @@ where
     } = plan;
     let state = match recorded_apart(alloc, &graph, forgotten) {
         Ok(state) => state,
-        Err(error) => return (Err(Stop::from(error)), disk_of(log)),
+        Err(error) => {
+            drop(graph);
+            drop(conduct);
+            return (Err(Stop::from(error)), disk_of(log));
+        }
     };
     let workers = wishes.workers(&graph.settings);
     let store = Store { log, state };

@@ -15,21 +15,6 @@ returns-clause-ended g c =
 pub returns-clause-status : goal.returns-clause-status
 returns-clause-status g c = status_of_report c.build-found.result.found c.reported.result c.reported.ensures c.build-found.ensures.status
 
-pub invariant_of-graph : goal.invariant_of-graph
-invariant_of-graph g c = record {
-  named = c.args.plan.graph.named;
-  distinct = c.args.plan.graph.distinct;
-  hard_rows = c.args.plan.graph.hard_rows;
-  required_rows = c.args.plan.graph.required_rows;
-  required_closed = c.args.plan.graph.required_closed;
-  soft_rows = c.args.plan.graph.soft_rows;
-  hard_closed = c.args.plan.graph.hard_closed;
-  soft_closed = c.args.plan.graph.soft_closed;
-  suffixes_are = c.args.plan.graph.suffixes_are;
-  kept = c.args.plan.graph.kept;
-  table = c.args.plan.graph.table;
-}
-
 -- the store is put together again, with an equal state
 pub invariant_of-store-clause-stored : goal.invariant_of-store-clause-stored
 invariant_of-store-clause-stored g c = λ honest alive.
