@@ -77,7 +77,11 @@ where
 {
     let Store { log, state } = match open_store(alloc, means.key, disk) {
         Ok(store) => store,
-        Err((stop, disk)) => return (Err(stop), disk),
+        Err((stop, disk)) => {
+            drop(goals);
+            drop(items);
+            return (Err(stop), disk);
+        }
     };
     let environment = means.environment;
     match planned(
@@ -132,6 +136,8 @@ where
 {
     if keeps_state(means.environment, &items) {
         if let Err(stop) = hold_state(guard, means.say, wishes.state.as_str()) {
+            drop(goals);
+            drop(items);
             return (Err(stop), disk);
         }
         return run_over(
@@ -139,9 +145,10 @@ where
         );
     }
     let memory = MemDisk::new(alloc);
-    let (found, _memory) = run_over(
+    let (found, memory) = run_over(
         rt, alloc, means, wishes, false, goals, tree, banks, items, memory,
     );
+    drop(memory);
     (found, disk)
 }
 
@@ -193,7 +200,10 @@ where
         Ok(items) => run_items(
             rt, alloc, means, guard, wishes, goals, tree, banks, items, disk,
         ),
-        Err(fault) => (Err(Stop::Before(fault)), disk),
+        Err(fault) => {
+            drop(goals);
+            (Err(Stop::Before(fault)), disk)
+        }
     }
 }
 
@@ -201,19 +211,16 @@ where
 fn found_status<R: Wait, O: Write + Drop, W: Write + Drop>(
     printer: &Printer<'_, R, O, W>,
     state: &str,
-    found: Result<u8, Stop>,
+    found: &Result<u8, Stop>,
 ) -> u8
-    requires { IfOk found (λ s. s ≤ 2) }
+    requires { IfOk found.now (λ s. s ≤ 2) }
     ensures status { result ≤ 2 }
-    ensures report { result ≢ 2 → found ≡ Ok result }
+    ensures report { result ≢ 2 → found.now ≡ Ok result }
 {
     match found {
-        Ok(status) => status,
+        Ok(status) => *status,
         Err(Stop::Before(fault)) => {
-            printer.fault(Message {
-                state,
-                fault: &fault,
-            });
+            printer.fault(Message { state, fault });
             2
         }
         Err(Stop::HeldAbove) => {
@@ -221,7 +228,7 @@ fn found_status<R: Wait, O: Write + Drop, W: Write + Drop>(
             2
         }
         Err(Stop::Run(fault)) => {
-            printer.stop(fault);
+            printer.stop(*fault);
             2
         }
     }
@@ -239,7 +246,8 @@ pub(crate) fn status_of<R: Wait, O: Write + Drop, W: Write + Drop>(
     ensures report { result ≢ 2 → found ≡ Ok result }
 {
     printer.repeat_failures();
-    let status = found_status(printer, state, found);
+    let status = found_status(printer, state, &found);
+    drop(found);
     if printer.is_whole() {
         return status;
     }
