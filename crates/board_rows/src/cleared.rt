@@ -1,5 +1,5 @@
 //! Clearances that are yet to be spent.
-ghost use Rattle.std.specs.Prelude.{◌≡◌};
+ghost use Rattle.std.specs.Prelude.{◌≡◌, ◌+◌, ◌≤◌, vec_len, vec_capacity};
 ghost use Rattle.st_records.specs.declared.record.Record.TheVariants as record_of;
 
 use crate::desk::Run;
@@ -46,6 +46,24 @@ impl Cleared {
         out: &mut String,
     ) -> Result<Run<Note>, AllocError> {
         let mut ended = Vec::with_capacity(alloc, lines.len())?;
+        let script = Script {
+            alloc,
+            asked: Cell::new(0),
+        };
+        let run = self.spend(lines, ignore, &script, &mut ended);
+        write_run(run.spent.outcome(), &ended, script.asked.get(), out)?;
+        Ok(run)
+    }
+
+    fn spend(
+        self,
+        lines: Vec<Line>,
+        ignore: bool,
+        script: &Script,
+        ended: &mut Vec<Ended>,
+    ) -> Run<Note>
+        requires room { vec_len ended.old + vec_len lines ≤ vec_capacity ended.old }
+    {
         let Cleared {
             node,
             clearance,
@@ -54,17 +72,11 @@ impl Cleared {
         let recipe = Recipe {
             target,
             lines,
-            env: Vec::new(alloc),
+            env: Vec::new(script.alloc),
             ignore,
         };
-        let script = Script {
-            alloc,
-            asked: Cell::new(0),
-        };
-        let spent = clearance.run(alloc, recipe, &script, &mut ended);
-        let run = Run { node, spent };
-        write_run(run.spent.outcome(), &ended, script.asked.get(), out)?;
-        Ok(run)
+        let spent = clearance.run(script.alloc, recipe, script, ended);
+        Run { node, spent }
     }
 }
 

@@ -7,7 +7,7 @@ use crate::nodes::Nodes;
 use crate::records::{write_record, write_records};
 use crate::submission::{Submission, read_submission};
 use bd_ledger::Ticket;
-use bd_links::Node;
+use bd_links::{Node, Stand};
 use bd_lists::{Board, Spent, Told};
 use bd_places::End;
 use row_files::{Answered, RowFault, Words};
@@ -69,8 +69,31 @@ impl<T: Told + Drop> Desk<'_, T> {
         }
     }
 
+    // The calls of many clauses stand here once, without them.
+    pub(crate) fn claimed(&mut self) -> Option<Node> {
+        self.board.claim()
+    }
+
+    fn settled(&mut self, node: Node, end: End) -> bool {
+        self.board.settle(node, end)
+    }
+
+    fn abandoned(&mut self, node: Node) -> bool {
+        self.board.abandon(node)
+    }
+
+    fn drained(&mut self, alloc: Global) -> Result<Vec<(Ticket, Record)>, AllocError> {
+        let mut records = Vec::with_capacity(alloc, self.board.unflushed())?;
+        self.board.drain(&mut records);
+        Ok(records)
+    }
+
+    fn place(&self, node: Node) -> (Option<Stand>, Option<End>) {
+        (self.board.stand(node), self.board.end(node))
+    }
+
     fn claim(&mut self, out: &mut String) -> Answered {
-        match self.board.claim() {
+        match self.claimed() {
             Some(node) => Ok(self.nodes.write(node, out)?),
             None => Ok(out.push_str("none")?),
         }
@@ -109,7 +132,7 @@ impl<T: Told + Drop> Desk<'_, T> {
         requires { IsGood Two note }
     {
         let run = self.take_run(by);
-        match self.board.submit(node, note, run) {
+        match submitted(&mut self.board, node, note, run) {
             Ok((ticket, told)) => Ok((ticket, ticket_of(told))),
             Err(kept) => Err(kept),
         }
@@ -136,30 +159,29 @@ impl<T: Told + Drop> Desk<'_, T> {
     }
 
     fn drain(&mut self, alloc: Global, out: &mut String) -> Answered {
-        let mut records = Vec::with_capacity(alloc, self.board.unflushed())?;
-        self.board.drain(&mut records);
+        let records = self.drained(alloc)?;
         Ok(write_records(&records, out)?)
     }
 
     fn settle(&mut self, words: &mut Words<'_>, out: &mut String) -> Answered {
         let node = self.nodes.next(words)?;
         let end = read_end(words)?;
-        let is_taken = self.board.settle(node, end);
+        let is_taken = self.settled(node, end);
         Ok(out.push_str(taken(is_taken))?)
     }
 
     fn abandon(&mut self, words: &mut Words<'_>, out: &mut String) -> Answered {
         let node = self.nodes.next(words)?;
-        let is_taken = self.board.abandon(node);
+        let is_taken = self.abandoned(node);
         Ok(out.push_str(taken(is_taken))?)
     }
 
     /// Claims and settles nodes until none is ready. How many there were.
     fn empty(&mut self) -> usize {
         for count in 0..MANY {
-            match self.board.claim() {
+            match self.claimed() {
                 Some(node) => {
-                    if !self.board.settle(node, End::Remade) {
+                    if !self.settled(node, End::Remade) {
                         return count;
                     }
                 }
@@ -176,7 +198,8 @@ impl<T: Told + Drop> Desk<'_, T> {
 
     fn stand(&self, words: &mut Words<'_>, out: &mut String) -> Answered {
         let node = self.nodes.next(words)?;
-        Ok(write_stand(self.board.stand(node), self.board.end(node), out)?)
+        let (stand, end) = self.place(node);
+        Ok(write_stand(stand, end, out)?)
     }
 
     /// Where each labelled node stands and two past the last, how many wait to be drained, and whether some wait or are ready.
@@ -196,8 +219,7 @@ impl<T: Told + Drop> Desk<'_, T> {
         is_expected: bool,
         out: &mut String,
     ) -> Result<(), AllocError> {
-        let stand = self.board.stand(node);
-        let end = self.board.end(node);
+        let (stand, end) = self.place(node);
         if is_expected || stand.is_some() || end.is_some() {
             self.nodes.write(node, out)?;
             out.push_str(" ")?;
@@ -208,12 +230,26 @@ impl<T: Told + Drop> Desk<'_, T> {
     }
 }
 
+fn submitted<T: Told + Drop>(
+    board: &mut Board<T>,
+    node: Node,
+    note: Record,
+    run: Option<Spent<T>>,
+) -> Result<(Ticket, Option<T>), (Record, Option<Spent<T>>)>
+    requires { IsGood Two note }
+{
+    board.submit(node, note, run)
+}
+
 fn taken(is_taken: bool) -> &'static str {
     if is_taken { "taken" } else { "refused" }
 }
 
 fn ticket_of<T: Told + Drop>(told: Option<T>) -> Option<Ticket> {
-    told.map(|told| told.ticket())
+    match told {
+        Some(told) => Some(told.ticket()),
+        None => None,
+    }
 }
 
 fn write_refused(note: &Record, out: &mut String) -> Result<(), AllocError> {

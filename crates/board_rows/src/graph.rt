@@ -18,7 +18,10 @@ pub(crate) struct Graph {
 
 /// A number of 32 bits, as rows have them.
 fn short(number: usize) -> Result<u32, AllocError> {
-    u32::try_from(number).map_err(|_| AllocError)
+    match u32::try_from(number) {
+        Ok(number) => Ok(number),
+        Err(_) => Err(AllocError),
+    }
 }
 
 /// The numbers of the named nodes.
@@ -91,15 +94,14 @@ impl Graph {
 
     /// The board of the graph, whose soft edges count unless they make a cycle. No two nodes may have one name.
     pub(crate) fn board<T: Told>(
-        self,
+        &self,
         alloc: Global,
         nodes: &Nodes<'_>,
     ) -> Result<Board<T>, RowFault> {
         let targets = self.targets(alloc, nodes)?;
-        let Graph { hard, soft } = self;
-        let hard = Edges::of_rows(alloc, &hard)?;
-        let soft = Edges::of_rows(alloc, &soft)?;
-        board(alloc, hard, soft, targets)
+        let hard = Edges::of_rows(alloc, &self.hard)?;
+        let counted = counted_with(alloc, &hard, &self.soft)?;
+        board(alloc, counted, hard, targets)
     }
 }
 
@@ -112,13 +114,17 @@ fn counted(alloc: Global, hard: &Edges, soft: &Edges) -> Result<Edges, RowFault>
     Ok(counted_edges(alloc, hard, soft, dropped)?)
 }
 
+fn counted_with(alloc: Global, hard: &Edges, soft: &[Vec<u32>]) -> Result<Edges, RowFault> {
+    let soft = Edges::of_rows(alloc, soft)?;
+    counted(alloc, hard, &soft)
+}
+
 fn board<T: Told>(
     alloc: Global,
+    counted: Edges,
     hard: Edges,
-    soft: Edges,
     targets: Vec<ByteString>,
 ) -> Result<Board<T>, RowFault> {
-    let counted = counted(alloc, &hard, &soft)?;
     if counted.len() != hard.len() || targets.len() != hard.len() || hard.len() > 1_000_000 {
         return Err(RowFault::Word);
     }

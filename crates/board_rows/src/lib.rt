@@ -16,6 +16,7 @@ mod records;
 mod script;
 mod sets;
 mod setup;
+mod site_calls;
 mod store;
 mod submission;
 

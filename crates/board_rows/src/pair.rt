@@ -1,6 +1,7 @@
 //! A board with the site that is told its records.
 use crate::desk::Desk;
 use crate::records::read_good;
+use crate::site_calls::{flushed, looked, taken_in, tidied};
 use crate::store::{Tried, known_after_cuts, recovered, site, write_recovered, write_state};
 use bd_flusher::{FlushFault, Receipt, Site};
 use bd_ledger::Ticket;
@@ -88,7 +89,7 @@ impl Pair<'_> {
     }
 
     fn begin_next(&mut self, alloc: Global, out: &mut String) -> Answered {
-        let Some(node) = self.desk.board.claim() else {
+        let Some(node) = self.desk.claimed() else {
             return Ok(out.push_str("none")?);
         };
         let target = self.desk.nodes.target(alloc, node)?;
@@ -109,30 +110,28 @@ impl Pair<'_> {
     }
 
     fn batch(&self, ticket: Ticket, note: Record) -> Option<usize> {
-        match self.site.look(ticket, note) {
+        match looked(&self.site, ticket, note) {
             Ok(receipt) => Some(receipt.batch()),
             Err(_) => None,
         }
     }
 
     fn take_in(&mut self, alloc: Global, out: &mut String) -> Answered {
-        let answer = self.site.take_in(alloc, &mut self.desk.board);
-        write_answer(answer, out)
+        write_answer(taken_in(alloc, &mut self.site, &mut self.desk.board), out)
     }
 
     /// Another site takes in what waits.
     fn take_elsewhere(&mut self, alloc: Global, out: &mut String) -> Answered {
         let mut elsewhere = site(alloc, MemDisk::new(alloc))?;
-        let answer = elsewhere.take_in(alloc, &mut self.desk.board);
-        write_answer(answer, out)
+        write_answer(taken_in(alloc, &mut elsewhere, &mut self.desk.board), out)
     }
 
     fn flush(&mut self, alloc: Global, out: &mut String) -> Answered {
-        write_answer(self.site.flush(alloc), out)
+        write_answer(flushed(alloc, &mut self.site), out)
     }
 
     fn tidy(&mut self, alloc: Global, out: &mut String) -> Answered {
-        write_answer(self.site.tidy(alloc), out)
+        write_answer(tidied(alloc, &mut self.site), out)
     }
 
     /// The bytes of a side.

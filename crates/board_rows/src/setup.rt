@@ -4,12 +4,13 @@ use crate::graph::Graph;
 use crate::lists::Lists;
 use crate::nodes::Nodes;
 use crate::pair::Pair;
-use crate::store::site;
-use bd_lists::Told;
+use crate::store::{Tried, site};
+use bd_flusher::Site;
+use bd_lists::{Board, Told};
 use row_files::{Answered, Calls, Report, RowFault, Setup, Words, read_hex};
 use st_doubles::{FailOnce, Fuse};
 use st_memory::MemDisk;
-use std::alloc::Global;
+use std::alloc::{AllocError, Global};
 
 /// More calls of a disk than any row makes.
 const MANY: u64 = 1_000_000;
@@ -65,9 +66,10 @@ impl<'a> Setup<'a> for BoardSetup<'a> {
         report: &mut Report<'_>,
     ) -> Result<bool, RowFault> {
         if self.has_site {
-            return Ok(calls.are_met(alloc, &mut self.pair(alloc)?, report)?);
+            self.are_met_by_pair(alloc, calls, report)
+        } else {
+            self.are_met_by_lists(alloc, calls, report)
         }
-        Ok(calls.are_met(alloc, &mut self.lists(alloc)?, report)?)
     }
 }
 
@@ -110,17 +112,46 @@ impl<'a> BoardSetup<'a> {
         Ok(graph)
     }
 
+    fn board<T: Told>(&self, alloc: Global, nodes: &Nodes<'a>) -> Result<Board<T>, RowFault> {
+        self.graph(alloc, nodes)?.board(alloc, nodes)
+    }
+
     fn desk<T: Told + Drop>(&self, alloc: Global) -> Result<Desk<'a, T>, RowFault> {
         let nodes = Nodes {
             labels: self.labels(alloc)?,
             times: self.times,
         };
-        let board = self.graph(alloc, &nodes)?.board(alloc, &nodes)?;
+        let board = self.board(alloc, &nodes)?;
         Ok(Desk {
             board,
             nodes,
             runs: Vec::new(alloc),
         })
+    }
+
+    // What is called is let go in one place, before the answer is looked at.
+    fn are_met_by_pair(
+        &self,
+        alloc: Global,
+        calls: &Calls<'a>,
+        report: &mut Report<'_>,
+    ) -> Result<bool, RowFault> {
+        let mut pair = self.pair(alloc)?;
+        let are_met = calls.are_met(alloc, &mut pair, report);
+        drop(pair);
+        Ok(are_met?)
+    }
+
+    fn are_met_by_lists(
+        &self,
+        alloc: Global,
+        calls: &Calls<'a>,
+        report: &mut Report<'_>,
+    ) -> Result<bool, RowFault> {
+        let mut lists = self.lists(alloc)?;
+        let are_met = calls.are_met(alloc, &mut lists, report);
+        drop(lists);
+        Ok(are_met?)
     }
 
     /// The board alone.
@@ -133,12 +164,26 @@ impl<'a> BoardSetup<'a> {
 
     /// The board with a site over a disk.
     fn pair(&self, alloc: Global) -> Result<Pair<'a>, RowFault> {
+        let desk = self.desk(alloc)?;
+        match self.site(alloc) {
+            Ok(site) => Ok(Pair {
+                desk,
+                site,
+                stop: self.stop,
+            }),
+            Err(fault) => {
+                drop(desk);
+                Err(fault)
+            }
+        }
+    }
+
+    fn site(&self, alloc: Global) -> Result<Site<Tried>, RowFault> {
+        site(alloc, self.disk(alloc)?)
+    }
+
+    fn disk(&self, alloc: Global) -> Result<Tried, AllocError> {
         let memory = MemDisk::holding(alloc, &self.a, &self.b)?;
-        let disk = Fuse::new(FailOnce::new(memory, self.fail), self.stop);
-        Ok(Pair {
-            desk: self.desk(alloc)?,
-            site: site(alloc, disk)?,
-            stop: self.stop,
-        })
+        Ok(Fuse::new(FailOnce::new(memory, self.fail), self.stop))
     }
 }

@@ -25,7 +25,10 @@ pub(crate) fn opened<D: Disk + Drop>(alloc: Global, disk: D) -> Result<Store<D>,
 
 /// A site over a disk that opens.
 pub(crate) fn site<D: Disk + Drop>(alloc: Global, disk: D) -> Result<Site<D>, RowFault> {
-    let store = opened(alloc, disk)?;
+    site_over(alloc, opened(alloc, disk)?)
+}
+
+fn site_over<D: Disk + Drop>(alloc: Global, store: Store<D>) -> Result<Site<D>, RowFault> {
     if store.is_dead() {
         return Err(RowFault::NotOpen);
     }
@@ -57,12 +60,11 @@ fn cut(alloc: Global, disk: &MemDisk, longest: bool, fill: &[u8]) -> Result<MemD
 pub(crate) fn known_after_cuts(alloc: Global, disk: &MemDisk) -> Result<(usize, usize), RowFault> {
     let mut least = usize::MAX;
     let mut most = 0;
-    for fill in FILLS {
-        for longest in [false, true] {
-            let count = known(alloc, cut(alloc, disk, longest, fill)?)?;
-            least = least.min(count);
-            most = most.max(count);
-        }
+    for fill in &FILLS {
+        let short = known(alloc, cut(alloc, disk, false, fill)?)?;
+        let long = known(alloc, cut(alloc, disk, true, fill)?)?;
+        least = least.min(short).min(long);
+        most = most.max(short).max(long);
     }
     Ok((least, most))
 }
