@@ -11,8 +11,13 @@ import hashlib
 import json
 import os
 import re
+import tempfile
+import threading
 
 from .toolchain import KIT, bodies, rtlib
+
+# One crate is read at a time: several threads may ask for the same one.
+READING = threading.Lock()
 
 WORD = re.compile(r"\w+")
 COMMENT = re.compile(r'(?s){-.*?-}|(?<![^ \n(){}.;,@"»])--[^\n]*')
@@ -42,9 +47,15 @@ def named_below(crate, files):
     return sorted(counted)
 
 
-@functools.cache
 def statements_of(crate):
-    """Returns the statements of a crate, each once. They are kept in its out/, with a sum of what they were read from."""
+    """Returns the statements of a crate, each once."""
+    with READING:
+        return kept_statements(crate)
+
+
+@functools.cache
+def kept_statements(crate):
+    """As above. They are kept in the crate's out/, with a sum of what they were read from."""
     kept, key = f"{crate.folder}/out/statements.json", sum_of_texts(crate)
     try:
         with open(kept, encoding="utf-8") as file:
@@ -56,10 +67,9 @@ def statements_of(crate):
     found = read_statements(crate)
     rows = [[it.is_public, sorted(it.name), sorted(it.words), it.text] for it in found]
     os.makedirs(os.path.dirname(kept), exist_ok=True)
-    part = f"{kept}.{os.getpid()}"
-    with open(part, "w", encoding="utf-8") as file:
+    with tempfile.NamedTemporaryFile("w", dir=os.path.dirname(kept), delete=False, encoding="utf-8") as file:
         json.dump({"key": key, "rows": rows}, file)
-    os.replace(part, kept)
+    os.replace(file.name, kept)
     return found
 
 
