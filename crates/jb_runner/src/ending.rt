@@ -4,11 +4,13 @@ ghost use Rattle.st_records.specs.Limits.{IsGood};
 ghost use Rattle.st_records.specs.declared.version.Version.TheVariants.{Two};
 ghost use Rattle.st_records.specs.declared.record.Record.TheVariants as records;
 ghost use Rattle.bd_lists.specs.Running.{FailsInRange};
-ghost use Rattle.jb_runner.specs.Making.{IsClearedFor, IsHandedOut};
+ghost use Rattle.jb_runner.specs.Making.{IsClearedFor};
 
-use crate::abandoning::abandon_waiting;
+use crate::Shift;
+use crate::bench::{Bench, complain};
+use crate::desk::Clerk;
+use crate::making::say_lines;
 use crate::pending::Pending;
-use crate::{Shift, Shop};
 use bd_flusher::{FlushFault, Receipt};
 use bd_ledger::Ticket;
 use bd_links::Node;
@@ -16,6 +18,7 @@ use bd_lists::{Advanced, Clearance, Exec, Recipe, Spent, Told};
 use jb_closing::RunFault;
 use jb_recipe::{EndNote, Last, News, NotDone, Place, Plan, Ran, Say, run_recipe};
 use jb_slots::Bank;
+use mk_rules::Graph;
 use st_disk::Disk;
 use st_records::Record;
 use std::alloc::Global;
@@ -52,19 +55,49 @@ fn failed_status(note: &Record) -> Option<u32> {
     }
 }
 
-impl<D: Disk + Drop, E: Exec<Receipt>, S: Say, P: Place> Shop<'_, D, E, S, P> {
-    fn advance<R: Wait>(
-        &self,
-        rt: &R,
-        node: Node,
-        receipt: Receipt,
-    ) -> Result<Advanced<Receipt>, Receipt>
-        ensures { IfOk result (λ a. IsHandedOut receipt a) }
-    {
-        let mut board = self.flusher.board.lock(rt);
-        board.advance(node, receipt)
-    }
+// What the lines wrote is said.
+fn say_block<S: Say>(say: &S, ran: Ran) -> Spent<Receipt>
+    ensures { result ≡ ran.spent }
+{
+    let Ran { ended, spent } = ran;
+    say.block(&ended);
+    drop(ended);
+    spent
+}
 
+fn tell_failed<S: Say>(
+    say: &S,
+    graph: &Graph,
+    node: Node,
+    status: u32,
+    not_done: Option<&NotDone>,
+) {
+    let number = node.number();
+    if number < graph.names.len() {
+        let target = graph.names.name(number);
+        say.tell(News::Failed {
+            target,
+            status,
+            not_done,
+        });
+    }
+}
+
+// A failed end is told.
+fn tell_end<S: Say>(
+    say: &S,
+    graph: &Graph,
+    end: &Pending,
+    not_done: Option<&NotDone>,
+    shift: &mut Shift,
+) {
+    if let Some(status) = end.failed {
+        tell_failed(say, graph, end.node, status, not_done);
+        shift.worsen(1);
+    }
+}
+
+impl<D: Disk + Drop> Clerk<'_, D> {
     // Submits the 'begun' and waits until it is written, with the end that is pending in the same batch. No recipe is run before.
     fn begin<R: Wait>(
         &self,
@@ -81,7 +114,7 @@ impl<D: Disk + Drop, E: Exec<Receipt>, S: Say, P: Place> Shop<'_, D, E, S, P> {
             drop(begun);
             return Err(RunFault::OutOfMemory);
         };
-        let handed_in = self.hand_in(rt, node, begun);
+        let handed_in = self.desk.hand_in(rt, node, begun);
         if let Err(fault) = self.settle_pending(rt, alloc, shift) {
             drop(copy);
             return Err(fault);
@@ -107,13 +140,32 @@ impl<D: Disk + Drop, E: Exec<Receipt>, S: Say, P: Place> Shop<'_, D, E, S, P> {
         ensures { IfOk result (λ b. IsClearedFor copy b) }
     {
         let receipt = self.flusher.acknowledge(rt, alloc, ticket, copy)?;
-        match self.advance(rt, node, receipt) {
+        match self.desk.advance(rt, node, receipt) {
             Ok(Advanced::Cleared(clearance)) => Ok(Begun::Cleared(clearance)),
             Ok(Advanced::Settled(receipt)) => Err(unknown(receipt)),
             Err(receipt) => Err(unknown(receipt)),
         }
     }
 
+    /// Waits until the end is written, and settles its node.
+    pub(crate) fn settle_end<R: Wait>(
+        &self,
+        rt: &R,
+        alloc: Global,
+        end: Pending,
+    ) -> Result<Receipt, RunFault> {
+        let Pending {
+            node,
+            ticket,
+            note,
+            failed,
+        } = end;
+        let receipt = self.flusher.acknowledge(rt, alloc, ticket, note)?;
+        settled(self.desk.advance_end(rt, node, receipt, failed))
+    }
+}
+
+impl<D: Disk + Drop, E: Exec<Receipt>, S: Say, P: Place> Bench<'_, D, E, S, P> {
     // Runs a recipe with a job slot. The slot goes back in every case.
     fn run_with_slot<R: Wait, B: Bank>(
         &self,
@@ -143,12 +195,12 @@ impl<D: Disk + Drop, E: Exec<Receipt>, S: Say, P: Place> Shop<'_, D, E, S, P> {
         shift: &mut Shift,
     ) -> Result<(), RunFault> {
         let (begun, recipe, mut note, told) = plan.apart(alloc)?;
-        match self.begin(rt, alloc, node, begun, shift) {
+        match self.clerk.begin(rt, alloc, node, begun, shift) {
             Ok(Begun::Cleared(clearance)) => {
                 note.before_run(self.place);
-                self.say_lines(&told);
+                say_lines(self.say, &told);
                 let ran = self.run_with_slot(rt, alloc, clearance, recipe, bank);
-                if self.complain(rt, bank) {
+                if complain(rt, self.say, self.complained, bank) {
                     shift.worsen(2);
                 }
                 self.end_run(rt, alloc, node, ran, note, shift)
@@ -189,16 +241,6 @@ impl<D: Disk + Drop, E: Exec<Receipt>, S: Say, P: Place> Shop<'_, D, E, S, P> {
         }
     }
 
-    // What the lines wrote is said.
-    fn say_block(&self, ran: Ran) -> Spent<Receipt>
-        ensures { result ≡ ran.spent }
-    {
-        let Ran { ended, spent } = ran;
-        self.say.block(&ended);
-        drop(ended);
-        spent
-    }
-
     // What the lines wrote is said, the report read, the target's file synced; then the end of the recipe is written.
     fn end<R: Wait>(
         &self,
@@ -211,7 +253,7 @@ impl<D: Disk + Drop, E: Exec<Receipt>, S: Say, P: Place> Shop<'_, D, E, S, P> {
     ) -> Result<(), RunFault>
         requires { FailsInRange ran.spent.outcome }
     {
-        let spent = self.say_block(ran);
+        let spent = say_block(self.say, ran);
         let outcome = spent.outcome();
         match note.last_record(alloc, self.key, self.place, outcome) {
             Ok(Last { record, not_done }) => match record {
@@ -247,82 +289,22 @@ impl<D: Disk + Drop, E: Exec<Receipt>, S: Say, P: Place> Shop<'_, D, E, S, P> {
             return Err(RunFault::OutOfMemory);
         };
         let failed = failed_status(&last);
-        match self.hand_in_end(rt, node, last, spent, shift) {
+        match self.clerk.desk.hand_in_end(rt, node, last, spent, shift) {
             Some(ticket) => {
-                self.tell_end(node, failed, not_done.as_ref(), shift);
                 let end = Pending {
                     node,
                     ticket,
                     note: copy,
                     failed,
                 };
-                self.leave_pending(rt, alloc, end, shift)
+                tell_end(self.say, self.graph, &end, not_done.as_ref(), shift);
+                self.clerk.leave_pending(rt, alloc, end, shift)
             }
             None => {
                 drop(copy);
                 self.not_recorded(rt, node, None, shift);
                 Ok(())
             }
-        }
-    }
-
-    fn tell_end(
-        &self,
-        node: Node,
-        failed: Option<u32>,
-        not_done: Option<&NotDone>,
-        shift: &mut Shift,
-    ) {
-        if let Some(status) = failed {
-            self.tell_failed(node, status, not_done);
-            shift.worsen(1);
-        }
-    }
-
-    /// Waits until the end is written, and settles its node. Without `-k` a failed target abandons all that waits, in the same
-    /// holding of the lock: no further recipe is begun.
-    pub(crate) fn settle_end<R: Wait>(
-        &self,
-        rt: &R,
-        alloc: Global,
-        end: Pending,
-    ) -> Result<Receipt, RunFault> {
-        let Pending {
-            node,
-            ticket,
-            note,
-            failed,
-        } = end;
-        let receipt = self.flusher.acknowledge(rt, alloc, ticket, note)?;
-        let advanced = self.advance_end(rt, node, receipt, failed);
-        self.tell_idle();
-        settled(advanced)
-    }
-
-    fn advance_end<R: Wait>(
-        &self,
-        rt: &R,
-        node: Node,
-        receipt: Receipt,
-        failed: Option<u32>,
-    ) -> Result<Advanced<Receipt>, Receipt> {
-        let mut board = self.flusher.board.lock(rt);
-        let advanced = board.advance(node, receipt);
-        if self.ends_run(failed) {
-            abandon_waiting(&mut *board, self.graph.len());
-        }
-        advanced
-    }
-
-    fn tell_failed(&self, node: Node, status: u32, not_done: Option<&NotDone>) {
-        let number = node.number();
-        if number < self.graph.names.len() {
-            let target = self.graph.names.name(number);
-            self.say.tell(News::Failed {
-                target,
-                status,
-                not_done,
-            });
         }
     }
 }

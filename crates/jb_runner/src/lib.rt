@@ -3,7 +3,9 @@
 #![tactic(auto)]
 
 mod abandoning;
+mod bench;
 mod boards;
+mod desk;
 mod ending;
 mod gate;
 mod making;

@@ -2,7 +2,8 @@
 ghost use Rattle.std.specs.Prelude.{◌≡◌, ◌<◌, length};
 ghost use Rattle.jb_runner.specs.Making.{is_remade};
 
-use crate::{Shift, Shop};
+use crate::Shift;
+use crate::bench::Bench;
 use bd_flusher::Receipt;
 use bd_links::Node;
 use bd_lists::{Board, Exec};
@@ -13,10 +14,10 @@ use jb_recipe::{News, Place, Plan, Say, long_line};
 use jb_slots::Bank;
 use mk_plan::{Passed, RecipeFault, Why, line_place, pass, told_lines};
 use mk_recipe::Line;
-use mk_rules::HiddenNumbers;
+use mk_rules::{Graph, HiddenNumbers};
 use st_disk::Disk;
 use std::alloc::Global;
-use std::sync::Wait;
+use std::sync::{Mutex, Wait};
 
 /// Whether a node that has ended so counts as made anew.
 pub(crate) fn is_remade(end: Option<End>) -> bool
@@ -46,27 +47,42 @@ fn mark_hidden(marks: &mut Vec<bool>, board: &Board<Receipt>, hidden: HiddenNumb
     }
 }
 
-impl<D: Disk + Drop, E: Exec<Receipt>, S: Say, P: Place> Shop<'_, D, E, S, P> {
-    // All prerequisites that a claimed node counts have settled, so their ends are read in one holding of the lock.
-    fn mark<R: Wait>(&self, rt: &R, marks: &mut Vec<bool>, number: usize)
-        requires { number < length self.now.graph.now.nodes.items }
-    {
-        let board = self.flusher.board.lock(rt);
-        mark_remade(marks, &*board, self.graph.hard.row(number));
-        mark_hidden(marks, &*board, self.graph.hidden(number));
-        drop(board);
-    }
+// All prerequisites that a claimed node counts have settled, so their ends are read in one holding of the lock.
+fn mark<R: Wait>(
+    rt: &R,
+    board: &Mutex<Board<Receipt>>,
+    graph: &Graph,
+    marks: &mut Vec<bool>,
+    number: usize,
+)
+    requires { number < length graph.now.nodes.items }
+{
+    let board = board.lock(rt);
+    mark_remade(marks, &*board, graph.hard.row(number));
+    mark_hidden(marks, &*board, graph.hidden(number));
+    drop(board);
+}
 
-    // A node that needs no recipe settles. One that can't, which its claim rules out, is abandoned, so that no other waits for it.
-    fn settle<R: Wait>(&self, rt: &R, node: Node, end: End) {
-        let mut board = self.flusher.board.lock(rt);
-        if !board.settle(node, end) {
-            board.abandon(node);
-        }
-        drop(board);
-        self.tell_idle();
+/// Says lines that tell of a target.
+pub(crate) fn say_lines<S: Say>(say: &S, told: &ByteStrings) {
+    for line in told.iter() {
+        say.line(line);
     }
+}
 
+fn tell_not_recorded<S: Say>(say: &S, graph: &Graph, node: Node, long: Option<usize>) {
+    let number = node.number();
+    if number < graph.names.len() {
+        let target = graph.names.name(number);
+        let long = match long {
+            Some(line) => line_place(graph, number, line),
+            None => None,
+        };
+        say.tell(News::NotRecorded { target, long });
+    }
+}
+
+impl<D: Disk + Drop, E: Exec<Receipt>, S: Say, P: Place> Bench<'_, D, E, S, P> {
     /// Makes a node that was claimed. A fault ends the run; the node is then still to be abandoned.
     pub(crate) fn make<R: Wait, B: Bank>(
         &self,
@@ -79,10 +95,10 @@ impl<D: Disk + Drop, E: Exec<Receipt>, S: Say, P: Place> Shop<'_, D, E, S, P> {
     ) -> Result<(), RunFault> {
         let number = node.number();
         if number >= self.graph.len() {
-            self.lose(rt, node);
+            self.clerk.desk.lose(rt, node);
             return Ok(());
         }
-        self.mark(rt, marks, number);
+        mark(rt, self.clerk.desk.board, self.graph, marks, number);
         match pass(
             alloc,
             self.conduct.counts_records,
@@ -108,8 +124,8 @@ impl<D: Disk + Drop, E: Exec<Receipt>, S: Say, P: Place> Shop<'_, D, E, S, P> {
     {
         match passed {
             Passed::UpToDate => return self.finish(rt, alloc, node),
-            Passed::Left => self.settle(rt, node, End::UpToDate),
-            Passed::Remade => self.settle(rt, node, End::Remade),
+            Passed::Left => self.clerk.desk.settle(rt, node, End::UpToDate),
+            Passed::Remade => self.clerk.desk.settle(rt, node, End::Remade),
             Passed::Listed(why, lines) => {
                 return self.build(rt, alloc, node, &why, lines, bank, shift);
             }
@@ -117,19 +133,12 @@ impl<D: Disk + Drop, E: Exec<Receipt>, S: Say, P: Place> Shop<'_, D, E, S, P> {
         Ok(())
     }
 
-    /// Says lines that tell of a target.
-    pub(crate) fn say_lines(&self, told: &ByteStrings) {
-        for line in told.iter() {
-            self.say.line(line);
-        }
-    }
-
     // A target that has a recipe and is up to date.
     fn finish<R: Wait>(&self, rt: &R, alloc: Global, node: Node) -> Result<(), RunFault> {
         let telling = self.conduct.telling;
         let told = told_lines(alloc, telling, self.graph, node.number(), &Passed::UpToDate)?;
-        self.say_lines(&told);
-        self.settle(rt, node, End::UpToDate);
+        say_lines(self.say, &told);
+        self.clerk.desk.settle(rt, node, End::UpToDate);
         Ok(())
     }
 
@@ -146,7 +155,7 @@ impl<D: Disk + Drop, E: Exec<Receipt>, S: Say, P: Place> Shop<'_, D, E, S, P> {
         }
         self.say.tell(News::NotExpanded { fault });
         shift.worsen(2);
-        self.lose(rt, node);
+        self.clerk.desk.lose(rt, node);
         Ok(())
     }
 
@@ -181,16 +190,8 @@ impl<D: Disk + Drop, E: Exec<Receipt>, S: Say, P: Place> Shop<'_, D, E, S, P> {
         long: Option<usize>,
         shift: &mut Shift,
     ) {
-        let number = node.number();
-        if number < self.graph.names.len() {
-            let target = self.graph.names.name(number);
-            let long = match long {
-                Some(line) => line_place(self.graph, number, line),
-                None => None,
-            };
-            self.say.tell(News::NotRecorded { target, long });
-        }
+        tell_not_recorded(self.say, self.graph, node, long);
         shift.worsen(1);
-        self.lose(rt, node);
+        self.clerk.desk.lose(rt, node);
     }
 }

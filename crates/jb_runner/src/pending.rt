@@ -1,13 +1,11 @@
 //! The end of a recipe between its submission and its receipt: while a node is ready, that one's 'begun' is submitted behind it,
 //! and one batch has both.
 
-use crate::{Shift, Shop};
-use bd_flusher::Receipt;
+use crate::Shift;
+use crate::desk::Clerk;
 use bd_ledger::Ticket;
 use bd_links::Node;
-use bd_lists::Exec;
 use jb_closing::RunFault;
-use jb_recipe::{Place, Say};
 use st_disk::Disk;
 use st_records::Record;
 use std::alloc::Global;
@@ -23,12 +21,7 @@ pub(crate) struct Pending {
     pub(crate) failed: Option<u32>,
 }
 
-impl<D: Disk + Drop, E: Exec<Receipt>, S: Say, P: Place> Shop<'_, D, E, S, P> {
-    /// Whether nothing is begun behind an end.
-    pub(crate) fn ends_run(&self, failed: Option<u32>) -> bool {
-        failed.is_some() && !self.conduct.goes_on
-    }
-
+impl<D: Disk + Drop> Clerk<'_, D> {
     /// Leaves an end pending, unless nothing is to be begun behind it: then it is settled.
     pub(crate) fn leave_pending<R: Wait>(
         &self,
@@ -37,7 +30,7 @@ impl<D: Disk + Drop, E: Exec<Receipt>, S: Say, P: Place> Shop<'_, D, E, S, P> {
         end: Pending,
         shift: &mut Shift,
     ) -> Result<(), RunFault> {
-        let ends_run = self.ends_run(end.failed);
+        let ends_run = self.desk.ends_run(end.failed);
         drop(shift.pending.replace(end));
         if ends_run {
             return self.settle_pending(rt, alloc, shift);
@@ -62,7 +55,7 @@ impl<D: Disk + Drop, E: Exec<Receipt>, S: Say, P: Place> Shop<'_, D, E, S, P> {
                 Ok(())
             }
             Err(fault) => {
-                self.stop_at(rt, node);
+                self.desk.stop_at(rt, node);
                 Err(fault)
             }
         }
@@ -87,11 +80,11 @@ impl<D: Disk + Drop, E: Exec<Receipt>, S: Say, P: Place> Shop<'_, D, E, S, P> {
         shift: &mut Shift,
     ) -> Option<Node> {
         if shift.pending.is_some() {
-            let ready = self.claim_ready(rt);
+            let ready = self.desk.claim_ready(rt);
             if ready.is_some() || !self.settle_last(rt, alloc, shift) {
                 return ready;
             }
         }
-        self.next_node(rt)
+        self.desk.next_node(rt)
     }
 }

@@ -56,7 +56,7 @@ impl<D: Disk + Drop, E, S: Say, P> Shop<'_, D, E, S, P> {
     // Where not all workers could be started, it is told; where none could, the run ends.
     fn note_workers<R: Wait>(&self, rt: &R, crew: &mut Shift, workers: usize, asked: usize) {
         if workers == 0 {
-            self.stop(rt);
+            self.desk().stop(rt);
             crew.meet(RunFault::Start);
         } else if workers < asked {
             self.say.tell(News::FewerWorkers { workers, asked });

@@ -1,16 +1,15 @@
 //! What the workers of a run share, and their first and last steps with the board.
 
-use crate::abandoning::abandon_waiting;
+use crate::bench::Bench;
+use crate::desk::{Clerk, Desk, Idlers};
 use bd_flusher::{Flusher, Receipt, Site};
-use bd_links::Node;
 use bd_lists::Board;
-use jb_recipe::{Conduct, News, Say};
-use jb_slots::{Bank, Slots};
+use jb_recipe::{Conduct, Say};
+use jb_slots::Slots;
 use mk_rules::Graph;
 use st_disk::Disk;
 use st_records::HashKey;
-use std::sync::atomic::{AtomicUsize, Ordering};
-use std::sync::{Condvar, Mutex, Wait};
+use std::sync::Mutex;
 
 /// What the workers of a run share. Two locks stand in `flusher`, that of the site and that of the board; the site's may be
 /// held while the board's is taken, never the other way round. While a recipe runs, while a slot is waited for and while
@@ -26,10 +25,7 @@ pub struct Shop<'a, D: Disk + Drop, E, S, P> {
     pub key: HashKey,
     pub flusher: Flusher<D>,
     pub slots: Slots,
-    /// Told whenever the board's lists have changed so that an idle worker may find a node, or none for ever.
-    changed: Condvar,
-    /// How many workers are idle: it is changed while the board's lock is held.
-    idle: AtomicUsize,
+    idlers: Idlers,
     /// Whether the jobserver's fault was told.
     complained: Mutex<bool>,
 }
@@ -53,8 +49,7 @@ impl<'a, D: Disk + Drop, E, S: Say, P> Shop<'a, D, E, S, P> {
             key,
             flusher,
             slots: Slots::new(),
-            changed: Condvar::new(),
-            idle: AtomicUsize::new(0),
+            idlers: Idlers::new(),
             complained: Mutex::new(false),
         }
     }
@@ -70,88 +65,38 @@ impl<'a, D: Disk + Drop, E, S: Say, P> Shop<'a, D, E, S, P> {
             key: _,
             flusher,
             slots: _,
-            changed: _,
-            idle: _,
+            idlers: _,
             complained: _,
         } = self;
         let Flusher { site, board } = flusher;
         (site.into_inner(), board.into_inner())
     }
 
-    /// A node that can be made now.
-    pub(crate) fn claim_ready<R: Wait>(&self, rt: &R) -> Option<Node> {
-        let mut board = self.flusher.board.lock(rt);
-        board.claim()
-    }
-
-    /// The next node to be made. While none can be, and some node still waits, the worker sleeps; None where none waits.
-    pub(crate) fn next_node<R: Wait>(&self, rt: &R) -> Option<Node> {
-        let mut board = self.flusher.board.lock(rt);
-        for _ in rt.forever() {
-            let claimed = board.claim();
-            if claimed.is_some() || !board.waits() {
-                drop(board);
-                return claimed;
-            }
-            self.idle.fetch_add(1, Ordering::Relaxed);
-            board = self.changed.wait(rt, board);
-            self.idle.fetch_sub(1, Ordering::Relaxed);
-        }
-        unreachable!()
-    }
-
-    /// Tells idle workers, if there are any, that the board has changed. The board's lock isn't held: a worker that became idle
-    /// before the change is counted, and one that looks at the board behind it sees it.
-    pub(crate) fn tell_idle(&self) {
-        if self.idle.load(Ordering::Relaxed) > 0 {
-            self.changed.notify_all();
+    /// The board, as workers use it.
+    pub(crate) fn desk(&self) -> Desk<'_> {
+        Desk {
+            board: &self.flusher.board,
+            idlers: &self.idlers,
+            nodes: self.graph.len(),
+            goes_on: self.conduct.goes_on,
         }
     }
 
-    /// A node can't be made: it is abandoned, unless its record is still to be drained. Without `-k` all that waits is too.
-    pub(crate) fn lose<R: Wait>(&self, rt: &R, node: Node) {
-        let mut board = self.flusher.board.lock(rt);
-        board.abandon(node);
-        if !self.conduct.goes_on {
-            abandon_waiting(&mut *board, self.graph.len());
+    /// What a worker makes nodes with.
+    pub(crate) fn bench(&self) -> Bench<'_, D, E, S, P> {
+        Bench {
+            graph: self.graph,
+            conduct: self.conduct,
+            exec: self.exec,
+            say: self.say,
+            place: self.place,
+            key: self.key,
+            slots: &self.slots,
+            complained: &self.complained,
+            clerk: Clerk {
+                flusher: &self.flusher,
+                desk: self.desk(),
+            },
         }
-        drop(board);
-        self.tell_idle();
-    }
-
-    /// The run ends: all that waits is abandoned, so that the other workers end with the nodes that they have.
-    pub(crate) fn stop<R: Wait>(&self, rt: &R) {
-        let mut board = self.flusher.board.lock(rt);
-        abandon_waiting(&mut *board, self.graph.len());
-        drop(board);
-        self.tell_idle();
-    }
-
-    /// The same, and with it the node of the worker that ends the run, in one holding of the lock: nothing that the node frees is
-    /// begun.
-    pub(crate) fn stop_at<R: Wait>(&self, rt: &R, node: Node) {
-        let mut board = self.flusher.board.lock(rt);
-        board.abandon(node);
-        abandon_waiting(&mut *board, self.graph.len());
-        drop(board);
-        self.tell_idle();
-    }
-
-    /// Whether a worker's end of the jobserver has failed. The first time in a run it is told.
-    pub(crate) fn complain<R: Wait, B: Bank>(&self, rt: &R, bank: &B) -> bool {
-        if !bank.faulted() {
-            return false;
-        }
-        if self.is_first_complaint(rt) {
-            self.say.tell(News::JobserverFailed);
-        }
-        true
-    }
-
-    fn is_first_complaint<R: Wait>(&self, rt: &R) -> bool {
-        let mut complained = self.complained.lock(rt);
-        let is_first = !*complained;
-        *complained = true;
-        is_first
     }
 }

@@ -2,13 +2,12 @@
 ghost use Rattle.st_records.specs.Limits.{IsGood};
 ghost use Rattle.st_records.specs.declared.version.Version.TheVariants.{Two};
 
-use crate::{Shift, Shop};
+use crate::Shift;
+use crate::desk::Desk;
 use bd_flusher::Receipt;
 use bd_ledger::Ticket;
 use bd_links::Node;
 use bd_lists::Spent;
-use jb_recipe::Say;
-use st_disk::Disk;
 use st_records::Record;
 use std::sync::Wait;
 
@@ -33,7 +32,7 @@ fn apart(
     }
 }
 
-impl<D: Disk + Drop, E, S: Say, P> Shop<'_, D, E, S, P> {
+impl Desk<'_> {
     // The board's lock is held for the submission alone.
     fn submit<R: Wait>(
         &self,
@@ -44,7 +43,7 @@ impl<D: Disk + Drop, E, S: Say, P> Shop<'_, D, E, S, P> {
     ) -> Result<(Ticket, Option<Receipt>), (Record, Option<Spent<Receipt>>)>
         requires { IsGood Two note }
     {
-        let mut board = self.flusher.board.lock(rt);
+        let mut board = self.board.lock(rt);
         board.submit(node, note, run)
     }
 

@@ -1,5 +1,6 @@
 //! One worker.
 
+use crate::bench::Bench;
 use crate::{Shift, Shop};
 use bd_flusher::Receipt;
 use bd_lists::Exec;
@@ -21,9 +22,12 @@ pub fn work<R: Wait, D: Disk + Drop, E: Exec<Receipt>, S: Say, P: Place, B: Bank
     let mut bank = bank;
     let mut shift = Shift::new(alloc);
     match vec![in alloc; false; shop.graph.len()] {
-        Ok(mut marks) => make_nodes(rt, alloc, shop, &mut marks, &mut bank, &mut shift),
+        Ok(mut marks) => {
+            let bench = shop.bench();
+            make_nodes(rt, alloc, &bench, &mut marks, &mut bank, &mut shift);
+        }
         Err(_) => {
-            shop.stop(rt);
+            shop.desk().stop(rt);
             shift.meet(RunFault::OutOfMemory);
         }
     }
@@ -33,19 +37,19 @@ pub fn work<R: Wait, D: Disk + Drop, E: Exec<Receipt>, S: Say, P: Place, B: Bank
 fn make_nodes<R: Wait, D: Disk + Drop, E: Exec<Receipt>, S: Say, P: Place, B: Bank>(
     rt: &R,
     alloc: Global,
-    shop: &Shop<'_, D, E, S, P>,
+    bench: &Bench<'_, D, E, S, P>,
     marks: &mut Vec<bool>,
     bank: &mut B,
     shift: &mut Shift,
 ) {
     for _ in rt.forever() {
-        let Some(node) = shop.claim_next(rt, alloc, shift) else {
+        let Some(node) = bench.clerk.claim_next(rt, alloc, shift) else {
             return;
         };
-        if let Err(fault) = shop.make(rt, alloc, node, marks, bank, shift) {
-            shop.stop_at(rt, node);
+        if let Err(fault) = bench.make(rt, alloc, node, marks, bank, shift) {
+            bench.clerk.desk.stop_at(rt, node);
             shift.meet(fault);
-            shop.settle_last(rt, alloc, shift);
+            bench.clerk.settle_last(rt, alloc, shift);
             return;
         }
     }

@@ -1,6 +1,6 @@
 use Rattle.std.proofs.Common.{◌≡◌, ap, ◌∙◌}
 use Rattle.bd_flusher.specs.declared.site.receipt.Receipt.{Receipt}
-use Rattle.jb_runner.proofs.shop.Shop.clear.Goals as goal
+use Rattle.jb_runner.proofs.desk.Clerk.clear.Goals as goal
 
 -- the clearance has the receipt that was acknowledged, which notes the record that was submitted
 pub returns-in-Ok-Cleared : goal.returns-in-Ok-Cleared
