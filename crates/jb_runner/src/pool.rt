@@ -12,6 +12,7 @@ ghost use Rattle.jb_closing.specs.Closing.{AreTrueOf};
 ghost use Rattle.jb_closing.specs.Report.{ends_well, ComesTo};
 
 use crate::gate::{Gate, staying};
+use crate::shift::let_go;
 use crate::{Shift, Shop, board_of, work};
 use bd_flusher::{Flusher, Receipt, Site};
 use bd_links::Node;
@@ -190,13 +191,17 @@ fn close<D: Disk + Drop>(
         receipts,
         status,
         fault,
-        pending: _,
+        pending,
     } = crew;
+    let_go(pending);
     if let Some(fault) = fault {
+        drop(receipts);
         return Err(fault);
     }
     let ends = ends_of(alloc, board, graph.len())?;
-    closed.report(alloc, graph, Report::of(ends, status), &receipts)
+    let report = closed.report(alloc, graph, Report::of(ends, status), &receipts);
+    drop(receipts);
+    report
 }
 
 /// The run of a shop, and its closing report.

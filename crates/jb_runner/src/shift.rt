@@ -20,7 +20,7 @@ pub struct Shift {
 }
 
 // A worker that has ended leaves none.
-fn let_go(pending: Option<Pending>) {
+pub(crate) fn let_go(pending: Option<Pending>) {
     drop(pending);
 }
 
