@@ -4,13 +4,37 @@ ghost use Rattle.std.specs.Prelude.{◌≤◌, IfOk};
 use crate::shell::{shell_command, status_of};
 use bd_lists::{ExecFault, Variable};
 use std::alloc::Global;
-use std::process::Stdio;
+use std::process::{Command, Output, Stdio};
 
 /// What a command wrote on standard output, and its status: 256 where a signal ended it.
 #[derive(Drop)]
 pub struct Written {
     pub status: u32,
     pub out: Vec<u8>,
+}
+
+// The status of a command that is run to its end.
+fn end_of(rt: &HostRuntime, command: &mut Command) -> Result<u32, ExecFault>
+    ensures { IfOk result (λ status. status ≤ 256) }
+{
+    match command.status(rt) {
+        Ok(status) => Ok(status_of(status.code())),
+        Err(_) => Err(ExecFault),
+    }
+}
+
+fn outcome_of(output: Output) -> Written {
+    Written {
+        status: status_of(output.status.code()),
+        out: output.stdout,
+    }
+}
+
+fn written_by(rt: &HostRuntime, command: &mut Command) -> Result<Written, ExecFault> {
+    match command.output(rt) {
+        Ok(output) => Ok(outcome_of(output)),
+        Err(_) => Err(ExecFault),
+    }
 }
 
 /// Runs lines in a dry run, and commands of definitions, each as `/bin/sh -c TEXT`, with empty standard input, in dmk's own environment and these variables.
@@ -28,29 +52,32 @@ impl<'a> DryShell<'a> {
         DryShell { rt, alloc, env }
     }
 
-    /// Runs a line to its end, and answers its status: 256 where a signal ended it.
-    pub fn run(&self, text: &[u8]) -> Result<u32, ExecFault>
-        ensures { IfOk result (λ status. status ≤ 256) }
-    {
-        let mut command = shell_command(self.alloc, text, self.env).map_err(|_| ExecFault)?;
-        command.stdin(Stdio::null());
-        match command.status(&self.rt) {
-            Ok(status) => Ok(status_of(status.code())),
+    fn command(&self, text: &[u8]) -> Result<Command, ExecFault> {
+        match shell_command(self.alloc, text, self.env) {
+            Ok(mut command) => {
+                command.stdin(Stdio::null());
+                Ok(command)
+            }
             Err(_) => Err(ExecFault),
         }
     }
 
+    /// Runs a line to its end, and answers its status: 256 where a signal ended it.
+    pub fn run(&self, text: &[u8]) -> Result<u32, ExecFault>
+        ensures { IfOk result (λ status. status ≤ 256) }
+    {
+        let mut command = self.command(text)?;
+        let status = end_of(&self.rt, &mut command);
+        drop(command);
+        status
+    }
+
     /// Runs a text to its end, and answers what it writes on standard output, and its status.
     pub fn output(&self, text: &[u8]) -> Result<Written, ExecFault> {
-        let mut command = shell_command(self.alloc, text, self.env).map_err(|_| ExecFault)?;
-        command.stdin(Stdio::null());
+        let mut command = self.command(text)?;
         command.stderr(Stdio::inherit());
-        match command.output(&self.rt) {
-            Ok(output) => Ok(Written {
-                status: status_of(output.status.code()),
-                out: output.stdout,
-            }),
-            Err(_) => Err(ExecFault),
-        }
+        let written = written_by(&self.rt, &mut command);
+        drop(command);
+        written
     }
 }

@@ -1,8 +1,9 @@
 //! The files of the system.
 
 use crate::shared_syncs::SharedSyncs;
+use crate::shell::set_text;
 use jb_recipe::{Place, PlaceFault};
-use std::alloc::Global;
+use std::alloc::{AllocError, Global};
 use std::fs::{self, File, Metadata, OpenOptions};
 use std::io::{self, ErrorKind};
 use std::os::unix::fs::MetadataExt;
@@ -77,14 +78,26 @@ fn sync_unread(host: HostRuntime, path: &str) -> io::Result<()> {
 }
 
 // The program sync, by which any user may have all file systems synced.
-fn sync_all_files(host: HostRuntime) -> io::Result<()> {
-    let mut command = Command::new(host.alloc(), "/bin/sh")?;
-    command.arg("-c")?.arg("sync")?;
+fn sync_program(alloc: Global) -> Result<Command, AllocError> {
+    let mut command = Command::new(alloc, "/bin/sh")?;
+    set_text(&mut command, "sync")?;
     command.stdin(Stdio::null());
-    match command.output(&host)?.status.code() {
+    Ok(command)
+}
+
+fn end_well(host: HostRuntime, command: &mut Command) -> io::Result<()> {
+    let output = command.output(&host)?;
+    match output.status.code() {
         Some(0) => Ok(()),
         _ => Err(io::Error::other("the program sync failed")),
     }
+}
+
+fn sync_all_files(host: HostRuntime) -> io::Result<()> {
+    let mut command = sync_program(host.alloc())?;
+    let ended = end_well(host, &mut command);
+    drop(command);
+    ended
 }
 
 /// Reports and targets in the folder in which dmk runs. A name that isn't UTF-8 has no file here.

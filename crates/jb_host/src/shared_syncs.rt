@@ -65,13 +65,17 @@ impl Folders {
     }
 
     fn holds_up(&self, name: &str, ticket: Ticket) -> bool {
-        self.find(name)
-            .is_some_and(|folder| folder.syncs.holds_up(ticket))
+        match self.find(name) {
+            Some(folder) => folder.syncs.holds_up(ticket),
+            None => false,
+        }
     }
 
     fn serves(&self, name: &str, ticket: Ticket) -> bool {
-        self.find(name)
-            .is_some_and(|folder| folder.syncs.serves(ticket))
+        match self.find(name) {
+            Some(folder) => folder.syncs.serves(ticket),
+            None => false,
+        }
     }
 
     fn begin(&mut self, name: &str) -> bool {

@@ -1,5 +1,5 @@
 //! Recipe lines run by the shell.
-ghost use Rattle.std.specs.Prelude.{◌≡◌, ◌≤◌, ℕ, [], ◌∷◌, None, Some, pos, IfOk, codes};
+ghost use Rattle.std.specs.Prelude.{◌≡◌, ◌≤◌, ℕ, [], ◌∷◌, ◌++◌, None, Some, pos, IfOk, OnOk, codes};
 ghost use Rattle.std.specs.Process.{command_program, command_args, exit_code};
 
 use crate::surroundings::Surroundings;
@@ -59,7 +59,10 @@ impl From<io::Error> for NoCommand {
 fn text_of(bytes: &[u8]) -> Result<&str, NoCommand>
     ensures { IfOk result (λ text. text.now ≡ bytes.now) }
 {
-    std::str::from_utf8(bytes).map_err(|_| NoCommand)
+    match std::str::from_utf8(bytes) {
+        Ok(text) => Ok(text),
+        Err(_) => Err(NoCommand),
+    }
 }
 
 // An empty MAKEFLAGS says nothing to a make, and stands for one that is taken out.
@@ -81,13 +84,23 @@ fn set_variables(command: &mut Command, env: &[Variable]) -> Result<(), NoComman
     Ok(())
 }
 
+/// Has the shell run this text.
+pub(crate) fn set_text(command: &mut Command, text: &str) -> Result<(), AllocError>
+    ensures program { OnOk result (command_program command.new ≡ command_program command.old) }
+    ensures args { OnOk result (command_args command.new ≡ (command_args command.old ++ codes "-c" ∷ []) ++ text.now ∷ []) }
+{
+    command.arg("-c")?.arg(text)?;
+    Ok(())
+}
+
 // The shell that runs a text in dmk's own environment.
 fn shell_of(alloc: Global, text: &[u8]) -> Result<Command, NoCommand>
     ensures program { IfOk result (λ command. command_program command ≡ codes "/bin/sh") }
     ensures args { IfOk result (λ command. command_args command ≡ codes "-c" ∷ text.now ∷ []) }
 {
+    let text = text_of(text)?;
     let mut command = Command::new(alloc, "/bin/sh")?;
-    command.arg("-c")?.arg(text_of(text)?)?;
+    set_text(&mut command, text)?;
     Ok(command)
 }
 
@@ -98,8 +111,13 @@ pub(crate) fn shell_command(
     env: &[Variable],
 ) -> Result<Command, NoCommand> {
     let mut command = shell_of(alloc, text)?;
-    set_variables(&mut command, env)?;
-    Ok(command)
+    match set_variables(&mut command, env) {
+        Ok(()) => Ok(command),
+        Err(fault) => {
+            drop(command);
+            Err(fault)
+        }
+    }
 }
 
 impl<'a> Shell<'a> {
@@ -122,12 +140,21 @@ impl<'a> Shell<'a> {
 
     fn command(&self, line: &Line, env: &[Variable]) -> Result<Command, NoCommand> {
         let mut command = shell_of(self.alloc, line.text.as_slice())?;
-        if let Some(surroundings) = self.surroundings() {
-            surroundings.hand_to(&mut command)?;
+        match self.set_environment(&mut command, env) {
+            Ok(()) => Ok(command),
+            Err(fault) => {
+                drop(command);
+                Err(fault)
+            }
         }
-        set_variables(&mut command, env)?;
-        self.hand_on(&mut command)?;
-        Ok(command)
+    }
+
+    fn set_environment(&self, command: &mut Command, env: &[Variable]) -> Result<(), NoCommand> {
+        if let Some(surroundings) = self.surroundings() {
+            surroundings.hand_to(command)?;
+        }
+        set_variables(command, env)?;
+        self.hand_on(command)
     }
 
     // A line that goes on behind a killed run keeps the lock by its standard input, so that the next run waits for it.
@@ -152,7 +179,10 @@ pub(crate) fn status_of(code: Option<i32>) -> u32
     ensures stopped { code ≡ None → result ≡ 256 }
 {
     match code {
-        Some(code) => u32::try_from(code).map_or(256, |status| status.min(256)),
+        Some(code) => match u32::try_from(code) {
+            Ok(status) => status.min(256),
+            Err(_) => 256,
+        },
         None => 256,
     }
 }
@@ -170,6 +200,15 @@ fn ended(output: Output) -> Ended
     }
 }
 
+fn ended_by(rt: &HostRuntime, command: &mut Command) -> Result<Ended, ExecFault>
+    ensures { IfOk result (λ ended. ended.status ≤ 256) }
+{
+    match command.output(rt) {
+        Ok(output) => Ok(ended(output)),
+        Err(_) => Err(ExecFault),
+    }
+}
+
 impl<T> Exec<T> for Shell<'_> {
     ghost answers = { λ shell env line answer. Unit {0} };
 
@@ -179,9 +218,12 @@ impl<T> Exec<T> for Shell<'_> {
         line: &Line,
         env: &[Variable],
     ) -> Result<Ended, ExecFault> {
-        let mut command = self.command(line, env).map_err(|_| ExecFault)?;
-        match command.output(&self.rt) {
-            Ok(output) => Ok(ended(output)),
+        match self.command(line, env) {
+            Ok(mut command) => {
+                let ended = ended_by(&self.rt, &mut command);
+                drop(command);
+                ended
+            }
             Err(_) => Err(ExecFault),
         }
     }

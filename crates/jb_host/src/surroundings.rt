@@ -19,11 +19,14 @@ fn are_all(rt: HostRuntime, count: usize) -> bool {
 
 // Whether two of these, which are in order, have one name.
 fn has_twice(variables: &[(String, String)]) -> bool {
-    let next = variables.iter().skip(1);
-    variables
-        .iter()
-        .zip(next)
-        .any(|(one, next)| one.0 == next.0)
+    let mut last = None;
+    for (name, _) in variables {
+        if last == Some(name.as_str()) {
+            return true;
+        }
+        last = Some(name.as_str());
+    }
+    false
 }
 
 impl Surroundings {
