@@ -77,7 +77,7 @@ fn file_named(alloc: Global, words: &[String]) -> Result<String, clap::Error> {
         .default_value(DEFAULT_FILE);
     let command = Command::new(alloc, "dmk_state")
         .bin_name("dmk_state")?
-        .version("0.1.0")
+        .version("0.2.0")
         .about("Lists what a state file of dmk remembers of its targets")
         .arg(file)?;
     let found = command.try_get_matches_from(words)?;

@@ -256,7 +256,7 @@ fn with_options<'a>(
 fn command<'a>(alloc: Global, processors: &'a str) -> Result<Command<'a>, AllocError> {
     let command = Command::new(alloc, "dmk")
         .bin_name("dmk")?
-        .version("0.1.0")
+        .version("0.2.0")
         .about(ABOUT)
         .after_help(AFTER);
     let command = with_options(alloc, command, processors)?;
