@@ -6,6 +6,7 @@ ghost use Rattle.bd_links.specs.Mark.{stand_now};
 use crate::Stand;
 
 /// The list that a node was put at the end of last, and how often Unflushed had been joined to Flushing before.
+/// So a join is constant in time: it marks none of the nodes that it moves.
 #[derive(Clone, Copy, Debug)]
 pub(crate) struct Mark {
     pub(crate) stand: Stand,

@@ -18,6 +18,9 @@ enum Bytes {
 }
 
 /// A name, a command, or a piece of a text: any bytes, which needn't be UTF-8. Most are short, and stand in the value itself.
+///
+/// `smallvec` and `arrayvec` keep a length of a whole word: as many bytes would take 40 and more. There is no way back to a
+/// vector, which would take memory.
 #[derive(Drop)]
 pub struct ByteString {
     bytes: Bytes,

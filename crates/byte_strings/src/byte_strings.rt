@@ -10,6 +10,9 @@ use std::marker::Model;
 
 /// Byte strings in their order, as the names or the commands of a target. They are one allocation, in which each stands behind
 /// its length.
+///
+/// So lists lie in a state file, and are taken from there by one copy. A vector for each string took twelve times the size of
+/// the file (22 November 2026). The ends of the strings in a vector of their own would be a second allocation for each list.
 #[derive(Drop)]
 pub struct ByteStrings {
     bytes: Vec<u8>,

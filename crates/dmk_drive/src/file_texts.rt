@@ -108,6 +108,7 @@ fn names_of<C: FileCalls>(
     }
 }
 
+// A text stays with the thread that reads, so its count needs no atomic steps.
 /// A text that others may hold too.
 fn to_share(alloc: Global, text: Option<Vec<u8>>) -> Result<Option<Rc<Vec<u8>>>, AllocError>
     ensures { IfOk result (λ shared. option_map (λ text. text.value.items) shared ≡ option_map (λ text. text.items) text) }

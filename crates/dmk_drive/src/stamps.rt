@@ -14,6 +14,8 @@ use std::marker::Model;
 /// What was told of each name so far. Contracts see the names by their numbers, and what was told of them.
 ///
 /// A name that was never asked for before is listed at no cost, and is found by its bytes only once another name has to be found.
+/// The times of a graph's nodes can't stand for that list: a name from which a rule may make something is looked at apart from
+/// its node. To seek each node's name in the list would be a search for each.
 #[derive(Drop)]
 pub struct Stamps {
     /// The names that are found, and those that were listed since.

@@ -29,6 +29,9 @@ use std::thread::Threads;
 
 /// Makes what was planned, some recipe of which may be to be run. The store is put together for that: the graph keeps its state,
 /// so the store's is a copy, or what the graph has forgotten.
+///
+/// A copy for each run was a sixteenth of a null run's instructions, and 13 MB for 49,000 targets. The graph can't borrow the
+/// store's, which is written while the graph is read.
 fn make_listed<R, O, W, E, P, K, D>(
     rt: &R,
     alloc: Global,

@@ -26,6 +26,7 @@ use st_state::State;
 use std::alloc::Global;
 
 /// A side that ends behind this is long: it is written anew when it is opened, if half of it can go.
+/// Else a state that is that long when it is compacted would be written anew by each run: 0.3 s for 77 MB.
 const LONG: usize = 1 << 20;
 
 /// The disk of a log that is let go.

@@ -46,6 +46,9 @@ fn say_finished<S: Say>(alloc: Global, telling: Telling, graph: &Graph, say: &S)
 
 /// Whether no recipe is to be run, which is found without a worker. False too where it can't be found out: then workers do.
 /// What there is to tell is said.
+///
+/// Workers, the pool and the board took twice the time and memory of `-q`. Who makes something passes the nodes before its first
+/// recipe twice.
 pub(crate) fn is_none_to_run<S: Say>(alloc: Global, plan: &Plan, say: &S) -> bool
     ensures { result ≡ true → IsNoneToRun plan.now.conduct.counts_records plan.now.conduct.keeps_state plan.now.graph (recorded_in plan.now) }
 {

@@ -117,6 +117,9 @@ enum Turn {
 }
 
 /// Folders that several workers want synced.
+///
+/// With a lock for each folder each of those that wait would sync it once more. For 200 recipes in one folder it is synced 203
+/// times by one worker, 174 by four and 82 by sixteen (27 November 2026).
 #[derive(Drop)]
 pub(crate) struct SharedSyncs<'a, R: Wait> {
     rt: &'a R,

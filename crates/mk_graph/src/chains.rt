@@ -1,5 +1,8 @@
 //! Hashes in buckets: of each bucket the place of the last hash that fell there, and of each hash the place of the one
 //! before it in its bucket. Places are counted from 1, so that 0 says that there is none.
+//! A chain goes down, so that its search ends. Hashes in slots, where a search goes on to the next slot, take a table twice as
+//! large and are no faster: a null build of 49,000 targets takes as long, and 3 % longer where names lie beside each other, since
+//! their runs join (27 November 2026).
 
 ghost use Rattle.std.specs.Prelude.{◌≡◌, ◌<◌, ◌≤◌, ◌^◌, length, set, replicate, slice_index, OnOk};
 ghost use Rattle.mk_graph.specs.Chains.{bucket, AreChained};

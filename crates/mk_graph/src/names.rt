@@ -1,4 +1,6 @@
 //! Names by number, in the order in which they were first mentioned.
+//! `IndexSet` wants a copy of a name to insert it, and hashes by several calls. The hash is made once for a look-up and the push
+//! behind it, and lies beside the place before it, so that a step of a search reads one line of memory.
 
 ghost use Rattle.std.specs.Prelude.{◌≡◌, ℕ, ◌<◌, ◌≤◌, List, [], ◌∷◌, ◌++◌, length, map, nat_lt, true, false, not, is_some, IfOk, IfSome, OnOk, OnErr, MatchOption};
 ghost use Rattle.std.specs.List.{list_all};

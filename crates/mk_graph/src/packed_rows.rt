@@ -11,6 +11,8 @@ use std::alloc::{AllocError, Global};
 use std::marker::Model;
 
 /// Rows whose numbers lie one behind the other, each up to its end.
+///
+/// A number takes four bytes, half of an index: 49,000 targets with 20 hidden prerequisites each have a million of them.
 #[derive(Debug, Drop)]
 pub struct PackedRows {
     pub numbers: Vec<u32>,

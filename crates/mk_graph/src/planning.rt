@@ -50,6 +50,8 @@ pub fn plan(alloc: Global, edges: &Edges) -> Result<Vec<usize>, AllocError>
 }
 
 /// The plan of the graph that has the rows of two together. These rows aren't made.
+///
+/// Made, they and their users were four lists of all edges at once. Only a board needs them, and makes them by `counted_edges`.
 pub(crate) fn plan_both(
     alloc: Global,
     first: &Edges,

@@ -1,4 +1,6 @@
 //! Nodes that wait, each for one of its prerequisites, so that each edge is looked at once.
+//! To count down what each node lacks, the users of all nodes would be made: two passes, and a list as long as all edges. Rows
+//! gone through from their front: 1,380 million instructions for 49,000 targets in layers, in place of 1,282 (27 November 2026).
 
 ghost use Rattle.std.specs.Prelude.{◌≡◌, ◌≢◌, ℕ, ◌+◌, ◌<◌, ◌≤◌, true, false, [], ◌++◌, length, slice_index, nat_eq, IfOk, IfSome, IfNone, OnOk};
 ghost use Rattle.std.specs.List.{list_all};

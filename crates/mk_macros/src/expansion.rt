@@ -1,5 +1,8 @@
 // The expansion of a text. A text whose macro isn't known yet waits in a list until it is, so that no chain of
 // definitions and no nesting of brackets is too deep, and each macro's value is made once.
+// A value is kept until the expansion ends, also one that a substitution drops: sharing values between names would help only
+// where a text is one reference. Brackets are closed by a search for each, so time is the square of their depth; a table of the
+// closing bytes, made once from the end of the text, would make it linear.
 ghost use Rattle.std.specs.Prelude.{◌≡◌, [], IfOk, IfErr};
 ghost use Rattle.mk_macros.specs.Ranks.{defined_by, meaning_of, meanings_of};
 ghost use Rattle.mk_macros.specs.Expansion.{gives, Expands, MeetsFault, ExpandsTo, ExpandsToFault};

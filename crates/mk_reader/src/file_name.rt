@@ -7,6 +7,8 @@ use std::marker::Model;
 use std::sync::Arc;
 
 /// A file's name as it was given, or as it stands on the include line. Contracts see its bytes.
+///
+/// Its count is an atomic one, since workers share the graph, whose rule lines hold names.
 #[derive(Drop)]
 pub struct FileName {
     shared: Arc<ByteString>,

@@ -270,6 +270,8 @@ fn add_suffix_forms(
 
 /// The forms of all pattern and suffix rules, in the order in which they are tried. `rules` is the table of the suffix
 /// rules.
+///
+/// Made once, so that pairs of suffixes cost nothing for each name; a name takes memory only for the forms that fit it.
 pub fn forms_of(
     alloc: Global,
     lines: &[RuleLine],

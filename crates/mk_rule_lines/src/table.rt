@@ -31,6 +31,8 @@ struct ManyLines {
 }
 
 /// The targets of a makefile's rule lines, each at its name's number.
+///
+/// Prerequisites and recipes stay in their lines, so that a line with fifty thousand targets is kept once.
 #[derive(Drop)]
 pub struct TargetTable {
     names: Names,

@@ -233,6 +233,8 @@ fn look_up<T: Tree>(
     numbered(alloc, rules, tree, names, notes, seen, entry)
 }
 
+// Tables that grow by doubling chain and copy each name about twice: `dmk -q` of 49,000 targets with a source each took 1,283
+// million instructions in place of 1,255, and with 20 hidden prerequisites each 64 MB in place of 59 (27 November 2026).
 /// How much may be expected of these rules: each target has a source or so, and each other one a header.
 pub(crate) fn expected(rules: &Rules) -> Expected {
     let targets = rules.lines.len();

@@ -1,4 +1,6 @@
 //! Which name followed another one the last time, so that a list that comes again isn't looked up name by name.
+//! As lists of headers do. Numbers in place of names, in rule lines and in the state, would spare the comparisons too, but every
+//! crate between would speak of numbers.
 ghost use Rattle.std.specs.Prelude.{◌≡◌, ◌<◌, length, IfOk, IfSome};
 ghost use Rattle.std.specs.Str.{bytes_eq};
 ghost use Rattle.mk_graph.specs.Numbering.{name_at, added};

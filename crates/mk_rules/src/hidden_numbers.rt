@@ -1,4 +1,6 @@
 //! The hidden prerequisites of a node by number.
+//! Verdicts number hidden prerequisites that are gone too, and nearly always none is: then the numbers are what the node's soft
+//! row begins with, and a list of them would take 24 bytes and an allocation in each node.
 ghost use Rattle.std.specs.Prelude.{◌≡◌, ◌∷◌, ◌++◌, [], Bool, List, true, length, replicate, MatchOption};
 ghost use Rattle.mk_rules.specs.Hidden.{spread};
 

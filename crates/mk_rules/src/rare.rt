@@ -1,4 +1,5 @@
 //! What few nodes have, for which the others spend no memory.
+//! An option for each part in each node took 144 bytes; a node with one box takes 40.
 ghost use Rattle.std.specs.Prelude.{◌≡◌, true, option_map, IfOk};
 ghost use Rattle.std.specs.Option.{option_copied};
 ghost use Rattle.mk_rules.specs.Rare.{no_parts, with_marks};

@@ -1,5 +1,6 @@
 //! The bytes that the names of a table begin and end with. They tell of most names that aren't there, without a search:
 //! sources seldom begin and end as targets do.
+//! A filter over all bytes of a name would tell more, but it has to grow with the table and costs each name a hash.
 ghost use Rattle.std.specs.Prelude.{◌≡◌, List, ℕ, true, false, replicate};
 ghost use Rattle.name_keys.specs.Ends.{may_have};
 

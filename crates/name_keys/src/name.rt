@@ -63,6 +63,7 @@ impl Eq for Name {
     ghost laws = { nat_list_eq_equiv };
 }
 
+// The toolchain's `Hash` for vectors hands over byte after byte: under SipHash a name of five bytes costs twice as much.
 impl Hash for Name {
     ghost hash_input = { at_once };
 

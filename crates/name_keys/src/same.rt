@@ -1,4 +1,7 @@
 //! Whether two names have the same bytes.
+//! 5 bytes take 20 instructions, one by one 46; 12 take 26 and 24 take 22, by `==` of slices 95 and 42; from 60 on both take the
+//! same (26 November 2026). Eight bytes as a number don't become one load where each place has its check, and steps for lengths
+//! in between cost a branch each.
 ghost use Rattle.std.specs.Prelude.{◌≡◌, ◌+◌, ◌<◌, ◌≤◌, length, take, drop, nat_eq};
 ghost use Rattle.std.specs.Cmp.Lexicographic.{pointwise};
 

@@ -1,5 +1,6 @@
 //! Bytes on their way to a writer wait in a buffer, so that many go out in one call. Its room was taken before: nothing
 //! here takes memory.
+//! `BufWriter::write_all` says nothing of what went out before an error.
 
 ghost use Rattle.std.specs.Prelude.{◌≡◌, ◌+◌, ◌≤◌, ◌++◌, [], length, take, vec_len, OnOk, OnErr, IfOk, vec_capacity};
 ghost use Rattle.std.specs.Io.KnownBytes.{Appends, Keeps};

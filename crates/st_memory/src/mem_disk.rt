@@ -1,4 +1,6 @@
 //! A disk in memory. It keeps every call that it made, so what a crash may have left is known for every moment.
+//! The bytes now stand beside the calls and all that they wrote, so that a sync copies nothing and only `power_cut` makes the
+//! calls once more. Memory grows with what was written.
 ghost use Rattle.std.specs.Prelude.{◌≡◌, ◌+◌, ◌<◌, ◌≤◌, ◌++◌, ◌∷◌, ℕ, [], length, take, slice_range, vec_len, vec_capacity, IsOk, IfOk, OnOk, OnErr};
 ghost use Rattle.st_memory.specs.declared.call.Call.TheVariants.{Write};
 ghost use Rattle.st_memory.specs.PowerCut.{IsPowerCut, MayHaveLength};

@@ -71,6 +71,8 @@ impl Standing {
 ///
 /// Commands, hidden names and explicit ones stand one behind the other in one allocation, each string behind its length. An
 /// entry without strings has none. Where the commands end is told by their lengths: most entries have one.
+/// It takes 48 bytes in the table; a list each took 112, and an allocation each. Ranges of the file's bytes would keep all of
+/// a long log as long as the state, though most of it is superseded.
 #[derive(Debug, Drop)]
 pub struct PackedEntry {
     standing: Standing,

@@ -12,6 +12,7 @@ use std::marker::Model;
 /// The names of a state with their entries, in byte order of the names. Contracts see it as the list of these pairs.
 ///
 /// It takes 16 bytes a name: names and entries stay where they are.
+/// References beside the ranks take 32, and 24 more for a second list without ranks, both at once.
 #[derive(Drop)]
 pub struct Listed<'a> {
     entries: &'a Entries,

@@ -25,6 +25,8 @@ pub(crate) type Entries = IndexMap<Name, PackedEntry, HashKey>;
 ///
 /// The names stand in the order in which they were first seen, so that an entry is found by one look-up by hash. They
 /// are sorted where they are listed.
+///
+/// A B-tree, which is in order at all times, took two to three times as long with four million names (22 November 2026).
 #[derive(Debug, Drop)]
 pub struct State {
     entries: Entries,
