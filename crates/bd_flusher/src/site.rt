@@ -28,7 +28,6 @@ use std::alloc::{AllocError, Global};
 use std::marker::Model;
 
 /// A store with the records that it was told since it was opened, and the batch that it is to be told next.
-#[derive(Drop)]
 pub struct Site<D: Disk + Drop> {
     store: Store<D>,
     opening: State,
@@ -55,6 +54,17 @@ impl<D: Disk + Drop> Model for Site<D> {
         s.store.log.generation s.store.log.end s.store.log.dead s.store.state s.opening s.records.told.items
         s.records.tickets.items s.records.held.items s.records.ends.items s.size)
         × (vec_len s.records.told + vec_len s.records.held ≤ vec_capacity s.records.told) };
+}
+
+impl<D: Disk + Drop> Drop for Site<D> {
+    fn drop(self) {
+        let Site {
+            store: _,
+            opening: _,
+            records: _,
+            size: _,
+        } = self;
+    }
 }
 
 /// Whether the told records hold this one at this ticket.

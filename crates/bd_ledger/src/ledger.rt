@@ -20,7 +20,6 @@ use std::alloc::{AllocError, Global};
 use std::marker::Model;
 
 /// A board without the type of its receipts. No call takes memory.
-#[derive(Drop)]
 pub struct Ledger {
     places: Places,
     names: Vec<ByteString>,
@@ -40,6 +39,18 @@ impl Model for Ledger {
     ghost view = { sheet_of };
 
     ghost invariant = { IsLedger };
+}
+
+impl Drop for Ledger {
+    fn drop(self) {
+        let Ledger {
+            places: _,
+            names: _,
+            sent: _,
+            notes: _,
+            submitted: _,
+        } = self;
+    }
 }
 
 /// What a node has submitted once it submits a record with this ticket.

@@ -15,7 +15,7 @@ use std::marker::Model;
 
 /// For each node the one behind it, the one before it and the list that it is in. A list is a ring of its nodes and of a
 /// place of its own, its anchor, which has its first node behind it and its last one before it. No call takes memory.
-#[derive(Debug, Drop)]
+#[derive(Debug)]
 pub struct Links {
     nodes: usize,
     joins: usize,
@@ -33,6 +33,17 @@ impl Model for Links {
     ghost view = { linked_of };
 
     ghost invariant = { AreLinks };
+}
+
+impl Drop for Links {
+    fn drop(self) {
+        let Links {
+            nodes: _,
+            joins: _,
+            ring: _,
+            marks: _,
+        } = self;
+    }
 }
 
 /// The place of a list in its ring.

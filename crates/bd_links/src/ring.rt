@@ -4,10 +4,16 @@ ghost use Rattle.std.specs.Prelude.{◌≡◌, ◌<◌, length, slice_index, sli
 ghost use Rattle.bd_links.specs.Ring.{IsRing};
 
 /// Each place has the one behind it and the one before it. A place that is linked to no other is behind itself.
-#[derive(Debug, Drop)]
+#[derive(Debug)]
 pub(crate) struct Ring {
     pub(crate) next: Vec<usize>,
     pub(crate) prev: Vec<usize>,
+}
+
+impl Drop for Ring {
+    fn drop(self) {
+        let Ring { next: _, prev: _ } = self;
+    }
 }
 
 impl Ring {

@@ -30,7 +30,6 @@ use std::alloc::{AllocError, Global};
 use std::marker::{Model, PhantomData};
 
 /// Where the nodes of a graph stand. T is the receipts' type. No call takes memory.
-#[derive(Drop)]
 pub struct Board<T> {
     ledger: Ledger,
     receipts: PhantomData<T>,
@@ -42,6 +41,15 @@ impl<T> Model for Board<T> {
     ghost Value = { Sheet };
 
     ghost view = { λ b. b.ledger };
+}
+
+impl<T> Drop for Board<T> {
+    fn drop(self) {
+        let Board {
+            ledger: _,
+            receipts: _,
+        } = self;
+    }
 }
 
 /// What became of a node whose record was written.

@@ -12,7 +12,7 @@ use byte_strings::ByteString;
 use mk_recipe::Line;
 
 /// How a line ended that was run.
-#[derive(Debug, Drop)]
+#[derive(Debug)]
 pub struct Ended {
     /// 0 to 255, or 256 where it was stopped or not started.
     pub status: u32,
@@ -20,6 +20,16 @@ pub struct Ended {
     pub out: ByteString,
     /// What it wrote on standard error.
     pub err: ByteString,
+}
+
+impl Drop for Ended {
+    fn drop(self) {
+        let Ended {
+            status: _,
+            out: _,
+            err: _,
+        } = self;
+    }
 }
 
 /// A line couldn't be run.

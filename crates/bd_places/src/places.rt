@@ -14,7 +14,7 @@ use std::alloc::{AllocError, Global};
 use std::marker::Model;
 
 /// The lists, and what is kept beside them to settle nodes. No call takes memory.
-#[derive(Debug, Drop)]
+#[derive(Debug)]
 pub struct Places {
     tally: Tally,
     links: Links,
@@ -31,6 +31,16 @@ impl Model for Places {
     ghost view = { placed_of };
 
     ghost invariant = { ArePlaces };
+}
+
+impl Drop for Places {
+    fn drop(self) {
+        let Places {
+            tally: _,
+            links: _,
+            ends: _,
+        } = self;
+    }
 }
 
 fn no_ends(alloc: Global, nodes: usize) -> Result<Vec<Option<End>>, AllocError>

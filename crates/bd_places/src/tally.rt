@@ -13,7 +13,7 @@ use mk_graph::Edges;
 use std::alloc::{AllocError, Global};
 
 /// The prerequisites of the nodes, and what each node still lacks of them.
-#[derive(Debug, Drop)]
+#[derive(Debug)]
 pub(crate) struct Tally {
     /// Those that a node waits for, each once.
     pub(crate) counted: Edges,
@@ -25,6 +25,19 @@ pub(crate) struct Tally {
     pub(crate) missing: Vec<usize>,
     /// Whether a node can't be made.
     pub(crate) doomed: Vec<bool>,
+}
+
+impl Drop for Tally {
+    fn drop(self) {
+        let Tally {
+            counted: _,
+            hard: _,
+            users: _,
+            hard_users: _,
+            missing: _,
+            doomed: _,
+        } = self;
+    }
 }
 
 /// Counts each of the users down.

@@ -21,7 +21,6 @@ enum Bytes {
 ///
 /// `smallvec` and `arrayvec` keep a length of a whole word: as many bytes would take 40 and more. There is no way back to a
 /// vector, which would take memory.
-#[derive(Drop)]
 pub struct ByteString {
     bytes: Bytes,
 }
@@ -35,6 +34,12 @@ impl Model for ByteString {
     ghost view = { λ s. held s.bytes };
 
     ghost invariant = { λ s. IsHeld s.bytes };
+}
+
+impl Drop for ByteString {
+    fn drop(self) {
+        let ByteString { bytes: _ } = self;
+    }
 }
 
 /// The bytes of a slice that has few, in a value.

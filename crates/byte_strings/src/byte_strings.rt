@@ -13,7 +13,6 @@ use std::marker::Model;
 ///
 /// So lists lie in a state file, and are taken from there by one copy. A vector for each string took twelve times the size of
 /// the file (22 November 2026). The ends of the strings in a vector of their own would be a second allocation for each list.
-#[derive(Drop)]
 pub struct ByteStrings {
     bytes: Vec<u8>,
     count: usize,
@@ -25,6 +24,12 @@ impl Model for ByteStrings {
     ghost view = { λ s. texts s.count s.bytes.items };
 
     ghost invariant = { λ s. AreTexts s.count s.bytes.items };
+}
+
+impl Drop for ByteStrings {
+    fn drop(self) {
+        let ByteStrings { bytes: _, count: _ } = self;
+    }
 }
 
 impl ByteStrings {

@@ -8,7 +8,7 @@ use mk_recipe::Line;
 use std::alloc::{AllocError, Global};
 
 /// A line that is run in a dry run too. It is no recipe: nothing is recorded of it.
-#[derive(Debug, Drop)]
+#[derive(Debug)]
 pub struct AlwaysRun {
     /// How many bytes of the listing stand before it, its own printed line among them.
     pub place: usize,
@@ -18,6 +18,17 @@ pub struct AlwaysRun {
     pub text: ByteString,
     /// The status of the line doesn't matter.
     pub is_ignored: bool,
+}
+
+impl Drop for AlwaysRun {
+    fn drop(self) {
+        let AlwaysRun {
+            place: _,
+            target: _,
+            text: _,
+            is_ignored: _,
+        } = self;
+    }
 }
 
 /// Adds a line of a recipe, where it is one of them and so much stands before it.

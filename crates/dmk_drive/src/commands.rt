@@ -6,13 +6,23 @@ use byte_strings::ByteString;
 use std::alloc::{AllocError, Global};
 
 /// A command, and what it wrote.
-#[derive(Drop)]
 pub struct RunCommand {
     /// The file and the line of its definition.
     pub file: ByteString,
     pub line: usize,
     pub text: ByteString,
     pub output: ByteString,
+}
+
+impl Drop for RunCommand {
+    fn drop(self) {
+        let RunCommand {
+            file: _,
+            line: _,
+            text: _,
+            output: _,
+        } = self;
+    }
 }
 
 impl RunCommand {
@@ -24,9 +34,14 @@ impl RunCommand {
 }
 
 /// Those that were run so far, in order.
-#[derive(Drop)]
 pub struct Commands {
     run: Vec<RunCommand>,
+}
+
+impl Drop for Commands {
+    fn drop(self) {
+        let Commands { run: _ } = self;
+    }
 }
 
 impl Commands {

@@ -21,10 +21,15 @@ use std::io::{self, ErrorKind};
 use std::rc::Rc;
 
 /// A file that is there and couldn't be read, by the system's own error.
-#[derive(Drop)]
 pub struct Unread {
     pub name: String,
     pub error: io::Error,
+}
+
+impl Drop for Unread {
+    fn drop(self) {
+        let Unread { name: _, error: _ } = self;
+    }
 }
 
 impl fmt::Display for Unread {
@@ -37,7 +42,6 @@ impl fmt::Display for Unread {
 
 /// The files of the current folder that are read, the commands that are run, and the folders that are listed. What was read of a name or of
 /// a folder, and what a command wrote, holds from then on.
-#[derive(Drop)]
 pub struct FileTexts<C: FileCalls + Drop> {
     calls: C,
     texts: Texts,
@@ -45,6 +49,19 @@ pub struct FileTexts<C: FileCalls + Drop> {
     listings: Listings,
     unread: Option<Unread>,
     notes: Notes,
+}
+
+impl<C: FileCalls + Drop> Drop for FileTexts<C> {
+    fn drop(self) {
+        let FileTexts {
+            calls: _,
+            texts: _,
+            commands: _,
+            listings: _,
+            unread: _,
+            notes: _,
+        } = self;
+    }
 }
 
 /// The bytes of a file. Only an ordinary one is opened: a pipe would be waited for, and a device may never end.

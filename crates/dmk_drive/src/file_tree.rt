@@ -13,10 +13,18 @@ use std::alloc::{AllocError, Global};
 use std::io::{self, ErrorKind};
 
 /// The files of the current folder. What was answered of a name holds from then on.
-#[derive(Drop)]
 pub struct FileTree<C: FileCalls + Drop> {
     calls: C,
     stamps: Stamps,
+}
+
+impl<C: FileCalls + Drop> Drop for FileTree<C> {
+    fn drop(self) {
+        let FileTree {
+            calls: _,
+            stamps: _,
+        } = self;
+    }
 }
 
 /// Whether an error says that no file has the name.

@@ -9,7 +9,6 @@ use std::marker::Model;
 const USUAL_BYTES: usize = 16;
 
 /// The bytes of all names are one allocation, and their ends another.
-#[derive(Drop)]
 pub(crate) struct Listed {
     bytes: Vec<u8>,
     ends: Vec<u32>,
@@ -24,6 +23,12 @@ impl Model for Listed {
     ghost view = { λ s. pieces s.bytes.items 0 s.ends.items };
 
     ghost invariant = { λ s. AreEnds (length s.bytes.items) 0 s.ends.items };
+}
+
+impl Drop for Listed {
+    fn drop(self) {
+        let Listed { bytes: _, ends: _ } = self;
+    }
 }
 
 /// Takes room for one more item where there is none: mostly no function is called.

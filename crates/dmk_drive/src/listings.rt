@@ -7,9 +7,14 @@ use indexmap::IndexMap;
 use std::alloc::{AllocError, Global};
 
 /// What was read of each folder so far.
-#[derive(Drop)]
 pub struct Listings {
     known: IndexMap<Vec<u8>, Option<ByteStrings>>,
+}
+
+impl Drop for Listings {
+    fn drop(self) {
+        let Listings { known: _ } = self;
+    }
 }
 
 /// A copy of the names in a folder.

@@ -29,10 +29,15 @@ const FIRST_NAME: &[u8] = b"makefile";
 const SECOND_NAME: &[u8] = b"Makefile";
 
 /// A makefile that was read. `file` is the name that its faults give.
-#[derive(Drop)]
 struct Makefile {
     file: ByteString,
     text: Rc<Vec<u8>>,
+}
+
+impl Drop for Makefile {
+    fn drop(self) {
+        let Makefile { file: _, text: _ } = self;
+    }
 }
 
 /// The file of this name as the makefile.

@@ -16,7 +16,6 @@ use std::marker::Model;
 /// A name that was never asked for before is listed at no cost, and is found by its bytes only once another name has to be found.
 /// The times of a graph's nodes can't stand for that list: a name from which a rule may make something is looked at apart from
 /// its node. To seek each node's name in the list would be a search for each.
-#[derive(Drop)]
 pub struct Stamps {
     /// The names that are found, and those that were listed since.
     found: Names,
@@ -33,6 +32,16 @@ impl Model for Stamps {
     ghost view = { λ s. record { found = s.found; listed = s.listed; told = s.told.items } };
 
     ghost invariant = { λ s. IsTable s.found s.listed s.told.items };
+}
+
+impl Drop for Stamps {
+    fn drop(self) {
+        let Stamps {
+            found: _,
+            listed: _,
+            told: _,
+        } = self;
+    }
 }
 
 /// Adds these names to those that are found.

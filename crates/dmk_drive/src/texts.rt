@@ -7,9 +7,14 @@ use std::alloc::{AllocError, Global};
 use std::rc::Rc;
 
 /// What was read of each name so far.
-#[derive(Drop)]
 pub struct Texts {
     known: IndexMap<Vec<u8>, Option<Rc<Vec<u8>>>>,
+}
+
+impl Drop for Texts {
+    fn drop(self) {
+        let Texts { known: _ } = self;
+    }
 }
 
 impl Texts {

@@ -15,7 +15,6 @@ pub(crate) enum Kept {
 }
 
 /// What was told of a file: nothing so far, that there is none, or when it was last changed, in nanoseconds since 1970.
-#[derive(Drop)]
 pub struct Told {
     kept: Kept,
 }
@@ -27,6 +26,12 @@ impl Model for Told {
     ghost Value = { Option (Option ℤ) };
 
     ghost view = { λ t. told_kept t.kept };
+}
+
+impl Drop for Told {
+    fn drop(self) {
+        let Told { kept: _ } = self;
+    }
 }
 
 impl Told {

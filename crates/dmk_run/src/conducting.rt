@@ -11,7 +11,6 @@ use mk_rule_lines::Settings;
 use std::alloc::{AllocError, Global};
 
 /// What the words of the command line ask of a run, beside makefile and targets.
-#[derive(Drop)]
 pub struct Wishes {
     /// The name of the state's side A.
     pub state: String,
@@ -23,6 +22,20 @@ pub struct Wishes {
     pub makes_all: bool,
     /// How much is told of why targets are made.
     pub telling: Telling,
+}
+
+impl Drop for Wishes {
+    fn drop(self) {
+        let Wishes {
+            state: _,
+            workers: _,
+            goes_on: _,
+            is_silent: _,
+            ignores_statuses: _,
+            makes_all: _,
+            telling: _,
+        } = self;
+    }
 }
 
 impl Wishes {

@@ -14,12 +14,21 @@ use std::sync::{Condvar, Mutex, Wait};
 use std::time::Duration;
 
 /// Prints lines and blocks on one stream, and faults and notes on another. What can't be printed ends no run.
-#[derive(Drop)]
 pub struct Printer<'a, R: Wait, O: Write + Drop, E: Write + Drop> {
     rt: &'a R,
     streams: Mutex<Streams<O, E>>,
     /// Told once the run is over.
     over: Condvar,
+}
+
+impl<'a, R: Wait, O: Write + Drop, E: Write + Drop> Drop for Printer<'a, R, O, E> {
+    fn drop(self) {
+        let Printer {
+            rt: _,
+            streams: _,
+            over: _,
+        } = self;
+    }
 }
 
 impl<'a, R: Wait, O: Write + Drop, E: Write + Drop> Printer<'a, R, O, E> {

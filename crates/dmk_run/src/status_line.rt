@@ -8,7 +8,6 @@ use std::io::Write;
 const CLEARED: &[u8] = b"\r\x1b[K";
 
 /// How far a run is, in one line: how many recipes have ended of all that are to be run, and the line that was begun last.
-#[derive(Drop)]
 pub(crate) struct StatusLine {
     alloc: Global,
     /// How many columns of the terminal it may take.
@@ -24,6 +23,22 @@ pub(crate) struct StatusLine {
     is_wanted: bool,
     /// It stands on the terminal, as far as the run has come.
     is_drawn: bool,
+}
+
+impl Drop for StatusLine {
+    fn drop(self) {
+        let StatusLine {
+            alloc: _,
+            columns: _,
+            planned: _,
+            ended: _,
+            running: _,
+            text: _,
+            seconds: _,
+            is_wanted: _,
+            is_drawn: _,
+        } = self;
+    }
 }
 
 /// Appends the front of a text that takes at most so many columns: no character takes more of them than it has bytes. What isn't to be

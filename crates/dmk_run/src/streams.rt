@@ -7,7 +7,6 @@ use mk_plan::LinePlace;
 use std::alloc::Global;
 use std::io::{self, Write};
 
-#[derive(Drop)]
 pub(crate) struct Streams<O: Write + Drop, E: Write + Drop> {
     out: O,
     pub(crate) err: E,
@@ -24,6 +23,22 @@ pub(crate) struct Streams<O: Write + Drop, E: Write + Drop> {
     pub(crate) status: Option<StatusLine>,
     /// The run is over.
     pub(crate) is_over: bool,
+}
+
+impl<O: Write + Drop, E: Write + Drop> Drop for Streams<O, E> {
+    fn drop(self) {
+        let Streams {
+            out: _,
+            err: _,
+            is_whole: _,
+            failures: _,
+            has_more: _,
+            ends_out: _,
+            ends_err: _,
+            status: _,
+            is_over: _,
+        } = self;
+    }
 }
 
 fn write_line<O: Write>(out: &mut O, text: &[u8]) -> io::Result<()> {

@@ -44,10 +44,18 @@ fn marked(mark: Mark, told: &Record, noted: &Record) -> Mark
 }
 
 /// The marks of the told records by some receipts, and the least ticket of a receipt that is beyond them.
-#[derive(Drop)]
 struct Marks {
     marks: Vec<Mark>,
     beyond: Option<usize>,
+}
+
+impl Drop for Marks {
+    fn drop(self) {
+        let Marks {
+            marks: _,
+            beyond: _,
+        } = self;
+    }
 }
 
 fn least(beyond: Option<usize>, ticket: usize) -> usize

@@ -7,12 +7,21 @@ use std::alloc::Global;
 use std::sync::{Condvar, Mutex, Wait};
 
 /// A folder that is to be synced.
-#[derive(Drop)]
 struct Folder {
     name: String,
     syncs: FolderSyncs,
     /// How many workers have asked for it, and aren't answered yet.
     users: usize,
+}
+
+impl Drop for Folder {
+    fn drop(self) {
+        let Folder {
+            name: _,
+            syncs: _,
+            users: _,
+        } = self;
+    }
 }
 
 fn is_named(folder: &Folder, name: &str) -> bool

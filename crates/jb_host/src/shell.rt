@@ -13,12 +13,17 @@ use std::process::{Command, Output, Stdio};
 use std::sync::OnceLock;
 
 /// The lock on a state, as the recipes of the run that keeps it inherit it: who has a handle to the file holds the lock.
-#[derive(Drop)]
 pub struct HeldLock {
     /// The locked file, which is empty.
     pub file: File,
     /// What this lock and those of the runs above are known by, with a blank between each two.
     pub names: String,
+}
+
+impl Drop for HeldLock {
+    fn drop(self) {
+        let HeldLock { file: _, names: _ } = self;
+    }
 }
 
 /// The variable that tells recipes which locks the runs above them hold.

@@ -9,7 +9,6 @@ use mk_plan::Telling;
 use std::alloc::{AllocError, Global};
 
 /// What the words of the command line and the environment say of a whole run.
-#[derive(Drop)]
 pub struct Conduct {
     /// State is kept from run to run, and recipes write reports.
     pub keeps_state: bool,
@@ -28,6 +27,22 @@ pub struct Conduct {
     pub makeflags: Makeflags,
     /// The state file's name: reports stand beside it.
     pub state_name: ByteString,
+}
+
+impl Drop for Conduct {
+    fn drop(self) {
+        let Conduct {
+            keeps_state: _,
+            counts_records: _,
+            goes_on: _,
+            ignores_statuses: _,
+            prints_no_lines: _,
+            telling: _,
+            definitions: _,
+            makeflags: _,
+            state_name: _,
+        } = self;
+    }
 }
 
 impl Conduct {

@@ -14,7 +14,6 @@ use std::sync::Mutex;
 /// What the workers of a run share. Two locks stand in `flusher`, that of the site and that of the board; the site's may be
 /// held while the board's is taken, never the other way round. While a recipe runs, while a slot is waited for and while
 /// something is printed, a worker holds neither.
-#[derive(Drop)]
 pub struct Shop<'a, D: Disk + Drop, E, S, P> {
     pub graph: &'a Graph,
     pub conduct: &'a Conduct,
@@ -28,6 +27,23 @@ pub struct Shop<'a, D: Disk + Drop, E, S, P> {
     idlers: Idlers,
     /// Whether the jobserver's fault was told.
     complained: Mutex<bool>,
+}
+
+impl<'a, D: Disk + Drop, E, S, P> Drop for Shop<'a, D, E, S, P> {
+    fn drop(self) {
+        let Shop {
+            graph: _,
+            conduct: _,
+            exec: _,
+            say: _,
+            place: _,
+            key: _,
+            flusher: _,
+            slots: _,
+            idlers: _,
+            complained: _,
+        } = self;
+    }
 }
 
 impl<'a, D: Disk + Drop, E, S: Say, P> Shop<'a, D, E, S, P> {

@@ -24,7 +24,7 @@ enum Form {
 
 /// The prerequisites of each node, by number. A number may stand in a row more than once. The numbers of all rows are one
 /// list, which several graphs may share.
-#[derive(Debug, Drop)]
+#[derive(Debug)]
 pub struct Edges {
     form: Form,
 }
@@ -36,6 +36,12 @@ impl Model for Edges {
     ghost Value = { List (List ℕ) };
 
     ghost view = { λ e. rows_of e.form };
+}
+
+impl Drop for Edges {
+    fn drop(self) {
+        let Edges { form: _ } = self;
+    }
 }
 
 fn all_below(numbers: &[u32], limit: usize) -> bool
@@ -100,7 +106,8 @@ impl Edges {
     fn into_packed(self) -> Result<PackedRows, AllocError>
         ensures { IfOk result (λ rows. rows ≡ self) }
     {
-        match self.form {
+        let Edges { form } = self;
+        match form {
             Form::Packed(rows) => Ok(rows),
             Form::Shared(rows) => rows.packed(),
         }
@@ -110,7 +117,8 @@ impl Edges {
     pub(crate) fn shared(self, alloc: Global) -> Edges
         ensures { result ≡ self }
     {
-        match self.form {
+        let Edges { form } = self;
+        match form {
             Form::Packed(rows) => match SharedRows::of(alloc, rows) {
                 Ok(rows) => Edges::of_shared(rows),
                 Err(rows) => Edges::of_packed(rows),

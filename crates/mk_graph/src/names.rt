@@ -19,7 +19,6 @@ use std::marker::Model;
 
 /// Names, each with a number: the place of its first mention. Their bytes lie one behind the other, and a name is found
 /// by its hash.
-#[derive(Drop)]
 pub struct Names {
     names: Texts,
     links: Vec<Link>,
@@ -38,6 +37,17 @@ impl Model for Names {
     ghost view = { λ n. n.names };
 
     ghost invariant = { λ n. AreFoundBy n.names n.links.items n.heads.items × AreEndsOf n.ends n.names };
+}
+
+impl Drop for Names {
+    fn drop(self) {
+        let Names {
+            names: _,
+            links: _,
+            heads: _,
+            ends: _,
+        } = self;
+    }
 }
 
 impl Names {

@@ -7,7 +7,6 @@ use std::alloc::{AllocError, Global};
 use std::marker::Model;
 
 /// Lists linked through two vectors. Nodes are counted from 1 there, so that 0 says that there is none.
-#[derive(Drop)]
 pub struct NodeLists {
     /// The first node of each list.
     heads: Vec<u32>,
@@ -24,6 +23,12 @@ impl Model for NodeLists {
     ghost view = { λ l. lists_of l.heads.items l.next.items };
 
     ghost invariant = { λ l. AreLists l.heads.items l.next.items };
+}
+
+impl Drop for NodeLists {
+    fn drop(self) {
+        let NodeLists { heads: _, next: _ } = self;
+    }
 }
 
 impl NodeLists {

@@ -9,7 +9,6 @@ use std::marker::Model;
 
 /// Nodes that can be passed next. The least one is held beside the set of the others: where there is one at a time, as in
 /// most graphs, the set stays empty.
-#[derive(Drop)]
 pub struct ReadyNodes {
     least: Option<usize>,
     others: BTreeSet<usize>,
@@ -25,6 +24,15 @@ impl Model for ReadyNodes {
     ghost view = { λ r. (r.least, r.others) };
 
     ghost invariant = { λ r. IsLeastHeld r.least r.others };
+}
+
+impl Drop for ReadyNodes {
+    fn drop(self) {
+        let ReadyNodes {
+            least: _,
+            others: _,
+        } = self;
+    }
 }
 
 impl ReadyNodes {

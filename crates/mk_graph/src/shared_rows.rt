@@ -21,7 +21,7 @@ pub struct Span {
 }
 
 /// Rows in one list of numbers. Numbers may stand there that are in none of them.
-#[derive(Debug, Drop)]
+#[derive(Debug)]
 pub struct SharedRows {
     numbers: Arc<Vec<u32>>,
     spans: Vec<Span>,
@@ -36,6 +36,15 @@ impl Model for SharedRows {
     ghost view = { λ r. rows_at r.numbers.value.items r.spans.items };
 
     ghost invariant = { λ r. AreWithin (length r.numbers.value.items) r.spans.items };
+}
+
+impl Drop for SharedRows {
+    fn drop(self) {
+        let SharedRows {
+            numbers: _,
+            spans: _,
+        } = self;
+    }
 }
 
 /// Where the rows lie that end there, one behind the other.

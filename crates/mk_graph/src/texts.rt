@@ -7,7 +7,6 @@ use std::alloc::{AllocError, Global};
 use std::marker::Model;
 
 /// Byte strings in their order. The bytes of all of them are one allocation, and their ends another.
-#[derive(Drop)]
 pub(crate) struct Texts {
     bytes: Vec<u8>,
     ends: Vec<u32>,
@@ -22,6 +21,12 @@ impl Model for Texts {
     ghost view = { λ s. pieces s.bytes.items 0 s.ends.items };
 
     ghost invariant = { λ s. AreEnds (length s.bytes.items) 0 s.ends.items };
+}
+
+impl Drop for Texts {
+    fn drop(self) {
+        let Texts { bytes: _, ends: _ } = self;
+    }
 }
 
 /// Where the string at this place begins: at the end of the one before it.

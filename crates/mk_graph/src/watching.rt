@@ -83,13 +83,22 @@ fn missing_of(first: &[u32], second: &[u32], end: usize, passed: &[bool]) -> Opt
 
 /// The nodes that were looked at: each that can't be passed yet stands in the list of the last prerequisite in its row that
 /// wasn't passed. The last ones of a row are mostly passed last, so few nodes are looked at often.
-#[derive(Drop)]
 pub struct Waiting {
     /// The nodes below this number were looked at.
     from: usize,
     /// Where that stands in the row of each.
     places: Vec<u32>,
     lists: NodeLists,
+}
+
+impl Drop for Waiting {
+    fn drop(self) {
+        let Waiting {
+            from: _,
+            places: _,
+            lists: _,
+        } = self;
+    }
 }
 
 impl Waiting {

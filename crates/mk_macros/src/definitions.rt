@@ -20,7 +20,6 @@ pub enum Rank {
 }
 
 /// What is defined for one name.
-#[derive(Drop)]
 pub(crate) struct Definition {
     command_line: Option<Vec<u8>>,
     makefile: Option<Vec<u8>>,
@@ -28,6 +27,18 @@ pub(crate) struct Definition {
     tool: Option<Vec<u8>>,
     /// Whether what a line appends to the makefile's text is expanded where it stands.
     is_fixed: bool,
+}
+
+impl Drop for Definition {
+    fn drop(self) {
+        let Definition {
+            command_line: _,
+            makefile: _,
+            environment: _,
+            tool: _,
+            is_fixed: _,
+        } = self;
+    }
 }
 
 fn text_of(text: &Option<Vec<u8>>) -> Option<&[u8]>
@@ -244,7 +255,6 @@ fn is_fixed_in(definitions: &IndexMap<Vec<u8>, Definition>, name: &[u8]) -> bool
 
 /// The definitions that texts are expanded with, and the language of the texts. Contracts see each name with its text at each
 /// rank.
-#[derive(Drop)]
 pub struct Macros {
     profile: Profile,
     definitions: IndexMap<Vec<u8>, Definition>,
@@ -259,6 +269,15 @@ impl Model for Macros {
     ghost use Rattle.mk_macros.specs.Shown.{shown_definition};
 
     ghost view = { λ m. record { language = m.profile; texts = map shown_definition m.definitions.entries } };
+}
+
+impl Drop for Macros {
+    fn drop(self) {
+        let Macros {
+            profile: _,
+            definitions: _,
+        } = self;
+    }
 }
 
 impl Macros {

@@ -16,10 +16,18 @@ use mk_rules::Graph;
 use std::alloc::{AllocError, Global};
 
 /// The prerequisites of a line, as they are written and each once.
-#[derive(Drop)]
 pub struct OwnNames {
     pub written: ByteStrings,
     pub once: Names,
+}
+
+impl Drop for OwnNames {
+    fn drop(self) {
+        let OwnNames {
+            written: _,
+            once: _,
+        } = self;
+    }
 }
 
 fn once_of(alloc: Global, written: &ByteStrings) -> Result<Names, AllocError>

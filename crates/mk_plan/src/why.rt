@@ -14,11 +14,19 @@ use mk_verdict::{Prerequisite, Reason, Target, Told, Verdict, judge};
 use std::alloc::{AllocError, Global};
 
 /// Why a recipe is to be run.
-#[derive(Drop)]
 pub struct Why {
     pub reason: Reason,
     /// The reason in a user's words.
     pub words: ByteString,
+}
+
+impl Drop for Why {
+    fn drop(self) {
+        let Why {
+            reason: _,
+            words: _,
+        } = self;
+    }
 }
 
 fn displayed(alloc: Global, told: Told<'_>) -> Result<ByteString, AllocError>

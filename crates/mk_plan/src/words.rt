@@ -17,7 +17,6 @@ use mk_rules::Graph;
 use std::alloc::{AllocError, Global};
 
 /// The words of the dynamic macros of a recipe that have more than one.
-#[derive(Drop)]
 pub struct RecipeWords<'g> {
     /// Those of `$?`.
     pub newer: Vec<&'g [u8]>,
@@ -25,6 +24,17 @@ pub struct RecipeWords<'g> {
     pub once: Option<Vec<&'g [u8]>>,
     pub repeated: Option<Vec<&'g [u8]>>,
     pub order_only: Option<Vec<&'g [u8]>>,
+}
+
+impl Drop for RecipeWords<'_> {
+    fn drop(self) {
+        let RecipeWords {
+            newer: _,
+            once: _,
+            repeated: _,
+            order_only: _,
+        } = self;
+    }
 }
 
 /// The words as they are told, if there are any.

@@ -9,7 +9,6 @@ use std::sync::Arc;
 /// A file's name as it was given, or as it stands on the include line. Contracts see its bytes.
 ///
 /// Its count is an atomic one, since workers share the graph, whose rule lines hold names.
-#[derive(Drop)]
 pub struct FileName {
     shared: Arc<ByteString>,
 }
@@ -20,6 +19,12 @@ impl Model for FileName {
     ghost Value = { List ℕ };
 
     ghost view = { λ name. name.shared.value };
+}
+
+impl Drop for FileName {
+    fn drop(self) {
+        let FileName { shared: _ } = self;
+    }
 }
 
 impl FileName {

@@ -24,11 +24,16 @@ pub struct Definition {
 }
 
 /// A line of a recipe, without its TAB.
-#[derive(Drop)]
 pub struct RecipeLine {
     pub text: ByteString,
     /// The number of the first physical line, from 1, in the rule's file.
     pub line: usize,
+}
+
+impl Drop for RecipeLine {
+    fn drop(self) {
+        let RecipeLine { text: _, line: _ } = self;
+    }
 }
 
 /// The lines of a recipe. Most recipes have one, which takes no vector.
@@ -57,7 +62,6 @@ fn two_lines(
 }
 
 /// The lines of a recipe, in order.
-#[derive(Drop)]
 pub struct Recipe {
     alloc: Global,
     lines: Lines,
@@ -71,6 +75,12 @@ impl Model for Recipe {
     ghost Value = { List RecipeLine };
 
     ghost view = { λ r. held_lines r.lines };
+}
+
+impl Drop for Recipe {
+    fn drop(self) {
+        let Recipe { alloc: _, lines: _ } = self;
+    }
 }
 
 impl Recipe {

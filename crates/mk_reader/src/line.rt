@@ -22,7 +22,6 @@ pub struct PhysicalLine<'a> {
 }
 
 /// The text of a logical line: a part of the file's, or several physical lines joined.
-#[derive(Drop)]
 pub struct LineText<'a> {
     part: &'a [u8],
     joined: Option<Vec<u8>>,
@@ -34,6 +33,12 @@ impl<'a> Model for LineText<'a> {
     ghost Value = { List ℕ };
 
     ghost view = { λ t. unwrap_or (option_map (λ v. v.items) t.joined) t.part.now };
+}
+
+impl Drop for LineText<'_> {
+    fn drop(self) {
+        let LineText { part: _, joined: _ } = self;
+    }
 }
 
 impl<'a> LineText<'a> {

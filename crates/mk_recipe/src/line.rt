@@ -14,7 +14,7 @@ use mk_profile::Profile;
 use std::alloc::{AllocError, Global};
 
 /// A line of a recipe, expanded and without its prefixes.
-#[derive(Debug, Drop)]
+#[derive(Debug)]
 pub struct Line {
     /// What the shell is given.
     pub text: ByteString,
@@ -26,6 +26,18 @@ pub struct Line {
     pub is_exempt: bool,
     /// The line is run in a dry run too.
     pub is_always_run: bool,
+}
+
+impl Drop for Line {
+    fn drop(self) {
+        let Line {
+            text: _,
+            is_printed: _,
+            is_ignored: _,
+            is_exempt: _,
+            is_always_run: _,
+        } = self;
+    }
 }
 
 /// What may stand in front of a line's text.

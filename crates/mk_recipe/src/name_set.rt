@@ -9,7 +9,6 @@ use std::alloc::{AllocError, Global};
 use std::marker::Model;
 
 /// Names, each once. Contracts see the list of them in the order in which they were added.
-#[derive(Drop)]
 pub struct NameSet {
     set: IndexSet<Vec<u8>, HashKey>,
 }
@@ -20,6 +19,12 @@ impl Model for NameSet {
     ghost Value = { List (List ℕ) };
 
     ghost view = { λ n. map (λ k. k.items) n.set.keys };
+}
+
+impl Drop for NameSet {
+    fn drop(self) {
+        let NameSet { set: _ } = self;
+    }
 }
 
 impl NameSet {

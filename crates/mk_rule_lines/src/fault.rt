@@ -27,7 +27,7 @@ pub enum Unsupported {
 }
 
 /// Where a line of a makefile stands.
-#[derive(Debug, Drop, Error)]
+#[derive(Debug, Error)]
 #[error("{file}:{line}")]
 pub struct TextPlace {
     /// The file that holds the line.
@@ -36,12 +36,24 @@ pub struct TextPlace {
     pub line: usize,
 }
 
+impl Drop for TextPlace {
+    fn drop(self) {
+        let TextPlace { file: _, line: _ } = self;
+    }
+}
+
 /// Why a rule's texts have no expansion.
-#[derive(Debug, Drop)]
+#[derive(Debug)]
 pub struct TextFault {
     /// The place of the rule's line, in the wide profile: in the strict one the cause is all that is told.
     pub place: Option<TextPlace>,
     pub cause: MacroFault,
+}
+
+impl Drop for TextFault {
+    fn drop(self) {
+        let TextFault { place: _, cause: _ } = self;
+    }
 }
 
 impl fmt::Display for TextFault {
@@ -55,11 +67,20 @@ impl fmt::Display for TextFault {
 }
 
 /// A name that has no file, and that nothing makes.
-#[derive(Debug, Drop)]
+#[derive(Debug)]
 pub struct Unmade {
     pub name: ByteString,
     /// A name that has it as a prerequisite, in the wide profile: in the strict one it isn't told.
     pub needed_by: Option<ByteString>,
+}
+
+impl Drop for Unmade {
+    fn drop(self) {
+        let Unmade {
+            name: _,
+            needed_by: _,
+        } = self;
+    }
 }
 
 impl fmt::Display for Unmade {
@@ -74,9 +95,15 @@ impl fmt::Display for Unmade {
 }
 
 /// Names of which each is a prerequisite of the one before. The last is the first again.
-#[derive(Debug, Drop)]
+#[derive(Debug)]
 pub struct CycleNames {
     pub names: ByteStrings,
+}
+
+impl Drop for CycleNames {
+    fn drop(self) {
+        let CycleNames { names: _ } = self;
+    }
 }
 
 impl fmt::Display for CycleNames {

@@ -12,7 +12,6 @@ use std::alloc::{AllocError, Global};
 /// in.
 ///
 /// The suffix rule `.c.o` has `.o` behind the stem and is made from `%.c`; so is any name by the suffix rule `.c`.
-#[derive(Drop)]
 pub struct Form {
     pub before: ByteString,
     pub after: ByteString,
@@ -30,6 +29,22 @@ pub struct Form {
     pub leader: Option<ByteString>,
     /// The other targets of a rule of several, where this is the form of the first: its run makes them too.
     pub others: ByteStrings,
+}
+
+impl Drop for Form {
+    fn drop(self) {
+        let Form {
+            before: _,
+            after: _,
+            prerequisites: _,
+            ordinary: _,
+            leaves_folders: _,
+            takes_empty: _,
+            rule: _,
+            leader: _,
+            others: _,
+        } = self;
+    }
 }
 
 /// What an implicit rule makes a name from.

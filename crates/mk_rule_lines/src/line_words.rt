@@ -10,7 +10,6 @@ use std::alloc::{AllocError, Global};
 use std::marker::Model;
 
 /// The words of a text, which is all that is kept of them: a list of words takes twice the room. Contracts see the list.
-#[derive(Drop)]
 pub struct LineWords {
     text: ByteString,
     /// Whether no sign stands in the text, as in most: told once, since each line is asked for its signs several times.
@@ -28,6 +27,15 @@ impl Model for LineWords {
     ghost view = { λ w. words w.text };
 
     ghost invariant = { λ w. w.is_plain ≡ true → list_any is_sign w.text ≡ false };
+}
+
+impl Drop for LineWords {
+    fn drop(self) {
+        let LineWords {
+            text: _,
+            is_plain: _,
+        } = self;
+    }
 }
 
 /// Whether the byte may mean something of its own in a text of a rule line.

@@ -21,10 +21,15 @@ pub enum Mark {
 }
 
 /// The targets of a mark: all, or those that are named.
-#[derive(Drop)]
 pub struct Marked {
     pub all: bool,
     pub names: Names,
+}
+
+impl Drop for Marked {
+    fn drop(self) {
+        let Marked { all: _, names: _ } = self;
+    }
 }
 
 fn is_of(mark: Mark, special: Option<SpecialName>) -> bool

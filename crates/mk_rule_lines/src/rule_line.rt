@@ -12,7 +12,6 @@ use mk_reader::{FileName, Recipe, SpecialName};
 use std::alloc::{AllocError, Global};
 
 /// A rule line, or the line of a special rule. That of `.PHONY` has the names that it lists as its targets.
-#[derive(Drop)]
 pub struct RuleLine {
     /// The file that holds it.
     pub file: FileName,
@@ -27,6 +26,21 @@ pub struct RuleLine {
     pub targets: LineWords,
     pub prerequisites: LineWords,
     pub recipe: Recipe,
+}
+
+impl Drop for RuleLine {
+    fn drop(self) {
+        let RuleLine {
+            file: _,
+            line: _,
+            profile: _,
+            special: _,
+            is_double: _,
+            targets: _,
+            prerequisites: _,
+            recipe: _,
+        } = self;
+    }
 }
 
 /// Whether the name is one of these.

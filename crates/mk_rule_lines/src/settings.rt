@@ -8,7 +8,6 @@ use crate::rule_line::RuleLine;
 use mk_reader::SpecialName;
 use std::alloc::{AllocError, Global};
 
-#[derive(Drop)]
 pub struct Settings {
     /// `.KEEP_STATE:` stands in the makefile.
     pub keeps_state: bool,
@@ -22,6 +21,19 @@ pub struct Settings {
     pub silent: Marked,
     /// Those of `.PRECIOUS:`.
     pub precious: Marked,
+}
+
+impl Drop for Settings {
+    fn drop(self) {
+        let Settings {
+            keeps_state: _,
+            has_one_worker: _,
+            deletes_on_error: _,
+            ignored: _,
+            silent: _,
+            precious: _,
+        } = self;
+    }
 }
 
 fn is_keep_state(line: &RuleLine) -> bool

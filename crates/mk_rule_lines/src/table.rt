@@ -33,7 +33,6 @@ struct ManyLines {
 /// The targets of a makefile's rule lines, each at its name's number.
 ///
 /// Prerequisites and recipes stay in their lines, so that a line with fifty thousand targets is kept once.
-#[derive(Drop)]
 pub struct TargetTable {
     names: Names,
     targets: Vec<Target>,
@@ -50,6 +49,15 @@ impl Model for TargetTable {
     ghost view = { λ t. record { names = t.names; named = map shown_target t.targets.items } };
 
     ghost invariant = { λ t. IsDistinct bytes_eq t.names × (length t.names ≡ length t.targets.items) };
+}
+
+impl Drop for TargetTable {
+    fn drop(self) {
+        let TargetTable {
+            names: _,
+            targets: _,
+        } = self;
+    }
 }
 
 fn is_last(number: usize, numbers: &[usize]) -> bool

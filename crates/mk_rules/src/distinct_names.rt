@@ -13,7 +13,6 @@ use std::mem;
 const FEW: usize = 64;
 
 /// Names, each once. Contracts see the list.
-#[derive(Drop)]
 pub(crate) struct DistinctNames {
     list: ByteStrings,
     /// None, or all that are in the list.
@@ -29,6 +28,12 @@ impl Model for DistinctNames {
     ghost view = { λ n. n.list };
 
     ghost invariant = { λ n. IsSetOf n.set n.list };
+}
+
+impl Drop for DistinctNames {
+    fn drop(self) {
+        let DistinctNames { list: _, set: _ } = self;
+    }
 }
 
 /// A set of the names of a list.
@@ -63,7 +68,7 @@ impl DistinctNames {
     pub fn into_list(self) -> ByteStrings
         ensures { result ≡ self }
     {
-        let DistinctNames { list, .. } = self;
+        let DistinctNames { list, set: _ } = self;
         list
     }
 

@@ -7,7 +7,6 @@ use std::alloc::{AllocError, Global};
 use std::marker::Model;
 
 /// Numbers, each once. Contracts see the list.
-#[derive(Drop)]
 pub(crate) struct DistinctNumbers {
     list: Vec<u32>,
     /// Of each number, whether it is in the list.
@@ -23,6 +22,12 @@ impl Model for DistinctNumbers {
     ghost view = { λ n. n.list.items };
 
     ghost invariant = { λ n. AreMarksOf n.marks.items n.list.items };
+}
+
+impl Drop for DistinctNumbers {
+    fn drop(self) {
+        let DistinctNumbers { list: _, marks: _ } = self;
+    }
 }
 
 impl DistinctNumbers {

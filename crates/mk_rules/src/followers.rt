@@ -17,12 +17,17 @@ fn are_same(a: &[u8], b: &[u8]) -> bool
 }
 
 /// Guesses of names by the one before them. Each is compared with the name, so that a wrong one costs time alone.
-#[derive(Drop)]
 pub(crate) struct Followers {
     /// Of each number, that of the name that followed it the last time, or any other.
     next: Vec<u32>,
     /// The number of the name before the next one, if there is one in its list.
     before: Option<u32>,
+}
+
+impl Drop for Followers {
+    fn drop(self) {
+        let Followers { next: _, before: _ } = self;
+    }
 }
 
 impl Followers {

@@ -24,7 +24,6 @@ use st_state::State;
 use std::alloc::{AllocError, Global};
 
 /// A name of the graph.
-#[derive(Drop)]
 pub struct Node {
     /// When its file was last changed.
     pub stamp: Stamp,
@@ -38,6 +37,19 @@ pub struct Node {
     pub recipe: ShortNumber,
     /// Where the state may have it, which is tried first.
     pub place: u32,
+}
+
+impl Drop for Node {
+    fn drop(self) {
+        let Node {
+            stamp: _,
+            rare: _,
+            hard: _,
+            hidden: _,
+            recipe: _,
+            place: _,
+        } = self;
+    }
 }
 
 impl Node {
@@ -64,7 +76,6 @@ impl Node {
 }
 
 /// The names that the goals lead to, numbered by first mention, with what orders them.
-#[derive(Drop)]
 pub struct Graph {
     pub names: Names,
     /// The numbers of the goals.
@@ -106,6 +117,27 @@ pub struct Graph {
     pub ghost suffixes_are: { suffixes ≡ suffixes_of lines.items },
     pub ghost kept: { is_some targets ≡ is_wide (defined_by macros).language },
     pub ghost table: { IfSome targets (λ t. (name : List ℕ) → (named_at t name).lines ≡ numbers_of lines.items name) } by { Prim.hlevel props },
+}
+
+impl Drop for Graph {
+    fn drop(self) {
+        let Graph {
+            names: _,
+            goals: _,
+            nodes: _,
+            hard: _,
+            required: _,
+            soft: _,
+            order: _,
+            soft_dropped: _,
+            lines: _,
+            targets: _,
+            suffixes: _,
+            settings: _,
+            macros: _,
+            state: _,
+        } = self;
+    }
 }
 
 impl Graph {

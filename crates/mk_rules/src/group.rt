@@ -2,10 +2,15 @@
 use byte_strings::ByteStrings;
 
 /// What the run of a recipe for a name makes beside it.
-#[derive(Drop)]
 pub struct Group {
     /// When the least of the files was changed that the run makes, the name's own among them; None where one is missing.
     pub made: Option<i128>,
     /// The other names.
     pub others: ByteStrings,
+}
+
+impl Drop for Group {
+    fn drop(self) {
+        let Group { made: _, others: _ } = self;
+    }
 }

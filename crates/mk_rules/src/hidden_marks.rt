@@ -7,7 +7,6 @@ use std::boxed::Box;
 use std::marker::Model;
 
 /// Of hidden prerequisites, whether each is a node: nearly always all are, and then they are only counted.
-#[derive(Drop)]
 pub(crate) struct HiddenMarks {
     count: u32,
     /// The marks of all, where one is gone.
@@ -21,6 +20,12 @@ impl Model for HiddenMarks {
     ghost Value = { List Bool };
 
     ghost view = { λ m. marks_kept m.count m.kept };
+}
+
+impl Drop for HiddenMarks {
+    fn drop(self) {
+        let HiddenMarks { count: _, kept: _ } = self;
+    }
 }
 
 /// The marks of so many nodes, and of one behind them that is gone.
@@ -75,6 +80,7 @@ impl HiddenMarks {
     pub fn into_parts(self) -> (u32, Option<Box<Vec<bool>>>)
         ensures { marks_kept result.0 result.1 ≡ self }
     {
-        (self.count, self.kept)
+        let HiddenMarks { count, kept } = self;
+        (count, kept)
     }
 }

@@ -11,7 +11,6 @@ use std::alloc::{AllocError, Global};
 use std::mem;
 
 /// What is kept from the prerequisites of one name to those of the next.
-#[derive(Drop)]
 pub(crate) struct NodeNotes {
     /// Of each number, whether its name was found to be a node as a hidden prerequisite.
     pub marks: Vec<bool>,
@@ -22,6 +21,18 @@ pub(crate) struct NodeNotes {
     pub target: u32,
     /// Where the state may have the next name, since names are mostly asked for in its order.
     pub place: usize,
+}
+
+impl Drop for NodeNotes {
+    fn drop(self) {
+        let NodeNotes {
+            marks: _,
+            row: _,
+            followers: _,
+            target: _,
+            place: _,
+        } = self;
+    }
 }
 
 impl NodeNotes {

@@ -11,7 +11,6 @@ use std::boxed::Box;
 use std::marker::Model;
 
 /// What a node has of an implicit rule, of order-only prerequisites, and of hidden ones that are gone.
-#[derive(Drop)]
 pub struct Rare {
     /// The stem, where an implicit rule makes it.
     pub stem: Option<ByteString>,
@@ -25,8 +24,19 @@ pub struct Rare {
     pub marks: Option<Box<Vec<bool>>>,
 }
 
+impl Drop for Rare {
+    fn drop(self) {
+        let Rare {
+            stem: _,
+            implied: _,
+            group: _,
+            required: _,
+            marks: _,
+        } = self;
+    }
+}
+
 /// The rare parts of a node, which most nodes haven't.
-#[derive(Drop)]
 pub struct RareParts {
     kept: Option<Box<Rare>>,
 }
@@ -38,6 +48,12 @@ impl Model for RareParts {
     ghost Value = { Rare };
 
     ghost view = { λ r. parts_kept r.kept };
+}
+
+impl Drop for RareParts {
+    fn drop(self) {
+        let RareParts { kept: _ } = self;
+    }
 }
 
 /// Whether no part is there.
@@ -91,7 +107,8 @@ impl RareParts {
     ) -> Result<RareParts, AllocError>
         ensures { IfOk result (λ parts. parts ≡ with_marks marks self) }
     {
-        let Some(rare) = self.kept else {
+        let RareParts { kept } = self;
+        let Some(rare) = kept else {
             return RareParts::of(alloc, only_marks(marks));
         };
         let mut rare = rare;

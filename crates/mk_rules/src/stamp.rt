@@ -14,7 +14,6 @@ pub(crate) enum Kept {
 }
 
 /// When a file was last changed, in nanoseconds since 1970; nothing where there is no file.
-#[derive(Drop)]
 pub struct Stamp {
     kept: Kept,
 }
@@ -26,6 +25,12 @@ impl Model for Stamp {
     ghost Value = { Option ℤ };
 
     ghost view = { λ s. time_kept s.kept };
+}
+
+impl Drop for Stamp {
+    fn drop(self) {
+        let Stamp { kept: _ } = self;
+    }
 }
 
 impl Stamp {

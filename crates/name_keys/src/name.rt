@@ -15,7 +15,6 @@ use std::hash::{Hash, Hasher};
 use std::marker::Model;
 
 /// A name as a key of an `IndexMap` or `IndexSet`. Contracts see the list of its bytes.
-#[derive(Drop)]
 pub struct Name {
     bytes: ByteString,
 }
@@ -24,6 +23,12 @@ impl Model for Name {
     ghost Value = { List ℕ };
 
     ghost view = { λ name. name.bytes };
+}
+
+impl Drop for Name {
+    fn drop(self) {
+        let Name { bytes: _ } = self;
+    }
 }
 
 impl Name {

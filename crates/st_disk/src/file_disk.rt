@@ -15,7 +15,6 @@ use crate::{DeviceFault, Disk, Which, side_calls};
 /// a sync of it syncs the folder. A file that is there but can't be used as one (a folder, a refused permission) is a
 /// fault of each call. After a write or a cut of a side failed, each later call on that side is a fault; after a sync
 /// failed, each later call.
-#[derive(Drop)]
 pub struct FileDisk<F: Folder + Drop> {
     pub folder: F,
     a: OpenSide<F::File>,
@@ -25,6 +24,17 @@ pub struct FileDisk<F: Folder + Drop> {
         Fits F.side_of (F.missing folder) (F.durable folder) (F.sound folder) A a.found a.name_synced },
     ghost b_fits: { F.honest → b.failed ≡ false →
         Fits F.side_of (F.missing folder) (F.durable folder) (F.sound folder) B b.found b.name_synced },
+}
+
+impl<F: Folder + Drop> Drop for FileDisk<F> {
+    fn drop(self) {
+        let FileDisk {
+            folder: _,
+            a: _,
+            b: _,
+            faults: _,
+        } = self;
+    }
 }
 
 impl<F: Folder + Drop> FileDisk<F> {

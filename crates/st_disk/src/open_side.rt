@@ -12,11 +12,20 @@ pub(crate) enum Found<T: Drop> {
 
 /// A side's file. After a write, a cut or a sync that failed, no call of the folder is made any more: the system may
 /// have let go of what it couldn't write, and say of a later sync that it went well.
-#[derive(Drop)]
 pub(crate) struct OpenSide<T: Drop> {
     pub(crate) found: Found<T>,
     pub(crate) name_synced: bool,
     pub(crate) failed: bool,
+}
+
+impl<T: Drop> Drop for OpenSide<T> {
+    fn drop(self) {
+        let OpenSide {
+            found: _,
+            name_synced: _,
+            failed: _,
+        } = self;
+    }
 }
 
 impl<T: Drop> OpenSide<T> {

@@ -15,7 +15,6 @@ use std::io::{self, ErrorKind};
 use std::os::unix::fs::{FileExt, MetadataExt};
 
 /// Side A is the file of a name, side B that of the name with `.2` behind it. Symbolic links are followed.
-#[derive(Drop)]
 pub struct SystemFolder {
     rt: HostRuntime,
     alloc: Global,
@@ -24,12 +23,33 @@ pub struct SystemFolder {
     failed: Option<FailedCall>,
 }
 
+impl Drop for SystemFolder {
+    fn drop(self) {
+        let SystemFolder {
+            rt: _,
+            alloc: _,
+            a: _,
+            b: _,
+            failed: _,
+        } = self;
+    }
+}
+
 /// An open file, its side, and the name of the folder that it stands in.
-#[derive(Drop)]
 pub struct SystemFile {
     file: File,
     side: Which,
     folder: String,
+}
+
+impl Drop for SystemFile {
+    fn drop(self) {
+        let SystemFile {
+            file: _,
+            side: _,
+            folder: _,
+        } = self;
+    }
 }
 
 const NOT_ORDINARY: &str = "not an ordinary file";

@@ -16,7 +16,6 @@ use std::alloc::Global;
 const BLOCK_BYTES: usize = 1 << 16;
 
 /// Where the reading of a side has come to, and some of the bytes that follow there.
-#[derive(Drop)]
 pub(crate) struct Window {
     pub side: Which,
     /// The length of the side.
@@ -26,6 +25,18 @@ pub(crate) struct Window {
     bytes: Vec<u8>,
     /// How many of these bytes are read off.
     passed: usize,
+}
+
+impl Drop for Window {
+    fn drop(self) {
+        let Window {
+            side: _,
+            len: _,
+            place: _,
+            bytes: _,
+            passed: _,
+        } = self;
+    }
 }
 
 impl Window {

@@ -73,7 +73,7 @@ impl Standing {
 /// entry without strings has none. Where the commands end is told by their lengths: most entries have one.
 /// It takes 48 bytes in the table; a list each took 112, and an allocation each. Ranges of the file's bytes would keep all of
 /// a long log as long as the state, though most of it is superseded.
-#[derive(Debug, Drop)]
+#[derive(Debug)]
 pub struct PackedEntry {
     standing: Standing,
     commands: u32,
@@ -100,6 +100,19 @@ impl Model for PackedEntry {
     } };
 
     ghost invariant = { λ e. AreLists e.commands e.hidden e.explicit (texts_size e.commands e.bytes.items) e.hidden_bytes e.bytes.items };
+}
+
+impl Drop for PackedEntry {
+    fn drop(self) {
+        let PackedEntry {
+            standing: _,
+            commands: _,
+            hidden: _,
+            explicit: _,
+            hidden_bytes: _,
+            bytes: _,
+        } = self;
+    }
 }
 
 impl PackedEntry {

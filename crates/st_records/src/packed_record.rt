@@ -26,7 +26,7 @@ pub enum Event {
 }
 
 /// A record as it is read. Contracts see it as the record.
-#[derive(Debug, Drop)]
+#[derive(Debug)]
 pub struct PackedRecord {
     target: ByteString,
     event: Event,
@@ -40,6 +40,15 @@ impl Model for PackedRecord {
     ghost use Rattle.st_records.specs.Event.{record_from};
 
     ghost view = { λ r. record_from r.target r.event };
+}
+
+impl Drop for PackedRecord {
+    fn drop(self) {
+        let PackedRecord {
+            target: _,
+            event: _,
+        } = self;
+    }
 }
 
 impl PackedRecord {

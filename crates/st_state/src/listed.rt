@@ -13,7 +13,6 @@ use std::marker::Model;
 ///
 /// It takes 16 bytes a name: names and entries stay where they are.
 /// References beside the ranks take 32, and 24 more for a second list without ranks, both at once.
-#[derive(Drop)]
 pub struct Listed<'a> {
     entries: &'a Entries,
     order: Vec<Ranked>,
@@ -30,6 +29,15 @@ impl<'a> Model for Listed<'a> {
     ghost view = { λ l. list_map (λ r. entry_at l.entries.now.entries r.place) l.order.items };
 
     ghost invariant = { λ l. All (λ r. r.place < length l.entries.now.entries) l.order.items };
+}
+
+impl Drop for Listed<'_> {
+    fn drop(self) {
+        let Listed {
+            entries: _,
+            order: _,
+        } = self;
+    }
 }
 
 impl<'a> Listed<'a> {

@@ -13,11 +13,20 @@ use st_records::PackedRecord;
 /// A state and a batch of records that it is about to take in.
 ///
 /// The records stand here as copies, and there is room for as many new names. So neither outcome takes memory or fails.
-#[derive(Debug, Drop)]
+#[derive(Debug)]
 pub struct Staged {
     pub(crate) entries: Entries,
     pub(crate) events: Vec<PackedRecord>,
     ghost room: { length events.items ≤ spare entries },
+}
+
+impl Drop for Staged {
+    fn drop(self) {
+        let Staged {
+            entries: _,
+            events: _,
+        } = self;
+    }
 }
 
 impl Staged {

@@ -27,7 +27,7 @@ pub(crate) type Entries = IndexMap<Name, PackedEntry, HashKey>;
 /// are sorted where they are listed.
 ///
 /// A B-tree, which is in order at all times, took two to three times as long with four million names (22 November 2026).
-#[derive(Debug, Drop)]
+#[derive(Debug)]
 pub struct State {
     entries: Entries,
     /// How the names begin and end.
@@ -45,6 +45,15 @@ impl Model for State {
     ghost view = { λ a. by_name (λ k. k) a.entries.entries };
 
     ghost invariant = { λ a. AreEndsOf a.ends (by_name (λ k. k) a.entries.entries) };
+}
+
+impl Drop for State {
+    fn drop(self) {
+        let State {
+            entries: _,
+            ends: _,
+        } = self;
+    }
 }
 
 impl State {
@@ -225,7 +234,7 @@ impl State {
     fn into_entries(self) -> Entries
         ensures { by_name (λ k. k) result.entries ≡ self }
     {
-        let State { entries, .. } = self;
+        let State { entries, ends: _ } = self;
         entries
     }
 

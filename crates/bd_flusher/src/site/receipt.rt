@@ -7,11 +7,21 @@ use bd_lists::Told;
 use st_records::Record;
 
 /// That the record of a submission was told, and in which batch. Only a look at a site makes one.
-#[derive(Debug, Drop)]
+#[derive(Debug)]
 pub struct Receipt {
     pub(super) ticket: Ticket,
     pub(super) noted: Record,
     pub(super) batch: usize,
+}
+
+impl Drop for Receipt {
+    fn drop(self) {
+        let Receipt {
+            ticket: _,
+            noted: _,
+            batch: _,
+        } = self;
+    }
 }
 
 impl Receipt {

@@ -23,13 +23,23 @@ use st_recovery::Store;
 use std::alloc::{AllocError, Global};
 
 /// A ticket is a place among the told records and then the held ones. Held records have their room among the told ones.
-#[derive(Drop)]
 pub(super) struct Records {
     pub(super) told: Vec<Record>,
     pub(super) tickets: Vec<Ticket>,
     pub(super) held: Vec<Record>,
     /// How many records were told when each commit ended.
     pub(super) ends: Vec<usize>,
+}
+
+impl Drop for Records {
+    fn drop(self) {
+        let Records {
+            told: _,
+            tickets: _,
+            held: _,
+            ends: _,
+        } = self;
+    }
 }
 
 /// Takes the room for a batch of so many records, which will be told.

@@ -216,28 +216,6 @@ evaluate_all-returns-in_err-included-in-Include-clause-items g t c = λ world al
 pub evaluate_all-returns-in_err-included-in-Include-clause-grows : goal.evaluate_all-returns-in_err-included-in-Include-clause-grows
 evaluate_all-returns-in_err-included-in-Include-clause-grows g t c = λ world allowed. c.loop-statement.invariant.grows world (c.evaluate_line.ensures.grows world allowed)
 
-pub evaluate_all-loop-statement-preserved-in_ok-append-in-Include : goal.evaluate_all-loop-statement-preserved-in_ok-append-in-Include
-evaluate_all-loop-statement-preserved-in_ok-append-in-Include g t c =
-    let now = c.loop-statement in
-    let st = c.in-Some.ensures.steps in
-    let more = into_iter_items c.next.new.self in
-    let start = defined_by c.args.macros.now in
-    let here = defined_by now.macros in
-    let next = defined_by c.evaluate_line.new.macros in
-    let said = statement.Include c.in-Include.include in
-    let at : into_iter_items now.statement-iterator ≡ said ∷ more = st.0 ∙ ap (λ (s : Statement). s ∷ more) c.in-Include.is in
-    let front = c.in_ok-included-in-Include.included.items in
-    record {
-      left = one_fewer _ _ c.in-Some.statement (into_iter_len now.statement-iterator) (into_iter_len c.next.new.self) st.0 st.1 now.invariant.left;
-      gathered = λ world allowed.
-          let one = StatementItems world (IncludedItems world c.args.levels c.args.file.now) c.args.file.now in
-          reach_more behind one start c.args.statements.items here next now.items.items _ front _ more said
-          (now.invariant.gathered world (c.evaluate_line.ensures.grows world allowed)) at
-          (c.in_ok-included-in-Include.ensures.items world allowed) c.in_ok-included-in-Include.ensures.defined c.in_ok-append-in-Include.ensures.items;
-      defined = behind_more start here next now.items.items _ front now.invariant.defined c.in_ok-included-in-Include.ensures.defined c.in_ok-append-in-Include.ensures.items;
-      grows = λ world allowed. now.invariant.grows world (c.evaluate_line.ensures.grows world allowed);
-    }
-
 pub evaluate_all-loop-statement-preserved : goal.evaluate_all-loop-statement-preserved
 evaluate_all-loop-statement-preserved g t c =
     let now = c.loop-statement in

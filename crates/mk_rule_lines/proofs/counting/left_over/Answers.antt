@@ -32,23 +32,3 @@ loop-line-preserved c =
     let found : c.is_taken.result ≡ list_any (takes suffixes l) taking = c.is_taken.ensures ∙ ap (list_any (takes suffixes l)) c.deref.ensures.value in
     let some : list_any (takes suffixes l) taking ≡ true = sym found ∙ cc in
     so_far_taken _ _ _ _ _ _ l c.in-Some.ensures.items c.loop-line.invariant apart some
-
-pub loop-line-preserved-else-not-is_taken : goal.loop-line-preserved-else-not-is_taken
-loop-line-preserved-else-not-is_taken c =
-    let l = c.in-Some.line in
-    let taking = c.loop-line.taking.items in
-    let suffixes = c.args.suffixes.now in
-    let apart : is_taking l ≡ false = cc in
-    let found : c.is_taken.result ≡ list_any (takes suffixes l) taking = c.is_taken.ensures ∙ ap (list_any (takes suffixes l)) c.deref.ensures.value in
-    let some : list_any (takes suffixes l) taking ≡ true = sym found ∙ cc in
-    so_far_taken _ _ _ _ _ _ l c.in-Some.ensures.items c.loop-line.invariant apart some
-
-pub loop-line-preserved-else-not-is_taken-2 : goal.loop-line-preserved-else-not-is_taken-2
-loop-line-preserved-else-not-is_taken-2 c =
-    let l = c.in-Some.line in
-    let taking = c.loop-line.taking.items in
-    let suffixes = c.args.suffixes.now in
-    let apart : is_taking l ≡ false = cc in
-    let found : c.is_taken.result ≡ list_any (takes suffixes l) taking = c.is_taken.ensures ∙ ap (list_any (takes suffixes l)) c.deref.ensures.value in
-    let some : list_any (takes suffixes l) taking ≡ true = sym found ∙ cc in
-    so_far_taken _ _ _ _ _ _ l c.in-Some.ensures.items c.loop-line.invariant apart some
