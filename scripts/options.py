@@ -1,8 +1,11 @@
-"""Whether the help of dmk, its man page, docs/COMMANDS.md and the completions for bash and zsh have the same options.
+"""Whether the help of dmk, its man page, docs/USING.md and the completions for bash and zsh have the same options, and whether
+USING.md has each message of the programs.
 
 `python3 scripts/options.py [DMK]` runs the built program's --help; DMK is the path of another one. Help and man page group
-them alike: the groups of the one are the headings of the other. The last line is 'N passed, M failed'.
+them alike: the groups of the one are the headings of the other. Messages are taken from the crates' sources: texts of errors, and
+what is written to standard error. The last line is 'N passed, M failed'.
 """
+import glob
 import os
 import re
 import subprocess
@@ -10,6 +13,26 @@ import sys
 
 ROOT = os.path.dirname(os.path.dirname(os.path.abspath(__file__)))
 OPTION = r"(?<![\w-])(--?[A-Za-z][\w-]*)"
+STRING = r'"((?:[^"\\]|\\.)*)"'
+
+# Programs of tests, whose texts no user of dmk reads.
+TEST_CRATES = {"board_rows", "call_rows", "row_files", "store_rows", "worker_tests"}
+
+# Texts of errors that are answered by others: those of a record become 'damaged at byte N' or 'cannot be recorded', those of
+# a report the note on the target, those of a commit 'state not written: ..', and that of a look names what was looked at.
+INNER = {
+    "the bytes end inside a record",
+    "a byte that no record has there",
+    "a name is empty",
+    "a byte that may not stand there",
+    "a name, a command or the record is too long",
+    "too many commands, hidden names or explicit names",
+    "a name is too long",
+    "too many names",
+    "an earlier device fault",
+    "generations spent",
+    "cannot look",
+}
 
 
 def text_of(name):
@@ -41,10 +64,13 @@ def groups_of_page():
     return groups
 
 
-def options_of_commands():
-    """The options of the table of dmk in COMMANDS.md."""
-    section = re.search(r"^## dmk\n(.*?)^## ", text_of("docs/COMMANDS.md"), re.M | re.S)[1]
-    cells = re.findall(r"^\| (`-[^|]*) \|", section, re.M)
+def section_of_using(heading):
+    return re.search(r"^## %s\n(.*?)(?:^## |\Z)" % heading, text_of("docs/USING.md"), re.M | re.S)[1]
+
+
+def options_of_using():
+    """The options of the table of dmk in USING.md."""
+    cells = re.findall(r"^\| (`-[^|]*) \|", section_of_using("Options"), re.M)
     # -dd is -d twice.
     return set(re.findall(OPTION, " ".join(cells))) - {"-dd"}
 
@@ -65,8 +91,40 @@ def options_of_zsh():
     return options
 
 
+def texts_of(source):
+    """The texts of errors in a crate's source, and those that it writes or that another's text is written with."""
+    texts = re.findall(r"#\[error\(\s*" + STRING, source)
+    if "std::io" in source or "impl fmt::Display" in source:
+        texts += re.findall(r"\b(?:write|writeln|eprintln)!\([^\"]*" + STRING, source)
+        texts += re.findall(r"\b(?:write_str|write_all)\(\s*b?" + STRING, source)
+        for call in re.findall(r"\bself\.of_state\(([^;]*)\)", source):
+            texts += re.findall(STRING, call)
+        texts += re.findall(r"^pub const \w+_NOTE: &str = " + STRING, source, re.M)
+    return texts
+
+
+def messages():
+    """The texts of the programs' messages."""
+    found = set()
+    for path in sorted(glob.glob(os.path.join(ROOT, "crates", "*", "src", "**", "*.rt"), recursive=True)):
+        if os.path.relpath(path, ROOT).split(os.sep)[1] not in TEST_CRATES:
+            found.update(text.replace('\\"', '"') for text in texts_of(text_of(os.path.relpath(path, ROOT))))
+    return found - INNER
+
+
+def words_of_messages(texts):
+    """What stands in messages between the names and numbers in them, as far as these are words."""
+    words = set()
+    for text in texts:
+        for part in re.split(r"\{[^}]*\}|\\n|\\u\{.*", text):
+            part = re.sub(r"^dmk(?:_state)?: ", "", part).strip(" :")
+            if re.search(r"[a-z]{2}", part) and part != "dmk":
+                words.add(part)
+    return words
+
+
 def difference(one, other):
-    return ["  only in the one: " + " ".join(sorted(one - other)), "  only in the other: " + " ".join(sorted(other - one))]
+    return ["  only in the one: " + ", ".join(sorted(one - other)), "  only in the other: " + ", ".join(sorted(other - one))]
 
 
 def main():
@@ -75,9 +133,12 @@ def main():
     everything = set().union(*helped.values())
     rows = [("the headings of help and man page", set(helped), set(paged))]
     rows += [("the options under '%s' in help and man page" % name, helped[name], paged.get(name, set())) for name in helped]
-    rows += [("the options of help and COMMANDS.md", everything, options_of_commands()),
+    rows += [("the options of help and USING.md", everything, options_of_using()),
              ("the options of help and bash", everything, options_of_bash()),
              ("the options of help and zsh", everything, options_of_zsh())]
+    told = section_of_using("When it goes wrong") + section_of_using("What is printed")
+    wanted = words_of_messages(messages())
+    rows += [("the messages of the programs and USING.md", wanted, {words for words in wanted if words in told})]
     failed = 0
     for name, one, other in rows:
         if one != other or not one:
