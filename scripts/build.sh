@@ -1,7 +1,8 @@
 #!/bin/bash
-# Proves the programs and the crates below them side by side, longest chain first, and builds the programs into bin/. Then it lists the
-# example's state with the new dmk_state, asks the new dmk what a build of the example would run, and builds it: from nothing, again,
-# and after a header was touched. RT_JOBS says how many crates are proved at once. Of text that bin/ was built of nothing is proved.
+# Proves the programs and the crates below them side by side, longest chain first, and builds the programs into bin/. Then it
+# lists the example's state with the new dmk_state, asks the new dmk what a build of the example would run, and builds it: from
+# nothing, again, and after a header was touched. RT_JOBS says how many crates are proved at once. Text of which bin/ has the
+# programs isn't proved again.
 set -eu -o pipefail
 cd "$(dirname "$0")/.."
 command -v rt >/dev/null || { echo "build.sh: there is no rt here: the toolchain builds the programs" >&2; exit 1; }
@@ -9,10 +10,11 @@ mkdir -p bin
 programs=(dmk_state dmk)
 mapfile -t crates < <(python3 scripts/build_progress.py --crates "${programs[@]}")
 # A lane for each processor, as long as each has 5 GB: scripts/test.sh says why.
-lanes=${RT_JOBS:-$(awk -v most="$(nproc)" '/^MemAvailable:/ { n = int($2 / 5000000) } END { print n < 1 ? 1 : n < most ? n : most }' /proc/meminfo)}
+lanes=${RT_JOBS:-$(awk -v most="$(nproc)" '
+    /^MemAvailable:/ { n = int($2 / 5000000) } END { print n < 1 ? 1 : n < most ? n : most }' /proc/meminfo)}
 
-# `rt ci` proves a repository, and keeps what it has proved for later runs on this machine. It is given one of these crates alone, without
-# the edits of theirs that are there to be refused: those belong to the test.
+# `rt ci` proves a repository, and keeps what it has proved for later runs on this machine. It is given one of these crates alone,
+# without the edits of theirs that are there to be refused: those belong to the test. (Behind `rt ci NAME` no program is left.)
 room=$(mktemp -d "${TMPDIR:-/tmp}/dmk-build-XXXXXX")
 trap 'rm -rf "$room"' EXIT
 mkdir -p "$room/.git" "$room/crates"

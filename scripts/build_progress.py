@@ -1,8 +1,8 @@
 """Says how far a build is: build_progress.py LANES PROGRAM.. reads what `rt ci` prints of the programs and the crates below them.
 
-For each crate that is done it prints `12 of 41 crates, 9 min, about 11 left`, on a terminal in place; and what fails or waits as it
-was told. What is left is the schedule of so many lanes, longest chain first, by the seconds of scripts/budgets.txt, at the pace at which
-the crates have ended so far. build_progress.py --crates PROGRAM.. prints the crates' names instead, lowest first.
+For each crate that is done it prints `12 of 41 crates, 9 min, about 11 left`, on a terminal in place; and what fails or waits
+as it was told. What is left is the schedule of so many lanes, longest chain first, by the seconds of scripts/budgets.txt, at the
+pace at which the crates have ended so far. build_progress.py --crates PROGRAM.. prints the crates' names instead, lowest first.
 """
 import re
 import sys

@@ -63,8 +63,8 @@ placed() {
     echo "share/bash-completion/completions/dmk 644 completions/dmk.bash"
     echo "share/zsh/site-functions/_dmk 644 completions/_dmk"
     # What git doesn't know, as what an example has made, is no document. A tarball has no git, and all of it counts.
-    { git ls-files README.md CHANGELOG.md CONTRIBUTING.md docs examples 'crates/*/GUARANTEES.md' 2>/dev/null | grep . ||
-        find README.md CHANGELOG.md CONTRIBUTING.md docs examples crates/*/GUARANTEES.md -type f 2>/dev/null; } |
+    local -a parts=(README.md CHANGELOG.md CONTRIBUTING.md docs examples crates/*/GUARANTEES.md cases/*/README.md)
+    { git ls-files "${parts[@]}" 2>/dev/null | grep . || find "${parts[@]}" -type f 2>/dev/null; } |
         sed 's|.*|share/doc/dmk/& 644 &|'
 }
 

@@ -1,7 +1,7 @@
 #!/bin/bash
-# package.sh [FOLDER]: makes dmk_VERSION_ARCHITECTURE.deb and dmk-VERSION-linux-MACHINE.tar.gz in FOLDER (bin/packages) of the programs
-# in bin/, or in the folder that PROGRAMS names. The version is that of the programs, and has to be CHANGELOG's newest; the
-# maintainer is git's user. The same files and the same maintainer give the same packages, byte for byte.
+# package.sh [FOLDER]: makes dmk_VERSION_ARCHITECTURE.deb and dmk-VERSION-linux-MACHINE.tar.gz in FOLDER (bin/packages) of the
+# programs in bin/, or in the folder that PROGRAMS names. The version is that of the programs, and has to be CHANGELOG's newest;
+# the maintainer is git's user. The same files and the same maintainer give the same packages, byte for byte.
 set -eu -o pipefail
 umask 022
 export LC_ALL=C TZ=UTC
@@ -42,8 +42,8 @@ room=$(mktemp -d)
 trap 'rm -rf "$room"' EXIT
 mkdir -p "$to"
 
-# The package: what install.sh puts below /usr, in Debian's places. A version without a revision is that of a native package, whose
-# changelog, in Debian's form, is changelog.gz.
+# The package: what install.sh puts below /usr, in Debian's places. A version without a revision is that of a native package,
+# whose changelog, in Debian's form, is changelog.gz.
 root=$room/root doc=$room/root/usr/share/doc/dmk
 DESTDIR=$root PROGRAMS=$programs bash scripts/install.sh /usr >"$room/said"
 rm -r "$root/usr/share/dmk"
@@ -97,7 +97,7 @@ cp "$root"/usr/bin/* "$top/bin/"
 cp scripts/install.sh "$top/scripts/"
 cp -r man completions "$top/"
 find "$doc" -mindepth 1 -maxdepth 1 ! -name changelog.gz -exec cp -r -t "$top" {} +
-tar -C "$top" --sort=name --transform="s|^\.|$name|" --mtime="@$SOURCE_DATE_EPOCH" --owner=0 --group=0 --numeric-owner --mode=go-w -cf - . |
-    gzip -9n >"$to/$name.tar.gz"
+tar -C "$top" --sort=name --transform="s|^\.|$name|" --mtime="@$SOURCE_DATE_EPOCH" --owner=0 --group=0 --numeric-owner \
+    --mode=go-w -cf - . | gzip -9n >"$to/$name.tar.gz"
 echo "$to/$name.tar.gz: $linked"
-[ -z "$needed" ] || echo "no static program: rattle-link links with the system's C library alone"
+[ -z "$needed" ] || echo "the toolchain links no static program: its rattle-link links dynamically"
