@@ -1,21 +1,28 @@
 #!/bin/bash
-# Runs the commands of README.md and docs/COMING_FROM.md and compares what they print with what stands there; looks whether the links
-# of all documents lead somewhere, whether a line of README.md is too long, and whether each figure has its date and its command.
+# Runs the commands of README.md and docs/COMING_FROM.md and compares what they print with what stands there; looks whether the
+# links of all documents lead somewhere, whether a line of README.md is too long, and whether each figure has its date and its
+# command.
 #
 #   scripts/readme.sh [FOLDER]    FOLDER: where dmk and dmk_state are, in place of crates/*/out
 #
-# What is run: a fenced block ```console, or an indented one that begins with '$ '. A line '$ COMMAND' is a command, with the lines that
-# an open here-document or a backslash at its end asks for ('> ' in front is taken off); behind it stands what it prints, on both
-# streams. '...' alone on a line stands for any lines. Words behind `console` in the fence's line:
+# What is run: a fenced block ```console, or an indented one that begins with '$ '. A line '$ COMMAND' is a command, with the
+# lines that a here-document or a backslash at its end asks for ('> ' in front is taken off); behind it stands what it prints, on
+# both streams. '...' alone on a line stands for any lines. Words behind `console` in the fence's line:
 #
 #   not-run        it isn't run: at most two blocks a document
 #   needs=A,B      it isn't run where program A or B isn't there, which is told
 #
-# A fence's line '```make file=NAME', of whatever language, has the block written into the file NAME, where the commands are then.
-# Each part below a heading '## ' is a shell of its own, in a fresh copy of the repository (without crates/) whose bin/ is first on the path. What a run of
-# dmk prints (but with -n, -q or -j1) may come in any order of its lines, since two recipes run at once. A command waits for 0.05 s,
-# since files have the times of the system's clock, and what the shell says of a killed process is cut down to what a terminal shows.
-# The last line is 'N passed, M failed', where a command, a link, a figure and README's width count one each.
+# A block of whatever language with the word file=NAME is written into the file NAME, from the folder where the commands are then.
+#
+# Each part below a heading '## ' is a shell of its own, in a fresh copy of the repository (without crates/) whose bin/ is first
+# on the path. What a run of dmk prints (but with -n, -q or -j1) may come in any order of its lines, since two recipes run at
+# once. Before each command stand 0.05 s, since files have the times of the system's clock. What the shell says of a killed
+# process is cut down to what it says at a terminal.
+#
+# Links: those to files, and to headings as GitHub names them; a document's name in a text has to be that of one that is there.
+# Figures: each row of a table of docs/FIGURES.md has a date and a command, or the text between its heading and its table has.
+#
+# The last line is 'N passed, M failed': commands, links, names of documents, dates and commands of figures, README's width.
 set -u -o pipefail
 cd "$(dirname "$0")/.." || exit 2
 work=$(realpath "$(mktemp -d)") || exit 2
@@ -25,14 +32,16 @@ unset MAKEFLAGS MAKELEVEL MFLAGS KEEP_STATE SUNPRO_DEPENDENCIES DMK_HOLDS DMK_PR
 mkdir -p "$work/home" "$work/copy/bin"
 tar -c --exclude=./.git --exclude=./crates --exclude=./bin . | tar -x -C "$work/copy" || exit 2
 for program in dmk dmk_state; do
-    built=$(realpath -e -- "${1:-crates/$program/out}/$program") || { echo "not built: $program"; echo "0 passed, 1 failed"; exit 1; }
+    built=$(realpath -e -- "${1:-crates/$program/out}/$program") ||
+        { printf 'not built: %s\n0 passed, 1 failed\n' "$program"; exit 1; }
     ln -s "$built" "$work/copy/bin/$program"
 done
 python3 - "$work" <<'END'
 import collections, glob, os, re, shutil, subprocess, sys
 
 WORK = sys.argv[1]
-RUN = ('README.md', 'docs/COMING_FROM.md')
+RUN, FIGURES = ('README.md', 'docs/COMING_FROM.md'), 'docs/FIGURES.md'
+MONTHS = 'January|February|March|April|May|June|July|August|September|October|November|December'
 passed, wrong = 0, []
 
 def check(good, told):
@@ -45,7 +54,7 @@ def text_of(name):
         return file.read()
 
 def blocks_of(name):
-    """The part (heading), first line's number, words behind the language, language and lines of each block that is fenced or begins '    $ '."""
+    """Of each block that is fenced or begins '    $ ': part, first line's number, words behind the language, language, lines."""
     part, lines, number, blocks = '', text_of(name).split('\n'), 0, []
     while number < len(lines):
         line = lines[number]
@@ -69,7 +78,8 @@ def commands_of(block, place):
     while rest:
         line = rest.popleft()
         if not line.startswith('$ '):
-            commands and commands[-1][1].append(line)
+            if commands:
+                commands[-1][1].append(line)
             continue
         command = line[2:]
         word = re.search(r"<<-?\s*['\"]?(\w+)", command)
@@ -101,8 +111,10 @@ def run_part(name, part, steps):
         with open(f'{WORK}/out/{number}.in', 'w', encoding='utf-8') as file:
             file.write(what[1] if kind == 'file' else what + '\n')
         source, target = f'{WORK}/out/{number}.in', f'{WORK}/out/{number}.out'
-        script.append(f'mkdir -p "$(dirname {what[0]})" && cp {source} {what[0]}' if kind == 'file' else
-                      f'sleep 0.05; eval "$(cat {source})" >{target} 2>&1 </dev/null')
+        if kind == 'file':
+            script.append(f'mkdir -p "$(dirname {what[0]})" && cp {source} {what[0]}')
+        else:
+            script.append(f'sleep 0.05; eval "$(cat {source})" >{target} 2>&1 </dev/null')
     with open(WORK + '/script', 'w', encoding='utf-8') as file:
         file.write('\n'.join(script) + '\n')
     try:
@@ -113,9 +125,9 @@ def run_part(name, part, steps):
         if kind == 'file':
             continue
         path = f'{WORK}/out/{number}.out'
-        told = open(path, encoding='utf-8', errors='replace').read() if os.path.exists(path) else '(not run)\n'
-        printed = re.sub(r'^\S+: line \d+: +\d+ (Killed|Terminated|Interrupt)\b.*$', r'\1', told, flags=re.M).rstrip('\n').split('\n')
-        printed = [] if printed == [''] else printed
+        told = open(path, encoding='utf-8', errors='replace').read() if os.path.exists(path) else '(not run)'
+        told = re.sub(r'^\S+: line \d+: +\d+ (Killed|Terminated|Interrupt)\b.*$', r'\1', told, flags=re.M).rstrip('\n')
+        printed = told.split('\n') if told else []
         good = fits(wanted, printed) or is_run_of_dmk(what) and fits_in_any_order(wanted, printed)
         check(good, '\n    '.join([f'{place}: $ {what}', 'wanted:', *wanted, 'printed:', *printed]))
 
@@ -125,7 +137,8 @@ def run_document(name):
         place = f'{name}:{number}'
         steps = parts.setdefault(part, [])
         files = [word[5:] for word in words if word.startswith('file=')]
-        missing = [program for word in words if word.startswith('needs=') for program in word[6:].split(',') if not shutil.which(program)]
+        needs = [program for word in words if word.startswith('needs=') for program in word[6:].split(',')]
+        missing = [program for program in needs if not shutil.which(program)]
         if files:
             steps.append(('file', (files[0], '\n'.join(block) + '\n'), [], place))
         elif language != 'console':
@@ -178,7 +191,8 @@ def check_links(name, documents):
 
 def check_figures(name):
     """Each row of a table has a date and a command, or else the text between the heading and the table has."""
-    date = r'\b\d{1,2} (?:January|February|March|April|May|June|July|August|September|October|November|December) \d{4}\b|\b\d{4}-\d\d-\d\d\b'
+    wanted = (('date', rf'\b\d{{1,2}} (?:{MONTHS}) \d{{4}}\b|\b\d{{4}}-\d\d-\d\d\b'),
+              ('command', r'`[^`]*\b(?:scripts|bin|examples|dmk|rt|bash|python3|git)\b[^`]*`'))
     above, rows, figures = '', 0, 0
     for line in text_of(name).split('\n'):
         if line.startswith('#'):
@@ -189,21 +203,24 @@ def check_figures(name):
         rows += 1
         if rows > 2:
             figures += 1
-            for what, pattern in (('date', date), ('command', r'`[^`]*\b(?:scripts|bin|examples|dmk|rt|bash|python3|git)\b[^`]*`')):
+            for what, pattern in wanted:
                 check(re.search(pattern, line) or re.search(pattern, above), f'{name}: no {what}: {line}')
     check(figures, f'{name}: no figures')
 
 documents = [name for name in ('README.md', 'CONTRIBUTING.md', 'CHANGELOG.md') if os.path.exists(name)]
 documents += sorted(glob.glob('docs/**/*.md', recursive=True)) + sorted(glob.glob('crates/*/GUARANTEES.md'))
-for name in RUN:
-    os.path.exists(name) and run_document(name)
+for name in (*RUN, FIGURES):
     check(os.path.exists(name), f'not there: {name}')
+for name in RUN:
+    if os.path.exists(name):
+        run_document(name)
 for name in documents:
     check_links(name, documents)
-long = [str(number) for number, line in enumerate(text_of('README.md').split('\n'), 1) if len(line) > 100]
-check(not long, f'README.md: lines of more than 100 columns: {" ".join(long)}')
-os.path.exists('docs/FIGURES.md') and check_figures('docs/FIGURES.md')
-check(os.path.exists('docs/FIGURES.md'), 'not there: docs/FIGURES.md')
+if os.path.exists('README.md'):
+    long = [str(number) for number, line in enumerate(text_of('README.md').split('\n'), 1) if len(line) > 100]
+    check(not long, f'README.md: lines of more than 100 columns: {" ".join(long)}')
+if os.path.exists(FIGURES):
+    check_figures(FIGURES)
 for told in wrong:
     print('FAILED ' + told)
 print(f'{passed} passed, {len(wrong)} failed')
