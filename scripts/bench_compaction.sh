@@ -1,7 +1,7 @@
 #!/bin/bash
 # bench_compaction.sh [FOLDER]: measures a compaction of 10, 1,000 and 100,000 entries, each with 20 hidden names, over
 # files, beside a plain write and sync of as many bytes in the same run. The files stand in a folder of their own in FOLDER
-# (the current one). Nothing is tested; docs/STATE_FILE.md has the last figures.
+# (the current one). Nothing is tested; docs/FIGURES.md has the last figures.
 set -eu
 . "$(dirname "$0")/bench_folder.sh"
 for entries in 10 1000 100000; do

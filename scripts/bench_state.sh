@@ -1,6 +1,6 @@
 #!/bin/bash
 # Measures bin/dmk_state (scripts/build.sh makes it) on two large state files that it writes in a temporary folder: wall
-# seconds and greatest memory of the best of three runs. Nothing is tested; docs/STATE_FILE.md has the last figures.
+# seconds and greatest memory of the best of three runs. Nothing is tested; docs/FIGURES.md has the last figures.
 set -eu
 cd "$(dirname "$0")/.."
 work=$(mktemp -d)

@@ -41,7 +41,7 @@ import collections, glob, os, re, shutil, subprocess, sys
 
 WORK = sys.argv[1]
 RUN, FIGURES = ('README.md', 'docs/COMING_FROM.md'), 'docs/FIGURES.md'
-MONTHS = 'January|February|March|April|May|June|July|August|September|October|November|December'
+MONTHS = 'Jan(?:uary)?|Feb(?:ruary)?|March|April|May|June|July|Aug(?:ust)?|Sept(?:ember)?|Oct(?:ober)?|Nov(?:ember)?|Dec(?:ember)?'
 passed, wrong = 0, []
 
 def check(good, told):

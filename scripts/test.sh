@@ -49,6 +49,7 @@ if [ "$failed" -eq 0 ]; then
     run_part bash scripts/assumptions.sh
     run_part bash scripts/man.sh
     run_part python3 scripts/options.py
+    run_part bash scripts/readme.sh
 fi
 kill "$sampler" 2>/dev/null
 wait "$sampler"
