@@ -59,21 +59,42 @@ fn folder_of(name: &str) -> &str {
     }
 }
 
-// What may not be read is opened to be written, and all file systems are synced where that is refused too: a folder, or a
-// file that may only be run.
-fn sync_path(host: HostRuntime, path: &str) -> io::Result<()> {
-    match File::open(&host, path) {
-        Ok(file) => file.sync_all(),
-        Err(error) if error.kind() == ErrorKind::PermissionDenied => sync_unread(host, path),
-        Err(error) if is_passed_over(&error) => Ok(()),
-        Err(error) => Err(error),
-    }
+/// What a name's file is put on the disk by.
+#[derive(Drop)]
+enum Opened {
+    File(File),
+    /// It may be neither read nor written: a folder, or a file that may only be run.
+    Refused,
+    Missing,
 }
 
-fn sync_unread(host: HostRuntime, path: &str) -> io::Result<()> {
-    match OpenOptions::new().write(true).open(&host, path) {
-        Ok(file) => file.sync_all(),
-        Err(_) => sync_all_files(host),
+impl Opened {
+    // What may not be read is opened to be written.
+    fn of(host: HostRuntime, path: &str) -> io::Result<Opened> {
+        match File::open(&host, path) {
+            Ok(file) => Ok(Opened::File(file)),
+            Err(error) if error.kind() == ErrorKind::PermissionDenied => {
+                Ok(Opened::unread(host, path))
+            }
+            Err(error) if is_passed_over(&error) => Ok(Opened::Missing),
+            Err(error) => Err(error),
+        }
+    }
+
+    fn unread(host: HostRuntime, path: &str) -> Opened {
+        match OpenOptions::new().write(true).open(&host, path) {
+            Ok(file) => Opened::File(file),
+            Err(_) => Opened::Refused,
+        }
+    }
+
+    // All file systems are synced where the file can't be opened.
+    fn sync(&self, host: HostRuntime) -> io::Result<()> {
+        match self {
+            Opened::File(file) => file.sync_all(),
+            Opened::Refused => sync_all_files(host),
+            Opened::Missing => Ok(()),
+        }
     }
 }
 
@@ -125,12 +146,14 @@ impl<'a, R: Wait> HostPlace<'a, R> {
     }
 
     fn sync_in_folder(&self, name: &str) -> io::Result<()> {
-        sync_path(self.host, name)?;
+        Opened::of(self.host, name)?.sync(self.host)?;
         self.sync_folder(folder_of(name))
     }
 
+    // Opened before its turn is drawn: an error that the system meets while others are waited for is told here too.
     fn sync_folder(&self, folder: &str) -> io::Result<()> {
-        self.folders.sync(folder, || sync_path(self.host, folder))
+        let opened = Opened::of(self.host, folder)?;
+        self.folders.sync(folder, || opened.sync(self.host))
     }
 
     // Of a link, what it leads to stands in a folder of its own.
