@@ -35,6 +35,15 @@ fn if_there<T>(answer: io::Result<T>) -> io::Result<Option<T>> {
     }
 }
 
+// What the system has under a name, None where there is none.
+fn if_found<T>(answer: io::Result<T>) -> io::Result<Option<T>> {
+    match answer {
+        Ok(found) => Ok(Some(found)),
+        Err(error) if error.kind() == ErrorKind::NotFound => Ok(None),
+        Err(error) => Err(error),
+    }
+}
+
 fn is_kept(found: &Metadata) -> bool {
     found.is_file() || found.is_dir()
 }
@@ -156,6 +165,25 @@ impl<'a, R: Wait> HostPlace<'a, R> {
         self.folders.sync(folder, || opened.sync(self.host))
     }
 
+    // What stands at a report's name. A link to nothing is no report, and isn't left behind.
+    fn found_report(&self, name: &str) -> io::Result<Option<Metadata>> {
+        let Some(found) = if_found(fs::symlink_metadata(&self.host, name))? else {
+            return Ok(None);
+        };
+        if !found.is_symlink() {
+            return Ok(Some(found));
+        }
+        let led_to = if_found(fs::metadata(&self.host, name))?;
+        if led_to.is_none() {
+            let _ = fs::remove_file(&self.host, name);
+        }
+        Ok(led_to)
+    }
+
+    fn read_report(&self, name: &str) -> Result<Option<Vec<u8>>, PlaceFault> {
+        if_found(fs::read(&self.host, name)).map_err(fault_of)
+    }
+
     // Of a link, what it leads to stands in a folder of its own.
     fn sync_link(&self, name: &str) -> io::Result<()> {
         match if_there(fs::metadata(&self.host, name))? {
@@ -184,14 +212,10 @@ impl<R: Wait> Place for HostPlace<'_, R> {
         let Ok(name) = std::str::from_utf8(path) else {
             return Ok(None);
         };
-        match fs::metadata(&self.host, name) {
-            Ok(found) if !found.is_file() => return Err(PlaceFault::Device(not_ordinary())),
-            Err(error) if error.kind() == ErrorKind::NotFound => return Ok(None),
-            _ => {}
-        }
-        match fs::read(&self.host, name) {
-            Ok(bytes) => Ok(Some(bytes)),
-            Err(error) if error.kind() == ErrorKind::NotFound => Ok(None),
+        match self.found_report(name) {
+            Ok(Some(found)) if !found.is_file() => Err(PlaceFault::Device(not_ordinary())),
+            Ok(Some(_)) => self.read_report(name),
+            Ok(None) => Ok(None),
             Err(error) => Err(fault_of(error)),
         }
     }
