@@ -165,6 +165,14 @@ impl<'a, R: Wait> HostPlace<'a, R> {
         self.folders.sync(folder, || opened.sync(self.host))
     }
 
+    // Why a file wasn't removed, where one is there all the same.
+    fn if_left(&self, name: &str, error: io::Error) -> io::Result<()> {
+        match fs::symlink_metadata(&self.host, name) {
+            Ok(found) if !found.is_dir() => Err(error),
+            _ => Ok(()),
+        }
+    }
+
     // What stands at a report's name. A link to nothing is no report, and isn't left behind.
     fn found_report(&self, name: &str) -> io::Result<Option<Metadata>> {
         let Some(found) = if_found(fs::symlink_metadata(&self.host, name))? else {
@@ -202,9 +210,13 @@ impl<'a, R: Wait> HostPlace<'a, R> {
 }
 
 impl<R: Wait> Place for HostPlace<'_, R> {
-    fn remove(&self, path: &[u8]) {
-        if let Ok(name) = std::str::from_utf8(path) {
-            let _ = fs::remove_file(&self.host, name);
+    fn remove(&self, path: &[u8]) -> io::Result<()> {
+        let Ok(name) = std::str::from_utf8(path) else {
+            return Ok(());
+        };
+        match fs::remove_file(&self.host, name) {
+            Ok(()) => Ok(()),
+            Err(error) => self.if_left(name, error),
         }
     }
 

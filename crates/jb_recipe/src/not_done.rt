@@ -8,6 +8,9 @@ use thiserror::Error;
 /// Why a target isn't done though its recipe passed, with the status 256; or what became of one whose recipe failed.
 #[derive(Clone, Copy, Debug, Error)]
 pub enum NotDone {
+    /// One of an earlier run, which would be taken for this one's.
+    #[error("its old report cannot be removed: {0}")]
+    NotRemoved(io::Error),
     #[error("its report cannot be read: {0}")]
     Unread(io::Error),
     #[error("its report is not text")]

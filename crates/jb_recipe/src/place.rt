@@ -27,8 +27,8 @@ impl From<AllocError> for PlaceFault {
 
 /// Where reports are written and targets are made. Nothing is claimed of it: what files hold is outside every proof.
 pub trait Place {
-    /// Removes a report, or a target's file. One that isn't there, or can't be removed, is passed over.
-    fn remove(&self, path: &[u8]);
+    /// Removes a report, or a target's file. One that isn't there is passed over, and so is a folder: that is no report.
+    fn remove(&self, path: &[u8]) -> io::Result<()>;
 
     /// The bytes of a report; None where there is no report.
     fn report(&self, alloc: Global, path: &[u8]) -> Result<Option<Vec<u8>>, PlaceFault>;

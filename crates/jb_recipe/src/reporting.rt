@@ -15,6 +15,7 @@ use byte_strings::{ByteString, ByteStrings};
 use mk_recipe::{Outcome, read_report};
 use st_records::{Explicit, HashKey, Record};
 use std::alloc::{AllocError, Global};
+use std::io;
 
 /// The status of a target whose report can't be taken, or whose file can't be put on the disk.
 const NOT_TAKEN: u32 = 256;
@@ -32,6 +33,8 @@ pub struct EndNote {
     removes: bool,
     /// The time of the target's file before the recipe, where that may be removed.
     before: Option<i128>,
+    /// Why a report of an earlier run still lay there when the recipe began.
+    left: Option<io::Error>,
 }
 
 /// The last record of a target, and what there is to say where it isn't a 'done'.
@@ -57,6 +60,7 @@ impl Plan {
           report = self.report;
           removes = self.removes;
           before = None;
+          left = None;
         }) }
         ensures told { IfOk result (λ p. p.3 ≡ self.told) }
     {
@@ -70,6 +74,7 @@ impl Plan {
             report: self.report,
             removes: self.removes,
             before: None,
+            left: None,
         };
         Ok((self.begun, self.recipe, note, self.told))
     }
@@ -91,7 +96,7 @@ fn taken_away<P: Place>(
 ) -> Result<Option<Vec<u8>>, PlaceFault> {
     let found = place.report(alloc, path);
     if !matches!(found, Ok(None)) {
-        place.remove(path);
+        let _ = place.remove(path);
     }
     found
 }
@@ -133,16 +138,17 @@ impl EndNote {
     /// Before the recipe is run: a report of an earlier run must not be taken for this one's, and what the recipe changes is told
     /// by the time of the file as it was.
     pub fn before_run<P: Place>(&mut self, place: &P) {
-        self.remove_report(place);
+        self.left = self.remove_report(place).err();
         if self.removes {
             self.before = place.stamp(self.target.as_slice());
         }
     }
 
     // The report of a failed recipe isn't left behind.
-    fn remove_report<P: Place>(&self, place: &P) {
-        if let Some(path) = &self.report {
-            place.remove(path.as_slice());
+    fn remove_report<P: Place>(&self, place: &P) -> io::Result<()> {
+        match &self.report {
+            Some(path) => place.remove(path.as_slice()),
+            None => Ok(()),
         }
     }
 
@@ -156,7 +162,7 @@ impl EndNote {
         if after.is_none() || after == self.before {
             return None;
         }
-        place.remove(target);
+        let _ = place.remove(target);
         match place.stamp(target) {
             None => Some(NotDone::Removed),
             Some(_) => None,
@@ -170,6 +176,9 @@ impl EndNote {
         key: HashKey,
         place: &P,
     ) -> Result<Result<ByteStrings, NotDone>, AllocError> {
+        if let Some(error) = self.left {
+            return Ok(Err(NotDone::NotRemoved(error)));
+        }
         match &self.report {
             Some(path) => taken(alloc, key, place, path, &self.target, &self.known),
             None => Ok(Ok(ByteStrings::empty(alloc))),
@@ -188,6 +197,7 @@ impl EndNote {
             report: _,
             removes: _,
             before: _,
+            left: _,
         } = self;
         Record::Done {
             target,
@@ -273,7 +283,7 @@ impl EndNote {
         ensures end { IfOk result (λ l. IfSome l.record (λ note. IsEndOf outcome self.target self.commands self.explicit note)) }
     {
         if let Outcome::Failed(status) = outcome {
-            self.remove_report(place);
+            let _ = self.remove_report(place);
             let removed = self.remove_target(place);
             return Ok(self.into_failed(status, removed));
         }

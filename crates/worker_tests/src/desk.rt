@@ -3,12 +3,14 @@
 use crate::fake::Fake;
 use jb_recipe::{Place, PlaceFault};
 use std::alloc::Global;
+use std::io;
 use std::sync::Wait;
 use std::time::Clock;
 
 impl<R: Wait + Clock + Copy> Place for Fake<R> {
-    fn remove(&self, path: &[u8]) {
+    fn remove(&self, path: &[u8]) -> io::Result<()> {
         self.say(b"~remove ", path);
+        Ok(())
     }
 
     fn report(&self, alloc: Global, path: &[u8]) -> Result<Option<Vec<u8>>, PlaceFault> {
