@@ -6,6 +6,7 @@ ghost use Rattle.std.specs.Prelude.{◌≡◌, ◌⊎◌};
 mod command_line;
 mod output;
 mod sides;
+mod standard_output;
 
 use command_line::{Request, read_words};
 use output::{print_failed_call, refuse, show};
@@ -16,6 +17,7 @@ use st_listing::{ListFault, list, write_listing};
 use st_records::HashKey;
 use st_recovery::recover_from;
 use st_state::State;
+use standard_output::standard_output;
 use std::process::ExitCode;
 use std::thread;
 use std::time::Duration;
@@ -61,7 +63,7 @@ fn recovered(rt: HostRuntime, key: HashKey, file: &str) -> Result<State, ListFau
 /// standard output is closed, the first file that is opened stands in its place.
 fn list_disk(rt: HostRuntime, key: HashKey, file: &str) -> Result<bool, ListFault> {
     let state = recovered(rt, key, file)?;
-    write_listing(rt.alloc(), &state, &mut rt.stdout())?;
+    write_listing(rt.alloc(), &state, &mut standard_output(rt))?;
     Ok(state.len() > 0)
 }
 
@@ -94,7 +96,7 @@ fn tell(rt: HostRuntime, key: HashKey, file: &str, reading: Reading) -> u8
     ensures status { (result ≡ 0) ⊎ (result ≡ 2) }
 {
     let Reading { sides, failed } = reading;
-    let (out, err) = (&mut rt.stdout(), &mut rt.stderr());
+    let (out, err) = (&mut standard_output(rt), &mut rt.stderr());
     match sides {
         Ok((a, b)) => {
             let (mut a, mut b) = (a, b);
@@ -112,7 +114,7 @@ fn tell(rt: HostRuntime, key: HashKey, file: &str, reading: Reading) -> u8
 
 fn list_sides(rt: HostRuntime, key: HashKey, sides: &mut Sides) -> Result<(), ListFault> {
     match sides {
-        Ok((a, b)) => list(rt.alloc(), key, a, b, &mut rt.stdout()),
+        Ok((a, b)) => list(rt.alloc(), key, a, b, &mut standard_output(rt)),
         Err(fault) => Err(ListFault::Open(*fault)),
     }
 }

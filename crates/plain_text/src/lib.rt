@@ -1,0 +1,7 @@
+//! Text in which nothing is left that a terminal obeys.
+#![tactic(auto)]
+
+mod control;
+mod plain;
+
+pub use plain::{Plain, write_plain};
