@@ -4,6 +4,7 @@ use crate::status_line::StatusLine;
 use bd_lists::Ended;
 use jb_recipe::{News, NotDone, Step};
 use mk_plan::LinePlace;
+use plain_text::Plain;
 use std::alloc::Global;
 use std::io::{self, Write};
 
@@ -23,6 +24,8 @@ pub(crate) struct Streams<O: Write + Drop, E: Write + Drop> {
     pub(crate) status: Option<StatusLine>,
     /// The run is over.
     pub(crate) is_over: bool,
+    /// It was told that a recipe wrote no report.
+    told_unreported: bool,
 }
 
 impl<O: Write + Drop, E: Write + Drop> Drop for Streams<O, E> {
@@ -37,6 +40,7 @@ impl<O: Write + Drop, E: Write + Drop> Drop for Streams<O, E> {
             ends_err: _,
             status: _,
             is_over: _,
+            told_unreported: _,
         } = self;
     }
 }
@@ -66,7 +70,7 @@ fn write_err<E: Write>(err: &mut E, ended: &[Ended]) -> io::Result<()> {
     err.flush()
 }
 
-// The target stands in the line as it is: it may be no text.
+// The target may be no text.
 fn write_of_target<E: Write>(err: &mut E, target: &[u8]) {
     let _ = err.write_all(b"dmk: target ");
     let _ = err.write_all(target);
@@ -96,6 +100,14 @@ fn write_not_recorded<E: Write>(err: &mut E, target: &[u8], long: Option<LinePla
         let _ = write!(err, ":{line}: line too long");
     }
     let _ = err.write_all(b"\n");
+}
+
+fn write_unreported<E: Write>(err: &mut E, target: &[u8]) {
+    let _ = err.write_all(b"dmk: note: target ");
+    let _ = err.write_all(target);
+    let _ = err.write_all(
+        b": no headers are known of it: told -MD or -MMD, gcc writes no report\n",
+    );
 }
 
 // The line that says that a target isn't made, if this is such news.
@@ -130,6 +142,7 @@ fn write_news<E: Write>(err: &mut E, news: News<'_>) {
             }
         }
         News::NotRecorded { .. } | News::NotExpanded { .. } => write_failure(err, news),
+        News::Unreported { target } => write_unreported(err, target),
         News::SlotsUnused => {
             let _ = writeln!(err, "dmk: note: jobserver not used: one slot");
         }
@@ -170,6 +183,7 @@ impl<O: Write + Drop, E: Write + Drop> Streams<O, E> {
             ends_err: true,
             status,
             is_over: false,
+            told_unreported: false,
         }
     }
 
@@ -185,6 +199,7 @@ impl<O: Write + Drop, E: Write + Drop> Streams<O, E> {
             ends_err: _,
             status: _,
             is_over: _,
+            told_unreported: _,
         } = self;
         (out, err)
     }
@@ -275,12 +290,23 @@ impl<O: Write + Drop, E: Write + Drop> Streams<O, E> {
         self.has_more = self.has_more || !self.failures.is_empty();
     }
 
+    /// Whether these news were told of another target, and are told once.
+    fn was_told(&mut self, news: News<'_>) -> bool {
+        let told = self.told_unreported;
+        let is_unreported = matches!(news, News::Unreported { .. });
+        self.told_unreported = told || is_unreported;
+        told && is_unreported
+    }
+
     /// Tells news. That a target failed is kept for the end of the run, as far as there is memory.
     pub(crate) fn tell(&mut self, news: News<'_>) {
+        if self.was_told(news) {
+            return;
+        }
         self.make_way();
-        write_news(&mut self.err, news);
+        write_news(&mut Plain::over(&mut self.err), news);
         if is_failure(news) {
-            write_failure(&mut self.failures, news);
+            write_failure(&mut Plain::over(&mut self.failures), news);
         } else {
             self.go_on();
         }

@@ -11,7 +11,7 @@ ghost use Rattle.jb_recipe.specs.Noting.{IsEndOf};
 use crate::noting::{Plan, writable};
 use crate::{NotDone, Place, PlaceFault};
 use bd_lists::Recipe;
-use byte_strings::{ByteString, ByteStrings};
+use byte_strings::{ByteString, ByteStrings, Words};
 use mk_recipe::{Outcome, read_report};
 use st_records::{Explicit, HashKey, Record};
 use std::alloc::{AllocError, Global};
@@ -19,6 +19,9 @@ use std::io;
 
 /// The status of a target whose report can't be taken, or whose file can't be put on the disk.
 const NOT_TAKEN: u32 = 256;
+
+/// The options that have gcc write what it read into a file of its own: then it writes no report.
+const ELSEWHERE: [&[u8]; 2] = [b"-MD", b"-MMD"];
 
 /// What the record of a recipe's end says, but for what came of the recipe.
 #[derive(Drop)]
@@ -43,6 +46,8 @@ pub struct Last {
     /// None where not even a 'failed' may stand in the state.
     pub record: Option<Record>,
     pub not_done: Option<NotDone>,
+    /// There was no report, and a compiler was told to write what it read elsewhere.
+    pub unreported: bool,
 }
 
 impl Plan {
@@ -101,7 +106,12 @@ fn taken_away<P: Place>(
     found
 }
 
-/// The hidden names of a report, or why it can't be taken.
+// Whether a command has a word that is one of these options.
+fn tells_elsewhere(command: &[u8]) -> bool {
+    Words::new(command).any(|word| ELSEWHERE.iter().any(|option| *option == word))
+}
+
+/// The hidden names of a report, None where there is none, or why it can't be taken.
 fn taken<P: Place>(
     alloc: Global,
     key: HashKey,
@@ -109,15 +119,15 @@ fn taken<P: Place>(
     path: &ByteString,
     target: &ByteString,
     known: &ByteStrings,
-) -> Result<Result<ByteStrings, NotDone>, AllocError> {
+) -> Result<Result<Option<ByteStrings>, NotDone>, AllocError> {
     let bytes = match taken_away(alloc, place, path.as_slice()) {
         Ok(Some(bytes)) => bytes,
-        Ok(None) => return Ok(Ok(ByteStrings::empty(alloc))),
+        Ok(None) => return Ok(Ok(None)),
         Err(PlaceFault::Device(error)) => return Ok(Err(NotDone::Unread(error))),
         Err(PlaceFault::OutOfMemory) => return Err(AllocError),
     };
     match read_report(alloc, key, &bytes, target.as_slice(), known) {
-        Ok(hidden) => Ok(Ok(hidden)),
+        Ok(hidden) => Ok(Ok(Some(hidden))),
         Err(fault) => match NotDone::of_report(fault) {
             Some(not_done) => Ok(Err(not_done)),
             None => Err(AllocError),
@@ -169,20 +179,25 @@ impl EndNote {
         }
     }
 
-    // The hidden names that the recipe reported, none where no state is kept, or why the report can't be taken.
+    // The hidden names that the recipe reported, None where there is no report, or why it can't be taken.
     fn hidden<P: Place>(
         &self,
         alloc: Global,
         key: HashKey,
         place: &P,
-    ) -> Result<Result<ByteStrings, NotDone>, AllocError> {
+    ) -> Result<Result<Option<ByteStrings>, NotDone>, AllocError> {
         if let Some(error) = self.left {
             return Ok(Err(NotDone::NotRemoved(error)));
         }
         match &self.report {
             Some(path) => taken(alloc, key, place, path, &self.target, &self.known),
-            None => Ok(Ok(ByteStrings::empty(alloc))),
+            None => Ok(Ok(None)),
         }
+    }
+
+    // Whether a compiler was told to write elsewhere what the report was to have.
+    fn is_told_elsewhere(&self) -> bool {
+        self.report.is_some() && self.commands.iter().any(|command| tells_elsewhere(command))
     }
 
     fn done(self, hidden: ByteStrings) -> Record
@@ -215,6 +230,7 @@ impl EndNote {
         Last {
             record: failed(self.target, status),
             not_done,
+            unreported: false,
         }
     }
 
@@ -240,7 +256,7 @@ impl EndNote {
         alloc: Global,
         key: HashKey,
         place: &P,
-    ) -> Result<Result<ByteStrings, NotDone>, AllocError> {
+    ) -> Result<Result<Option<ByteStrings>, NotDone>, AllocError> {
         let hidden = match self.hidden(alloc, key, place)? {
             Ok(hidden) => hidden,
             Err(not_done) => return Ok(Err(not_done)),
@@ -252,7 +268,12 @@ impl EndNote {
     }
 
     // A 'done' where it may stand in the state, else a 'failed'.
-    fn into_done(self, alloc: Global, hidden: ByteStrings) -> Result<Last, AllocError>
+    fn into_done(
+        self,
+        alloc: Global,
+        hidden: ByteStrings,
+        unreported: bool,
+    ) -> Result<Last, AllocError>
         ensures good { IfOk result (λ l. IfSome l.record (λ note. IsGood Two note)) }
         ensures end { IfOk result (λ l. IfSome l.record (λ note. IsEndOf Done self.target self.commands self.explicit note)) }
     {
@@ -261,10 +282,12 @@ impl EndNote {
             Some(done) => Ok(Last {
                 record: Some(done),
                 not_done: None,
+                unreported,
             }),
             None => Ok(Last {
                 record: failed(target, NOT_TAKEN),
                 not_done: Some(NotDone::LongRecord),
+                unreported: false,
             }),
         }
     }
@@ -288,7 +311,11 @@ impl EndNote {
             return Ok(self.into_failed(status, removed));
         }
         match self.hidden_once_synced(alloc, key, place)? {
-            Ok(hidden) => self.into_done(alloc, hidden),
+            Ok(Some(hidden)) => self.into_done(alloc, hidden, false),
+            Ok(None) => {
+                let unreported = self.is_told_elsewhere();
+                self.into_done(alloc, ByteStrings::empty(alloc), unreported)
+            }
             Err(not_done) => Ok(self.into_failed(NOT_TAKEN, Some(not_done))),
         }
     }

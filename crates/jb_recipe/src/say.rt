@@ -23,6 +23,10 @@ pub enum News<'a> {
     NotExpanded {
         fault: &'a RecipeFault,
     },
+    /// Its recipe passed and wrote no report, since a compiler was told to write what it read elsewhere. It is told once in a run.
+    Unreported {
+        target: &'a [u8],
+    },
     /// What MAKEFLAGS names isn't used: recipes run one by one.
     SlotsUnused,
     /// No pool could be served, so recipes are told of none.

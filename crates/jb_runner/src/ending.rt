@@ -65,6 +65,15 @@ fn say_block<S: Say>(say: &S, ran: Ran) -> Spent<Receipt>
     spent
 }
 
+// Says that the recipe was to report what it read, and didn't, where that is so.
+fn tell_unreported<S: Say>(say: &S, graph: &Graph, node: Node, unreported: bool) {
+    let number = node.number();
+    if unreported && number < graph.names.len() {
+        let target = graph.names.name(number);
+        say.tell(News::Unreported { target });
+    }
+}
+
 fn tell_failed<S: Say>(
     say: &S,
     graph: &Graph,
@@ -256,14 +265,23 @@ impl<D: Disk + Drop, E: Exec<Receipt>, S: Say, P: Place> Bench<'_, D, E, S, P> {
         let spent = say_block(self.say, ran);
         let outcome = spent.outcome();
         match note.last_record(alloc, self.key, self.place, outcome) {
-            Ok(Last { record, not_done }) => match record {
-                Some(last) => self.submit_end(rt, alloc, node, last, not_done, spent, shift),
-                None => {
-                    shift.keep(spent.give_up());
-                    self.not_recorded(rt, node, None, shift);
-                    Ok(())
+            Ok(
+                Last {
+                    record,
+                    not_done,
+                    unreported,
+                },
+            ) => {
+                tell_unreported(self.say, self.graph, node, unreported);
+                match record {
+                    Some(last) => self.submit_end(rt, alloc, node, last, not_done, spent, shift),
+                    None => {
+                        shift.keep(spent.give_up());
+                        self.not_recorded(rt, node, None, shift);
+                        Ok(())
+                    }
                 }
-            },
+            }
             Err(_) => {
                 shift.keep(spent.give_up());
                 Err(RunFault::OutOfMemory)
