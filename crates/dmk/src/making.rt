@@ -228,6 +228,9 @@ pub fn make<R: Threads + Wait + Sync>(
         later.trusts_files,
         environment,
         &mut makefiles,
+    if let Some(reason) = outfit.pool.refused {
+        outfit.printer.not_locked(outfit.pool.as_str(), reason);
+    }
         outfit,
     ))
 }

@@ -1,6 +1,6 @@
 //! The lock on a state: on an empty file beside it, which stays. Recipes inherit a handle to it, and so hold the lock too.
 
-use dmk_host::{LockFile, Tried};
+use dmk_host::{LockFile, Tried, is_open_above, is_over};
 use dmk_run::{Guard, Hold};
 use jb_host::HeldLock;
 use std::alloc::AllocError;
@@ -32,7 +32,7 @@ pub struct StateLock<'a> {
 enum LockFault {
     OutOfMemory,
     /// It can't be had here.
-    NotToBeHad,
+    NotToBeHad(io::Error),
 }
 
 impl From<AllocError> for LockFault {
@@ -49,7 +49,7 @@ impl From<io::Error> for LockFault {
     fn from(error: io::Error) -> LockFault {
         match error.kind() {
             ErrorKind::OutOfMemory => LockFault::OutOfMemory,
-            _ => LockFault::NotToBeHad,
+            _ => LockFault::NotToBeHad(error),
         }
     }
 }
@@ -102,9 +102,18 @@ impl<'a> StateLock<'a> {
         }
     }
 
+    // Whether a run above has the lock, and waits for this one. One that is over doesn't; but a shell that it left above this one may.
     fn is_held_above(&self, opened: &LockFile) -> Result<bool, AllocError> {
-        let name = opened.name(self.rt)?;
-        Ok(self.above.split(' ').any(|one| one == name.as_str()))
+        let mut is_named = false;
+        for name in self.above.split(' ') {
+            if let Some(run) = opened.run_of(self.rt, name)? {
+                if !is_over(self.rt, run)? {
+                    return Ok(true);
+                }
+                is_named = true;
+            }
+        }
+        Ok(is_named && is_open_above(self.rt, opened)?)
     }
 
     // Puts the lock where recipes find it.
@@ -138,7 +147,7 @@ impl<'a> StateLock<'a> {
                 }
             }
         }
-        Err(LockFault::NotToBeHad)
+        Err(LockFault::NotToBeHad(ErrorKind::TimedOut.into()))
     }
 
     fn wait_for_it(&self) -> Result<Hold, LockFault> {
@@ -153,7 +162,7 @@ impl<'a> StateLock<'a> {
                 }
             }
         }
-        Err(LockFault::NotToBeHad)
+        Err(LockFault::NotToBeHad(ErrorKind::TimedOut.into()))
     }
 }
 
@@ -167,7 +176,7 @@ impl Guard for StateLock<'_> {
         match self.try_once() {
             Ok(Ok(hold)) => Ok(Some(hold)),
             Ok(Err(_)) => Ok(None),
-            Err(LockFault::NotToBeHad) => Ok(Some(Hold::NotLocked)),
+            Err(LockFault::NotToBeHad(reason)) => Ok(Some(Hold::NotLocked(reason))),
             Err(LockFault::OutOfMemory) => Err(AllocError),
         }
     }
@@ -175,7 +184,7 @@ impl Guard for StateLock<'_> {
     fn wait(&mut self) -> Result<Hold, AllocError> {
         match self.wait_for_it() {
             Ok(hold) => Ok(hold),
-            Err(LockFault::NotToBeHad) => Ok(Hold::NotLocked),
+            Err(LockFault::NotToBeHad(reason)) => Ok(Hold::NotLocked(reason)),
             Err(LockFault::OutOfMemory) => Err(AllocError),
         }
     }

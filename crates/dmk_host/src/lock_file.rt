@@ -1,10 +1,25 @@
 //! Empty files that stand for what a lock on them is of. Each handle of one opening of such a file holds its lock, and it goes with the
 //! last of them, by whatever death.
 
+use crate::run_name::own_name;
+use jb_host::folder_of;
 use std::alloc::AllocError;
-use std::fs::{self, File, OpenOptions, TryLockError};
+use std::fs::{self, File, Metadata, OpenOptions, TryLockError};
 use std::io::{self, ErrorKind};
-use std::os::unix::fs::MetadataExt;
+use std::os::unix::fs::{MetadataExt, OpenOptionsExt};
+
+/// Others neither read such a file nor lock it.
+const OWN_MODE: u32 = 0o600;
+
+/// The bits of a folder's mode by which its group or all users may write it.
+const OTHERS_WRITE: u32 = 0o022;
+
+/// How often it is tried to open a file in whose place another one is put meanwhile.
+const MAX_ATTEMPTS: usize = 100;
+
+const NOT_EMPTY: &str = "its lock file is no empty file";
+
+const NOT_OWN: &str = "its lock file is another user's";
 
 /// A lock file, opened, and what it is known by.
 #[derive(Drop)]
@@ -22,30 +37,91 @@ pub enum Tried {
     Taken(LockFile),
 }
 
-fn open_empty(rt: HostRuntime, path: &str, writable: bool) -> io::Result<File> {
-    match fs::metadata(&rt, path) {
-        Ok(found) if found.is_file() && found.len() == 0 => {}
-        Ok(_) => return Err(ErrorKind::InvalidInput.into()),
-        Err(error) if error.kind() == ErrorKind::NotFound => {
-            OpenOptions::new().write(true).create(true).open(&rt, path)?;
-        }
-        Err(error) => return Err(error),
+fn refused(why: &str) -> io::Error {
+    io::Error::new(ErrorKind::InvalidInput, why)
+}
+
+/// What stands at a path itself, None where nothing does.
+fn found_at(rt: HostRuntime, path: &str) -> io::Result<Option<Metadata>> {
+    match fs::symlink_metadata(&rt, path) {
+        Ok(found) => Ok(Some(found)),
+        Err(error) if error.kind() == ErrorKind::NotFound => Ok(None),
+        Err(error) => Err(error),
     }
-    OpenOptions::new()
-        .read(true)
-        .write(writable)
-        .open(&rt, path)
+}
+
+/// Makes the file, unless something stands there, and be it a link to nothing.
+fn make(rt: HostRuntime, path: &str) -> io::Result<()> {
+    let made = OpenOptions::new()
+        .write(true)
+        .create_new(true)
+        .mode(OWN_MODE)
+        .open(&rt, path);
+    match made {
+        Err(error) if error.kind() != ErrorKind::AlreadyExists => Err(error),
+        _ => Ok(()),
+    }
+}
+
+/// Whether others than this user may put files into the path's folder.
+fn is_shared(rt: HostRuntime, path: &str) -> io::Result<bool> {
+    let folder = fs::metadata(&rt, folder_of(path))?;
+    Ok(folder.mode() & OTHERS_WRITE != 0)
+}
+
+/// Refuses a link, what isn't an empty file, and what another user may have put there.
+fn check(rt: HostRuntime, path: &str, found: &Metadata) -> io::Result<()> {
+    if !found.is_file() || found.len() != 0 {
+        return Err(refused(NOT_EMPTY));
+    }
+    if found.uid() != libc::geteuid() && is_shared(rt, path)? {
+        return Err(refused(NOT_OWN));
+    }
+    Ok(())
 }
 
 impl LockFile {
-    fn open(rt: HostRuntime, path: &str, writable: bool) -> io::Result<LockFile> {
-        let file = open_empty(rt, path, writable)?;
-        let found = file.metadata()?;
-        Ok(LockFile {
+    // None where what was found at the path isn't what was opened there.
+    fn open_found(
+        rt: HostRuntime,
+        path: &str,
+        writable: bool,
+        found: &Metadata,
+    ) -> io::Result<Option<LockFile>> {
+        let file = OpenOptions::new()
+            .read(true)
+            .write(writable)
+            .open(&rt, path)?;
+        let opened = file.metadata()?;
+        let device = opened.dev();
+        let number = opened.ino();
+        if device != found.dev() || number != found.ino() {
+            return Ok(None);
+        }
+        Ok(Some(LockFile {
             file,
-            device: found.dev(),
-            number: found.ino(),
-        })
+            device,
+            number,
+        }))
+    }
+
+    // No link is followed: who may write the folder could have any file made, or locked, by one.
+    fn open(rt: HostRuntime, path: &str, writable: bool) -> io::Result<LockFile> {
+        for _ in 0..MAX_ATTEMPTS {
+            match found_at(rt, path)? {
+                None => make(rt, path)?,
+                Some(found) => {
+                    check(rt, path, &found)?;
+                    match LockFile::open_found(rt, path, writable, &found) {
+                        Ok(Some(opened)) => return Ok(opened),
+                        Ok(None) => {}
+                        Err(error) if error.kind() == ErrorKind::NotFound => {}
+                        Err(error) => return Err(error),
+                    }
+                }
+            }
+        }
+        Err(refused(NOT_EMPTY))
     }
 
     fn attempt(self) -> io::Result<Tried> {
@@ -56,9 +132,10 @@ impl LockFile {
         }
     }
 
-    /// Opens the file, which it makes where there is none, and tries to lock it. What isn't an empty file is refused.
+    /// Opens the file, which it makes where there is none, and tries to lock it. What isn't an empty file is refused, and so is another
+    /// user's in a folder that others may write.
     pub fn try_lock(rt: HostRuntime, path: &str) -> io::Result<Tried> {
-        // For reading alone, so that the file of another user serves, and no recipe can write into it.
+        // For reading alone, so that no recipe can write into it.
         match LockFile::open(rt, path, false)?.attempt() {
             Ok(tried) => Ok(tried),
             // NFS 4 locks only what is open for writing.
@@ -66,17 +143,36 @@ impl LockFile {
         }
     }
 
-    /// The device and the number of the file, by which it is known under all its names.
+    /// What the lock is known by as the one that this run holds: the device and the number of the file, which it has under all its
+    /// names, and this run.
     pub fn name(&self, rt: HostRuntime) -> Result<String, AllocError> {
         let device = self.device;
         let number = self.number;
-        format!(in rt.alloc(); "{device}:{number}")
+        let run = own_name(rt)?;
+        format!(in rt.alloc(); "{device}:{number}:{run}")
+    }
+
+    /// The run that holds this lock, where that is what a name says.
+    pub fn run_of<'a>(
+        &self,
+        rt: HostRuntime,
+        name: &'a str,
+    ) -> Result<Option<&'a str>, AllocError> {
+        let device = self.device;
+        let number = self.number;
+        let own = format!(in rt.alloc(); "{device}:{number}:")?;
+        Ok(name.strip_prefix(own.as_str()))
+    }
+
+    /// Whether it is the file of this device and number.
+    pub fn is_file_of(&self, found: &Metadata) -> bool {
+        found.dev() == self.device && found.ino() == self.number
     }
 
     /// Whether the path still leads to the file. Whoever got the lock on one that was removed has a lock that nobody else sees.
     pub fn is_at(&self, rt: HostRuntime, path: &str) -> bool {
-        match fs::metadata(&rt, path) {
-            Ok(found) => found.dev() == self.device && found.ino() == self.number,
+        match fs::symlink_metadata(&rt, path) {
+            Ok(found) => self.is_file_of(&found),
             Err(_) => false,
         }
     }

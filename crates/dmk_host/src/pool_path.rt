@@ -2,8 +2,10 @@
 
 use crate::lock_file::{LockFile, Tried};
 use jb_runner::{Source, source_of};
+use mk_profile::Profile;
 use std::alloc::AllocError;
-use std::{env, fs, io};
+use std::io::{self, ErrorKind};
+use std::{env, fs};
 
 /// How many runs may serve a FIFO of one state's name at once.
 const MAX_NAMES: usize = 99;
@@ -15,20 +17,49 @@ pub struct PoolPath {
     /// Absolute; empty where it can't be told.
     path: String,
     lock: Option<LockFile>,
+    /// Why what stands at the lock file's name is no lock, where the FIFO is served without one for that.
+    pub refused: Option<io::Error>,
 }
 
-/// The absolute path of the state file's name with `.fifo`; empty where the current folder's name can't be had. Recipes run
-/// make in other folders.
-fn usual_path(rt: HostRuntime, state: &str) -> Result<String, AllocError> {
+/// The state file's name, beside which reports stand: in the wide profile its absolute path, since recipes change their folder. What
+/// writes a report takes what stands before the first blank as its path, so a path with one stays as it is.
+pub fn reports_path(rt: HostRuntime, profile: Profile, state: &str) -> Result<String, AllocError> {
+    let path = absolute_path(rt, state)?;
+    if profile.is_wide() && !path.is_empty() && !path.contains(' ') {
+        return Ok(path);
+    }
+    String::from_str(rt.alloc(), state)
+}
+
+/// The absolute path of a name; empty where the current folder's name can't be had.
+fn absolute_path(rt: HostRuntime, name: &str) -> Result<String, AllocError> {
     let alloc = rt.alloc();
-    if state.starts_with("/") {
-        return format!(in alloc; "{state}.fifo");
+    if name.starts_with("/") {
+        return String::from_str(alloc, name);
     }
     let Ok(folder) = env::current_dir(&rt) else {
         return Ok(String::new(alloc));
     };
     let folder = folder.as_str();
-    format!(in alloc; "{folder}/{state}.fifo")
+    format!(in alloc; "{folder}/{name}")
+}
+
+/// The absolute path of the state file's name with `.fifo`; empty where the current folder's name can't be had. Recipes run
+/// make in other folders.
+fn usual_path(rt: HostRuntime, state: &str) -> Result<String, AllocError> {
+    let mut path = absolute_path(rt, state)?;
+    if !path.is_empty() {
+        path.push_str(".fifo")?;
+    }
+    Ok(path)
+}
+
+// Why a lock was refused, where that isn't for the system: somebody has put something there.
+fn told_refusal(error: io::Error) -> Option<io::Error> {
+    match error.kind() {
+        ErrorKind::InvalidInput => Some(error),
+        _ => None,
+    }
 }
 
 fn lock_path(rt: HostRuntime, path: &str) -> Result<String, AllocError> {
@@ -51,11 +82,12 @@ fn try_lock(rt: HostRuntime, path: &str) -> io::Result<Option<LockFile>> {
 }
 
 impl PoolPath {
-    fn without_lock(rt: HostRuntime, path: String) -> PoolPath {
+    fn without_lock(rt: HostRuntime, path: String, refused: Option<io::Error>) -> PoolPath {
         PoolPath {
             rt,
             path,
             lock: None,
+            refused,
         }
     }
 
@@ -69,7 +101,7 @@ impl PoolPath {
     ) -> Result<PoolPath, AllocError> {
         let usual = usual_path(rt, state)?;
         if source_of(makeflags, workers) != Source::Server || usual.is_empty() {
-            return Ok(PoolPath::without_lock(rt, usual));
+            return Ok(PoolPath::without_lock(rt, usual, None));
         }
         for number in 1..=MAX_NAMES {
             let path = if number == 1 {
@@ -80,11 +112,25 @@ impl PoolPath {
             let locked = lock_path(rt, path.as_str())?;
             match try_lock(rt, locked.as_str()) {
                 Ok(None) => {}
-                Ok(lock) => return Ok(PoolPath { rt, path, lock }),
-                Err(_) => return Ok(PoolPath::without_lock(rt, usual)),
+                Ok(lock) => {
+                    return Ok(PoolPath {
+                        rt,
+                        path,
+                        lock,
+                        refused: None,
+                    });
+                }
+                Err(error) => {
+                    let refused = told_refusal(error);
+                    return Ok(PoolPath::without_lock(rt, usual, refused));
+                }
             }
         }
-        Ok(PoolPath::without_lock(rt, String::new(rt.alloc())))
+        Ok(PoolPath::without_lock(rt, String::new(rt.alloc()), None))
+    }
+
+    pub fn as_str(&self) -> &str {
+        self.path.as_str()
     }
 
     pub fn as_bytes(&self) -> &[u8] {
@@ -93,7 +139,12 @@ impl PoolPath {
 
     /// Lets the name go.
     pub fn release(self) {
-        let PoolPath { rt, path, lock } = self;
+        let PoolPath {
+            rt,
+            path,
+            lock,
+            refused: _,
+        } = self;
         if lock.is_some() {
             if let Ok(locked) = lock_path(rt, path.as_str()) {
                 let _ = fs::remove_file(&rt, locked.as_str());

@@ -1,5 +1,7 @@
 //! The standard streams.
+use plain_text::Plain;
 use std::alloc::{AllocError, Global};
+use std::fmt::Display;
 use std::fs::File;
 use std::io::{self, BufWriter, ErrorKind, Write};
 use std::thread;
@@ -35,6 +37,12 @@ impl<W: Write + Drop> Write for Patient<W> {
     fn flush(&mut self) -> io::Result<()> {
         self.stream.flush()
     }
+}
+
+/// One line with a fault on standard error.
+pub fn tell_fault<F: Display>(rt: HostRuntime, fault: &F) {
+    let mut stream = with_patience(rt, rt.stderr());
+    let _ = writeln!(Plain::over(&mut stream), "dmk: {fault}");
 }
 
 /// A stream that is written when it is flushed, or when what is to be written is long.

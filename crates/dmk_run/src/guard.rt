@@ -3,18 +3,18 @@
 use crate::printer::Printer;
 use crate::stop::Stop;
 use std::alloc::AllocError;
-use std::io::Write;
+use std::io::{self, Write};
 use std::sync::Wait;
 
 /// What came of keeping other runs from a state.
-#[derive(Clone, Copy, Debug, PartialEq, Eq)]
+#[derive(Clone, Copy, Debug)]
 pub enum Hold {
     /// They wait until this run and its recipes have ended.
     Held,
     /// A run that waits for this one to end has the state, so neither would ever end.
     HeldAbove,
-    /// They can't be kept from it.
-    NotLocked,
+    /// They can't be kept from it, for this reason.
+    NotLocked(io::Error),
 }
 
 /// Keeps other runs from a state until it is let go.
@@ -42,8 +42,8 @@ pub(crate) fn hold_state<G: Guard, R: Wait, O: Write + Drop, W: Write + Drop>(
     match found {
         Hold::Held => Ok(()),
         Hold::HeldAbove => Err(Stop::HeldAbove),
-        Hold::NotLocked => {
-            printer.not_locked(state);
+        Hold::NotLocked(reason) => {
+            printer.not_locked(state, reason);
             Ok(())
         }
     }

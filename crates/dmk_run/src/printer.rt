@@ -8,8 +8,9 @@ use bd_lists::Ended;
 use dmk_drive::{Message, print_fault, print_note};
 use jb_closing::RunFault;
 use jb_recipe::{News, Say, Step};
+use plain_text::Plain;
 use std::alloc::Global;
-use std::io::Write;
+use std::io::{self, Write};
 use std::sync::{Condvar, Mutex, Wait};
 use std::time::Duration;
 
@@ -126,9 +127,14 @@ impl<'a, R: Wait, O: Write + Drop, E: Write + Drop> Printer<'a, R, O, E> {
         self.of_state("note: waiting for another run over ", state, "");
     }
 
-    /// Says that other runs over the state aren't kept away.
-    pub fn not_locked(&self, state: &str) {
-        self.of_state("note: ", state, " is not locked");
+    /// Says that other runs aren't kept away from a file.
+    pub fn not_locked(&self, file: &str, reason: io::Error) {
+        let mut streams = self.streams.lock(self.rt);
+        let _ = writeln!(
+            Plain::over(&mut streams.err),
+            "dmk: note: {file} is not locked: {reason}"
+        );
+        let _ = streams.err.flush();
     }
 
     /// Says what came of taking targets as they are.

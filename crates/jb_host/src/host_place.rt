@@ -59,8 +59,8 @@ fn fault_of(error: io::Error) -> PlaceFault {
     }
 }
 
-// The folder that a name's last part stands in.
-fn folder_of(name: &str) -> &str {
+/// The folder that a name's last part stands in.
+pub fn folder_of(name: &str) -> &str {
     match name.rsplit_once('/') {
         None => ".",
         Some(("", _)) => "/",

@@ -10,6 +10,6 @@ mod shell;
 mod surroundings;
 
 pub use dry_shell::{DryShell, Written};
-pub use host_place::HostPlace;
+pub use host_place::{HostPlace, folder_of};
 pub use laws::served_by_later_syncs;
 pub use shell::{HOLDS, HeldLock, Shell};
