@@ -5,7 +5,9 @@ mod making;
 mod state_lock;
 
 use dmk_drive::{Fault, Message, Mode, Options, value_of};
-use dmk_host::{FolderFault, ask, enter, held_streams, keep_blocks, read_input, run_anew, tell};
+use dmk_host::{
+    FolderFault, ask, enter, held_streams, keep_blocks, read_input, run_anew, tell, tell_fault,
+};
 use dmk_words::{Asked, Later, Request, macro_variables, processors, read_words, with_environment};
 use making::make;
 use std::alloc::AllocError;
@@ -22,7 +24,7 @@ fn main(rt: HostRuntime) -> ExitCode {
         },
         Ok(Request::Leave(status)) => ExitCode::from(status),
         Err(fault) => {
-            let _ = eprintln!(rt; "dmk: {fault}");
+            tell_fault(rt, &fault);
             ExitCode::from(2)
         }
     }
@@ -77,7 +79,7 @@ fn begin(host: HostRuntime, folders: &[String], tells_folder: bool) -> Result<()
 }
 
 fn refused(host: HostRuntime, fault: FolderFault) -> u8 {
-    let _ = eprintln!(host; "dmk: {fault}");
+    tell_fault(host, &fault);
     2
 }
 

@@ -5,6 +5,7 @@ use dmk_drive::{AlwaysRun, Options, value_of};
 use dmk_words::{Later, handed_on};
 use jb_host::DryShell;
 use jb_recipe::{Makeflags, environment};
+use plain_text::Plain;
 use std::alloc::AllocError;
 use std::io::{self, Write};
 
@@ -63,9 +64,10 @@ impl<'a> AlwaysLines<'a> {
         true
     }
 
-    // The target stands in the line as it is: it may be no text.
+    // The target may be no text.
     fn tell_failed(&self, line: &AlwaysRun, status: u32) {
-        let mut err = with_patience(self.host, self.host.stderr());
+        let mut stream = with_patience(self.host, self.host.stderr());
+        let mut err = Plain::over(&mut stream);
         let _ = err.write_all(b"dmk: target ");
         let _ = err.write_all(line.target.as_slice());
         let _ = if status < NONE {

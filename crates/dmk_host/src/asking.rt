@@ -13,12 +13,12 @@ use dmk_drive::{
     AlwaysRun, Fault, FileTexts, Message, Mode, Options, drive, print_fault, value_of,
 };
 use dmk_words::{Later, Request, read_words, with_environment};
+use plain_text::write_plain;
 use st_disk::{FileDisk, SystemFolder};
 use st_records::HashKey;
 use std::alloc::AllocError;
-use std::io::{self, Write};
-use std::thread;
 use std::time::Duration;
+use std::{io, thread};
 
 /// How often a fault is looked for at most, where each time it is another one.
 const MAX_LOOKS: usize = 100;
@@ -202,7 +202,7 @@ impl Look {
 
     // What standard error doesn't take is lost: there is nobody left to tell.
     fn print(&self, host: HostRuntime, lines: &AlwaysLines<'_>) -> io::Result<bool> {
-        let _ = with_patience(host, host.stderr()).write_all(&self.err);
+        let _ = write_plain(&mut with_patience(host, host.stderr()), &self.err);
         lines.print(&self.out, self.before, &self.always)
     }
 

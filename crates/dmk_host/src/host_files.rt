@@ -7,6 +7,7 @@ use byte_strings::ByteStrings;
 use dmk_drive::{FileCalls, FileStatus, FileTexts, FileTree};
 use dmk_words::INPUT;
 use jb_host::{DryShell, Written};
+use plain_text::Plain;
 use std::alloc::{AllocError, Global};
 use std::fs::{self, File};
 use std::io::{self, ErrorKind, Read, Write};
@@ -77,9 +78,10 @@ impl<'a> HostFiles<'a> {
         )
     }
 
-    // The file's name stands in the note as it is: it may be no text.
+    // The file's name may be no text.
     fn tell_failed(&self, file: &[u8], line: usize, status: u32) {
-        let mut err = with_patience(self.rt, self.rt.stderr());
+        let mut stream = with_patience(self.rt, self.rt.stderr());
+        let mut err = Plain::over(&mut stream);
         let _ = err.write_all(b"dmk: ");
         let _ = err.write_all(file);
         let _ = if status < NONE {

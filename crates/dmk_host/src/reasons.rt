@@ -2,6 +2,7 @@
 
 use crate::host_files::HostFiles;
 use dmk_drive::{FileTexts, Options};
+use plain_text::Plain;
 use st_disk::{FailedCallMessage, FileDisk, SystemFolder, Which};
 use std::fs;
 use std::io::Write;
@@ -13,6 +14,7 @@ pub fn print_reasons<W: Write>(
     makefiles: &FileTexts<HostFiles<'_>>,
     disk: &FileDisk<SystemFolder>,
 ) {
+    let mut err = Plain::over(err);
     if let Some(unread) = makefiles.unread() {
         let _ = writeln!(err, "dmk: note: {unread}");
     }
@@ -28,6 +30,7 @@ pub fn print_reasons<W: Write>(
 
 /// Says what the makefiles ask for that has no meaning here, in the order of reading. A line that can't be printed changes nothing.
 pub fn print_notes<W: Write>(err: &mut W, makefiles: &FileTexts<HostFiles<'_>>) {
+    let mut err = Plain::over(err);
     let notes = makefiles.notes();
     for note in notes.found.iter() {
         if notes.counts(note) {

@@ -104,7 +104,7 @@ impl<'a, R: Wait, O: Write + Drop, E: Write + Drop> Printer<'a, R, O, E> {
     /// One line with a fault that is met before anything is made.
     pub fn fault(&self, message: Message<'_>) {
         let mut streams = self.streams.lock(self.rt);
-        print_fault(&mut streams.err, message);
+        print_fault(&mut Plain::over(&mut streams.err), message);
         let _ = streams.err.flush();
     }
 
@@ -118,7 +118,10 @@ impl<'a, R: Wait, O: Write + Drop, E: Write + Drop> Printer<'a, R, O, E> {
     /// One line about the state of this name, behind the program's name.
     fn of_state(&self, before: &str, state: &str, behind: &str) {
         let mut streams = self.streams.lock(self.rt);
-        let _ = writeln!(streams.err, "dmk: {before}{state}{behind}");
+        let _ = writeln!(
+            Plain::over(&mut streams.err),
+            "dmk: {before}{state}{behind}"
+        );
         let _ = streams.err.flush();
     }
 
