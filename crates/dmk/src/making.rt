@@ -9,7 +9,7 @@ use bd_lists::{Exec, Variable};
 use dmk_drive::{FileTexts, Options, value_of};
 use dmk_host::{
     HostFiles, Patient, PoolPath, base_asked, beside_recipes, buffered, needs_usual_makefile,
-    print_gnu_makefile, print_notes, print_reasons, status_columns, with_patience,
+    print_gnu_makefile, print_notes, print_reasons, reports_path, status_columns, with_patience,
 };
 use dmk_run::{Guard, Means, Printer, build_targets, followed, trust_files};
 use dmk_words::{Later, handed_on};
@@ -32,6 +32,7 @@ type HostPrinter<'a, R> = Printer<'a, R, BufWriter<Patient<Stdout>>, BufWriter<P
 #[derive(Drop)]
 struct Outfit<'a, R: Wait> {
     folder: SystemFolder,
+    reports: String,
     pool: PoolPath,
     handed: Option<Handed>,
     lock: LockPlace,
@@ -69,10 +70,12 @@ fn outfit_of<'a, R: Wait>(
     let handed = handed_on(alloc, options, later.environment_counts, before, flags)?;
     let lock = LockPlace::of(host, state)?;
     let folder = SystemFolder::new(host, alloc, state)?;
+    let reports = reports_path(host, options.profile, state)?;
     let pool = PoolPath::new(host, state, flags, usize::from(options.workers))?;
     let printer = host_printer(rt, host, environment, options.is_silent)?;
     Ok(Outfit {
         folder,
+        reports,
         pool,
         handed,
         lock,
@@ -156,6 +159,7 @@ fn make_with<R: Threads + Wait + Sync>(
     let Outfit {
         folder,
         pool,
+        reports,
         handed,
         lock,
         printer,
@@ -178,6 +182,7 @@ fn make_with<R: Threads + Wait + Sync>(
         pool: pool.as_bytes(),
         exec: &exec,
         say: &printer,
+        reports: reports.as_bytes(),
         place: &place,
     };
     let mut tree = HostFiles::tree(host);

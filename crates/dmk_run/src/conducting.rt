@@ -1,6 +1,6 @@
 //! How a run goes, by the words of the command line and the makefile.
 
-ghost use Rattle.std.specs.Prelude.{◌≡◌, ◌||◌, if◌then◌else◌, string_bytes, IfOk};
+ghost use Rattle.std.specs.Prelude.{◌≡◌, ◌||◌, if◌then◌else◌, IfOk};
 ghost use Rattle.jb_recipe.specs.declared.variables.Makeflags.TheVariants as flags;
 
 use bd_lists::Variable;
@@ -11,9 +11,12 @@ use mk_rule_lines::Settings;
 use std::alloc::{AllocError, Global};
 
 /// What the words of the command line ask of a run, beside makefile and targets.
-pub struct Wishes {
+#[derive(Drop)]
+pub struct Wishes<'a> {
     /// The name of the state's side A.
     pub state: String,
+    /// The name of it by which recipes find their reports.
+    pub reports: &'a [u8],
     pub workers: usize,
     pub goes_on: bool,
     pub is_silent: bool,
@@ -24,21 +27,7 @@ pub struct Wishes {
     pub telling: Telling,
 }
 
-impl Drop for Wishes {
-    fn drop(self) {
-        let Wishes {
-            state: _,
-            workers: _,
-            goes_on: _,
-            is_silent: _,
-            ignores_statuses: _,
-            makes_all: _,
-            telling: _,
-        } = self;
-    }
-}
-
-impl Wishes {
+impl Wishes<'_> {
     /// How many recipes may run at once.
     pub(crate) fn workers(&self, settings: &Settings) -> usize
         ensures { result ≡ (if settings.now.has_one_worker then 1 else self.now.workers) }
@@ -57,7 +46,7 @@ impl Wishes {
         keeps_state: bool,
         definitions: Vec<Variable>,
     ) -> Result<Conduct, AllocError>
-        ensures state { IfOk result (λ c. (c.keeps_state ≡ keeps_state) × (c.state_name ≡ string_bytes self.now.state)) }
+        ensures state { IfOk result (λ c. (c.keeps_state ≡ keeps_state) × (c.state_name ≡ self.now.reports.now)) }
         ensures records { IfOk result (λ c. c.counts_records ≡ self.now.makes_all || keeps_state) }
         ensures goes_on { IfOk result (λ c. c.goes_on ≡ self.now.goes_on) }
         ensures ignores { IfOk result (λ c. c.ignores_statuses ≡ self.now.ignores_statuses) }
@@ -75,7 +64,7 @@ impl Wishes {
             telling: self.telling,
             definitions,
             makeflags: Makeflags::Removed,
-            state_name: ByteString::from_slice(alloc, self.state.as_bytes())?,
+            state_name: ByteString::from_slice(alloc, self.reports)?,
         })
     }
 }

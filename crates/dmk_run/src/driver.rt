@@ -40,6 +40,8 @@ pub struct Means<'a, E, S, P> {
     pub environment: &'a [Variable],
     /// The absolute path of the pool of job slots that would be served; empty where it can't be told.
     pub pool: &'a [u8],
+    /// The state file's name as recipes find it, in whatever folder they are: their reports stand beside it.
+    pub reports: &'a [u8],
     pub exec: &'a E,
     pub say: &'a S,
     pub place: &'a P,
@@ -50,7 +52,7 @@ fn run_over<R, T, E, O, W, P, K, D>(
     rt: &R,
     alloc: Global,
     means: &Means<'_, E, Printer<'_, R, O, W>, P>,
-    wishes: &Wishes,
+    wishes: &Wishes<'_>,
     keeping: bool,
     goals: Goals,
     tree: &mut T,
@@ -107,7 +109,7 @@ fn run_items<R, T, E, O, W, P, G, K, D>(
     alloc: Global,
     means: &Means<'_, E, Printer<'_, R, O, W>, P>,
     guard: &mut G,
-    wishes: &Wishes,
+    wishes: &Wishes<'_>,
     goals: Goals,
     tree: &mut T,
     banks: &mut K,
@@ -158,7 +160,7 @@ fn run_makefile<R, T, I, E, O, W, P, G, K, D>(
     alloc: Global,
     means: &Means<'_, E, Printer<'_, R, O, W>, P>,
     guard: &mut G,
-    wishes: &Wishes,
+    wishes: &Wishes<'_>,
     makefiles: &Makefiles,
     goals: Goals,
     tree: &mut T,
@@ -322,6 +324,7 @@ where
         goes_on,
         is_silent,
         ignores_statuses,
+        reports: means.reports,
         makes_all,
         telling,
     };

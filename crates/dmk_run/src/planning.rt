@@ -86,7 +86,7 @@ fn to_forget(alloc: Global, all: bool, state: &State) -> Result<Option<State>, A
 /// What the graph is to forget, and how the run over it goes.
 fn prepared(
     alloc: Global,
-    wishes: &Wishes,
+    wishes: &Wishes<'_>,
     keeping: bool,
     definitions: Vec<Variable>,
     state: &State,
@@ -142,7 +142,7 @@ pub(crate) fn planned<R: Wait, T: Tree, O: Write + Drop, W: Write + Drop>(
     key: HashKey,
     environment: &[Variable],
     printer: &Printer<'_, R, O, W>,
-    wishes: &Wishes,
+    wishes: &Wishes<'_>,
     keeping: bool,
     goals: Goals,
     tree: &mut T,
