@@ -14,7 +14,7 @@ use dmk_host::{
 use dmk_run::{Guard, Means, Printer, build_targets, followed, trust_files};
 use dmk_words::{Later, handed_on};
 use jb_flags::{Handed, Handing};
-use jb_host::{HOLDS, HostPlace, Shell};
+use jb_host::{HOLDS, HostPlace, Shell, Stops};
 use jb_recipe::Place;
 use jb_slots::{Banks, FifoBanks};
 use mk_eval::Includes;
@@ -169,13 +169,14 @@ fn make_with<R: Threads + Wait + Sync>(
     let held = OnceLock::new();
     let above = str::from_utf8(value_of(environment, HOLDS.as_bytes())).unwrap_or("");
     let mut guard = StateLock::new(host, lock, above, &held);
-    let shell = Shell::new(host, alloc, &held);
+    let stops = Stops::new(rt, host);
+    let shell = Shell::new(host, alloc, &held, &stops);
     let exec = Handing {
         alloc,
         handed: handed.as_ref(),
         exec: &shell,
     };
-    let place = HostPlace::new(rt, host);
+    let place = HostPlace::new(rt, host, &stops);
     let means = Means {
         key: HashKey::from_system(&host),
         environment,

@@ -6,6 +6,7 @@ use jb_recipe::{News, NotDone, Step};
 use mk_plan::LinePlace;
 use plain_text::Plain;
 use std::alloc::Global;
+use std::fmt::Display;
 use std::io::{self, Write};
 
 pub(crate) struct Streams<O: Write + Drop, E: Write + Drop> {
@@ -85,10 +86,20 @@ fn write_failed<E: Write>(err: &mut E, target: &[u8], status: u32) {
     };
 }
 
-fn write_not_done<E: Write>(err: &mut E, target: &[u8], not_done: &NotDone) {
+fn write_note<E: Write, D: Display>(err: &mut E, target: &[u8], why: &D) {
     let _ = err.write_all(b"dmk: note: target ");
     let _ = err.write_all(target);
-    let _ = writeln!(err, ": {not_done}");
+    let _ = writeln!(err, ": {why}");
+}
+
+fn write_not_done<E: Write>(err: &mut E, target: &[u8], not_done: &NotDone) {
+    match not_done {
+        NotDone::StoppedAndRemoved(stopped) => {
+            write_note(err, target, stopped);
+            write_note(err, target, &NotDone::Removed);
+        }
+        _ => write_note(err, target, not_done),
+    }
 }
 
 fn write_not_recorded<E: Write>(err: &mut E, target: &[u8], long: Option<LinePlace<'_>>) {

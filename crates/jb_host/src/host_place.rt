@@ -2,7 +2,8 @@
 
 use crate::shared_syncs::SharedSyncs;
 use crate::shell::set_text;
-use jb_recipe::{Place, PlaceFault};
+use crate::stops::Stops;
+use jb_recipe::{Place, PlaceFault, Stopped};
 use std::alloc::{AllocError, Global};
 use std::fs::{self, File, Metadata, OpenOptions};
 use std::io::{self, ErrorKind};
@@ -135,13 +136,15 @@ fn sync_all_files(host: HostRuntime) -> io::Result<()> {
 pub struct HostPlace<'a, R: Wait> {
     host: HostRuntime,
     folders: SharedSyncs<'a, R>,
+    stops: &'a Stops<'a, R>,
 }
 
 impl<'a, R: Wait> HostPlace<'a, R> {
-    pub fn new(rt: &'a R, host: HostRuntime) -> HostPlace<'a, R> {
+    pub fn new(rt: &'a R, host: HostRuntime, stops: &'a Stops<'a, R>) -> HostPlace<'a, R> {
         HostPlace {
             host,
             folders: SharedSyncs::new(rt, host.alloc()),
+            stops,
         }
     }
 
@@ -230,6 +233,10 @@ impl<R: Wait> Place for HostPlace<'_, R> {
             Ok(None) => Ok(None),
             Err(error) => Err(fault_of(error)),
         }
+    }
+
+    fn stopped(&self) -> Option<Stopped> {
+        self.stops.take()
     }
 
     // A link is no ordinary file, whatever it leads to.

@@ -7,9 +7,11 @@ mod host_place;
 mod laws;
 mod shared_syncs;
 mod shell;
+mod stops;
 mod surroundings;
 
 pub use dry_shell::{DryShell, Written};
 pub use host_place::{HostPlace, folder_of};
 pub use laws::served_by_later_syncs;
 pub use shell::{HOLDS, HeldLock, Shell};
+pub use stops::Stops;

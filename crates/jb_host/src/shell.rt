@@ -2,15 +2,18 @@
 ghost use Rattle.std.specs.Prelude.{◌≡◌, ◌≤◌, ℕ, [], ◌∷◌, ◌++◌, None, Some, pos, IfOk, OnOk, codes};
 ghost use Rattle.std.specs.Process.{command_program, command_args, exit_code};
 
+use crate::stops::Stops;
 use crate::surroundings::Surroundings;
 use bd_lists::{Clearance, Ended, Exec, ExecFault, Variable};
 use byte_strings::ByteString;
+use jb_recipe::{Signal, Stopped};
 use mk_recipe::Line;
 use std::alloc::{AllocError, Global};
 use std::fs::File;
-use std::io;
+use std::io::{self, ErrorKind};
+use std::os::unix::process::ExitStatusExt;
 use std::process::{Command, Output, Stdio};
-use std::sync::OnceLock;
+use std::sync::{OnceLock, Wait};
 
 /// The lock on a state, as the recipes of the run that keeps it inherit it: who has a handle to the file holds the lock.
 pub struct HeldLock {
@@ -32,33 +35,38 @@ pub const HOLDS: &str = "DMK_HOLDS";
 /// Runs each line as `/bin/sh -c TEXT`, with empty standard input, in dmk's own environment and the recipe's variables. What
 /// it writes is collected. Nothing is claimed of the shell.
 #[derive(Drop)]
-pub struct Shell<'a> {
+pub struct Shell<'a, R: Wait> {
     rt: HostRuntime,
     alloc: Global,
     /// Set, where the run holds a lock, before the first line is run.
     held: &'a OnceLock<HeldLock>,
     /// Read when the first line is run; None where lines inherit dmk's own environment as it is.
     surroundings: OnceLock<Option<Surroundings>>,
+    stops: &'a Stops<'a, R>,
 }
 
 /// A line's command can't be made: memory or a descriptor was refused, or a text isn't UTF-8.
 #[derive(Drop)]
-pub(crate) struct NoCommand;
+pub(crate) struct NoCommand(io::Error);
 
 impl From<AllocError> for NoCommand {
     ghost from_gives = { λ _ _. Unit {0} };
 
-    fn from(_error: AllocError) -> NoCommand {
-        NoCommand
+    fn from(error: AllocError) -> NoCommand {
+        NoCommand(io::Error::from(error))
     }
 }
 
 impl From<io::Error> for NoCommand {
     ghost from_gives = { λ _ _. Unit {0} };
 
-    fn from(_error: io::Error) -> NoCommand {
-        NoCommand
+    fn from(error: io::Error) -> NoCommand {
+        NoCommand(error)
     }
+}
+
+fn not_text() -> io::Error {
+    io::Error::new(ErrorKind::InvalidData, "not text")
 }
 
 fn text_of(bytes: &[u8]) -> Result<&str, NoCommand>
@@ -66,7 +74,7 @@ fn text_of(bytes: &[u8]) -> Result<&str, NoCommand>
 {
     match std::str::from_utf8(bytes) {
         Ok(text) => Ok(text),
-        Err(_) => Err(NoCommand),
+        Err(_) => Err(NoCommand(not_text())),
     }
 }
 
@@ -125,13 +133,19 @@ pub(crate) fn shell_command(
     }
 }
 
-impl<'a> Shell<'a> {
-    pub fn new(rt: HostRuntime, alloc: Global, held: &'a OnceLock<HeldLock>) -> Shell<'a> {
+impl<'a, R: Wait> Shell<'a, R> {
+    pub fn new(
+        rt: HostRuntime,
+        alloc: Global,
+        held: &'a OnceLock<HeldLock>,
+        stops: &'a Stops<'a, R>,
+    ) -> Shell<'a, R> {
         Shell {
             rt,
             alloc,
             held,
             surroundings: OnceLock::new(),
+            stops,
         }
     }
 
@@ -175,6 +189,24 @@ impl<'a> Shell<'a> {
         }
         Ok(())
     }
+
+    // Why a line has no status is noted.
+    fn ended_by(&self, command: &mut Command) -> Result<Ended, ExecFault>
+        ensures { IfOk result (λ ended. ended.status ≤ 256) }
+    {
+        match command.output(&self.rt) {
+            Ok(output) => {
+                if let Some(signal) = output.status.signal() {
+                    self.stops.note(Stopped::By(Signal(signal)));
+                }
+                Ok(ended(output))
+            }
+            Err(error) => {
+                self.stops.note(Stopped::NotStarted(error));
+                Err(ExecFault)
+            }
+        }
+    }
 }
 
 // The status of a process as a state knows it: 256 where a signal ended it.
@@ -205,16 +237,7 @@ fn ended(output: Output) -> Ended
     }
 }
 
-fn ended_by(rt: &HostRuntime, command: &mut Command) -> Result<Ended, ExecFault>
-    ensures { IfOk result (λ ended. ended.status ≤ 256) }
-{
-    match command.output(rt) {
-        Ok(output) => Ok(ended(output)),
-        Err(_) => Err(ExecFault),
-    }
-}
-
-impl<T> Exec<T> for Shell<'_> {
+impl<T, R: Wait> Exec<T> for Shell<'_, R> {
     ghost answers = { λ shell env line answer. Unit {0} };
 
     fn run(
@@ -225,11 +248,14 @@ impl<T> Exec<T> for Shell<'_> {
     ) -> Result<Ended, ExecFault> {
         match self.command(line, env) {
             Ok(mut command) => {
-                let ended = ended_by(&self.rt, &mut command);
+                let ended = self.ended_by(&mut command);
                 drop(command);
                 ended
             }
-            Err(_) => Err(ExecFault),
+            Err(NoCommand(error)) => {
+                self.stops.note(Stopped::NotStarted(error));
+                Err(ExecFault)
+            }
         }
     }
 }

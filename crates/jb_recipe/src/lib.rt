@@ -9,6 +9,7 @@ mod recipe_run;
 mod reporting;
 mod say;
 mod silence;
+mod stopped;
 mod too_long;
 mod variables;
 
@@ -19,5 +20,6 @@ pub use place::{Place, PlaceFault};
 pub use recipe_run::{Ran, run_recipe};
 pub use reporting::{EndNote, Last};
 pub use say::{News, Say, Step};
+pub use stopped::{Signal, Stopped};
 pub use too_long::long_line;
 pub use variables::{Makeflags, environment};

@@ -1,5 +1,6 @@
 //! What there is to say of a target that isn't done.
 
+use crate::Stopped;
 use mk_recipe::ReportFault;
 use st_records::{MAX_HIDDEN_NAMES, MAX_NAME_BYTES, MAX_RECORD_BYTES};
 use std::io;
@@ -27,9 +28,24 @@ pub enum NotDone {
     /// Its recipe failed and had changed its file.
     #[error("its file was removed")]
     Removed,
+    /// A line of its recipe has no status.
+    #[error("{0}")]
+    Stopped(Stopped),
+    #[error("{0}; its file was removed")]
+    StoppedAndRemoved(Stopped),
 }
 
 impl NotDone {
+    /// What became of a target whose recipe failed: why a line of it has no status, if so, and whether its file was removed.
+    pub(crate) fn of_failed(stopped: Option<Stopped>, removed: bool) -> Option<NotDone> {
+        match stopped {
+            Some(stopped) if removed => Some(NotDone::StoppedAndRemoved(stopped)),
+            Some(stopped) => Some(NotDone::Stopped(stopped)),
+            None if removed => Some(NotDone::Removed),
+            None => None,
+        }
+    }
+
     /// What is wrong with a report; None where memory was refused.
     pub(crate) fn of_report(fault: ReportFault) -> Option<NotDone> {
         match fault {

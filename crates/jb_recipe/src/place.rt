@@ -1,5 +1,6 @@
 //! The files of targets, beside what recipes do to them.
 
+use crate::Stopped;
 use std::alloc::{AllocError, Global};
 use std::io;
 use thiserror::Error;
@@ -32,6 +33,9 @@ pub trait Place {
 
     /// The bytes of a report; None where there is no report.
     fn report(&self, alloc: Global, path: &[u8]) -> Result<Option<Vec<u8>>, PlaceFault>;
+
+    /// Why the last line that this worker ran was stopped or not started, where that is known. It is told once.
+    fn stopped(&self) -> Option<Stopped>;
 
     /// When a target's file was last changed, in nanoseconds since 1970; None where there is no ordinary file.
     fn stamp(&self, target: &[u8]) -> Option<i128>;

@@ -20,6 +20,9 @@ use std::io;
 /// The status of a target whose report can't be taken, or whose file can't be put on the disk.
 const NOT_TAKEN: u32 = 256;
 
+/// The status of a recipe a line of which was stopped or not started.
+const STOPPED: u32 = 256;
+
 /// The options that have gcc write what it read into a file of its own: then it writes no report.
 const ELSEWHERE: [&[u8]; 2] = [b"-MD", b"-MMD"];
 
@@ -149,6 +152,7 @@ impl EndNote {
     /// by the time of the file as it was.
     pub fn before_run<P: Place>(&mut self, place: &P) {
         self.left = self.remove_report(place).err();
+        let _of_before = place.stopped();
         if self.removes {
             self.before = place.stamp(self.target.as_slice());
         }
@@ -162,21 +166,29 @@ impl EndNote {
         }
     }
 
-    // Removes the file of a failed recipe's target, where that is to be and the recipe changed it. Says so where it is gone.
-    fn remove_target<P: Place>(&self, place: &P) -> Option<NotDone> {
+    // Removes the file of a failed recipe's target, where that is to be and the recipe changed it. Whether it is gone.
+    fn remove_target<P: Place>(&self, place: &P) -> bool {
         let target = self.target.as_slice();
         if !self.removes {
-            return None;
+            return false;
         }
         let after = place.stamp(target);
         if after.is_none() || after == self.before {
-            return None;
+            return false;
         }
         let _ = place.remove(target);
-        match place.stamp(target) {
-            None => Some(NotDone::Removed),
-            Some(_) => None,
-        }
+        place.stamp(target).is_none()
+    }
+
+    // What there is to say of a recipe that failed with this status.
+    fn failure<P: Place>(&self, place: &P, status: u32) -> Option<NotDone> {
+        let removed = self.remove_target(place);
+        let stopped = if status == STOPPED {
+            place.stopped()
+        } else {
+            None
+        };
+        NotDone::of_failed(stopped, removed)
     }
 
     // The hidden names that the recipe reported, None where there is no report, or why it can't be taken.
@@ -307,7 +319,7 @@ impl EndNote {
     {
         if let Outcome::Failed(status) = outcome {
             let _ = self.remove_report(place);
-            let removed = self.remove_target(place);
+            let removed = self.failure(place, status);
             return Ok(self.into_failed(status, removed));
         }
         match self.hidden_once_synced(alloc, key, place)? {

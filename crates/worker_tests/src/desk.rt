@@ -1,7 +1,7 @@
 //! Empty reports, and targets that can or can't be put on the disk.
 
 use crate::fake::Fake;
-use jb_recipe::{Place, PlaceFault};
+use jb_recipe::{Place, PlaceFault, Stopped};
 use std::alloc::Global;
 use std::io;
 use std::sync::Wait;
@@ -16,6 +16,10 @@ impl<R: Wait + Clock + Copy> Place for Fake<R> {
     fn report(&self, alloc: Global, path: &[u8]) -> Result<Option<Vec<u8>>, PlaceFault> {
         self.say(b"~report ", path);
         Ok(Some(Vec::new(alloc)))
+    }
+
+    fn stopped(&self) -> Option<Stopped> {
+        None
     }
 
     fn stamp(&self, _target: &[u8]) -> Option<i128> {
