@@ -122,6 +122,7 @@ where
             guard,
             &options,
             tree,
+            means.place,
             makefiles,
             disk,
         );
@@ -158,8 +159,8 @@ fn make_with<R: Threads + Wait + Sync>(
 {
     let Outfit {
         folder,
-        pool,
         reports,
+        pool,
         handed,
         lock,
         printer,
@@ -181,9 +182,9 @@ fn make_with<R: Threads + Wait + Sync>(
         key: HashKey::from_system(&host),
         environment,
         pool: pool.as_bytes(),
+        reports: reports.as_bytes(),
         exec: &exec,
         say: &printer,
-        reports: reports.as_bytes(),
         place: &place,
     };
     let mut tree = HostFiles::tree(host);
@@ -227,6 +228,9 @@ pub fn make<R: Threads + Wait + Sync>(
     let base = base_asked(host, &options, environment, &mut makefiles)?;
     let outfit = outfit_of(rt, host, &options, later, environment)?;
     outfit.printer.text(&base);
+    if let Some(reason) = outfit.pool.refused {
+        outfit.printer.not_locked(outfit.pool.as_str(), reason);
+    }
     Ok(make_with(
         rt,
         host,
@@ -234,9 +238,6 @@ pub fn make<R: Threads + Wait + Sync>(
         later.trusts_files,
         environment,
         &mut makefiles,
-    if let Some(reason) = outfit.pool.refused {
-        outfit.printer.not_locked(outfit.pool.as_str(), reason);
-    }
         outfit,
     ))
 }

@@ -64,6 +64,7 @@ TellsNotOpened honest seen _ = ⊥
 abbrev pub IsWhyNotOpened : (honest : Type 0) → (seen left_seen : Which → List ℕ) → (left : Sides) → Stop → Type 0
 IsWhyNotOpened honest seen left_seen left (stops.Before fault) = TellsNotOpened honest seen fault
 IsWhyNotOpened honest seen left_seen left stops.HeldAbove = ⊥
+IsWhyNotOpened honest seen left_seen left (stops.NotOnDisk _) = ⊥
 IsWhyNotOpened honest seen left_seen left (stops.Run fault) =
     TellsNotCompacted (honest → (m : StateMap) × Recovers (seen which.A) (seen which.B) m × StandsInVersion1 left_seen left m) fault
 

@@ -229,6 +229,10 @@ fn found_status<R: Wait, O: Write + Drop, W: Write + Drop>(
             printer.held_above(state);
             2
         }
+        Err(Stop::NotOnDisk(error)) => {
+            printer.not_on_disk(*error);
+            2
+        }
         Err(Stop::Run(fault)) => {
             printer.stop(*fault);
             2
@@ -320,11 +324,11 @@ where
     } = options;
     let wishes = Wishes {
         state,
+        reports: means.reports,
         workers: usize::from(workers),
         goes_on,
         is_silent,
         ignores_statuses,
-        reports: means.reports,
         makes_all,
         telling,
     };

@@ -115,6 +115,16 @@ impl<'a, R: Wait, O: Write + Drop, E: Write + Drop> Printer<'a, R, O, E> {
         let _ = streams.err.flush();
     }
 
+    /// Says that no target is taken, since the file of one can't be put on the disk.
+    pub(crate) fn not_on_disk(&self, error: io::Error) {
+        let mut streams = self.streams.lock(self.rt);
+        let _ = writeln!(
+            streams.err,
+            "dmk: cannot put the files of targets on the disk: {error}"
+        );
+        let _ = streams.err.flush();
+    }
+
     /// One line about the state of this name, behind the program's name.
     fn of_state(&self, before: &str, state: &str, behind: &str) {
         let mut streams = self.streams.lock(self.rt);

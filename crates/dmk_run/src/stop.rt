@@ -3,6 +3,7 @@
 use dmk_drive::Fault;
 use jb_closing::RunFault;
 use std::alloc::AllocError;
+use std::io;
 
 /// Why a run ends with status 2 and no report.
 #[derive(Debug, Drop)]
@@ -11,6 +12,8 @@ pub enum Stop {
     Before(Fault),
     /// A run that called this one, and waits for it, has the state. Nothing was begun.
     HeldAbove,
+    /// The file of a target that was to be taken as it is couldn't be put on the disk. Nothing was recorded.
+    NotOnDisk(io::Error),
     /// The state couldn't be written, or memory or a thread was refused.
     Run(RunFault),
 }

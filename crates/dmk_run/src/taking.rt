@@ -13,8 +13,10 @@ ghost use Rattle.st_records.specs.Parts.{status_of};
 ghost use Rattle.st_records.specs.declared.version.Version.TheVariants.{Two};
 ghost use Rattle.dmk_run.specs.Taken.{done_of, Takes, AreTaken};
 
+use crate::stop::Stop;
 use byte_strings::{ByteString, ByteStrings};
-use jb_recipe::is_writable;
+use dmk_drive::Fault;
+use jb_recipe::{Place, PlaceFault, is_writable};
 use mk_plan::{Passed, RecipeFault, explicit_of, name_of, pass};
 use mk_recipe::{Line, recorded};
 use mk_rules::Graph;
@@ -211,4 +213,29 @@ pub(crate) fn taken(alloc: Global, graph: &Graph) -> Result<Vec<Record>, AllocEr
         add(&mut records, found.note)?;
     }
     Ok(records)
+}
+
+/// Puts the files of these targets on the disk: a power cut takes no data from a target that is recorded as made.
+fn put_on_disk<P: Place>(place: &P, records: &[Record]) -> Result<(), PlaceFault> {
+    for record in records {
+        place.sync(record.target().as_slice())?;
+    }
+    Ok(())
+}
+
+/// The records of the targets that are taken as they are, whose files are on the disk.
+pub(crate) fn taken_on_disk<P: Place>(
+    alloc: Global,
+    graph: &Graph,
+    place: &P,
+) -> Result<Vec<Record>, Stop>
+    requires { list_all (λ n. nat_lt n (length graph.now.nodes.items)) graph.now.order.items ≡ true }
+    ensures { IfOk result (λ records. AreTaken graph.now records.items) }
+{
+    let records = taken(alloc, graph)?;
+    match put_on_disk(place, &records) {
+        Ok(()) => Ok(records),
+        Err(PlaceFault::OutOfMemory) => Err(Stop::Before(Fault::OutOfMemory)),
+        Err(PlaceFault::Device(error)) => Err(Stop::NotOnDisk(error)),
+    }
 }

@@ -21,11 +21,12 @@ use crate::opening::{disk_of_store, open_store};
 use crate::planning::graph_of;
 use crate::printer::Printer;
 use crate::stop::Stop;
-use crate::taking::taken;
+use crate::taking::taken_on_disk;
 use bd_flusher::FlushFault;
 use bd_lists::Variable;
 use dmk_drive::{Options, items_of, keeps_state};
 use jb_closing::RunFault;
+use jb_recipe::Place;
 use mk_eval::Includes;
 use mk_reader::Item;
 use mk_rules::{Graph, Tree};
@@ -49,9 +50,10 @@ pub enum Trusted {
 }
 
 /// Records the targets of a graph that are taken as they are, all of them or none, and answers how many there are.
-fn record_taken<D: Disk + Drop>(
+fn record_taken<P: Place, D: Disk + Drop>(
     alloc: Global,
     graph: &Graph,
+    place: &P,
     store: &mut Store<D>,
 ) -> Result<usize, Stop>
     requires alive { store.old.log.dead ≡ false }
@@ -62,7 +64,7 @@ fn record_taken<D: Disk + Drop>(
     ensures taken { IfOk result (λ count. (steps : List Step) × AreTaken graph.now steps
         × (store.new.state ≡ replay store.old.state steps) × (length steps ≡ count)) }
 {
-    let records = taken(alloc, graph)?;
+    let records = taken_on_disk(alloc, graph, place)?;
     match store.commit(alloc, &records) {
         Ok(()) => Ok(records.len()),
         Err(fault) => Err(Stop::Run(RunFault::Flush(FlushFault::from(fault)))),
@@ -107,11 +109,12 @@ fn graph_asked<T: Tree>(
 }
 
 /// Takes targets as they are over a store in which nothing is known.
-fn trust_over<T: Tree, D: Disk + Drop>(
+fn trust_over<T: Tree, P: Place, D: Disk + Drop>(
     alloc: Global,
     environment: &[Variable],
     options: &Options,
     tree: &mut T,
+    place: &P,
     items: Vec<Item>,
     store: &mut Store<D>,
 ) -> Result<Trusted, Stop>
@@ -131,19 +134,20 @@ fn trust_over<T: Tree, D: Disk + Drop>(
         return Ok(Trusted::Known);
     }
     let graph = graph_asked(alloc, environment, options, tree, items, store.state())?;
-    let taken = record_taken(alloc, &graph, store);
+    let taken = record_taken(alloc, &graph, place, store);
     drop(graph);
     let count = taken?;
     Ok(Trusted::Taken(count))
 }
 
 /// Opens the store of a disk and takes targets as they are over it, where nothing is known in it. The disk comes back.
-fn trust_on<T: Tree, D: Disk + Drop>(
+fn trust_on<T: Tree, P: Place, D: Disk + Drop>(
     alloc: Global,
     key: HashKey,
     environment: &[Variable],
     options: &Options,
     tree: &mut T,
+    place: &P,
     items: Vec<Item>,
     disk: D,
 ) -> (Result<Trusted, Stop>, D)
@@ -160,12 +164,12 @@ fn trust_on<T: Tree, D: Disk + Drop>(
         Ok(store) => store,
         Err((stop, disk)) => return (Err(stop), disk),
     };
-    let found = trust_over(alloc, environment, options, tree, items, &mut store);
+    let found = trust_over(alloc, environment, options, tree, place, items, &mut store);
     (found, disk_of_store(store))
 }
 
 /// Takes targets as they are where a makefile that is read keeps state. The disk comes back.
-fn trust_makefile<R, T, I, O, W, G, D>(
+fn trust_makefile<R, T, I, O, W, P, G, D>(
     alloc: Global,
     key: HashKey,
     environment: &[Variable],
@@ -173,6 +177,7 @@ fn trust_makefile<R, T, I, O, W, G, D>(
     guard: &mut G,
     options: &Options,
     tree: &mut T,
+    place: &P,
     includes: &mut I,
     disk: D,
 ) -> (Result<Trusted, Stop>, D)
@@ -182,6 +187,7 @@ where
     I: Includes,
     O: Write + Drop,
     W: Write + Drop,
+    P: Place,
     G: Guard,
     D: Disk + Drop,
     ensures any_moment { D.honest → (world : World) (times : List ℕ → Option ℤ) → I.allows includes.new world → T.allows tree.new times
@@ -220,15 +226,15 @@ where
         drop(items);
         return (Err(stop), disk);
     }
-    trust_on(alloc, key, environment, options, tree, items, disk)
+    trust_on(alloc, key, environment, options, tree, place, items, disk)
 }
 
 /// Takes the targets as they are that the words name, or the first of the makefile, and what they need: where state is kept and nothing
 /// is known of any target, each that by the times of files alone needn't be made is recorded as made with the commands that its
-/// recipe has now. A run behind it goes by these records. What came of it is said; where a fault ends the run, that, and the status.
+/// recipe has now, once its file is on the disk. A run behind it goes by these records. What came of it is said; where a fault ends the run, that, and the status.
 ///
 /// Faults come in the order of a run's. Other runs over the state are waited for before it is looked at.
-pub fn trust_files<R, T, I, O, W, G, D>(
+pub fn trust_files<R, T, I, O, W, P, G, D>(
     alloc: Global,
     key: HashKey,
     environment: &[Variable],
@@ -236,6 +242,7 @@ pub fn trust_files<R, T, I, O, W, G, D>(
     guard: &mut G,
     options: &Options,
     tree: &mut T,
+    place: &P,
     includes: &mut I,
     disk: D,
 ) -> (Result<Trusted, u8>, D)
@@ -245,6 +252,7 @@ where
     I: Includes,
     O: Write + Drop,
     W: Write + Drop,
+    P: Place,
     G: Guard,
     D: Disk + Drop,
     // Unless a makefile that was read keeps state, the disk is handed back as it came. Else at every moment each pair was possible
@@ -275,6 +283,7 @@ where
         guard,
         options,
         tree,
+        place,
         includes,
         disk,
     );
