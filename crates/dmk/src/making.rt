@@ -228,9 +228,6 @@ pub fn make<R: Threads + Wait + Sync>(
     let base = base_asked(host, &options, environment, &mut makefiles)?;
     let outfit = outfit_of(rt, host, &options, later, environment)?;
     outfit.printer.text(&base);
-    if let Some(reason) = outfit.pool.refused {
-        outfit.printer.not_locked(outfit.pool.as_str(), reason);
-    }
     Ok(make_with(
         rt,
         host,

@@ -41,6 +41,11 @@ fn refused(why: &str) -> io::Error {
     io::Error::new(ErrorKind::InvalidInput, why)
 }
 
+/// Whether an error isn't the system's: something else than a lock file of this user's stands there.
+pub fn is_refusal(error: &io::Error) -> bool {
+    error.kind() == ErrorKind::InvalidInput && error.raw_os_error().is_none()
+}
+
 /// What stands at a path itself, None where nothing does.
 fn found_at(rt: HostRuntime, path: &str) -> io::Result<Option<Metadata>> {
     match fs::symlink_metadata(&rt, path) {

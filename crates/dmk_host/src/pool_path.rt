@@ -1,11 +1,10 @@
 //! The name of the FIFO that dmk serves, which no other run serves meanwhile.
 
-use crate::lock_file::{LockFile, Tried};
+use crate::lock_file::{LockFile, Tried, is_refusal};
 use jb_runner::{Source, source_of};
 use mk_profile::Profile;
 use std::alloc::AllocError;
-use std::io::{self, ErrorKind};
-use std::{env, fs};
+use std::{env, fs, io};
 
 /// How many runs may serve a FIFO of one state's name at once.
 const MAX_NAMES: usize = 99;
@@ -17,8 +16,6 @@ pub struct PoolPath {
     /// Absolute; empty where it can't be told.
     path: String,
     lock: Option<LockFile>,
-    /// Why what stands at the lock file's name is no lock, where the FIFO is served without one for that.
-    pub refused: Option<io::Error>,
 }
 
 /// The state file's name, beside which reports stand: in the wide profile its absolute path, since recipes change their folder. What
@@ -54,14 +51,6 @@ fn usual_path(rt: HostRuntime, state: &str) -> Result<String, AllocError> {
     Ok(path)
 }
 
-// Why a lock was refused, where that isn't for the system: somebody has put something there.
-fn told_refusal(error: io::Error) -> Option<io::Error> {
-    match error.kind() {
-        ErrorKind::InvalidInput => Some(error),
-        _ => None,
-    }
-}
-
 fn lock_path(rt: HostRuntime, path: &str) -> Result<String, AllocError> {
     format!(in rt.alloc(); "{path}.lock")
 }
@@ -82,17 +71,17 @@ fn try_lock(rt: HostRuntime, path: &str) -> io::Result<Option<LockFile>> {
 }
 
 impl PoolPath {
-    fn without_lock(rt: HostRuntime, path: String, refused: Option<io::Error>) -> PoolPath {
+    fn without_lock(rt: HostRuntime, path: String) -> PoolPath {
         PoolPath {
             rt,
             path,
             lock: None,
-            refused,
         }
     }
 
-    /// The state file's name with `.fifo`, or, where another run serves that, with a number behind it. Nothing is locked where by
-    /// MAKEFLAGS no pool will be served, nor where there are no locks to be had.
+    /// The state file's name with `.fifo`, or, where another run serves that, with a number behind it, and so where something else than
+    /// a lock file of this user's stands. Nothing is locked where by MAKEFLAGS no pool will be served, nor where there are no locks to
+    /// be had.
     pub fn new(
         rt: HostRuntime,
         state: &str,
@@ -101,7 +90,7 @@ impl PoolPath {
     ) -> Result<PoolPath, AllocError> {
         let usual = usual_path(rt, state)?;
         if source_of(makeflags, workers) != Source::Server || usual.is_empty() {
-            return Ok(PoolPath::without_lock(rt, usual, None));
+            return Ok(PoolPath::without_lock(rt, usual));
         }
         for number in 1..=MAX_NAMES {
             let path = if number == 1 {
@@ -112,25 +101,12 @@ impl PoolPath {
             let locked = lock_path(rt, path.as_str())?;
             match try_lock(rt, locked.as_str()) {
                 Ok(None) => {}
-                Ok(lock) => {
-                    return Ok(PoolPath {
-                        rt,
-                        path,
-                        lock,
-                        refused: None,
-                    });
-                }
-                Err(error) => {
-                    let refused = told_refusal(error);
-                    return Ok(PoolPath::without_lock(rt, usual, refused));
-                }
+                Ok(lock) => return Ok(PoolPath { rt, path, lock }),
+                Err(error) if is_refusal(&error) => {}
+                Err(_) => return Ok(PoolPath::without_lock(rt, usual)),
             }
         }
-        Ok(PoolPath::without_lock(rt, String::new(rt.alloc()), None))
-    }
-
-    pub fn as_str(&self) -> &str {
-        self.path.as_str()
+        Ok(PoolPath::without_lock(rt, String::new(rt.alloc())))
     }
 
     pub fn as_bytes(&self) -> &[u8] {
@@ -139,12 +115,7 @@ impl PoolPath {
 
     /// Lets the name go.
     pub fn release(self) {
-        let PoolPath {
-            rt,
-            path,
-            lock,
-            refused: _,
-        } = self;
+        let PoolPath { rt, path, lock } = self;
         if lock.is_some() {
             if let Ok(locked) = lock_path(rt, path.as_str()) {
                 let _ = fs::remove_file(&rt, locked.as_str());
