@@ -11,8 +11,10 @@ use clap::error::ErrorKind;
 use dmk_drive::{Makefiles, Mode, Options, Telling, value_of};
 use jb_flags::PROFILE;
 use mk_profile::Profile;
+use plain_text::Plain;
 use std::alloc::{AllocError, Global};
 use std::env;
+use std::io::Write;
 
 /// The words of the command line, each -j without a number with that of the processors.
 fn given_words(rt: HostRuntime, processors: &str) -> Result<Vec<String>, WordsFault> {
@@ -162,11 +164,11 @@ fn say(rt: HostRuntime, answer: clap::Error) -> Result<Request, WordsFault> {
     if answer.kind() == ErrorKind::OutOfMemory {
         return Err(WordsFault::OutOfMemory);
     }
-    let printed = answer.print(&rt);
     if answer.use_stderr() {
+        let _ = write!(Plain::over(&mut rt.stderr()), "{answer}");
         return Ok(Request::Leave(2));
     }
-    match printed {
+    match answer.print(&rt) {
         Ok(()) => Ok(Request::Leave(0)),
         Err(_) => Err(WordsFault::Write),
     }
