@@ -32,6 +32,7 @@ INNER = {
     "an earlier device fault",
     "generations spent",
     "cannot look",
+    "{0}; its file was removed",
 }
 
 
