@@ -14,7 +14,7 @@ use dmk_host::{
 use dmk_run::{Guard, Means, Printer, build_targets, followed, trust_files};
 use dmk_words::{Later, handed_on};
 use jb_flags::{Handed, Handing};
-use jb_host::{HOLDS, HostPlace, Shell, Stops};
+use jb_host::{HOLDS, HeldLock, HostPlace, Shell, Stops};
 use jb_recipe::Place;
 use jb_slots::{Banks, FifoBanks};
 use mk_eval::Includes;
@@ -146,14 +146,17 @@ where
 }
 
 /// Makes the targets with what was found, lets that go, and answers the status. What the system said of files is told at the end.
-fn make_with<R: Threads + Wait + Sync>(
-    rt: &R,
+/// Lines inherit the lock in `held`, and note in `stops` why they have no status.
+fn make_with<'a, R: Threads + Wait + Sync>(
+    rt: &'a R,
     host: HostRuntime,
     options: Options,
     trusts_files: bool,
     environment: &[Variable],
     makefiles: &mut FileTexts<HostFiles<'_>>,
     outfit: Outfit<'_, R>,
+    held: &'a OnceLock<HeldLock>,
+    stops: &'a Stops<'a, R>,
 ) -> u8
     requires { AsksToRun options (value_in environment.now (codes "MAKEFLAGS")) }
 {
@@ -167,17 +170,15 @@ fn make_with<R: Threads + Wait + Sync>(
     } = outfit;
     let alloc = host.alloc();
     let is_usual = needs_usual_makefile(&options);
-    let held = OnceLock::new();
     let above = str::from_utf8(value_of(environment, HOLDS.as_bytes())).unwrap_or("");
-    let mut guard = StateLock::new(host, lock, above, &held);
-    let stops = Stops::new(rt, host);
-    let shell = Shell::new(host, alloc, &held, &stops);
+    let mut guard = StateLock::new(host, lock, above, held);
+    let shell = Shell::new(host, alloc, held, stops);
     let exec = Handing {
         alloc,
         handed: handed.as_ref(),
         exec: &shell,
     };
-    let place = HostPlace::new(rt, host, &stops);
+    let place = HostPlace::new(rt, host, stops);
     let means = Means {
         key: HashKey::from_system(&host),
         environment,
@@ -228,6 +229,8 @@ pub fn make<R: Threads + Wait + Sync>(
     let base = base_asked(host, &options, environment, &mut makefiles)?;
     let outfit = outfit_of(rt, host, &options, later, environment)?;
     outfit.printer.text(&base);
+    let held = OnceLock::new();
+    let stops = Stops::new(rt, host);
     Ok(make_with(
         rt,
         host,
@@ -236,5 +239,7 @@ pub fn make<R: Threads + Wait + Sync>(
         environment,
         &mut makefiles,
         outfit,
+        &held,
+        &stops,
     ))
 }
