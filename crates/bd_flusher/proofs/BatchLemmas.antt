@@ -18,10 +18,6 @@ IsInBatch-push from (e ∷ ends) n ticket (suc batch) later = IsInBatch-push e e
 
 -- ---- where a ticket of a batch lies
 
-pub at_least : (from : ℕ) (ends : List ℕ) → AreIncreasing from ends → from ≤ last_of from ends
-at_least from [] increasing = omega arith
-at_least from (e ∷ ends) increasing = omega (arith, increasing.0, at_least e ends increasing.1)
-
 pub batch_from : (from : ℕ) (ends : List ℕ) (ticket batch : ℕ) → AreIncreasing from ends → IsInBatch from ends ticket batch → from ≤ ticket
 batch_from from [] ticket batch increasing none = absurd none
 batch_from from (e ∷ ends) ticket zero increasing here = here.0

@@ -47,8 +47,3 @@ then_behind x y {side} {side'} {v} {v'} {g} {g'} end later batch sides vs gs by 
 -- the same bytes, up to the same place
 pub up_to : {x : List ℕ} {v : Version} {g end end' : ℕ} {held : List Record} → end ≡ end' → HoldsUpTo x v g held end' → HoldsUpTo x v g held end
 up_to {x} {v} {g} {end} {end'} {held} ends holds = subst (λ (n : ℕ). HoldsUpTo x v g held n) (sym ends) holds
-
-pub still_holds : {D : Type 0} (seen : D → Which → List ℕ) {disk disk' : D} {side : Which} {v : Version} {g end end' : ℕ} {held : List Record} → disk ≡ disk' → end ≡ end'
-    → HoldsUpTo (seen disk' side) v g held end' → HoldsUpTo (seen disk side) v g held end
-still_holds {D} seen {disk} {disk'} {side} {v} {g} {end} {end'} {held} disks ends holds =
-    subst (λ (d : D). HoldsUpTo (seen d side) v g held end) (sym disks) (up_to ends holds)

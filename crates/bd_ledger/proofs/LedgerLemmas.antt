@@ -1,5 +1,5 @@
 -- What the moves of a board keep of its tables.
-use Rattle.std.proofs.Common.{◌≡◌, ◌≢◌, ℕ, ◌+◌, ◌<◌, ◌≤◌, zero, suc, replicate, Bool, true, false, nat_eq, List, [], ◌∷◌, ◌++◌, length, filter, sum_by, set, get_or, refl, sym, ap, ◌∙◌, subst, arith, true≢false, get_or-set_same, get_or-set_other, Some, eq-eqb, ◌||◌, append-nil, length-append, length-set, vec_capacity}
+use Rattle.std.proofs.Common.{◌≡◌, ◌≢◌, ℕ, ◌+◌, ◌<◌, ◌≤◌, Bool, true, false, nat_eq, List, [], ◌∷◌, ◌++◌, length, filter, sum_by, set, get_or, refl, sym, ap, ◌∙◌, subst, arith, true≢false, get_or-set_same, get_or-set_other, Some, eq-eqb, ◌||◌, append-nil, length-append, length-set, vec_capacity}
 use Rattle.std.proofs.lemmas.List.Sums.{sum_by-cons, sum_by-set}
 use Rattle.mk_graph.specs.Edges.{has, times}
 use Rattle.st_records.specs.Parts.{target_of}
@@ -206,7 +206,3 @@ module _ (a : Inside) (is : IsLedger a) (standing : IsStanding a.places.prerequi
   }
 
 -- ---- at first
-
-pub nothing_counted : (n : ℕ) → sum_by sent_count (replicate n sent.Nothing) ≡ 0
-nothing_counted zero = refl
-nothing_counted (suc n) = let rest = nothing_counted n in sum_by-cons sent_count sent.Nothing (replicate n sent.Nothing) ∙ omega arith

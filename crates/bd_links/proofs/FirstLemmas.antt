@@ -27,9 +27,6 @@ next_outside : (nodes p : ℕ) → nodes < p → next_at_first nodes p ≡ p
 next_outside nodes p h =
     ap (λ a. cond a (p + 1) (cond (nat_eq p nodes) 0 p)) (le-ltb p nodes (omega arith)) ∙ ap (λ a. cond a 0 p) (ne_eqb p nodes (λ e. absurd (omega arith)))
 
-prev_at_start : (nodes : ℕ) → prev_at_first nodes 0 ≡ nodes
-prev_at_start nodes = refl
-
 prev_inside : (nodes p : ℕ) → 0 < p → p ≤ nodes → prev_at_first nodes p ≡ p - 1
 prev_inside nodes p pos le =
     ap (λ a. cond a nodes (cond (nat_le p nodes) (p - 1) p)) (ne_eqb p 0 (λ e. absurd (omega arith))) ∙ ap (λ a. cond a (p - 1) p) (le-leb p nodes le)

@@ -138,12 +138,6 @@ module _ (may : ℕ → Bool) (nodes i : ℕ) (h : i < nodes) where
 pub split_none : (may : ℕ → Bool) (nodes : ℕ) → all_waiting nodes ≡ split_so_far may nodes 0
 split_none may nodes = ap (λ k. record (all_waiting 0) { waiting = range_with_len 0 k }) (let e : nodes ≡ nodes - 0 = omega arith in e)
 
-pub split_all : (may : ℕ → Bool) (nodes i : ℕ) → i ≡ nodes → split_so_far may nodes i ≡ split_by may nodes
-split_all may nodes i e =
-    ap (split_so_far may nodes) e
-    ∙ ap (λ k. record (split_by may nodes) { waiting = filter (λ n. not (may n)) (range_with_len 0 nodes) ++ range_with_len nodes k }) (let z : nodes - nodes ≡ 0 = omega arith in z)
-    ∙ ap (λ xs. record (split_by may nodes) { waiting = xs }) (append-nil (filter (λ n. not (may n)) (range_with_len 0 nodes)))
-
 -- one more node
 module _ (may : ℕ → Bool) (nodes i : ℕ) (h : i < nodes) (first before after : Linked)
     (so_far : before ≡ record first { lists = split_so_far may nodes i }) where

@@ -20,10 +20,6 @@ begun_is_no_end : IsEnd kinds.begun → ⊥
 begun_is_no_end (inl e) = cc
 begun_is_no_end (inr e) = cc
 
-kept_is_no_end : IsEnd kinds.kept → ⊥
-kept_is_no_end (inl e) = cc
-kept_is_no_end (inr e) = cc
-
 -- no kept records; and of two records of one target the earlier is a 'begun', and the later an end
 pub record IsHistory (notes : List Record) : Type 0 where
   pub none_kept : (k : ℕ) (note : Record) → StandsAt notes k note → kind_of note ≡ kinds.kept → ⊥

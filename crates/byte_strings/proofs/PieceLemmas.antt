@@ -40,11 +40,6 @@ pub length-pieces : (text : List ℕ) (start : ℕ) (ends : List ℕ) → length
 length-pieces text start [] = refl
 length-pieces text start (end ∷ ends) = ap suc (length-pieces text end ends)
 
--- no ends, no strings
-pub pieces-none : (text : List ℕ) (start : ℕ) (ends : List ℕ) → length ends ≡ 0 → pieces text start ends ≡ []
-pieces-none text start [] e = refl
-pieces-none text start (end ∷ ends) e = absurd (omega arith)
-
 -- the string of this number, where there is one
 pub pieces-get : (text : List ℕ) (start : ℕ) (ends : List ℕ) (i : ℕ) → i < length ends → slice_get (pieces text start ends) i ≡ Some (slice_range text (get_or (start ∷ ends) i 0) (get_or ends i 0))
 pieces-get text start [] i h = absurd (omega arith)

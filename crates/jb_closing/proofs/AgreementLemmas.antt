@@ -1,5 +1,5 @@
 -- Receipts taken in one by one, and what their marks come to.
-use Rattle.std.proofs.Common.{◌≡◌, ◌≢◌, ◌⊎◌, ℕ, zero, suc, ◌<◌, ◌≤◌, Bool, true, false, cond, nat_eq, List, [], ◌∷◌, ◌++◌, length, map, filter, set, length-set, Option, Some, None, slice_get, IfSome, MatchOption, replicate, get_or, position, refl, sym, ap, subst, ◌∙◌, ⊎_elim, arith, eq-eqb, ne_eqb, lt-ltb}
+use Rattle.std.proofs.Common.{◌≡◌, ◌≢◌, ◌⊎◌, ℕ, zero, suc, ◌<◌, ◌≤◌, Bool, true, false, cond, nat_eq, List, [], ◌∷◌, ◌++◌, length, map, filter, set, length-set, Option, Some, None, slice_get, MatchOption, replicate, get_or, position, refl, sym, ap, subst, ◌∙◌, ⊎_elim, arith, eq-eqb, ne_eqb, lt-ltb}
 use Rattle.std.proofs.lemmas.Bool.{cases_eq, cases_lt}
 use Rattle.std.specs.List.{position_or_len}
 use Rattle.std.proofs.lemmas.List.Quantifiers.{position-Some}
@@ -53,10 +53,6 @@ right_more told note = λ more same. cc
 
 pub other_first : (told note : Record) → note ≢ told → IsWrong told (note ∷ [])
 other_first told note apart = λ more same. absurd (apart (same_Some note told (ap (λ xs. slice_get xs 0) same)))
-
-pub some_noted : (noted : List Record) (note : Record) → noted ++ note ∷ [] ≡ [] → ⊥
-some_noted [] note same = cc
-some_noted (x ∷ noted) note same = cc
 
 -- the first receipt decides where none was before
 pub missing_then : (mark m : Mark) (told note : Record) (noted : List Record) → mark ≡ Missing → IsMark m told (note ∷ [])
@@ -205,65 +201,6 @@ marks-beyond told receipts receipt marks are beyond = record {
       subst (λ xs. IsMark m note xs) (sym (noted-other receipts receipt ticket (λ e. omega (arith, e, beyond, slice_get_within told ticket note there))))
       (are.mark ticket note m there has);
 }
-
--- one more receipt below the limit: the least ticket beyond stays
-pub beyond-below : (limit : ℕ) (receipts : List Receipt) (receipt : Receipt) (found : Option ℕ) → receipt.ticket < limit
-    → IsLeastBeyond limit receipts found → IsLeastBeyond limit (receipts ++ receipt ∷ []) found
-beyond-below limit receipts receipt None below none = λ ticket past.
-    noted-other receipts receipt ticket (λ e. omega (arith, e, below, past)) ∙ none ticket past
-beyond-below limit receipts receipt (Some least) below found = (
-  found.0,
-  (λ empty. found.1 (sym (noted-other receipts receipt least (λ e. omega (arith, e, below, found.0))) ∙ empty)),
-  (λ ticket past before. noted-other receipts receipt ticket (λ e. omega (arith, e, below, past)) ∙ found.2 ticket past before),
-)
-
--- the first receipt beyond has the least ticket beyond
-pub beyond-first : (limit : ℕ) (receipts : List Receipt) (receipt : Receipt) → limit ≤ receipt.ticket
-    → IsLeastBeyond limit receipts None → IsLeastBeyond limit (receipts ++ receipt ∷ []) (Some receipt.ticket)
-beyond-first limit receipts receipt past none = (
-  past,
-  (λ empty. some_noted (noted_at receipts receipt.ticket) receipt.noted (sym (noted-own receipts receipt) ∙ empty)),
-  (λ ticket from before. noted-other receipts receipt ticket (λ e. omega (arith, e, before)) ∙ none ticket from),
-)
-
-more_noted : (xs ys : List Record) → (xs ≡ [] → ⊥) → xs ++ ys ≡ [] → ⊥
-more_noted [] ys some same = some refl
-more_noted (x ∷ xs) ys some same = cc
-
--- a further receipt beyond: the least ticket is the lesser of both
-pub beyond-more : (limit : ℕ) (receipts : List Receipt) (receipt : Receipt) (before least : ℕ) → limit ≤ receipt.ticket
-    → IsLeastBeyond limit receipts (Some before) → least ≤ receipt.ticket → least ≤ before
-    → (least ≡ before) ⊎ (least ≡ receipt.ticket) → IsLeastBeyond limit (receipts ++ receipt ∷ []) (Some least)
-beyond-more limit receipts receipt before least past found no_later no_later_than which = (
-  ⊎_elim (λ e. omega (arith, e, found.0)) (λ e. omega (arith, e, past)) which,
-  some_here,
-  (λ ticket from earlier.
-      noted-other receipts receipt ticket (λ e. omega (arith, e, earlier, no_later))
-      ∙ found.2 ticket from (omega (arith, earlier, no_later_than))),
-)
-  where
-    old_one : noted_at (receipts ++ receipt ∷ []) before ≡ [] → ⊥
-    old_one empty =
-        more_noted (noted_at receipts before) (cond (nat_eq receipt.ticket before) (receipt.noted ∷ []) []) found.1
-        (sym (noted-push receipts receipt before) ∙ empty)
-
-    new_one : noted_at (receipts ++ receipt ∷ []) receipt.ticket ≡ [] → ⊥
-    new_one empty = some_noted (noted_at receipts receipt.ticket) receipt.noted (sym (noted-own receipts receipt) ∙ empty)
-
-    some_here : noted_at (receipts ++ receipt ∷ []) least ≡ [] → ⊥
-    some_here empty = ⊎_elim
-        (λ e. old_one (ap (noted_at (receipts ++ receipt ∷ [])) (sym e) ∙ empty))
-        (λ e. new_one (ap (noted_at (receipts ++ receipt ∷ [])) (sym e) ∙ empty)) which
-
--- either way the least one is kept
-pub beyond-push : (limit : ℕ) (receipts : List Receipt) (receipt : Receipt) (before : Option ℕ) (least : ℕ) → limit ≤ receipt.ticket
-    → least ≤ receipt.ticket → IfSome before (λ b. least ≤ b)
-    → MatchOption before (least ≡ receipt.ticket) (λ b. (least ≡ b) ⊎ (least ≡ receipt.ticket))
-    → IsLeastBeyond limit receipts before → IsLeastBeyond limit (receipts ++ receipt ∷ []) (Some least)
-beyond-push limit receipts receipt None least past within kept one none =
-    subst (λ (n : ℕ). IsLeastBeyond limit (receipts ++ receipt ∷ []) (Some n)) (sym one) (beyond-first limit receipts receipt past none)
-beyond-push limit receipts receipt (Some before) least past within kept one found =
-    beyond-more limit receipts receipt before least past found within kept one
 
 -- the mark of a told record is set to what it is behind one receipt more
 pub marks-set : (told : List Record) (receipts : List Receipt) (receipt : Receipt) (marks : List Mark) (old m : Mark) (note noted : Record)

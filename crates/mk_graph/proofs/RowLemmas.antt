@@ -2,7 +2,7 @@
 use Rattle.std.proofs.Common.{◌≡◌, ◌≢◌, ℕ, ◌+◌, ◌-◌, ◌*◌, ◌<◌, ◌≤◌, Bool, true, false, cond, ◌&&◌, ◌||◌, nat_eq, nat_lt, nat_le, List, [], ◌∷◌, ◌++◌, length, get_or, take, map, replicate, append_assoc, append-nil, refl, sym, ap, ◌∙◌, subst, ⊎_elim, arith, suc, zero, eq-eqb, ne_eqb, eqb-true, ltb-true, lt-ltb, leb-true, le-leb, true≢false}
 use Rattle.std.proofs.lemmas.Bool.{cases_eq, cases_lt, and_parts}
 use Rattle.std.proofs.lemmas.List.{get_or_past, get_or-take, length-take-le}
-use Rattle.std.proofs.lemmas.List.Sums.{sum_by-cons, sum_by_more, sum_by_push, sum_by-take-le, sum_by-append}
+use Rattle.std.proofs.lemmas.List.Sums.{sum_by-cons, sum_by_more, sum_by-take-le, sum_by-append}
 use Rattle.std.proofs.lemmas.List.Folds.{list_any-append, list_any_more, list_all-append, sum_by-replicate}
 use Rattle.std.proofs.lemmas.List.Sorted.{IsNonDecreasingBy-short, IsNonDecreasingBy-push}
 use Rattle.std.specs.List.Sorted.{IsNonDecreasing}
@@ -11,9 +11,6 @@ use Rattle.mk_graph.specs.Edges.{row, has, times}
 
 pub times-cons : (n x : ℕ) (xs : List ℕ) → times n (x ∷ xs) ≡ cond (nat_eq n x) 1 0 + times n xs
 times-cons n x xs = sum_by-cons (λ y. cond (nat_eq n y) 1 0) x xs
-
-pub times-push : (n : ℕ) (xs : List ℕ) (x : ℕ) → times n (xs ++ x ∷ []) ≡ times n xs + cond (nat_eq n x) 1 0
-times-push n xs x = sum_by_push (λ y. cond (nat_eq n y) 1 0) xs x
 
 pub times-more : (n : ℕ) (xs : List ℕ) (i : ℕ) → i < length xs → times n (take (i + 1) xs) ≡ times n (take i xs) + cond (nat_eq n (get_or xs i 0)) 1 0
 times-more n xs i h = sum_by_more (λ y. cond (nat_eq n y) 1 0) xs i 0 h

@@ -16,13 +16,6 @@ pub length-ends_from : (start : ℕ) (ns : List ℕ) → length (ends_from start
 length-ends_from start [] = refl
 length-ends_from start (n ∷ ns) = ap suc (length-ends_from (start + n) ns)
 
-pub ends_from-push : (start : ℕ) (ns : List ℕ) (n : ℕ) → ends_from start (ns ++ n ∷ []) ≡ ends_from start ns ++ (start + sum ns + n) ∷ []
-ends_from-push start [] n = ap (λ k. (k + n) ∷ []) (omega arith)
-ends_from-push start (m ∷ ns) n =
-    let s = sum_by-cons (λ x. x) m ns in
-    let e : start + m + sum ns ≡ start + sum (m ∷ ns) = omega arith in
-    ap (λ l. (start + m) ∷ l) (ends_from-push (start + m) ns n ∙ ap (λ k. ends_from (start + m) ns ++ (k + n) ∷ []) e)
-
 pub are_ends : (start size : ℕ) (ns : List ℕ) → size ≡ start + sum ns → AreEnds size start (ends_from start ns)
 are_ends start size [] e = omega arith
 are_ends start size (n ∷ ns) e = let s = sum_by-cons (λ x. x) n ns in (omega arith, are_ends (start + n) size ns (omega arith))

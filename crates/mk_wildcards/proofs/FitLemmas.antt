@@ -66,12 +66,6 @@ single_later e more (c ∷ cs) h t = at (single_later e more cs h) (or_either (f
 
 -- A `*`
 
-pub run_fits : (e : Element) (more : List Element) (xs : List ℕ) → is_run e ≡ true → fits (e ∷ more) xs ≡ some_end (fits more) xs
-run_fits (Byte c) more xs h = absurd (cc h)
-run_fits AnyByte more xs h = absurd (cc h)
-run_fits (OneOf found) more xs h = absurd (cc h)
-run_fits AnyRun more xs h = refl
-
 pub run_later : (e : Element) (more : List Element) (xs : List ℕ) → is_run e ≡ true → some_end (fits (e ∷ more)) (drop 1 xs) ≡ true → some_end (fits more) xs ≡ true
 run_later (Byte c) more xs h t = absurd (cc h)
 run_later AnyByte more xs h t = absurd (cc h)
@@ -90,8 +84,3 @@ pub first_is : (s : Place) (elements : List Element) (b : ℕ) (bs : List ℕ) �
 first_is Ends elements b bs e later h = sym (or_left (fits elements (b ∷ bs)) (some_end (fits elements) bs) (sym e))
 first_is Fails elements b bs e later h = absurd (cc h)
 first_is (Run more rest) elements b bs e later h = absorbed (left (Run more rest)) (fits elements (b ∷ bs)) (some_end (fits elements) bs) e later
-
-pub failed_left : (s : Place) → has_failed s ≡ true → left s ≡ false
-failed_left Ends h = absurd (cc h)
-failed_left Fails h = refl
-failed_left (Run more rest) h = absurd (cc h)

@@ -1,5 +1,5 @@
 -- Members of brackets, one by one.
-use Rattle.std.proofs.Common.{◌≡◌, ℕ, ◌≤◌, Bool, true, false, cond, ◌||◌, ◌&&◌, ◌==◌, nat_le, List, [], ◌∷◌, length, drop, Option, Some, None, refl, sym, ap, ◌∙◌, arith}
+use Rattle.std.proofs.Common.{◌≡◌, ℕ, Bool, true, false, cond, ◌||◌, ◌&&◌, ◌==◌, nat_le, List, [], ◌∷◌, drop, Option, Some, None, refl, sym, ap, ◌∙◌}
 use Rattle.std.proofs.lemmas.Bool.Decides.{Decides-eqb}
 use Rattle.mk_wildcards.specs.Pattern.{range_behind, is_member}
 
@@ -31,11 +31,6 @@ range_member low b high (sign ∷ top ∷ more) h = at (sign == 45) refl
         ap (λ t. cond t ((nat_le low b && nat_le b top) || is_member more b) ((low == b) || is_member (sign ∷ top ∷ more) b)) e
         ∙ ap (λ n. (nat_le low b && nat_le b (some_value n)) || is_member more b) some
     at false e = let none : None ≡ Some high = sym (ap (λ t. cond t (Some top) None) e) ∙ h in absurd (cc none)
-
-pub range_long : (high : ℕ) (behind : List ℕ) → range_behind behind ≡ Some high → 2 ≤ length behind
-range_long high [] h = absurd (cc h)
-range_long high (other ∷ []) h = absurd (cc h)
-range_long high (sign ∷ top ∷ more) h = omega arith
 
 differs_by : (x y : ℕ) → (x ≡ y → ⊥) → (t : Bool) → (x == y) ≡ t → (x == y) ≡ false
 differs_by x y h true e = absurd (h ((Decides-eqb x y).0 e))

@@ -1,5 +1,5 @@
 -- Names put in order, one by one.
-use Rattle.std.proofs.Common.{◌≡◌, ℕ, true, false, cond, List, [], ◌∷◌, map, filter, refl, sym, ap, ◌∙◌, Vec}
+use Rattle.std.proofs.Common.{◌≡◌, ℕ, true, cond, List, [], ◌∷◌, map, filter, refl, sym, ap, ◌∙◌, Vec}
 use Rattle.std.specs.declared.alloc.Global.{Global}
 use Rattle.std.specs.declared.cmp.Ordering.{Ordering}
 use Rattle.std.specs.declared.cmp.Ordering.TheVariants.{Less, Equal, Greater}
@@ -33,9 +33,3 @@ word_ordered ks new k name left more all at word is e gathered =
     ap (λ ys. ordered_behind ys (filter is_word more)) (ap (map bytes_of) e ∙ bytes_inserted ks k ∙ ap (insert_key (slice_cmp nat_cmp) (map bytes_of ks)) is)
     ∙ ap (λ t. ordered_behind (map bytes_of ks) (cond t (name ∷ filter is_word more) (filter is_word more))) (sym word)
     ∙ ap (λ ns. ordered_behind (map bytes_of ks) (filter is_word ns)) (sym at) ∙ gathered
-
-pub other_ordered : (ks : List (List ℕ)) (name : List ℕ) (left more all : List (List ℕ)) → left ≡ name ∷ more → is_word name ≡ false →
-    ordered_behind ks (filter is_word left) ≡ all → ordered_behind ks (filter is_word more) ≡ all
-other_ordered ks name left more all at none gathered =
-    ap (λ t. ordered_behind ks (cond t (name ∷ filter is_word more) (filter is_word more))) (sym none)
-    ∙ ap (λ ns. ordered_behind ks (filter is_word ns)) (sym at) ∙ gathered

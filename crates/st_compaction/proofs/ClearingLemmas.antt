@@ -92,13 +92,6 @@ ready_closed s s1 writes e on_disk =
     let one : s1 ≡ 0 ∷ drop 1 s = e in
     record { on_disk = on_disk; within = omega (arith, ap length one); closed = ap (λ (y : List ℕ). get_or y 0 0) one }
 
-pub ready_as_it_was : (s s1 : List ℕ) (writes writes1 : UnsyncedWrites) → HasClosedGate s → writes ≡ settled s → s1 ≡ s → writes1 ≡ writes → IsReady s1 writes1 0
-ready_as_it_was s s1 writes writes1 closed on_disk same_bytes same_writes = record {
-  on_disk = same_writes ∙ on_disk ∙ ap settled (sym same_bytes);
-  within = omega (arith, closed.0, ap length same_bytes);
-  closed = ap (λ (y : List ℕ). get_or y 0 0) same_bytes ∙ closed.1;
-}
-
 -- ---- the cut behind it
 
 pub void_ready : {s : List ℕ} {writes : UnsyncedWrites} → IsReady s writes 0 → (x : List ℕ) → IsCrashImage writes x → IsVoid x
@@ -119,10 +112,6 @@ gate_left {side} {m0} {m} {m1} {s} ready same may =
 
 pub retired_cut : (s s1 : List ℕ) (writes : UnsyncedWrites) → s1 ≡ take 1 s → writes ≡ settled s1 → IsRetired s1 writes
 retired_cut s s1 writes e on_disk = record { on_disk = on_disk; bare = omega (arith, ap length e, length-take 1 s) }
-
-pub retired_as_it_was : (s s1 : List ℕ) (writes writes1 : UnsyncedWrites) → length s ≤ 1 → writes ≡ settled s → s1 ≡ s → writes1 ≡ writes → IsRetired s1 writes1
-retired_as_it_was s s1 writes writes1 short on_disk same_bytes same_writes =
-    record { on_disk = same_writes ∙ on_disk ∙ ap settled (sym same_bytes); bare = omega (arith, short, ap length same_bytes) }
 
 -- ---- the text behind it
 

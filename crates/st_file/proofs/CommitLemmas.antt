@@ -1,5 +1,5 @@
 -- What a commit leaves on its side, in the words of its clauses.
-use Rattle.std.proofs.Common.{◌≡◌, ◌↔◌, ℕ, ◌+◌, ◌≤◌, ◌^◌, false, Result, Ok, Err, IsErrOf, List, [], ◌∷◌, ◌++◌, length, take, sym, ap, subst, ◌∙◌, arith, inl, inr}
+use Rattle.std.proofs.Common.{◌≡◌, ◌↔◌, ℕ, ◌+◌, false, Result, Err, IsErrOf, List, [], ◌∷◌, ◌++◌, length, take, sym, ap, subst, ◌∙◌, inl, inr}
 use Rattle.std.proofs.lemmas.List.{append-nil, nil_from_length}
 use Rattle.st_disk.specs.declared.which.Which.{Which}
 use Rattle.st_disk.specs.Crash.{UnsyncedWrites, writes_of, other, SideHas}
@@ -10,10 +10,10 @@ use Rattle.st_disk.proofs.DeviceCalls.{at_first, settled_seen}
 use Rattle.st_records.specs.declared.version.Version.{Version}
 use Rattle.st_records.specs.declared.version.Version.TheVariants as versions
 use Rattle.st_records.specs.declared.record.Record.{Record}
-use Rattle.st_file.specs.Batch.{body, framed, FillBatch}
+use Rattle.st_file.specs.Batch.{framed, FillBatch}
 use Rattle.st_file.specs.Side.{HoldsUpTo}
 use Rattle.st_file.specs.Gated.{IsReady, IsClosedOrOpen, IsOpened, EndsClosed}
-use Rattle.st_file.specs.Grown.{IsFull, HoldsWithOrWithout}
+use Rattle.st_file.specs.Grown.{HoldsWithOrWithout}
 use Rattle.st_file.proofs.LogLemmas.{holds_closed, holds_open}
 
 -- the text of a batch ends in a closed gate
@@ -53,22 +53,9 @@ grown_by_none {s} {v} {generation} {end} {held} rs none holds =
     let same : held ≡ held ++ rs = sym (append-nil held) ∙ ap (λ (y : List Record). held ++ y) (sym (nil_from_length rs none)) in
     subst (λ (h : List Record). HoldsUpTo s v generation h end) same holds
 
--- a batch that fits isn't full
-pub not_full : (end n : ℕ) (rs : List Record) → n ≡ length (body versions.Two rs) → n ≤ 2 ^ 30 → end + (9 + n) ≤ 2 ^ 40 → IsFull end rs → ⊥
-not_full end n rs is short room (inl long) = omega (arith, is, short, long)
-not_full end n rs is short room (inr past) = omega (arith, is, room, past)
-
 -- a refusal passed on, in an answer of another type
 pub same_refusal : {S T E P : Type 0} (f g : E) → (IsErrOf {T = S} (Err f) g ↔ P) → IsErrOf {T = T} (Err f) g ↔ P
 same_refusal {S} {T} {E} f g iff =
     let told : E → Result S E = λ h. Err h in
     let tells : E → Result T E = λ h. Err h in
     (λ e. let same : f ≡ g = cc in iff.0 (ap told same), λ p. let e = iff.1 p in let same : f ≡ g = cc in ap tells same)
-
--- where there was none there is none
-pub no_refusal : {S T E P : Type 0} (x : S) (y : T) (g : E) → (IsErrOf (Ok x) g ↔ P) → IsErrOf (Ok y) g ↔ P
-no_refusal x y g iff = (λ e. absurd cc, λ p. let e = iff.1 p in absurd cc)
-
--- nor another one
-pub other_refusal : {S T E P : Type 0} (x : S) (f g : E) → (f ≡ g → ⊥) → (IsErrOf (Ok x) g ↔ P) → IsErrOf {T = T} (Err f) g ↔ P
-other_refusal x f g differ iff = (λ e. let same : f ≡ g = cc in absurd (differ same), λ p. let e = iff.1 p in absurd cc)

@@ -1,8 +1,8 @@
 -- What the steps of a creation leave on a side.
-use Rattle.std.proofs.Common.{◌≡◌, ℕ, ◌<◌, ◌≤◌, ◌^◌, List, [], ◌∷◌, ◌++◌, length, get_or, refl, sym, ap, subst, ◌∙◌, arith, inl, inr, append_assoc}
-use Rattle.std.proofs.lemmas.List.{length-append, drop_all}
+use Rattle.std.proofs.Common.{◌≡◌, ℕ, ◌<◌, ◌≤◌, ◌^◌, List, [], ◌∷◌, ◌++◌, length, refl, sym, ap, subst, ◌∙◌, arith, inl, inr, append_assoc}
+use Rattle.std.proofs.lemmas.List.{length-append}
 use Rattle.st_disk.specs.declared.which.Which.{Which}
-use Rattle.st_disk.specs.Crash.{UnsyncedWrites, IsCrashImage, settled, written_at, writes_of, other, SideHas, overwritten}
+use Rattle.st_disk.specs.Crash.{UnsyncedWrites, IsCrashImage, settled, written_at, writes_of, other, SideHas}
 use Rattle.st_disk.specs.Moments.{Moments, now, after_write, MayPass, Throughout}
 use Rattle.st_disk.proofs.CrashLaws.{side_map}
 use Rattle.st_disk.proofs.MomentLaws.{throughout_map, then_goes, at_end}
@@ -10,7 +10,7 @@ use Rattle.st_disk.proofs.DeviceCalls.{at_first, writes_on, settled_seen}
 use Rattle.st_records.specs.declared.version.Version.TheVariants as versions
 use Rattle.st_file.specs.Layout.{header_text}
 use Rattle.st_file.specs.Side.{IsVoid}
-use Rattle.st_file.specs.Gated.{IsReady, IsClosedBehind, IsOpenBehind, IsClosedOrOpen, IsOpened}
+use Rattle.st_file.specs.Gated.{IsClosedBehind, IsOpenBehind, IsClosedOrOpen, IsOpened}
 use Rattle.st_file.specs.Created.{HasClosedGate, IsNew, IsVoidOrNew, IsCreated}
 use Rattle.st_file.proofs.LayoutLemmas.{HasHeader-of}
 
@@ -42,18 +42,6 @@ pub void_written : (s : List ℕ) (writes : UnsyncedWrites) → length s ≤ 1 �
 void_written s writes short on_disk x image =
     let torn = subst (λ (w : UnsyncedWrites). IsCrashImage (written_at 0 1 w) x) on_disk image in
     short_void x (omega (arith, torn.no_longer, short))
-
--- and then the one byte is a closed gate
-pub short_overwritten : (s : List ℕ) → length s ≤ 1 → overwritten s 0 (0 ∷ []) ≡ 0 ∷ []
-short_overwritten s short = ap (λ (y : List ℕ). 0 ∷ y) (drop_all 1 s short)
-
-pub ready_written : (s s1 : List ℕ) (writes : UnsyncedWrites) → length s ≤ 1 → s1 ≡ overwritten s 0 (0 ∷ []) → writes ≡ settled s1 → IsReady s1 writes 0
-ready_written s s1 writes short e on_disk =
-    let one : s1 ≡ 0 ∷ [] = e ∙ short_overwritten s short in
-    record { on_disk = on_disk; within = omega (arith, ap length one); closed = ap (λ (y : List ℕ). get_or y 0 0) one }
-
-pub ready_unwritten : (s : List ℕ) (writes : UnsyncedWrites) → HasClosedGate s → writes ≡ settled s → IsReady s writes 0
-ready_unwritten s writes closed on_disk = record { on_disk = on_disk; within = closed.0; closed = closed.1 }
 
 -- a header behind an open gate makes a side that holds no records
 pub new_by_header : (x : List ℕ) (generation : ℕ) → 0 < generation → generation < 2 ^ 64 → IsOpenBehind [] (header_text versions.Two generation ++ 0 ∷ []) x → IsNew generation x

@@ -5,7 +5,7 @@ use Rattle.st_disk.specs.declared.which.Which.{Which}
 use Rattle.st_disk.specs.Crash.{UnsyncedWrites, IsCrashImage, settled, written_at, Sides, writes_of, other, SideHas, overwritten}
 use Rattle.st_disk.specs.Moments.{Moments, now, after_write, after_sync, Passes, MayPass, Throughout}
 use Rattle.st_disk.proofs.DeviceCalls.{at_first, writes_on, side_synced, written_behind, written_within, settled_seen}
-use Rattle.st_file.specs.Gated.{IsReady, IsClosedBehind, IsOpenBehind, IsClosedOrOpen}
+use Rattle.st_file.specs.Gated.{IsReady, IsClosedBehind, IsClosedOrOpen}
 
 -- a list cut at a place, with what stands there
 pub cut_at : (x : List ℕ) (i : ℕ) → i < length x → x ≡ take i x ++ get_or x i 0 ∷ drop (i + 1) x
@@ -75,26 +75,6 @@ opened_written s s1 writes writes1 gate text ready e on_disk x image =
     let before : take gate x ≡ front = written_behind gate 1 on_disk le x image ∙ ap (take gate) s1_is ∙ take_at front (0 ∷ (text ++ rest)) gate len in
     let behind : drop (gate + 1) x ≡ text ++ rest = torn.1 ∙ ap (drop (gate + 1)) s1_is ∙ drop_gate front (text ++ rest) 0 gate len in
     gated_by front text rest x (get_or x gate 0) (gate_written front (text ++ rest) x gate len (torn.0 ∙ ap length s1_is) before behind)
-
--- after both writes the gate is open
-pub opened_done : (s s1 s2 : List ℕ) (writes : UnsyncedWrites) (gate : ℕ) (text : List ℕ) → IsReady s writes gate → s1 ≡ overwritten s (gate + 1) text → s2 ≡ overwritten s1 gate (1 ∷ []) → IsOpenBehind (take gate s) text s2
-opened_done s s1 s2 writes gate text ready e f =
-    let front = take gate s in
-    let rest = drop (gate + 1 + length text) s in
-    let len : length front ≡ gate = length-take-le gate s (omega (arith, ready.within)) in
-    let s1_is : s1 ≡ front ++ 0 ∷ (text ++ rest) = e ∙ with_text s text gate ready.within ready.closed in
-    let before : take gate s1 ≡ front = ap (take gate) s1_is ∙ take_at front (0 ∷ (text ++ rest)) gate len in
-    let behind : drop (gate + 1) s1 ≡ text ++ rest = ap (drop (gate + 1)) s1_is ∙ drop_gate front (text ++ rest) 0 gate len in
-    record {
-      gate = 1;
-      is_open = omega arith;
-      rest = rest;
-      bytes =
-          f
-          ∙ append_assoc (take gate s1) (1 ∷ []) (drop (gate + 1) s1)
-          ∙ ap (λ (y : List ℕ). y ++ 1 ∷ drop (gate + 1) s1) before
-          ∙ ap (λ (y : List ℕ). front ++ 1 ∷ y) behind;
-    }
 
 -- at a moment of the calls the other side is as before the first, and on this one the gate is closed, or open before the text
 abbrev pub IsGated : Which → ℕ → (text s : List ℕ) → Moments → Sides → Type 0

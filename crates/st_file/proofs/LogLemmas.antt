@@ -8,7 +8,7 @@ use Rattle.st_records.specs.declared.record.Record.{Record}
 use Rattle.st_file.specs.Layout.{header_text}
 use Rattle.st_file.specs.Batch.{framed, may_stand, FillBatch, Batch, batch_encoding, text_of, IsBatch}
 use Rattle.st_file.specs.Side.{Reaches, HoldsUpTo, is_none}
-use Rattle.st_file.specs.Gated.{IsReady, IsClosedBehind, IsOpenBehind, IsOpened}
+use Rattle.st_file.specs.Gated.{IsReady, IsClosedBehind, IsOpenBehind}
 use Rattle.st_file.proofs.LayoutLemmas.{HasHeader-of}
 use Rattle.st_file.proofs.SideLemmas.{Reaches-more, records_of-more}
 
@@ -87,23 +87,4 @@ ready_to_grow s writes v generation end held holds on_disk =
       on_disk = on_disk;
       within = omega (arith, holds.place);
       closed = ap (λ (y : List ℕ). get_or y end 0) whole ∙ get_or_at front 0 holds.after 0 end len;
-    }
-
--- after a text that ends in a closed gate the side is ready at that gate
-pub ready_again : (s seen front text : List ℕ) (writes : UnsyncedWrites) (end : ℕ) → IsReady s writes end → {after : UnsyncedWrites} → text ≡ front ++ 0 ∷ [] → IsOpened (take end s) text seen after → IsReady seen after (end + length text)
-ready_again s seen front text writes end ready {after} text_is opened =
-    let o = opened.opened in
-    let before = take end s in
-    let len : length before ≡ end = length-take-le end s (omega (arith, ready.within)) in
-    let longer = before ++ o.gate ∷ front in
-    let whole : seen ≡ longer ++ 0 ∷ o.rest =
-    o.bytes
-    ∙ ap (λ (y : List ℕ). before ++ o.gate ∷ (y ++ o.rest)) text_is
-    ∙ ap (λ (y : List ℕ). before ++ o.gate ∷ y) (append_assoc front (0 ∷ []) o.rest)
-    ∙ sym (append_assoc before (o.gate ∷ front) (0 ∷ o.rest)) in
-    let place : length longer ≡ end + length text = omega (arith, length-append before (o.gate ∷ front), len, ap length text_is, length-append front (0 ∷ [])) in
-    record {
-      on_disk = opened.on_disk;
-      within = omega (arith, ap length whole, length-append longer (0 ∷ o.rest), place);
-      closed = ap (λ (y : List ℕ). get_or y (end + length text) 0) whole ∙ get_or_at longer 0 o.rest 0 (end + length text) place;
     }

@@ -1,5 +1,5 @@
 -- What a power cut leaves is a crash image.
-use Rattle.std.specs.Prelude.{◌≡◌, ℕ, ◌+◌, ◌<◌, ◌≤◌, min, false, List, [], ◌∷◌, ◌++◌, length, take, drop, slice_index, refl}
+use Rattle.std.specs.Prelude.{◌≡◌, ℕ, ◌+◌, ◌<◌, ◌≤◌, min, false, List, [], ◌∷◌, ◌++◌, length, take, slice_index, refl}
 use Rattle.std.proofs.Common.{inl, inr, sym, ◌∙◌, ap, subst, arith, length-take}
 use Rattle.std.proofs.lemmas.Bool.{cases_lt}
 use Rattle.std.proofs.lemmas.Bool.Decides.{nat_tests}
@@ -58,15 +58,6 @@ image_of_cut writes fill len bytes low high is = record {
   where
     stays : (kept : List ℕ) (place : ℕ) → place < length kept → is_written writes.ranges place ≡ false → cut_byte kept writes.ranges fill place ≡ slice_index kept place
     stays kept place below closed = grind (arith, nat_tests)
-
--- a write past the end adds its bytes at the end
-pub overwritten-min : (old : List ℕ) (at : ℕ) (bytes : List ℕ) → overwritten old (min at (length old)) bytes ≡ overwritten old at bytes
-overwritten-min old at bytes = elim (cases_lt (length old) at) [
-  | inl past ↦
-      ap (λ (l : List ℕ). l ++ bytes ++ drop (min at (length old) + length bytes) old) (take_min at old)
-      ∙ ap (λ (l : List ℕ). take at old ++ bytes ++ l) (drop_all (min at (length old) + length bytes) old (omega arith) ∙ sym (drop_all (at + length bytes) old (omega arith)))
-  | inr within ↦ (let e : min at (length old) ≡ at = omega arith in ap (λ (n : ℕ). overwritten old n bytes) e)
-]
 
 -- both sides after a write and a sync of each
 pub settled_both : (start one two three four : Sides) (a b : List ℕ) (wrote_a wrote_b : UnsyncedWrites) → one ≡ with_writes A wrote_a start → two ≡ with_writes A (settled a) one → three ≡ with_writes B wrote_b two → four ≡ with_writes B (settled b) three

@@ -118,11 +118,6 @@ restated read E U V to from s = record {
   unlisted_again = λ bytes h. s.unlisted_again bytes (from bytes h);
 }
 
--- where only the first of two fields has unlisted values
-pub first_alone : {A : Type 0} (U : List ℕ → Type 0) (s : A → List ℕ) (F : A → Type 0) (bytes : List ℕ) → Either U s F Never bytes → U bytes
-first_alone U s F bytes (inl h) = h
-first_alone U s F bytes (inr h) = absurd h.holds
-
 -- where only the second has
 pub second_alone : {A : Type 0} (s : A → List ℕ) (F : A → Type 0) (V : List ℕ → Type 0) (bytes : List ℕ) → Either Never s F V bytes → After s F (λ _. V) bytes
 second_alone s F V bytes (inl h) = absurd h
@@ -158,15 +153,6 @@ short_number bytes lt =
 
 bad_is_not_short : BadKind ≡ Short → ⊥
 bad_is_not_short e = cc
-
-number_stops : Stops EndsInNumber Never number_at
-number_stops = record {
-  short = λ bytes fits e. (no_number bytes Short e).1;
-  unlisted = λ bytes fits e. bad_is_not_short (no_number bytes BadKind e).0;
-  only = λ bytes d e. inl (no_number bytes d e).0;
-  short_again = short_number;
-  unlisted_again = λ bytes h. absurd h;
-}
 
 abbrev judge : (ℕ → Bool) → ℕ × List ℕ → Result (ℕ × List ℕ) DecodeFault
 judge test x = cond (test x.0) (Ok x) (Err BadKind)

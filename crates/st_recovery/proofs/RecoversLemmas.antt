@@ -3,7 +3,6 @@ use Rattle.std.specs.Prelude.{IfSome, IfNone, IsErrOf}
 use Rattle.std.proofs.Common.{◌≡◌, ◌⊎◌, ℕ, ◌<◌, ◌≤◌, true, false, cond, ltb, List, Option, Some, None, Result, Err, refl, sym, ap, subst, ◌∙◌, arith, inl, inr, rules, tests}
 use Rattle.std.proofs.lemmas.Bool.{cases_lt}
 use Rattle.std.specs.FinMap as map
-use Rattle.st_disk.specs.declared.which.Which.{Which}
 use Rattle.st_disk.specs.declared.which.Which.TheVariants as sides
 use Rattle.st_records.specs.declared.version.Version.{Version}
 use Rattle.st_records.specs.declared.record.Record.{Record}
@@ -16,7 +15,7 @@ use Rattle.st_file.specs.Side.{IsVoid, HoldsUpTo, HoldsRecords, IsRefused, Readi
 use Rattle.st_records.proofs.Fields.{IsBytes}
 use Rattle.st_file.proofs.ReadingLemmas.{one_reading}
 use Rattle.st_file.proofs.TotalLemmas.{every_reading}
-use Rattle.st_recovery.specs.Recovers.{Wins, WasRead, IsChosen, Recovers, IsWhole, HaveOneGeneration, RefusesWith, Outcome, recovered, refused, HasOutcome, outcome_of}
+use Rattle.st_recovery.specs.Recovers.{Wins, WasRead, Recovers, IsWhole, HaveOneGeneration, RefusesWith, Outcome, recovered, refused, HasOutcome, outcome_of}
 
 -- what comes of two sides that hold records
 abbrev of_two : ℕ → List Record → ℕ → List Record → Outcome
@@ -185,27 +184,6 @@ no_device a b (inr (inr same)) =
 pub never_of_a_device : (a b : List ℕ) (answered : Result StateMap OpenFault) → IfSome (outcome_of answered) (HasOutcome a b)
     → IsErrOf answered faults.Device → ⊥
 never_of_a_device a b answered found is = no_device a b (subst (λ r. IfSome (outcome_of r) (HasOutcome a b)) is found)
-
--- what was chosen recovers its state
-pub recovers_chosen : (a b : List ℕ) (which : Which) (v : Version) (generation end : ℕ) (m : StateMap) → IsChosen a b which v generation end m → Recovers a b m
-recovers_chosen a b sides.A v generation end m c =
-    inr (inl (record { v = v; generation = generation; end = end; counts = c }))
-recovers_chosen a b sides.B v generation end m c =
-    inr (inr (record { v = v; generation = generation; end = end; counts = c }))
-
--- and what was refused is an outcome, but for want of memory
-pub refusal_found : (a b : List ℕ) (fault : OpenFault) → (fault ≡ faults.OutOfMemory) ⊎ RefusesWith a b fault → IfSome (outcome_of (Err fault)) (HasOutcome a b)
-refusal_found a b (faults.NotState s) (inl e) = absurd cc
-refusal_found a b (faults.NotState s) (inr is) = is
-refusal_found a b (faults.UnknownVersion s version) (inl e) = absurd cc
-refusal_found a b (faults.UnknownVersion s version) (inr is) = is
-refusal_found a b (faults.Damaged s place) (inl e) = absurd cc
-refusal_found a b (faults.Damaged s place) (inr is) = is
-refusal_found a b faults.Device (inl e) = absurd cc
-refusal_found a b faults.Device (inr is) = is
-refusal_found a b faults.OutOfMemory is = tt
-refusal_found a b faults.SameGeneration (inl e) = absurd cc
-refusal_found a b faults.SameGeneration (inr is) = is
 
 -- ---- a pair has an outcome: what comes of a reading of each side
 

@@ -15,12 +15,11 @@ use Rattle.st_records.specs.declared.version.Version.TheVariants as versions
 use Rattle.st_records.specs.declared.record.Record.{Record}
 use Rattle.st_state.specs.State.{StateMap, replay}
 use Rattle.st_file.specs.Batch.{framed, FillBatch}
-use Rattle.st_file.specs.Side.{IsVoid, HoldsUpTo, holding, blank}
+use Rattle.st_file.specs.Side.{IsVoid, HoldsUpTo}
 use Rattle.st_file.specs.Gated.{IsReady, IsClosedOrOpen, IsOpened}
 use Rattle.st_file.specs.Grown.{HoldsInVersion, HoldsWithOrWithout}
 use Rattle.st_file.specs.Created.{IsVoidOrNew, IsCreated}
 use Rattle.st_file.specs.declared.layout.TheConstants.{HEADER_BYTES}
-use Rattle.st_file.proofs.ReadingLemmas.{one_reading}
 use Rattle.st_file.proofs.LogLemmas.{ready_to_grow}
 use Rattle.st_file.proofs.CommitLemmas.{grown_by, grown}
 use Rattle.st_recovery.specs.Recovers.{Wins, IsChosen, Recovers}
@@ -148,12 +147,6 @@ synced_one side start {m0} {m1} {m2} {seen} so_far may image = goes_on so_far ma
 pub throughout_same : {P : Sides → Type 0} {m0 m1 m2 : Moments} → m2 ≡ m1 → Throughout m0 m1 P → Throughout m0 m2 P
 throughout_same {P} {m0} same so_far = subst (λ (m : Moments). Throughout m0 m P) (sym same) so_far
 
--- a side that holds records isn't void
-holds_something : (side : Which) (x : List ℕ) (v : Version) (generation end : ℕ) (held : List Record) → HoldsUpTo x v generation held end → IsVoid x → ⊥
-holds_something side x v generation end held holds void =
-    let same : holding v generation held end ≡ blank = one_reading side x (holding v generation held end) blank holds void in
-    absurd cc
-
 -- the side that was chosen, both sides being on the disk
 pub stored_of : (seen : Which → List ℕ) (side : Which) (v : Version) (generation end : ℕ) (m : StateMap) (sides : Sides) → IsChosen (seen which.A) (seen which.B) side v generation end m
     → writes_of which.A sides ≡ settled (seen which.A) → writes_of which.B sides ≡ settled (seen which.B) → IsStored (seen side) (writes_of side sides) (writes_of (other side) sides) v generation end m
@@ -194,11 +187,6 @@ new_pairs {seen_b} {away} {generation} sides has on_b void = λ a b is_a is_b.
     by_first : (a b : List ℕ) → IsVoidOrNew generation a → IsVoid b → Recovers a b map.empty
     by_first a b (inl none) other_none = inl (none, other_none, refl)
     by_first a b (inr fresh) other_none = inr (inl (wins a b versions.Two generation [] map.empty (HEADER_BYTES, fresh) (inl other_none) refl))
-
--- a side that was chosen isn't void
-pub not_both_void : (a b : List ℕ) (side : Which) (v : Version) (generation end : ℕ) (m : StateMap) → IsChosen a b side v generation end m → IsVoid a → IsVoid b → ⊥
-not_both_void a b which.A v generation end m chosen void_a void_b = holds_something which.A a v generation end chosen.held chosen.holds void_a
-not_both_void a b which.B v generation end m chosen void_a void_b = holds_something which.B b v generation end chosen.held chosen.holds void_b
 
 -- a side that was chosen or created is ready for a batch
 pub ready_of : (seen : Which → List ℕ) (side : Which) (v : Version) (generation end : ℕ) (m : StateMap) (sides : Sides) → IsChosen (seen which.A) (seen which.B) side v generation end m

@@ -14,10 +14,6 @@ use Rattle.st_state.specs.State.{StateMap, apply_record}
 use Rattle.st_state.specs.Ends.{AreEndsOf}
 use Rattle.st_state.proofs.StateLemmas.{by_bytes, same_bytes}
 
--- nothing is told of any name
-pub ends_any : (ends : NameEnds) (m : StateMap) → ((name : List ℕ) → may_have ends name ≡ true) → AreEndsOf ends m
-ends_any ends m any = λ name h. absurd (true≢false (sym (any name) ∙ h))
-
 unmarked : (old new : Bool) → (old ≡ true → new ≡ true) → new ≡ false → old ≡ false
 unmarked true new kept h = absurd (true≢false (sym (kept refl) ∙ h))
 unmarked false new kept h = refl

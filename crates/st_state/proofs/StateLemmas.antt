@@ -1,5 +1,5 @@
 -- A list of entries under names, each name once and in any order, seen as a finite map from byte strings.
-use Rattle.std.proofs.Common.{Result, Ok, Err, IsOk, OnOk, OnErr, ◌≡◌, ◌∙◌, ℕ, ◌+◌, ◌<◌, List, [], ◌∷◌, Bool, true, false, cond, ◌&&◌, sym, ap, subst, refl, Option, None, Some, T, length, get_or, arith, slice_get, inl, inr}
+use Rattle.std.proofs.Common.{Result, Ok, Err, OnErr, ◌≡◌, ◌∙◌, ℕ, ◌+◌, ◌<◌, List, [], ◌∷◌, Bool, true, false, cond, ◌&&◌, sym, ap, subst, refl, Option, None, Some, T, length, get_or, arith, slice_get, inl, inr}
 use Rattle.std.proofs.Common.{map as list_map}
 use Rattle.std.specs.declared.cmp.Ordering.{Ordering}
 use Rattle.std.specs.declared.cmp.Ordering.TheVariants.{Less, Equal, Greater}
@@ -76,10 +76,6 @@ asked_is same x y is passed = (bytes_eq-Decides x y).0 (sym is ∙ passed)
 
 pub some_of : {A : Type 0} (o : Option A) (x : A) → Some x ≡ o → IsSome o
 some_of o x e = subst IsSome e refl
-
-pub ok_gives : {A E P : Type 0} (r : Result A E) → IsOk r → OnOk r P → P
-ok_gives (Ok a) _ p = p
-ok_gives (Err e) is p = cc
 
 pub on_err : {A E P : Type 0} (r : Result A E) → P → OnErr r P
 on_err (Ok a) p = tt
