@@ -4,7 +4,7 @@ use Rattle.std.proofs.Common.{inl, inr, subst, arith}
 use Rattle.std.proofs.lemmas.List.{ext_get_or}
 use Rattle.st_disk.specs.declared.which.Which.{Which}
 use Rattle.st_disk.specs.declared.which.Which.TheVariants.{A, B}
-use Rattle.st_disk.specs.Crash.{UnsyncedWrites, IsWritten, IsCrashImage, settled, written_at, cut_to, Sides, writes_of, with_writes, other, EachPair, SideHas}
+use Rattle.st_disk.specs.Crash.{UnsyncedWrites, IsWritten, IsCrashImage, settled, Sides, writes_of, with_writes, other, EachPair, SideHas}
 
 -- after a successful sync these bytes are a crash image, and the only one
 pub settled_image : (bytes : List ℕ) → IsCrashImage (settled bytes) bytes
@@ -24,21 +24,6 @@ pub IsWritten-push_last : (ranges : List (ℕ × ℕ)) (at n place : ℕ) → at
 IsWritten-push_last [] at n place from below = inl (from, below)
 IsWritten-push_last (range ∷ ranges) at n place from below = inr (IsWritten-push_last ranges at n place from below)
 
--- what a crash may leave before a write or a cut, it may leave after it
-pub image_before_write : {writes : UnsyncedWrites} {bytes : List ℕ} (at n : ℕ) → IsCrashImage writes bytes → IsCrashImage (written_at at n writes) bytes
-image_before_write {writes} {bytes} at n is = record {
-  no_shorter = is.no_shorter;
-  no_longer = omega (arith, is.no_longer);
-  kept = λ place below uncut unwritten. is.kept place below uncut (λ was. unwritten (IsWritten-push writes.ranges at n place was));
-}
-
-pub image_before_cut : {writes : UnsyncedWrites} {bytes : List ℕ} (len : ℕ) → IsCrashImage writes bytes → IsCrashImage (cut_to len writes) bytes
-image_before_cut {writes} {bytes} len is = record {
-  no_shorter = omega (arith, is.no_shorter);
-  no_longer = is.no_longer;
-  kept = λ place below uncut unwritten. is.kept place below (omega (arith, uncut)) unwritten;
-}
-
 -- a side's writes after a change of that side or of the other one
 pub writes_of-with_same : (side : Which) (writes : UnsyncedWrites) (sides : Sides) → writes_of side (with_writes side writes sides) ≡ writes
 writes_of-with_same A writes sides = refl
@@ -51,12 +36,6 @@ writes_of-with_other B writes sides = refl
 -- what has P has Q
 pub side_map : {side : Which} {away : UnsyncedWrites} {P Q : List ℕ → Type 0} (sides : Sides) → ((bytes : List ℕ) → P bytes → Q bytes) → SideHas side away P sides → SideHas side away Q sides
 side_map {side} {away} {P} {Q} sides implies has = record { away_same = has.away_same; each = λ bytes is. implies bytes (has.each bytes is) }
-
--- a changed side has P, the other one is as it was
-pub side_has : {side : Which} {P : List ℕ → Type 0} (writes : UnsyncedWrites) (sides : Sides) → ((bytes : List ℕ) → IsCrashImage writes bytes → P bytes)
-    → SideHas side (writes_of (other side) sides) P (with_writes side writes sides)
-side_has {side = A} {P = P} writes sides each = record { away_same = refl; each = each }
-side_has {side = B} {P = P} writes sides each = record { away_same = refl; each = each }
 
 -- one side's images have P, the other's have Q: so each pair has both
 pub pair_has_a : {away : UnsyncedWrites} {P Q : List ℕ → Type 0} (sides : Sides) → SideHas A away P sides → ((bytes : List ℕ) → IsCrashImage away bytes → Q bytes)

@@ -40,6 +40,8 @@ pub struct SystemFile {
     file: File,
     side: Which,
     folder: String,
+    /// Why it is open to be read alone.
+    refused: Option<io::Error>,
 }
 
 impl Drop for SystemFile {
@@ -48,6 +50,7 @@ impl Drop for SystemFile {
             file: _,
             side: _,
             folder: _,
+            refused: _,
         } = self;
     }
 }
@@ -115,16 +118,21 @@ impl SystemFolder {
             return Err(io::Error::new(ErrorKind::InvalidInput, NOT_ORDINARY));
         }
         let folder = String::from_str(self.alloc, folder_of(name))?;
-        let file = match OpenOptions::new()
+        let (file, refused) = match OpenOptions::new()
             .read(true)
             .write(true)
             .open(&self.rt, name)
         {
-            Ok(file) => file,
-            Err(error) if refuses_writing(&error) => File::open(&self.rt, name)?,
+            Ok(file) => (file, None),
+            Err(error) if refuses_writing(&error) => (File::open(&self.rt, name)?, Some(error)),
             Err(error) => return Err(error),
         };
-        Ok(SystemFile { file, side, folder })
+        Ok(SystemFile {
+            file,
+            side,
+            folder,
+            refused,
+        })
     }
 
     // Of two sides in one file, a write of the one would change the other.
@@ -166,7 +174,12 @@ impl SystemFolder {
             .write(true)
             .create_new(true)
             .open(&self.rt, self.name(side))?;
-        Ok(SystemFile { file, side, folder })
+        Ok(SystemFile {
+            file,
+            side,
+            folder,
+            refused: None,
+        })
     }
 
     fn sync_folder(&self, folder: &str) -> io::Result<()> {
@@ -182,6 +195,21 @@ impl SystemFile {
         ensures { result.now ≡ folder_name self.now }
     {
         &self.folder
+    }
+
+    // Of what was opened to be read alone the first refusal is told, not that of the descriptor.
+    fn write(&self, bytes: &[u8], at: u64) -> io::Result<usize> {
+        match self.refused {
+            Some(error) => Err(error),
+            None => whole(self.file.write_at(bytes, at), bytes.len()),
+        }
+    }
+
+    fn cut(&self, len: u64) -> io::Result<()> {
+        match self.refused {
+            Some(error) => Err(error),
+            None => self.file.set_len(len),
+        }
     }
 }
 
@@ -230,12 +258,11 @@ impl Folder for SystemFolder {
     }
 
     fn write_at(&mut self, file: &SystemFile, bytes: &[u8], at: usize) -> io::Result<usize> {
-        let written = whole(file.file.write_at(bytes, at as u64), bytes.len());
-        self.noted(Call::Write, file.side, written)
+        self.noted(Call::Write, file.side, file.write(bytes, at as u64))
     }
 
     fn set_len(&mut self, file: &SystemFile, len: usize) -> io::Result<()> {
-        self.noted(Call::Cut, file.side, file.file.set_len(len as u64))
+        self.noted(Call::Cut, file.side, file.cut(len as u64))
     }
 
     fn sync(&mut self, file: &SystemFile) -> io::Result<()> {
