@@ -1,8 +1,8 @@
 -- A text has one outcome.
-use Rattle.std.proofs.Common.{◌≡◌, ℕ, Bool, true, false, List, [], ◌∷◌, ◌++◌, length, refl, sym, ap, ◌∙◌, subst, arith}
+use Rattle.std.proofs.Common.{◌≡◌, ℕ, Bool, true, false, List, [], ◌∷◌, ◌++◌, Some, length, refl, sym, ap, ◌∙◌, subst, arith}
 use Rattle.mk_profile.specs.Profile.{is_wide}
 use Rattle.mk_macros.specs.Reference.{used, Piece, reference, nested, named, Front, first}
-use Rattle.mk_macros.specs.Expansion.{Meaning, Meanings, ExpandsTo, dynamic, defined, Outcome, gives, fails, Expands, ends, goes_on, is_too_long, meets_fault, Adds, adds_bytes, is_unclosed, is_nested, is_undefined, is_dynamic, is_long_dynamic, is_loop, has_value, has_fault, has_name, has_no_name}
+use Rattle.mk_macros.specs.Expansion.{Meaning, Meanings, ExpandsTo, dynamic, defined, Outcome, gives, fails, Expands, ends, goes_on, is_too_long, meets_fault, Adds, adds_bytes, is_unclosed, is_nested, is_undefined, is_function, is_dynamic, is_long_dynamic, is_loop, has_value, has_fault, has_name, has_no_name}
 
 pub same_first : {p q : Piece} {r s : List ℕ} {f : Front} → f ≡ first p r → f ≡ first q s → (p ≡ q) × (r ≡ s)
 same_first a b = let e = sym a ∙ b in (cc, cc)
@@ -64,33 +64,45 @@ module _ (wide : Bool) (meaning : List ℕ → Meaning) where
     adds_once (has_no_name g w d) (is_nested v) = cc
     adds_once (has_no_name g w d) (has_name n v e bd) = let gn : fails g ≡ gives n = same_outcome d e in cc
     adds_once (has_no_name g w d) (has_no_name f v e) = same_outcome d e
-    adds_once (is_undefined x) (is_undefined y) = refl
-    adds_once (is_undefined x) (is_dynamic v y l) = let h = sym x ∙ y in cc
-    adds_once (is_undefined x) (is_long_dynamic v y l) = let h = sym x ∙ y in cc
-    adds_once (is_undefined x) (is_loop t y i) = let h = sym x ∙ y in cc
-    adds_once (is_undefined x) (has_value t v y n e) = let h = sym x ∙ y in cc
-    adds_once (is_undefined x) (has_fault t f y n e) = let h = sym x ∙ y in cc
-    adds_once (is_dynamic u x k) (is_undefined y) = let h = sym x ∙ y in cc
+    adds_once (is_undefined x p) (is_undefined y q) = refl
+    adds_once (is_undefined x p) (is_function w y q) = let h = sym p ∙ q in cc
+    adds_once (is_undefined x p) (is_dynamic v y l) = let h = sym x ∙ y in cc
+    adds_once (is_undefined x p) (is_long_dynamic v y l) = let h = sym x ∙ y in cc
+    adds_once (is_undefined x p) (is_loop t y i) = let h = sym x ∙ y in cc
+    adds_once (is_undefined x p) (has_value t v y n e) = let h = sym x ∙ y in cc
+    adds_once (is_undefined x p) (has_fault t f y n e) = let h = sym x ∙ y in cc
+    adds_once (is_function v x p) (is_undefined y q) = let h = sym p ∙ q in cc
+    adds_once (is_function v x p) (is_function w y q) = let h : Some v ≡ Some w = sym p ∙ q in cc
+    adds_once (is_function u x p) (is_dynamic v y l) = let h = sym x ∙ y in cc
+    adds_once (is_function u x p) (is_long_dynamic v y l) = let h = sym x ∙ y in cc
+    adds_once (is_function u x p) (is_loop t y i) = let h = sym x ∙ y in cc
+    adds_once (is_function u x p) (has_value t v y n e) = let h = sym x ∙ y in cc
+    adds_once (is_function u x p) (has_fault t f y n e) = let h = sym x ∙ y in cc
+    adds_once (is_dynamic u x k) (is_undefined y q) = let h = sym x ∙ y in cc
+    adds_once (is_dynamic u x k) (is_function w y q) = let h = sym x ∙ y in cc
     adds_once (is_dynamic u x k) (is_dynamic v y l) = let h : dynamic u ≡ dynamic v = sym x ∙ y in cc
     adds_once (is_dynamic u x k) (is_long_dynamic v y l) =
         let h : dynamic u ≡ dynamic v = sym x ∙ y in let s : length u ≡ length v = ap length (cc) in absurd (omega arith)
     adds_once (is_dynamic u x k) (is_loop t y i) = let h = sym x ∙ y in cc
     adds_once (is_dynamic u x k) (has_value t v y n e) = let h = sym x ∙ y in cc
     adds_once (is_dynamic u x k) (has_fault t f y n e) = let h = sym x ∙ y in cc
-    adds_once (is_long_dynamic u x k) (is_undefined y) = let h = sym x ∙ y in cc
+    adds_once (is_long_dynamic u x k) (is_undefined y q) = let h = sym x ∙ y in cc
+    adds_once (is_long_dynamic u x k) (is_function w y q) = let h = sym x ∙ y in cc
     adds_once (is_long_dynamic u x k) (is_dynamic v y l) =
         let h : dynamic u ≡ dynamic v = sym x ∙ y in let s : length u ≡ length v = ap length (cc) in absurd (omega arith)
     adds_once (is_long_dynamic u x k) (is_long_dynamic v y l) = refl
     adds_once (is_long_dynamic u x k) (is_loop t y i) = let h = sym x ∙ y in cc
     adds_once (is_long_dynamic u x k) (has_value t v y n e) = let h = sym x ∙ y in cc
     adds_once (is_long_dynamic u x k) (has_fault t f y n e) = let h = sym x ∙ y in cc
-    adds_once (is_loop s x j) (is_undefined y) = let h = sym x ∙ y in cc
+    adds_once (is_loop s x j) (is_undefined y q) = let h = sym x ∙ y in cc
+    adds_once (is_loop s x j) (is_function w y q) = let h = sym x ∙ y in cc
     adds_once (is_loop s x j) (is_dynamic v y l) = let h = sym x ∙ y in cc
     adds_once (is_loop s x j) (is_long_dynamic v y l) = let h = sym x ∙ y in cc
     adds_once (is_loop s x j) (is_loop t y i) = refl
     adds_once (is_loop s x j) (has_value t v y n e) = absurd (n j)
     adds_once (is_loop s x j) (has_fault t f y n e) = absurd (n j)
-    adds_once (has_value s u x m d) (is_undefined y) = let h = sym x ∙ y in cc
+    adds_once (has_value s u x m d) (is_undefined y q) = let h = sym x ∙ y in cc
+    adds_once (has_value s u x m d) (is_function w y q) = let h = sym x ∙ y in cc
     adds_once (has_value s u x m d) (is_dynamic v y l) = let h = sym x ∙ y in cc
     adds_once (has_value s u x m d) (is_long_dynamic v y l) = let h = sym x ∙ y in cc
     adds_once (has_value s u x m d) (is_loop t y i) = absurd (m i)
@@ -103,7 +115,8 @@ module _ (wide : Bool) (meaning : List ℕ → Meaning) where
         let h : defined s ≡ defined t = sym x ∙ y in
         let st : t ≡ s = cc in
         let uv : gives u ≡ fails f = same_outcome d (subst (λ w. Expands wide meaning (name ∷ opened) [] w (fails f)) st e) in cc
-    adds_once (has_fault s g x m d) (is_undefined y) = let h = sym x ∙ y in cc
+    adds_once (has_fault s g x m d) (is_undefined y q) = let h = sym x ∙ y in cc
+    adds_once (has_fault s g x m d) (is_function w y q) = let h = sym x ∙ y in cc
     adds_once (has_fault s g x m d) (is_dynamic v y l) = let h = sym x ∙ y in cc
     adds_once (has_fault s g x m d) (is_long_dynamic v y l) = let h = sym x ∙ y in cc
     adds_once (has_fault s g x m d) (is_loop t y i) = absurd (m i)

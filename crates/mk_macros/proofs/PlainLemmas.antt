@@ -7,7 +7,7 @@ use Rattle.mk_macros.specs.Expansion.{Meaning, Expands, ends, goes_on, is_too_lo
 use Rattle.mk_macros.specs.Reference.{front, first, plain, plain_until, behind_dollar}
 use Rattle.mk_macros.specs.Words.{place_of}
 use Rattle.mk_macros.specs.declared.fault.MacroFault.{MacroFault}
-use Rattle.mk_macros.specs.declared.fault.MacroFault.TheVariants.{OutOfMemory, Loop, Unclosed, NestedReference, TooLong}
+use Rattle.mk_macros.specs.declared.fault.MacroFault.TheVariants.{OutOfMemory, Loop, Unclosed, NestedReference, TooLong, Function}
 use Rattle.mk_macros.proofs.SpelledLemmas.{place_of-none}
 
 abbrev pub HasNoDollar : List ℕ → Type 0
@@ -37,6 +37,7 @@ plain_fault wide meaning text none TooLong is = plain_too_long wide meaning text
 plain_fault wide meaning text none (Loop name) is = absurd is
 plain_fault wide meaning text none Unclosed is = absurd is
 plain_fault wide meaning text none NestedReference is = absurd is
+plain_fault wide meaning text none (Function word) is = absurd is
 
 -- a fact of the value at Ok, and of the fault at Err
 pub ok_with : {T E : Type 0} (r : Result T E) (P Q : T → Type 0) → ((v : T) → P v → Q v) → IfOk r P → IfOk r Q

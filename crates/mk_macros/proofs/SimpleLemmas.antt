@@ -6,6 +6,7 @@ use Rattle.std.proofs.Common.{arith, ◌≡◌, ◌∙◌, ◌≤◌, ◌==◌, 
 use Rattle.std.proofs.lemmas.Bool.{or_parts}
 use Rattle.mk_macros.specs.Dynamic.{recipe_value, whole_value, part_value, dynamic_value}
 use Rattle.mk_macros.specs.Expansion.{gives, limit, is_undefined, is_dynamic, has_value, Expands, ends, goes_on}
+use Rattle.mk_macros.specs.Function.{function_in}
 use Rattle.mk_macros.specs.Ranks.{Defined, in_force, meaning_from, meaning_of}
 use Rattle.mk_macros.specs.Reference.{Piece, reference, whole, nothing, first, front}
 use Rattle.mk_macros.specs.Simple.{is_sign, begins_with_sign, AddsThere}
@@ -50,9 +51,18 @@ no_dynamic line names name is none = ap (λ l. dynamic_value l name) is ∙ no_r
 -- ---- what a reference adds
 
 module _ (given : Defined) (line : Dynamic) where
-  -- a macro that isn't defined, or whose text has no reference
-  pub undefined_adds : (name : List ℕ) → dynamic_value line name ≡ None → in_force (given.ranks name) ≡ None → AddsThere given line (reference name whole) []
-  undefined_adds name none is = is_undefined (ap (λ value. meaning_from value (in_force (given.ranks name))) none ∙ ap (meaning_from None) is)
+  -- a macro that isn't defined and spells no function; one whose text has no reference
+  pub undefined_adds : (name : List ℕ) → dynamic_value line name ≡ None → in_force (given.ranks name) ≡ None →
+      function_in (is_wide given.language) name ≡ None → AddsThere given line (reference name whole) []
+  undefined_adds name none is no_function =
+      is_undefined (ap (λ value. meaning_from value (in_force (given.ranks name))) none ∙ ap (meaning_from None) is) no_function
+
+  pub undefined_value_adds : (name : List ℕ) (found : Option (Bor (List ℕ))) → dynamic_value line name ≡ None → in_force (given.ranks name) ≡ None →
+      IfSome found (λ v. (v.now ≡ []) × (function_in (is_wide given.language) name ≡ None)) →
+      IfSome found (λ v. AddsThere given line (reference name whole) v.now)
+  undefined_value_adds name None none is said = tt
+  undefined_value_adds name (Some v) none is (empty, no_function) =
+      subst (AddsThere given line (reference name whole)) (sym empty) (undefined_adds name none is no_function)
 
   pub defined_adds : (name text : List ℕ) → dynamic_value line name ≡ None → in_force (given.ranks name) ≡ Some text →
       HasNoDollar text → length text ≤ limit → AddsThere given line (reference name whole) text

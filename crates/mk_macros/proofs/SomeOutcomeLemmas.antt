@@ -4,10 +4,11 @@ use Rattle.std.proofs.lemmas.Bool.Decides.{nat_tests}
 use Rattle.std.proofs.lemmas.Slice.Eq.{bytes_eq-Decides}
 use Rattle.mk_macros.specs.declared.dynamic.Dynamic.{Dynamic}
 use Rattle.mk_macros.specs.Dynamic.{dynamic_value}
+use Rattle.mk_macros.specs.Function.{function_in}
 use Rattle.mk_macros.specs.Reference.{Use, whole, words_changed, used, Piece, plain, reference, unclosed, nested, after_colon, at_colon, named, Front, nothing, first, front}
 use Rattle.mk_macros.specs.Words.{place_of, by_pattern, pattern_of}
 use Rattle.mk_macros.specs.Ranks.{Ranks, in_force, ranks_at, meaning_from, meaning_of}
-use Rattle.mk_macros.specs.Expansion.{Meaning, undefined, dynamic, defined, refers_to_itself, not_closed, dollar_in_brackets, too_long, Outcome, gives, fails, limit, IsOneOf, Expands, ends, goes_on, is_too_long, meets_fault, Adds, adds_bytes, is_unclosed, is_nested, is_undefined, is_dynamic, is_long_dynamic, is_loop, has_value, has_fault, has_name, has_no_name}
+use Rattle.mk_macros.specs.Expansion.{Meaning, undefined, dynamic, defined, refers_to_itself, not_closed, dollar_in_brackets, too_long, calls_function, Outcome, gives, fails, limit, IsOneOf, Expands, ends, goes_on, is_too_long, meets_fault, Adds, adds_bytes, is_unclosed, is_nested, is_undefined, is_function, is_dynamic, is_long_dynamic, is_loop, has_value, has_fault, has_name, has_no_name}
 use Rattle.mk_macros.specs.Spelled.{SpellsFront}
 use Rattle.mk_macros.specs.Lookup.{Progress, unseen, opened}
 use Rattle.mk_macros.proofs.ExpansionLemmas.{SetsProgress}
@@ -88,8 +89,12 @@ module _ (wide : Bool) (definitions : List (List ℕ × Ranks)) (line : Dynamic)
     dynamic_some name use_of value e (inl long) = (fails too_long, is_long_dynamic value e long)
     dynamic_some name use_of value e (inr fits) = (gives (used use_of value), is_dynamic value e fits)
 
+    undefined_some : (name : List ℕ) (use_of : Use) → meaning name ≡ undefined → (function : Option (List ℕ)) → function_in wide name ≡ function → (o : Outcome) × Adds wide meaning names (reference name use_of) o
+    undefined_some name use_of e None f = (gives [], is_undefined e f)
+    undefined_some name use_of e (Some word) f = (fails (calls_function word), is_function word e f)
+
     reference_some : (name : List ℕ) (use_of : Use) (m : Meaning) → meaning name ≡ m → (o : Outcome) × Adds wide meaning names (reference name use_of) o
-    reference_some name use_of undefined e = (gives [], is_undefined e)
+    reference_some name use_of undefined e = undefined_some name use_of e (function_in wide name) refl
     reference_some name use_of (dynamic value) e = dynamic_some name use_of value e (lt_or_le limit (length value))
     reference_some name use_of (defined text) e =
         either _ (is_one name names)

@@ -2,10 +2,11 @@
 use Rattle.std.specs.Prelude.{◌≡◌, ℕ, ◌≤◌, ◌<◌, ◌⊎◌, Bool, true, false, List, [], ◌∷◌, ◌++◌, length, Option, Some, None}
 use Rattle.mk_profile.specs.Profile.{is_wide}
 use Rattle.mk_profile.specs.declared.profile.Profile.{Profile}
+use Rattle.mk_macros.specs.Function.{function_in}
 use Rattle.mk_macros.specs.Reference.{Use, used, Piece, plain, reference, unclosed, nested, named, nothing, first, front}
 use Rattle.mk_macros.specs.declared.fault.TheConstants.{MAX_EXPANSION_BYTES}
 use Rattle.mk_macros.specs.declared.fault.MacroFault.{MacroFault}
-use Rattle.mk_macros.specs.declared.fault.MacroFault.TheVariants.{OutOfMemory, Loop, Unclosed, NestedReference, TooLong}
+use Rattle.mk_macros.specs.declared.fault.MacroFault.TheVariants.{OutOfMemory, Loop, Unclosed, NestedReference, TooLong, Function}
 
 -- what a name stands for: nothing, bytes that aren't expanded again, or a text that is expanded when it is used
 pub data Meaning : Type 0 where
@@ -24,6 +25,7 @@ pub data Fault : Type 0 where
   not_closed : Fault
   dollar_in_brackets : Fault
   too_long : Fault
+  calls_function : (word : List ℕ) → Fault
 
 -- the bytes of an expansion, or the fault that is met first
 pub data Outcome : Type 0 where
@@ -59,7 +61,10 @@ mutual
     is_unclosed : {opened : List (List ℕ)} → Adds wide meaning opened unclosed (fails not_closed)
     is_nested : {opened : List (List ℕ)} {inner : List ℕ} → wide ≡ false → Adds wide meaning opened (nested inner) (fails dollar_in_brackets)
     is_undefined : {opened : List (List ℕ)} {name : List ℕ} {use_of : Use} →
-        meaning name ≡ undefined → Adds wide meaning opened (reference name use_of) (gives [])
+        meaning name ≡ undefined → function_in wide name ≡ None → Adds wide meaning opened (reference name use_of) (gives [])
+    -- what GNU make would call a function isn't passed over
+    is_function : {opened : List (List ℕ)} {name : List ℕ} {use_of : Use} (word : List ℕ) →
+        meaning name ≡ undefined → function_in wide name ≡ Some word → Adds wide meaning opened (reference name use_of) (fails (calls_function word))
     is_dynamic : {opened : List (List ℕ)} {name : List ℕ} {use_of : Use} (value : List ℕ) →
         meaning name ≡ dynamic value → length value ≤ limit → Adds wide meaning opened (reference name use_of) (gives (used use_of value))
     is_long_dynamic : {opened : List (List ℕ)} {name : List ℕ} {use_of : Use} (value : List ℕ) →
@@ -90,6 +95,7 @@ MeetsFault wide meaning text (Loop name) = Expands wide meaning [] [] text (fail
 MeetsFault wide meaning text Unclosed = Expands wide meaning [] [] text (fails not_closed)
 MeetsFault wide meaning text NestedReference = Expands wide meaning [] [] text (fails dollar_in_brackets)
 MeetsFault wide meaning text TooLong = Expands wide meaning [] [] text (fails too_long)
+MeetsFault wide meaning text (Function word) = Expands wide meaning [] [] text (fails (calls_function word))
 
 abbrev pub ExpandsToFault : Meanings → (text : List ℕ) → MacroFault → Type 0
 ExpandsToFault names text fault = MeetsFault (is_wide names.language) names.meaning text fault

@@ -3,6 +3,8 @@
 pub mod Dynamic
 -- Expansion: what the outcome of a text is.
 pub mod Expansion
+-- Function: which names spell functions of GNU make.
+pub mod Function
 -- Lookup: what a reference comes to, by what is known of its macro.
 pub mod Lookup
 -- Mention: whether a text refers to the list of newer prerequisites.

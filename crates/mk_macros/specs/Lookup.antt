@@ -6,7 +6,7 @@ use Rattle.std.specs.Cmp.Lexicographic.{pointwise}
 use Rattle.mk_macros.specs.Reference.{Use, used}
 use Rattle.mk_macros.specs.Expansion.{Meaning, undefined, dynamic, defined, limit}
 use Rattle.mk_macros.specs.declared.fault.MacroFault.{MacroFault}
-use Rattle.mk_macros.specs.declared.fault.MacroFault.TheVariants.{OutOfMemory, Loop, TooLong}
+use Rattle.mk_macros.specs.declared.fault.MacroFault.TheVariants.{OutOfMemory, Loop, TooLong, Function}
 use Rattle.mk_macros.specs.declared.lookup.Progress as own
 use Rattle.mk_macros.specs.declared.lookup.Progress.TheVariants.{Opened, Known}
 
@@ -24,13 +24,13 @@ shown_progress (Some (Known value)) = known value.items
 abbrev pub progress_at : {S : Type 0} → HashMap (Bor (List ℕ)) own.Progress S → List ℕ → Progress
 progress_at m name = shown_progress (get_by (λ k. pointwise nat_eq name k.now) m)
 
--- what a reference adds, where the value of its macro is known
-abbrev pub AddsNow : Meaning → Progress → Use → (added : List ℕ) → Type 0
-AddsNow undefined progress use_of added = added ≡ []
-AddsNow (dynamic value) progress use_of added = (length value ≤ limit) × (added ≡ used use_of value)
-AddsNow (defined text) (known value) use_of added = added ≡ used use_of value
-AddsNow (defined text) unseen use_of added = ⊥
-AddsNow (defined text) opened use_of added = ⊥
+-- what a reference adds, where the value of its macro is known; one that isn't defined adds nothing if it spells no function
+abbrev pub AddsNow : (function : Option (List ℕ)) → Meaning → Progress → Use → (added : List ℕ) → Type 0
+AddsNow function undefined progress use_of added = (function ≡ None) × (added ≡ [])
+AddsNow function (dynamic value) progress use_of added = (length value ≤ limit) × (added ≡ used use_of value)
+AddsNow function (defined text) (known value) use_of added = added ≡ used use_of value
+AddsNow function (defined text) unseen use_of added = ⊥
+AddsNow function (defined text) opened use_of added = ⊥
 
 -- a dynamic macro has a value over the limit
 abbrev pub HasLongValue : Meaning → Type 0
@@ -43,16 +43,17 @@ abbrev pub IsDefined : Meaning → Type 0
 IsDefined meaning = (text : List ℕ) × (meaning ≡ defined text)
 
 -- what was made now ends in what the reference adds; or its macro wasn't met yet, and this is its name and its text
-abbrev pub Finds : Meaning → Progress → Use → (name before after : List ℕ) → Option (Bor (List ℕ) × Bor (List ℕ)) → Type 0
-Finds meaning progress use_of name before after None =
-    (added : List ℕ) × AddsNow meaning progress use_of added × (after ≡ before ++ added) × (length after ≤ limit)
-Finds meaning progress use_of name before after (Some found) =
+abbrev pub Finds : (function : Option (List ℕ)) → Meaning → Progress → Use → (name before after : List ℕ) → Option (Bor (List ℕ) × Bor (List ℕ)) → Type 0
+Finds function meaning progress use_of name before after None =
+    (added : List ℕ) × AddsNow function meaning progress use_of added × (after ≡ before ++ added) × (length after ≤ limit)
+Finds function meaning progress use_of name before after (Some found) =
     (found.0.now ≡ name) × (meaning ≡ defined found.1.now) × (progress ≡ unseen) × (after ≡ before)
 
 -- why nothing could be appended to what was made
-abbrev pub FailsNow : Meaning → Progress → Use → (name made : List ℕ) → MacroFault → Type 0
-FailsNow meaning progress use_of name made OutOfMemory = Unit {0}
-FailsNow meaning progress use_of name made (Loop n) = (n ≡ name) × (progress ≡ opened) × IsDefined meaning
-FailsNow meaning progress use_of name made TooLong =
-    HasLongValue meaning ⊎ ((added : List ℕ) × AddsNow meaning progress use_of added × (limit < length (made ++ added)))
-FailsNow meaning progress use_of name made _ = ⊥
+abbrev pub FailsNow : (function : Option (List ℕ)) → Meaning → Progress → Use → (name made : List ℕ) → MacroFault → Type 0
+FailsNow function meaning progress use_of name made OutOfMemory = Unit {0}
+FailsNow function meaning progress use_of name made (Loop n) = (n ≡ name) × (progress ≡ opened) × IsDefined meaning
+FailsNow function meaning progress use_of name made TooLong =
+    HasLongValue meaning ⊎ ((added : List ℕ) × AddsNow function meaning progress use_of added × (limit < length (made ++ added)))
+FailsNow function meaning progress use_of name made (Function word) = (meaning ≡ undefined) × (function ≡ Some word)
+FailsNow function meaning progress use_of name made _ = ⊥

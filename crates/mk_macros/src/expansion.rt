@@ -86,7 +86,9 @@ impl Macros {
             match left {
                 Left::Name(bytes, after) => {
                     let (name, use_of) = named(&bytes);
-                    match self.append_reference(alloc, line, &progress, &mut made, name, &use_of)? {
+                    match self.append_reference(
+                        alloc, profile, line, &progress, &mut made, name, &use_of,
+                    )? {
                         None => left = Left::Text(after),
                         Some((name, text)) => {
                             progress.insert(name, Progress::Opened)?;
@@ -135,7 +137,7 @@ impl Macros {
                     }
                     Some((Piece::Reference(name, use_of), after)) => {
                         match self.append_reference(
-                            alloc, line, &progress, &mut made, name, &use_of,
+                            alloc, profile, line, &progress, &mut made, name, &use_of,
                         )? {
                             None => left = Left::Text(after),
                             Some((name, text)) => {

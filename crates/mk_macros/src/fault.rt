@@ -20,6 +20,9 @@ pub enum MacroFault {
     /// Over `MAX_EXPANSION_BYTES`, in the result or in a value on the way.
     #[error("expansion too long")]
     TooLong,
+    /// In the wide profile, a reference that spells this function of GNU make and is no macro.
+    #[error("not supported: $({0} ..)")]
+    Function(ByteString),
 }
 
 impl From<AllocError> for MacroFault {

@@ -5,6 +5,7 @@ mod definitions;
 mod dynamic;
 mod expansion;
 mod fault;
+mod function;
 mod laws;
 mod lookup;
 mod mention;
@@ -16,6 +17,7 @@ mod substitution;
 pub use definitions::{Macros, Rank};
 pub use dynamic::{Dynamic, RecipeNames};
 pub use fault::{MAX_EXPANSION_BYTES, MacroFault};
+pub use function::FUNCTIONS;
 pub use laws::{
     an_outcome, each_front_is_as_it_is_spelled, one_outcome, parts_of_words,
     substitutions_change_words,

@@ -3,15 +3,19 @@ ghost use Rattle.std.specs.Prelude.{◌≡◌, ◌≤◌, ◌++◌, length, IfOk
 ghost use Rattle.mk_macros.specs.Reference.{used};
 ghost use Rattle.mk_macros.specs.Shown.{shown_use};
 ghost use Rattle.mk_macros.specs.Ranks.{defined_by, meaning_of};
+ghost use Rattle.mk_macros.specs.Function.{function_in};
+ghost use Rattle.mk_profile.specs.Profile.{is_wide};
 ghost use Rattle.mk_macros.specs.Expansion.{limit, IsTooLongAt};
 ghost use Rattle.mk_macros.specs.Lookup.{progress_at, Finds, FailsNow};
 
 use crate::definitions::Macros;
 use crate::dynamic::Dynamic;
 use crate::fault::MacroFault;
+use crate::function::refuse_function;
 use crate::reference::Use;
 use crate::substitution::{append, append_changed_words};
 use byte_strings::ByteString;
+use mk_profile::Profile;
 use std::alloc::Global;
 use std::collections::HashMap;
 
@@ -40,6 +44,7 @@ impl Macros {
     pub(crate) fn append_reference<'a>(
         &'a self,
         alloc: Global,
+        profile: Profile,
         line: &Dynamic<'_>,
         progress: &HashMap<&'a [u8], Progress>,
         made: &mut Vec<u8>,
@@ -47,9 +52,9 @@ impl Macros {
         use_of: &Use<'_>,
     ) -> Result<Option<(&'a [u8], &'a [u8])>, MacroFault>
         requires { length made.old.items ≤ limit }
-        ensures ok { IfOk result (Finds (meaning_of (defined_by self.now).ranks line.now name.now) (progress_at progress.now name.now)
+        ensures ok { IfOk result (Finds (function_in (is_wide profile) name.now) (meaning_of (defined_by self.now).ranks line.now name.now) (progress_at progress.now name.now)
             (shown_use use_of.now) name.now made.old.items made.new.items) }
-        ensures err { IfErr result (FailsNow (meaning_of (defined_by self.now).ranks line.now name.now) (progress_at progress.now name.now)
+        ensures err { IfErr result (FailsNow (function_in (is_wide profile) name.now) (meaning_of (defined_by self.now).ranks line.now name.now) (progress_at progress.now name.now)
             (shown_use use_of.now) name.now made.old.items) }
     {
         if let Some(value) = line.value(alloc, name)? {
@@ -57,6 +62,7 @@ impl Macros {
             return Ok(None);
         }
         let Some((name, text)) = self.definition(name) else {
+            refuse_function(alloc, profile, name)?;
             return Ok(None);
         };
         match progress.get(name) {

@@ -4,6 +4,7 @@ ghost use Rattle.std.specs.Prelude.{◌≡◌, ◌≤◌, ◌++◌, ℕ, List, [
 ghost use Rattle.std.specs.Bool.{OnTrue};
 ghost use Rattle.mk_macros.specs.Dynamic.{dynamic_value, recipe_value, whole_value};
 ghost use Rattle.mk_macros.specs.Expansion.{gives, limit, Expands};
+ghost use Rattle.mk_macros.specs.Function.{function_in};
 ghost use Rattle.mk_macros.specs.Ranks.{defined_by, meaning_of};
 ghost use Rattle.mk_macros.specs.Reference.{reference, whole};
 ghost use Rattle.mk_macros.specs.Shown.{shown_piece};
@@ -14,6 +15,7 @@ ghost use Rattle.mk_profile.specs.Profile.{is_wide};
 use crate::definitions::Macros;
 use crate::dynamic::{Dynamic, RecipeNames};
 use crate::fault::MAX_EXPANSION_BYTES;
+use crate::function::function_in;
 use crate::plain::is_own_value;
 use crate::reference::{Piece, Use, next_piece};
 use std::alloc::{AllocError, Global};
@@ -84,13 +86,23 @@ fn append_within(made: &mut Vec<u8>, bytes: &[u8]) -> Result<bool, AllocError>
 }
 
 impl Macros {
+    /// What a macro adds that isn't defined: nothing, if its name spells no function.
+    fn undefined_value(&self, name: &[u8]) -> Option<&[u8]>
+        ensures { IfSome result (λ v. (v.now ≡ []) × (function_in (is_wide (defined_by self.now).language) name.now ≡ None)) }
+    {
+        match function_in(self.profile(), name) {
+            None => Some(&[]),
+            Some(_) => None,
+        }
+    }
+
     /// What a reference to a name adds that is no dynamic macro, where its text has no reference.
     fn own_value(&self, line: &Dynamic<'_>, name: &[u8]) -> Option<&[u8]>
         requires { dynamic_value line.now name.now ≡ None }
         ensures { IfSome result (λ v. AddsThere (defined_by self.now) line.now (reference name.now whole) v.now) }
     {
         match self.definition(name) {
-            None => Some(&[]),
+            None => self.undefined_value(name),
             Some((_, text)) if is_own_value(text) => Some(text),
             Some(_) => None,
         }

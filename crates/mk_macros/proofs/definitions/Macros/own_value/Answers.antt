@@ -1,10 +1,11 @@
 use Rattle.std.proofs.Common.{sym}
 use Rattle.mk_macros.specs.Ranks.{defined_by}
-use Rattle.mk_macros.proofs.SimpleLemmas.{undefined_adds, defined_adds}
+use Rattle.mk_macros.proofs.SimpleLemmas.{undefined_value_adds, defined_adds}
 use Rattle.mk_macros.proofs.definitions.Macros.own_value.Goals as goal
 
 pub returns-in-None : goal.returns-in-None
-returns-in-None c = undefined_adds (defined_by c.args.self.now) c.args.line.now c.args.name.now c.requires (sym c.in-None.ensures.text)
+returns-in-None c =
+    undefined_value_adds (defined_by c.args.self.now) c.args.line.now c.args.name.now c.undefined_value.result c.requires (sym c.in-None.ensures.text) c.undefined_value.ensures
 
 pub returns-in-Some : goal.returns-in-Some
 returns-in-Some c =
