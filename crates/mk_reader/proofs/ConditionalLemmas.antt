@@ -1,18 +1,18 @@
 -- What tells `:=` of a conditional macro from a definition, in the code and in the grammar.
-use Rattle.std.proofs.Common.{◌≡◌, ℕ, ◌-◌, Bool, true, false, cond, not, ◌&&◌, ◌||◌, List, [], ◌∷◌, ◌++◌, length, take, reverse, refl, sym, ap, ◌∙◌, arith, length-append, Option, Some, None}
+use Rattle.std.proofs.Common.{◌≡◌, ℕ, ◌-◌, Bool, true, false, cond, not, ◌&&◌, ◌||◌, List, [], ◌∷◌, ◌++◌, length, take, drop, ◌+◌, reverse, refl, sym, ap, ◌∙◌, arith, length-append, Option, Some, None}
 use Rattle.std.specs.List.{list_any, list_all}
 use Rattle.std.proofs.lemmas.List.{reverse-append, take_at}
 use Rattle.byte_strings.specs.Blanks.{is_blank, trimmed}
 use Rattle.mk_profile.specs.Profile.{is_wide}
 use Rattle.mk_profile.specs.declared.profile.Profile.{Profile}
-use Rattle.mk_reader.specs.Text.{is_empty, begins_with, ends_with, without_last}
-use Rattle.mk_reader.specs.Grammar.{SpellsName, is_name_byte, IsConditional, IsSet}
-use Rattle.mk_reader.specs.Form.{first_outside, is_macro_name, without_plus, conditional_at}
+use Rattle.mk_reader.specs.Text.{is_empty, begins_with, ends_with, without_last, without_plus}
+use Rattle.mk_reader.specs.Grammar.{SpellsName, is_name_byte, is_apart, IsConditional, IsSet}
+use Rattle.mk_reader.specs.Form.{first_outside, is_macro_name, conditional_at}
 use Rattle.mk_reader.specs.declared.form.Place.TheVariants.{Outside}
 use Rattle.mk_reader.proofs.ReferenceLemmas.{either, or_false, Said, said, cut_found}
 use Rattle.mk_reader.proofs.BlankLemmas.{and_true, trimmed_is, trimmed_padded}
 use Rattle.mk_reader.proofs.SpellingLemmas.{ends_at}
-use Rattle.mk_reader.proofs.CutLemmas.{one_of, not_false, not_true, cut_left}
+use Rattle.mk_reader.proofs.CutLemmas.{one_of, not_false, not_true, cut_left, cut_right}
 
 spelled : (left : List ℕ) (plus : Bool) → begins_with 43 (reverse left) ≡ plus → SpellsName left (trimmed (cond plus (without_last left) left)) plus
 spelled left true e = (without_last left, ends_at 43 left (reverse left) refl e, trimmed_padded (without_last left))
@@ -32,23 +32,27 @@ conditional_of right None s h = absurd (cc h)
 conditional_of right (Some n) (before, b, rest, e, whole, is_one, long) h =
     let same : b ≡ 61 = one_of 61 b is_one in
     let left : take n right ≡ before = cut_left right before b rest n e long in
+    let behind : drop (n + 1) right ≡ rest = cut_right right before b rest n e long in
+    let both = and_true (is_macro_name (trimmed (without_plus (take n right)))) (is_apart (take n right) (drop (n + 1) right)) h in
     let plus = begins_with 43 (reverse before) in
     let core : List ℕ → List ℕ = λ xs. trimmed (cond (begins_with 43 (reverse xs)) (without_last xs) xs) in
     let good : (not (is_empty (core before)) && list_all is_name_byte (core before)) ≡ true =
-    ap (λ xs. not (is_empty (core xs)) && list_all is_name_byte (core xs)) (sym left) ∙ h in
+    ap (λ xs. not (is_empty (core xs)) && list_all is_name_byte (core xs)) (sym left) ∙ both.0 in
+    let apart : is_apart before rest ≡ true = ap (λ xs. is_apart xs rest) (sym left) ∙ ap (is_apart (take n right)) (sym behind) ∙ both.1 in
     let parts = and_true (not (is_empty (core before))) (list_all is_name_byte (core before)) good in
-    (before, rest, e ∙ ap (λ c. before ++ c ∷ rest) same, whole, core before, plus, spelled before plus refl, not_true (is_empty (core before)) parts.0, parts.1)
+    (before, rest, e ∙ ap (λ c. before ++ c ∷ rest) same, whole, core before, plus, spelled before plus refl, not_true (is_empty (core before)) parts.0, parts.1, apart)
 
 conditional_said : (right : List ℕ) → conditional_at right (first_outside 61 61 Outside right) ≡ true → IsConditional right
 conditional_said right h = conditional_of right (first_outside 61 61 Outside right) (said 61 61 refl right) h
 
 conditional_is : (right : List ℕ) → IsConditional right → conditional_at right (first_outside 61 61 Outside right) ≡ true
 unfolding conditional_at is_macro_name
-conditional_is right (left, value, e, whole, name, append, spells, some, all) =
+conditional_is right (left, value, e, whole, name, append, spells, some, all, apart) =
     ap (conditional_at right) (cut_found 61 61 refl right left 61 value e whole refl)
-    ∙ ap (λ xs. is_macro_name (trimmed (without_plus xs))) (cut_left right left 61 value (length left) e refl)
-    ∙ ap is_macro_name (plus_off left name append spells)
-    ∙ ap (λ t. not t && list_all is_name_byte name) some ∙ all
+    ∙ ap (λ xs. is_macro_name (trimmed (without_plus xs)) && is_apart xs (drop (length left + 1) right)) (cut_left right left 61 value (length left) e refl)
+    ∙ ap (λ xs. is_macro_name (trimmed (without_plus left)) && is_apart left xs) (cut_right right left 61 value (length left) e refl)
+    ∙ ap (λ xs. is_macro_name xs && is_apart left value) (plus_off left name append spells)
+    ∙ ap (λ t. (not t && list_all is_name_byte name) && is_apart left value) some ∙ ap (λ t. t && is_apart left value) all ∙ apart
 
 module _ (profile : Profile) (left right : List ℕ) where
   -- such a `:=` is refused

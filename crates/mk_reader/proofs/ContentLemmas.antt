@@ -6,10 +6,11 @@ use Rattle.std.specs.List.{list_any, before_first}
 use Rattle.mk_profile.specs.Profile.{is_wide}
 use Rattle.mk_profile.specs.declared.profile.Profile.{Profile}
 use Rattle.mk_reader.specs.Text.{is_hash, is_empty, begins_with, ends_with}
-use Rattle.mk_reader.specs.Grammar.{Lacks, IsComment, Written, byte, backslash_and, hash, written_as, stands_for, AreWritten, IsLastOf, ContentIn, HasContent}
-use Rattle.mk_reader.specs.Form.{unescaped_from, content_in}
+use Rattle.mk_reader.specs.Grammar.{Lacks, IsComment, Written, byte, backslash_and, hash, written_as, stands_for, AreWritten, IsLastOf, ContentIn, OpensRecipe, HasContent}
+use Rattle.mk_reader.specs.Form.{unescaped_from, content_in, opens_recipe, line_content}
 use Rattle.mk_reader.proofs.ReferenceLemmas.{either, or_false}
-use Rattle.mk_reader.proofs.BlankLemmas.{starts, before_first_is, before_first_cuts}
+use Rattle.mk_reader.proofs.BlankLemmas.{and_true, starts, before_first_is, before_first_cuts}
+use Rattle.mk_reader.proofs.OpensLemmas.{opens_said, opens_is}
 
 hash_start : (rest : List ℕ) → (is_empty rest || starts is_hash rest) ≡ true → IsComment rest
 hash_start [] h = h
@@ -98,11 +99,34 @@ is_in : (wide : Bool) (text content : List ℕ) → ContentIn wide text content 
 is_in false text content has = before_first_is is_hash text content has.0 (has.1, has.2, hash_start_back has.0 has.3)
 is_in true text content (parts, last, comment, e, c, are, ends, begins) = ap (unescaped_from false) e ∙ parts_are parts last comment are ends begins ∙ sym c
 
-pub content_said : (profile : Profile) (text : List ℕ) → HasContent profile text (content_in (is_wide profile) text)
-content_said profile text = said_in (is_wide profile) text
+opened_content : (profile : Profile) (text : List ℕ) → (is_wide profile && opens_recipe text) ≡ true → line_content profile text ≡ text
+unfolding line_content
+opened_content profile text h = ap (λ t. cond t text (content_in (is_wide profile) text)) h
 
-pub content_is : (profile : Profile) (text content : List ℕ) → HasContent profile text content → content_in (is_wide profile) text ≡ content
-content_is profile text content has = is_in (is_wide profile) text content has
+plain_content : (profile : Profile) (text : List ℕ) → (is_wide profile && opens_recipe text) ≡ false → line_content profile text ≡ content_in (is_wide profile) text
+unfolding line_content
+plain_content profile text h = ap (λ t. cond t text (content_in (is_wide profile) text)) h
+
+none_opens : (profile : Profile) (text : List ℕ) → (is_wide profile && opens_recipe text) ≡ false → is_wide profile ≡ true → OpensRecipe text → ⊥
+none_opens profile text h wide opens =
+    let both : (is_wide profile && opens_recipe text) ≡ true = ap (λ w. w && opens_recipe text) wide ∙ opens_is text opens in
+    absurd (cc (both, h))
+
+pub never_opens : (profile : Profile) (text : List ℕ) → (is_wide profile ≡ true → OpensRecipe text → ⊥) → (is_wide profile && opens_recipe text) ≡ false
+never_opens profile text none =
+    either _ (is_wide profile && opens_recipe text)
+    (λ h. let both = and_true (is_wide profile) (opens_recipe text) h in absurd (none both.0 (opens_said text both.1)))
+    (λ f. f)
+
+pub content_said : (profile : Profile) (text : List ℕ) → HasContent profile text (line_content profile text)
+content_said profile text =
+    either _ (is_wide profile && opens_recipe text)
+    (λ h. let both = and_true (is_wide profile) (opens_recipe text) h in inl (both.0, opens_said text both.1, opened_content profile text h))
+    (λ f. inr (none_opens profile text f, subst (ContentIn (is_wide profile) text) (sym (plain_content profile text f)) (said_in (is_wide profile) text)))
+
+pub content_is : (profile : Profile) (text content : List ℕ) → HasContent profile text content → line_content profile text ≡ content
+content_is profile text content (inl (wide, opens, e)) = opened_content profile text (ap (λ w. w && opens_recipe text) wide ∙ opens_is text opens) ∙ sym e
+content_is profile text content (inr (none, has)) = plain_content profile text (never_opens profile text none) ∙ is_in (is_wide profile) text content has
 
 -- Texts without a `#`
 
@@ -168,15 +192,30 @@ commented_in false text comment none begins bare = before_first_is is_hash (text
 commented_in true text comment none begins bare = unescaped_itself false text comment none begins (none_over text (reverse text) refl bare)
 
 -- a line without a comment
-pub alone : (profile : Profile) (text : List ℕ) → Lacks 35 text → content_in (is_wide profile) text ≡ text
-alone profile text none = alone_in (is_wide profile) text none
+pub alone : (profile : Profile) (text : List ℕ) → Lacks 35 text → line_content profile text ≡ text
+alone profile text none =
+    either _ (is_wide profile && opens_recipe text)
+    (λ h. opened_content profile text h)
+    (λ f. plain_content profile text f ∙ alone_in (is_wide profile) text none)
 
--- a comment behind no backslash
-pub commented : (profile : Profile) (text comment : List ℕ) → Lacks 35 text → IsComment comment → (is_wide profile && ends_with 92 text) ≡ false → content_in (is_wide profile) (text ++ comment) ≡ text
-commented profile text comment none begins bare = commented_in (is_wide profile) text comment none begins bare
+-- a comment behind no backslash, and in no recipe
+pub commented : (profile : Profile) (text comment : List ℕ) → Lacks 35 text → IsComment comment → (is_wide profile && ends_with 92 text) ≡ false →
+    (is_wide profile && opens_recipe (text ++ comment)) ≡ false → line_content profile (text ++ comment) ≡ text
+commented profile text comment none begins bare unopened =
+    plain_content profile (text ++ comment) unopened ∙ commented_in (is_wide profile) text comment none begins bare
 
 -- a text that is cut at its first `#`, behind no backslash
-pub cut_is : (profile : Profile) (text : List ℕ) → (is_wide profile && ends_with 92 (before_first is_hash text)) ≡ false → before_first is_hash text ≡ content_in (is_wide profile) text
-cut_is profile text bare =
+pub cut_is : (profile : Profile) (text : List ℕ) → (is_wide profile && opens_recipe text) ≡ false → (is_wide profile && ends_with 92 (before_first is_hash text)) ≡ false →
+    before_first is_hash text ≡ line_content profile text
+cut_is profile text unopened bare =
     let cut = before_first_cuts is_hash text in
-    sym (ap (content_in (is_wide profile)) cut.1.0 ∙ commented profile (before_first is_hash text) cut.0 cut.1.1 (hash_start cut.0 cut.1.2) bare)
+    sym (plain_content profile text unopened ∙ ap (content_in (is_wide profile)) cut.1.0
+    ∙ commented_in (is_wide profile) (before_first is_hash text) cut.0 cut.1.1 (hash_start cut.0 cut.1.2) bare)
+
+-- one that is the shell's behind its `;`
+pub opened_is : (profile : Profile) (text : List ℕ) → (is_wide profile && opens_recipe text) ≡ true → text ≡ line_content profile text
+opened_is profile text h = sym (opened_content profile text h)
+
+-- one with a `\#`
+pub unescaped_is : (profile : Profile) (text content : List ℕ) → (is_wide profile && opens_recipe text) ≡ false → is_wide profile ≡ true → content ≡ unescaped_from false text → content ≡ line_content profile text
+unescaped_is profile text content unopened wide e = e ∙ sym (plain_content profile text unopened ∙ ap (λ w. content_in w text) wide)

@@ -7,7 +7,7 @@ use Rattle.mk_profile.specs.declared.profile.Profile.{Profile}
 use Rattle.mk_reader.specs.Text.{is_dollar, is_empty, is_text}
 use Rattle.mk_reader.specs.Grammar.{refusal, is_bad_include, IsIncludeForm, IsLine, IsTextLine, IsRecipeLine, IsOfKind, IsForm}
 use Rattle.mk_reader.specs.Directive.{told_as}
-use Rattle.mk_reader.specs.Form.{include_kind, include_form, opened_form, decided_form, first_outside, line_form, content_in, content_form, statement_form, recipe_form, form_of}
+use Rattle.mk_reader.specs.Form.{include_kind, include_form, opened_form, decided_form, first_outside, line_form, line_content, content_form, statement_form, recipe_form, form_of}
 use Rattle.mk_reader.specs.declared.fault.Feature.TheVariants as feature
 use Rattle.mk_reader.specs.declared.fault.Cause.TheVariants as cause
 use Rattle.mk_reader.specs.declared.line.LogicalLine.{LogicalLine}
@@ -91,10 +91,10 @@ module _ (file : List ℕ) (number : ℕ) (profile : Profile) where
       no_word (Some required) e = absurd (none required (drop (length (first_word line)) line) (kind_opens profile line required e))
       no_word None e = e
 
-  text_said : (text : List ℕ) → IsTextLine profile file number text (statement_form profile file number text)
+  pub text_said : (text : List ℕ) → IsTextLine profile file number text (statement_form profile file number text)
   unfolding statement_form content_form
   text_said text =
-      let content = content_in (is_wide profile) text in
+      let content = line_content profile text in
       let has = content_said profile text in
       by_test (IsTextLine profile file number text) (is_text content) _ _
       (λ t. (content, has, inr (t, (trimmed content, trimmed_padded content, line_said (trimmed content)))))

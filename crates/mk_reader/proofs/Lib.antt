@@ -6,6 +6,7 @@ pub mod FormLemmas
 pub mod GrammarLemmas
 pub mod JoinedLemmas
 pub mod LinesLemmas
+pub mod OpensLemmas
 pub mod OutsideLemmas
 pub mod PlaceLemmas
 pub mod PlainLemmas

@@ -18,7 +18,7 @@ use Rattle.mk_reader.proofs.ReferenceLemmas.{or_false}
 use Rattle.mk_reader.proofs.LinesLemmas.{logical_line-is}
 use Rattle.mk_reader.proofs.SplitLemmas.{ended_before, last_ends, lines_are_back}
 use Rattle.mk_reader.proofs.PrintedLemmas.{begins_more, no_blank_first, definition_read, rule_read}
-use Rattle.mk_reader.proofs.StatementLemmas.{recipe_some}
+use Rattle.mk_reader.proofs.StatementLemmas.{recipe_some, told_plainly}
 use Rattle.mk_reader.proofs.ContentLemmas.{alone, content_said}
 
 -- The physical lines of a printed text
@@ -165,11 +165,11 @@ module _ (profile : Profile) (file : List ℕ) where
       (Ok (form.Recipe (record { text = text; line = number })), inr (inr (h.1, h.2, refl)), below.0, below.1, recipe_read (next number) more rest said h.3 read)
 
   items_read : (number : ℕ) (items : List PlainItem) (above : Bool) → ArePlain profile items → LineStatements profile file above (plain_lines number items) (map statement.Item (items_on file number items))
-  items_read number [] above h = (Ok form.Blank, blank_read profile file number, [], refl, refl)
+  items_read number [] above h = (Ok form.Blank, told_plainly profile file above (line_of_text number []) (Ok form.Blank) refl (blank_read profile file number), [], refl, refl)
   items_read number (definition name append value ∷ more) above h =
       let below = recipe_some profile file (plain_lines (next number) more) in (
         Ok (form.Definition (definition_on file number name append value)),
-        definition_read profile file name value number append h.0.0 h.0.1 h.0.2,
+        told_plainly profile file above (line_of_text number (definition_text name append value)) (Ok (form.Definition (definition_on file number name append value))) refl (definition_read profile file name value number append h.0.0 h.0.1 h.0.2),
         below.0,
         below.1,
         (map statement.Item (items_on file (next number) more), items_read (next number) more false h.1, refl),
@@ -177,7 +177,7 @@ module _ (profile : Profile) (file : List ℕ) where
   items_read number (rule special double targets prerequisites recipe ∷ more) above h =
       let after = after_recipe (next number) recipe in (
         Ok (form.Rule (rule_on file number special double targets prerequisites)),
-        rule_read profile file targets prerequisites number special double h.0.0 h.0.1 h.0.2 h.0.3 h.0.4 h.0.7,
+        told_plainly profile file above (line_of_text number (rule_text double targets prerequisites)) (Ok (form.Rule (rule_on file number special double targets prerequisites))) refl (rule_read profile file targets prerequisites number special double h.0.0 h.0.1 h.0.2 h.0.3 h.0.4 h.0.7),
         recipe_on (next number) recipe,
         recipe_below (next number) recipe (λ n. plain_lines n more) h.0.6 (none_below after more h.1),
         (

@@ -7,8 +7,8 @@ use Rattle.byte_strings.specs.Blanks.{is_blank, first_word}
 use Rattle.mk_profile.specs.Profile.{is_wide}
 use Rattle.mk_profile.specs.declared.profile.Profile.{Profile}
 use Rattle.mk_reader.specs.Text.{is_empty, begins_with, ends_with, is_text}
-use Rattle.mk_reader.specs.Grammar.{Piece, plain, piece_text, IsPiece, ArePieces, nothing, Lacks, Whole, Without, begins_blank, Padded, BeginsWithWord, BeginsInclude, IsNoInclude, SpellsName, SpellsAssignment, SpellsDefinition, SpellsColon, IsRuleEnd, ends_sign, SpellsRuleSign, SpellsEnd, SpellsRule, HasSpecial, is_refused_with, IsStatement, HasContent, IsTextLine, IsForm}
-use Rattle.mk_reader.specs.Form.{content_in}
+use Rattle.mk_reader.specs.Grammar.{Piece, plain, piece_text, IsPiece, ArePieces, nothing, Lacks, Whole, Without, begins_blank, Padded, BeginsWithWord, BeginsInclude, IsNoInclude, SpellsName, SpellsAssignment, SpellsDefinition, SpellsColon, IsRuleEnd, ends_sign, SpellsRuleSign, SpellsEnd, SpellsRule, HasSpecial, is_refused_with, IsStatement, OpensRecipe, HasContent, IsTextLine, IsForm}
+use Rattle.mk_reader.specs.Form.{line_content}
 use Rattle.mk_reader.specs.Printed.{line_of_text, HasBareEnds, IsPlainName, IsPlainValue, ArePlainTargets, ArePlainPrerequisites, sign, spaced, definition_text, rule_text, HasSign, definition_on, rule_on}
 use Rattle.mk_reader.specs.declared.special.SpecialName.{SpecialName}
 use Rattle.mk_reader.specs.declared.fault.Refusal.{Refusal}
@@ -16,7 +16,7 @@ use Rattle.mk_reader.specs.declared.form.Form.{Form}
 use Rattle.mk_reader.specs.declared.form.Form.TheVariants as form
 use Rattle.mk_reader.proofs.ReferenceLemmas.{or_false}
 use Rattle.mk_reader.proofs.WordLemmas.{word_is, begins_with_first_word, include_bare}
-use Rattle.mk_reader.proofs.ContentLemmas.{content_said, content_is, alone, commented}
+use Rattle.mk_reader.proofs.ContentLemmas.{content_said, content_is, never_opens, alone, commented}
 
 abbrev Told : Type 0
 Told = Result Form Refusal
@@ -255,19 +255,23 @@ rule_read profile file targets prerequisites number special double t p has taken
 -- Comments
 
 -- lines that hold the same are told the same
-same_content : (profile : Profile) (file : List ℕ) (number : ℕ) (one other : List ℕ) (told : Told) → content_in (is_wide profile) one ≡ content_in (is_wide profile) other →
+same_content : (profile : Profile) (file : List ℕ) (number : ℕ) (one other : List ℕ) (told : Told) → line_content profile one ≡ line_content profile other →
     IsTextLine profile file number one told → IsTextLine profile file number other told
 same_content profile file number one other told same (content, has, is) =
-    let at : content_in (is_wide profile) other ≡ content = sym same ∙ content_is profile one content has in
+    let at : line_content profile other ≡ content = sym same ∙ content_is profile one content has in
     (content, subst (HasContent profile other) at (content_said profile other), is)
 
-comment_alike : (profile : Profile) (text comment : List ℕ) → Lacks 35 text → (is_wide profile && ends_with 92 text) ≡ false → content_in (is_wide profile) (text ++ 35 ∷ comment) ≡ content_in (is_wide profile) text
-comment_alike profile text comment none bare = commented profile text (35 ∷ comment) none refl bare ∙ sym (alone profile text none)
+comment_alike : (profile : Profile) (text comment : List ℕ) → Lacks 35 text → (is_wide profile && ends_with 92 text) ≡ false → (is_wide profile ≡ true → OpensRecipe (text ++ 35 ∷ comment) → ⊥) →
+    line_content profile (text ++ 35 ∷ comment) ≡ line_content profile text
+comment_alike profile text comment none bare unopened =
+    commented profile text (35 ∷ comment) none refl bare (never_opens profile (text ++ 35 ∷ comment) unopened) ∙ sym (alone profile text none)
 
 pub comment_dropped : (profile : Profile) (file : List ℕ) (number : ℕ) (text comment : List ℕ) (told : Told) → Lacks 35 text → (is_wide profile && ends_with 92 text) ≡ false →
-    IsForm profile file (line_of_text number (text ++ 35 ∷ comment)) told → IsForm profile file (line_of_text number text) told
-comment_dropped profile file number text comment told none bare h = same_content profile file number (text ++ 35 ∷ comment) text told (comment_alike profile text comment none bare) h
+    (is_wide profile ≡ true → OpensRecipe (text ++ 35 ∷ comment) → ⊥) → IsForm profile file (line_of_text number (text ++ 35 ∷ comment)) told → IsForm profile file (line_of_text number text) told
+comment_dropped profile file number text comment told none bare unopened h =
+    same_content profile file number (text ++ 35 ∷ comment) text told (comment_alike profile text comment none bare unopened) h
 
 pub comment_added : (profile : Profile) (file : List ℕ) (number : ℕ) (text comment : List ℕ) (told : Told) → Lacks 35 text → (is_wide profile && ends_with 92 text) ≡ false →
-    IsForm profile file (line_of_text number text) told → IsForm profile file (line_of_text number (text ++ 35 ∷ comment)) told
-comment_added profile file number text comment told none bare h = same_content profile file number text (text ++ 35 ∷ comment) told (sym (comment_alike profile text comment none bare)) h
+    (is_wide profile ≡ true → OpensRecipe (text ++ 35 ∷ comment) → ⊥) → IsForm profile file (line_of_text number text) told → IsForm profile file (line_of_text number (text ++ 35 ∷ comment)) told
+comment_added profile file number text comment told none bare unopened h =
+    same_content profile file number text (text ++ 35 ∷ comment) told (sym (comment_alike profile text comment none bare unopened)) h

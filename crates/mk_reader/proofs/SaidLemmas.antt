@@ -10,8 +10,8 @@ use Rattle.mk_profile.specs.Profile.{is_wide}
 use Rattle.mk_profile.specs.declared.profile.Profile.{Profile}
 use Rattle.mk_reader.specs.Text.{is_empty, begins_with, ends_with, without_last}
 use Rattle.mk_reader.specs.Special.{special_name}
-use Rattle.mk_reader.specs.Grammar.{Whole, Padded, AllBlank, SpellsName, SpellsAssignment, SpellsSign, SpellsColon, IsShell, SpellsRuleSign, SpellsEnd, SpellsRule, HasSpecial, is_refused_with, refusal, first_line, IsStatement}
-use Rattle.mk_reader.specs.Form.{first_outside, defined_as, is_no_name, named_form, kind_form, optional_form, assigned_form, definition_form, prerequisites_of, recipe_of, judged_form, rule_form, begins_shell_definition, double_form, set_form, colon_form, decided_form}
+use Rattle.mk_reader.specs.Grammar.{Whole, Without, Padded, AllBlank, SpellsName, SpellsAssignment, SpellsSign, SpellsColon, IsShell, SpellsRuleSign, SpellsEnd, SpellsRule, HasSpecial, is_refused_with, refusal, first_line, IsStatement}
+use Rattle.mk_reader.specs.Form.{first_outside, defined_as, is_no_name, named_form, kind_form, optional_form, assigned_form, definition_form, prerequisites_of, recipe_of, judged_form, rule_form, begins_shell_definition, double_form, set_form, colon_form, unsigned_form, decided_form}
 use Rattle.mk_reader.specs.declared.special.SpecialName.{SpecialName}
 use Rattle.mk_reader.specs.declared.item.DefinitionKind.{DefinitionKind}
 use Rattle.mk_reader.specs.declared.item.DefinitionKind.TheVariants.{IfUndefined, AtOnce, AtOnceAlone, Output}
@@ -71,7 +71,7 @@ module _ (file : List ℕ) (number : ℕ) (profile : Profile) where
       let name = trimmed left in
       by_test (IsStatement profile file number line) (is_empty name || list_any is_blank name) _ _
       (λ e. ((refl, refl), inr (inr (inl (wide, kind, left, right, spells, name, trimmed_padded left, e)))))
-      (λ e. (wide, refl, refl, (left, right, spells, trimmed_padded left, or_false (is_empty name) (list_any is_blank name) e, refl, refl, trimmed_padded right)))
+      (λ e. inr (wide, refl, refl, (left, right, spells, trimmed_padded left, or_false (is_empty name) (list_any is_blank name) e, refl, refl, trimmed_padded right)))
 
   optional_said : (line left right : List ℕ) → line ≡ left ++ 61 ∷ right → Whole 61 58 left → begins_with 63 (reverse left) ≡ true →
       IsStatement profile file number line (optional_form profile file number (without_last left) right)
@@ -202,9 +202,16 @@ module _ (file : List ℕ) (number : ℕ) (profile : Profile) where
 
   -- Statements
 
+  unsigned_said : (line : List ℕ) → Without 61 58 line → IsStatement profile file number line (unsigned_form profile file number line)
+  unfolding unsigned_form
+  unsigned_said line without =
+      by_test (IsStatement profile file number line) (not (is_wide profile && begins_with 36 line)) _ _
+      (λ t. ((refl, refl), inl (without, not_true (is_wide profile && begins_with 36 line) t)))
+      (λ f. inl ((without, not_false (is_wide profile && begins_with 36 line) f), refl))
+
   pub decided_said : (line : List ℕ) (o : Option ℕ) → Said 61 58 refl o line → IsStatement profile file number line (decided_form profile file number line o)
   unfolding decided_form
-  decided_said line None s = ((refl, refl), inl s)
+  decided_said line None s = unsigned_said line s
   decided_said line (Some n) (left, b, right, e, whole, is_one, long) =
       let form_at : List ℕ → List ℕ → ℕ → Told = λ xs ys c. cond (c == 61) (definition_form profile file number xs ys) (colon_form profile file number xs ys) in
       let at : form_at left right b ≡ form_at (take n line) (drop (n + 1) line) (slice_index line n) =

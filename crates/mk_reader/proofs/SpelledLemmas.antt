@@ -7,12 +7,12 @@ use Rattle.mk_profile.specs.Profile.{is_wide}
 use Rattle.mk_profile.specs.declared.profile.Profile.{Profile}
 use Rattle.mk_reader.specs.Text.{begins_with, ends_with, without_last}
 use Rattle.mk_reader.specs.Special.{special_name}
-use Rattle.mk_reader.specs.Grammar.{Whole, SpellsName, SpellsAssignment, SpellsDefinition, SpellsSign, SpellsKind, SpellsColon, IsRuleEnd, SpellsRuleSign, SpellsEnd, SpellsRule, HasSpecial, is_refused_with, IsRefused, refusal, first_line, IsStatement}
-use Rattle.mk_reader.specs.Form.{first_outside, defined_as, is_no_name, named_form, kind_form, optional_form, assigned_form, definition_form, prerequisites_of, recipe_of, judged_form, rule_form, begins_shell_definition, double_form, set_form, colon_form, decided_form}
+use Rattle.mk_reader.specs.Grammar.{Whole, SpellsName, SpellsAssignment, SpellsDefinition, SpellsSign, SpellsKind, IsUnsigned, SpellsColon, IsRuleEnd, SpellsRuleSign, SpellsEnd, SpellsRule, HasSpecial, is_refused_with, IsRefused, refusal, first_line, IsStatement}
+use Rattle.mk_reader.specs.Form.{first_outside, defined_as, is_no_name, named_form, kind_form, optional_form, assigned_form, definition_form, prerequisites_of, recipe_of, judged_form, rule_form, begins_shell_definition, double_form, set_form, colon_form, unsigned_form, decided_form}
 use Rattle.mk_reader.specs.declared.special.SpecialName.{SpecialName}
 use Rattle.mk_reader.specs.declared.item.Definition.{Definition}
 use Rattle.mk_reader.specs.declared.item.DefinitionKind.{DefinitionKind}
-use Rattle.mk_reader.specs.declared.item.DefinitionKind.TheVariants.{IfUndefined, AtOnce, AtOnceAlone, Output}
+use Rattle.mk_reader.specs.declared.item.DefinitionKind.TheVariants.{IfUndefined, AtOnce, AtOnceAlone, Output, NoSign}
 use Rattle.mk_reader.specs.declared.item.DefinitionLine.{DefinitionLine}
 use Rattle.mk_reader.specs.declared.item.RecipeLine.{RecipeLine}
 use Rattle.mk_reader.specs.declared.item.Rule.{Rule}
@@ -155,6 +155,7 @@ module _ (file : List ℕ) (number : ℕ) (profile : Profile) where
   sign_cut AtOnce line left right wide (inr (colon, set)) =
       colon_back line left (61 ∷ right) colon ∙ ap (λ t. at_set t left right) (set_taken profile left right wide set)
   sign_cut Output line left right wide (e, whole) = output_cut line left right wide e whole
+  sign_cut NoSign line left right wide spells = absurd spells
   sign_cut AtOnceAlone line left right wide colon = colon_back line left (58 ∷ 58 ∷ 61 ∷ right) colon ∙ ap (λ w. at_double w left (58 ∷ 61 ∷ right)) wide
 
   signed_back : (line : List ℕ) (l : DefinitionLine) → is_wide profile ≡ true → l.definition.file ≡ file → l.definition.line ≡ number → SpellsKind line l.kind l.definition →
@@ -218,9 +219,21 @@ module _ (file : List ℕ) (number : ℕ) (profile : Profile) where
       made : List ℕ → ℕ → List RecipeLine → Told
       made x y z = Ok (form.Rule (record { special = u.special; rule = record { file = x; line = y; is_double = u.rule.is_double; targets = u.rule.targets; prerequisites = u.rule.prerequisites; recipe = z } }))
 
+  -- a line without a sign, which is told by what it comes to, or isn't
+  abbrev at_no_sign : (is_told : Bool) (line : List ℕ) → Told
+  at_no_sign is_told line =
+      cond (not is_told) (Err (refusal file number cause.MissingSeparator))
+      (Ok (form.DefinitionLine (record { kind = NoSign; definition = record { file = file; line = number; name = []; append = false; value = line; is_fixed = false } })))
+
+  unsigned_back : (line : List ℕ) (l : DefinitionLine) → IsUnsigned profile file number line l → decided_form profile file number line (first_outside 61 58 Outside line) ≡ Ok (form.DefinitionLine l)
+  unfolding decided_form unsigned_form
+  unsigned_back line l ((without, is_told), e) =
+      ap (decided_form profile file number line) (none_found 61 58 refl line without) ∙ ap (λ t. at_no_sign t line) is_told ∙ ap (λ x. Ok (form.DefinitionLine x)) (sym e)
+
   refused_back : (line : List ℕ) (why : Cause) → IsRefused profile line why → decided_form profile file number line (first_outside 61 58 Outside line) ≡ Err (refusal file number why)
-  unfolding decided_form named_form is_no_name defined_as kind_form optional_form rule_form colon_form double_form set_form definition_form ends_with judged_form
-  refused_back line cause.MissingSeparator (inl without) = ap (decided_form profile file number line) (none_found 61 58 refl line without)
+  unfolding decided_form unsigned_form named_form is_no_name defined_as kind_form optional_form rule_form colon_form double_form set_form definition_form ends_with judged_form
+  refused_back line cause.MissingSeparator (inl (without, none)) =
+      ap (decided_form profile file number line) (none_found 61 58 refl line without) ∙ ap (λ t. at_no_sign t line) none
   refused_back line cause.MissingSeparator (inr (inl (left, right, h, name, append, spells, bad))) =
       assigned line left right h ∙ definition_is left right name append h.2 h.3 spells
       ∙ ap (λ t. cond t (Err (refusal file number cause.MissingSeparator)) (Ok (form.Definition (record { file = file; line = number; name = name; append = append; value = trimmed right; is_fixed = false })))) bad
@@ -249,6 +262,11 @@ module _ (file : List ℕ) (number : ℕ) (profile : Profile) where
   refused_back line (cause.Unsupported (feature.Directive directive)) h = absurd h
   refused_back line (cause.Unsupported feature.TargetMacro) h = absurd h
   refused_back line (cause.Unsupported feature.QuotedPercent) h = absurd h
+  refused_back line (cause.Unsupported feature.GroupedTargets) h = absurd h
+  refused_back line (cause.Unsupported feature.ShellFlags) h = absurd h
+  refused_back line (cause.Unsupported feature.SearchPath) h = absurd h
+  refused_back line (cause.Unsupported feature.RecipePrefix) h = absurd h
+  refused_back line (cause.Unsupported feature.IncludeWildcard) h = absurd h
   refused_back line cause.NotText h = absurd h
   refused_back line cause.TabFirst h = absurd h
   refused_back line cause.IncludeDepth h = absurd h
@@ -262,7 +280,8 @@ module _ (file : List ℕ) (number : ℕ) (profile : Profile) where
 
   pub statement_back : (line : List ℕ) (told : Told) → IsStatement profile file number line told → decided_form profile file number line (first_outside 61 58 Outside line) ≡ told
   statement_back line (Ok (form.Definition d)) h = defined_back line d h.0 h.1 h.2 h.3
-  statement_back line (Ok (form.DefinitionLine l)) h = signed_back line l h.0 h.1 h.2 h.3
+  statement_back line (Ok (form.DefinitionLine l)) (inl h) = unsigned_back line l h
+  statement_back line (Ok (form.DefinitionLine l)) (inr h) = signed_back line l h.0 h.1 h.2 h.3
   statement_back line (Ok (form.Rule u)) h = rule_back line u h
   statement_back line (Ok form.Blank) h = absurd h
   statement_back line (Ok (form.Recipe recipe)) h = absurd h

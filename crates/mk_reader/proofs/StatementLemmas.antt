@@ -1,10 +1,11 @@
 -- The statements of a text: it has just one list of them, and what is gathered line by line comes to it.
-use Rattle.std.proofs.Common.{◌≡◌, ℕ, ◌+◌, ◌-◌, Bool, true, false, List, [], ◌∷◌, ◌++◌, length, slice_index_or, slice_set, refl, sym, ap, subst, ◌∙◌, arith, Option, Some, None, is_some, Result, Ok, Err, IfSome, append_assoc, append-nil}
+use Rattle.std.proofs.Common.{◌≡◌, ℕ, ◌+◌, ◌-◌, Bool, true, false, cond, not, ◌&&◌, List, [], ◌∷◌, ◌++◌, length, slice_index_or, slice_set, refl, sym, ap, subst, ◌∙◌, arith, Option, Some, None, is_some, Result, Ok, Err, IfSome, append_assoc, append-nil}
 use Rattle.std.proofs.lemmas.List.{length_push}
 use Rattle.std.proofs.Math.Seq.{get_or-append_seam, set-append_seam}
 use Rattle.mk_profile.specs.declared.profile.Profile.{Profile}
 use Rattle.mk_reader.specs.Lines.{logical_lines}
-use Rattle.mk_reader.specs.Form.{form_of}
+use Rattle.mk_profile.specs.Profile.{is_wide}
+use Rattle.mk_reader.specs.Form.{statement_form, form_of}
 use Rattle.mk_reader.specs.Grammar.{refusal, IsForm}
 use Rattle.mk_reader.specs.declared.fault.Cause.TheVariants.{TabFirst}
 use Rattle.mk_reader.specs.declared.item.RecipeLine.{RecipeLine}
@@ -22,8 +23,8 @@ use Rattle.mk_reader.specs.declared.line.LogicalLine.{LogicalLine}
 use Rattle.mk_reader.specs.declared.form.UnfinishedRule.{UnfinishedRule}
 use Rattle.mk_reader.specs.declared.form.Form.{Form}
 use Rattle.mk_reader.specs.declared.form.Form.TheVariants as form
-use Rattle.mk_reader.specs.Statements.{item_of, with_line, with_lines, recipe_from, RecipeBelow, Before, BelowRule, FormStatements, LineStatements, AreStatements, finished, AddsLine, RecipeLineTaken, Taken, ComesTo, Comes}
-use Rattle.mk_reader.proofs.GrammarLemmas.{form_said, form_back}
+use Rattle.mk_reader.specs.Statements.{told_outside, joined_plainly, IsToldOutside, IsTold, outside_form, form_below, item_of, with_line, with_lines, recipe_from, RecipeBelow, Before, BelowRule, FormStatements, LineStatements, AreStatements, finished, AddsLine, RecipeLineTaken, Taken, ComesTo, Comes}
+use Rattle.mk_reader.proofs.GrammarLemmas.{text_said, text_back, form_said, form_back}
 
 -- There is at most one list.
 
@@ -47,6 +48,34 @@ form_one file number above (Ok (form.DefinitionLine line)) below Rest h one othe
 form_one file number above (Ok (form.Definition definition)) below Rest h one other a b = before_one (statement.Item (item.Definition definition)) (Rest false) (h false) one other a b
 form_one file number above (Ok (form.Rule rule)) below Rest h one other a b = before_one (statement.Item (with_lines rule below)) (Rest true) (h true) one other a b
 
+-- each line has one form where it stands
+tab_said : (profile : Profile) (file : List ℕ) (line : LogicalLine) (tab : Bool) → IsToldOutside tab profile file line (cond tab (outside_form profile file line.number line.text) (form_of profile file line))
+unfolding outside_form
+tab_said profile file line false = form_said profile file line
+tab_said profile file line true = (statement_form profile file line.number (joined_plainly line.text), text_said file line.number profile (joined_plainly line.text), refl)
+
+tab_back : (profile : Profile) (file : List ℕ) (line : LogicalLine) (tab : Bool) (told : Result Form Refusal) → IsToldOutside tab profile file line told →
+    cond tab (outside_form profile file line.number line.text) (form_of profile file line) ≡ told
+unfolding outside_form
+tab_back profile file line false told is = form_back profile file line told is
+tab_back profile file line true told (elsewhere, is, e) = ap (told_outside file line.number) (text_back file line.number profile (joined_plainly line.text) elsewhere is) ∙ sym e
+
+pub told_said : (profile : Profile) (file : List ℕ) (above : Bool) (line : LogicalLine) → IsTold profile file above line (form_below profile file above line)
+unfolding form_below
+told_said profile file above line = tab_said profile file line (not above && (line.is_recipe && is_wide profile))
+
+told_back : (profile : Profile) (file : List ℕ) (above : Bool) (line : LogicalLine) (told : Result Form Refusal) → IsTold profile file above line told → form_below profile file above line ≡ told
+unfolding form_below
+told_back profile file above line told is = tab_back profile file line (not above && (line.is_recipe && is_wide profile)) told is
+
+told_same : (profile : Profile) (file : List ℕ) (above : Bool) (line : LogicalLine) (one other : Result Form Refusal) → IsTold profile file above line one → IsTold profile file above line other → one ≡ other
+told_same profile file above line one other a b = sym (told_back profile file above line one a) ∙ told_back profile file above line other b
+
+-- a line without a TAB is the same everywhere
+pub told_plainly : (profile : Profile) (file : List ℕ) (above : Bool) (line : LogicalLine) (told : Result Form Refusal) → line.is_recipe ≡ false → IsForm profile file line told → IsTold profile file above line told
+told_plainly profile file true line told plain is = is
+told_plainly profile file false line told plain is = subst (λ t. IsToldOutside (t && is_wide profile) profile file line told) (sym plain) is
+
 form_same : (profile : Profile) (file : List ℕ) (line : LogicalLine) (one other : Result Form Refusal) → IsForm profile file line one → IsForm profile file line other → one ≡ other
 form_same profile file line one other a b = sym (form_back profile file line one a) ∙ form_back profile file line other b
 
@@ -60,7 +89,7 @@ line_one profile file above [] one other a b = a ∙ sym b
 line_one profile file above (line ∷ more) one other (told, is, below, lies, a) (also, was, under, stands, b) =
     let Rest : Bool → List Statement → Type 0 = λ now. LineStatements profile file now more in
     form_one file line.number above also under Rest (λ now. line_one profile file now more) one other
-    (subst (λ x. FormStatements file line.number above x under Rest one) (form_same profile file line told also is was)
+    (subst (λ x. FormStatements file line.number above x under Rest one) (told_same profile file above line told also is was)
     (subst (λ x. FormStatements file line.number above told x Rest one) (recipe_one profile file more below under lies stands) a)) b
 
 pub text_one : (profile : Profile) (file text : List ℕ) (one other : List Statement) → AreStatements profile file text one → AreStatements profile file text other → one ≡ other
@@ -97,8 +126,8 @@ line_some : (profile : Profile) (file : List ℕ) (above : Bool) (lines : List L
 line_some profile file above [] = ([], refl)
 line_some profile file above (line ∷ more) =
     let below = recipe_some profile file more in
-    let whole = form_some file line.number above (form_of profile file line) below.0 (λ now. LineStatements profile file now more) (λ now. line_some profile file now more) in
-    (whole.0, (form_of profile file line, form_said profile file line, below.0, below.1, whole.1))
+    let whole = form_some file line.number above (form_below profile file above line) below.0 (λ now. LineStatements profile file now more) (λ now. line_some profile file now more) in
+    (whole.0, (form_below profile file above line, told_said profile file above line, below.0, below.1, whole.1))
 
 pub text_some : (profile : Profile) (file text : List ℕ) → Some_of (AreStatements profile file text)
 text_some profile file text = line_some profile file false (logical_lines 1 (Some text))
@@ -117,16 +146,17 @@ with_text_is rule text = ap (λ recipe. item_of rule.special (record rule.rule {
 
 module _ (profile : Profile) (file : List ℕ) (line : LogicalLine) (more : List LogicalLine) where
   -- what the line of this form, and what is left behind it, add to what was gathered
-  one_more : (gathered : List Statement) (unfinished : Option UnfinishedRule) (told : Result Form Refusal) → IsForm profile file line told → (below : List RecipeLine) → RecipeBelow profile file more below → (rest : List Statement) →
+  one_more : (gathered : List Statement) (unfinished : Option UnfinishedRule) (told : Result Form Refusal) → IsTold profile file (is_some unfinished) line told → (below : List RecipeLine) → RecipeBelow profile file more below → (rest : List Statement) →
       FormStatements file line.number (is_some unfinished) told below (λ now. LineStatements profile file now more) rest →
       ComesTo profile file gathered unfinished (line ∷ more) (gathered ++ finished unfinished (recipe_from told below) ++ rest)
-  one_more gathered unfinished told is below lies rest f = (recipe_from told below, (told, is, below, lies, refl), rest, (told, is, below, lies, f), refl)
+  one_more gathered (Some rule) told is below lies rest f = (recipe_from told below, (told, is, below, lies, refl), rest, (told, is, below, lies, f), refl)
+  one_more gathered None told is below lies rest f = let all = recipe_some profile file (line ∷ more) in (all.0, all.1, rest, (told, is, below, lies, f), refl)
 
-  pub blank_more : (gathered : List Statement) (unfinished : Option UnfinishedRule) → IsForm profile file line (Ok form.Blank) → (whole : List Statement) → ComesTo profile file gathered unfinished more whole → ComesTo profile file gathered unfinished (line ∷ more) whole
+  pub blank_more : (gathered : List Statement) (unfinished : Option UnfinishedRule) → IsTold profile file (is_some unfinished) line (Ok form.Blank) → (whole : List Statement) → ComesTo profile file gathered unfinished more whole → ComesTo profile file gathered unfinished (line ∷ more) whole
   blank_more gathered unfinished is whole (below, lies, rest, r, e) =
       subst (ComesTo profile file gathered unfinished (line ∷ more)) (sym e) (one_more gathered unfinished (Ok form.Blank) is below lies rest r)
 
-  recipe_added : (old : List Statement) (rule : UnfinishedRule) (text : RecipeLine) → IsForm profile file line (Ok (form.Recipe text)) →
+  recipe_added : (old : List Statement) (rule : UnfinishedRule) (text : RecipeLine) → IsTold profile file true line (Ok (form.Recipe text)) →
       (whole : List Statement) → ComesTo profile file old (Some (with_text rule text)) more whole → ComesTo profile file old (Some rule) (line ∷ more) whole
   recipe_added old rule text is whole (below, lies, rest, r, e) =
       let item : List RecipeLine → Item = λ recipe. item_of rule.special (record rule.rule { recipe = recipe }) in
@@ -134,7 +164,7 @@ module _ (profile : Profile) (file : List ℕ) (line : LogicalLine) (more : List
       subst (ComesTo profile file old (Some rule) (line ∷ more)) (ap (λ i. old ++ (statement.Item i ∷ []) ++ rest) (sym all) ∙ sym e)
       (one_more old (Some rule) (Ok (form.Recipe text)) is below lies rest r)
 
-  recipe_ends : (old new : List Statement) (text : RecipeLine) → IsForm profile file line (Ok (form.Recipe text)) → new ≡ old ++ statement.Refused (refusal file line.number TabFirst) ∷ [] →
+  recipe_ends : (old new : List Statement) (text : RecipeLine) → IsTold profile file false line (Ok (form.Recipe text)) → new ≡ old ++ statement.Refused (refusal file line.number TabFirst) ∷ [] →
       ComesTo profile file old None (line ∷ more) new
   recipe_ends old new text is n =
       let below = recipe_some profile file more in
@@ -145,36 +175,36 @@ module _ (profile : Profile) (file : List ℕ) (line : LogicalLine) (more : List
   apart : (old done : List Statement) (one : Statement) (rest : List Statement) → (old ++ done ++ one ∷ []) ++ rest ≡ old ++ done ++ one ∷ rest
   apart old done one rest = append_assoc (old ++ done) (one ∷ []) rest
 
-  added : (told : Result Form Refusal) (one : Statement) → IsForm profile file line told → ((below : List RecipeLine) → recipe_from told below ≡ []) →
+  added : (told : Result Form Refusal) (one : Statement) → ((below : List RecipeLine) → recipe_from told below ≡ []) →
       ((above : Bool) (below : List RecipeLine) (Rest : Bool → List Statement → Type 0) (rest : List Statement) → Rest false rest → FormStatements file line.number above told below Rest (one ∷ rest)) →
-      (old new : List Statement) (unfinished now : Option UnfinishedRule) → new ≡ old ++ finished unfinished [] ++ one ∷ [] → now ≡ None →
+      (old new : List Statement) (unfinished now : Option UnfinishedRule) → IsTold profile file (is_some unfinished) line told → new ≡ old ++ finished unfinished [] ++ one ∷ [] → now ≡ None →
       (whole : List Statement) → ComesTo profile file new now more whole → ComesTo profile file old unfinished (line ∷ more) whole
-  added told one is none said old new unfinished now n u whole comes =
+  added told one none said old new unfinished now is n u whole comes =
       let (below, lies, rest, r, e) = subst (λ s. ComesTo profile file s None more whole) n (subst (λ x. ComesTo profile file new x more whole) u comes) in
       subst (ComesTo profile file old unfinished (line ∷ more))
       (ap (λ recipe. old ++ finished unfinished recipe ++ one ∷ rest) (none below) ∙ sym (apart old (finished unfinished []) one rest)
       ∙ ap (λ xs. xs ++ rest) (sym (append-nil (old ++ finished unfinished [] ++ one ∷ []))) ∙ sym e)
       (one_more old unfinished told is below lies (one ∷ rest) (said (is_some unfinished) below (λ now. LineStatements profile file now more) rest r))
 
-  pub include_more : (old new : List Statement) (unfinished now : Option UnfinishedRule) (include : IncludeLine) → IsForm profile file line (Ok (form.Include include)) →
+  pub include_more : (old new : List Statement) (unfinished now : Option UnfinishedRule) (include : IncludeLine) → IsTold profile file (is_some unfinished) line (Ok (form.Include include)) →
       new ≡ old ++ finished unfinished [] ++ statement.Include include ∷ [] → now ≡ None →
       (whole : List Statement) → ComesTo profile file new now more whole → ComesTo profile file old unfinished (line ∷ more) whole
   include_more old new unfinished now include is =
-      added (Ok (form.Include include)) (statement.Include include) is (λ below. refl) (λ above below Rest rest r. (rest, r, refl)) old new unfinished now
+      added (Ok (form.Include include)) (statement.Include include) (λ below. refl) (λ above below Rest rest r. (rest, r, refl)) old new unfinished now is
 
-  pub definition_line_more : (old new : List Statement) (unfinished now : Option UnfinishedRule) (definition : DefinitionLine) → IsForm profile file line (Ok (form.DefinitionLine definition)) →
+  pub definition_line_more : (old new : List Statement) (unfinished now : Option UnfinishedRule) (definition : DefinitionLine) → IsTold profile file (is_some unfinished) line (Ok (form.DefinitionLine definition)) →
       new ≡ old ++ finished unfinished [] ++ statement.Definition definition ∷ [] → now ≡ None →
       (whole : List Statement) → ComesTo profile file new now more whole → ComesTo profile file old unfinished (line ∷ more) whole
   definition_line_more old new unfinished now definition is =
-      added (Ok (form.DefinitionLine definition)) (statement.Definition definition) is (λ below. refl) (λ above below Rest rest r. (rest, r, refl)) old new unfinished now
+      added (Ok (form.DefinitionLine definition)) (statement.Definition definition) (λ below. refl) (λ above below Rest rest r. (rest, r, refl)) old new unfinished now is
 
-  pub definition_more : (old new : List Statement) (unfinished now : Option UnfinishedRule) (definition : Definition) → IsForm profile file line (Ok (form.Definition definition)) →
+  pub definition_more : (old new : List Statement) (unfinished now : Option UnfinishedRule) (definition : Definition) → IsTold profile file (is_some unfinished) line (Ok (form.Definition definition)) →
       new ≡ old ++ finished unfinished [] ++ statement.Item (item.Definition definition) ∷ [] → now ≡ None →
       (whole : List Statement) → ComesTo profile file new now more whole → ComesTo profile file old unfinished (line ∷ more) whole
   definition_more old new unfinished now definition is =
-      added (Ok (form.Definition definition)) (statement.Item (item.Definition definition)) is (λ below. refl) (λ above below Rest rest r. (rest, r, refl)) old new unfinished now
+      added (Ok (form.Definition definition)) (statement.Item (item.Definition definition)) (λ below. refl) (λ above below Rest rest r. (rest, r, refl)) old new unfinished now is
 
-  pub rule_more : (old new : List Statement) (unfinished now : Option UnfinishedRule) (rule : UnfinishedRule) → IsForm profile file line (Ok (form.Rule rule)) →
+  pub rule_more : (old new : List Statement) (unfinished now : Option UnfinishedRule) (rule : UnfinishedRule) → IsTold profile file (is_some unfinished) line (Ok (form.Rule rule)) →
       new ≡ old ++ finished unfinished [] → now ≡ Some rule →
       (whole : List Statement) → ComesTo profile file new now more whole → ComesTo profile file old unfinished (line ∷ more) whole
   rule_more old new unfinished now rule is n u whole comes =
@@ -183,7 +213,7 @@ module _ (profile : Profile) (file : List ℕ) (line : LogicalLine) (more : List
       subst (ComesTo profile file old unfinished (line ∷ more)) (sym (append_assoc (old ++ finished unfinished []) (one ∷ []) rest) ∙ sym e)
       (one_more old unfinished (Ok (form.Rule rule)) is below lies (one ∷ rest) (rest, r, refl))
 
-  pub refused_ends : (old new : List Statement) (unfinished : Option UnfinishedRule) (fault : Refusal) → IsForm profile file line (Err fault) →
+  pub refused_ends : (old new : List Statement) (unfinished : Option UnfinishedRule) (fault : Refusal) → IsTold profile file (is_some unfinished) line (Err fault) →
       new ≡ old ++ finished unfinished [] ++ statement.Refused fault ∷ [] → ComesTo profile file old unfinished (line ∷ more) new
   refused_ends old new unfinished fault is n =
       let below = recipe_some profile file more in
@@ -192,47 +222,50 @@ module _ (profile : Profile) (file : List ℕ) (line : LogicalLine) (more : List
 
   -- A line that was taken in
 
-  below_open : (old new : List Statement) (now : Bool) (text : RecipeLine) → IsForm profile file line (Ok (form.Recipe text)) → AddsLine old text new → now ≡ true →
+  told_at : (told : Result Form Refusal) (above : Bool) (unfinished : Option UnfinishedRule) → above ≡ is_some unfinished → IsTold profile file above line told → IsTold profile file (is_some unfinished) line told
+  told_at told above unfinished o is = subst (λ a. IsTold profile file a line told) o is
+
+  below_open : (old new : List Statement) (now : Bool) (text : RecipeLine) → IsTold profile file true line (Ok (form.Recipe text)) → AddsLine old text new → now ≡ true →
       (whole : List Statement) → Comes profile file new now more whole → Comes profile file old true (line ∷ more) whole
   below_open old new now text is adds n whole comes front None g o = absurd (false_true (sym o))
   below_open old new now text is adds n whole comes front (Some rule) g o =
       recipe_added front rule text is whole (comes front (Some (with_text rule text)) (adds front rule g ∙ ap (λ i. front ++ statement.Item i ∷ []) (with_text_is rule text)) n)
 
-  below_none : (old new : List Statement) (text : RecipeLine) → IsForm profile file line (Ok (form.Recipe text)) → new ≡ old ++ statement.Refused (refusal file line.number TabFirst) ∷ [] →
+  below_none : (old new : List Statement) (text : RecipeLine) → IsTold profile file false line (Ok (form.Recipe text)) → new ≡ old ++ statement.Refused (refusal file line.number TabFirst) ∷ [] →
       Comes profile file old false (line ∷ more) new
   below_none old new text is n front None g o = recipe_ends front new text is (n ∙ ap (λ xs. xs ++ statement.Refused (refusal file line.number TabFirst) ∷ []) (g ∙ append-nil front))
   below_none old new text is n front (Some rule) g o = absurd (false_true o)
 
-  recipe_goes : (old new : List Statement) (above now ended : Bool) (text : RecipeLine) → IsForm profile file line (Ok (form.Recipe text)) → RecipeLineTaken file line.number text old above new now ended → ended ≡ false →
+  recipe_goes : (old new : List Statement) (above now ended : Bool) (text : RecipeLine) → IsTold profile file above line (Ok (form.Recipe text)) → RecipeLineTaken file line.number text old above new now ended → ended ≡ false →
       (whole : List Statement) → Comes profile file new now more whole → Comes profile file old above (line ∷ more) whole
   recipe_goes old new true now ended text is (f, adds, n) goes whole comes = below_open old new now text is adds n whole comes
   recipe_goes old new false now ended text is (t, n) goes whole comes = absurd (false_true (sym goes ∙ t))
 
-  recipe_stops : (old new : List Statement) (above now ended : Bool) (text : RecipeLine) → IsForm profile file line (Ok (form.Recipe text)) → RecipeLineTaken file line.number text old above new now ended → ended ≡ true →
+  recipe_stops : (old new : List Statement) (above now ended : Bool) (text : RecipeLine) → IsTold profile file above line (Ok (form.Recipe text)) → RecipeLineTaken file line.number text old above new now ended → ended ≡ true →
       Comes profile file old above (line ∷ more) new
   recipe_stops old new true now ended text is (f, adds, n) stops = absurd (false_true (sym f ∙ stops))
   recipe_stops old new false now ended text is (t, n) stops = below_none old new text is n
 
   -- what is left comes to the statements that the whole comes to
-  pub taken_goes : (told : Result Form Refusal) (old new : List Statement) (above now ended : Bool) → IsForm profile file line told → Taken file line.number told old above new now ended → ended ≡ false →
+  pub taken_goes : (told : Result Form Refusal) (old new : List Statement) (above now ended : Bool) → IsTold profile file above line told → Taken file line.number told old above new now ended → ended ≡ false →
       (whole : List Statement) → Comes profile file new now more whole → Comes profile file old above (line ∷ more) whole
   taken_goes (Err fault) old new above now ended is (t, n) goes whole comes = absurd (false_true (sym goes ∙ t))
-  taken_goes (Ok form.Blank) old new above now ended is (f, same, also) goes whole comes = λ front unfinished g o. blank_more front unfinished is whole (comes front unfinished (same ∙ g) (also ∙ o))
+  taken_goes (Ok form.Blank) old new above now ended is (f, same, also) goes whole comes = λ front unfinished g o. blank_more front unfinished (told_at (Ok form.Blank) above unfinished o is) whole (comes front unfinished (same ∙ g) (also ∙ o))
   taken_goes (Ok (form.Recipe text)) old new above now ended is taken goes whole comes = recipe_goes old new above now ended text is taken goes whole comes
   taken_goes (Ok (form.Include include)) old new above now ended is (f, n, closed) goes whole comes = λ front unfinished g o.
-      include_more front new unfinished None include is (n ∙ ap (λ xs. xs ++ statement.Include include ∷ []) g) refl whole (comes new None (sym (append-nil new)) closed)
+      include_more front new unfinished None include (told_at (Ok (form.Include include)) above unfinished o is) (n ∙ ap (λ xs. xs ++ statement.Include include ∷ []) g) refl whole (comes new None (sym (append-nil new)) closed)
   taken_goes (Ok (form.DefinitionLine definition)) old new above now ended is (f, n, closed) goes whole comes = λ front unfinished g o.
-      definition_line_more front new unfinished None definition is (n ∙ ap (λ xs. xs ++ statement.Definition definition ∷ []) g) refl whole (comes new None (sym (append-nil new)) closed)
+      definition_line_more front new unfinished None definition (told_at (Ok (form.DefinitionLine definition)) above unfinished o is) (n ∙ ap (λ xs. xs ++ statement.Definition definition ∷ []) g) refl whole (comes new None (sym (append-nil new)) closed)
   taken_goes (Ok (form.Definition definition)) old new above now ended is (f, n, closed) goes whole comes = λ front unfinished g o.
-      definition_more front new unfinished None definition is (n ∙ ap (λ xs. xs ++ statement.Item (item.Definition definition) ∷ []) g) refl whole (comes new None (sym (append-nil new)) closed)
+      definition_more front new unfinished None definition (told_at (Ok (form.Definition definition)) above unfinished o is) (n ∙ ap (λ xs. xs ++ statement.Item (item.Definition definition) ∷ []) g) refl whole (comes new None (sym (append-nil new)) closed)
   taken_goes (Ok (form.Rule rule)) old new above now ended is (f, n, opened) goes whole comes = λ front unfinished g o.
       let done = front ++ finished unfinished [] in
-      rule_more front done unfinished (Some rule) rule is refl refl whole (comes done (Some rule) (n ∙ ap (λ xs. xs ++ statement.Item (with_lines rule []) ∷ []) g) opened)
+      rule_more front done unfinished (Some rule) rule (told_at (Ok (form.Rule rule)) above unfinished o is) refl refl whole (comes done (Some rule) (n ∙ ap (λ xs. xs ++ statement.Item (with_lines rule []) ∷ []) g) opened)
 
   -- the whole comes to what is gathered
-  pub taken_ends : (told : Result Form Refusal) (old new : List Statement) (above now ended : Bool) → IsForm profile file line told → Taken file line.number told old above new now ended → ended ≡ true →
+  pub taken_ends : (told : Result Form Refusal) (old new : List Statement) (above now ended : Bool) → IsTold profile file above line told → Taken file line.number told old above new now ended → ended ≡ true →
       Comes profile file old above (line ∷ more) new
-  taken_ends (Err fault) old new above now ended is (t, n) ends = λ front unfinished g o. refused_ends front new unfinished fault is (n ∙ ap (λ xs. xs ++ statement.Refused fault ∷ []) g)
+  taken_ends (Err fault) old new above now ended is (t, n) ends = λ front unfinished g o. refused_ends front new unfinished fault (told_at (Err fault) above unfinished o is) (n ∙ ap (λ xs. xs ++ statement.Refused fault ∷ []) g)
   taken_ends (Ok form.Blank) old new above now ended is (f, same, also) ends = absurd (false_true (sym f ∙ ends))
   taken_ends (Ok (form.Recipe text)) old new above now ended is taken ends = recipe_stops old new above now ended text is taken ends
   taken_ends (Ok (form.Include include)) old new above now ended is (f, n, closed) ends = absurd (false_true (sym f ∙ ends))

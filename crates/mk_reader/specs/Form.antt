@@ -5,13 +5,13 @@ use Rattle.byte_strings.specs.Blanks.{is_blank, trimmed_start, trimmed, first_wo
 use Rattle.mk_profile.specs.Profile.{is_wide}
 use Rattle.mk_profile.specs.declared.profile.Profile.{Profile}
 use Rattle.mk_reader.specs.Directive.{told_as}
-use Rattle.mk_reader.specs.Grammar.{is_name_byte}
-use Rattle.mk_reader.specs.Text.{is_hash, is_dollar, is_empty, begins_with, ends_with, without_last, is_text}
+use Rattle.mk_reader.specs.Grammar.{is_name_byte, is_apart, ends_definition}
+use Rattle.mk_reader.specs.Text.{is_hash, is_dollar, is_empty, begins_with, ends_with, without_last, without_plus, is_text}
 use Rattle.mk_reader.specs.Special.{special_name, is_refused, takes_no_prerequisites}
 use Rattle.mk_reader.specs.declared.special.SpecialName.{SpecialName}
 use Rattle.mk_reader.specs.declared.item.Definition.{Definition}
 use Rattle.mk_reader.specs.declared.item.DefinitionKind.{DefinitionKind}
-use Rattle.mk_reader.specs.declared.item.DefinitionKind.TheVariants.{IfUndefined, AtOnce, AtOnceAlone, Output}
+use Rattle.mk_reader.specs.declared.item.DefinitionKind.TheVariants.{IfUndefined, AtOnce, AtOnceAlone, Output, NoSign}
 use Rattle.mk_reader.specs.declared.item.RecipeLine.{RecipeLine}
 use Rattle.mk_reader.specs.declared.item.Rule.{Rule}
 use Rattle.mk_reader.specs.declared.fault.Feature.TheVariants as feature
@@ -145,14 +145,10 @@ begins_shell_definition right = bytes_eq (take 2 right) (codes "sh") && begins_w
 unfoldable pub is_macro_name : List ℕ → Bool
 is_macro_name name = not (is_empty name) && list_all is_name_byte name
 
--- without the `+` of `+=`
-unfoldable pub without_plus : List ℕ → List ℕ
-without_plus left = if ends_with 43 left then without_last left else left
-
--- behind `:=` stands a definition, with its `=` at this place
+-- behind `:=` stands a definition, with its `=` at this place and blanks around it
 unfoldable pub conditional_at : List ℕ → Option ℕ → Bool
 conditional_at right None = false
-conditional_at right (Some at) = is_macro_name (trimmed (without_plus (take at right)))
+conditional_at right (Some at) = is_macro_name (trimmed (without_plus (take at right))) && is_apart (take at right) (drop (at + 1) right)
 
 -- what stands around `::`, which the wide profile has: as `::=`, as `:::=`, and in a rule
 unfoldable pub double_form : Profile → List ℕ → ℕ → List ℕ → List ℕ → Result Form Refusal
@@ -176,9 +172,15 @@ colon_form profile file number left right =
     else (if begins_shell_definition right then Err (refusal file number (Unsupported feature.ShellDefinition))
     else rule_form profile file number false (trimmed left) right))
 
+-- a line without a sign: in the wide profile one that begins with a reference is told by what it comes to
+unfoldable pub unsigned_form : Profile → List ℕ → ℕ → List ℕ → Result Form Refusal
+unsigned_form profile file number line =
+    if not (is_wide profile && begins_with 36 line) then Err (refusal file number MissingSeparator)
+    else Ok (form.DefinitionLine (record { kind = NoSign; definition = record { file = file; line = number; name = []; append = false; value = line; is_fixed = false } }))
+
 -- the first `=` or `:` outside references decides
 unfoldable pub decided_form : Profile → List ℕ → ℕ → List ℕ → Option ℕ → Result Form Refusal
-decided_form profile file number line None = Err (refusal file number MissingSeparator)
+decided_form profile file number line None = unsigned_form profile file number line
 decided_form profile file number line (Some at) =
     if slice_index line at == 61 then definition_form profile file number (take at line) (drop (at + 1) line)
     else colon_form profile file number (take at line) (drop (at + 1) line)
@@ -205,6 +207,25 @@ abbrev pub content_in : (wide : Bool) → List ℕ → List ℕ
 content_in false text = before_first is_hash text
 content_in true text = unescaped_from false text
 
+-- behind these bytes of a rule line, up to its first `;` outside references, no comment begins
+abbrev pub recipe_behind : List ℕ → Option ℕ → Bool
+recipe_behind right None = false
+recipe_behind right (Some at) = not (list_any is_hash (take at right))
+
+-- with its first `=` or `:` outside references at this place, the line has a recipe behind `;`
+abbrev pub opens_at : List ℕ → Option ℕ → Bool
+opens_at text None = false
+opens_at text (Some at) =
+    slice_index text at == 58 && (not (ends_definition (drop (at + 1) text)) && (not (list_any is_hash (take at text))
+    && recipe_behind (drop (at + 1) text) (first_outside 59 59 Outside (drop (at + 1) text))))
+
+unfoldable pub opens_recipe : List ℕ → Bool
+opens_recipe text = opens_at text (first_outside 61 58 Outside text)
+
+-- what a line holds: in the wide profile all of it, where a recipe stands behind its `;`
+unfoldable pub line_content : Profile → List ℕ → List ℕ
+line_content profile text = if is_wide profile && opens_recipe text then text else content_in (is_wide profile) text
+
 -- a line without its comment
 unfoldable pub content_form : Profile → List ℕ → ℕ → List ℕ → Result Form Refusal
 content_form profile file number content =
@@ -212,7 +233,7 @@ content_form profile file number content =
 
 -- a line that is no recipe line
 unfoldable pub statement_form : Profile → List ℕ → ℕ → List ℕ → Result Form Refusal
-statement_form profile file number text = content_form profile file number (content_in (is_wide profile) text)
+statement_form profile file number text = content_form profile file number (line_content profile text)
 
 -- a recipe line has no comments; one of blanks alone is passed over
 unfoldable pub recipe_form : List ℕ → ℕ → List ℕ → Result Form Refusal

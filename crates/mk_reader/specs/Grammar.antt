@@ -6,13 +6,14 @@ use Rattle.std.specs.List.{list_any, list_all}
 use Rattle.byte_strings.specs.Blanks.{is_blank}
 use Rattle.mk_profile.specs.Profile.{is_wide}
 use Rattle.mk_profile.specs.declared.profile.Profile.{Profile}
-use Rattle.mk_reader.specs.Text.{is_dollar, is_empty, begins_with, is_text}
+use Rattle.mk_reader.specs.Text.{is_dollar, is_empty, begins_with, without_plus, is_text}
 use Rattle.mk_reader.specs.Directive.{told_as}
 use Rattle.mk_reader.specs.Special.{name_text, is_known, is_refused, takes_no_prerequisites}
 use Rattle.mk_reader.specs.declared.special.SpecialName.{SpecialName}
 use Rattle.mk_reader.specs.declared.item.Definition.{Definition}
 use Rattle.mk_reader.specs.declared.item.DefinitionKind.{DefinitionKind}
-use Rattle.mk_reader.specs.declared.item.DefinitionKind.TheVariants.{IfUndefined, AtOnce, AtOnceAlone, Output}
+use Rattle.mk_reader.specs.declared.item.DefinitionLine.{DefinitionLine}
+use Rattle.mk_reader.specs.declared.item.DefinitionKind.TheVariants.{IfUndefined, AtOnce, AtOnceAlone, Output, NoSign}
 use Rattle.mk_reader.specs.declared.item.RecipeLine.{RecipeLine}
 use Rattle.mk_reader.specs.declared.fault.Feature.TheVariants as feature
 use Rattle.mk_reader.specs.declared.fault.Cause.{Cause}
@@ -145,11 +146,16 @@ SpellsColon line left right = (line ≡ left ++ 58 ∷ right) × Whole 61 58 lef
 abbrev pub is_name_byte : ℕ → Bool
 is_name_byte b = is_ascii_alphanumeric b || (b == 95 || b == 46)
 
--- a conditional macro follows the targets and `:=` in make(1S): such a name, and `=` or `+=`
+-- blanks stand around a sign: before its `=`, or `+=`, and behind it, where anything stands there
+abbrev pub is_apart : (left value : List ℕ) → Bool
+is_apart left value = begins_blank (reverse (without_plus left)) && (is_empty value || begins_blank value)
+
+-- a conditional macro follows the targets and `:=` in make(1S): such a name, and `=` or `+=` with blanks around it (own: without them, as in
+-- `A := x=y`, it is a text for GNU make's sake)
 abbrev pub IsConditional : (right : List ℕ) → Type 0
 IsConditional right =
     (left : List ℕ) × (value : List ℕ) × (right ≡ left ++ 61 ∷ value) × Whole 61 61 left
-    × (name : List ℕ) × (append : Bool) × SpellsName left name append × (is_empty name ≡ false) × (list_all is_name_byte name ≡ true)
+    × (name : List ℕ) × (append : Bool) × SpellsName left name append × (is_empty name ≡ false) × (list_all is_name_byte name ≡ true) × (is_apart left value ≡ true)
 
 -- one word stands before `:=`, and no conditional macro behind it
 abbrev pub IsSet : (left right : List ℕ) → Type 0
@@ -161,12 +167,23 @@ SpellsSign IfUndefined line left right = (line ≡ (left ++ 63 ∷ []) ++ 61 ∷
 SpellsSign AtOnce line left right = SpellsColon line left (58 ∷ 61 ∷ right) ⊎ (SpellsColon line left (61 ∷ right) × IsSet left right)
 SpellsSign AtOnceAlone line left right = SpellsColon line left (58 ∷ 58 ∷ 61 ∷ right)
 SpellsSign Output line left right = (line ≡ (left ++ 33 ∷ []) ++ 61 ∷ right) × Whole 61 58 (left ++ 33 ∷ [])
+SpellsSign NoSign line left right = ⊥
 
 -- a definition of the wide profile, which counts by what stands above it; it doesn't append
 abbrev pub SpellsKind : (line : List ℕ) → DefinitionKind → Definition → Type 0
 SpellsKind line kind d =
     (left : List ℕ) × (right : List ℕ) × SpellsSign kind line left right
     × Padded left d.name × IsOneWord d.name × (d.append ≡ false) × (d.is_fixed ≡ false) × Padded right d.value
+
+-- a line of the wide profile that begins with a reference and has no sign outside references: what it comes to says whether it is an empty
+-- line (GNU make, which takes it for what it comes to; that it is refused where it doesn't come to nothing: own)
+abbrev pub HasNoSign : Profile → (line : List ℕ) → Type 0
+HasNoSign profile line = Without 61 58 line × ((is_wide profile && begins_with 36 line) ≡ true)
+
+abbrev pub IsUnsigned : Profile → (file : List ℕ) (number : ℕ) (line : List ℕ) → DefinitionLine → Type 0
+IsUnsigned profile file number line l =
+    HasNoSign profile line
+    × (l ≡ record { kind = NoSign; definition = record { file = file; line = number; name = []; append = false; value = line; is_fixed = false } })
 
 -- Rules
 
@@ -229,7 +246,9 @@ HasNoTarget profile line =
 
 -- why a line is refused that isn't empty and is no include line
 abbrev pub IsRefused : Profile → (line : List ℕ) → Cause → Type 0
-IsRefused profile line cause.MissingSeparator = Without 61 58 line ⊎ (NamesNoWord profile line ⊎ (NamesNoWordOfKind profile line ⊎ HasNoTarget profile line))
+IsRefused profile line cause.MissingSeparator =
+    (Without 61 58 line × ((is_wide profile && begins_with 36 line) ≡ false))
+    ⊎ (NamesNoWord profile line ⊎ (NamesNoWordOfKind profile line ⊎ HasNoTarget profile line))
 IsRefused profile line (cause.Unsupported feature.OptionalDefinition) =
     (is_wide profile ≡ false) × (left : List ℕ) × (right : List ℕ) × SpellsSign IfUndefined line left right
 IsRefused profile line (cause.Unsupported feature.DoubleColon) =
@@ -245,6 +264,11 @@ IsRefused profile line (cause.Unsupported feature.Include) = ⊥
 IsRefused profile line (cause.Unsupported (feature.Directive directive)) = ⊥
 IsRefused profile line (cause.Unsupported feature.TargetMacro) = ⊥
 IsRefused profile line (cause.Unsupported feature.QuotedPercent) = ⊥
+IsRefused profile line (cause.Unsupported feature.GroupedTargets) = ⊥
+IsRefused profile line (cause.Unsupported feature.ShellFlags) = ⊥
+IsRefused profile line (cause.Unsupported feature.SearchPath) = ⊥
+IsRefused profile line (cause.Unsupported feature.RecipePrefix) = ⊥
+IsRefused profile line (cause.Unsupported feature.IncludeWildcard) = ⊥
 IsRefused profile line cause.NotText = ⊥
 IsRefused profile line cause.TabFirst = ⊥
 IsRefused profile line cause.IncludeDepth = ⊥
@@ -271,7 +295,8 @@ first_line number (Some text) = record { text = text; line = number } ∷ []
 abbrev pub IsStatement : Profile → (file : List ℕ) (number : ℕ) (line : List ℕ) → Result Form Refusal → Type 0
 IsStatement profile file number line (Ok (form.Definition d)) = (d.file ≡ file) × (d.line ≡ number) × (d.is_fixed ≡ false) × SpellsDefinition profile line d.name d.append d.value
 IsStatement profile file number line (Ok (form.DefinitionLine l)) =
-    (is_wide profile ≡ true) × (l.definition.file ≡ file) × (l.definition.line ≡ number) × SpellsKind line l.kind l.definition
+    IsUnsigned profile file number line l
+    ⊎ ((is_wide profile ≡ true) × (l.definition.file ≡ file) × (l.definition.line ≡ number) × SpellsKind line l.kind l.definition)
 IsStatement profile file number line (Ok (form.Rule u)) =
     (u.rule.file ≡ file) × (u.rule.line ≡ number) × (recipe : Option (List ℕ)) × (u.rule.recipe ≡ first_line number recipe)
     × SpellsRule profile u.rule.is_double line u.rule.targets u.rule.prerequisites recipe
@@ -333,6 +358,20 @@ AreWritten (one ∷ more) = IsWritten one × AreWritten more
 abbrev pub IsLastOf : (last comment : List ℕ) → Type 0
 IsLastOf last comment = (last ≡ []) ⊎ ((last ≡ 92 ∷ []) × (comment ≡ []))
 
+-- behind the `:` of a line the sign of a definition ends: `=`, `:=` or `::=`
+abbrev pub ends_definition : (right : List ℕ) → Bool
+ends_definition right = ends_sign right || (begins_with 58 right && ends_sign (drop 1 right))
+
+-- behind the `:` of a rule line its recipe begins, behind a `;` outside references
+abbrev pub OpensBehind : (right : List ℕ) → Type 0
+OpensBehind right = (before : List ℕ) × (recipe : List ℕ) × (right ≡ before ++ 59 ∷ recipe) × Whole 59 59 before × Lacks 35 before
+
+-- a rule line whose recipe begins behind a `;`, which no comment stands before: its rest is the shell's, whatever `#` stands there (POSIX
+-- make, "Target Rules"; GNU make; that a `\#` before the `;` begins a comment too: own)
+abbrev pub OpensRecipe : (text : List ℕ) → Type 0
+OpensRecipe text =
+    (left : List ℕ) × (right : List ℕ) × SpellsColon text left right × (ends_definition right ≡ false) × OpensBehind right × Lacks 35 left
+
 -- what a line holds without its comment; in the strict profile the first `#` begins that
 abbrev pub ContentIn : (wide : Bool) → (text content : List ℕ) → Type 0
 ContentIn false text content = (comment : List ℕ) × (text ≡ content ++ comment) × Lacks 35 content × IsComment comment
@@ -340,8 +379,11 @@ ContentIn true text content =
     (parts : List Written) × (last : List ℕ) × (comment : List ℕ) × (text ≡ flat_map written_as parts ++ (last ++ comment))
     × (content ≡ flat_map stands_for parts ++ last) × AreWritten parts × IsLastOf last comment × IsComment comment
 
+-- in the wide profile a line that opens a recipe has no comment
 abbrev pub HasContent : Profile → (text content : List ℕ) → Type 0
-HasContent profile text content = ContentIn (is_wide profile) text content
+HasContent profile text content =
+    ((is_wide profile ≡ true) × OpensRecipe text × (content ≡ text))
+    ⊎ ((is_wide profile ≡ true → OpensRecipe text → ⊥) × ContentIn (is_wide profile) text content)
 
 abbrev pub IsTextLine : Profile → (file : List ℕ) (number : ℕ) (text : List ℕ) → Result Form Refusal → Type 0
 IsTextLine profile file number text told =

@@ -3,9 +3,9 @@ use Rattle.std.specs.Prelude.{ℕ, Bool, true, false, not, ◌&&◌, List, [], �
 use Rattle.mk_profile.specs.Profile.{is_wide}
 use Rattle.mk_profile.specs.declared.profile.Profile.{Profile}
 use Rattle.mk_reader.specs.declared.special.SpecialName.{SpecialName}
-use Rattle.mk_reader.specs.declared.special.SpecialName.TheVariants.{KeepState, Suffixes, NoParallel, Ignore, Silent, Precious, Posix, Parallel, SccsGet, Local, Init, Done, Failed, Default, KeepStateFile, MakeVersion, GetPosix, SccsGetPosix, Phony, NotParallel, DeleteOnError}
+use Rattle.mk_reader.specs.declared.special.SpecialName.TheVariants.{KeepState, Suffixes, NoParallel, Ignore, Silent, Precious, Posix, Parallel, SccsGet, Local, Init, Done, Failed, Default, KeepStateFile, MakeVersion, GetPosix, SccsGetPosix, Phony, NotParallel, DeleteOnError, OneShell, SecondExpansion, ExportAllVariables}
 
--- how a special name is written (illumos make(1S); the two with PARALLEL: the dmake manual; the last three: GNU make)
+-- how a special name is written (illumos make(1S); the two with PARALLEL: the dmake manual; the last six: GNU make)
 abbrev pub name_text : SpecialName → List ℕ
 name_text KeepState = codes ".KEEP_STATE"
 name_text Suffixes = codes ".SUFFIXES"
@@ -28,14 +28,20 @@ name_text SccsGetPosix = codes ".SCCS_GET_POSIX"
 name_text Phony = codes ".PHONY"
 name_text NotParallel = codes ".NOTPARALLEL"
 name_text DeleteOnError = codes ".DELETE_ON_ERROR"
+name_text OneShell = codes ".ONESHELL"
+name_text SecondExpansion = codes ".SECONDEXPANSION"
+name_text ExportAllVariables = codes ".EXPORT_ALL_VARIABLES"
 
 abbrev pub all_names : List SpecialName
-all_names = KeepState ∷ Suffixes ∷ NoParallel ∷ Ignore ∷ Silent ∷ Precious ∷ Posix ∷ Parallel ∷ SccsGet ∷ Local ∷ Init ∷ Done ∷ Failed ∷ Default ∷ KeepStateFile ∷ MakeVersion ∷ GetPosix ∷ SccsGetPosix ∷ Phony ∷ NotParallel ∷ DeleteOnError ∷ []
+all_names = KeepState ∷ Suffixes ∷ NoParallel ∷ Ignore ∷ Silent ∷ Precious ∷ Posix ∷ Parallel ∷ SccsGet ∷ Local ∷ Init ∷ Done ∷ Failed ∷ Default ∷ KeepStateFile ∷ MakeVersion ∷ GetPosix ∷ SccsGetPosix ∷ Phony ∷ NotParallel ∷ DeleteOnError ∷ OneShell ∷ SecondExpansion ∷ ExportAllVariables ∷ []
 
 -- the profile has the name; one that it lacks is an ordinary name in it
 abbrev pub is_known : Profile → SpecialName → Bool
 is_known profile NotParallel = is_wide profile
 is_known profile DeleteOnError = is_wide profile
+is_known profile OneShell = is_wide profile
+is_known profile SecondExpansion = is_wide profile
+is_known profile ExportAllVariables = is_wide profile
 is_known profile _ = true
 
 -- the special name that a word is in the profile; any other word is an ordinary name
@@ -52,6 +58,9 @@ is_refused profile KeepStateFile = true
 is_refused profile MakeVersion = true
 is_refused profile GetPosix = true
 is_refused profile SccsGetPosix = true
+is_refused profile OneShell = true
+is_refused profile SecondExpansion = true
+is_refused profile ExportAllVariables = true
 is_refused profile Phony = not (is_wide profile)
 is_refused profile KeepState = false
 is_refused profile Suffixes = false

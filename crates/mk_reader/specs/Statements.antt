@@ -1,16 +1,21 @@
 -- The statements of a file: what its lines say, in their order, down to the first line that is refused.
-use Rattle.std.specs.Prelude.{◌≡◌, ℕ, Bool, true, false, List, [], ◌∷◌, ◌++◌, Option, Some, None, Result, Ok, Err, is_some}
+use Rattle.std.specs.Prelude.{◌≡◌, ℕ, Bool, true, false, not, ◌&&◌, if◌then◌else◌, List, [], ◌∷◌, ◌++◌, Option, Some, None, Result, Ok, Err, is_some}
 use Rattle.mk_profile.specs.declared.profile.Profile.{Profile}
-use Rattle.mk_reader.specs.Lines.{logical_lines}
-use Rattle.mk_reader.specs.Grammar.{refusal, IsForm}
+use Rattle.mk_profile.specs.Profile.{is_wide}
+use Rattle.mk_reader.specs.Lines.{logical_lines, joined_lines}
+use Rattle.mk_reader.specs.Grammar.{refusal, IsTextLine, IsForm}
+use Rattle.mk_reader.specs.Form.{statement_form, form_of}
 use Rattle.mk_reader.specs.declared.special.SpecialName.{SpecialName}
+use Rattle.mk_reader.specs.declared.item.DefinitionKind.{DefinitionKind}
+use Rattle.mk_reader.specs.declared.item.DefinitionKind.TheVariants.{NoSign}
 use Rattle.mk_reader.specs.declared.item.RecipeLine.{RecipeLine}
 use Rattle.mk_reader.specs.declared.item.Rule.{Rule}
 use Rattle.mk_reader.specs.declared.item.Item.{Item}
 use Rattle.mk_reader.specs.declared.item.Item.TheVariants as item
 use Rattle.mk_reader.specs.declared.item.Statement.{Statement}
 use Rattle.mk_reader.specs.declared.item.Statement.TheVariants as statement
-use Rattle.mk_reader.specs.declared.fault.Cause.TheVariants.{TabFirst}
+use Rattle.mk_reader.specs.declared.fault.Cause.{Cause}
+use Rattle.mk_reader.specs.declared.fault.Cause.TheVariants.{MissingSeparator, TabFirst}
 use Rattle.mk_reader.specs.declared.fault.Refusal.{Refusal}
 use Rattle.mk_reader.specs.declared.fault.ReadFault.{ReadFault}
 use Rattle.mk_reader.specs.declared.fault.ReadFault.TheVariants.{OutOfMemory, Refused}
@@ -43,6 +48,45 @@ RecipeBelow profile file [] below = below ≡ []
 RecipeBelow profile file (line ∷ more) below =
     (told : Result Form Refusal) × IsForm profile file line told × (rest : List RecipeLine) × RecipeBelow profile file more rest × (below ≡ recipe_from told rest)
 
+-- Lines that begin with a TAB where no rule stands above them. The wide profile reads them as GNU make does: blank lines and comments mean nothing,
+-- definitions and include lines what they mean elsewhere, and all else is a recipe line that belongs to no rule
+
+abbrev pub lacks_sign : DefinitionKind → Bool
+lacks_sign NoSign = true
+lacks_sign _ = false
+
+-- a rule line, or one that what it comes to may make one
+abbrev pub may_be_rule : Form → Bool
+may_be_rule (form.Rule unfinished) = true
+may_be_rule (form.DefinitionLine line) = lacks_sign line.kind
+may_be_rule _ = false
+
+abbrev pub lacks_separator : Cause → Bool
+lacks_separator MissingSeparator = true
+lacks_separator _ = false
+
+-- a line that is told as this elsewhere
+abbrev pub told_outside : List ℕ → ℕ → Result Form Refusal → Result Form Refusal
+told_outside file number (Ok told) = if may_be_rule told then Err (refusal file number TabFirst) else Ok told
+told_outside file number (Err refused) = Err (record { file = refused.file; line = refused.line; cause = if lacks_separator refused.cause then TabFirst else refused.cause })
+
+abbrev pub first_of : List (List ℕ) → List ℕ
+first_of [] = []
+first_of (one ∷ more) = one
+
+-- the text of a recipe line, joined as that of other lines
+abbrev pub joined_plainly : List ℕ → List ℕ
+joined_plainly text = first_of (joined_lines (Some text))
+
+abbrev pub IsToldOutside : (tab : Bool) → Profile → List ℕ → LogicalLine → Result Form Refusal → Type 0
+IsToldOutside false profile file line told = IsForm profile file line told
+IsToldOutside true profile file line told =
+    (elsewhere : Result Form Refusal) × IsTextLine profile file line.number (joined_plainly line.text) elsewhere × (told ≡ told_outside file line.number elsewhere)
+
+-- what a line is where a rule stands above it, with nothing but recipe lines and blank lines between, or none does
+abbrev pub IsTold : Profile → List ℕ → (above : Bool) → LogicalLine → Result Form Refusal → Type 0
+IsTold profile file above line told = IsToldOutside (not above && (line.is_recipe && is_wide profile)) profile file line told
+
 -- a statement, and behind it what Rest allows
 abbrev pub Before : Statement → (List Statement → Type 0) → List Statement → Type 0
 Before one Rest statements = (rest : List Statement) × Rest rest × (statements ≡ one ∷ rest)
@@ -69,7 +113,7 @@ FormStatements file number above (Ok (form.Rule unfinished)) below Rest statemen
 abbrev pub LineStatements : Profile → List ℕ → Bool → List LogicalLine → List Statement → Type 0
 LineStatements profile file above [] statements = statements ≡ []
 LineStatements profile file above (line ∷ more) statements =
-    (told : Result Form Refusal) × IsForm profile file line told × (below : List RecipeLine) × RecipeBelow profile file more below
+    (told : Result Form Refusal) × IsTold profile file above line told × (below : List RecipeLine) × RecipeBelow profile file more below
     × FormStatements file line.number above told below (λ now. LineStatements profile file now more) statements
 
 -- these are the statements of a text that is read in this profile, under this file name
@@ -77,6 +121,14 @@ abbrev pub AreStatements : Profile → (file text : List ℕ) → List Statement
 AreStatements profile file text statements = LineStatements profile file false (logical_lines 1 (Some text)) statements
 
 -- What is gathered of a file while it is read.
+
+-- what a line is, computed
+unfoldable pub outside_form : Profile → List ℕ → ℕ → List ℕ → Result Form Refusal
+outside_form profile file number text = told_outside file number (statement_form profile file number (joined_plainly text))
+
+unfoldable pub form_below : Profile → List ℕ → (above : Bool) → LogicalLine → Result Form Refusal
+form_below profile file above line =
+    if not above && (line.is_recipe && is_wide profile) then outside_form profile file line.number line.text else form_of profile file line
 
 -- the item of a rule that may be unfinished, with more lines of its recipe
 abbrev pub finished : Option UnfinishedRule → List RecipeLine → List Statement

@@ -37,6 +37,10 @@ ends_with byte bytes = begins_with byte (reverse bytes)
 abbrev pub without_last : List ℕ → List ℕ
 without_last bytes = take (length bytes - 1) bytes
 
+-- without a `+` at its end
+unfoldable pub without_plus : List ℕ → List ℕ
+without_plus bytes = if ends_with 43 bytes then without_last bytes else bytes
+
 -- without a TAB that stands first
 unfoldable pub without_tab : List ℕ → List ℕ
 without_tab bytes = if begins_with 9 bytes then drop 1 bytes else bytes

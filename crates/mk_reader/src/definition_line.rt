@@ -1,16 +1,17 @@
 //! Definition lines: a name, a sign and a text.
-ghost use Rattle.std.specs.Prelude.{◌≡◌, ◌&&◌, IfOk};
+ghost use Rattle.std.specs.Prelude.{◌≡◌, ◌&&◌, reverse, IfOk};
 ghost use Rattle.std.specs.List.{list_any, list_all};
 ghost use Rattle.byte_strings.specs.Blanks.{is_blank};
-ghost use Rattle.mk_reader.specs.Form.{Gives, defined_as, is_no_name, named_form, kind_form, optional_form, assigned_form, definition_form, is_macro_name, without_plus, conditional_at, set_form, first_outside};
-ghost use Rattle.mk_reader.specs.Grammar.{is_name_byte};
+ghost use Rattle.mk_reader.specs.Form.{Gives, defined_as, is_no_name, named_form, kind_form, optional_form, assigned_form, definition_form, is_macro_name, conditional_at, set_form, first_outside};
+ghost use Rattle.mk_reader.specs.Text.{without_plus};
+ghost use Rattle.mk_reader.specs.Grammar.{is_name_byte, begins_blank, is_apart};
 ghost use Rattle.mk_reader.specs.declared.form.Place.TheVariants.{Outside};
 
 use crate::fault::{Cause, Feature, ReadFault};
 use crate::form::Form;
 use crate::item::{Definition, DefinitionKind, DefinitionLine};
 use crate::line::LinePlace;
-use crate::lines::{ends_with, without_last};
+use crate::lines::{around, ends_with, without_last};
 use crate::reference::first_outside;
 use crate::refuse::refuse;
 use byte_strings::{ByteString, is_blank, trim};
@@ -136,7 +137,7 @@ fn is_macro_name(name: &[u8]) -> bool
     !name.is_empty() && has_name_bytes_alone(name)
 }
 
-#[tactic(auto, unfolding(crate::specs::Form::without_plus))]
+#[tactic(auto, unfolding(crate::specs::Text::without_plus))]
 fn without_plus(left: &[u8]) -> &[u8]
     ensures { result.now ≡ without_plus left.now }
 {
@@ -146,13 +147,41 @@ fn without_plus(left: &[u8]) -> &[u8]
     left
 }
 
+fn begins_blank(bytes: &[u8]) -> bool
+    ensures { result ≡ begins_blank bytes.now }
+{
+    match bytes.split_first() {
+        Some((first, _)) => is_blank(*first),
+        None => false,
+    }
+}
+
+fn ends_blank(bytes: &[u8]) -> bool
+    ensures { result ≡ begins_blank (reverse bytes.now) }
+{
+    match bytes.split_last() {
+        Some((last, _)) => is_blank(*last),
+        None => false,
+    }
+}
+
+/// Whether blanks stand around the sign between these.
+fn is_apart(left: &[u8], value: &[u8]) -> bool
+    ensures { result ≡ is_apart left.now value.now }
+{
+    ends_blank(without_plus(left)) && (value.is_empty() || begins_blank(value))
+}
+
 /// Whether what stands behind `:=` is a definition, so that the line is that of a conditional macro.
 #[tactic(auto, unfolding(crate::specs::Form::conditional_at))]
 fn is_conditional(right: &[u8]) -> bool
     ensures { result ≡ conditional_at right.now (first_outside 61 61 Outside right.now) }
 {
     match first_outside(right, b'=', b'=') {
-        Some(at) => is_macro_name(trim(without_plus(right.split_at(at).0))),
+        Some(at) => {
+            let (left, value) = around(right, at);
+            is_macro_name(trim(without_plus(left))) && is_apart(left, value)
+        }
         None => false,
     }
 }

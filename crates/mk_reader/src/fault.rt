@@ -27,6 +27,16 @@ pub enum Feature {
     TargetMacro,
     /// `\%` in a static pattern rule.
     QuotedPercent,
+    /// Targets that end in `&`, which are grouped, in the wide profile.
+    GroupedTargets,
+    /// A definition of `.SHELLFLAGS`, in the wide profile.
+    ShellFlags,
+    /// A definition of `VPATH` with a text, in the wide profile.
+    SearchPath,
+    /// A definition of `.RECIPEPREFIX` with a text, in the wide profile.
+    RecipePrefix,
+    /// A name with a wildcard on an include line, where no file has it, in the wide profile.
+    IncludeWildcard,
 }
 
 impl fmt::Display for Feature {
@@ -46,6 +56,11 @@ impl fmt::Display for Feature {
             Feature::Directive(directive) => f.write_str(directive.as_str()),
             Feature::TargetMacro => f.write_str("target-specific macro"),
             Feature::QuotedPercent => f.write_str("\\%"),
+            Feature::GroupedTargets => f.write_str("&:"),
+            Feature::ShellFlags => f.write_str(".SHELLFLAGS"),
+            Feature::IncludeWildcard => f.write_str("wildcard in include"),
+            Feature::RecipePrefix => f.write_str(".RECIPEPREFIX"),
+            Feature::SearchPath => f.write_str("VPATH"),
         }
     }
 }
@@ -61,6 +76,9 @@ pub enum MacroCause {
     NestedReference,
     #[error("expansion too long")]
     TooLong,
+    /// A reference that spells this function of GNU make and is no macro, in the wide profile.
+    #[error("not supported: $({0} ..)")]
+    Function(ByteString),
 }
 
 /// Why a static pattern rule is refused.

@@ -1,13 +1,14 @@
 //! What was gathered of a text so far, while it is read line by line.
 ghost use Rattle.std.specs.Prelude.{◌≡◌, false, [], ◌∷◌, ◌++◌, Ok, IfOk, OnOk};
-ghost use Rattle.mk_reader.specs.Form.{recipe_form, statement_form, form_of};
-ghost use Rattle.mk_reader.specs.Statements.{with_lines, with_line, AddsLine, RecipeLineTaken, IsFaultTaken, Taken};
+ghost use Rattle.mk_reader.specs.Form.{recipe_form, statement_form};
+ghost use Rattle.mk_reader.specs.Statements.{outside_form, form_below, with_lines, with_line, AddsLine, RecipeLineTaken, IsFaultTaken, Taken};
 
 use crate::fault::{Cause, ReadFault};
 use crate::file_name::FileName;
 use crate::form::{Form, UnfinishedRule};
 use crate::item::{Item, RecipeLine, Special, Statement};
 use crate::line::{LinePlace, LineText, LogicalLine};
+use crate::outside::outside_form;
 use crate::plain_line::plain_rule;
 use crate::refuse::refuse;
 use crate::statement::statement_form;
@@ -147,6 +148,18 @@ impl Gathered {
         self.take_recipe_line(place, line)
     }
 
+    /// Takes in a line that begins with a TAB where no rule stands above it, in the wide profile. Answers whether it is refused.
+    #[cold]
+    fn take_outside(&mut self, place: LinePlace<'_>, text: &[u8]) -> Result<bool, AllocError>
+        ensures { IfOk result (λ ended. Taken place.entry.file.now place.entry.number (outside_form place.entry.profile place.entry.file.now place.entry.number text.now)
+            self.old.statements.items self.old.is_open self.new.statements.items self.new.is_open ended) }
+    {
+        match outside_form(place, text) {
+            Ok(form) => self.take_form(place, form),
+            Err(fault) => self.take_fault(fault),
+        }
+    }
+
     /// Takes in a line that is no recipe line, whatever signs stand in it. Answers whether it is refused.
     #[inline(never)]
     fn take_signs(&mut self, place: LinePlace<'_>, text: &[u8]) -> Result<bool, AllocError>
@@ -172,7 +185,7 @@ impl Gathered {
     }
 
     /// Takes in the next line of the file. Answers whether it is refused, which ends the file's statements.
-    #[tactic(auto, unfolding(crate::specs::Form::form_of))]
+    #[tactic(auto, unfolding(crate::specs::Statements::form_below, crate::specs::Form::form_of))]
     pub fn take_line(
         &mut self,
         alloc: Global,
@@ -180,7 +193,7 @@ impl Gathered {
         file: &FileName,
         line: LogicalLine<'_>,
     ) -> Result<bool, AllocError>
-        ensures { IfOk result (λ ended. Taken file.now line.entry.number (form_of profile file.now line.entry)
+        ensures { IfOk result (λ ended. Taken file.now line.entry.number (form_below profile file.now self.old.is_open line.entry)
             self.old.statements.items self.old.is_open self.new.statements.items self.new.is_open ended) }
     {
         let LogicalLine {
@@ -194,6 +207,9 @@ impl Gathered {
             file,
             number,
         };
+        if !self.is_open && is_recipe && profile.is_wide() {
+            return self.take_outside(place, text.as_slice());
+        }
         if is_recipe {
             self.take_recipe(place, text)
         } else {

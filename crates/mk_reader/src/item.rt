@@ -149,6 +149,8 @@ pub enum DefinitionKind {
     AtOnceAlone,
     /// `!=`: with what the command writes that its text is.
     Output,
+    /// No sign, and no name: the text has to come to nothing, and defines nothing.
+    NoSign,
 }
 
 /// A definition of the wide profile, which counts by what stands above it. It doesn't append.

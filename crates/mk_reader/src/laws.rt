@@ -6,7 +6,7 @@ ghost use Rattle.mk_reader.specs.Lines.{Physical, spelling, groups, lines_left};
 ghost use Rattle.mk_reader.specs.Spelling.{AreLines, AreGroups};
 ghost use Rattle.mk_reader.specs.Form.{form_of};
 ghost use Rattle.mk_reader.specs.Text.{ends_with, is_text};
-ghost use Rattle.mk_reader.specs.Grammar.{Lacks, HasSpecial, is_refused_with, IsForm};
+ghost use Rattle.mk_reader.specs.Grammar.{Lacks, HasSpecial, is_refused_with, OpensRecipe, IsForm};
 ghost use Rattle.mk_reader.specs.Printed.{line_of_text, IsPlainName, IsPlainValue, ArePlainTargets, ArePlainPrerequisites, definition_text, definition_on, HasSign, rule_text, rule_on, PlainItem, ArePlain, printed, items_on};
 ghost use Rattle.mk_reader.specs.Statements.{AreStatements};
 ghost use Rattle.mk_reader.specs.declared.fault.Refusal.{Refusal};
@@ -61,10 +61,11 @@ pub fn printed_items_are_read_back()
         → AreStatements profile file (printed items) (map statement.Item (items_on file 1 items)) }
 {}
 
-/// A `#` and what follows it in its line change nothing, but for one behind a backslash in the wide profile. The byte 35 is
-/// `#`, and 92 a backslash.
+/// A `#` and what follows it in its line change nothing, but in the wide profile for one behind a backslash, and for one in a
+/// recipe that stands behind a `;`. The byte 35 is `#`, and 92 a backslash.
 pub fn comments_change_nothing()
     ensures { (profile : Profile) (file text comment : List ℕ) (number : ℕ) (told : Result Form Refusal) → Lacks 35 text
         → (is_wide profile && ends_with 92 text) ≡ false
+        → (is_wide profile ≡ true → OpensRecipe (text ++ 35 ∷ comment) → ⊥)
         → (IsForm profile file (line_of_text number (text ++ 35 ∷ comment)) told ↔ IsForm profile file (line_of_text number text) told) }
 {}

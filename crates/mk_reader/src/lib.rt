@@ -13,9 +13,11 @@ mod item;
 pub mod laws;
 mod line;
 mod lines;
+mod outside;
 mod plain_line;
 mod reference;
 mod refuse;
+mod semicolon;
 mod special;
 mod statement;
 mod statements;
@@ -28,7 +30,7 @@ pub use item::{
     Definition, DefinitionKind, DefinitionLine, IncludeLine, Item, Recipe, RecipeLine, Rule,
     Special, Statement,
 };
-pub use lines::next_joined_line;
+pub use lines::{ends_with, next_joined_line};
 pub use reference::split_outside;
 pub use special::{SpecialName, is_refused, special_name};
 pub use statements::statements_of;

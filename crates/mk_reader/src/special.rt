@@ -15,8 +15,9 @@ pub enum SpecialName {
     NoParallel,
     Ignore,
     Silent,
-    // These are accepted and have no effect.
+    // This is used in the wide profile, under `.DELETE_ON_ERROR`, and has no effect in the strict one.
     Precious,
+    // These are accepted and have no effect.
     Posix,
     Parallel,
     SccsGet,
@@ -34,9 +35,13 @@ pub enum SpecialName {
     // These are the wide profile's alone, and ordinary names in the strict one.
     NotParallel,
     DeleteOnError,
+    // So are these, and they are refused.
+    OneShell,
+    SecondExpansion,
+    ExportAllVariables,
 }
 
-const ALL: [SpecialName; 21] = [
+const ALL: [SpecialName; 24] = [
     SpecialName::KeepState,
     SpecialName::Suffixes,
     SpecialName::NoParallel,
@@ -58,6 +63,9 @@ const ALL: [SpecialName; 21] = [
     SpecialName::Phony,
     SpecialName::NotParallel,
     SpecialName::DeleteOnError,
+    SpecialName::OneShell,
+    SpecialName::SecondExpansion,
+    SpecialName::ExportAllVariables,
 ];
 
 impl SpecialName {
@@ -87,6 +95,9 @@ impl SpecialName {
             SpecialName::Phony => ".PHONY",
             SpecialName::NotParallel => ".NOTPARALLEL",
             SpecialName::DeleteOnError => ".DELETE_ON_ERROR",
+            SpecialName::OneShell => ".ONESHELL",
+            SpecialName::SecondExpansion => ".SECONDEXPANSION",
+            SpecialName::ExportAllVariables => ".EXPORT_ALL_VARIABLES",
         }
     }
 }
@@ -106,7 +117,11 @@ fn is_known(profile: Profile, name: SpecialName) -> bool
     ensures { result ≡ is_known profile name }
 {
     match name {
-        SpecialName::NotParallel | SpecialName::DeleteOnError => profile.is_wide(),
+        SpecialName::NotParallel
+        | SpecialName::DeleteOnError
+        | SpecialName::OneShell
+        | SpecialName::SecondExpansion
+        | SpecialName::ExportAllVariables => profile.is_wide(),
         _ => true,
     }
 }
@@ -134,7 +149,10 @@ pub fn is_refused(profile: Profile, name: SpecialName) -> bool
         | SpecialName::KeepStateFile
         | SpecialName::MakeVersion
         | SpecialName::GetPosix
-        | SpecialName::SccsGetPosix => true,
+        | SpecialName::SccsGetPosix
+        | SpecialName::OneShell
+        | SpecialName::SecondExpansion
+        | SpecialName::ExportAllVariables => true,
         SpecialName::Default | SpecialName::Phony => !profile.is_wide(),
         _ => false,
     }

@@ -4,7 +4,7 @@ ghost use Rattle.std.specs.List.{list_any};
 ghost use Rattle.byte_strings.specs.Blanks.{trimmed_start};
 ghost use Rattle.mk_reader.specs.Text.{is_dollar, is_empty, is_text};
 ghost use Rattle.mk_reader.specs.Directive.{told_as};
-ghost use Rattle.mk_reader.specs.Form.{Gives, include_kind, include_form, prerequisites_of, recipe_of, judged_form, rule_form, begins_shell_definition, double_form, colon_form, decided_form, line_form, content_form, statement_form, first_outside};
+ghost use Rattle.mk_reader.specs.Form.{Gives, include_kind, include_form, prerequisites_of, recipe_of, judged_form, rule_form, begins_shell_definition, double_form, colon_form, unsigned_form, decided_form, line_form, content_form, statement_form, first_outside};
 ghost use Rattle.mk_reader.specs.declared.form.Place.TheVariants.{Outside};
 
 use crate::comment::{before_comment, unescaped};
@@ -12,11 +12,14 @@ use crate::definition_line::{definition_form, kind_form, set_form};
 use crate::directive::told_refusal;
 use crate::fault::{Cause, Feature, ReadFault};
 use crate::form::{Form, UnfinishedRule};
-use crate::item::{DefinitionKind, IncludeLine, Recipe, RecipeLine, Rule};
+use crate::item::{
+    Definition, DefinitionKind, DefinitionLine, IncludeLine, Recipe, RecipeLine, Rule,
+};
 use crate::line::LinePlace;
 use crate::lines::{around, begins_with, ends_with, without_first};
 use crate::reference::first_outside;
 use crate::refuse::refuse;
+use crate::semicolon::opens_recipe;
 use crate::special::{SpecialName, is_refused, special_name, takes_no_prerequisites};
 use crate::text::is_text;
 use byte_strings::{ByteString, first_word, trim, trim_start};
@@ -189,12 +192,34 @@ fn colon_form(place: LinePlace<'_>, left: &[u8], right: &[u8]) -> Result<Form, R
     rule_form(place, false, trim(left), right)
 }
 
+/// A line without a sign. In the wide profile one that begins with a reference is told by what it comes to.
+#[tactic(auto, unfolding(crate::specs::Form::unsigned_form))]
+fn unsigned_form(place: LinePlace<'_>, line: &[u8]) -> Result<Form, ReadFault>
+    ensures { Gives result (unsigned_form place.entry.profile place.entry.file.now place.entry.number line.now) }
+{
+    if !place.profile.is_wide() || !begins_with(line, b'$') {
+        return Err(refuse(place, Cause::MissingSeparator));
+    }
+    let definition = Definition {
+        file: place.file.share()?,
+        line: place.number,
+        name: ByteString::new(Vec::new(place.alloc)),
+        append: false,
+        value: ByteString::from_slice(place.alloc, line)?,
+        is_fixed: false,
+    };
+    Ok(Form::DefinitionLine(DefinitionLine {
+        kind: DefinitionKind::NoSign,
+        definition,
+    }))
+}
+
 #[tactic(auto, unfolding(crate::specs::Form::decided_form))]
 fn decided_form(place: LinePlace<'_>, line: &[u8]) -> Result<Form, ReadFault>
     ensures { Gives result (decided_form place.entry.profile place.entry.file.now place.entry.number line.now (first_outside 61 58 Outside line.now)) }
 {
     let Some(at) = first_outside(line, b'=', b':') else {
-        return Err(refuse(place, Cause::MissingSeparator));
+        return unsigned_form(place, line);
     };
     let (left, right) = around(line, at);
     if line[at] == b'=' {
@@ -248,10 +273,13 @@ fn content_form(place: LinePlace<'_>, content: &[u8]) -> Result<Form, ReadFault>
 }
 
 /// The form of a line that is no recipe line.
-#[tactic(auto, using(crate::proofs::ContentLemmas::cut_is), unfolding(crate::specs::Form::statement_form))]
+#[tactic(auto, using(crate::proofs::ContentLemmas::cut_is, crate::proofs::ContentLemmas::opened_is, crate::proofs::ContentLemmas::unescaped_is), unfolding(crate::specs::Form::statement_form))]
 pub fn statement_form(place: LinePlace<'_>, text: &[u8]) -> Result<Form, ReadFault>
     ensures { Gives result (statement_form place.entry.profile place.entry.file.now place.entry.number text.now) }
 {
+    if place.profile.is_wide() && opens_recipe(text) {
+        return content_form(place, text);
+    }
     let front = before_comment(text);
     if place.profile.is_wide() && ends_with(front, b'\\') {
         let content = unescaped(place.alloc, text)?;

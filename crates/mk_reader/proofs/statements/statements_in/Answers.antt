@@ -1,10 +1,8 @@
 use Rattle.std.proofs.Common.{◌≡◌, ◌∷◌, option_copied, sym, ap, subst, ◌∙◌}
 use Rattle.mk_reader.specs.Lines.{logical_lines}
-use Rattle.mk_reader.specs.Form.{form_of}
-use Rattle.mk_reader.specs.Statements.{Comes}
-use Rattle.mk_reader.proofs.GrammarLemmas.{form_said}
+use Rattle.mk_reader.specs.Statements.{form_below, Comes}
 use Rattle.mk_reader.proofs.LinesLemmas.{no_lines_left}
-use Rattle.mk_reader.proofs.StatementLemmas.{comes_from_start, comes_at_end, taken_goes, taken_ends}
+use Rattle.mk_reader.proofs.StatementLemmas.{told_said, comes_from_start, comes_at_end, taken_goes, taken_ends}
 use Rattle.mk_reader.proofs.statements.statements_in.Goals as goal
 
 pub loop-left-init : goal.loop-left-init
@@ -18,8 +16,8 @@ loop-left-preserved c =
     let at : logical_lines c.loop-left.number (option_copied c.loop-left.left) ≡ line ∷ more = ap (λ left. logical_lines c.loop-left.number (option_copied left)) c.in-Some.is ∙ c.in_ok-line.ensures.line in
     λ whole comes. c.loop-left.invariant whole
     (subst (λ lines. Comes c.args.profile c.args.file.now gathered.statements.items gathered.is_open lines whole) (sym at)
-    (taken_goes c.args.profile c.args.file.now line more (form_of c.args.profile c.args.file.now line) gathered.statements.items c.take_line.new.self.statements.items gathered.is_open c.take_line.new.self.is_open c.in_ok-is_refused.is_refused
-    (form_said c.args.profile c.args.file.now line) c.in_ok-is_refused.ensures (cc) whole comes))
+    (taken_goes c.args.profile c.args.file.now line more (form_below c.args.profile c.args.file.now gathered.is_open line) gathered.statements.items c.take_line.new.self.statements.items gathered.is_open c.take_line.new.self.is_open c.in_ok-is_refused.is_refused
+    (told_said c.args.profile c.args.file.now gathered.is_open line) c.in_ok-is_refused.ensures (cc) whole comes))
 
 pub returns-then-is_refused : goal.returns-then-is_refused
 returns-then-is_refused c =
@@ -29,8 +27,8 @@ returns-then-is_refused c =
     let at : logical_lines c.loop-left.number (option_copied c.loop-left.left) ≡ line ∷ more = ap (λ left. logical_lines c.loop-left.number (option_copied left)) c.in-Some.is ∙ c.in_ok-line.ensures.line in
     c.loop-left.invariant c.take_line.new.self.statements.items
     (subst (λ lines. Comes c.args.profile c.args.file.now gathered.statements.items gathered.is_open lines c.take_line.new.self.statements.items) (sym at)
-    (taken_ends c.args.profile c.args.file.now line more (form_of c.args.profile c.args.file.now line) gathered.statements.items c.take_line.new.self.statements.items gathered.is_open c.take_line.new.self.is_open c.in_ok-is_refused.is_refused
-    (form_said c.args.profile c.args.file.now line) c.in_ok-is_refused.ensures (cc)))
+    (taken_ends c.args.profile c.args.file.now line more (form_below c.args.profile c.args.file.now gathered.is_open line) gathered.statements.items c.take_line.new.self.statements.items gathered.is_open c.take_line.new.self.is_open c.in_ok-is_refused.is_refused
+    (told_said c.args.profile c.args.file.now gathered.is_open line) c.in_ok-is_refused.ensures (cc)))
 
 pub returns : goal.returns
 returns c =
