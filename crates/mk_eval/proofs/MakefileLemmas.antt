@@ -49,6 +49,8 @@ names_fault given file include macro_fault.NestedReference (Refused r) some expa
     (expansion.dollar_in_brackets, names_expanded given include.names (fails expansion.dollar_in_brackets) some expands, sym refused)
 names_fault given file include macro_fault.TooLong (Refused r) some expands refused memory =
     (expansion.too_long, names_expanded given include.names (fails expansion.too_long) some expands, sym refused)
+names_fault given file include (macro_fault.Function word) (Refused r) some expands refused memory =
+    (expansion.calls_function word, names_expanded given include.names (fails (expansion.calls_function word)) some expands, sym refused)
 
 -- a fault that isn't want of memory is one of the text
 pub fault_some : (names : Meanings) (text : List ℕ) (fault : MacroFault) → is_none (fault_told fault) ≡ false → ExpandsToFault names text fault →
@@ -58,6 +60,7 @@ fault_some names text (macro_fault.Loop name) some meets = (expansion.refers_to_
 fault_some names text macro_fault.Unclosed some meets = (expansion.not_closed, meets)
 fault_some names text macro_fault.NestedReference some meets = (expansion.dollar_in_brackets, meets)
 fault_some names text macro_fault.TooLong some meets = (expansion.too_long, meets)
+fault_some names text (macro_fault.Function word) some meets = (expansion.calls_function word, meets)
 
 -- what an include line gives whose names have a fault
 pub line_fault : (world : World) (Included : IncludeLine → Defined → List ℕ → Outcome → Type 0) (given : Defined) (file : List ℕ) (include : IncludeLine) (told : ReadFault) → IsNamesFault given file include told →

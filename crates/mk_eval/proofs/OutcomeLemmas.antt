@@ -1,5 +1,5 @@
 -- A text has one outcome.
-use Rattle.std.proofs.Common.{◌≡◌, ℕ, zero, suc, Bool, true, false, cond, ◌&&◌, bytes_eq, List, [], ◌∷◌, map, refl, inr, inl, sym, ap, subst, ◌∙◌, Option, Some, None, Result, Ok, Err, Vec}
+use Rattle.std.proofs.Common.{◌≡◌, ℕ, zero, suc, Bool, true, false, cond, ◌&&◌, ◌||◌, bytes_eq, codes, List, [], ◌∷◌, map, refl, inr, inl, sym, ap, subst, ◌∙◌, Option, Some, None, Result, Ok, Err, Vec}
 use Rattle.std.specs.declared.alloc.Global.{Global}
 use Rattle.std.specs.List.{list_any}
 use Rattle.byte_strings.specs.Blanks.{first_word, words}
@@ -15,12 +15,14 @@ use Rattle.mk_macros.proofs.SomeOutcomeLemmas.{outcome_some}
 use Rattle.mk_reader.specs.Special.{special_name}
 use Rattle.mk_reader.specs.Text.{is_dollar}
 use Rattle.mk_reader.specs.Grammar.{Without, refusal}
-use Rattle.mk_reader.specs.Printed.{PlainItem, definition, rule, ArePlain, printed, next, after_recipe, items_on}
+use Rattle.mk_reader.specs.Printed.{PlainItem, definition, rule, ArePlain, printed, next, after_recipe, definition_on, recipe_on, items_on}
 use Rattle.mk_reader.specs.declared.fault.Cause.TheVariants.{IncludeDepth, IncludeMissing, Macro}
+use Rattle.mk_reader.specs.declared.directive.Directive.TheVariants.{Vpath}
+use Rattle.mk_reader.specs.declared.fault.Feature.TheVariants.{GroupedTargets, ShellFlags, SearchPath, RecipePrefix, Directive}
 use Rattle.mk_reader.specs.declared.fault.ReadFault.{ReadFault}
 use Rattle.mk_reader.specs.declared.item.Definition.{Definition}
 use Rattle.mk_reader.specs.declared.item.DefinitionKind.{DefinitionKind}
-use Rattle.mk_reader.specs.declared.item.DefinitionKind.TheVariants.{IfUndefined, AtOnce, AtOnceAlone, Output}
+use Rattle.mk_reader.specs.declared.item.DefinitionKind.TheVariants.{IfUndefined, AtOnce, AtOnceAlone, Output, NoSign}
 use Rattle.mk_reader.specs.declared.item.Item.{Item}
 use Rattle.mk_reader.specs.declared.item.Item.TheVariants as item
 use Rattle.mk_reader.specs.declared.item.Rule.{Rule}
@@ -32,15 +34,18 @@ use Rattle.mk_reader.proofs.StatementLemmas as reading
 use Rattle.mk_reader.proofs.WordLemmas.{special_is}
 use Rattle.mk_reader.proofs.PrintedItemsLemmas.{printed_read}
 use Rattle.mk_eval.specs.Static.{DefinesMacro}
-use Rattle.mk_eval.specs.Output.{World}
+use Rattle.mk_eval.specs.Output.{World, with_shell}
 use Rattle.mk_eval.specs.Unmade.{outcome_beside}
-use Rattle.mk_eval.specs.PlainRules.{IsPlainText, IsPlainLine, IsPlainRule, ArePlainRules}
+use Rattle.mk_eval.specs.Judged.{searches, changes_recipes, opens_vpath, at_line, with_refusal, judged, all_judged}
+use Rattle.mk_eval.specs.PlainRules.{IsPlainText, IsPlainLine, IsPlainRule, IsTakenRule, IsTakenDefinition, ArePlainRules}
 use Rattle.mk_eval.specs.Static.{doubled}
 use Rattle.mk_eval.specs.Listed.{listed_text}
+use Rattle.mk_eval.specs.Short.{has_here}
+use Rattle.mk_eval.proofs.ListedLemmas.{text_plain}
 use Rattle.mk_wildcards.specs.Pattern.{has_wildcard}
-use Rattle.mk_wildcards.specs.Found.{Folders, line_of}
+use Rattle.mk_wildcards.specs.Found.{Folders}
 use Rattle.mk_reader.specs.declared.item.Special.{Special}
-use Rattle.mk_eval.specs.Makefile.{Outcome, GivesItems, InOrder, behind, NamesIn, LineNames, cause_of, NamedItems, fixed_as, FixedItems, run_as, OutputItems, KindItems, DefinitionItems, appends_fixed, ItemItems, StatementItems, FileItems, NoneFixed, IsListed as IsListedRule, RuleItems, SpecialItems, named_rule, with_item, missing_items, AnswerItems, IncludedItems, TextItems}
+use Rattle.mk_eval.specs.Makefile.{Outcome, GivesItems, InOrder, behind, NamesIn, LineNames, cause_of, NamedItems, fixed_as, FixedItems, run_as, OutputItems, empty_as, KindItems, DefinitionItems, appends_fixed, ItemItems, StatementItems, FileItems, NoneFixed, IsListed as IsListedRule, RuleItems, SpecialItems, named_rule, with_item, unread_items, AnswerItems, IncludedItems, TextItems}
 use Rattle.mk_eval.proofs.BehindLemmas.{IsListed, behind_listed, behind_language, behind_wide, behind_strict}
 use Rattle.mk_eval.proofs.MakefileLemmas.{items_passed_on}
 use Rattle.mk_eval.proofs.OrderLemmas.{IsOne, order_one, Some_of, order_some}
@@ -80,6 +85,7 @@ kind_one world IfUndefined d given one other a b = a ∙ sym b
 kind_one world AtOnce d given one other a b = fixed_one d true given one other a b
 kind_one world AtOnceAlone d given one other a b = fixed_one d false given one other a b
 kind_one world Output d given one other a b = output_one world d given one other a b
+kind_one world NoSign d given one other (text, is, a) (also, was, b) = a ∙ ap (empty_as d) (expands_once (rule_meanings given) is was) ∙ sym b
 
 statement_one : (world : World) (Included : Including) → AreOne Included → (file : List ℕ) (given : Defined) (said : Statement) → IsOne (StatementItems world Included file given said)
 statement_one world Included i file given (statement.Item said) one other a b = item_one world said given one other a b
@@ -92,8 +98,8 @@ statement_one world Included i file given (statement.Refused fault) one other a 
 file_one : (world : World) (Included : Including) → AreOne Included → (given : Defined) (file text : List ℕ) → IsOne (FileItems world Included given file text)
 file_one world Included i given file text one other (statements, are, told, a, is) (also, were, said, b, was) =
     let same = reading.text_one given.language file text statements also are were in
-    let alike = order_one behind (StatementItems world Included file) (statement_one world Included i file) given also told said
-    (subst (λ s. InOrder behind (StatementItems world Included file) given s told) same a) b in
+    let alike = order_one behind (StatementItems world Included file) (statement_one world Included i file) given (all_judged (is_wide given.language) file also) told said
+    (subst (λ s. InOrder behind (StatementItems world Included file) given (all_judged (is_wide given.language) file s) told) same a) b in
     is ∙ ap (λ s. outcome_beside (is_wide given.language) s told) same ∙ ap (outcome_beside (is_wide given.language) also) alike ∙ sym was
 
 module _ (world : World) where
@@ -147,13 +153,14 @@ item_some world (item.Rule lines) given is = rule_some lines given (text_expands
 item_some world (item.Special special) given is = special_some world (is_wide given.language) special given (text_expands given is)
 
 output_some : (world : World) (d : Definition) (given : Defined) → IsListed given → Some_of (OutputItems world d given)
-output_some world d given is = let command = text_expands given is d.value in (run_as world d command.0, (command.0, command.1, refl))
+output_some world d given is = let command = text_expands given is (with_shell d.value) in (run_as world d command.0, (command.0, command.1, refl))
 
 kind_some : (world : World) (kind : DefinitionKind) (d : Definition) (given : Defined) → IsListed given → Some_of (KindItems world kind d given)
 kind_some world IfUndefined d given is = (_, refl)
 kind_some world AtOnce d given is = fixed_some d true given is
 kind_some world AtOnceAlone d given is = fixed_some d false given is
 kind_some world Output d given is = output_some world d given is
+kind_some world NoSign d given is = let text = text_expands given is d.value in (empty_as d text.0, (text.0, text.1, refl))
 
 statement_some : (world : World) (Included : Including) → AreSome Included → (file : List ℕ) (given : Defined) → IsListed given → (said : Statement) → Some_of (StatementItems world Included file given said)
 statement_some world Included i file given is (statement.Item said) = item_some world said given is
@@ -167,12 +174,12 @@ statement_some world Included i file given is (statement.Refused fault) = (Err f
 file_some : (world : World) (Included : Including) → AreSome Included → (given : Defined) → IsListed given → (file text : List ℕ) → Some_of (FileItems world Included given file text)
 file_some world Included i given is file text =
     let statements = reading.text_some given.language file text in
-    let whole = order_some behind IsListed behind_listed (StatementItems world Included file) (statement_some world Included i file) given is statements.0 in
+    let whole = order_some behind IsListed behind_listed (StatementItems world Included file) (statement_some world Included i file) given is (all_judged (is_wide given.language) file statements.0) in
     (outcome_beside (is_wide given.language) statements.0 whole.0, (statements.0, statements.1, whole.0, whole.1, refl))
 
 module _ (world : World) where
   answer_some : (Included : List ℕ → Including) → ((file : List ℕ) → AreSome (Included file)) → (file : List ℕ) (include : IncludeLine) (given : Defined) → IsListed given → (name : List ℕ) (answer : Option (List ℕ)) → Some_of (AnswerItems world Included file include given name answer)
-  answer_some Included i file include given is name None = (missing_items include.is_required (refusal file include.line (IncludeMissing name)), refl)
+  answer_some Included i file include given is name None = (unread_items (is_wide given.language && has_wildcard name) file include name, refl)
   answer_some Included i file include given is name (Some text) = file_some world (Included name) (i name) given is name text
 
   included_some : (levels : ℕ) (file : List ℕ) → AreSome (IncludedItems world levels file)
@@ -219,17 +226,17 @@ none_behind given one loose h =
 targets_stand : (given : Defined) (text : List ℕ) → list_any is_dollar text ≡ false → LineNames given text (gives text)
 targets_stand given text none = subst (λ refers. NamesIn refers given text (gives text)) (sym none) refl
 
--- a text without a wildcard stands as it is
-text_listed : (folders : Folders) (text : List ℕ) → has_wildcard text ≡ false → listed_text folders text (gives text) ≡ text
-text_listed folders text none = ap (λ t. cond t (doubled (line_of folders text)) text) none
+-- a text without a wildcard and a `./` stands as it is
+text_listed : (folders : Folders) (text : List ℕ) → has_wildcard text ≡ false → has_here text ≡ false → listed_text folders text (gives text) ≡ text
+text_listed folders text none here = sym (text_plain folders text text (ap (λ t. t || has_wildcard text) here ∙ none))
 
 rule_listed : (world : World) (lines : Rule) (given : Defined) → IsPlainText lines.targets → IsPlainText lines.prerequisites → IsListedRule world lines given (gives lines.targets) lines
 rule_listed world lines given targets prerequisites = (
   gives lines.prerequisites,
   targets_stand given lines.prerequisites prerequisites.0,
   λ i. record lines {
-    targets = sym (text_listed world.folders lines.targets targets.1) i;
-    prerequisites = sym (text_listed world.folders lines.prerequisites prerequisites.1) i;
+    targets = sym (text_listed world.folders lines.targets targets.1 targets.2) i;
+    prerequisites = sym (text_listed world.folders lines.prerequisites prerequisites.1 prerequisites.2) i;
   },
 )
 
@@ -268,17 +275,60 @@ items_given world Included file given (one ∷ more) (here, later) h =
 plain_loose : (language : Profile) (file : List ℕ) (number : ℕ) (items : List PlainItem) → ArePlain language items → ArePlainRules language items →
     AreLoose language (items_on file number items)
 plain_loose language file number [] plain rules = tt
-plain_loose language file number (definition name append value ∷ more) (is, plain) rules = (refl, plain_loose language file (next number) more plain rules)
-plain_loose language file number (rule None double targets prerequisites recipe ∷ more) (is, plain) (here, later) =
+plain_loose language file number (definition name append value ∷ more) (is, plain) (taken, rules) = (refl, plain_loose language file (next number) more plain rules)
+plain_loose language file number (rule None double targets prerequisites recipe ∷ more) (is, plain) (taken, here, later) =
     ((here, special_is language targets None is.2), plain_loose language file (after_recipe (next number) recipe) more plain later)
 plain_loose language file number (rule (Some name) double targets prerequisites recipe ∷ more) (is, plain) rules =
     (rules.0, plain_loose language file (after_recipe (next number) recipe) more plain rules.1)
+
+-- no line of them is refused by name
+
+definition_taken : (language : Profile) (file : List ℕ) (d : Definition) (wide : Bool) → is_wide language ≡ wide → IsTakenDefinition language d.name d.value →
+    judged wide file (statement.Item (item.Definition d)) ≡ statement.Item (item.Definition d)
+definition_taken language file d false is taken = refl
+definition_taken language file d true is taken =
+    let here = taken is in
+    ap (λ o. with_refusal file (statement.Item (item.Definition d)) (at_line d.line o))
+    (ap (λ t. cond t (Some ShellFlags) (cond (bytes_eq d.name (codes "VPATH") && searches d.value) (Some SearchPath) (cond (changes_recipes d) (Some RecipePrefix) None))) here.0
+    ∙ ap (λ t. cond t (Some SearchPath) (cond (changes_recipes d) (Some RecipePrefix) None)) here.1
+    ∙ ap (λ t. cond t (Some RecipePrefix) None) here.2)
+
+rule_taken : (language : Profile) (file : List ℕ) (lines : Rule) (wide : Bool) → is_wide language ≡ wide → IsTakenRule language lines.targets →
+    judged wide file (statement.Item (item.Rule lines)) ≡ statement.Item (item.Rule lines)
+rule_taken language file lines false is taken = refl
+rule_taken language file lines true is taken =
+    let here = taken is in
+    ap (λ o. with_refusal file (statement.Item (item.Rule lines)) (at_line lines.line o))
+    (ap (λ t. cond t (Some GroupedTargets) (cond (opens_vpath lines.targets) (Some (Directive Vpath)) None)) here.0
+    ∙ ap (λ t. cond t (Some (Directive Vpath)) None) here.1)
+
+special_taken : (file : List ℕ) (special : Special) (wide : Bool) → judged wide file (statement.Item (item.Special special)) ≡ statement.Item (item.Special special)
+special_taken file special false = refl
+special_taken file special true = refl
+
+abbrev rule_on : (file : List ℕ) (number : ℕ) (double : Bool) (targets prerequisites : List ℕ) (recipe : List (List ℕ)) → Rule
+rule_on file number double targets prerequisites recipe =
+    record { file = file; line = number; is_double = double; targets = targets; prerequisites = prerequisites; recipe = recipe_on (next number) recipe }
+
+both : {x y : Statement} {xs ys : List Statement} → x ≡ y → xs ≡ ys → (x ∷ xs) ≡ (y ∷ ys)
+both e es = cc
+
+plain_taken : (language : Profile) (file : List ℕ) (number : ℕ) (items : List PlainItem) → ArePlainRules language items →
+    all_judged (is_wide language) file (map statement.Item (items_on file number items)) ≡ map statement.Item (items_on file number items)
+plain_taken language file number [] rules = refl
+plain_taken language file number (definition name append value ∷ more) (taken, rules) =
+    both (definition_taken language file (definition_on file number name append value) (is_wide language) refl taken) (plain_taken language file (next number) more rules)
+plain_taken language file number (rule None double targets prerequisites recipe ∷ more) (taken, here, later) =
+    both (rule_taken language file (rule_on file number double targets prerequisites recipe) (is_wide language) refl taken) (plain_taken language file (after_recipe (next number) recipe) more later)
+plain_taken language file number (rule (Some name) double targets prerequisites recipe ∷ more) rules =
+    both (special_taken file (record { name = name; rule = rule_on file number double targets prerequisites recipe }) (is_wide language)) (plain_taken language file (after_recipe (next number) recipe) more rules.1)
 
 pub printed_given : (world : World) (levels : ℕ) (given : Defined) (file : List ℕ) (items : List PlainItem) → NoneFixed given → ArePlain given.language items → ArePlainRules given.language items → TextItems world levels given file (printed items) (Ok (items_on file 1 items))
 printed_given world levels given file items none plain rules = (
   map statement.Item (items_on file 1 items),
   printed_read given.language file items plain,
   Ok (items_on file 1 items),
-  items_given world (IncludedItems world levels file) file given (items_on file 1 items) (plain_loose given.language file 1 items plain rules) none,
+  subst (λ said. InOrder behind (StatementItems world (IncludedItems world levels file) file) given said (Ok (items_on file 1 items))) (sym (plain_taken given.language file 1 items rules))
+      (items_given world (IncludedItems world levels file) file given (items_on file 1 items) (plain_loose given.language file 1 items plain rules) none),
   refl,
 )

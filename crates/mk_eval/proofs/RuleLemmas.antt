@@ -30,6 +30,7 @@ use Rattle.mk_reader.proofs.CutLemmas.{one_of, cut_left, cut_right}
 use Rattle.mk_eval.specs.Static.{IsCutAt, name_macro, DefinesMacro, has_percent, pattern_fault, rule_for}
 use Rattle.mk_eval.specs.Output.{World}
 use Rattle.mk_eval.specs.Listed.{listed, listed_rule}
+use Rattle.mk_eval.specs.Short.{shortened}
 use Rattle.mk_reader.specs.declared.item.Special.{Special}
 use Rattle.mk_reader.specs.declared.special.SpecialName.{SpecialName}
 use Rattle.mk_eval.specs.Makefile.{Outcome, GivesItems, refused_rule, TargetItems, unmoved, JudgedItems, PatternItems, Behind, WithText, StaticItems, NamesIn, LineNames, special_in, named_rule, IsListed, PlainItems, WideRuleItems, RuleItems, SpecialItems}
@@ -144,7 +145,7 @@ module _ (rule : Rule) where
   static_one : (world : World) (left right : List ℕ) (given : Defined) → IsOne (StaticItems world rule left right given)
   static_one world left right given =
       with_text_one given rule.targets _ (λ targets. with_text_one given left _ (λ patterns. with_text_one given right _ (λ prerequisites.
-      pattern_one (words (listed world.folders targets)) (words patterns) (words (listed world.folders prerequisites)))))
+      pattern_one (words (listed world.folders targets)) (words (shortened patterns)) (words (listed world.folders prerequisites)))))
 
   -- the rule with names in the place of wildcards
   listed_one : (world : World) (given : Defined) (targets also : expansion.Outcome) (one other : Rule) → LineNames given rule.targets targets → LineNames given rule.targets also →
@@ -202,7 +203,7 @@ module _ (rule : Rule) where
     static_some : (world : World) (left right : List ℕ) → Some_of (StaticItems world rule left right given)
     static_some world left right =
         with_text_some rule.targets _ (λ targets. with_text_some left _ (λ patterns. with_text_some right _ (λ prerequisites.
-        pattern_some (words (listed world.folders targets)) (words patterns) (words (listed world.folders prerequisites)))))
+        pattern_some (words (listed world.folders targets)) (words (shortened patterns)) (words (listed world.folders prerequisites)))))
 
     pub names_told : (text : List ℕ) → (names : expansion.Outcome) × LineNames given text names
     names_told text = either_way (list_any is_dollar text)

@@ -1,8 +1,8 @@
 -- The items of a text, or its first fault in the order of reading; included files are read in place.
 use Rattle.std.specs.Prelude.{◌≡◌, ℕ, zero, suc, Bool, true, false, ◌&&◌, ◌⊎◌, List, [], ◌∷◌, ◌++◌, Option, Some, None, is_some, Result, Ok, Err, Vec, if◌then◌else◌}
 use Rattle.std.specs.declared.alloc.Global.{Global}
-use Rattle.std.specs.List.{list_any}
-use Rattle.byte_strings.specs.Blanks.{first_word, words}
+use Rattle.std.specs.List.{list_any, list_all}
+use Rattle.byte_strings.specs.Blanks.{is_blank, first_word, words}
 use Rattle.mk_profile.specs.Profile.{is_wide}
 use Rattle.mk_profile.specs.declared.profile.Profile.{Profile}
 use Rattle.mk_macros.specs.Expansion as expansion
@@ -18,7 +18,7 @@ use Rattle.mk_reader.specs.declared.special.SpecialName.{SpecialName}
 use Rattle.mk_reader.specs.Statements.{AreStatements}
 use Rattle.mk_reader.specs.declared.item.Definition.{Definition}
 use Rattle.mk_reader.specs.declared.item.DefinitionKind.{DefinitionKind}
-use Rattle.mk_reader.specs.declared.item.DefinitionKind.TheVariants.{IfUndefined, AtOnce, AtOnceAlone, Output}
+use Rattle.mk_reader.specs.declared.item.DefinitionKind.TheVariants.{IfUndefined, AtOnce, AtOnceAlone, Output, NoSign}
 use Rattle.mk_reader.specs.declared.item.Item.{Item}
 use Rattle.mk_reader.specs.declared.item.Item.TheVariants as item
 use Rattle.mk_reader.specs.declared.item.IncludeLine.{IncludeLine}
@@ -26,17 +26,20 @@ use Rattle.mk_reader.specs.declared.item.Statement.{Statement}
 use Rattle.mk_reader.specs.declared.item.Statement.TheVariants as statement
 use Rattle.mk_reader.specs.declared.item.Rule.{Rule}
 use Rattle.mk_reader.specs.declared.fault.Cause.{Cause}
-use Rattle.mk_reader.specs.declared.fault.Cause.TheVariants.{NotText, IncludeDepth, IncludeMissing, Macro, Static, Unsupported}
-use Rattle.mk_reader.specs.declared.fault.Feature.TheVariants.{TargetMacro, SpecialName as SpecialRule}
+use Rattle.mk_reader.specs.declared.fault.Cause.TheVariants.{NotText, MissingSeparator, IncludeDepth, IncludeMissing, Macro, Static, Unsupported}
+use Rattle.mk_reader.specs.declared.fault.Feature.TheVariants.{TargetMacro, IncludeWildcard, SpecialName as SpecialRule}
 use Rattle.mk_reader.specs.declared.fault.StaticCause.TheVariants.{NoPattern, ManyPatterns, Mismatch}
 use Rattle.mk_reader.specs.declared.fault.MacroCause.{MacroCause}
 use Rattle.mk_reader.specs.declared.fault.MacroCause.TheVariants as macro_cause
 use Rattle.mk_reader.specs.declared.fault.Refusal.{Refusal}
 use Rattle.mk_reader.specs.declared.fault.ReadFault.{ReadFault}
 use Rattle.mk_reader.specs.declared.fault.ReadFault.TheVariants.{OutOfMemory, Refused}
-use Rattle.mk_eval.specs.Output.{World, output_text}
+use Rattle.mk_wildcards.specs.Pattern.{has_wildcard}
+use Rattle.mk_eval.specs.Output.{World, output_text, with_shell}
 use Rattle.mk_reader.specs.declared.item.Special.{Special}
+use Rattle.mk_eval.specs.Judged.{all_judged}
 use Rattle.mk_eval.specs.Listed.{listed, listed_text, listed_rule}
+use Rattle.mk_eval.specs.Short.{shortened}
 use Rattle.mk_eval.specs.Static.{doubled, IsCutAt, DefinesMacro, with_stem, pattern_fault, rule_for}
 use Rattle.mk_eval.specs.Unmade.{outcome_beside}
 
@@ -101,6 +104,7 @@ cause_of (expansion.refers_to_itself name) = macro_cause.Loop name
 cause_of expansion.not_closed = macro_cause.Unclosed
 cause_of expansion.dollar_in_brackets = macro_cause.NestedReference
 cause_of expansion.too_long = macro_cause.TooLong
+cause_of (expansion.calls_function word) = macro_cause.Function word
 
 -- what an include line of the file gives that has these names, or whose text has a fault; Included says it of a name
 abbrev pub NamedItems : (Defined → List ℕ → Outcome → Type 0) → (file : List ℕ) → IncludeLine → Defined → expansion.Outcome → Outcome → Type 0
@@ -126,9 +130,20 @@ abbrev pub run_as : World → Definition → expansion.Outcome → Outcome
 run_as world d (gives command) = written_as d (world.outputs d.file d.line command)
 run_as world d (fails fault) = Err (refusal d.file d.line (Macro (cause_of fault)))
 
--- what a definition gives whose text is a command, which is expanded with what is defined above it
+-- what a definition gives whose text is a command, which is expanded with what is defined above it, and behind the shell that is (POSIX
+-- make, "Macros": SHELL)
 abbrev pub OutputItems : World → Definition → Defined → Outcome → Type 0
-OutputItems world d given outcome = (command : expansion.Outcome) × ExpandsTo (rule_meanings given) d.value command × (outcome ≡ run_as world d command)
+OutputItems world d given outcome = (command : expansion.Outcome) × ExpandsTo (rule_meanings given) (with_shell d.value) command × (outcome ≡ run_as world d command)
+
+-- what a line without a sign gives that came to this text: nothing, where it came to no more than blanks (GNU make, "Parsing Makefiles"); all
+-- else is refused (own: GNU make reads it as a rule line)
+abbrev pub empty_as : Definition → expansion.Outcome → Outcome
+empty_as d (gives text) = if list_all is_blank text then Ok [] else Err (refusal d.file d.line MissingSeparator)
+empty_as d (fails fault) = Err (refusal d.file d.line (Macro (cause_of fault)))
+
+-- the same of a line whose text is expanded with what is defined above it
+abbrev pub NothingItems : Definition → Defined → Outcome → Type 0
+NothingItems d given outcome = (text : expansion.Outcome) × ExpandsTo (rule_meanings given) d.value text × (outcome ≡ empty_as d text)
 
 -- what a definition gives that counts by what stands above it (POSIX make, "Macros"): `?=` gives it where its name has no text at
 -- any rank; `::=` and `:=` with its text expanded, as are texts that are appended to it; `:::=` with its text expanded alone; `!=` with
@@ -138,6 +153,7 @@ KindItems world IfUndefined d given outcome = outcome ≡ Ok (if is_some (in_for
 KindItems world AtOnce d given outcome = FixedItems d true given outcome
 KindItems world AtOnceAlone d given outcome = FixedItems d false given outcome
 KindItems world Output d given outcome = OutputItems world d given outcome
+KindItems world NoSign d given outcome = NothingItems d given outcome
 
 -- what is appended to a fixed text is expanded where it stands (POSIX make, `+=`)
 abbrev pub DefinitionItems : (expanded : Bool) → Definition → Defined → Outcome → Type 0
@@ -192,11 +208,11 @@ abbrev pub WithText : Rule → Defined → (text : List ℕ) → (List ℕ → O
 WithText rule given text Rest outcome = (told : expansion.Outcome) × ExpandsTo (rule_meanings given) text told × Behind rule told Rest outcome
 
 -- what a static pattern rule gives whose second `:` stands between these texts. Wildcards give way to names in its targets and in its
--- prerequisite patterns before they have a stem, and not in the target pattern (GNU make)
+-- prerequisite patterns before they have a stem, and not in the target pattern; names lose a `./` in front in all of them (GNU make)
 abbrev pub StaticItems : World → Rule → (left right : List ℕ) → Defined → Outcome → Type 0
 StaticItems world rule left right given outcome =
     WithText rule given rule.targets (λ targets. WithText rule given left (λ patterns. WithText rule given right (λ prerequisites.
-    PatternItems rule (words (listed world.folders targets)) (words patterns) (words (listed world.folders prerequisites))))) outcome
+    PatternItems rule (words (listed world.folders targets)) (words (shortened patterns)) (words (listed world.folders prerequisites))))) outcome
 
 -- the special name that stands first among the targets of a rule line, which came to this; targets without an expansion name none, which
 -- is told with the line
@@ -257,11 +273,12 @@ StatementItems world Included file given (statement.Include include) outcome =
     (names : expansion.Outcome) × LineNames given include.names names × NamedItems (Included include) file include given names outcome
 StatementItems world Included file given (statement.Refused refused) outcome = outcome ≡ Err refused
 
--- what the text of a file gives, read under this name; the fault of a missing file is told beside the statements of the text
+-- what the text of a file gives, read under this name, where the wide profile refuses some statements by name; the fault of a missing
+-- file is told beside the statements of the text
 abbrev pub FileItems : World → (IncludeLine → Defined → List ℕ → Outcome → Type 0) → Defined → (file text : List ℕ) → Outcome → Type 0
 FileItems world Included given file text outcome =
     (statements : List Statement) × AreStatements given.language file text statements
-    × (told : Outcome) × InOrder behind (StatementItems world Included file) given statements told
+    × (told : Outcome) × InOrder behind (StatementItems world Included file) given (all_judged (is_wide given.language) file statements) told
     × (outcome ≡ outcome_beside (is_wide given.language) statements told)
 
 -- what a file gives that can't be read: nothing, where the line says that it may be missing
@@ -269,10 +286,15 @@ abbrev pub missing_items : (required : Bool) → Refusal → Outcome
 missing_items true fault = Err fault
 missing_items false fault = Ok []
 
+-- so in the wide profile where the name may stand for others, which aren't looked for: it is refused (own: GNU make reads the files that fit)
+abbrev pub unread_items : (is_pattern : Bool) → (file : List ℕ) → IncludeLine → (name : List ℕ) → Outcome
+unread_items true file include name = Err (refusal file include.line (Unsupported IncludeWildcard))
+unread_items false file include name = missing_items include.is_required (refusal file include.line (IncludeMissing name))
+
 -- what a file gives that an include line of another one names, and that has this content, or can't be read; Included says
 -- it of the names in it
 abbrev pub AnswerItems : World → (List ℕ → IncludeLine → Defined → List ℕ → Outcome → Type 0) → List ℕ → IncludeLine → Defined → List ℕ → Option (List ℕ) → Outcome → Type 0
-AnswerItems world Included file include given name None outcome = outcome ≡ missing_items include.is_required (refusal file include.line (IncludeMissing name))
+AnswerItems world Included file include given name None outcome = outcome ≡ unread_items (is_wide given.language && has_wildcard name) file include name
 AnswerItems world Included file include given name (Some text) outcome = FileItems world (Included name) given name text outcome
 
 -- what an include line gives for a name, where so many more levels are allowed
@@ -299,6 +321,7 @@ fault_told (macro_fault.Loop name) = Some (expansion.refers_to_itself name)
 fault_told macro_fault.Unclosed = Some expansion.not_closed
 fault_told macro_fault.NestedReference = Some expansion.dollar_in_brackets
 fault_told macro_fault.TooLong = Some expansion.too_long
+fault_told (macro_fault.Function word) = Some (expansion.calls_function word)
 
 -- the fault of an include line's text; want of memory says nothing of it
 abbrev pub IsNamesFault : Defined → (file : List ℕ) → IncludeLine → ReadFault → Type 0
@@ -310,7 +333,7 @@ IsNamesFault given file include (Refused refused) =
 abbrev pub IsCommandFault : Defined → Definition → ReadFault → Type 0
 IsCommandFault given d OutOfMemory = Unit {0}
 IsCommandFault given d (Refused refused) =
-    (fault : expansion.Fault) × ExpandsTo (rule_meanings given) d.value (fails fault) × (refused ≡ refusal d.file d.line (Macro (cause_of fault)))
+    (fault : expansion.Fault) × ExpandsTo (rule_meanings given) (with_shell d.value) (fails fault) × (refused ≡ refusal d.file d.line (Macro (cause_of fault)))
 
 -- the fault of a text of a rule's line
 abbrev pub IsTextFault : Defined → Rule → (text : List ℕ) → ReadFault → Type 0

@@ -1,14 +1,18 @@
 -- What the outside answers while makefiles are read, and the text that a command's output gives a name.
-use Rattle.std.specs.Prelude.{ℕ, List, Option, map, reverse, if◌then◌else◌}
+use Rattle.std.specs.Prelude.{ℕ, List, ◌∷◌, ◌++◌, codes, Option, map, reverse, if◌then◌else◌}
 use Rattle.mk_reader.specs.Text.{is_newline, begins_with, without_last}
 use Rattle.mk_wildcards.specs.Found.{Folders}
 
 -- each file, by its name, that can be read holds this, each command writes this that a definition of this line of this file runs, and these
--- names are in each folder
+-- names are in each folder. A command has the shell that runs it in front, in a line of its own
 pub record World : Type 0 where
   pub files : (name : List ℕ) → Option (List ℕ)
   pub outputs : (file : List ℕ) (line : ℕ) (command : List ℕ) → List ℕ
   pub folders : Folders
+
+-- what a definition's text is expanded behind: the shell, and the end of its line
+abbrev pub with_shell : (text : List ℕ) → List ℕ
+with_shell text = codes "$(SHELL)" ++ 10 ∷ text
 
 -- without the newline at its end, where it has one
 abbrev pub without_newline : List ℕ → List ℕ

@@ -1,17 +1,19 @@
 -- Printed rules that give themselves in each profile.
-use Rattle.std.specs.Prelude.{◌≡◌, ℕ, true, false, List, [], ◌∷◌, Some, None}
+use Rattle.std.specs.Prelude.{◌≡◌, ℕ, true, false, not, ◌&&◌, List, [], ◌∷◌, Some, None, bytes_eq, codes}
 use Rattle.std.specs.List.{list_any}
 use Rattle.mk_profile.specs.Profile.{is_wide}
 use Rattle.mk_profile.specs.declared.profile.Profile.{Profile}
 use Rattle.mk_reader.specs.Grammar.{Without}
-use Rattle.mk_reader.specs.Text.{is_dollar}
+use Rattle.mk_reader.specs.Text.{is_dollar, is_empty, ends_with}
 use Rattle.mk_wildcards.specs.Pattern.{has_wildcard}
 use Rattle.mk_reader.specs.Printed.{PlainItem, definition, rule}
+use Rattle.mk_eval.specs.Judged.{opens_vpath, searches}
+use Rattle.mk_eval.specs.Short.{has_here}
 use Rattle.mk_eval.specs.Static.{DefinesMacro}
 
--- neither a reference nor a wildcard stands in the text
+-- neither a reference nor a wildcard stands in the text, and no word of it begins with `./`
 abbrev pub IsPlainText : List ℕ → Type 0
-IsPlainText text = (list_any is_dollar text ≡ false) × (has_wildcard text ≡ false)
+IsPlainText text = (list_any is_dollar text ≡ false) × (has_wildcard text ≡ false) × (has_here text ≡ false)
 
 abbrev pub IsPlainLine : Profile → (targets prerequisites : List ℕ) → Type 0
 IsPlainLine profile targets prerequisites = is_wide profile ≡ true → IsPlainText targets × IsPlainText prerequisites
@@ -21,9 +23,19 @@ abbrev pub IsPlainRule : Profile → (targets prerequisites : List ℕ) → Type
 IsPlainRule profile targets prerequisites =
     is_wide profile ≡ true → (DefinesMacro prerequisites → ⊥) × Without 58 58 prerequisites × IsPlainText targets × IsPlainText prerequisites
 
--- so it is of each rule; a special one is told by its name
+-- the wide profile doesn't refuse the line by name
+abbrev pub IsTakenRule : Profile → (targets : List ℕ) → Type 0
+IsTakenRule profile targets = is_wide profile ≡ true → (ends_with 38 targets ≡ false) × (opens_vpath targets ≡ false)
+
+abbrev pub IsTakenDefinition : Profile → (name value : List ℕ) → Type 0
+IsTakenDefinition profile name value =
+    is_wide profile ≡ true → (bytes_eq name (codes ".SHELLFLAGS") ≡ false) × ((bytes_eq name (codes "VPATH") && searches value) ≡ false)
+    × ((bytes_eq name (codes ".RECIPEPREFIX") && not (is_empty value)) ≡ false)
+
+-- so it is of each rule, and of each definition; a special rule is told by its name
 abbrev pub ArePlainRules : Profile → List PlainItem → Type 0
 ArePlainRules profile [] = Unit {0}
-ArePlainRules profile (definition name append value ∷ more) = ArePlainRules profile more
-ArePlainRules profile (rule None is_double targets prerequisites recipe ∷ more) = IsPlainRule profile targets prerequisites × ArePlainRules profile more
+ArePlainRules profile (definition name append value ∷ more) = IsTakenDefinition profile name value × ArePlainRules profile more
+ArePlainRules profile (rule None is_double targets prerequisites recipe ∷ more) =
+    IsTakenRule profile targets × IsPlainRule profile targets prerequisites × ArePlainRules profile more
 ArePlainRules profile (rule (Some name) is_double targets prerequisites recipe ∷ more) = IsPlainLine profile targets prerequisites × ArePlainRules profile more

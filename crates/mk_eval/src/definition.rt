@@ -1,20 +1,22 @@
 //! Definitions that count by what stands above them.
 ghost use Rattle.std.specs.Prelude.{◌≡◌, List, [], ◌∷◌, ◌++◌, Ok, Err, IfOk, IfErr, OnOk};
+ghost use Rattle.std.specs.List.{list_all};
+ghost use Rattle.byte_strings.specs.Blanks.{is_blank};
 ghost use Rattle.mk_macros.specs.Ranks.{defined_by};
 ghost use Rattle.mk_eval.specs.Output.{World};
 ghost use Rattle.mk_reader.specs.declared.item.Item.{Item as One};
-ghost use Rattle.mk_eval.specs.Makefile.{behind, GivesItem, GivesItems, KindItems, ItemItems, FixedItems, OutputItems};
+ghost use Rattle.mk_eval.specs.Makefile.{behind, GivesItem, GivesItems, KindItems, ItemItems, FixedItems, OutputItems, NothingItems};
 
 use crate::doubled::doubled;
 use crate::includes::Includes;
 use crate::names::follow;
 use crate::output::run_definition;
-use crate::refuse::refuse_text;
+use crate::refuse::{refuse, refuse_text};
 use crate::rule::evaluate_rule;
 use crate::special_rule::evaluate_special;
-use byte_strings::ByteString;
+use byte_strings::{ByteString, is_blank};
 use mk_macros::{Dynamic, Macros};
-use mk_reader::{Definition, DefinitionKind, DefinitionLine, Item, ReadFault};
+use mk_reader::{Cause, Definition, DefinitionKind, DefinitionLine, Item, ReadFault};
 use std::alloc::{AllocError, Global};
 
 /// The definition with its text expanded where it stands.
@@ -83,6 +85,30 @@ fn take_output<I: Includes>(
     Ok(take(alloc, item, macros)?)
 }
 
+fn all_blank(text: &[u8]) -> bool
+    ensures { result ≡ list_all is_blank text.now }
+{
+    text.iter().all(|byte| is_blank(*byte))
+}
+
+/// What a line without a sign gives: nothing, where it comes to nothing.
+fn take_nothing(alloc: Global, line: &Definition, macros: &Macros) -> Result<Vec<Item>, ReadFault>
+    ensures items { GivesItems result (NothingItems line.now (defined_by macros.now)) }
+    ensures none { IfOk result (λ items. items.items ≡ []) }
+{
+    let file = line.file.as_slice();
+    match macros.expand(alloc, line.value.as_slice(), &Dynamic::RuleLine) {
+        Ok(text) => {
+            if all_blank(&text) {
+                return Ok(Vec::new(alloc));
+            }
+            drop(text);
+            Err(refuse(alloc, file, line.line, Cause::MissingSeparator))
+        }
+        Err(fault) => Err(refuse_text(alloc, file, line.line, fault)),
+    }
+}
+
 /// What a definition gives that counts by what stands above it: an item, which is taken into the macros, or nothing.
 pub fn evaluate_definition<I: Includes>(
     alloc: Global,
@@ -106,6 +132,7 @@ pub fn evaluate_definition<I: Includes>(
         DefinitionKind::AtOnce => take_fixed(alloc, definition, true, macros),
         DefinitionKind::AtOnceAlone => take_fixed(alloc, definition, false, macros),
         DefinitionKind::Output => take_output(alloc, definition, macros, includes),
+        DefinitionKind::NoSign => take_nothing(alloc, &definition, macros),
     }
 }
 

@@ -20,7 +20,7 @@ pub trait Includes {
             → option_map (λ text. text.value.items) answer ≡ world.files name.now) }
         ensures grows { (world : World) → allows self.new world → allows self.old world };
 
-    /// What the command writes that the definition in this line of this file runs.
+    /// What the command writes that the definition in this line of this file runs. Its first line is the shell.
     fn output(
         &mut self,
         alloc: Global,
@@ -40,6 +40,10 @@ pub trait Includes {
 
     /// The statements of a file, before any of them is evaluated: for notes. It answers nothing.
     fn see(&mut self, alloc: Global, profile: Profile, file: &[u8], statements: &[Statement])
+        ensures { (world : World) → allows self.new world → allows self.old world };
+
+    /// The notes on the statements that were seen, a line each; each is given once. It answers nothing.
+    fn take_notes(&mut self, alloc: Global) -> Result<ByteStrings, AllocError>
         ensures { (world : World) → allows self.new world → allows self.old world };
 
     // Something is always possible.

@@ -40,8 +40,8 @@ pub fn the_outcome_is_given()
 {}
 
 /// A makefile that is printed from items that are plain in its language is read back as these, whatever other files hold
-/// and is defined, where no text is fixed. In the wide profile no rule has a second `:` or defines a macro, and in no rule line a reference or a
-/// wildcard stands.
+/// and is defined, where no text is fixed. In the wide profile no rule has a second `:` or defines a macro, in no rule line a reference or a
+/// wildcard stands, and no name there begins with `./`.
 pub fn printed_items_are_read_back()
     ensures { (world : World) (levels : ℕ) (given : Defined) (file : List ℕ) (items : List PlainItem)
         → NoneFixed given → ArePlain given.language items → ArePlainRules given.language items

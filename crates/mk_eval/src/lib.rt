@@ -5,6 +5,7 @@
 mod definition;
 mod doubled;
 mod includes;
+mod judged;
 pub mod laws;
 mod listed;
 mod makefile;
@@ -12,10 +13,14 @@ mod names;
 mod output;
 mod refuse;
 mod rule;
+mod short;
 mod special_rule;
 mod static_rule;
 mod stem;
 mod unmade;
 
+pub use doubled::doubled as doubled_text;
 pub use includes::Includes;
 pub use makefile::{MAX_INCLUDE_DEPTH, read_makefile};
+pub use output::output_text;
+pub use short::short_name;

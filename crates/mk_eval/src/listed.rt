@@ -1,16 +1,19 @@
-//! Words with wildcards give way to the names of the files that fit them.
-ghost use Rattle.std.specs.Prelude.{◌≡◌, ◌++◌, [], ◌∷◌, flat_map, IfOk, OnOk};
+//! Names lose a `./` in front, and words with wildcards give way to the names of the files that fit them.
+ghost use Rattle.std.specs.Prelude.{◌≡◌, ◌||◌, ◌++◌, [], ◌∷◌, flat_map, IfOk, OnOk};
 ghost use Rattle.byte_strings.specs.Blanks.{words};
 ghost use Rattle.mk_wildcards.specs.Found.{steps, parts, found, names_of, line_of};
 ghost use Rattle.mk_macros.specs.Expansion as expansion;
 ghost use Rattle.mk_macros.specs.Ranks.{defined_by};
 ghost use Rattle.mk_eval.specs.Output.{World};
+ghost use Rattle.mk_wildcards.specs.Pattern.{has_wildcard};
 ghost use Rattle.mk_eval.specs.Listed.{listed, stepped};
+ghost use Rattle.mk_eval.specs.Short.{has_here};
 ghost use Rattle.mk_eval.specs.Makefile.{LineNames, IsListed, IsTold, IsListedText};
 
 use crate::doubled::doubled;
 use crate::includes::Includes;
 use crate::names::{has_dollar, ran_out};
+use crate::short::{has_here, shortened};
 use byte_strings::{ByteString, ByteStrings, next_word};
 use mk_macros::{Dynamic, Macros};
 use mk_reader::Rule;
@@ -129,7 +132,7 @@ fn line_of<I: Includes>(alloc: Global, text: &[u8], includes: &mut I) -> Result<
     Ok(line)
 }
 
-/// An expanded text of a rule line, with names in the place of wildcards.
+/// An expanded text of a rule line, with short names, and names in the place of wildcards.
 pub fn listed<I: Includes>(
     alloc: Global,
     text: Vec<u8>,
@@ -139,10 +142,18 @@ pub fn listed<I: Includes>(
         → line.items ≡ listed world.folders text.items) }
     ensures grows { (world : World) → I.allows includes.new world → I.allows includes.old world }
 {
+    let text = shortened(alloc, text)?;
     if !has_wildcard(text.as_slice()) {
         return Ok(text);
     }
     line_of(alloc, text.as_slice(), includes)
+}
+
+/// Whether a name in the text may have another spelling.
+fn is_respelled(text: &[u8]) -> bool
+    ensures { result ≡ (has_here text.now || has_wildcard text.now) }
+{
+    has_here(text) || has_wildcard(text)
 }
 
 /// What a text of a rule line comes to, or none where it has a fault, which is told with the line.
@@ -163,7 +174,7 @@ fn told(alloc: Global, text: &[u8], macros: &Macros) -> Result<Option<Vec<u8>>, 
     }
 }
 
-/// A text of a rule line, with names in the place of wildcards.
+/// A text of a rule line, with short names, and names in the place of wildcards.
 fn listed_text<I: Includes>(
     alloc: Global,
     text: ByteString,
@@ -174,16 +185,16 @@ fn listed_text<I: Includes>(
         → IsListedText world text (defined_by macros.now) found) }
     ensures grows { (world : World) → I.allows includes.new world → I.allows includes.old world }
 {
-    if !has_dollar(text.as_slice()) && !has_wildcard(text.as_slice()) {
+    if !has_dollar(text.as_slice()) && !is_respelled(text.as_slice()) {
         return Ok(text);
     }
     let Some(told) = told(alloc, text.as_slice(), macros)? else {
         return Ok(text);
     };
-    if !has_wildcard(told.as_slice()) {
+    if !is_respelled(told.as_slice()) {
         return Ok(text);
     }
-    let line = line_of(alloc, told.as_slice(), includes)?;
+    let line = listed(alloc, told, includes)?;
     Ok(ByteString::new(doubled(alloc, line.as_slice())?))
 }
 

@@ -1,21 +1,24 @@
 //! Evaluates a whole makefile, with the files that it includes, in one pass.
-ghost use Rattle.std.specs.Prelude.{◌≡◌, [], IfOk};
+ghost use Rattle.std.specs.Prelude.{◌≡◌, ◌&&◌, [], IfOk};
 ghost use Rattle.byte_strings.specs.Blanks.{words};
 ghost use Rattle.mk_macros.specs.Ranks.{defined_by};
-ghost use Rattle.mk_reader.specs.Form.{refusal};
-ghost use Rattle.mk_reader.specs.declared.fault.Cause.TheVariants.{IncludeMissing};
 ghost use Rattle.mk_reader.specs.declared.item.Statement.TheVariants as statement;
 ghost use Rattle.mk_eval.specs.Output.{World};
-ghost use Rattle.mk_eval.specs.Makefile.{depth, behind, GivesItems, InOrder, StatementItems, IncludedItems, TextItems, missing_items};
+ghost use Rattle.mk_eval.specs.Makefile.{depth, behind, GivesItems, InOrder, StatementItems, IncludedItems, TextItems, unread_items};
+ghost use Rattle.mk_profile.specs.Profile.{is_wide};
+ghost use Rattle.mk_wildcards.specs.Pattern.{has_wildcard};
 
 use crate::definition::{add_item, evaluate_definition};
 use crate::includes::Includes;
+use crate::judged::all_judged;
 use crate::names::names_on;
 use crate::refuse::refuse;
 use crate::unmade::told_in;
 use byte_strings::{ByteString, next_word};
 use mk_macros::Macros;
-use mk_reader::{Cause, IncludeLine, Item, ReadFault, Statement, statements_of};
+use mk_profile::Profile;
+use mk_reader::{Cause, Feature, IncludeLine, Item, ReadFault, Statement, statements_of};
+use mk_wildcards::has_wildcard;
 use std::alloc::Global;
 
 /// How deep includes may be nested.
@@ -24,14 +27,19 @@ pub const MAX_INCLUDE_DEPTH: u8 = 16;
 /// What the file of this name gives that can't be read.
 fn missing(
     alloc: Global,
+    profile: Profile,
     file: &[u8],
     include: &IncludeLine,
     name: &[u8],
 ) -> Result<Vec<Item>, ReadFault>
     ensures items { GivesItems result
-        (λ outcome. outcome ≡ missing_items include.now.is_required (refusal file.now include.now.line (IncludeMissing name.now))) }
+        (λ outcome. outcome ≡ unread_items (is_wide profile && has_wildcard name.now) file.now include.now name.now) }
     ensures none { IfOk result (λ items. items.items ≡ []) }
 {
+    if profile.is_wide() && has_wildcard(name) {
+        let cause = Cause::Unsupported(Feature::IncludeWildcard);
+        return Err(refuse(alloc, file, include.line, cause));
+    }
     if !include.is_required {
         return Ok(Vec::new(alloc));
     }
@@ -57,7 +65,8 @@ fn evaluate_text<I: Includes>(
     let profile = macros.profile();
     let statements = statements_of(alloc, profile, file, text)?;
     includes.see(alloc, profile, file, &statements);
-    match evaluate_all(alloc, levels, file, statements, macros, includes) {
+    let taken = all_judged(alloc, profile, file, statements)?;
+    match evaluate_all(alloc, levels, file, taken, macros, includes) {
         Ok(items) => Ok(items),
         Err(fault) => Err(told_in(alloc, profile, file, text, fault)),
     }
@@ -175,7 +184,7 @@ fn evaluate_included<I: Includes>(
         return Err(refuse(alloc, file, include.line, Cause::IncludeDepth));
     }
     match includes.read(alloc, name)? {
-        None => missing(alloc, file, include, name),
+        None => missing(alloc, macros.profile(), file, include, name),
         Some(text) => evaluate_text(alloc, levels - 1, name, text.as_slice(), macros, includes),
     }
 }

@@ -2,7 +2,7 @@
 ghost use Rattle.std.specs.Prelude.{◌≡◌, IfOk, IfErr};
 ghost use Rattle.mk_macros.specs.Expansion.{gives, ExpandsTo};
 ghost use Rattle.mk_macros.specs.Ranks.{defined_by, rule_meanings};
-ghost use Rattle.mk_eval.specs.Output.{World, without_newline, blank_for_newline, output_text};
+ghost use Rattle.mk_eval.specs.Output.{World, with_shell, without_newline, blank_for_newline, output_text};
 ghost use Rattle.mk_eval.specs.Makefile.{GivesItem, written_as, OutputItems, IsCommandFault};
 
 use crate::includes::Includes;
@@ -29,7 +29,7 @@ fn blank_for_newline(byte: u8) -> u8
 }
 
 /// What an output gives as a text.
-fn output_text(alloc: Global, output: &[u8]) -> Result<Vec<u8>, AllocError>
+pub fn output_text(alloc: Global, output: &[u8]) -> Result<Vec<u8>, AllocError>
     ensures { IfOk result (λ text. text.items ≡ output_text output.now) }
 {
     let mut text = Vec::new(alloc);
@@ -56,12 +56,22 @@ fn written(alloc: Global, definition: Definition, output: &[u8]) -> Result<Item,
     }))
 }
 
-/// The command that the definition's text comes to.
+/// A text behind the reference to the shell and the end of its line.
+fn with_shell(alloc: Global, text: &[u8]) -> Result<Vec<u8>, AllocError>
+    ensures { IfOk result (λ v. v.items ≡ with_shell text.now) }
+{
+    let mut whole = Vec::from_slice(alloc, b"$(SHELL)\n")?;
+    whole.extend_from_slice(text)?;
+    Ok(whole)
+}
+
+/// The command that the definition's text comes to, behind the shell that runs it.
 fn command_of(alloc: Global, definition: &Definition, macros: &Macros) -> Result<Vec<u8>, ReadFault>
-    ensures command { IfOk result (λ v. ExpandsTo (rule_meanings (defined_by macros.now)) definition.now.value (gives v.items)) }
+    ensures command { IfOk result (λ v. ExpandsTo (rule_meanings (defined_by macros.now)) (with_shell definition.now.value) (gives v.items)) }
     ensures fault { IfErr result (IsCommandFault (defined_by macros.now) definition.now) }
 {
-    match macros.expand(alloc, definition.value.as_slice(), &Dynamic::RuleLine) {
+    let text = with_shell(alloc, definition.value.as_slice())?;
+    match macros.expand(alloc, &text, &Dynamic::RuleLine) {
         Ok(command) => Ok(command),
         Err(fault) => Err(refuse_text(alloc, definition.file.as_slice(), definition.line, fault)),
     }

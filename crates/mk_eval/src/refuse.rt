@@ -32,6 +32,7 @@ pub fn refuse_text(alloc: Global, file: &[u8], line: usize, fault: MacroFault) -
         MacroFault::Unclosed => MacroCause::Unclosed,
         MacroFault::NestedReference => MacroCause::NestedReference,
         MacroFault::TooLong => MacroCause::TooLong,
+        MacroFault::Function(word) => MacroCause::Function(word),
     };
     refuse(alloc, file, line, Cause::Macro(cause))
 }

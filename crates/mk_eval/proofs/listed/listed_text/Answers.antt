@@ -1,13 +1,14 @@
-use Rattle.std.proofs.Common.{sym, ap, ◌∙◌}
+use Rattle.std.proofs.Common.{◌||◌, sym, ap, ◌∙◌}
 use Rattle.std.specs.List.{list_any}
 use Rattle.mk_reader.specs.Text.{is_dollar}
 use Rattle.mk_macros.specs.Ranks.{defined_by}
 use Rattle.mk_wildcards.specs.Pattern.{has_wildcard}
+use Rattle.mk_eval.specs.Short.{has_here}
 use Rattle.mk_eval.proofs.ListedLemmas.{text_stands}
 use Rattle.mk_eval.proofs.listed.listed_text.Goals as goal
 
-pub returns-then-not-has_wildcard-clause-text : goal.returns-then-not-has_wildcard-clause-text
-returns-then-not-has_wildcard-clause-text g c = λ world allowed.
+pub returns-then-not-is_respelled-clause-text : goal.returns-then-not-is_respelled-clause-text
+returns-then-not-is_respelled-clause-text g c = λ world allowed.
     text_stands world c.args.text (defined_by c.args.macros.now)
     (ap (list_any is_dollar) (sym c.as_slice.ensures) ∙ sym c.has_dollar.ensures ∙ c.if-not-has_dollar.true)
-    (ap has_wildcard (sym c.as_slice-then-not-has_dollar.ensures) ∙ sym c.has_wildcard.ensures ∙ c.if-not-has_wildcard.true)
+    (ap (λ t. has_here t || has_wildcard t) (sym c.as_slice-then-not-has_dollar.ensures) ∙ sym c.is_respelled.ensures ∙ c.if-not-is_respelled.true)

@@ -1,14 +1,15 @@
-use Rattle.std.proofs.Common.{rules, ◌≡◌, ◌∷◌, refl, length, List, ◌-◌, option_map, Some, None, sym, ap, subst, ◌∙◌, arith}
+use Rattle.std.proofs.Common.{rules, ◌≡◌, ◌&&◌, ◌∷◌, refl, length, List, ◌-◌, option_map, Some, None, sym, ap, subst, ◌∙◌, arith}
 use Rattle.std.proofs.lemmas.Result.{err_from_is_err_and}
 use Rattle.std.specs.Vec.Iter.{into_iter_items, into_iter_len}
 use Rattle.byte_strings.specs.Blanks.{words}
 use Rattle.mk_macros.specs.Expansion.{gives}
 use Rattle.mk_macros.specs.Ranks.{defined_by}
+use Rattle.mk_profile.specs.Profile.{is_wide}
 use Rattle.mk_reader.specs.Grammar.{refusal}
-use Rattle.mk_reader.specs.declared.fault.Cause.TheVariants.{IncludeMissing}
+use Rattle.mk_wildcards.specs.Pattern.{has_wildcard}
 use Rattle.mk_reader.specs.declared.item.Statement.{Statement}
 use Rattle.mk_reader.specs.declared.item.Statement.TheVariants as statement
-use Rattle.mk_eval.specs.Makefile.{behind, InOrder, missing_items, StatementItems, IncludedItems, TextItems}
+use Rattle.mk_eval.specs.Makefile.{behind, GivesItems, InOrder, unread_items, StatementItems, IncludedItems, TextItems}
 use Rattle.mk_eval.proofs.BehindLemmas.{behind_nothing, behind_more}
 use Rattle.mk_eval.proofs.MakefileLemmas.{Reaches, nothing_left, one_fewer, included_deeper, line_fault, none_gathered, reach_fault, reach_more, reach_end, fault_passed_on, items_passed_on, none_given}
 use Rattle.mk_eval.proofs.makefile.+evaluating.Goals as goal
@@ -78,9 +79,9 @@ evaluate_included-returns-in-None-clause-items g t c = λ world now.
     let deeper = c.args.levels - 1 in
     let start = defined_by c.args.macros.now in
     let content = c.in_ok-read.ensures.content world now in
-    items_passed_on c.missing.result (λ o. o ≡ missing_items c.args.include.now.is_required (refusal c.args.file.now c.args.include.now.line (IncludeMissing c.args.name.now)))
+    items_passed_on c.missing.result (λ o. o ≡ unread_items (is_wide start.language && has_wildcard c.args.name.now) c.args.file.now c.args.include.now c.args.name.now)
     (IncludedItems world c.args.levels c.args.file.now c.args.include.now start c.args.name.now)
-    c.missing.ensures.items
+    (subst (λ p. GivesItems c.missing.result (λ o. o ≡ unread_items (is_wide p && has_wildcard c.args.name.now) c.args.file.now c.args.include.now c.args.name.now)) c.profile.ensures c.missing.ensures.items)
     (λ o h. included_deeper world c.args.levels deeper c.args.file.now c.args.include.now start c.args.name.now None o (omega arith)
     (sym (ap (option_map (λ v. v.value.items)) c.in-None.is) ∙ content) h)
 

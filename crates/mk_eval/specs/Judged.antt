@@ -1,0 +1,70 @@
+-- Statements that the wide profile refuses by name: GNU make gives them a meaning, and to pass over them would build something else.
+use Rattle.std.specs.Prelude.{ℕ, Bool, true, false, not, ◌&&◌, ◌||◌, List, length, map, nat_lt, Option, Some, None, bytes_eq, codes, if◌then◌else◌}
+use Rattle.byte_strings.specs.Blanks.{first_word}
+use Rattle.mk_reader.specs.Text.{is_empty, ends_with}
+use Rattle.mk_reader.specs.Grammar.{refusal}
+use Rattle.mk_reader.specs.declared.directive.Directive.TheVariants.{Vpath}
+use Rattle.mk_reader.specs.declared.fault.Cause.TheVariants.{Unsupported}
+use Rattle.mk_reader.specs.declared.fault.Feature.{Feature}
+use Rattle.mk_reader.specs.declared.fault.Feature.TheVariants.{GroupedTargets, ShellFlags, SearchPath, RecipePrefix, Directive}
+use Rattle.mk_reader.specs.declared.item.Definition.{Definition}
+use Rattle.mk_reader.specs.declared.item.Item.{Item}
+use Rattle.mk_reader.specs.declared.item.Item.TheVariants as item
+use Rattle.mk_reader.specs.declared.item.Rule.{Rule}
+use Rattle.mk_reader.specs.declared.item.Statement.{Statement}
+use Rattle.mk_reader.specs.declared.item.Statement.TheVariants as statement
+
+-- this text of `VPATH` has files looked for elsewhere than where their names say; `.` says nothing
+abbrev pub searches : (text : List ℕ) → Bool
+searches text = not (is_empty text || bytes_eq text (codes "."))
+
+-- with a text `.RECIPEPREFIX` has other lines be recipe lines
+abbrev pub changes_recipes : Definition → Bool
+changes_recipes d = bytes_eq d.name (codes ".RECIPEPREFIX") && not (is_empty d.value)
+
+-- `.SHELLFLAGS` has its lines run otherwise, `VPATH` may have files looked for elsewhere, and `.RECIPEPREFIX` has lines read otherwise (GNU make
+-- manual, "Choosing the Shell", "VPATH: Search Path for All Prerequisites", "Other Special Variables")
+abbrev pub definition_refused : Definition → Option Feature
+definition_refused d =
+    if bytes_eq d.name (codes ".SHELLFLAGS") then Some ShellFlags
+    else (if bytes_eq d.name (codes "VPATH") && searches d.value then Some SearchPath
+    else (if changes_recipes d then Some RecipePrefix else None))
+
+-- `vpath` with a word behind it is a directive, though a `:` stands in the line
+abbrev pub opens_vpath : (targets : List ℕ) → Bool
+opens_vpath targets = bytes_eq (first_word targets) (codes "vpath") && nat_lt (length (first_word targets)) (length targets)
+
+-- `&:` groups the targets before it (GNU make manual, "Rules with Grouped Targets")
+abbrev pub rule_refused : Rule → Option Feature
+rule_refused rule =
+    if ends_with 38 rule.targets then Some GroupedTargets
+    else (if opens_vpath rule.targets then Some (Directive Vpath) else None)
+
+-- what is refused of a line, with its number
+abbrev pub at_line : ℕ → Option Feature → Option (ℕ × Feature)
+at_line line None = None
+at_line line (Some feature) = Some (line, feature)
+
+abbrev pub item_refused : Item → Option (ℕ × Feature)
+item_refused (item.Definition d) = at_line d.line (definition_refused d)
+item_refused (item.Rule rule) = at_line rule.line (rule_refused rule)
+item_refused (item.Special special) = None
+
+abbrev pub statement_refused : Statement → Option (ℕ × Feature)
+statement_refused (statement.Item one) = item_refused one
+statement_refused (statement.Definition line) = at_line line.definition.line (definition_refused line.definition)
+statement_refused (statement.Include include) = None
+statement_refused (statement.Refused refused) = None
+
+-- a statement of this file, or its refusal
+abbrev pub with_refusal : (file : List ℕ) → Statement → Option (ℕ × Feature) → Statement
+with_refusal file said None = said
+with_refusal file said (Some (line, feature)) = statement.Refused (refusal file line (Unsupported feature))
+
+-- the strict profile takes each statement as it stands
+abbrev pub judged : (wide : Bool) → (file : List ℕ) → Statement → Statement
+judged false file said = said
+judged true file said = with_refusal file said (statement_refused said)
+
+abbrev pub all_judged : (wide : Bool) → (file : List ℕ) → List Statement → List Statement
+all_judged wide file statements = map (judged wide file) statements
