@@ -1,5 +1,5 @@
 -- The first targets of lines, one line at a time.
-use Rattle.std.proofs.Common.{◌≡◌, ℕ, Bool, true, false, List, [], ◌∷◌, ◌++◌, take, filter, Some, None, refl, sym, ap, ◌∙◌}
+use Rattle.std.proofs.Common.{◌≡◌, ℕ, Bool, true, List, [], ◌∷◌, ◌++◌, take, filter, Some, None, refl, sym, ap, ◌∙◌}
 use Rattle.std.specs.Prelude.{slice_get}
 use Rattle.mk_rule_lines.specs.Goals.{first_goal, first_goals}
 use Rattle.mk_rule_lines.specs.declared.rule_line.RuleLine.{RuleLine}
@@ -16,13 +16,6 @@ first_passes p (n ∷ names) t e passes =
     let same : n ≡ t = cc in
     let first : p n ≡ true = ap p same ∙ passes in
     simp first (ap (λ m. m ∷ []) same)
-
-pub first_fails : (p : List ℕ → Bool) (names : List (List ℕ)) (t : List ℕ) → slice_get names 0 ≡ Some t → p t ≡ false → filter p (take 1 names) ≡ []
-first_fails p [] t e fails = cc
-first_fails p (n ∷ names) t e fails =
-    let same : n ≡ t = cc in
-    let first : p n ≡ false = ap p same ∙ fails in
-    simp first refl
 
 module _ (suffixes : List (List ℕ)) (l : RuleLine) (left : List RuleLine) where
   -- the first line's goal is the first of all

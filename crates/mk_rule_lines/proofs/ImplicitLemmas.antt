@@ -13,9 +13,10 @@ use Rattle.mk_macros.proofs.PatternLemmas.{place_of-at, drop-behind}
 use Rattle.mk_macros.proofs.SpelledLemmas.{either, place_of-none}
 use Rattle.mk_rule_lines.specs.ByName.{HasRecipeAt}
 use Rattle.mk_rule_lines.specs.Explicit.{words_by}
-use Rattle.mk_rule_lines.specs.Forms.{before_percent, behind_percent, pattern_form, further_form, forms_of_names, forms_of_line, pattern_forms, suffix_rules as rules_of, pair_forms, single_forms, forms_from, suffix_forms, forms_of}
+use Rattle.mk_rule_lines.specs.Forms.{before_percent, behind_percent, pattern_form, further_form, forms_of_names, forms_of_line, pattern_forms, suffix_rules as rules_of, pair_forms, single_forms, forms_from, suffix_forms, listed_forms, forms_of}
 use Rattle.mk_rule_lines.specs.Implicit.{IsPatternForm, AreFurtherForms, no_further, a_further, AreLineForms, ArePatternForms, past_lines, a_pattern, other_line, SuffixRule, of_two, of_one, name_of, form_of, in_order, AreSuffixForms, no_rules, a_rule, no_rule, AreForms}
 use Rattle.mk_rule_lines.specs.Kinds.{leaves_folders, IsPattern, IsPatternRule, IsWholePatternRule, IsSuffixRuleFor}
+use Rattle.mk_rule_lines.specs.Order.{in_order_of}
 use Rattle.mk_rule_lines.specs.Rules.{is_percent, has_percent, is_rule, is_pattern_rule, targets_by}
 use Rattle.mk_rule_lines.specs.Supported.{IsSupported}
 use Rattle.mk_rule_lines.specs.Tests.{is_whole_pattern_rule}
@@ -253,7 +254,8 @@ module _ (suffixes : List (List ℕ)) (lines : List RuleLine) (short : (name : L
 
   pub forms_told : (forms : List Form) → AreForms suffixes lines forms → forms_of suffixes lines ≡ forms
   forms_told forms are =
-      ap (λ fs. fs ++ suffix_forms (rules_of suffixes lines) suffixes) (patterns_told 0 lines are.patterns are.are_patterns)
+      let listed : listed_forms suffixes lines ≡ are.patterns ++ are.suffix_rules
+      = ap (λ fs. fs ++ suffix_forms (rules_of suffixes lines) suffixes) (patterns_told 0 lines are.patterns are.are_patterns)
       ∙ ap (λ fs. are.patterns ++ fs)
-      (sym (all_made (rules_of suffixes lines) suffixes) ∙ suffix_forms_told (in_order suffixes) are.suffix_rules are.are_suffix_rules)
-      ∙ sym are.whole
+      (sym (all_made (rules_of suffixes lines) suffixes) ∙ suffix_forms_told (in_order suffixes) are.suffix_rules are.are_suffix_rules) in
+      ap (in_order_of lines) listed ∙ sym are.whole

@@ -78,7 +78,7 @@ module _ (p : List ℕ → Bool) (P : List ℕ → Type 0) (each : (rest : List 
       absurd (both_ways false refl none)
 
   -- what stands behind a front passes a test
-  behind_decides : (word : List ℕ) → Decides (option_map_or p (without_front before word) false) (IsBehind word)
+  pub behind_decides : (word : List ℕ) → Decides (option_map_or p (without_front before word) false) (IsBehind word)
   behind_decides word = (
     behind_at word (bytes_eq (take (length before) word) before) refl,
     λ (rest, is, passes).

@@ -1,6 +1,7 @@
 pub mod BarLemmas
 pub mod DoubleLemmas
 pub mod ExplicitLemmas
+pub mod FitLemmas
 pub mod FormLemmas
 pub mod GoalLemmas
 pub mod ImplicitLemmas
@@ -16,6 +17,7 @@ pub mod PlainLemmas
 pub mod RecipeLemmas
 pub mod ResultLemmas
 pub mod SettledLemmas
+pub mod StemLemmas
 pub mod SuffixLemmas
 pub mod SupportedLemmas
 pub mod TableLemmas

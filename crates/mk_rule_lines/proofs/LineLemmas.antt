@@ -1,10 +1,9 @@
 -- The rule lines of items, one more item at a time.
-use Rattle.std.specs.Prelude.{◌&&◌, is_none, Result, Ok, Err, IsErrAnd, IfErr}
-use Rattle.std.proofs.Common.{arith, length, ◌+◌, ◌≡◌, ℕ, true, false, inl, inr, List, [], ◌∷◌, ◌++◌, Option, Some, None, refl, sym, ap, subst}
+use Rattle.std.specs.Prelude.{Result, Ok, Err, IsErrAnd, IfErr}
+use Rattle.std.proofs.Common.{arith, length, ◌+◌, ◌≡◌, ℕ, inl, inr, List, [], ◌∷◌, ◌++◌, Option, Some, None, refl, sym, ap, subst}
 use Rattle.byte_strings.specs.Blanks.{words}
-use Rattle.mk_macros.specs.Expansion.{ExpandsToFault}
 use Rattle.mk_macros.specs.declared.fault.MacroFault.{MacroFault}
-use Rattle.mk_macros.specs.declared.fault.MacroFault.TheVariants.{OutOfMemory, Loop, Unclosed, NestedReference, TooLong}
+use Rattle.mk_macros.specs.declared.fault.MacroFault.TheVariants.{OutOfMemory, Loop, Unclosed, NestedReference, TooLong, Function}
 use Rattle.mk_reader.specs.declared.item.Definition.{Definition}
 use Rattle.mk_reader.specs.declared.item.Rule.{Rule}
 use Rattle.mk_reader.specs.declared.item.Item.{Item}
@@ -14,26 +13,9 @@ use Rattle.mk_rule_lines.specs.declared.fault.RuleFault.{RuleFault}
 use Rattle.mk_rule_lines.specs.declared.fault.RuleFault.TheVariants as fault
 use Rattle.std.proofs.lemmas.List.{append_assoc, append-nil}
 use Rattle.mk_reader.specs.declared.special.SpecialName.{SpecialName}
-use Rattle.mk_reader.specs.declared.special.SpecialName.TheVariants.{Phony}
-use Rattle.mk_rule_lines.specs.Rules.{is_phony_list}
 use Rattle.mk_rule_lines.specs.declared.rule_line.RuleLine.{RuleLine}
-use Rattle.mk_macros.specs.Ranks.{Defined, rule_meanings}
-use Rattle.mk_rule_lines.specs.Lines.{AreWordsOf, IsRuleLine, AreRuleLines, no_items, behind_definition, a_rule, a_special, behind, behind_items, AreTextsFault, IsRuleLineFault, IsLinesFault, IsToldAt, told_place}
-
--- a fault of a rule's targets, or of its prerequisites, is one of its texts
-pub targets_fault : (given : Defined) (targets prerequisites : List ℕ) (f : MacroFault) → ExpandsToFault (rule_meanings given) targets f → AreTextsFault given targets prerequisites f
-targets_fault given targets prerequisites OutOfMemory meets = tt
-targets_fault given targets prerequisites (Loop name) meets = inl meets
-targets_fault given targets prerequisites Unclosed meets = inl meets
-targets_fault given targets prerequisites NestedReference meets = inl meets
-targets_fault given targets prerequisites TooLong meets = inl meets
-
-pub prerequisites_fault : (given : Defined) (targets prerequisites : List ℕ) (f : MacroFault) → ExpandsToFault (rule_meanings given) prerequisites f → AreTextsFault given targets prerequisites f
-prerequisites_fault given targets prerequisites OutOfMemory meets = tt
-prerequisites_fault given targets prerequisites (Loop name) meets = inr meets
-prerequisites_fault given targets prerequisites Unclosed meets = inr meets
-prerequisites_fault given targets prerequisites NestedReference meets = inr meets
-prerequisites_fault given targets prerequisites TooLong meets = inr meets
+use Rattle.mk_macros.specs.Ranks.{Defined}
+use Rattle.mk_rule_lines.specs.Lines.{IsRuleLine, AreRuleLines, no_items, behind_definition, a_rule, a_special, behind, behind_items, AreTextsFault, IsRuleLineFault, IsLinesFault, IsToldAt, told_place}
 
 -- a fault of the texts, told of the place of the line, is one of the line
 pub told_at : (given : Defined) (rule : Rule) (place : Option TextPlace) (f : MacroFault) (told : RuleFault) →
@@ -43,6 +25,7 @@ told_at given rule place (Loop name) told here is meets = subst (IsRuleLineFault
 told_at given rule place Unclosed told here is meets = subst (IsRuleLineFault given rule) (sym is) (record { text = meets; place = here })
 told_at given rule place NestedReference told here is meets = subst (IsRuleLineFault given rule) (sym is) (record { text = meets; place = here })
 told_at given rule place TooLong told here is meets = subst (IsRuleLineFault given rule) (sym is) (record { text = meets; place = here })
+told_at given rule place (Function word) told here is meets = subst (IsRuleLineFault given rule) (sym is) (record { text = meets; place = here })
 
 -- a fault of the items below a definition
 definition_passed : (given : Defined) (d : Definition) (items : List Item) (f : RuleFault) → IsLinesFault (behind given d) items f → IsLinesFault given (item.Definition d ∷ items) f
@@ -77,22 +60,6 @@ module _ (given : Defined) (items : List Item) (rule : Rule) where
 pub no_words : words [] ≡ []
 unfolding words
 no_words = refl
-
--- a line of `.PHONY` is a rule line for the names that it lists, and any other line has its own texts
-pub phony_line_is : (given : Defined) (special : Option SpecialName) (rule : Rule) (l : RuleLine) → is_phony_list special ≡ true →
-    l.file ≡ rule.file → l.line ≡ rule.line → l.profile ≡ given.language →
-    l.special ≡ Some Phony → AreWordsOf given rule.prerequisites l.targets → l.prerequisites ≡ [] → l.recipe ≡ [] → l.is_double ≡ false → IsRuleLine given special rule l
-phony_line_is given None rule l is_list f n o s t p r d = absurd cc
-phony_line_is given (Some Phony) rule l is_list f n o s t p r d = record { file = f; number = n; profile = o; name = s; targets = t; prerequisites = p; recipe = r; double = d }
-phony_line_is given (Some other) rule l is_list f n o s t p r d = absurd cc
-
-pub other_line_is : (given : Defined) (special : Option SpecialName) (rule : Rule) (l : RuleLine) → is_phony_list special ≡ false →
-    l.file ≡ rule.file → l.line ≡ rule.line → l.profile ≡ given.language →
-    l.special ≡ special → AreWordsOf given rule.targets l.targets → AreWordsOf given rule.prerequisites l.prerequisites → l.recipe ≡ rule.recipe →
-    l.is_double ≡ (is_none special && rule.is_double) → IsRuleLine given special rule l
-other_line_is given None rule l no_phony f n o s t p r d = record { file = f; number = n; profile = o; name = s; targets = t; prerequisites = p; recipe = r; double = d }
-other_line_is given (Some Phony) rule l no_phony f n o s t p r d = absurd cc
-other_line_is given (Some other) rule l no_phony f n o s t p r d = record { file = f; number = n; profile = o; name = s; targets = t; prerequisites = p; recipe = r; double = d }
 
 -- what is known where some of the items have been read: what the lines of the items that are left, and what their
 -- faults, say of all items

@@ -1,12 +1,12 @@
 -- What special rules set, taken in one line after the other, is what all lines set.
 use Rattle.std.specs.List.{list_any, flat_map}
 use Rattle.std.specs.Prelude.{is_none}
-use Rattle.std.proofs.Common.{◌≡◌, ◌∙◌, ℕ, Bool, true, false, ◌||◌, List, [], ◌∷◌, ◌++◌, Option, Some, None, refl, sym, ap}
+use Rattle.std.proofs.Common.{◌≡◌, ◌∙◌, true, ◌||◌, List, [], ◌∷◌, ◌++◌, append_assoc, append-nil, Option, Some, None, refl, sym, ap}
 use Rattle.mk_graph.specs.Numbering.{all_added}
 use Rattle.mk_graph.proofs.NameLemmas.{all_added-append}
 use Rattle.mk_reader.specs.declared.special.SpecialName.{SpecialName}
 use Rattle.mk_rule_lines.specs.Goals.{is_keep_state, is_no_parallel, is_delete_on_error, has_special, settings_of}
-use Rattle.mk_rule_lines.specs.Marks.{speaks_of_all, names_in}
+use Rattle.mk_rule_lines.specs.Marks.{speaks_of_all, names_in, patterns_in}
 use Rattle.mk_rule_lines.specs.Rules.{is_rule}
 use Rattle.mk_rule_lines.specs.Settled.{nothing_set, marked_with, settings_with}
 use Rattle.mk_rule_lines.specs.declared.marked.Mark.{Mark}
@@ -18,12 +18,17 @@ use Rattle.mk_rule_lines.proofs.MarkLemmas.{or_none, or_both}
 
 -- the targets of a mark with those of these lines
 abbrev marked_behind : Mark → Marked → List RuleLine → Marked
-marked_behind m marked lines = record { all = marked.all || list_any (speaks_of_all m) lines; names = all_added marked.names (flat_map (names_in m) lines) }
+marked_behind m marked lines = record {
+  all = marked.all || list_any (speaks_of_all m) lines;
+  names = all_added marked.names (flat_map (names_in m) lines);
+  patterns = marked.patterns ++ flat_map (patterns_in m) lines;
+}
 
 marked-more : (m : Mark) (marked : Marked) (l : RuleLine) (lines : List RuleLine) → marked_behind m (marked_with m marked l) lines ≡ marked_behind m marked (l ∷ lines)
 marked-more m marked l lines =
     let all = or_both marked.all (speaks_of_all m l) (list_any (speaks_of_all m) lines) in
     let names = all_added-append marked.names (names_in m l) (flat_map (names_in m) lines) in
+    let patterns = append_assoc marked.patterns (patterns_in m l) (flat_map (patterns_in m) lines) in
     cc
 
 -- the settings with what these lines set
@@ -38,7 +43,7 @@ all_behind s lines = record {
 }
 
 settings-none : (s : Settings) → s ≡ all_behind s []
-settings-none s = simp or_none refl
+settings-none s = simp (or_none, append-nil) refl
 
 settings-more : (s : Settings) (l : RuleLine) (lines : List RuleLine) → all_behind (settings_with s l) lines ≡ all_behind s (l ∷ lines)
 settings-more s l lines =
@@ -69,7 +74,7 @@ pub settings-next : (s next whole : Settings) (l : RuleLine) (left rest : List R
 settings-next s next whole l left rest at e h = ap (λ n. settings_behind n rest) e ∙ ap (settings_behind s) (sym at) ∙ h
 
 sets_nothing : (s : Settings) (l : RuleLine) → l.special ≡ None → settings_with s l ≡ s
-sets_nothing s l e = simp (e, or_none) refl
+sets_nothing s l e = simp (e, or_none, append-nil) refl
 
 no_special : (o : Option SpecialName) → is_none o ≡ true → o ≡ None
 no_special None e = refl

@@ -5,10 +5,8 @@ use Rattle.std.proofs.lemmas.Slice.Eq.{bytes_eq-Decides}
 use Rattle.mk_rule_lines.specs.Rules.{has, times}
 use Rattle.std.specs.Option.{option_map_or}
 use Rattle.std.specs.Str.{bytes_eq}
-use Rattle.mk_rule_lines.specs.Named.{Named, nothing_named, shown_target}
+use Rattle.mk_rule_lines.specs.Named.{Named}
 use Rattle.mk_rule_lines.specs.Table.{AddsLine, IsSecond, is_last, with_line, with_target}
-use Rattle.mk_rule_lines.specs.declared.table.Target.{Target}
-use Rattle.mk_rule_lines.proofs.NameLemmas.{bytes_eq-same}
 
 -- a fact at Ok gives what follows from it
 pub on_ok : {T E : Type 0} (r : Result T E) (P Q : Type 0) → (P → Q) → OnOk r P → OnOk r Q

@@ -1,9 +1,10 @@
--- The implicit rules of a makefile's lines, in the order in which they are tried.
+-- The implicit rules of a makefile's lines.
 use Rattle.std.specs.Prelude.{ℕ, ◌+◌, List, [], ◌∷◌, ◌++◌, length, take, drop, flat_map, Bool, true, false, map, Option, Some, None, if◌then◌else◌}
 use Rattle.std.specs.Option.{option_map_or}
 use Rattle.mk_macros.specs.Words.{place_of}
 use Rattle.mk_rule_lines.specs.Explicit.{words_by}
 use Rattle.mk_rule_lines.specs.Kinds.{leaves_folders}
+use Rattle.mk_rule_lines.specs.Order.{in_order_of}
 use Rattle.mk_rule_lines.specs.Rules.{is_pattern_rule, targets_by, recipe_places}
 use Rattle.mk_rule_lines.specs.declared.form.Form.{Form}
 use Rattle.mk_rule_lines.specs.declared.rule_line.RuleLine.{RuleLine}
@@ -85,6 +86,10 @@ forms_from rules suffixes s = flat_map (pair_forms rules s) suffixes ++ single_f
 abbrev pub suffix_forms : (rules : List ℕ → List ℕ) → (suffixes : List (List ℕ)) → List Form
 suffix_forms rules suffixes = flat_map (forms_from rules suffixes) suffixes
 
--- all forms in the order in which they are tried: pattern rules first (own order)
+-- all forms as the lines and the suffixes list them: pattern rules first (own order)
+abbrev pub listed_forms : (suffixes : List (List ℕ)) → List RuleLine → List Form
+listed_forms suffixes lines = pattern_forms 0 lines ++ suffix_forms (suffix_rules suffixes lines) suffixes
+
+-- all forms in the order in which they are tried
 abbrev pub forms_of : (suffixes : List (List ℕ)) → List RuleLine → List Form
-forms_of suffixes lines = pattern_forms 0 lines ++ suffix_forms (suffix_rules suffixes lines) suffixes
+forms_of suffixes lines = in_order_of lines (listed_forms suffixes lines)

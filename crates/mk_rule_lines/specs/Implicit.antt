@@ -5,6 +5,7 @@ use Rattle.mk_macros.specs.Spelled.{Lacks}
 use Rattle.mk_rule_lines.specs.Explicit.{words_by}
 use Rattle.mk_rule_lines.specs.Kinds.{leaves_folders, IsPatternRule, IsWholePatternRule, IsSuffixRuleFor}
 use Rattle.mk_rule_lines.specs.ByName.{HasRecipeAt}
+use Rattle.mk_rule_lines.specs.Order.{in_order_of}
 use Rattle.mk_rule_lines.specs.declared.form.Form.{Form}
 use Rattle.mk_rule_lines.specs.declared.rule_line.RuleLine.{RuleLine}
 
@@ -105,10 +106,10 @@ pub data AreSuffixForms (suffixes : List (List ℕ)) (lines : List RuleLine) : L
 
 -- All
 
--- the implicit rules are the pattern rules, and then the suffix rules (own order)
+-- the implicit rules are listed as the pattern rules, and then the suffix rules (own order), and tried in the order of the profile
 pub record AreForms (suffixes : List (List ℕ)) (lines : List RuleLine) (forms : List Form) : Type 0 where
   pub patterns : List Form
   pub suffix_rules : List Form
-  pub whole : forms ≡ patterns ++ suffix_rules
+  pub whole : forms ≡ in_order_of lines (patterns ++ suffix_rules)
   pub are_patterns : ArePatternForms 0 lines patterns
   pub are_suffix_rules : AreSuffixForms suffixes lines (in_order suffixes) suffix_rules

@@ -12,6 +12,7 @@ pub mod Kinds
 pub mod Lines
 pub mod Marks
 pub mod Named
+pub mod Order
 pub mod Rules
 pub mod Settled
 pub mod Signs

@@ -1,8 +1,8 @@
 -- What special rules set, taken in one line after the other.
-use Rattle.std.specs.Prelude.{[], false, ◌||◌}
+use Rattle.std.specs.Prelude.{[], false, ◌||◌, ◌++◌}
 use Rattle.mk_graph.specs.Numbering.{all_added}
 use Rattle.mk_rule_lines.specs.Goals.{is_keep_state, is_no_parallel, is_delete_on_error}
-use Rattle.mk_rule_lines.specs.Marks.{speaks_of_all, names_in}
+use Rattle.mk_rule_lines.specs.Marks.{speaks_of_all, names_in, patterns_in}
 use Rattle.mk_rule_lines.specs.declared.marked.Mark.{Mark}
 use Rattle.mk_rule_lines.specs.declared.marked.Mark.TheVariants.{Ignored, Silent, Precious}
 use Rattle.mk_rule_lines.specs.declared.marked.Marked.{Marked}
@@ -10,11 +10,15 @@ use Rattle.mk_rule_lines.specs.declared.rule_line.RuleLine.{RuleLine}
 use Rattle.mk_rule_lines.specs.declared.settings.Settings.{Settings}
 
 abbrev pub nothing_marked : Marked
-nothing_marked = record { all = false; names = [] }
+nothing_marked = record { all = false; names = []; patterns = [] }
 
 -- the targets of a mark with those of one more line
 abbrev pub marked_with : Mark → Marked → RuleLine → Marked
-marked_with m marked l = record { all = marked.all || speaks_of_all m l; names = all_added marked.names (names_in m l) }
+marked_with m marked l = record {
+  all = marked.all || speaks_of_all m l;
+  names = all_added marked.names (names_in m l);
+  patterns = marked.patterns ++ patterns_in m l;
+}
 
 abbrev pub nothing_set : Settings
 nothing_set = record {

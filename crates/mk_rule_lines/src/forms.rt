@@ -5,10 +5,12 @@ ghost use Rattle.mk_rule_lines.specs.Kinds.{leaves_folders};
 ghost use Rattle.mk_rule_lines.specs.Rules.{is_pattern_rule, targets_by};
 ghost use Rattle.mk_rule_lines.specs.Tests.{has_slash};
 ghost use Rattle.mk_rule_lines.specs.Table.{IsTable, recipes_in};
-ghost use Rattle.mk_rule_lines.specs.Forms.{before_percent, behind_percent, pattern_form, further_form, forms_of_names, forms_of_line, suffix_form, pair_forms, single_forms, forms_from, suffix_forms, pattern_forms, forms_of};
+ghost use Rattle.mk_rule_lines.specs.Forms.{before_percent, behind_percent, pattern_form, further_form, forms_of_names, forms_of_line, suffix_form, pair_forms, single_forms, forms_from, suffix_forms, pattern_forms, listed_forms, forms_of};
+ghost use Rattle.mk_rule_lines.specs.Order.{in_order_of};
 
 use crate::explicit::words_by;
 use crate::form::Form;
+use crate::order::in_order_of;
 use crate::rule_line::RuleLine;
 use crate::table::TargetTable;
 use byte_strings::{ByteString, ByteStrings, Words};
@@ -23,7 +25,7 @@ pub(crate) fn percent(name: &[u8]) -> Option<usize>
     name.iter().position(|b| *b == b'%')
 }
 
-fn before_percent(name: &[u8]) -> &[u8]
+pub(crate) fn before_percent(name: &[u8]) -> &[u8]
     ensures { result.now ≡ before_percent name.now }
 {
     match percent(name) {
@@ -32,7 +34,7 @@ fn before_percent(name: &[u8]) -> &[u8]
     }
 }
 
-fn behind_percent(name: &[u8]) -> &[u8]
+pub(crate) fn behind_percent(name: &[u8]) -> &[u8]
     ensures { result.now ≡ behind_percent name.now }
 {
     match percent(name) {
@@ -268,10 +270,27 @@ fn add_suffix_forms(
     Ok(())
 }
 
+/// The forms of all pattern rules in the order of their lines, then those of the suffix rules in the order of the suffixes.
+fn listed_forms(
+    alloc: Global,
+    lines: &[RuleLine],
+    suffixes: &ByteStrings,
+    rules: &TargetTable,
+) -> Result<Vec<Form>, AllocError>
+    requires { IsTable (targets_by true suffixes.now) lines.now rules.now }
+    ensures { IfOk result (λ forms. forms.items ≡ listed_forms suffixes.now lines.now) }
+{
+    let mut forms = Vec::new(alloc);
+    add_pattern_forms(alloc, &mut forms, lines)?;
+    add_suffix_forms(alloc, &mut forms, rules, suffixes)?;
+    Ok(forms)
+}
+
 /// The forms of all pattern and suffix rules, in the order in which they are tried. `rules` is the table of the suffix
 /// rules.
 ///
-/// Made once, so that pairs of suffixes cost nothing for each name; a name takes memory only for the forms that fit it.
+/// Made once, so that pairs of suffixes and the lengths of stems cost nothing for each name; a name takes memory only for the forms
+/// that fit it.
 pub fn forms_of(
     alloc: Global,
     lines: &[RuleLine],
@@ -281,8 +300,6 @@ pub fn forms_of(
     requires { IsTable (targets_by true suffixes.now) lines.now rules.now }
     ensures { IfOk result (λ forms. forms.items ≡ forms_of suffixes.now lines.now) }
 {
-    let mut forms = Vec::new(alloc);
-    add_pattern_forms(alloc, &mut forms, lines)?;
-    add_suffix_forms(alloc, &mut forms, rules, suffixes)?;
-    Ok(forms)
+    let listed = listed_forms(alloc, lines, suffixes, rules)?;
+    in_order_of(alloc, lines, listed)
 }

@@ -1,6 +1,6 @@
 //! What holds of the definitions alone: those by which the code is proved come to what is told of the lines. The functions do
 //! nothing: what they ensure is the law.
-ghost use Rattle.std.specs.Prelude.{◌≡◌, ◌↔◌, ℕ, List, [], ◌∷◌, true, false};
+ghost use Rattle.std.specs.Prelude.{◌≡◌, ◌↔◌, ◌<◌, ◌+◌, ℕ, List, [], ◌∷◌, length, Some, true, false};
 ghost use Rattle.std.specs.Bool.{Decides};
 ghost use Rattle.mk_rule_lines.specs.ByName.{AreLines, HasRecipeAt};
 ghost use Rattle.mk_rule_lines.specs.Explicit.{lines_of};
@@ -9,7 +9,9 @@ ghost use Rattle.mk_rule_lines.specs.Goals.{AreGoals, goals_of};
 ghost use Rattle.mk_rule_lines.specs.Implicit.{AreForms};
 ghost use Rattle.mk_rule_lines.specs.Kinds.{IsRuleFor, IsSuffixRuleFor};
 ghost use Rattle.mk_rule_lines.specs.Marks.{HasMark, marked_by, has_mark};
+ghost use Rattle.mk_rule_lines.specs.Order.{has_longer_stem};
 ghost use Rattle.mk_rule_lines.specs.Rules.{suffixes_of, targets_by, recipe_places};
+ghost use Rattle.mk_rule_lines.specs.Source.{stem_of};
 ghost use Rattle.mk_rule_lines.specs.Suffixes.{AreSuffixes};
 ghost use Rattle.mk_rule_lines.specs.Taken.{AreTaken};
 ghost use Rattle.mk_rule_lines.specs.declared.form.Form.{Form};
@@ -41,6 +43,13 @@ pub fn rules_by_name()
 pub fn implicit_rules_in_order()
     ensures { (lines : List RuleLine) (forms : List Form) → AreTaken lines
         → (forms_of (suffixes_of lines) lines ≡ forms) ↔ AreForms (suffixes_of lines) lines forms }
+{}
+
+/// Of a name of two forms, the one with less beside the stem has the longer stem, the folder that is left aside counted with it: so in
+/// which order they are tried by their stems is told without the name.
+pub fn longer_stems_by_less_beside_them()
+    ensures { (form other : Form) (name : List ℕ) (s t : List ℕ × List ℕ) → stem_of form name ≡ Some s → stem_of other name ≡ Some t
+        → (has_longer_stem form other ≡ true) ↔ (length s.0 + length s.1 < length t.0 + length t.1) }
 {}
 
 /// What the code makes are the names that are given, or else the goal of the first line that gives one.

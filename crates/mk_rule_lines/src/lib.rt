@@ -14,6 +14,7 @@ mod line_words;
 mod lines;
 mod makefile;
 mod marked;
+mod order;
 mod rule_line;
 mod settings;
 mod suffixes;
@@ -31,8 +32,8 @@ pub use form::{Form, Source};
 pub use forms::forms_of;
 pub use goals::goals_of;
 pub use laws::{
-    goals_are_named_or_first, implicit_rules_in_order, marks_are_of_the_lines, rules_by_name,
-    suffixes_are_the_last_list,
+    goals_are_named_or_first, implicit_rules_in_order, longer_stems_by_less_beside_them,
+    marks_are_of_the_lines, rules_by_name, suffixes_are_the_last_list,
 };
 pub use line_words::LineWords;
 pub use lines::rule_lines;

@@ -2,6 +2,7 @@
 ghost use Rattle.std.specs.Prelude.{◌≡◌, ◌&&◌, ◌||◌, not, option_copied, IfOk};
 ghost use Rattle.std.specs.List.{list_any};
 ghost use Rattle.mk_reader.specs.Text.{is_empty};
+ghost use Rattle.mk_rule_lines.specs.Order.{is_built_in};
 ghost use Rattle.mk_rule_lines.specs.Rules.{told_file};
 ghost use Rattle.mk_rule_lines.specs.Rules.{has, has_percent, is_rule, is_pattern_rule, is_phony_list, is_default_rule, makes_targets, is_suffix_list, joins, is_suffix_name, lacks_single, is_double_recipe, is_always, may_be_suffix_rule, is_suffix_target, comes_out, targets_by};
 
@@ -10,6 +11,9 @@ use byte_strings::ByteStrings;
 use mk_profile::Profile;
 use mk_reader::{FileName, Recipe, SpecialName};
 use std::alloc::{AllocError, Global};
+
+/// The name that `dmk_drive` reads the rules under which are built in.
+const BUILT_IN: &[u8] = b"(built-in)";
 
 /// A rule line, or the line of a special rule. That of `.PHONY` has the names that it lists as its targets.
 pub struct RuleLine {
@@ -118,6 +122,13 @@ impl RuleLine {
         } else {
             None
         }
+    }
+
+    /// Whether it is a line of the rules that are built in.
+    pub(crate) fn is_built_in(&self) -> bool
+        ensures { result ≡ is_built_in self.now }
+    {
+        self.profile.is_wide() && self.file.as_slice() == BUILT_IN
     }
 
     /// Whether it is no special rule.

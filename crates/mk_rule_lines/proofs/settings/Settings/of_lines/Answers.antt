@@ -1,4 +1,4 @@
-use Rattle.std.proofs.Common.{◌≡◌, ◌+◌, List, drop, sym, ap, ◌∙◌}
+use Rattle.std.proofs.Common.{◌+◌, drop, sym, ap, ◌∙◌}
 use Rattle.std.proofs.lemmas.List.{drop_all}
 use Rattle.mk_rule_lines.specs.Settled.{nothing_set}
 use Rattle.mk_rule_lines.proofs.PlaceLemmas.{from_line}

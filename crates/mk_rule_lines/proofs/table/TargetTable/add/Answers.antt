@@ -1,10 +1,10 @@
-use Rattle.std.proofs.Common.{rules, arith, length-set, length-append, ◌≡◌, ◌<◌, ◌≤◌, ◌+◌, ◌∷◌, ◌++◌, ◌&&◌, [], List, ℕ, Bool, true, false, Some, length, map, set, get_or, refl, sym, ap, subst, ◌∙◌}
+use Rattle.std.proofs.Common.{arith, length-set, length-append, ◌≡◌, ◌<◌, ◌+◌, ◌∷◌, ◌++◌, ◌&&◌, [], List, ℕ, Bool, true, false, Some, length, map, set, get_or, refl, sym, ap, subst, ◌∙◌}
 use Rattle.std.specs.Prelude.{IfOk, is_some, option_map, slice_get}
 use Rattle.std.specs.List.{IsDistinct}
 use Rattle.std.specs.Str.{bytes_eq}
 use Rattle.std.proofs.lemmas.List.{map-append, map-set, length-map}
 use Rattle.std.proofs.lemmas.Option.{slice_get_read, slice_get-map}
-use Rattle.mk_graph.specs.Numbering.{name_at, has_name, added}
+use Rattle.mk_graph.specs.Numbering.{name_at, added}
 use Rattle.mk_graph.proofs.NameLemmas.{distinct_all_added}
 use Rattle.mk_rule_lines.specs.Named.{Named, nothing_named, named_in, shown_target}
 use Rattle.mk_rule_lines.specs.Table.{named_at, with_target}
