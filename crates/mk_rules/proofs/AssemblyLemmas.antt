@@ -12,7 +12,7 @@ use Rattle.mk_graph.specs.declared.numbering.Numbered.{Numbered}
 use Rattle.mk_rules.specs.Assembly.{IsPutTogether}
 use Rattle.mk_rules.specs.Found.{AreFound, IsUnmadeFault, IsGraphlessFault}
 use Rattle.mk_rule_lines.specs.Goals.{goals_of, settings_of}
-use Rattle.mk_rules.specs.Graph.{IsGraph, IsNode, AreMade, AreHard, AreRequired, AreSoft, required_in, counting_in}
+use Rattle.mk_rules.specs.Graph.{IsGraph, IsNode, AreUnmade, AreHard, AreRequired, AreSoft, required_in, counting_in}
 use Rattle.mk_rules.specs.Nodes.{IsNamedOf}
 use Rattle.mk_rules.specs.Ordering.{IsCycleFault}
 use Rattle.mk_rules.specs.Prerequisites.{Inputs, prerequisites_of, is_made}
@@ -32,12 +32,12 @@ use Rattle.mk_rules.proofs.RowLaws.{are_hard, nodes_are}
 module _ (inputs : Inputs) (named : List (List ℕ)) (lines : List RuleLine) (lines_are : inputs.lines ≡ lines) (n : Numbered Node)
     (found : AreFound inputs (goals_of inputs.lines named) n) (node_count : length n.nodes.items ≡ length n.names) where
   module _ (o : Ordered) (hard_count : length o.hard ≡ length n.names) (rows : EachRow (IsHardRow n.rows n.nodes.items) o.hard) (taken : AreTaken lines)
-      (made : AreMade inputs n.names) (required : AreRequired inputs n.names (unwrap_or o.required o.hard)) (soft : AreSoft inputs n.names o.soft)
+      (unmade : List ℕ) (are_unmade : AreUnmade inputs n.names unmade) (required : AreRequired inputs n.names (unwrap_or o.required o.hard)) (soft : AreSoft inputs n.names o.soft)
       (dropped : IsDropped (unwrap_or o.required o.hard) o.soft o.soft_dropped)
       (acyclic : HasCycle (unwrap_or o.required o.hard) → ⊥) (order : IsPlan (counting (unwrap_or o.required o.hard) o.soft o.soft_dropped) o.order.items) (soft_count : length o.soft ≡ length n.names)
       (soft_rows : EachRow (IsSoftRow n.rows n.nodes.items) o.soft) (closed : is_closed o.soft ≡ true) (state : StateMap)
       (entries : finmap.get state ≡ inputs.entries) (graph : Graph)
-      (named_nodes : Named) (of : IsNamedOf n named_nodes) (p : IsPutTogether lines named_nodes o state graph) where
+      (named_nodes : Named) (of : IsNamedOf n unmade named_nodes) (p : IsPutTogether lines named_nodes o state graph) where
     names_is : graph.names ≡ n.names
     names_is = p.names ∙ of.names
 
@@ -65,7 +65,7 @@ module _ (inputs : Inputs) (named : List (List ℕ)) (lines : List RuleLine) (li
       taken = subst AreTaken (sym lines_are) taken;
       names = subst (IsNumbering (prerequisites_of inputs) (goals_of inputs.lines named)) (sym names_is) found.names_are;
       goals = ap (λ ns. map (name_at ns) graph.goals.items) names_is ∙ ap (map (name_at n.names)) (p.goals ∙ of.goals) ∙ found.goals_are;
-      made = subst (AreMade inputs) (sym names_is) made;
+      unmade = subst (λ ns. AreUnmade inputs ns graph.unmade.items) (sym names_is) (subst (AreUnmade inputs n.names) (sym (p.unmade ∙ of.unmade)) are_unmade);
       nodes = ap length (p.nodes ∙ of.nodes) ∙ node_count ∙ ap length (sym names_is);
       node = λ k node at.
           subst (λ ns. IsNode inputs ns (row graph.hard k) (row graph.soft k) (name_at ns k) node) (sym names_is)

@@ -1,5 +1,5 @@
 -- Names that are mentioned word by word, and line by line.
-use Rattle.std.proofs.Common.{◌≡◌, ℕ, true, false, List, [], ◌∷◌, ◌++◌, Option, Some, None, refl, sym, ap, ◌∙◌}
+use Rattle.std.proofs.Common.{◌≡◌, ℕ, false, List, [], ◌∷◌, ◌++◌, Option, Some, None, refl, sym, ap, ◌∙◌}
 use Rattle.std.specs.Prelude.{slice_get}
 use Rattle.std.specs.List.{flat_map}
 use Rattle.std.specs.Option.{option_map_or}
@@ -16,12 +16,6 @@ left_in profile words = without_waits (before_bar profile words)
 
 pub word_taken : (profile : Profile) (word : List ℕ) (left : List (List ℕ)) → is_bar profile word ≡ false → is_wait word ≡ false → left_in profile (word ∷ left) ≡ word ∷ left_in profile left
 word_taken profile word left no_bar no_wait = simp (no_bar, no_wait) refl
-
-pub word_passed : (profile : Profile) (word : List ℕ) (left : List (List ℕ)) → is_bar profile word ≡ false → is_wait word ≡ true → left_in profile (word ∷ left) ≡ left_in profile left
-word_passed profile word left no_bar wait = simp (no_bar, wait) refl
-
-pub word_bar : (profile : Profile) (word : List ℕ) (left : List (List ℕ)) → is_bar profile word ≡ true → left_in profile (word ∷ left) ≡ []
-word_bar profile word left bar = simp bar refl
 
 -- the prerequisites of a line are mentioned
 pub mentioned_line : (before after whole : List (List ℕ)) (lines : List RuleLine) (k : ℕ) (l : RuleLine) (more : List ℕ) → slice_get lines k ≡ Some l →

@@ -251,10 +251,6 @@ text_at : (name : List ℕ) (b : Bool) → is_utf8 name ≡ b → (is_utf8 name 
 text_at name true e never = e
 text_at name false e never = e ∙ never e
 
--- a name is text where looking at it fails: at one that isn't nobody looks
-pub text_where_refused : (name : List ℕ) → (is_utf8 name ≡ false → false ≡ true) → is_utf8 name ≡ true
-text_where_refused name never = text_at name (is_utf8 name) refl never
-
 pub has_first : (name : List ℕ) (left : List (List ℕ)) → has name (name ∷ left) ≡ true
 has_first name left = let same : bytes_eq name name ≡ true = (bytes_eq-Decides name name).1 refl in simp same refl
 

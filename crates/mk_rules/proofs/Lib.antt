@@ -33,3 +33,4 @@ pub mod SetLemmas
 pub mod SeveralLemmas
 pub mod SourceLemmas
 pub mod WaitLemmas
+pub mod WantedLemmas

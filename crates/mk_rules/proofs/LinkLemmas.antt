@@ -1,5 +1,5 @@
 -- Behind which implicit rules a chain may go on, told by how names end.
-use Rattle.std.proofs.Common.{◌≡◌, ◌+◌, ◌-◌, ◌<◌, ◌≤◌, ℕ, zero, suc, Bool, true, false, not, ◌&&◌, ◌||◌, List, [], ◌∷◌, ◌++◌, length, take, drop, get_or, map, Option, Some, None, option_and_then, inl, ⊎_elim, refl, sym, ap, ◌∙◌, arith, bytes_eq}
+use Rattle.std.proofs.Common.{◌≡◌, ◌+◌, ◌-◌, ◌<◌, ◌≤◌, ℕ, zero, suc, Bool, true, false, not, ◌&&◌, ◌||◌, List, [], ◌∷◌, ◌++◌, length, take, drop, get_or, map, Option, Some, None, option_and_then, ⊎_elim, refl, sym, ap, ◌∙◌, arith, bytes_eq}
 use Rattle.std.specs.Prelude.{find, is_some, option_map, option_to_list, slice_get, if◌then◌else◌}
 use Rattle.std.specs.List.{list_any, list_all}
 use Rattle.std.specs.Option.{option_map_or, option_or}
@@ -14,7 +14,6 @@ use Rattle.mk_rule_lines.specs.declared.form.Form.{Form}
 use Rattle.mk_rule_lines.specs.declared.form.Source.{Source}
 use Rattle.mk_rules.specs.Chain.{makes_any, is_usable, usable, first_that, can_be}
 use Rattle.mk_rules.specs.Links.{end_of, ends_with, end_alike, may_make, leads_on, AreLinks}
-use Rattle.mk_rules.specs.Search.{IsAskedIn}
 use Rattle.mk_rules.proofs.ChainLemmas.{unfit_more, passed_more, asked_here}
 use Rattle.mk_rules.proofs.SourceLemmas.{from_form, candidates-append, taken}
 
@@ -226,8 +225,3 @@ links_are forms links are k form marked at =
 
 pub no_links : (forms : List Form) (links : List Bool) → links ≡ [] → AreLinks forms links
 no_links forms links are k form marked at = let none : None ≡ Some false = ap (λ (ls : List Bool). slice_get ls k) (sym are) ∙ marked in cc
-
--- without a step only the name itself is asked for, as it is with more of them
-pub asked_in_none : (forms : List Form) (steps : ℕ) (fewer name n : List ℕ) → n ≡ name → IsAskedIn forms steps fewer name n
-asked_in_none forms zero fewer name n is = is
-asked_in_none forms (suc steps) fewer name n is = inl is

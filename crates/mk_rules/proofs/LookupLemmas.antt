@@ -1,7 +1,8 @@
 -- What is looked up of a name, in terms of the inputs.
 use Rattle.std.proofs.Common.{◌≡◌, ℕ, ℤ, Bool, true, false, not, cond, List, [], ◌∷◌, Option, Some, None, refl, sym, ap, ◌∙◌}
-use Rattle.std.specs.Prelude.{Result, Ok, Err, IfOk, ◌&&◌, ◌||◌, is_some, option_to_list}
+use Rattle.std.specs.Prelude.{◌&&◌, ◌||◌, is_some, option_to_list}
 use Rattle.std.specs.List.{list_any}
+use Rattle.std.specs.Option.{option_or}
 use Rattle.std.specs.Str.{is_utf8}
 use Rattle.mk_reader.specs.Text.{is_empty}
 use Rattle.st_records.specs.declared.record.Entry.{Entry}
@@ -15,12 +16,8 @@ use Rattle.mk_rule_lines.specs.declared.form.Source.{Source}
 use Rattle.mk_rule_lines.specs.declared.rule_line.RuleLine.{RuleLine}
 use Rattle.mk_rule_lines.specs.declared.table.TargetTable.{TargetTable}
 use Rattle.mk_rules.specs.Chain.{source_in, steps_of}
+use Rattle.mk_rules.specs.Wanted.{from_wanted}
 use Rattle.mk_rules.proofs.RuleLemmas.{any_place}
-
--- two facts of the value at Ok
-pub ok_both : {T E : Type 0} (r : Result T E) (P Q : T → Type 0) → IfOk r P → IfOk r Q → IfOk r (λ v. P v × Q v)
-ok_both (Ok v) P Q p q = (p, q)
-ok_both (Err e) P Q p q = tt
 
 -- a test has one answer
 pub one_answer : {A : Type 0} (b : Bool) → b ≡ true → b ≡ false → A
@@ -71,12 +68,16 @@ module _ (lines : List RuleLine) (targets : TargetTable)
 
   -- where the name isn't phony, and no line has a recipe for it
   pub found_is : (forms : List Form) (steps : ℕ) (name : List ℕ) (recipe : Option ℕ) (found : Option Source) → forms ≡ forms_of (suffixes_of lines) lines → steps ≡ steps_of lines →
-      option_to_list recipe ≡ inputs.own_recipes lines name → is_some recipe ≡ false → is_phony lines name ≡ false → found ≡ source_in (table.is_there targets times) forms steps name →
+      option_to_list recipe ≡ inputs.own_recipes lines name → is_some recipe ≡ false → is_phony lines name ≡ false →
+      found ≡ option_or (source_in (table.is_there targets times) forms steps name) (from_wanted (inputs.is_target lines) lines forms name) →
       found ≡ inputs.found_source (inputs.inputs_of lines entries times) name
   found_is forms steps name recipe found all few own none no_phony is =
       let there = inputs.is_there (inputs.inputs_of lines entries times) in
-      let source = source_in there (forms_of (suffixes_of lines) lines) (steps_of lines) name in
-      is ∙ ap (λ (f : List ℕ → Bool). source_in f forms steps name) same_there ∙ ap (λ (fs : List Form). source_in there fs steps name) all
-      ∙ ap (λ (n : ℕ). source_in there (forms_of (suffixes_of lines) lines) n name) few
+      let wanted : List Form → Option Source = λ fs. from_wanted (inputs.is_target lines) lines fs name in
+      let all_forms = forms_of (suffixes_of lines) lines in
+      let source = option_or (source_in there all_forms (steps_of lines) name) (wanted all_forms) in
+      is ∙ ap (λ (f : List ℕ → Bool). option_or (source_in f forms steps name) (wanted forms)) same_there
+      ∙ ap (λ (fs : List Form). option_or (source_in there fs steps name) (wanted fs)) all
+      ∙ ap (λ (n : ℕ). option_or (source_in there all_forms n name) (wanted all_forms)) few
       ∙ ap (λ (ns : List ℕ). inputs.unless_any ns source) (sym (no_own recipe none) ∙ own)
       ∙ ap (λ (t : Bool). cond t None (inputs.unless_any (inputs.own_recipes lines name) source)) (sym no_phony)

@@ -39,9 +39,6 @@ pub has_moved : (set left list : List (List ℕ)) (x : List ℕ) → ((n : List 
 has_moved set left list x so n =
     ap (λ b. b || has_name left n) (has_added set x n) ∙ or_assoc (has_name set n) (bytes_eq n x) (has_name left n) ∙ so n
 
-pub has_all : (set list : List (List ℕ)) → ((n : List ℕ) → (has_name set n || has_name [] n) ≡ has_name list n) → HaveTheSame set list
-has_all set list so n = sym (or_false (has_name set n)) ∙ so n
-
 -- a new name in both
 pub same_pushed : (set list : List (List ℕ)) (x : List ℕ) → HaveTheSame set list → HaveTheSame (added set x) (list ++ x ∷ [])
 same_pushed set list x same n = has_added set x n ∙ ap (λ b. b || bytes_eq n x) (same n) ∙ sym (has_pushed list x n)

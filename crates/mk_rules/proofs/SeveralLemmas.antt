@@ -1,16 +1,14 @@
 -- Rules of several targets: what one run makes, and when it was made.
-use Rattle.std.proofs.Common.{◌≡◌, ℕ, ℤ, Bool, true, false, cond, List, [], ◌∷◌, map, take, Option, Some, None, refl, sym, ap, ◌∙◌, ◌==◌}
+use Rattle.std.proofs.Common.{◌≡◌, ℕ, ℤ, Bool, true, false, cond, List, [], ◌∷◌, take, Option, Some, None, refl, sym, ap, ◌∙◌, ◌==◌}
 use Rattle.std.specs.Prelude.{is_none, option_and_then, slice_get}
 use Rattle.std.proofs.lemmas.Bool.{and_parts, eqb-true}
 use Rattle.std.specs.Option.{option_map_or}
-use Rattle.mk_reader.specs.Text.{is_empty}
 use Rattle.mk_rule_lines.specs.Explicit.{is_phony}
 use Rattle.mk_rule_lines.specs.Rules.{has}
 use Rattle.mk_rule_lines.specs.declared.fault.RuleFault.{RuleFault}
 use Rattle.mk_rule_lines.specs.declared.fault.RuleFault.TheVariants as fault
 use Rattle.mk_rule_lines.specs.declared.form.Source.{Source}
 use Rattle.mk_rule_lines.specs.declared.rule_line.RuleLine.{RuleLine}
-use Rattle.mk_rules.specs.Groups.{earlier, earliest, group_with}
 use Rattle.mk_rules.specs.Known.{IsOthersFault}
 use Rattle.mk_rules.specs.Looks.{IsLookFault}
 use Rattle.mk_rules.specs.Prerequisites.{Inputs, own_recipes, unless_any, first_or, found_source, implicit_source, is_led, is_run_of, runs_for, rule_or, left_recipe, recipe_of, source_name}
@@ -38,13 +36,6 @@ module _ (inputs : Inputs) (name : List ℕ) where
       cond led (Some source) None ≡ implicit_source inputs name
   led_is source led found is = ap (λ (b : Bool). cond b (Some source) None) is ∙ ap (where_led inputs) found
 
--- one time more is taken in
-pub next_time : (times : List ℕ → Option ℤ) (name : List ℕ) (left names : List (List ℕ)) (time seen after whole : Option ℤ) → names ≡ name ∷ left →
-    seen ≡ times name → after ≡ earlier time seen → earliest time (map times names) ≡ whole → earliest after (map times left) ≡ whole
-next_time times name left names time seen after whole steps is adds so =
-    ap (λ (t : Option ℤ). earliest t (map times left)) (adds ∙ ap (earlier time) is)
-    ∙ ap (λ (ns : List (List ℕ)). earliest time (map times ns)) (sym steps) ∙ so
-
 -- a name that can't be looked at is one of these
 pub others_fault : (refuses : List ℕ → Type 0) (lines : List RuleLine) (names : List (List ℕ)) (name : List ℕ) → has name names ≡ true →
     is_phony lines name ≡ false → (f : RuleFault) → IsLookFault refuses name f → IsOthersFault refuses lines names f
@@ -55,16 +46,6 @@ others_fault refuses lines names name among no_phony _ meets = meets
 
 abbrev pub group_at : (made : Option ℤ) (others : List (List ℕ)) → Group
 group_at made others = record { made = made; others = others }
-
--- what is made beside the name, where that is some
-pub group_is : (times : List ℕ → Option ℤ) (name : List ℕ) (others : List (List ℕ)) (stamp made : Option ℤ) → is_empty others ≡ false → stamp ≡ times name →
-    made ≡ earliest stamp (map times others) → Some (group_at made others) ≡ group_with times name others
-group_is times name [] stamp made some is at = cc
-group_is times name (other ∷ others) stamp made some is at =
-    ap (λ (t : Option ℤ). Some (group_at t (other ∷ others))) (at ∙ ap (λ (s : Option ℤ). earliest s (map times (other ∷ others))) is)
-
-pub no_group : (times : List ℕ → Option ℤ) (name : List ℕ) (others : List (List ℕ)) → others ≡ [] → None ≡ group_with times name others
-no_group times name others none = ap (group_with times name) (sym none)
 
 -- ---- what is made by the run for another name
 

@@ -230,17 +230,6 @@ no_line_orders names suffixes p q (l ∷ ls) none =
     (and_right (list_any (has_name names) (targets_by false suffixes l)) _ (no_orders l parts.0 p q))
     (no_line_orders names suffixes p q ls parts.1)
 
--- two groups: the one stands before the other
-pub two_groups : (g h : List (List ℕ)) (a b : List ℕ) → orders (g ∷ h ∷ []) a b ≡ (has a g && has b h)
-two_groups g h a b =
-    ap (λ c. (has a g && has b (h ++ [])) || c) (off (has a h))
-    ∙ ap (λ l. (has a g && has b l) || false) (append-nil h)
-    ∙ or_off (has a g && has b h)
-  where
-    or_off : (c : Bool) → (c || false) ≡ c
-    or_off true = refl
-    or_off false = refl
-
 -- what is known of the groups so far, where some words are left
 pub record GroupsGo (names : List (List ℕ)) (left words : List (List ℕ)) (groups : List (List ℕ)) (begun : List ℕ) : Type 0 where
   pub all : map (map (name_at names)) groups ++ onto (map (name_at names) begun) (groups_left (has_name names) left) ≡ groups_left (has_name names) words

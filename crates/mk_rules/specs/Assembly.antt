@@ -13,6 +13,7 @@ pub record IsPutTogether (lines : List RuleLine) (n : Named) (o : Ordered) (stat
   pub names : graph.names ≡ n.names
   pub goals : graph.goals.items ≡ n.goals.items
   pub nodes : graph.nodes.items ≡ n.nodes.items
+  pub unmade : graph.unmade.items ≡ n.unmade.items
   pub hard : graph.hard ≡ o.hard
   pub required : graph.required ≡ o.required
   pub soft : graph.soft ≡ o.soft

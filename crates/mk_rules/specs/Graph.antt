@@ -1,9 +1,9 @@
 -- The graph of the names that goals lead to.
-use Rattle.std.specs.Prelude.{◌≡◌, ℕ, ◌<◌, nat_lt, ◌||◌, Bool, true, List, ◌++◌, length, map, Option, Some, None, option_map, slice_get, IsTrue, unwrap_or, if◌then◌else◌}
+use Rattle.std.specs.Prelude.{◌≡◌, ℕ, ◌<◌, nat_lt, ◌||◌, ◌&&◌, not, Bool, true, List, ◌++◌, length, map, Option, Some, None, option_map, slice_get, IsTrue, unwrap_or, if◌then◌else◌}
 use Rattle.mk_graph.specs.Edges.{row, is_closed, has as has_number}
 use Rattle.mk_graph.specs.Cycle.{HasCycle}
 use Rattle.mk_graph.specs.Counted.{counting, IsDropped}
-use Rattle.mk_graph.specs.Numbering.{IsNumbering, name_at, has_name}
+use Rattle.mk_graph.specs.Numbering.{IsNumbering, name_at}
 use Rattle.mk_rule_lines.specs.Rules.{suffixes_of, has}
 use Rattle.mk_rule_lines.specs.Taken.{AreTaken}
 use Rattle.mk_rule_lines.specs.Goals.{goals_of, settings_of}
@@ -72,9 +72,9 @@ required_in graph = unwrap_or graph.required graph.hard
 abbrev pub counting_in : Graph → List (List ℕ)
 counting_in graph = counting (required_in graph) graph.soft graph.soft_dropped
 
--- each name with a number is made by something, or is there
-abbrev pub AreMade : Inputs → (names : List (List ℕ)) → Type 0
-AreMade inputs names = (name : List ℕ) → has_name names name ≡ true → is_made inputs name ≡ true
+-- the numbers are those of the names that aren't there, and that nothing makes
+abbrev pub AreUnmade : Inputs → (names : List (List ℕ)) → (unmade : List ℕ) → Type 0
+AreUnmade inputs names unmade = (n : ℕ) → has_number unmade n ≡ (nat_lt n (length names) && not (is_made inputs (name_at names n)))
 
 -- the rows hold the hard prerequisites of each name by number
 abbrev pub AreHard : Inputs → (names : List (List ℕ)) → (hard : List (List ℕ)) → Type 0
@@ -87,7 +87,7 @@ pub record IsGraph (inputs : Inputs) (named : List (List ℕ)) (graph : Graph) :
   pub taken : AreTaken inputs.lines
   pub names : IsNumbering (prerequisites_of inputs) (goals_of inputs.lines named) graph.names
   pub goals : map (name_at graph.names) graph.goals.items ≡ goals_of inputs.lines named
-  pub made : AreMade inputs graph.names
+  pub unmade : AreUnmade inputs graph.names graph.unmade.items
   pub nodes : length graph.nodes.items ≡ length graph.names
   pub node : (n : ℕ) (node : Node) → slice_get graph.nodes.items n ≡ Some node →
       IsNode inputs graph.names (row graph.hard n) (row graph.soft n) (name_at graph.names n) node

@@ -28,3 +28,4 @@ pub mod Source
 pub mod Stamp
 pub mod Tree
 pub mod Waits
+pub mod Wanted

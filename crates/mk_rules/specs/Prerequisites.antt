@@ -1,7 +1,7 @@
 -- What the rules, the files and the state say of a name: what makes it and what it is made from.
 use Rattle.std.specs.Prelude.{◌≡◌, ℕ, ℤ, Bool, true, false, not, ◌&&◌, ◌||◌, List, [], ◌∷◌, ◌++◌, filter, drop, take, slice_get, codes, Option, Some, None, is_some, is_none, option_and_then, option_to_list, ◌==◌, if◌then◌else◌}
 use Rattle.std.specs.List.{list_any}
-use Rattle.std.specs.Option.{option_map_or}
+use Rattle.std.specs.Option.{option_map_or, option_or}
 use Rattle.std.specs.Str.{is_utf8}
 use Rattle.mk_graph.specs.Numbering.{all_added}
 use Rattle.st_records.specs.declared.record.Entry.{Entry}
@@ -14,6 +14,7 @@ use Rattle.mk_rule_lines.specs.Forms.{forms_of}
 use Rattle.mk_rule_lines.specs.declared.form.Source.{Source}
 use Rattle.mk_rule_lines.specs.declared.rule_line.RuleLine.{RuleLine}
 use Rattle.mk_rules.specs.Chain.{source_in, steps_of}
+use Rattle.mk_rules.specs.Wanted.{from_wanted}
 
 -- what a graph is made of: the rule lines, the times of names as the lines let them be seen, and what the state has of each
 -- target
@@ -57,12 +58,14 @@ first_or [] other = other
 first_or (n ∷ ns) other = Some n
 
 -- what the search for a source of the name finds, where no line has a recipe for it and it isn't phony (make(1S), "Implicit Rules"; POSIX
--- make, .PHONY; in the wide profile also by chains: GNU make manual, "Chains of Implicit Rules")
+-- make, .PHONY; in the wide profile also by chains, and behind these from names that ought to exist: GNU make manual, "Chains of Implicit
+-- Rules", "Implicit Rule Search Algorithm")
 abbrev pub found_source : Inputs → (name : List ℕ) → Option Source
 found_source inputs name =
+    let forms = forms_of (suffixes_of inputs.lines) inputs.lines in
     if is_phony inputs.lines name then None
     else unless_any (own_recipes inputs.lines name)
-    (source_in (is_there inputs) (forms_of (suffixes_of inputs.lines) inputs.lines) (steps_of inputs.lines) name)
+    (option_or (source_in (is_there inputs) forms (steps_of inputs.lines) name) (from_wanted (is_target inputs.lines) inputs.lines forms name))
 
 -- the rule of this line makes a name that is found to come from the source by a run for that name
 abbrev pub is_run_of : (rule : ℕ) → Source → Bool

@@ -1,7 +1,7 @@
 //! From a makefile's items to its graph.
 ghost use Rattle.std.specs.List.{IsDistinct};
 ghost use Rattle.std.specs.Str.{bytes_eq};
-ghost use Rattle.std.specs.Prelude.{◌≡◌, ◌≤◌, ◌||◌, ℕ, ℤ, List, Option, length, map, is_ok, is_some, unwrap_or, true, IsTrue, IfOk, IfErr, IfSome, OnOk};
+ghost use Rattle.std.specs.Prelude.{◌≡◌, ◌≤◌, ◌||◌, ℕ, ℤ, List, Option, length, map, is_ok, is_some, unwrap_or, true, false, [], IsTrue, IfOk, IfErr, IfSome, OnOk};
 ghost use Rattle.std.specs.FinMap as finmap;
 ghost use Rattle.mk_graph.specs.Edges.{is_closed};
 ghost use Rattle.mk_graph.specs.Numbering.{AreDescribed, name_at};
@@ -21,7 +21,7 @@ ghost use Rattle.mk_rule_lines.specs.Rules.{suffixes_of};
 ghost use Rattle.mk_rule_lines.specs.Taken.{AreTaken};
 ghost use Rattle.mk_rules.specs.Prerequisites.{Inputs, inputs_of, is_target, prerequisites_of};
 ghost use Rattle.mk_rule_lines.specs.Goals.{goals_of};
-ghost use Rattle.mk_rules.specs.Graph.{IsGraph, AreMade};
+ghost use Rattle.mk_rules.specs.Graph.{IsGraph, AreUnmade};
 ghost use Rattle.st_state.specs.State.{StateMap};
 ghost use Rattle.mk_rules.specs.Faults.{AreInputs, IsGraphFault, IsRuleFault};
 
@@ -37,7 +37,7 @@ use crate::rows::parted_rows;
 use crate::rules::Rules;
 use crate::soft::soft_edges;
 use crate::tree::Tree;
-use crate::unmade::check_made;
+use crate::unmade::unmade_nodes;
 use byte_strings::ByteStrings;
 use mk_graph::{Numbered, NumberingFault, Parts, number};
 use mk_macros::Macros;
@@ -134,6 +134,7 @@ fn put_together(
         names,
         goals,
         nodes,
+        unmade,
     } = named;
     let Ordered {
         hard,
@@ -146,6 +147,7 @@ fn put_together(
         names,
         goals,
         nodes,
+        unmade,
         hard,
         required,
         soft,
@@ -160,12 +162,13 @@ fn put_together(
     })
 }
 
-/// The nodes of the names that were found, each of which has something that makes it, their edges, and the order that they make.
+/// The nodes of the names that were found, those of them that nothing makes, their edges, and the order that they make.
 fn order_found(
     alloc: Global,
     lines: &[RuleLine],
     suffixes: &ByteStrings,
     numbered: Numbered<Node>,
+    unmade: Vec<usize>,
 ) -> Result<(Named, Ordered), RuleFault>
     requires names { IsDistinct bytes_eq numbered.names }
     requires row_count { length numbered.rows ≡ length numbered.names }
@@ -173,9 +176,9 @@ fn order_found(
     requires closed { IsTrue (is_closed numbered.rows) }
     requires suffixes { suffixes.now ≡ suffixes_of lines.now }
     requires taken { AreTaken lines.now }
-    requires made { (inputs : Inputs) → inputs.lines ≡ lines.now
-        → AreDescribed (IsKnown inputs) numbered.names numbered.nodes.items → AreMade inputs numbered.names }
-    ensures named { IfOk result (λ of. IsNamedOf numbered of.0) }
+    requires unmade { (inputs : Inputs) → inputs.lines ≡ lines.now
+        → AreDescribed (IsKnown inputs) numbered.names numbered.nodes.items → AreUnmade inputs numbered.names unmade.items }
+    ensures named { IfOk result (λ of. IsNamedOf numbered unmade.items of.0) }
     ensures node_count { IfOk result (λ of. length of.0.nodes.items ≡ length of.0.names) }
     ensures hard_count { IfOk result (λ of. length of.1.hard ≡ length of.0.names) }
     ensures soft_count { IfOk result (λ of. length of.1.soft ≡ length of.0.names) }
@@ -198,7 +201,7 @@ fn order_found(
     let required = required_edges(alloc, &hard, &numbered.names, &numbered.nodes)?;
     let soft = soft_edges(alloc, &numbered, waited, lines, suffixes)?;
     // The rows are let go before the order takes memory.
-    let named = named_nodes(numbered);
+    let named = named_nodes(numbered, unmade);
     let ordered = ordered_by(alloc, &named.names, hard, required, soft)?;
     Ok((named, ordered))
 }
@@ -233,6 +236,7 @@ fn graph_of(
     macros: Macros,
     numbered: Numbered<Node>,
     state: State,
+    goes_on: bool,
 ) -> Result<Graph, RuleFault>
     requires names { IsDistinct bytes_eq numbered.names }
     requires row_count { length numbered.rows ≡ length numbered.names }
@@ -240,23 +244,25 @@ fn graph_of(
     requires closed { IsTrue (is_closed numbered.rows) }
     ensures graph { IfOk result (λ graph. (inputs : Inputs) (named : List (List ℕ)) → inputs.lines ≡ makefile.lines.items
         → finmap.get state ≡ inputs.entries → AreFound inputs (goals_of inputs.lines named) numbered → IsGraph inputs named graph) }
+    ensures made { goes_on ≡ false → IfOk result (λ graph. graph.unmade.items ≡ []) }
     ensures count { IfOk result (λ graph. length graph.nodes.items ≡ length numbered.names) }
     ensures macros { IfOk result (λ graph. graph.macros ≡ macros) }
     ensures fault { IfErr result (λ fault. (inputs : Inputs) (named : List (List ℕ)) → inputs.lines ≡ makefile.lines.items
         → AreFound inputs (goals_of inputs.lines named) numbered → IsGraphlessFault inputs named fault) }
 {
     let profile = macros.profile();
-    check_made(
+    let unmade = unmade_nodes(
         alloc,
         profile,
         &makefile.lines,
         &makefile.targets,
         &numbered,
+        goes_on,
     )?;
     // The table is let go where nothing asks for it later, before the order takes memory.
     let (lines, targets, suffixes) = parts_of(makefile, profile);
     let numbered = numbered.shared(alloc);
-    let (named, ordered) = order_found(alloc, &lines, &suffixes, numbered)?;
+    let (named, ordered) = order_found(alloc, &lines, &suffixes, numbered, unmade)?;
     Ok(put_together(
         alloc, lines, targets, suffixes, macros, named, ordered, state,
     )?)
@@ -301,6 +307,8 @@ fn reached<T: Tree>(
 /// The graph of a makefile's items for these goals, or for the makefile's first target where none is named. It holds no more
 /// names than the limit.
 ///
+/// A name that isn't there and that nothing makes is refused, but where the run goes on without it: then the graph has its number.
+///
 /// It is the graph for any times that agree with what the tree answered. The tree looks at a name once at most. The
 /// macros take in the definitions of the makefile, and the graph keeps the state.
 pub fn build<T: Tree>(
@@ -311,10 +319,12 @@ pub fn build<T: Tree>(
     tree: &mut T,
     state: State,
     limit: usize,
+    goes_on: bool,
 ) -> Result<Graph, RuleFault>
     ensures graph { IfOk result (λ graph. (times : List ℕ → Option ℤ) → T.allows tree.new times → (inputs : Inputs)
         × AreInputs (defined_by macros) items.items times (finmap.get state) inputs
         × IsGraph inputs goals graph) }
+    ensures made { goes_on ≡ false → IfOk result (λ graph. graph.unmade.items ≡ []) }
     ensures few { IfOk result (λ graph. length graph.nodes.items ≤ limit) }
     ensures macros { IfOk result (λ graph. defined_by graph.macros ≡ behind_items (defined_by macros) items.items) }
     ensures fault { IfErr result (λ fault. (times : List ℕ → Option ℤ) → T.allows tree.new times
@@ -325,5 +335,5 @@ pub fn build<T: Tree>(
     let mut macros = macros;
     let makefile = Makefile::of_items(alloc, items, &mut macros)?;
     let numbered = reached(alloc, &makefile, goals, tree, &state, limit)?;
-    graph_of(alloc, makefile, macros, numbered, state)
+    graph_of(alloc, makefile, macros, numbered, state, goes_on)
 }

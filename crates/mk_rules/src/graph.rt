@@ -2,7 +2,7 @@
 ghost use Rattle.std.proofs.Props.{props};
 ghost use Rattle.std.specs.Prelude.{◌≡◌, ℕ, List, ◌<◌, drop, length, option_copied, option_map, slice_index, slice_get, is_some, unwrap_or, IsTrue, IfOk, IfSome};
 ghost use Rattle.mk_graph.specs.Counted.{counting, AreSets};
-ghost use Rattle.mk_graph.specs.Edges.{row, is_closed};
+ghost use Rattle.mk_graph.specs.Edges.{row, has, is_closed};
 ghost use Rattle.mk_macros.specs.Ranks.{defined_by};
 ghost use Rattle.mk_profile.specs.Profile.{is_wide};
 ghost use Rattle.mk_rule_lines.specs.Explicit.{numbers_of};
@@ -82,6 +82,9 @@ pub struct Graph {
     pub goals: Vec<usize>,
     /// What is known of each name.
     pub nodes: Vec<Node>,
+    /// The numbers of the names that aren't there and that nothing makes, in their order: there are some only where a run goes on
+    /// without them.
+    pub unmade: Vec<usize>,
     /// The hard prerequisites of each node, each once: the implicit source first, then those by name in their order.
     pub hard: Edges,
     /// The hard prerequisites of each node and its order-only ones, without which it isn't made; None where no line has an
@@ -125,6 +128,7 @@ impl Drop for Graph {
             names: _,
             goals: _,
             nodes: _,
+            unmade: _,
             hard: _,
             required: _,
             soft: _,
@@ -146,6 +150,13 @@ impl Graph {
         ensures { result ≡ length self.now.nodes.items }
     {
         self.nodes.len()
+    }
+
+    /// Whether the node isn't there and nothing makes it, so that nothing that stands on it is made.
+    pub fn is_unmade(&self, node: usize) -> bool
+        ensures { result ≡ has self.now.unmade.items node }
+    {
+        self.unmade.iter().any(|unmade| node == *unmade)
     }
 
     /// The implicit source of a node; None where no implicit rule makes it, or one without prerequisites.

@@ -42,6 +42,7 @@ mod stamp;
 mod tree;
 mod unmade;
 mod waits;
+mod wanted;
 
 pub use building::build;
 pub use graph::{Graph, Node};

@@ -2,6 +2,7 @@
 ghost use Rattle.std.specs.Prelude.{◌≡◌, ◌<◌, ◌≤◌, ℕ, List, Bool, true, false, map, option_map, slice_get, length, Some, None, IfOk, OnOk, IfSome};
 ghost use Rattle.std.specs.List.{list_any, list_all};
 ghost use Rattle.mk_macros.specs.Words.{place_of};
+ghost use Rattle.mk_reader.specs.Text.{is_empty};
 ghost use Rattle.mk_rule_lines.specs.Source.{stem_of, source_at, with_stem};
 ghost use Rattle.mk_rule_lines.specs.declared.form.Form.{Form};
 ghost use Rattle.mk_rules.specs.Chain.{makes_any, can_be};
@@ -74,6 +75,13 @@ fn end_of(pattern: &[u8]) -> &[u8]
         Some(place) => &pattern[place + 1..],
         None => pattern,
     }
+}
+
+/// Whether names of the pattern may end in any way.
+pub(crate) fn ends_anyhow(pattern: &[u8]) -> bool
+    ensures { result ≡ is_empty (end_of pattern.now) }
+{
+    end_of(pattern).is_empty()
 }
 
 fn ends_with(text: &[u8], ending: &[u8]) -> bool

@@ -4,17 +4,18 @@ ghost use Rattle.mk_rules.specs.Nodes.{IsNamedOf};
 use crate::graph::Node;
 use mk_graph::{Names, Numbered};
 
-/// The names of a graph, the numbers of the goals, and the node of each name.
+/// The names of a graph, the numbers of the goals, the node of each name, and the numbers of those that nothing makes.
 #[derive(Drop)]
 pub(crate) struct Named {
     pub names: Names,
     pub goals: Vec<usize>,
     pub nodes: Vec<Node>,
+    pub unmade: Vec<usize>,
 }
 
 /// The names that were found, with their nodes. Their rows are let go.
-pub(crate) fn named_nodes(numbered: Numbered<Node>) -> Named
-    ensures { IsNamedOf numbered result }
+pub(crate) fn named_nodes(numbered: Numbered<Node>, unmade: Vec<usize>) -> Named
+    ensures { IsNamedOf numbered unmade.items result }
 {
     let Numbered {
         names,
@@ -26,5 +27,6 @@ pub(crate) fn named_nodes(numbered: Numbered<Node>) -> Named
         names,
         goals,
         nodes,
+        unmade,
     }
 }

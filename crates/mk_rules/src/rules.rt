@@ -1,7 +1,7 @@
 //! What a makefile's rules and the state say of a name.
 ghost use Rattle.std.specs.Prelude.{◌≡◌, ℕ, ℤ, List, Option, false, [], slice_get, option_to_list, IfOk, IfErr};
 ghost use Rattle.std.specs.FinMap as map;
-ghost use Rattle.std.specs.Option.{option_copied, option_map_or};
+ghost use Rattle.std.specs.Option.{option_copied, option_map_or, option_or};
 ghost use Rattle.mk_rule_lines.specs.Rules.{has, suffixes_of, targets_by, places, recipe_places};
 ghost use Rattle.mk_rules.specs.Chain.{steps_of};
 ghost use Rattle.mk_rules.specs.Links.{AreLinks};
@@ -17,6 +17,7 @@ use crate::chain::{Makers, source_in};
 use crate::left_over::is_left;
 use crate::stamp::Stamp;
 use crate::tree::Tree;
+use crate::wanted::from_wanted;
 use byte_strings::ByteStrings;
 use mk_rule_lines::{
     Form, RuleFault, RuleLine, Source, TargetTable, explicit_of, first_double, is_phony,
@@ -74,6 +75,7 @@ impl<'m> Rules<'m> {
     ghost use Rattle.mk_rule_lines.specs.Explicit.{numbers_of, explicit_of, order_only_of, is_phony};
     ghost use Rattle.mk_rules.specs.Prerequisites.{Inputs, own_recipes, is_target, left_recipe};
     ghost use Rattle.mk_rules.specs.Chain.{source_in};
+    ghost use Rattle.mk_rules.specs.Wanted.{from_wanted};
 
     /// The numbers of the lines that make the name, in order, and of the one that has its recipe, or the first of its lines with `::`.
     pub fn named(&self, name: &[u8]) -> (&[usize], Option<usize>)
@@ -151,7 +153,7 @@ impl<'m> Rules<'m> {
         is_phony(self.lines, numbers)
     }
 
-    /// What implicit rules make the name from.
+    /// What implicit rules make the name from: what is there, or rules can make, or else what ought to exist.
     pub fn source<T: Tree>(
         &self,
         alloc: Global,
@@ -159,7 +161,8 @@ impl<'m> Rules<'m> {
         name: &[u8],
     ) -> Result<Option<Source>, RuleFault>
         ensures source { IfOk result (λ found. (times : List ℕ → Option ℤ) → T.allows tree.new times
-            → found ≡ source_in (is_there self.now.targets.now times) self.now.forms.now self.now.steps name.now) }
+            → found ≡ option_or (source_in (is_there self.now.targets.now times) self.now.forms.now self.now.steps name.now)
+            (from_wanted (is_target self.now.lines.now) self.now.lines.now self.now.forms.now name.now)) }
         ensures looks { Looks (T.allows tree.old) (T.allows tree.new) (T.refuses tree.old) (T.refuses tree.new) (T.asked tree.old) (T.asked tree.new) (T.firsts tree.old) (T.firsts tree.new) }
         ensures fault { IfErr result (IsSearchFault self.now.targets.now (T.allows tree.new) (T.refuses tree.new) self.now.forms.now self.now.steps name.now) }
     {
@@ -168,7 +171,10 @@ impl<'m> Rules<'m> {
             forms: self.forms,
             links: self.links,
         };
-        source_in(alloc, &makers, tree, self.steps, name)
+        if let Some(source) = source_in(alloc, &makers, tree, self.steps, name)? {
+            return Ok(Some(source));
+        }
+        Ok(from_wanted(alloc, self, name)?)
     }
 
     /// What the state has of the name.

@@ -1,12 +1,12 @@
 //! Names that have no file, and that nothing makes.
-ghost use Rattle.std.specs.Prelude.{◌≡◌, ◌<◌, ◌||◌, ℕ, List, length, codes, is_some, option_to_list, IfOk, IfErr, IfSome, OnOk};
+ghost use Rattle.std.specs.Prelude.{◌≡◌, ◌<◌, ◌||◌, ℕ, List, length, codes, false, is_some, [], option_to_list, IfOk, IfErr, IfSome};
 ghost use Rattle.mk_graph.specs.Edges.{has};
 ghost use Rattle.mk_graph.specs.Numbering.{AreDescribed, name_at};
 ghost use Rattle.mk_rule_lines.specs.Explicit.{explicit_targets};
 ghost use Rattle.mk_rule_lines.specs.Rules.{recipe_places};
 ghost use Rattle.mk_rule_lines.specs.Table.{is_named, named_at};
 ghost use Rattle.mk_rules.specs.Found.{HasItInItsRow, IsUnmadeFault};
-ghost use Rattle.mk_rules.specs.Graph.{AreMade};
+ghost use Rattle.mk_rules.specs.Graph.{AreUnmade};
 ghost use Rattle.mk_rules.specs.Known.{IsKnown};
 ghost use Rattle.mk_rules.specs.Prerequisites.{Inputs, is_target};
 
@@ -69,34 +69,41 @@ fn unmade_at(
     Ok(Unmade { name, needed_by })
 }
 
-/// Refuses a name that has no file, and that nothing makes.
-pub(crate) fn check_made(
+/// The nodes that have no file, and that nothing makes. Where the run doesn't go on without them the first one is refused.
+pub(crate) fn unmade_nodes(
     alloc: Global,
     profile: Profile,
     lines: &[RuleLine],
     targets: &TargetTable,
     numbered: &Numbered<Node>,
-) -> Result<(), RuleFault>
+    goes_on: bool,
+) -> Result<Vec<usize>, RuleFault>
     requires table { (name : List ℕ) → is_named (named_at targets.now name) ≡ is_target lines.now name }
     requires recipes { option_to_list (named_at targets.now (codes ".DEFAULT")).recipe ≡ recipe_places (explicit_targets lines.now) 0 lines.now (codes ".DEFAULT") }
     requires count { length numbered.now.nodes.items ≡ length numbered.now.names }
     requires rows { length numbered.now.rows ≡ length numbered.now.names }
-    ensures made { OnOk result ((inputs : Inputs) → inputs.lines ≡ lines.now
-        → AreDescribed (IsKnown inputs) numbered.now.names numbered.now.nodes.items → AreMade inputs numbered.now.names) }
+    ensures unmade { IfOk result (λ unmade. (inputs : Inputs) → inputs.lines ≡ lines.now
+        → AreDescribed (IsKnown inputs) numbered.now.names numbered.now.nodes.items → AreUnmade inputs numbered.now.names unmade.items) }
+    ensures made { goes_on ≡ false → IfOk result (λ unmade. unmade.items ≡ []) }
     ensures fault { IfErr result (λ fault. (inputs : Inputs) → inputs.lines ≡ lines.now
         → AreDescribed (IsKnown inputs) numbered.now.names numbered.now.nodes.items
         → IsUnmadeFault inputs numbered.now.names numbered.now.rows fault) }
 {
+    let mut nodes = Vec::new(alloc);
     let default = default_of(lines, targets);
     if default.is_some() {
-        return Ok(());
+        return Ok(nodes);
     }
     for (node, known) in numbered.nodes.iter().enumerate() {
         let name = numbered.names.name(node);
-        if !is_made(targets, name, known) {
+        if is_made(targets, name, known) {
+            continue;
+        }
+        if !goes_on {
             let unmade = unmade_at(alloc, profile, numbered, node)?;
             return Err(RuleFault::NoRule(unmade));
         }
+        nodes.push(node)?;
     }
-    Ok(())
+    Ok(nodes)
 }

@@ -3,7 +3,7 @@ use Rattle.std.specs.Prelude.{codes}
 use Rattle.mk_graph.specs.Numbering.{AreDescribed}
 use Rattle.mk_graph.specs.declared.numbering.Numbered.{Numbered}
 use Rattle.mk_rules.specs.Found.{AreFound, IsGraphlessFault}
-use Rattle.mk_rules.specs.Graph.{AreMade}
+use Rattle.mk_rules.specs.Graph.{AreUnmade}
 use Rattle.mk_rules.specs.Known.{IsKnown}
 use Rattle.mk_rules.specs.declared.graph.Node.{Node}
 use Rattle.mk_rule_lines.specs.Explicit.{explicit_targets}
@@ -24,36 +24,36 @@ use Rattle.mk_rules.proofs.building.graph_of.Goals as goal
 as_shared : (inputs : Inputs) (named : List (List ℕ)) (n shared : Numbered Node) → shared ≡ n → AreFound inputs (goals_of inputs.lines named) n → AreFound inputs (goals_of inputs.lines named) shared
 as_shared inputs named n shared same found = subst (AreFound inputs (goals_of inputs.lines named)) (sym same) found
 
-pub check_made-requires-clause-table : goal.check_made-requires-clause-table
-check_made-requires-clause-table c = λ name.
+pub unmade_nodes-requires-clause-table : goal.unmade_nodes-requires-clause-table
+unmade_nodes-requires-clause-table c = λ name.
     target_is c.args.makefile.lines.items c.args.makefile.targets c.args.makefile.table.named name
     ∙ ap (λ (ls : List RuleLine). is_target ls name) (sym c.deref.ensures.value)
 
-pub check_made-requires-clause-recipes : goal.check_made-requires-clause-recipes
-check_made-requires-clause-recipes c =
+pub unmade_nodes-requires-clause-recipes : goal.unmade_nodes-requires-clause-recipes
+unmade_nodes-requires-clause-recipes c =
     c.args.makefile.table.recipe (codes ".DEFAULT") ∙ ap (λ (ls : List RuleLine). recipe_places (explicit_targets ls) 0 ls (codes ".DEFAULT")) (sym c.deref.ensures.value)
 
-pub returns-in_err-check_made-clause-fault : goal.returns-in_err-check_made-clause-fault
-returns-in_err-check_made-clause-fault c =
+pub returns-in_err-unmade-clause-fault : goal.returns-in_err-unmade-clause-fault
+returns-in_err-unmade-clause-fault c =
     let lines = c.args.makefile.lines.items in
     let n = c.args.numbered in
     handed_on _
     (λ f. (inputs : Inputs) → (named : List (List ℕ)) → inputs.lines ≡ lines → AreFound inputs (goals_of inputs.lines named) n → IsGraphlessFault inputs named f)
-    c.in_err-check_made.field-0.0 (c.from_residual.ensures).1
-    (λ inputs named are found. unmade_fault inputs named lines are n found c.requires.node_count c.in_err-check_made.field-0.0
-    (c.in_err-check_made.ensures.fault inputs (are ∙ sym c.deref.ensures.value) found.known))
+    c.in_err-unmade.field-0.0 (c.from_residual.ensures).1
+    (λ inputs named are found. unmade_fault inputs named lines are n found c.requires.node_count c.in_err-unmade.field-0.0
+    (c.in_err-unmade.ensures.fault inputs (are ∙ sym c.deref.ensures.value) found.known))
 
 pub order_found-requires-clause-taken : goal.order_found-requires-clause-taken
 order_found-requires-clause-taken c =
     let same : c.args.makefile.lines.items ≡ c.deref-2.result.now = cc in
     subst AreTaken same c.args.makefile.taken
 
-pub order_found-requires-clause-made : goal.order_found-requires-clause-made
-order_found-requires-clause-made c = λ inputs are known.
+pub order_found-requires-clause-unmade : goal.order_found-requires-clause-unmade
+order_found-requires-clause-unmade c = λ inputs are known.
     let same : c.deref-2.result.now ≡ c.deref.result.now = cc in
     let shared = c.shared-numbered.ensures in
-    subst (λ n. AreMade inputs n.names) (sym shared)
-    (c.in_ok-check_made.ensures.made inputs (are ∙ same) (subst (λ n. AreDescribed (IsKnown inputs) n.names n.nodes.items) shared known))
+    subst (λ n. AreUnmade inputs n.names c.in_ok-unmade.unmade.items) (sym shared)
+    (c.in_ok-unmade.ensures.unmade inputs (are ∙ same) (subst (λ n. AreDescribed (IsKnown inputs) n.names n.nodes.items) shared known))
 
 pub returns-in_err-named-clause-fault : goal.returns-in_err-named-clause-fault
 returns-in_err-named-clause-fault c =

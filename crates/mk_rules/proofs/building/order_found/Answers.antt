@@ -65,7 +65,7 @@ returns-clause-graph c = λ inputs named are found state entries graph whole.
     (ap length is.hard ∙ hard.hard_count)
     (subst (EachRow (IsHardRow n.rows n.nodes.items)) (sym is.hard) hard.hard)
     c.requires.taken
-    (c.requires.made inputs are found.known)
+    c.args.unmade.items (c.requires.unmade inputs are found.known)
     (subst (AreRequired inputs n.names) same
     (c.in_ok-required.ensures.required inputs (subst (AreDescribed (IsKnown inputs) n.names) (sym c.deref.ensures.value) found.known) (hard_are inputs named n found c.requires.node_count h hard.hard_count hard.hard)
     (inside inputs named n found c.requires.node_count c.requires.row_count c.requires.closed)))

@@ -2,7 +2,7 @@ use Rattle.std.proofs.Common.{◌≡◌, ℕ, List, [], ◌∷◌, true, false, 
 use Rattle.mk_graph.specs.Numbering.{all_added}
 use Rattle.mk_rule_lines.specs.Explicit.{is_bar, is_wait}
 use Rattle.mk_rules.specs.Row.{named, IsSomeRow}
-use Rattle.mk_rules.proofs.ExplicitLemmas.{left_in, word_taken, word_passed, word_bar}
+use Rattle.mk_rules.proofs.ExplicitLemmas.{left_in, word_taken}
 use Rattle.mk_rules.proofs.explicit.mention_line.Goals as goal
 
 pub loop-word-preserved : goal.loop-word-preserved
