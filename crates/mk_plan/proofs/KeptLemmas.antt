@@ -4,15 +4,12 @@ use Rattle.std.specs.Bool.{OnTrue}
 use Rattle.std.proofs.Common.{◌≡◌, ◌∙◌, ◌+◌, ℕ, Bool, true, false, cond, List, [], ◌∷◌, ◌++◌, map, filter, drop, ◌<◌, suc, add-one, get_or, length, Some, None, refl, sym, ap, subst}
 use Rattle.std.proofs.Math.Seq.{drop-cons}
 use Rattle.mk_macros.specs.Expansion.{Meanings}
-use Rattle.mk_macros.specs.declared.dynamic.RecipeNames.{RecipeNames}
 use Rattle.mk_reader.specs.declared.item.RecipeLine.{RecipeLine}
 use Rattle.mk_recipe.specs.Line.{text_kept}
 use Rattle.mk_recipe.specs.Tests.{is_recorded, recorded_texts}
 use Rattle.mk_recipe.specs.declared.line.Line.{Line}
-use Rattle.mk_rule_lines.specs.declared.rule_line.RuleLine.{RuleLine}
-use Rattle.mk_rules.specs.declared.graph.Graph.{Graph}
-use Rattle.mk_plan.specs.Finished.{GivesFirst, GivesCommands, PartGives}
-use Rattle.mk_plan.specs.Recipe.{AreExpanded, AreNames, recipe_meaning}
+use Rattle.mk_plan.specs.Finished.{GivesFirst, GivesCommands}
+use Rattle.mk_plan.specs.Recipe.{AreExpanded}
 
 -- what the lines that are left give, if it is what is left of the commands, is with the others what all give
 abbrev pub GivesSoFar : (meanings : Meanings) (recipe : List RecipeLine) (commands : List (List ℕ)) (i : ℕ) (left : List (List ℕ)) → Type 0
@@ -38,12 +35,6 @@ gives_all : (meanings : Meanings) (recipe : List RecipeLine) (commands : List (L
     drop i recipe ≡ [] → left ≡ [] → GivesSoFar meanings recipe commands i left → GivesCommands meanings recipe commands
 gives_all meanings recipe commands i left none nothing before =
     before [] (subst (λ raws. AreExpanded meanings raws []) (sym none) tt) (sym nothing)
-
-pub part_gives : (graph : Graph) (marks : List Bool) (n : ℕ) (l : RuleLine) (names : RecipeNames) (commands : List (List ℕ)) (so : Bool) →
-    AreNames graph marks n l names → OnTrue so (GivesCommands (recipe_meaning graph names) l.recipe commands) → OnTrue so (PartGives graph marks n l commands)
-part_gives graph marks n l names commands true are gives =
-    let (lines, expanded, is) = gives in (lines, record { names = names; are_names = are; expanded = expanded }, is)
-part_gives graph marks n l names commands false are gives = tt
 
 -- what is next among the lines
 pub next_raw : (recipe : List RecipeLine) (k : ℕ) (raw : RecipeLine) → k < length recipe → raw ≡ get_or recipe k raw → drop k recipe ≡ raw ∷ drop (k + 1) recipe

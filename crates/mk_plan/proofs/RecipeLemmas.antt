@@ -1,5 +1,5 @@
 -- The lines of a recipe that were expanded so far.
-use Rattle.std.proofs.Common.{◌≡◌, ◌+◌, ℕ, List, [], ◌∷◌, ◌++◌, drop, Option, inl, inr, sym, subst}
+use Rattle.std.proofs.Common.{◌≡◌, ◌+◌, ℕ, List, [], ◌∷◌, ◌++◌, drop, Option, inr, sym, subst}
 use Rattle.std.proofs.lemmas.List.{append-nil}
 use Rattle.mk_macros.specs.Expansion.{Meanings, ExpandsToFault}
 use Rattle.mk_macros.specs.declared.fault.MacroFault.{MacroFault}
@@ -8,7 +8,7 @@ use Rattle.mk_reader.specs.declared.item.RecipeLine.{RecipeLine}
 use Rattle.mk_recipe.specs.declared.line.Line.{Line}
 use Rattle.mk_rule_lines.specs.declared.fault.TextFault.{TextFault}
 use Rattle.mk_rule_lines.specs.declared.fault.TextPlace.{TextPlace}
-use Rattle.mk_plan.specs.Recipe.{IsExpandedLine, AreExpanded, IsLineFault, HasFirstFault, IsRecipeFault, IsToldAt, place_in}
+use Rattle.mk_plan.specs.Recipe.{IsExpandedLine, AreExpanded, IsLineFault, HasFirstFault, IsToldAt, place_in}
 use Rattle.mk_plan.specs.declared.fault.RecipeFault.{RecipeFault}
 use Rattle.mk_plan.specs.declared.fault.RecipeFault.TheVariants as fault
 
@@ -30,6 +30,7 @@ told_at meanings file raw place (faults.Loop name) told here is meets = subst (I
 told_at meanings file raw place faults.Unclosed told here is meets = subst (IsLineFault meanings file raw) (sym is) (record { cause = meets; place = here })
 told_at meanings file raw place faults.NestedReference told here is meets = subst (IsLineFault meanings file raw) (sym is) (record { cause = meets; place = here })
 told_at meanings file raw place faults.TooLong told here is meets = subst (IsLineFault meanings file raw) (sym is) (record { cause = meets; place = here })
+told_at meanings file raw place (faults.Function word) told here is meets = subst (IsLineFault meanings file raw) (sym is) (record { cause = meets; place = here })
 
 -- the first fault of the lines that are left is that of all
 abbrev pub NoFaultSoFar : (meanings : Meanings) (file : Option (List ℕ)) (recipe : List RecipeLine) (i : ℕ) → Type 0
@@ -41,11 +42,3 @@ pub no_fault_more : (meanings : Meanings) (file : Option (List ℕ)) (recipe : L
     NoFaultSoFar meanings file recipe (i + 1)
 no_fault_more meanings file recipe i raw line here is before = λ f behind.
     before f (subst (λ left. HasFirstFault meanings file left f) (sym here) (inr (line, is, behind)))
-
--- the line that is next has a fault
-pub fault_here : (meanings : Meanings) (file : Option (List ℕ)) (recipe : List RecipeLine) (i : ℕ) (raw : RecipeLine) (f : RecipeFault) →
-    drop i recipe ≡ raw ∷ drop (i + 1) recipe → IsLineFault meanings file raw f → NoFaultSoFar meanings file recipe i →
-    IsRecipeFault meanings file recipe f
-fault_here meanings file recipe i raw fault.OutOfMemory here has before = tt
-fault_here meanings file recipe i raw (fault.Macro f) here has before =
-    before f (subst (λ left. HasFirstFault meanings file left f) (sym here) (inl has))

@@ -7,7 +7,7 @@ use Rattle.mk_verdict.specs.declared.verdict.Reason.{Reason}
 use Rattle.mk_verdict.specs.declared.verdict.Reason.TheVariants.{CommandsChanged}
 use Rattle.mk_plan.specs.Passage.{Passage, to_make, finished}
 use Rattle.mk_plan.specs.declared.telling.Telling.{Telling}
-use Rattle.mk_plan.specs.declared.telling.Telling.TheVariants.{Nothing, Reasons, All}
+use Rattle.mk_plan.specs.declared.telling.Telling.TheVariants.{Nothing, Reasons, All, AllMade}
 
 -- a line about a target
 abbrev pub about : (target text : List ℕ) → List ℕ
@@ -34,10 +34,13 @@ abbrev pub changes : (target : List ℕ) → Reason → (commands : List (List �
 changes target CommandsChanged commands lines = change_lines target commands (recorded_texts lines)
 changes target _ commands lines = []
 
--- what is told of a target: why its recipe is listed; or of -dd also what has changed, and that one is up to date
+-- what is told of a target: why its recipe is listed; or of -dd also what has changed, and that one is up to date. Where the user
+-- has all targets made (-B), that is why, whatever is recorded
 abbrev pub lines_about : Telling → Passage → List (List ℕ)
 lines_about Nothing passage = []
 lines_about Reasons (to_make target why commands lines) = about target why.words ∷ []
 lines_about Reasons (finished target) = []
 lines_about All (to_make target why commands lines) = about target why.words ∷ changes target why.reason commands lines
 lines_about All (finished target) = about target (codes "up to date") ∷ []
+lines_about AllMade (to_make target why commands lines) = about target (codes "made by -B") ∷ []
+lines_about AllMade (finished target) = []

@@ -23,6 +23,8 @@ pub enum Telling {
     Reasons,
     /// That too, and which are up to date; of changed commands the line that was, and the one that is.
     All,
+    /// That one is made because all are, as the user wants it.
+    AllMade,
 }
 
 /// Adds a line about a target.
@@ -150,6 +152,7 @@ pub fn why_lines(
             )?;
             push_changes(alloc, &mut told, graph, node, why.reason, lines)?;
         }
+        Telling::AllMade => push_about(alloc, &mut told, name_of(graph, node), b"", b"made by -B")?,
     }
     Ok(told)
 }
@@ -165,7 +168,7 @@ fn finished_lines(
 {
     let mut told = ByteStrings::empty(alloc);
     match telling {
-        Telling::Nothing | Telling::Reasons => {}
+        Telling::Nothing | Telling::Reasons | Telling::AllMade => {}
         Telling::All => push_about(alloc, &mut told, name_of(graph, node), b"", b"up to date")?,
     }
     Ok(told)
