@@ -1,17 +1,10 @@
 -- The references of a text, one byte after the other.
-use Rattle.std.proofs.Common.{◌≡◌, ◌∙◌, ℕ, Bool, true, false, not, ◌&&◌, ◌||◌, List, [], ◌∷◌, ◌++◌, refl, sym, ap}
+use Rattle.std.proofs.Common.{◌≡◌, ◌∙◌, ℕ, Bool, true, false, not, ◌&&◌, ◌||◌, List, [], ◌∷◌, refl, sym, ap}
 use Rattle.std.specs.List.{list_any}
 use Rattle.mk_profile.specs.declared.profile.Profile.{Profile}
-use Rattle.mk_notes.specs.Notes.{all_noted, noted}
+use Rattle.mk_notes.specs.Notes.{all_noted}
 use Rattle.mk_notes.specs.References.{is_dollar, subjects_in}
 use Rattle.mk_notes.specs.declared.note.Note.{Note}
-use Rattle.mk_notes.specs.declared.note.Subject.{Subject}
-
--- subjects one behind the other are noted so
-pub all_noted-append : (file : List ℕ) (line : ℕ) (front more : List Subject) (notes : List Note) →
-    all_noted file line (front ++ more) notes ≡ all_noted file line more (all_noted file line front notes)
-all_noted-append file line [] more notes = refl
-all_noted-append file line (s ∷ front) more notes = all_noted-append file line front more (noted file line s notes)
 
 -- a test that fails for a list fails for its first element and for the others
 neither : (first others : Bool) → (first || others) ≡ false → (first ≡ false) × (others ≡ false)

@@ -1,3 +1,4 @@
+pub mod BuiltIn
 pub mod Names
 pub mod Notes
 pub mod References

@@ -1,10 +1,10 @@
--- Names of targets that other makes have a meaning for.
+-- Names of targets and macros that other makes have a meaning for.
 use Rattle.std.specs.Prelude.{ℕ, Bool, not, ◌&&◌, ◌||◌, ◌==◌, ◌+◌, List, [], ◌∷◌, take, drop, bytes_eq}
 use Rattle.std.specs.List.{list_any, prefix_len}
 use Rattle.byte_strings.specs.Blanks.{words}
 use Rattle.mk_reader.specs.Text.{is_empty}
 use Rattle.mk_notes.specs.References.{is_dollar}
-use Rattle.mk_notes.specs.declared.names.TheConstants.{TARGETS, SUFFIXES}
+use Rattle.mk_notes.specs.declared.names.TheConstants.{TARGETS, MACROS, ASKING, RUN, COMMANDS, SUFFIXES}
 
 abbrev pub has : List (List ℕ) → (name : List ℕ) → Bool
 has names name = list_any (λ n. bytes_eq n name) names
@@ -12,6 +12,24 @@ has names name = list_any (λ n. bytes_eq n name) names
 -- the target has a meaning elsewhere (GNU make, "Special Built-in Target Names"; bmake(1), "SPECIAL TARGETS")
 abbrev pub is_target : (name : List ℕ) → Bool
 is_target name = list_any (λ n. bytes_eq n.now name) TARGETS
+
+-- the macro has a meaning elsewhere (GNU make, "Choosing the Shell", "VPATH: Search Path for All Prerequisites")
+abbrev pub is_macro : (name : List ℕ) → Bool
+is_macro name = list_any (λ n. bytes_eq n.now name) MACROS
+
+-- a definition of the macro asks GNU make for something ("Other Special Variables", "Communicating Options to a Sub-make")
+abbrev pub is_asking : (name : List ℕ) → Bool
+is_asking name = list_any (λ n. bytes_eq n.now name) ASKING
+
+-- GNU make sets the macro in each run ("Other Special Variables", "Arguments to Specify the Goals", "Communicating Variables to a
+-- Sub-make")
+abbrev pub is_of_run : (name : List ℕ) → Bool
+is_of_run name = list_any (λ n. bytes_eq n.now name) RUN
+
+-- the macro is a command that GNU make has built in and POSIX hasn't (GNU make, "Variables Used by Implicit Rules" and what `make -p`
+-- lists as default)
+abbrev pub is_command : (name : List ℕ) → Bool
+is_command name = list_any (λ n. bytes_eq n.now name) COMMANDS
 
 -- the suffix is known elsewhere (POSIX make, "Default Rules"; GNU make, "Old-Fashioned Suffix Rules")
 abbrev pub is_suffix : (name : List ℕ) → Bool

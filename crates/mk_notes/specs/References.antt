@@ -48,10 +48,10 @@ abbrev pub function_of : Option (List ℕ) → Option Subject
 function_of None = None
 function_of (Some word) = Some (Function word)
 
--- the subject of the reference that a byte begins behind a dollar, with what follows it
+-- the subject of the reference that a byte begins behind a dollar, with what follows it; in the wide profile calls are refused
 abbrev pub subject_at : Profile → (b : ℕ) (after : List ℕ) → Option Subject
 subject_at profile b after =
-    if is_automatic profile b then Some (Automatic b) else function_of (called b after)
+    if is_automatic profile b then Some (Automatic b) else (if is_wide profile then None else function_of (called b after))
 
 abbrev pub listed : Option Subject → List Subject
 listed None = []

@@ -1,10 +1,10 @@
 -- What the statements of a file give to be noted. Own.
-use Rattle.std.specs.Prelude.{ℕ, Bool, true, false, not, ◌&&◌, ◌==◌, List, [], ◌∷◌, ◌++◌, map, Option, Some, None, if◌then◌else◌}
+use Rattle.std.specs.Prelude.{ℕ, Bool, true, false, not, ◌&&◌, ◌||◌, ◌==◌, List, [], ◌∷◌, ◌++◌, map, Option, Some, None, codes, if◌then◌else◌}
 use Rattle.std.specs.List.{list_any}
 use Rattle.byte_strings.specs.Blanks.{is_blank}
 use Rattle.mk_profile.specs.Profile.{is_wide}
 use Rattle.mk_profile.specs.declared.profile.Profile.{Profile}
-use Rattle.mk_reader.specs.Text.{is_empty}
+use Rattle.mk_reader.specs.Text.{is_empty, ends_with}
 use Rattle.mk_reader.specs.declared.item.Item.{Item}
 use Rattle.mk_reader.specs.declared.item.Item.TheVariants as item
 use Rattle.mk_reader.specs.declared.item.RecipeLine.{RecipeLine}
@@ -13,7 +13,7 @@ use Rattle.mk_reader.specs.declared.item.Statement.{Statement}
 use Rattle.mk_reader.specs.declared.item.Statement.TheVariants as statement
 use Rattle.mk_reader.specs.declared.special.SpecialName.{SpecialName}
 use Rattle.mk_reader.specs.declared.special.SpecialName.TheVariants.{Suffixes}
-use Rattle.mk_notes.specs.Names.{is_target, is_suffix_name, is_named_by}
+use Rattle.mk_notes.specs.Names.{is_target, is_macro, is_asking, is_suffix_name, is_named_by}
 use Rattle.mk_notes.specs.Notes.{all_noted}
 use Rattle.mk_notes.specs.References.{listed, subjects_in, is_automatic}
 use Rattle.mk_notes.specs.declared.note.Note.{Note}
@@ -50,22 +50,30 @@ texts_noted profile file ((line, text) ∷ more) notes =
 abbrev pub is_suffix_rule : Rule → Bool
 is_suffix_rule rule = if is_empty rule.recipe then false else (is_empty rule.prerequisites && is_suffix_name rule.targets)
 
--- what the target of a rule is noted as: a name with a meaning elsewhere, or in the strict profile, which knows no suffixes by
--- itself, a suffix rule
+-- what the target of a rule is noted as: a name with a meaning elsewhere, or in the strict profile a `&` that groups no targets, or, since
+-- it knows no suffixes by itself, a suffix rule
 abbrev pub target_of : Profile → Rule → Option Subject
 target_of profile rule =
     if is_target rule.targets then Some (subject.Target rule.targets)
-    else (if not (is_wide profile) && is_suffix_rule rule then Some (subject.SuffixRule rule.targets) else None)
+    else (if not (is_wide profile) && ends_with 38 rule.targets then Some (subject.Target (codes "&"))
+    else (if not (is_wide profile) && is_suffix_rule rule then Some (subject.SuffixRule rule.targets) else None))
 
--- the notes with one on the target of an item that is a rule
+-- what a macro's name is noted as that a definition has: one that asks GNU make for something, and in the strict profile one with a
+-- meaning elsewhere
+abbrev pub macro_of : Profile → (name : List ℕ) → Option Subject
+macro_of profile name = if is_asking name || (not (is_wide profile) && is_macro name) then Some (subject.Target name) else None
+
+-- the notes with one on the target of an item that is a rule, or on the name of a definition
 abbrev pub target_noted : Profile → (file : List ℕ) → Item → List Note → List Note
-target_noted profile file (item.Definition d) notes = notes
+target_noted profile file (item.Definition d) notes = all_noted file d.line (listed (macro_of profile d.name)) notes
 target_noted profile file (item.Rule rule) notes = all_noted file rule.line (listed (target_of profile rule)) notes
 target_noted profile file (item.Special special) notes = notes
 
--- the notes with those on a statement: on its target, and then on its texts
+-- the notes with those on a statement: on its target or the name that it defines, and then on its texts
 abbrev pub statement_noted : Profile → (file : List ℕ) → Statement → List Note → List Note
 statement_noted profile file (statement.Item one) notes = texts_noted profile file (item_texts one) (target_noted profile file one notes)
+statement_noted profile file (statement.Definition line) notes =
+    texts_noted profile file ((line.definition.line, line.definition.value) ∷ []) (target_noted profile file (item.Definition line.definition) notes)
 statement_noted profile file s notes = texts_noted profile file (texts_of s) notes
 
 -- the notes with those on the statements of a file, in their order
@@ -127,3 +135,5 @@ counts suffixes defined (subject.Function word) = not (has_mark 32 defined)
 counts suffixes defined (subject.Automatic b) = not (has_mark b defined)
 counts suffixes defined (subject.SuffixRule name) = not (is_named_by suffixes name)
 counts suffixes defined (subject.Target name) = true
+counts suffixes defined (subject.Leading name prefix) = true
+counts suffixes defined (subject.BuiltIn name) = true

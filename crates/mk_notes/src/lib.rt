@@ -1,6 +1,8 @@
 //! Notes on what a makefile asks for that has no meaning here, though another make gives it one: each is said once.
 #![tactic(auto)]
 
+mod built_in;
+mod leading;
 mod names;
 mod note;
 mod notes;

@@ -3,7 +3,7 @@ ghost use Rattle.std.specs.Prelude.{◌≡◌, ◌≤◌, length, bytes_eq};
 ghost use Rattle.std.specs.List.{list_any, prefix_len};
 ghost use Rattle.byte_strings.specs.Blanks.{words};
 ghost use Rattle.mk_reader.specs.Text.{begins_with};
-ghost use Rattle.mk_notes.specs.Names.{has, is_target, is_plain, parts_of, is_suffix_name, is_named_by};
+ghost use Rattle.mk_notes.specs.Names.{has, is_target, is_macro, is_asking, is_of_run, is_command, is_plain, parts_of, is_suffix_name, is_named_by};
 
 use byte_strings::Words;
 
@@ -23,6 +23,77 @@ pub const TARGETS: [&[u8]; 14] = [
     b".ORDER",
     b".SECONDARY",
     b".SECONDEXPANSION",
+];
+
+/// Macros by which other makes run recipes otherwise, or look for files elsewhere, and that say nothing here.
+pub const MACROS: [&[u8]; 3] = [b"SHELL", b".SHELLFLAGS", b"VPATH"];
+
+/// Macros by which a makefile tells GNU make what to do, and that say nothing here in any profile.
+pub const ASKING: [&[u8]; 2] = [b".DEFAULT_GOAL", b"MAKEFLAGS"];
+
+/// Macros that GNU make sets in each run, and that are empty here.
+pub const RUN: [&[u8]; 4] = [
+    b".DEFAULT_GOAL",
+    b"MAKECMDGOALS",
+    b"MAKEFILE_LIST",
+    b"MAKELEVEL",
+];
+
+/// Commands that GNU make has built in as macros, and the wide profile hasn't.
+pub const COMMANDS: [&[u8]; 53] = [
+    b"AS",
+    b"CHECKOUT,v",
+    b"CO",
+    b"COMPILE.C",
+    b"COMPILE.F",
+    b"COMPILE.S",
+    b"COMPILE.c",
+    b"COMPILE.cc",
+    b"COMPILE.cpp",
+    b"COMPILE.def",
+    b"COMPILE.f",
+    b"COMPILE.m",
+    b"COMPILE.mod",
+    b"COMPILE.p",
+    b"COMPILE.r",
+    b"COMPILE.s",
+    b"CPP",
+    b"CTANGLE",
+    b"CWEAVE",
+    b"F77",
+    b"FC",
+    b"GET",
+    b"LD",
+    b"LEX.l",
+    b"LEX.m",
+    b"LINK.C",
+    b"LINK.F",
+    b"LINK.S",
+    b"LINK.c",
+    b"LINK.cc",
+    b"LINK.cpp",
+    b"LINK.f",
+    b"LINK.m",
+    b"LINK.o",
+    b"LINK.p",
+    b"LINK.r",
+    b"LINK.s",
+    b"LINT",
+    b"LINT.c",
+    b"M2C",
+    b"MAKEINFO",
+    b"MAKE_COMMAND",
+    b"OBJC",
+    b"PC",
+    b"PREPROCESS.F",
+    b"PREPROCESS.S",
+    b"PREPROCESS.r",
+    b"TANGLE",
+    b"TEX",
+    b"TEXI2DVI",
+    b"WEAVE",
+    b"YACC.m",
+    b"YACC.y",
 ];
 
 /// Suffixes that other makes know before a makefile names any.
@@ -56,6 +127,34 @@ pub(crate) fn is_target(name: &[u8]) -> bool
         return false;
     }
     has(&TARGETS, name)
+}
+
+/// Whether the macro has a meaning elsewhere.
+pub(crate) fn is_macro(name: &[u8]) -> bool
+    ensures { result ≡ is_macro name.now }
+{
+    has(&MACROS, name)
+}
+
+/// Whether GNU make is told something by a definition of the macro, and this one isn't.
+pub(crate) fn is_asking(name: &[u8]) -> bool
+    ensures { result ≡ is_asking name.now }
+{
+    has(&ASKING, name)
+}
+
+/// Whether GNU make sets the macro in each run.
+pub(crate) fn is_of_run(name: &[u8]) -> bool
+    ensures { result ≡ is_of_run name.now }
+{
+    has(&RUN, name)
+}
+
+/// Whether the macro is a command that GNU make has built in.
+pub(crate) fn is_command(name: &[u8]) -> bool
+    ensures { result ≡ is_command name.now }
+{
+    has(&COMMANDS, name)
 }
 
 fn is_plain(byte: u8) -> bool

@@ -11,8 +11,12 @@ pub enum Subject {
     Automatic(u8),
     /// A suffix rule whose suffixes don't count.
     SuffixRule(ByteString),
-    /// A target that another make has a meaning for.
+    /// A target or a macro that another make has a meaning for.
     Target(ByteString),
+    /// A macro that a recipe line begins with, and the prefix that the next byte would be if the macro is empty.
+    Leading(ByteString, u8),
+    /// A macro that GNU make has a value for before a makefile is read.
+    BuiltIn(ByteString),
 }
 
 impl fmt::Display for Subject {
@@ -30,6 +34,14 @@ impl fmt::Display for Subject {
                 )
             }
             Subject::Target(name) => write!(f, "{name} means nothing here"),
+            Subject::Leading(name, prefix) => {
+                let prefix = char::from(*prefix);
+                write!(
+                    f,
+                    "{name} is defined nowhere, so that the {prefix} behind it is a prefix of the line"
+                )
+            }
+            Subject::BuiltIn(name) => write!(f, "{name} is built in with GNU make, and empty here"),
         }
     }
 }

@@ -4,7 +4,7 @@ ghost use Rattle.std.specs.List.{list_any};
 ghost use Rattle.mk_notes.specs.Notes.{is_same, noted};
 
 use crate::note::{Note, Subject};
-use byte_strings::ByteString;
+use byte_strings::{ByteString, ByteStrings};
 use std::alloc::{AllocError, Global};
 
 /// What was noted of the makefiles so far.
@@ -16,6 +16,10 @@ pub struct Notes {
     pub suffixes: Vec<u8>,
     /// What is defined of what would be empty: the bytes of automatic macros, and a blank for any name that has one.
     pub defined: Vec<u8>,
+    /// The names that are defined.
+    pub names: ByteStrings,
+    /// The first place of each macro that is empty unless one of these is its name.
+    pub leading: Vec<Note>,
 }
 
 /// Whether one note serves for both.
@@ -42,6 +46,8 @@ impl Notes {
             found: Vec::new(alloc),
             suffixes: Vec::new(alloc),
             defined: Vec::new(alloc),
+            names: ByteStrings::empty(alloc),
+            leading: Vec::new(alloc),
         }
     }
 

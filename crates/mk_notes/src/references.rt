@@ -49,7 +49,7 @@ fn word_at(bytes: &[u8]) -> Option<&[u8]>
 }
 
 /// What closes a bracket, if the byte is one.
-fn closing(byte: u8) -> Option<u8>
+pub(crate) fn closing(byte: u8) -> Option<u8>
     ensures { result ≡ closing byte }
 {
     if byte == b'(' {
@@ -86,6 +86,9 @@ fn subject_at(
 {
     if is_automatic(profile, byte) {
         return Ok(Some(Subject::Automatic(byte)));
+    }
+    if profile.is_wide() {
+        return Ok(None);
     }
     match called(byte, after) {
         Some(word) => Ok(Some(Subject::Function(ByteString::from_slice(alloc, word)?))),
@@ -140,6 +143,7 @@ impl Notes {
         while let Some((byte, after)) = rest.split_first() {
             if is_behind && *byte != b'$' {
                 self.note_reference(alloc, profile, file, line, *byte, after)?;
+                self.see_of_run(alloc, profile, file, line, rest)?;
             }
             is_behind = *byte == b'$' && !is_behind;
             rest = after;

@@ -4,15 +4,15 @@ ghost use Rattle.std.specs.List.{flat_map, list_any};
 ghost use Rattle.byte_strings.specs.Blanks.{is_blank};
 ghost use Rattle.mk_notes.specs.Notes.{all_noted};
 ghost use Rattle.mk_notes.specs.References.{listed};
-ghost use Rattle.mk_notes.specs.Statements.{recipe_texts, rule_texts, item_texts, texts_noted, is_suffix_rule, target_of, target_noted, statement_noted, statements_noted, special_suffixes, suffixes_of, statement_suffixes, automatic_in, mark_of, marks, marks_of, statement_marks, counts};
+ghost use Rattle.mk_notes.specs.Statements.{recipe_texts, rule_texts, item_texts, texts_noted, is_suffix_rule, target_of, macro_of, target_noted, statement_noted, statements_noted, special_suffixes, suffixes_of, statement_suffixes, automatic_in, mark_of, marks, marks_of, statement_marks, counts};
 
-use crate::names::{is_named_by, is_suffix_name, is_target};
+use crate::names::{is_asking, is_macro, is_named_by, is_suffix_name, is_target};
 use crate::note::{Note, Subject};
 use crate::notes::Notes;
 use crate::references::is_automatic;
 use byte_strings::{ByteString, is_blank};
 use mk_profile::Profile;
-use mk_reader::{Item, RecipeLine, Rule, Special, SpecialName, Statement};
+use mk_reader::{Definition, Item, RecipeLine, Rule, Special, SpecialName, Statement, ends_with};
 use std::alloc::{AllocError, Global};
 
 /// A rule as suffix rules are written.
@@ -33,8 +33,21 @@ fn target_of(alloc: Global, profile: Profile, rule: &Rule) -> Result<Option<Subj
     if is_target(name) {
         return Ok(Some(Subject::Target(ByteString::from_slice(alloc, name)?)));
     }
+    if !profile.is_wide() && ends_with(name, b'&') {
+        return Ok(Some(Subject::Target(ByteString::from_slice(alloc, b"&")?)));
+    }
     if !profile.is_wide() && is_suffix_rule(rule) {
         return Ok(Some(Subject::SuffixRule(ByteString::from_slice(alloc, name)?)));
+    }
+    Ok(None)
+}
+
+/// What the name of a macro that is defined is noted as.
+fn macro_of(alloc: Global, profile: Profile, name: &[u8]) -> Result<Option<Subject>, AllocError>
+    ensures { IfOk result (λ found. found ≡ macro_of profile name.now) }
+{
+    if is_asking(name) || !profile.is_wide() && is_macro(name) {
+        return Ok(Some(Subject::Target(ByteString::from_slice(alloc, name)?)));
     }
     Ok(None)
 }
@@ -75,6 +88,7 @@ impl Notes {
         ensures suffixes { self.new.suffixes ≡ self.old.suffixes }
         ensures defined { OnOk result (self.new.defined.items ≡ self.old.defined.items ++ marks profile name.now) }
     {
+        self.names.push(name)?;
         match mark_of(profile, name) {
             Some(mark) => {
                 self.defined.push(mark)?;
@@ -97,6 +111,8 @@ impl Notes {
     {
         for raw in lines {
             self.note_text(alloc, profile, file, raw.line, raw.text.as_slice())?;
+            self.see_leading(alloc, profile, file, raw.line, raw.text.as_slice())?;
+            self.see_command(alloc, profile, file, raw.line, raw.text.as_slice())?;
         }
         Ok(())
     }
@@ -141,6 +157,24 @@ impl Notes {
         }
     }
 
+    fn see_macro(
+        &mut self,
+        alloc: Global,
+        profile: Profile,
+        file: &[u8],
+        definition: &Definition,
+    ) -> Result<(), AllocError>
+        ensures found { OnOk result (self.new.found.items
+            ≡ all_noted file.now definition.now.line (listed (macro_of profile definition.now.name)) self.old.found.items) }
+        ensures suffixes { self.new.suffixes ≡ self.old.suffixes }
+        ensures defined { self.new.defined ≡ self.old.defined }
+    {
+        match macro_of(alloc, profile, definition.name.as_slice())? {
+            Some(subject) => self.note(alloc, file, definition.line, subject),
+            None => Ok(()),
+        }
+    }
+
     fn see_special(&mut self, special: &Special) -> Result<(), AllocError>
         ensures found { self.new.found ≡ self.old.found }
         ensures suffixes { OnOk result (self.new.suffixes.items
@@ -172,6 +206,7 @@ impl Notes {
         match item {
             Item::Definition(definition) => {
                 let text = definition.value.as_slice();
+                self.see_command(alloc, profile, file, definition.line, text)?;
                 self.note_text(alloc, profile, file, definition.line, text)
             }
             Item::Rule(rule) => self.see_rule(alloc, profile, file, rule),
@@ -192,7 +227,10 @@ impl Notes {
         ensures defined { OnOk result (self.new.defined.items ≡ self.old.defined.items ++ marks_of profile item.now) }
     {
         match item {
-            Item::Definition(definition) => self.define(profile, definition.name.as_slice())?,
+            Item::Definition(definition) => {
+                self.define(profile, definition.name.as_slice())?;
+                self.see_macro(alloc, profile, file, definition)?;
+            }
             Item::Rule(rule) => self.see_target(alloc, profile, file, rule)?,
             Item::Special(special) => self.see_special(special)?,
         }
@@ -214,7 +252,9 @@ impl Notes {
             Statement::Item(item) => self.see_item(alloc, profile, file, item),
             Statement::Definition(line) => {
                 self.define(profile, line.definition.name.as_slice())?;
+                self.see_macro(alloc, profile, file, &line.definition)?;
                 let text = line.definition.value.as_slice();
+                self.see_command(alloc, profile, file, line.definition.line, text)?;
                 self.note_text(alloc, profile, file, line.definition.line, text)
             }
             Statement::Include(include) => {
@@ -251,7 +291,7 @@ impl Notes {
             Subject::Function(_) => !self.defined.contains(&b' '),
             Subject::Automatic(byte) => !self.defined.contains(byte),
             Subject::SuffixRule(name) => !is_named_by(&self.suffixes, name.as_slice()),
-            Subject::Target(_) => true,
+            Subject::Target(_) | Subject::Leading(_, _) | Subject::BuiltIn(_) => true,
         }
     }
 }
