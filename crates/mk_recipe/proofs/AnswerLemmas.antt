@@ -9,16 +9,13 @@ use Rattle.mk_recipe.specs.declared.report.ReportFault.{ReportFault}
 use Rattle.mk_recipe.specs.declared.report.ReportFault.TheVariants.{OutOfMemory, NotText, TooLong, TooMany}
 use Rattle.mk_recipe.specs.Report.{has, names_on, mentioned, hidden_names, HasFault, rank, IsFirstFault, IsReportFault, AreHidden}
 use Rattle.mk_recipe.specs.Reading.{new_names, is_long, any_long, Reads, Stops}
-use Rattle.mk_recipe.proofs.ReportLemmas.{new_names-same, reads_none, reads_both, stops_behind}
+use Rattle.mk_recipe.proofs.ReportLemmas.{new_names-same, reads_both}
 
 -- ---- names and lines one after the other
 
 -- the names that were read, and those that are left
 abbrev pub ReadsSoFar : (whole left seen hidden seen' hidden' : List (List ℕ)) → Bool → Type 0
 ReadsSoFar whole left seen hidden seen' hidden' left_out = (done : List (List ℕ)) × (done ++ left ≡ whole) × Reads done seen hidden seen' hidden' left_out
-
-pub so_far_none : (whole seen hidden : List (List ℕ)) → ReadsSoFar whole whole seen hidden seen hidden false
-so_far_none whole seen hidden = ([], refl, reads_none seen hidden)
 
 pub so_far_more : (whole left names left' seen hidden seen' hidden' seen'' hidden'' : List (List ℕ)) (a b : Bool) → left ≡ names ++ left'
     → ReadsSoFar whole left seen hidden seen' hidden' a → Reads names seen' hidden' seen'' hidden'' b → ReadsSoFar whole left' seen hidden seen'' hidden'' (a || b)
@@ -31,13 +28,6 @@ so_far_more whole left names left' seen hidden seen' hidden' seen'' hidden'' a b
 pub so_far_all : (whole left seen hidden seen' hidden' : List (List ℕ)) (a : Bool) → left ≡ [] → ReadsSoFar whole left seen hidden seen' hidden' a → Reads whole seen hidden seen' hidden' a
 so_far_all whole left seen hidden seen' hidden' a l (done, all, read) =
     subst (λ (names : List (List ℕ)). Reads names seen hidden seen' hidden' a) (sym (append-nil done) ∙ ap (λ (ns : List (List ℕ)). done ++ ns) (sym l) ∙ all) read
-
--- what stops the next names stops all of them
-pub so_far_stops : (whole left names left' seen hidden seen' hidden' : List (List ℕ)) (a : Bool) (fault : ReportFault) → left ≡ names ++ left'
-    → ReadsSoFar whole left seen hidden seen' hidden' a → Stops names seen' fault → Stops whole seen fault
-so_far_stops whole left names left' seen hidden seen' hidden' a fault l (done, all, read) stop =
-    subst (λ (ns : List (List ℕ)). Stops ns seen fault) (ap (λ (ns : List (List ℕ)). done ++ ns) (sym l) ∙ all)
-    (stops_behind done names left' seen hidden seen' hidden' a fault read stop)
 
 -- the first line that is left, and those behind it
 pub mentioned-cons : (target line : List ℕ) (names : List (List ℕ)) (left after : Option (List ℕ)) (lines : Option (List ℕ)) → left ≡ lines → joined_lines lines ≡ line ∷ joined_lines after
@@ -137,6 +127,3 @@ stopped report target known seen TooLong text same h =
     least report target known text TooLong h = omega arith
     least report target known text TooMany h = omega arith
 stopped report target known seen TooMany text same h = absurd h
-
-pub wants_memory : (report target : List ℕ) (known : List (List ℕ)) (fault : ReportFault) → is_text report ≡ true → fault ≡ OutOfMemory → IsReportFault report target known fault
-wants_memory report target known fault text e = subst (IsReportFault report target known) (sym e) text

@@ -60,7 +60,3 @@ known_more first name names names' left left' whole e l h =
     ∙ or_assoc (has name names) (bytes_eq name first) (has name left')
     ∙ ap (λ ns. has name names || has name ns) (sym l)
     ∙ h
-
--- none is left
-pub known_end : (name : List ℕ) (names left whole : List (List ℕ)) → left ≡ [] → (has name names || has name left) ≡ has name whole → has name names ≡ has name whole
-known_end name names left whole none h = sym (or_false (has name names)) ∙ ap (λ ns. has name names || has name ns) (sym none) ∙ h

@@ -4,10 +4,8 @@ use Rattle.std.specs.Prelude.{bytes_eq}
 use Rattle.std.specs.List.{list_any}
 use Rattle.std.specs.Cmp.Lexicographic.{bytes_decides}
 use Rattle.st_records.specs.declared.limits.TheConstants.{MAX_HIDDEN_NAMES}
-use Rattle.mk_recipe.specs.declared.report.ReportFault.{ReportFault}
-use Rattle.mk_recipe.specs.declared.report.ReportFault.TheVariants.{OutOfMemory, NotText, TooLong, TooMany}
 use Rattle.mk_recipe.specs.Report.{has, first_mentions}
-use Rattle.mk_recipe.specs.Reading.{added, new_names, is_long, any_long, Reads, Stops}
+use Rattle.mk_recipe.specs.Reading.{new_names, is_long, any_long, Reads}
 
 clash : (b : Bool) → b ≡ true → b ≡ false → ⊥
 clash b e f = cc
@@ -103,10 +101,6 @@ pub new_names-same : (seen others : List (List ℕ)) → ((name : List ℕ) → 
 new_names-same seen others same names =
     new_names-are seen names ∙ filter-same (unseen seen) (unseen others) (λ n. ap not (same n)) (first_mentions names)
 
--- a name that was seen adds nothing, and one that wasn't is the next
-seen_adds : (seen names : List (List ℕ)) (name : List ℕ) → has name seen ≡ true → new_names seen (name ∷ names) ≡ new_names seen names
-seen_adds seen names name e = ap (λ (b : Bool). cond b (new_names seen names) (name ∷ new_names (seen ++ name ∷ []) names)) e
-
 new_adds : (seen names : List (List ℕ)) (name : List ℕ) → has name seen ≡ false → new_names seen (name ∷ names) ≡ name ∷ new_names (seen ++ name ∷ []) names
 new_adds seen names name e = ap (λ (b : Bool). cond b (new_names seen names) (name ∷ new_names (seen ++ name ∷ []) names)) e
 
@@ -132,14 +126,6 @@ true_false e = cc
 false_true : false ≡ true → ⊥
 false_true e = cc
 
-pub reads_seen : (name : List ℕ) (seen hidden : List (List ℕ)) → has name seen ≡ true → Reads (name ∷ []) seen hidden seen hidden false
-reads_seen name seen hidden e = record {
-  short = λ rest. sym (ap any_long (seen_adds seen rest name e));
-  all = λ none rest. ap (λ (l : List (List ℕ)). hidden ++ l) (sym (seen_adds seen rest name e));
-  more = λ some rest. absurd (false_true some);
-  within = λ h. h;
-}
-
 long_behind : (name : List ℕ) (b : Bool) (names : List (List ℕ)) → is_long name ≡ b → any_long (name ∷ names) ≡ (b || any_long names)
 long_behind name b names e = ap (λ (c : Bool). c || any_long names) e
 
@@ -155,40 +141,7 @@ reads_no_more name seen hidden e short full = record {
   within = λ h. h;
 }
 
-pub reads_new : (name : List ℕ) (seen hidden : List (List ℕ)) → has name seen ≡ false → is_long name ≡ false → length hidden < MAX_HIDDEN_NAMES
-    → Reads (name ∷ []) seen hidden (seen ++ name ∷ []) (hidden ++ name ∷ []) false
-reads_new name seen hidden e short room = record {
-  short = λ rest. sym (ap any_long (new_adds seen rest name e) ∙ long_behind name false (new_names (seen ++ name ∷ []) rest) short);
-  all = λ none rest. append_assoc hidden (name ∷ []) (new_names (seen ++ name ∷ []) rest)
-      ∙ ap (λ (l : List (List ℕ)). hidden ++ l) (sym (new_adds seen rest name e));
-  more = λ some rest. absurd (false_true some);
-  within = λ h. let longer = length-append hidden (name ∷ []) in omega arith;
-}
-
-pub stops_long : (name : List ℕ) (seen : List (List ℕ)) → has name seen ≡ false → is_long name ≡ true → Stops (name ∷ []) seen TooLong
-stops_long name seen e long rest = ap any_long (new_adds seen rest name e) ∙ long_behind name true (new_names (seen ++ name ∷ []) rest) long
-
--- what was pushed and what was added are the name
-pub reads_added : (name : List ℕ) (seen hidden seen' hidden' : List (List ℕ)) → has name seen ≡ false → is_long name ≡ false → length hidden < MAX_HIDDEN_NAMES
-    → hidden' ≡ hidden ++ name ∷ [] → seen' ≡ added seen name → Reads (name ∷ []) seen hidden seen' hidden' false
-reads_added name seen hidden seen' hidden' e short room pushed is_added =
-    let last : seen' ≡ seen ++ name ∷ [] = is_added ∙ ap (λ (b : Bool). cond b seen (seen ++ name ∷ [])) e in
-    subst (λ (h : List (List ℕ)). Reads (name ∷ []) seen hidden seen' h false) (sym pushed)
-    (subst (λ (s : List (List ℕ)). Reads (name ∷ []) seen hidden s (hidden ++ name ∷ []) false) (sym last) (reads_new name seen hidden e short room))
-
--- want of memory may come everywhere
-pub stops_memory : (names seen : List (List ℕ)) (fault : ReportFault) → fault ≡ OutOfMemory → Stops names seen fault
-stops_memory names seen fault e = subst (Stops names seen) (sym e) tt
-
 -- ---- one after the other
-
-pub reads_none : (seen hidden : List (List ℕ)) → Reads [] seen hidden seen hidden false
-reads_none seen hidden = record {
-  short = λ rest. refl;
-  all = λ none rest. refl;
-  more = λ some rest. absurd (false_true some);
-  within = λ h. h;
-}
 
 none_left_out : (a b : Bool) → (a || b) ≡ false → (a ≡ false) × (b ≡ false)
 none_left_out true b e = absurd (true_false e)
@@ -212,14 +165,3 @@ reads_both xs ys seen hidden seen' hidden' seen'' hidden'' a b one other = recor
       (more_by xs ys seen hidden seen' hidden' seen'' hidden'' a b one other some rest);
   within = λ h. other.within (one.within h);
 }
-
--- what stops behind names that were read stops with them, and whatever stands behind it
-pub stops_behind : (xs ys zs seen hidden seen' hidden' : List (List ℕ)) (a : Bool) (fault : ReportFault) → Reads xs seen hidden seen' hidden' a → Stops ys seen' fault → Stops (xs ++ (ys ++ zs)) seen fault
-stops_behind xs ys zs seen hidden seen' hidden' a OutOfMemory one stop = tt
-stops_behind xs ys zs seen hidden seen' hidden' a NotText one stop = stop
-stops_behind xs ys zs seen hidden seen' hidden' a TooLong one stop = λ rest.
-    ap (λ (l : List (List ℕ)). any_long (new_names seen l)) (append_assoc xs (ys ++ zs) rest)
-    ∙ sym (one.short ((ys ++ zs) ++ rest))
-    ∙ ap (λ (l : List (List ℕ)). any_long (new_names seen' l)) (append_assoc ys zs rest)
-    ∙ stop (zs ++ rest)
-stops_behind xs ys zs seen hidden seen' hidden' a TooMany one stop = stop
