@@ -37,9 +37,9 @@ fn written_by(rt: &HostRuntime, command: &mut Command) -> Result<Written, ExecFa
     }
 }
 
-/// Runs lines in a dry run, and commands of definitions, each as `/bin/sh -c TEXT`, with empty standard input, in dmk's own environment and these variables.
-/// They write where dmk does. What it runs is no recipe: it takes no clearance, so it has none to give, and a recipe is never run by
-/// it. Nothing is claimed of the shell.
+/// Runs lines in a dry run, each as `/bin/sh -c TEXT`, and commands of definitions by a shell of any name, with empty standard input, in
+/// dmk's own environment and these variables. They write where dmk does. What it runs is no recipe: it takes no clearance, so it has
+/// none to give, and a recipe is never run by it. Nothing is claimed of the shell.
 #[derive(Drop)]
 pub struct DryShell<'a> {
     rt: HostRuntime,
@@ -52,8 +52,8 @@ impl<'a> DryShell<'a> {
         DryShell { rt, alloc, env }
     }
 
-    fn command(&self, text: &[u8]) -> Result<Command, ExecFault> {
-        match shell_command(self.alloc, text, self.env) {
+    fn command(&self, shell: &[u8], text: &[u8]) -> Result<Command, ExecFault> {
+        match shell_command(self.alloc, shell, text, self.env) {
             Ok(mut command) => {
                 command.stdin(Stdio::null());
                 Ok(command)
@@ -66,15 +66,15 @@ impl<'a> DryShell<'a> {
     pub fn run(&self, text: &[u8]) -> Result<u32, ExecFault>
         ensures { IfOk result (λ status. status ≤ 256) }
     {
-        let mut command = self.command(text)?;
+        let mut command = self.command(b"", text)?;
         let status = end_of(&self.rt, &mut command);
         drop(command);
         status
     }
 
-    /// Runs a text to its end, and answers what it writes on standard output, and its status.
-    pub fn output(&self, text: &[u8]) -> Result<Written, ExecFault> {
-        let mut command = self.command(text)?;
+    /// Runs a text to its end by the shell of this name, and answers what it writes on standard output, and its status.
+    pub fn output(&self, shell: &[u8], text: &[u8]) -> Result<Written, ExecFault> {
+        let mut command = self.command(shell, text)?;
         command.stderr(Stdio::inherit());
         let written = written_by(&self.rt, &mut command);
         drop(command);

@@ -13,5 +13,5 @@ mod surroundings;
 pub use dry_shell::{DryShell, Written};
 pub use host_place::{HostPlace, folder_of};
 pub use laws::served_by_later_syncs;
-pub use shell::{HOLDS, HeldLock, Shell};
+pub use shell::{BeforeLines, HOLDS, HeldLock, Shell};
 pub use stops::Stops;

@@ -1,11 +1,13 @@
 //! Recipe lines run by the shell.
 ghost use Rattle.std.specs.Prelude.{◌≡◌, ◌≤◌, ℕ, [], ◌∷◌, ◌++◌, None, Some, pos, IfOk, OnOk, codes};
 ghost use Rattle.std.specs.Process.{command_program, command_args, exit_code};
+ghost use Rattle.byte_strings.specs.Blanks.{words};
+ghost use Rattle.jb_host.specs.Shell.{started};
 
 use crate::stops::Stops;
 use crate::surroundings::Surroundings;
 use bd_lists::{Clearance, Ended, Exec, ExecFault, Variable};
-use byte_strings::ByteString;
+use byte_strings::{ByteString, next_word};
 use jb_recipe::{Signal, Stopped};
 use mk_recipe::Line;
 use std::alloc::{AllocError, Global};
@@ -32,14 +34,36 @@ impl Drop for HeldLock {
 /// The variable that tells recipes which locks the runs above them hold.
 pub const HOLDS: &str = "DMK_HOLDS";
 
-/// Runs each line as `/bin/sh -c TEXT`, with empty standard input, in dmk's own environment and the recipe's variables. What
-/// it writes is collected. Nothing is claimed of the shell.
+/// What is set before the first line is run.
+pub struct BeforeLines {
+    /// The lock that the run holds, if it holds one.
+    pub held: OnceLock<HeldLock>,
+    /// The shell that the makefile names, in the wide profile.
+    pub shell: OnceLock<ByteString>,
+}
+
+impl Drop for BeforeLines {
+    fn drop(self) {
+        let BeforeLines { held: _, shell: _ } = self;
+    }
+}
+
+impl BeforeLines {
+    pub fn new() -> BeforeLines {
+        BeforeLines {
+            held: OnceLock::new(),
+            shell: OnceLock::new(),
+        }
+    }
+}
+
+/// Runs each line as `/bin/sh -c TEXT`, or by the shell that the makefile names, with empty standard input, in dmk's own
+/// environment and the recipe's variables. What it writes is collected. Nothing is claimed of the shell.
 #[derive(Drop)]
 pub struct Shell<'a, R: Wait> {
     rt: HostRuntime,
     alloc: Global,
-    /// Set, where the run holds a lock, before the first line is run.
-    held: &'a OnceLock<HeldLock>,
+    before: &'a BeforeLines,
     /// Read when the first line is run; None where lines inherit dmk's own environment as it is.
     surroundings: OnceLock<Option<Surroundings>>,
     stops: &'a Stops<'a, R>,
@@ -106,8 +130,8 @@ pub(crate) fn set_text(command: &mut Command, text: &str) -> Result<(), AllocErr
     Ok(())
 }
 
-// The shell that runs a text in dmk's own environment.
-fn shell_of(alloc: Global, text: &[u8]) -> Result<Command, NoCommand>
+// The usual shell that runs a text in dmk's own environment.
+fn usual_shell(alloc: Global, text: &[u8]) -> Result<Command, NoCommand>
     ensures program { IfOk result (λ command. command_program command ≡ codes "/bin/sh") }
     ensures args { IfOk result (λ command. command_args command ≡ codes "-c" ∷ text.now ∷ []) }
 {
@@ -117,13 +141,55 @@ fn shell_of(alloc: Global, text: &[u8]) -> Result<Command, NoCommand>
     Ok(command)
 }
 
-/// The shell that runs a text, with these variables beside those of dmk's own environment.
+// Adds the words of a text to the arguments.
+fn add_words(command: &mut Command, text: &[u8]) -> Result<(), NoCommand>
+    ensures program { OnOk result (command_program command.new ≡ command_program command.old) }
+    ensures args { OnOk result (command_args command.new ≡ command_args command.old ++ words text.now) }
+{
+    let mut rest = text;
+    while let Some((word, behind)) = next_word(rest) {
+        command.arg(text_of(word)?)?;
+        rest = behind;
+    }
+    Ok(())
+}
+
+// Has the shell run this text, with the words of another text before that.
+fn set_words(command: &mut Command, before: &[u8], text: &str) -> Result<(), NoCommand>
+    ensures program { OnOk result (command_program command.new ≡ command_program command.old) }
+    ensures args { OnOk result (command_args command.new ≡ ((command_args command.old ++ words before.now) ++ codes "-c" ∷ []) ++ text.now ∷ []) }
+{
+    add_words(command, before)?;
+    set_text(command, text)?;
+    Ok(())
+}
+
+// The shell of this name, which runs a text in dmk's own environment.
+fn shell_of(alloc: Global, shell: &[u8], text: &[u8]) -> Result<Command, NoCommand>
+    ensures { IfOk result (λ command. command_program command ∷ command_args command ≡ started shell.now text.now) }
+{
+    let Some((program, arguments)) = next_word(shell) else {
+        return usual_shell(alloc, text);
+    };
+    let text = text_of(text)?;
+    let mut command = Command::new(alloc, text_of(program)?)?;
+    match set_words(&mut command, arguments, text) {
+        Ok(()) => Ok(command),
+        Err(fault) => {
+            drop(command);
+            Err(fault)
+        }
+    }
+}
+
+/// The shell of this name that runs a text, with these variables beside those of dmk's own environment.
 pub(crate) fn shell_command(
     alloc: Global,
+    shell: &[u8],
     text: &[u8],
     env: &[Variable],
 ) -> Result<Command, NoCommand> {
-    let mut command = shell_of(alloc, text)?;
+    let mut command = shell_of(alloc, shell, text)?;
     match set_variables(&mut command, env) {
         Ok(()) => Ok(command),
         Err(fault) => {
@@ -137,13 +203,13 @@ impl<'a, R: Wait> Shell<'a, R> {
     pub fn new(
         rt: HostRuntime,
         alloc: Global,
-        held: &'a OnceLock<HeldLock>,
+        before: &'a BeforeLines,
         stops: &'a Stops<'a, R>,
     ) -> Shell<'a, R> {
         Shell {
             rt,
             alloc,
-            held,
+            before,
             surroundings: OnceLock::new(),
             stops,
         }
@@ -158,7 +224,11 @@ impl<'a, R: Wait> Shell<'a, R> {
     }
 
     fn command(&self, line: &Line, env: &[Variable]) -> Result<Command, NoCommand> {
-        let mut command = shell_of(self.alloc, line.text.as_slice())?;
+        let shell = match self.before.shell.get() {
+            Some(shell) => shell.as_slice(),
+            None => b"".as_slice(),
+        };
+        let mut command = shell_of(self.alloc, shell, line.text.as_slice())?;
         match self.set_environment(&mut command, env) {
             Ok(()) => Ok(command),
             Err(fault) => {
@@ -178,7 +248,7 @@ impl<'a, R: Wait> Shell<'a, R> {
 
     // A line that goes on behind a killed run keeps the lock by its standard input, so that the next run waits for it.
     fn hand_on(&self, command: &mut Command) -> Result<(), NoCommand> {
-        match self.held.get() {
+        match self.before.held.get() {
             Some(held) => {
                 command.stdin(Stdio::from(held.file.try_clone()?));
                 command.env(HOLDS, held.names.as_str())?;
