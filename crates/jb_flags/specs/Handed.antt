@@ -32,9 +32,14 @@ behind_options (b ∷ words) = codes " --" ++ b ∷ words
 abbrev pub definition_words : List Variable → List ℕ
 definition_words variables = behind_options (flat_map definition_word (filter is_passed_on variables))
 
--- the words of job slots: those that the recipe is given, or those that came where it is given none of its own
+-- the words of job slots of a recipe whose MAKEFLAGS is taken out, or is this value
+abbrev pub own_slot_words : Handed → (value : List ℕ) → List ℕ
+own_slot_words handed [] = handed.alone.items
+own_slot_words handed (b ∷ value) = b ∷ value
+
+-- the words of job slots: the recipe's own, or those of the make above where it has MAKEFLAGS as it came
 abbrev pub slot_words : Handed → List Variable → List ℕ
-slot_words handed env = option_map_or (λ v. v.value) (find is_makeflags env) handed.slots.items
+slot_words handed env = option_map_or (λ v. own_slot_words handed v.value) (find is_makeflags env) handed.slots.items
 
 abbrev pub makeflags : Handed → List Variable → List ℕ
 makeflags handed env = handed.options.items ++ slot_words handed env ++ handed.definitions.items

@@ -1,2 +1,4 @@
 pub mod Handed
+pub mod Jobs
 pub mod Words
+pub mod Workers

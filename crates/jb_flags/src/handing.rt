@@ -20,8 +20,10 @@ const MAKEFLAGS: &[u8] = b"MAKEFLAGS";
 pub struct Handed {
     /// The options as one word, or nothing.
     pub options: Vec<u8>,
-    /// The words of job slots as they came.
+    /// The words of job slots where a recipe shares those of a make above.
     pub slots: Vec<u8>,
+    /// Those where a recipe shares none.
+    pub alone: Vec<u8>,
     /// The definitions, behind `--`.
     pub definitions: Vec<u8>,
 }
@@ -100,6 +102,7 @@ impl Handed {
         ensures { result.now ≡ slot_words self.now env.now }
     {
         match makeflags_in(env) {
+            Some(variable) if variable.value.as_slice().is_empty() => self.alone.as_slice(),
             Some(variable) => variable.value.as_slice(),
             None => self.slots.as_slice(),
         }
