@@ -1,1 +1,3 @@
+pub mod BoardLemmas
+pub mod OrderLemmas
 pub mod RunningLemmas

@@ -1,2 +1,3 @@
+pub mod InOrder
 pub mod Making
 pub mod Serving

@@ -1,14 +1,16 @@
 //! The board of a graph: it has copies of the graph's tables, and the edges that count.
 
-ghost use Rattle.std.specs.Prelude.{◌≡◌, ℕ, List, IfOk};
+ghost use Rattle.std.specs.Prelude.{◌≡◌, ℕ, false, List, IfOk};
 ghost use Rattle.bd_ledger.specs.Sheet.{first_sheet};
-ghost use Rattle.mk_graph.specs.Counted.{AreSets};
+ghost use Rattle.mk_graph.specs.Counted.{AreSets, joined};
 ghost use Rattle.mk_rules.specs.Graph.{required_in, counting_in};
+ghost use Rattle.jb_runner.specs.InOrder.{HasAlso};
 
+use crate::in_order::edges_in_order;
 use bd_flusher::Receipt;
 use bd_lists::Board;
 use byte_strings::ByteString;
-use mk_graph::Names;
+use mk_graph::{Names, counted_edges};
 use mk_rules::Graph;
 use std::alloc::{AllocError, Global};
 
@@ -33,4 +35,38 @@ pub fn board_of(alloc: Global, graph: &Graph) -> Result<Board<Receipt>, AllocErr
     let hard = graph.required_edges().copy(alloc)?;
     let names = copy_names(alloc, &graph.names)?;
     Board::of(alloc, counted, hard, names)
+}
+
+/// The board of a graph's nodes where one recipe is run at a time: beside what it waits for by the graph, each node waits for the one
+/// before it, depth first. So nodes become ready one by one, in the order in which the makefile names them.
+fn board_in_order(alloc: Global, graph: &Graph) -> Result<Board<Receipt>, AllocError>
+    ensures { IfOk result (λ b. (more counted : List (List ℕ)) × (graph.now.soft_dropped ≡ false → HasAlso graph.now.soft more)
+        × AreSets (joined (required_in graph.now) more) counted
+        × (b ≡ first_sheet (record { counted = counted; hard = required_in graph.now }) graph.now.names)) }
+{
+    let required = graph.required_edges();
+    let more = edges_in_order(
+        alloc,
+        required,
+        &graph.soft,
+        graph.soft_dropped,
+        &graph.goals,
+    )?;
+    let counted = counted_edges(alloc, required, &more, false)?;
+    drop(more);
+    let hard = required.copy(alloc)?;
+    let names = copy_names(alloc, &graph.names)?;
+    Board::of(alloc, counted, hard, names)
+}
+
+/// The board of a run of so many workers: in the wide profile one worker makes nodes in order.
+pub(crate) fn board_for(
+    alloc: Global,
+    graph: &Graph,
+    workers: usize,
+) -> Result<Board<Receipt>, AllocError> {
+    if workers == 1 && graph.macros.profile().is_wide() {
+        return board_in_order(alloc, graph);
+    }
+    board_of(alloc, graph)
 }

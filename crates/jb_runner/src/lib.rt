@@ -8,6 +8,7 @@ mod boards;
 mod desk;
 mod ending;
 mod gate;
+mod in_order;
 mod making;
 mod pending;
 mod pool;

@@ -11,9 +11,10 @@ ghost use Rattle.jb_closing.specs.Agreement.{AreThoseOf};
 ghost use Rattle.jb_closing.specs.Closing.{AreTrueOf};
 ghost use Rattle.jb_closing.specs.Report.{ends_well, ComesTo};
 
+use crate::boards::board_for;
 use crate::gate::{Gate, staying};
 use crate::shift::let_go;
-use crate::{Shift, Shop, board_of, work};
+use crate::{Shift, Shop, work};
 use bd_flusher::{Flusher, Receipt, Site};
 use bd_links::Node;
 use bd_lists::{Board, Exec};
@@ -261,7 +262,7 @@ where
         × AreTrueOf result.1.site.told receipts (D.honest × (result.1.site.dead ≡ false)) (now (D.moments result.1.site.disk))
         graph.now.names r.ends.items) }
 {
-    let Ok(board) = board_of(alloc, graph) else {
+    let Ok(board) = board_for(alloc, graph, banks.len()) else {
         drop(banks);
         return (Err(RunFault::OutOfMemory), Closed::new(site));
     };

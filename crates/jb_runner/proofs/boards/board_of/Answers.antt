@@ -5,6 +5,7 @@ use Rattle.bd_ledger.specs.Sheet.{AreDistinct, first_sheet}
 use Rattle.bd_lists.proofs.OnceLemmas.{times_once}
 use Rattle.mk_rules.specs.Graph.{required_in, counting_in}
 use Rattle.mk_graph.proofs.CountedLemmas.{length-counting}
+use Rattle.jb_runner.proofs.BoardLemmas.{same_board}
 use Rattle.jb_runner.proofs.boards.board_of.Goals as goal
 
 pub of-requires-clause-nodes : goal.of-requires-clause-nodes
@@ -32,13 +33,6 @@ of-requires-clause-distinct c = subst AreDistinct (sym c.in_ok-names.ensures) c.
 
 pub of-requires-clause-once : goal.of-requires-clause-once
 of-requires-clause-once c = λ u n. times_once _ (c.in_ok-counted.ensures.ascending u) n
-
--- a board of rows that are equal
-same_board : (counted hard required : List (List ℕ)) (copied names : List (List ℕ)) → hard ≡ required → copied ≡ names →
-    first_sheet (record { counted = counted; hard = hard }) copied ≡ first_sheet (record { counted = counted; hard = required }) names
-same_board counted hard required copied names of_hard of_names =
-    ap (λ h. first_sheet (record { counted = counted; hard = h }) copied) of_hard
-    ∙ ap (λ ns. first_sheet (record { counted = counted; hard = required }) ns) of_names
 
 pub returns : goal.returns
 returns c =
