@@ -1,15 +1,13 @@
 -- The fault of a stage as one of the run.
-use Rattle.std.proofs.Common.{◌≡◌, ◌∙◌, ℕ, List, Option, None, Some, refl, sym, subst, Result, Ok, Err, IfErr, IsErrAnd, IsErrOf, ◌⊎◌, inl, inr, IfSome}
+use Rattle.std.proofs.Common.{◌≡◌, ◌∙◌, ℕ, List, sym, subst, Result, Ok, Err, IfErr, IsErrAnd, IsErrOf, ◌⊎◌, inl, inr}
 use Rattle.mk_reader.specs.declared.item.Item.{Item}
 use Rattle.st_disk.specs.declared.which.Which.{Which}
 use Rattle.st_disk.specs.declared.which.Which.TheVariants as sides
-use Rattle.st_file.specs.Side.{IsOfSide}
 use Rattle.st_file.specs.declared.fault.OpenFault.{OpenFault}
 use Rattle.st_file.specs.declared.fault.OpenFault.TheVariants as open_fault
 use Rattle.st_state.specs.State.{StateMap}
 use Rattle.st_recovery.specs.Recovers.{RefusesWith}
 use Rattle.dmk_drive.specs.Faults.{IsOpenFault, IsRunFault}
-use Rattle.dmk_drive.specs.Messages.{fault_text}
 use Rattle.dmk_drive.specs.declared.fault.Fault.{Fault}
 use Rattle.dmk_drive.specs.declared.fault.Fault.TheVariants.{OutOfMemory, NoMakefile, Read, State, Rules, Recipe, Write}
 
@@ -62,16 +60,3 @@ pub pair_refused : (seen : Which → List ℕ) (found : Result StateMap OpenFaul
     IfErr found (IsOpenFault seen)
 pair_refused seen (Ok m) is = tt
 pair_refused seen (Err f) is = open_fault_of seen f is
-
--- of the text of a fault of one side nothing is said here
-side_text : (f : OpenFault) (side : Which) → IsOfSide side f → fault_text (State f) ≡ None
-side_text (open_fault.NotState s) side is = refl
-side_text (open_fault.UnknownVersion s version) side is = refl
-side_text (open_fault.Damaged s place) side is = refl
-side_text open_fault.Device side is = refl
-side_text open_fault.OutOfMemory side is = absurd is
-side_text open_fault.SameGeneration side is = refl
-
-pub named_text : (f : OpenFault) (named : Option Which) → IfSome named (λ side. IsOfSide side f) → IfSome named (λ _. fault_text (State f) ≡ None)
-named_text f None is = tt
-named_text f (Some side) is = side_text f side is

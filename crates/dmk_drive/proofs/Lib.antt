@@ -13,6 +13,7 @@ pub mod AlwaysLemmas
 pub mod DefinitionLemmas
 pub mod BaseLemmas
 pub mod OnePlanLemmas
+pub mod OwnLemmas
 pub mod StampLemmas
 pub mod KnownLemmas
 pub mod ListedLemmas

@@ -1,6 +1,5 @@
 -- Names that were listed before they are found.
 use Rattle.std.proofs.Common.{◌≡◌, ℕ, ◌<◌, ◌≤◌, Bool, true, false, ◌||◌, cond, List, [], ◌∷◌, ◌++◌, length, length-append, None, inl, inr, ◌⊎◌, refl, sym, ap, subst, ◌∙◌, arith}
-use Rattle.std.proofs.Math.Seq.{get_or-append_seam}
 use Rattle.std.specs.Prelude.{Result, Ok, Err, OnErr}
 use Rattle.std.specs.Str.{bytes_eq}
 use Rattle.mk_graph.specs.Numbering.{name_at, has_name, added, all_added}
@@ -75,13 +74,6 @@ told_new names told x name as_many = told_longer (names ++ x ∷ []) told name �
 
 pub as_many_new : (names : List (List ℕ)) (told : List Told) (x : List ℕ) (one : Told) → length told ≡ length names → length (told ++ one ∷ []) ≡ length (names ++ x ∷ [])
 as_many_new names told x one as_many = let a = length-append told (one ∷ []) in let b = length-append names (x ∷ []) in omega arith
-
--- its number is how many were told of
-pub number_new : (names : List (List ℕ)) (told : List Told) (x : List ℕ) → length told ≡ length names →
-    (length told < length (names ++ x ∷ [])) × (name_at (names ++ x ∷ []) (length told) ≡ x)
-number_new names told x as_many =
-    let b = length-append names (x ∷ []) in
-    (omega arith, ap (name_at (names ++ x ∷ [])) as_many ∙ get_or-append_seam names x [] [])
 
 -- ---- what is known
 

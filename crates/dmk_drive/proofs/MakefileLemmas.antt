@@ -12,7 +12,7 @@ use Rattle.mk_eval.proofs.OrderLemmas.{order_one}
 use Rattle.mk_eval.proofs.OutcomeLemmas.{text_one}
 use Rattle.std.proofs.lemmas.Option.{same_Some}
 use Rattle.dmk_drive.specs.Makefile.{IsUsualMakefile, NamedItems, AllItems, first_name, second_name}
-use Rattle.dmk_drive.specs.BuiltIn.{reads_rules, rules_name, rules_text, AreRules}
+use Rattle.dmk_drive.specs.BuiltIn.{TellsOwn, standing, reads_rules, rules_name, rules_text, AreRules}
 use Rattle.dmk_drive.specs.Planned.{AreItems, AreOwnItems, WithRules}
 use Rattle.dmk_drive.specs.Faults.{IsFaultAmong, IsFaultOfOne, IsFaultOfRules, IsOwnFault, IsReadFault, IsRulesFault, IsTextFault}
 use Rattle.dmk_drive.specs.declared.fault.Fault.{Fault}
@@ -20,6 +20,7 @@ use Rattle.dmk_drive.specs.declared.fault.Fault.TheVariants as fault
 use Rattle.dmk_drive.specs.declared.fault.Fault.TheVariants.{Read}
 use Rattle.dmk_drive.specs.declared.makefile.Makefile.{Makefile}
 use Rattle.dmk_drive.specs.declared.makefiles.Makefiles.{Makefiles}
+use Rattle.dmk_drive.proofs.OwnLemmas.{tells_once}
 
 -- a time that isn't there, and one that is
 pub none_is : {A : Type 0} (o : Option A) (none : Bool) → is_some o ≡ not none → IsTrue none → o ≡ None
@@ -203,6 +204,12 @@ own_once world times (name ∷ names) given a b of_a of_b =
     same_items a b (Ok a) (Ok b) refl refl
     (order_one behind (NamedItems world) (named_once world) given (name ∷ names) (Ok a) (Ok b) of_a of_b)
 
+-- the tool's rules give one outcome
+rules_one : (world : World) (given : Defined) (own : List Item) (a b : Outcome) → AreRules world given own a → AreRules world given own b → a ≡ b
+rules_one world given own a b (own_a, tells_a, text_a) (own_b, tells_b, text_b) =
+    let same : own_a ≡ own_b = tells_once given own own_a own_b tells_a tells_b in
+    text_one world depth given rules_name (rules_text (standing own_b)) a b (subst (λ f. TextItems world depth given rules_name (rules_text (standing f)) a) same text_a) text_b
+
 -- what stands behind the tool's rules is one list too
 behind_once : (world : World) (Own : List Item → Type 0) (given : Defined) → ((a b : List Item) → Own a → Own b → a ≡ b) →
     (reads : Bool) (a b : List Item) → WithRules reads world Own given a → WithRules reads world Own given b → a ≡ b
@@ -210,8 +217,7 @@ behind_once world Own given one false a b of_a of_b = one a b of_a of_b
 behind_once world Own given one true a b of_a of_b =
     let own = one of_a.own of_b.own of_a.are_own of_b.are_own in
     let rules = same_items of_a.rules of_b.rules (Ok of_a.rules) (Ok of_b.rules) refl refl
-    (text_one world depth given rules_name (rules_text of_b.own) (Ok of_a.rules) (Ok of_b.rules)
-    (subst (λ items. AreRules world given items (Ok of_a.rules)) own of_a.are_rules) of_b.are_rules) in
+    (rules_one world given of_b.own (Ok of_a.rules) (Ok of_b.rules) (subst (λ items. AreRules world given items (Ok of_a.rules)) own of_a.are_rules) of_b.are_rules) in
     of_a.whole ∙ ap (λ front. front ++ of_a.own) rules ∙ ap (λ items. of_b.rules ++ items) own ∙ sym of_b.whole
 
 pub items_once : (world : World) (times : List ℕ → Option ℤ) (makefiles : Makefiles) (given : Defined) (a b : List Item) →
@@ -221,11 +227,18 @@ items_once world times makefiles given =
 
 -- ---- all that is read
 
+-- what the rules that stand give is what the tool's rules do
+pub rules_given : (world : World) (given : Defined) (items : List Item) (left : List (List ℕ × List ℕ)) (own : (name : List ℕ) → Bool) → TellsOwn given items own →
+    left ≡ standing own → (outcome : Outcome) → TextItems world depth given rules_name (rules_text left) outcome → AreRules world given items outcome
+rules_given world given items left own tells is outcome read =
+    (own, tells, subst (λ rules. TextItems world depth given rules_name (rules_text rules) outcome) is read)
+
 -- the fault of the tool's rules
-pub rules_refused : (world : World) (given : Defined) (own : List Item) (fault : ReadFault) →
-    GivesItems (Err fault) (AreRules world given own) → IsFaultOfRules world given own (Read fault)
-rules_refused world given own OutOfMemory gives = tt
-rules_refused world given own (Refused refusal) gives = gives
+pub rules_refused : (world : World) (given : Defined) (items : List Item) (left : List (List ℕ × List ℕ)) (own : (name : List ℕ) → Bool) → TellsOwn given items own →
+    left ≡ standing own → (fault : ReadFault) → GivesItems (Err fault) (TextItems world depth given rules_name (rules_text left)) →
+    IsFaultOfRules world given items (Read fault)
+rules_refused world given items left own tells is OutOfMemory read = tt
+rules_refused world given items left own tells is (Refused refusal) read = rules_given world given items left own tells is (Err refusal) read
 
 module _ (world : World) (times : List ℕ → Option ℤ) (makefiles : Makefiles) (given : Defined) (own : List Item) where
   abbrev Own : List Item → Type 0

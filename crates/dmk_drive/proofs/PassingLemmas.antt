@@ -39,9 +39,6 @@ abbrev pub ListedSoFar : (keeping : Bool) (graph : Graph) (marks : List Bool) (i
 ListedSoFar keeping graph marks i listed =
     (rest : List Passage) → Lists keeping graph marks (drop i graph.order.items) rest → IsListing keeping graph (listed ++ rest)
 
-pub listed_start : (keeping : Bool) (graph : Graph) → ListedSoFar keeping graph (no_marks graph) 0 []
-listed_start keeping graph = λ rest lists. lists
-
 pub listed_more : (keeping : Bool) (graph : Graph) (marks : List Bool) (i n : ℕ) (remade : Bool) (front listed : List Passage) →
     drop i graph.order.items ≡ n ∷ drop (i + 1) graph.order.items → Passes keeping graph marks n remade front →
     ListedSoFar keeping graph marks i listed → ListedSoFar keeping graph (set marks n remade) (i + 1) (listed ++ front)
@@ -54,9 +51,6 @@ listed_more keeping graph marks i n remade front listed next passes before = λ 
 abbrev pub NoFaultSoFar : (keeping : Bool) (graph : Graph) (marks : List Bool) (i : ℕ) → Type 0
 NoFaultSoFar keeping graph marks i =
     (f : RecipeFault) → ListsFault keeping graph marks (drop i graph.order.items) f → ListsFault keeping graph (no_marks graph) graph.order.items f
-
-pub no_fault_start : (keeping : Bool) (graph : Graph) → NoFaultSoFar keeping graph (no_marks graph) 0
-no_fault_start keeping graph = λ f meets. meets
 
 pub no_fault_more : (keeping : Bool) (graph : Graph) (marks : List Bool) (i n : ℕ) (remade : Bool) (front : List Passage) →
     drop i graph.order.items ≡ n ∷ drop (i + 1) graph.order.items → Passes keeping graph marks n remade front →

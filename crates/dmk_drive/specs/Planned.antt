@@ -67,13 +67,15 @@ abbrev pub AreItems : (world : World) (times : List ℕ → Option ℤ) → Make
 AreItems world times makefiles given =
     WithRules (reads_rules makefiles given.language) world (AreOwnItems world times makefiles.named given) given
 
--- the graph of these items for the targets that are named, with this state, in the language of the profile
+-- the graph of these items for the targets that are named, with this state, in the language of the profile. Each name in it is there, or
+-- something makes it
 pub record IsGraphOf (profile : Profile) (definitions environment : List Variable) (targets : List (List ℕ)) (times : List ℕ → Option ℤ)
     (items : List Item) (state : StateMap) (graph : Graph) : Type 0 where
   pub inputs : Inputs
   pub are_inputs : AreInputs (first_defined profile definitions environment) items times (map.get state) inputs
   pub is_graph : IsGraph inputs targets graph
   pub macros : defined_by graph.macros ≡ behind_items (first_defined profile definitions environment) items
+  pub all_made : graph.unmade.items ≡ []
 
 -- the graph by which targets are judged: where all are to be made, nothing is recorded of any of them
 abbrev pub judged_graph : (all : Bool) → Graph → Graph

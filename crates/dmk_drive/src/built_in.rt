@@ -1,14 +1,11 @@
 //! The rules that are built in.
 ghost use Rattle.std.specs.Prelude.{◌≡◌, ◌++◌, flat_map, IfOk, OnOk};
-ghost use Rattle.dmk_drive.specs.BuiltIn.{spells, has_own, rule_text, rules_text, reads_rules, AreRules};
+ghost use Rattle.dmk_drive.specs.BuiltIn.{texts, rule_lines, rules_text, rules_name, reads_rules};
 ghost use Rattle.mk_macros.specs.Ranks.{defined_by};
 ghost use Rattle.mk_eval.specs.Output.{World};
-ghost use Rattle.mk_eval.specs.Makefile.{GivesItems};
-ghost use Rattle.mk_rule_lines.specs.Rules.{has};
-ghost use Rattle.byte_strings.specs.Blanks.{words};
+ghost use Rattle.mk_eval.specs.Makefile.{GivesItems, TextItems, depth};
 
 use crate::makefiles::Makefiles;
-use byte_strings::Words;
 use mk_eval::{Includes, read_makefile};
 use mk_macros::Macros;
 use mk_profile::Profile;
@@ -69,88 +66,47 @@ pub fn reads_rules(makefiles: &Makefiles, profile: Profile) -> bool
     profile.is_wide() && !makefiles.without_rules
 }
 
-/// Whether a text has the word.
-fn has_word(name: &[u8], text: &[u8]) -> bool
-    ensures { result ≡ has name.now (words text.now) }
+/// Appends a rule's lines.
+fn append_rule(text: &mut Vec<u8>, name: &[u8], recipe: &[u8]) -> Result<(), AllocError>
+    ensures { OnOk result (text.new.items ≡ text.old.items ++ rule_lines name.now recipe.now) }
 {
-    for word in Words::new(text) {
-        if name == word {
-            return true;
-        }
-    }
-    false
-}
-
-/// Whether the item is a rule line that spells the name among its targets.
-fn spells(name: &[u8], item: &Item) -> bool
-    ensures { result ≡ spells name.now item.now }
-{
-    match item {
-        Item::Rule(rule) => has_word(name, rule.targets.as_slice()),
-        Item::Definition(_) | Item::Special(_) => false,
-    }
-}
-
-/// Whether the makefile has a rule of its own for the name.
-fn has_own(own: &[Item], name: &[u8]) -> bool
-    ensures { result ≡ has_own own.now name.now }
-{
-    own.iter().any(|item| spells(name, item))
-}
-
-/// Appends a rule's lines, where the makefile has no rule of its own for the name.
-fn append_rule(
-    text: &mut Vec<u8>,
-    own: &[Item],
-    name: &[u8],
-    recipe: &[u8],
-) -> Result<(), AllocError>
-    ensures { OnOk result (text.new.items ≡ text.old.items ++ rule_text own.now name.now recipe.now) }
-{
-    if has_own(own, name) {
-        return Ok(());
-    }
     text.extend_from_slice(name)?;
     text.push(b':')?;
     text.push(b'\n')?;
     text.extend_from_slice(recipe)
 }
 
-/// Appends the lines of these rules, where the makefile has none of its own for their names.
-fn append_rules(
-    text: &mut Vec<u8>,
-    own: &[Item],
-    rules: &[(&[u8], &[u8])],
-) -> Result<(), AllocError>
-    ensures { OnOk result (text.new.items ≡ text.old.items ++ flat_map (λ rule. rule_text own.now rule.0.now rule.1.now) rules.now) }
+/// Appends the lines of these rules.
+fn append_rules(text: &mut Vec<u8>, rules: &[(&[u8], &[u8])]) -> Result<(), AllocError>
+    ensures { OnOk result (text.new.items ≡ text.old.items ++ flat_map (λ rule. rule_lines rule.0 rule.1) (texts rules.now)) }
 {
     for rule in rules {
-        append_rule(text, own, rule.0, rule.1)?;
+        append_rule(text, rule.0, rule.1)?;
     }
     Ok(())
 }
 
-/// What is read in front of these items.
-fn rules_text(alloc: Global, own: &[Item]) -> Result<Vec<u8>, AllocError>
-    ensures { IfOk result (λ text. text.items ≡ rules_text own.now) }
+/// What is read in front of a makefile: the suffixes, and these rules.
+fn rules_text(alloc: Global, rules: &[(&[u8], &[u8])]) -> Result<Vec<u8>, AllocError>
+    ensures { IfOk result (λ text. text.items ≡ rules_text (texts rules.now)) }
 {
     let mut text = Vec::new(alloc);
     text.extend_from_slice(SUFFIXES)?;
-    append_rules(&mut text, own, &RULES)?;
+    append_rules(&mut text, rules)?;
     Ok(text)
 }
 
-/// The items of the tool's rules, which stand in front of these.
+/// The items of the suffixes and of these rules.
 pub fn rules_before<I: Includes>(
     alloc: Global,
     macros: &mut Macros,
-    own: &[Item],
+    rules: &[(&[u8], &[u8])],
     includes: &mut I,
 ) -> Result<Vec<Item>, ReadFault>
-    ensures items { (world : World) → I.allows includes.new world
-        → GivesItems result (AreRules world (defined_by macros.old) own.now) }
+    ensures items { (world : World) → I.allows includes.new world → GivesItems result
+        (TextItems world depth (defined_by macros.old) rules_name (rules_text (texts rules.now))) }
     ensures grows { (world : World) → I.allows includes.new world → I.allows includes.old world }
 {
-    let text = rules_text(alloc, own)?;
+    let text = rules_text(alloc, rules)?;
     read_makefile(alloc, macros, NAME, text.as_slice(), includes)
 }

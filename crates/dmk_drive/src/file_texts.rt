@@ -170,9 +170,20 @@ impl<C: FileCalls + Drop> FileTexts<C> {
         self.unread.as_ref()
     }
 
-    /// What there is to note of the makefiles that were read.
-    pub fn notes(&self) -> &Notes {
-        &self.notes
+    /// What there is to note of the makefiles that were read, a line each.
+    pub fn note_lines(&self, alloc: Global) -> Result<ByteStrings, AllocError> {
+        let mut lines = ByteStrings::empty(alloc);
+        for note in self.notes.found.iter() {
+            if self.notes.counts(note) {
+                lines.push(format!(in alloc; "{note}")?.as_bytes())?;
+            }
+        }
+        for note in self.notes.leading.iter() {
+            if self.notes.is_undefined(note) {
+                lines.push(format!(in alloc; "{note}")?.as_bytes())?;
+            }
+        }
+        Ok(lines)
     }
 
     /// Takes in that these are defined before a makefile is read: what refers to them isn't noted.
@@ -270,6 +281,13 @@ impl<C: FileCalls + Drop> Includes for FileTexts<C> {
     // A note that there is no memory for isn't said.
     fn see(&mut self, alloc: Global, profile: Profile, file: &[u8], statements: &[Statement]) {
         let _ = self.notes.see(alloc, profile, file, statements);
+    }
+
+    fn take_notes(&mut self, alloc: Global) -> Result<ByteStrings, AllocError> {
+        let lines = self.note_lines(alloc)?;
+        self.notes.found = Vec::new(alloc);
+        self.notes.leading = Vec::new(alloc);
+        Ok(lines)
     }
 
     ghost possible = { λ source. (

@@ -79,7 +79,10 @@ fn time_of<C: FileCalls>(calls: &mut C, name: &[u8]) -> Result<Option<i128>, Tre
 }
 
 impl<C: FileCalls + Drop> FileTree<C> {
-    pub fn new(alloc: Global, calls: C) -> FileTree<C> {
+    /// Nothing is known yet of any name.
+    pub fn new(alloc: Global, calls: C) -> FileTree<C>
+        ensures { (name : List ℕ) → known_stamp result.stamps name ≡ None }
+    {
         FileTree {
             calls,
             stamps: Stamps::new(alloc),

@@ -14,6 +14,7 @@ use crate::built_in::{reads_rules, rules_before};
 use crate::definitions::first_macros;
 use crate::fault::Fault;
 use crate::makefiles::Makefiles;
+use crate::own_rules::standing_rules;
 use bd_lists::Variable;
 use byte_strings::{ByteString, ByteStrings};
 use mk_eval::{Includes, read_makefile};
@@ -210,9 +211,12 @@ fn behind_rules<I: Includes>(
         → IsFaultOfRules world (first_defined profile definitions.now environment.now) own.items fault) }
     ensures grows { (world : World) → I.allows includes.new world → I.allows includes.old world }
 {
+    let mut above = first_macros(alloc, profile, definitions, environment)?;
+    let rules = standing_rules(alloc, &mut above, own.as_slice())?;
+    drop(above);
     let mut macros = first_macros(alloc, profile, definitions, environment)?;
     let mut own = own;
-    match rules_before(alloc, &mut macros, own.as_slice(), includes) {
+    match rules_before(alloc, &mut macros, &rules, includes) {
         Ok(mut items) => {
             items.append(&mut own)?;
             Ok(items)

@@ -7,6 +7,7 @@ ghost use Rattle.dmk_drive.specs.declared.fault.Fault.TheVariants as faults;
 
 use crate::fault::Fault;
 use crate::messages::{Message, SOFT_EDGES_NOTE};
+use byte_strings::ByteStrings;
 use std::io::{self, Write};
 
 /// Writes the text. A beginning of it may have gone out where the writer fails, but not all of it.
@@ -56,4 +57,14 @@ pub fn print_note<E: Write>(err: &mut E) -> bool
     ensures { result ≡ true → Appends (E.contents err.old) (E.contents err.new) (note_lines true) }
 {
     writeln!(err, "dmk: {SOFT_EDGES_NOTE}").is_ok()
+}
+
+/// Prints lines behind the program's name. What can't be printed changes nothing.
+pub fn print_lines<E: Write>(err: &mut E, lines: &ByteStrings) {
+    for line in lines.iter() {
+        let _ = err.write_all(b"dmk: ");
+        let _ = err.write_all(line);
+        let _ = err.write_all(b"\n");
+    }
+    let _ = err.flush();
 }

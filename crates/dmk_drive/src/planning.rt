@@ -88,7 +88,7 @@ fn graph_of<T: Tree>(
 {
     let macros = first_macros(alloc, given.profile, given.definitions, given.environment)?;
     let limit = node_limit(given.profile);
-    match build(alloc, items, macros, targets, tree, state, limit) {
+    match build(alloc, items, macros, targets, tree, state, limit, false) {
         Ok(graph) => Ok(graph),
         Err(fault) => Err(Fault::Rules(fault)),
     }

@@ -1,21 +1,35 @@
-use Rattle.std.proofs.Common.{subst, Ok}
+use Rattle.std.proofs.Common.{◌≡◌, subst, Ok, Err}
+use Rattle.mk_eval.specs.Makefile.{GivesItems, TextItems, depth}
 use Rattle.mk_macros.specs.Ranks.{defined_by}
-use Rattle.dmk_drive.specs.BuiltIn.{AreRules}
-use Rattle.dmk_drive.specs.Faults.{IsFaultOfRules}
+use Rattle.dmk_drive.specs.BuiltIn.{TellsOwn, texts, standing, rules_name, rules_text, AreRules}
+use Rattle.dmk_drive.specs.Definitions.{first_defined}
 use Rattle.dmk_drive.specs.declared.fault.Fault.TheVariants.{Read}
-use Rattle.dmk_drive.proofs.MakefileLemmas.{rules_refused}
+use Rattle.dmk_drive.proofs.MakefileLemmas.{rules_given, rules_refused}
 use Rattle.dmk_drive.proofs.makefile.behind_rules.Goals as goal
 
 pub returns-in-Ok-clause-items : goal.returns-in-Ok-clause-items
-returns-in-Ok-clause-items g c = λ world text. (
-  c.in-Ok.items.items,
-  subst (λ given. AreRules world given c.args.own.items (Ok c.in-Ok.items.items)) c.in_ok-macros.ensures
-      (subst (λ own. AreRules world (defined_by c.in_ok-macros.macros) own (Ok c.in-Ok.items.items)) c.as_slice.ensures.value (c.in-Ok.ensures.items world text)),
-  c.in_ok-append-in-Ok.ensures.items,
-)
+returns-in-Ok-clause-items g c = λ world text.
+    let given = first_defined c.args.profile c.args.definitions.now c.args.environment.now in
+    let found = c.in_ok-rules.ensures in
+    let tells : TellsOwn given c.args.own.items found.0 =
+    subst (λ d. TellsOwn d c.args.own.items found.0) c.in_ok-above.ensures
+    (subst (λ own. TellsOwn (defined_by c.in_ok-above.above) own found.0) c.as_slice.ensures.value found.1) in
+    let left : texts c.deref.result.now ≡ standing found.0 = rw c.deref.ensures.value found.2 in (
+      c.in-Ok.items.items,
+      rules_given world given c.args.own.items (texts c.deref.result.now) found.0 tells left (Ok c.in-Ok.items.items)
+          (subst (λ d. TextItems world depth d rules_name (rules_text (texts c.deref.result.now)) (Ok c.in-Ok.items.items))
+          c.in_ok-macros.ensures (c.in-Ok.ensures.items world text)),
+      c.in_ok-append-in-Ok.ensures.items,
+    )
 
 pub returns-clause-fault : goal.returns-clause-fault
 returns-clause-fault g c = λ world text.
-    subst (λ given. IsFaultOfRules world given c.args.own.items (Read c.in-Err.fault)) c.in_ok-macros.ensures
-    (subst (λ own. IsFaultOfRules world (defined_by c.in_ok-macros.macros) own (Read c.in-Err.fault)) c.as_slice.ensures.value
-    (rules_refused world (defined_by c.in_ok-macros.macros) c.as_slice.result.now c.in-Err.fault (c.in-Err.ensures.items world text)))
+    let given = first_defined c.args.profile c.args.definitions.now c.args.environment.now in
+    let found = c.in_ok-rules.ensures in
+    let tells : TellsOwn given c.args.own.items found.0 =
+    subst (λ d. TellsOwn d c.args.own.items found.0) c.in_ok-above.ensures
+    (subst (λ own. TellsOwn (defined_by c.in_ok-above.above) own found.0) c.as_slice.ensures.value found.1) in
+    let left : texts c.deref.result.now ≡ standing found.0 = rw c.deref.ensures.value found.2 in
+    rules_refused world given c.args.own.items (texts c.deref.result.now) found.0 tells left c.in-Err.fault
+    (subst (λ d. GivesItems (Err c.in-Err.fault) (TextItems world depth d rules_name (rules_text (texts c.deref.result.now))))
+    c.in_ok-macros.ensures (c.in-Err.ensures.items world text))
