@@ -1,6 +1,8 @@
 -- What a run over a store says of a makefile.
-use Rattle.std.proofs.Common.{◌≡◌, ◌⊎◌, ◌||◌, inl, inr, ℕ, ℤ, ◌≤◌, Bool, true, false, List, [], Option, Result, Ok, Err, IfOk, IsTrue, ◌∙◌, length, refl, sym, subst}
+use Rattle.std.proofs.Common.{◌≡◌, ◌⊎◌, ◌||◌, inl, inr, ℕ, ℤ, ◌≤◌, Bool, true, false, List, [], Option, Result, Ok, Err, IfOk, IfErr, IsTrue, ◌∙◌, length, refl, sym, subst}
 use Rattle.std.specs.FinMap as map
+use Rattle.std.specs.Coded.{Coded-set}
+use Rattle.std.proofs.Math.Logic.{∥∥₁_elim}
 use Rattle.std.specs.List.{list_all}
 use Rattle.mk_profile.specs.declared.profile.Profile.{Profile}
 use Rattle.mk_reader.specs.declared.item.Item.{Item}
@@ -8,21 +10,54 @@ use Rattle.mk_rules.specs.declared.graph.Graph.{Graph}
 use Rattle.jb_closing.specs.Report.{ends_well}
 use Rattle.jb_closing.specs.declared.fault.RunFault.{RunFault}
 use Rattle.jb_closing.specs.declared.report.Report.{Report}
-use Rattle.st_disk.specs.Crash.{Sides}
+use Rattle.st_disk.specs.Crash.{Sides, IsCrashImage, writes_of}
 use Rattle.st_disk.specs.declared.which.Which.{Which}
 use Rattle.st_disk.specs.declared.which.Which.TheVariants as which
-use Rattle.st_state.specs.State.{StateMap}
+use Rattle.st_state.specs.State.{StateMap, state_code}
 use Rattle.st_recovery.specs.Recovers.{Recovers, recovered}
+use Rattle.st_recovery.specs.Stored.{AllRecover}
 use Rattle.st_recovery.proofs.RecoversLemmas.{one_recovery}
 use Rattle.bd_lists.specs.declared.recipe.Variable.{Variable}
 use Rattle.dmk_drive.specs.Keeping.{keeps}
 use Rattle.dmk_drive.specs.Planned.{IsGraphOf, IsStateOn, judged_graph}
+use Rattle.dmk_run.specs.InTurn.{IsParted}
+use Rattle.dmk_run.specs.Opened.{RecoversAsBefore}
 use Rattle.dmk_run.specs.Judged.{IsBorneOut}
 use Rattle.dmk_run.specs.Made.{HasEnded, IsMade, MakesItems}
 use Rattle.dmk_run.specs.declared.stop.Stop.{Stop}
 
+-- what isn't parted may have left anything
+pub never_parted : (got : Result ℕ Stop) (Left : Type 0) → IfErr got (λ stop. IsParted stop → ⊥) → IfErr got (λ stop. IsParted stop → Left)
+never_parted (Ok status) Left never = tt
+never_parted (Err stop) Left never = λ parted. absurd (never parted)
+
+module _ {Disk : Type 0} (disk_honest : Type 0) (seen : Disk → Which → List ℕ) where
+  -- a disk that is handed back recovers what it did
+  pub same_as_before : (found left : Disk) (got : Result ℕ Stop) → left ≡ found →
+      IfErr got (λ stop. IsParted stop → RecoversAsBefore disk_honest (seen found) (seen left))
+  same_as_before found left (Ok status) same = tt
+  same_as_before found left (Err stop) same = λ parted honest m is.
+      subst (λ d. Recovers (seen d which.A) (seen d which.B) m) same is
+
+  -- and so does what is handed back of one that recovers nothing else
+  pub left_as_before : (found opened left : Disk) (got : Result ℕ Stop) → RecoversAsBefore disk_honest (seen found) (seen opened) →
+      IfErr got (λ stop. IsParted stop → left ≡ opened) →
+      IfErr got (λ stop. IsParted stop → RecoversAsBefore disk_honest (seen found) (seen left))
+  left_as_before found opened left (Ok status) before same = tt
+  left_as_before found opened left (Err stop) before same = λ parted.
+      subst (λ d. RecoversAsBefore disk_honest (seen found) (seen d)) (sym (same parted)) before
+
 same_state : (m n : StateMap) → recovered m ≡ recovered n → m ≡ n
 same_state m n e = cc
+
+-- a disk of which each pair recovers the state that was recovered before recovers no other one
+pub opened_as_before : (disk_honest : Type 0) (before now : Which → List ℕ) (sides : Sides) (state : StateMap) →
+    (disk_honest → Recovers (before which.A) (before which.B) state) → (disk_honest → AllRecover state sides) →
+    (disk_honest → (side : Which) → IsCrashImage (writes_of side sides) (now side)) → RecoversAsBefore disk_honest before now
+opened_as_before disk_honest before now sides state found all image = λ honest m is.
+    let same : m ≡ state = ∥∥₁_elim (all honest (now which.A) (now which.B) (image honest which.A) (image honest which.B)) (Coded-set state_code m state)
+    (λ own. same_state m state (one_recovery (now which.A) (now which.B) (recovered m) (recovered state) is own)) in
+    subst (Recovers (before which.A) (before which.B)) (sym same) (found honest)
 
 no_value : false ≡ true → ⊥
 no_value is = cc
@@ -104,13 +139,8 @@ module _ (profile : Profile) (definitions environment : List Variable) (targets 
         (without_state status run)
     found_without_state keeping is (Err stop) run = tt
 
-module _ {D : Type 0} (Items : List Item → Type 0) (environment : List Variable) (items : List Item) (are : Items items) (old new : D) where
-  by_keeping : (keeping : Bool) → keeping ≡ keeps environment items → (keeps environment items ≡ false → new ≡ old) →
-      (new ≡ old) ⊎ ((items : List Item) × Items items × (keeps environment items ≡ true))
-  by_keeping true is untouched = inr (items, are, sym is)
-  by_keeping false is untouched = inl (untouched (sym is))
-
-  -- a disk is as it was, or a makefile keeps state
-  pub untouched_unless_kept : (keeps environment items ≡ false → new ≡ old) →
-      (new ≡ old) ⊎ ((items : List Item) × Items items × (keeps environment items ≡ true))
-  untouched_unless_kept = by_keeping (keeps environment items) refl
+-- a disk is as it was, or this is so, where a makefile keeps state
+pub untouched_or : {D : Type 0} (keeping : Bool) (old new : D) (Kept : Type 0) → (keeping ≡ false → new ≡ old) → (keeping ≡ true → Kept) →
+    (new ≡ old) ⊎ Kept
+untouched_or true old new Kept untouched kept = inr (kept refl)
+untouched_or false old new Kept untouched kept = inl (untouched refl)

@@ -5,3 +5,5 @@ mod DriverLemmas
 mod TakingLemmas
 mod TrustingLemmas
 mod PlanningLemmas
+mod InTurnLemmas
+mod PartLemmas

@@ -14,3 +14,5 @@ pub mod Settled
 pub mod Taken
 -- Trusted: what is left on a disk where targets are to be taken so.
 pub mod Trusted
+-- InTurn: goals that are made in parts, one behind the other.
+pub mod InTurn

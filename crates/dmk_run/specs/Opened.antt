@@ -22,6 +22,11 @@ use Rattle.dmk_run.specs.declared.stop.Stop.TheVariants as stops
 abbrev pub RecoversAs : (seen : Which → List ℕ) → (a b : List ℕ) → Type 0
 RecoversAs seen a b = (m : StateMap) × Recovers (seen which.A) (seen which.B) m × Recovers a b m
 
+-- an honest disk recovers no other state than before: what it recovers now it recovered then
+abbrev pub RecoversAsBefore : (disk_honest : Type 0) (before now : Which → List ℕ) → Type 0
+RecoversAsBefore disk_honest before now =
+    disk_honest → (m : StateMap) → Recovers (now which.A) (now which.B) m → Recovers (before which.A) (before which.B) m
+
 -- every pair of crash images was one at this start, or recovers the state that the sides recovered
 abbrev pub ArePossibleOrRecover : (seen : Which → List ℕ) → (start : Sides) → Sides → Type 0
 ArePossibleOrRecover seen start = EachPair (λ a b. ∥ (IsCrashImage start.a a × IsCrashImage start.b b) ⊎ RecoversAs seen a b ∥₁)
@@ -65,6 +70,7 @@ abbrev pub IsWhyNotOpened : (honest : Type 0) → (seen left_seen : Which → Li
 IsWhyNotOpened honest seen left_seen left (stops.Before fault) = TellsNotOpened honest seen fault
 IsWhyNotOpened honest seen left_seen left stops.HeldAbove = ⊥
 IsWhyNotOpened honest seen left_seen left (stops.NotOnDisk _) = ⊥
+IsWhyNotOpened honest seen left_seen left (stops.Parted _) = ⊥
 IsWhyNotOpened honest seen left_seen left (stops.Run fault) =
     TellsNotCompacted (honest → (m : StateMap) × Recovers (seen which.A) (seen which.B) m × StandsInVersion1 left_seen left m) fault
 

@@ -7,6 +7,7 @@ ghost use Rattle.bd_flusher.specs.declared.fault.FlushFault.TheVariants as refus
 ghost use Rattle.jb_closing.specs.declared.fault.RunFault.TheVariants as run_faults;
 ghost use Rattle.jb_closing.specs.declared.report.Report.{Report as RunReport};
 ghost use Rattle.jb_closing.specs.Report.{ends_well};
+ghost use Rattle.dmk_run.specs.InTurn.{IsParted};
 ghost use Rattle.dmk_run.specs.Judged.{AreJudged, IsBorneOut};
 ghost use Rattle.dmk_run.specs.Known.{AreKnownDone, IsTold};
 ghost use Rattle.dmk_run.specs.Made.{IsMade};
@@ -126,7 +127,8 @@ fn told<D: Disk + Drop>(
 
 /// The status of a report, or why there is none.
 pub(crate) fn reported(found: Result<Report, RunFault>) -> Result<u8, Stop>
-    ensures { IfOk result (λ s. (r : RunReport) × (found ≡ Ok r) × (s ≡ r.status)) }
+    ensures status { IfOk result (λ s. (r : RunReport) × (found ≡ Ok r) × (s ≡ r.status)) }
+    ensures begun { IfErr result (λ stop. IsParted stop → ⊥) }
 {
     match found {
         Ok(report) => Ok(report.status),

@@ -6,7 +6,9 @@ ghost use Rattle.dmk_drive.specs.Keeping.{keeps, value_in};
 ghost use Rattle.dmk_drive.specs.Output.{AsksToRun};
 ghost use Rattle.dmk_drive.specs.Definitions.{first_defined};
 ghost use Rattle.dmk_drive.specs.Planned.{AreItems};
+ghost use Rattle.dmk_run.specs.InTurn.{IsParted};
 ghost use Rattle.dmk_run.specs.Made.{Makes, MakesItems};
+ghost use Rattle.dmk_run.specs.Opened.{RecoversAsBefore};
 ghost use Rattle.mk_eval.specs.Output.{World};
 
 use crate::conducting::Wishes;
@@ -15,9 +17,11 @@ use crate::making::make;
 use crate::opening::{disk_of, open_store};
 use crate::planning::{Goals, planned};
 use crate::printer::Printer;
+use crate::standing::Standing;
 use crate::stop::Stop;
 use bd_flusher::Receipt;
 use bd_lists::{Exec, Variable};
+use byte_strings::ByteString;
 use dmk_drive::{Fault, Makefiles, Message, Options, items_of, keeps_state};
 use jb_recipe::Place;
 use jb_slots::Banks;
@@ -30,7 +34,7 @@ use st_records::HashKey;
 use st_recovery::Store;
 use std::alloc::Global;
 use std::io::Write;
-use std::sync::Wait;
+use std::sync::{OnceLock, Wait};
 use std::thread::Threads;
 
 /// What a run is made with, beside its files, its job slots and its disk.
@@ -45,6 +49,8 @@ pub struct Means<'a, E, S, P> {
     pub exec: &'a E,
     pub say: &'a S,
     pub place: &'a P,
+    /// Where the exec finds the shell that the makefile names.
+    pub shell: &'a OnceLock<ByteString>,
 }
 
 /// Opens the store of a disk and makes the goals over it. The disk comes back.
@@ -59,7 +65,7 @@ fn run_over<R, T, E, O, W, P, K, D>(
     banks: &mut K,
     items: Vec<Item>,
     disk: D,
-) -> (Result<u8, Stop>, D)
+) -> (Result<u8, Stop>, D, Vec<Standing>)
 where
     R: Threads + Wait + Sync,
     T: Tree,
@@ -75,6 +81,7 @@ where
         → MakesItems goals.profile goals.definitions.items means.now.environment.now goals.targets wishes.now.makes_all times items.items true keeping
         D.honest (D.seen disk) s (now (D.moments result.1))) }
     ensures times { (times : List ℕ → Option ℤ) → T.allows tree.new times → T.allows tree.old times }
+    ensures parted { IfErr result.0 (λ stop. IsParted stop → RecoversAsBefore D.honest (D.seen disk) (D.seen result.1)) }
     ensures let_go { K.serves banks.old ≡ false → K.serves banks.new ≡ false }
 {
     let Store { log, state } = match open_store(alloc, means.key, disk) {
@@ -82,7 +89,7 @@ where
         Err((stop, disk)) => {
             drop(goals);
             drop(items);
-            return (Err(stop), disk);
+            return (Err(stop), disk, Vec::new(alloc));
         }
     };
     let environment = means.environment;
@@ -91,6 +98,7 @@ where
         means.key,
         environment,
         means.say,
+        means.shell,
         wishes,
         keeping,
         goals,
@@ -99,7 +107,7 @@ where
         state,
     ) {
         Ok(plan) => make(rt, alloc, means, wishes, plan, banks, log),
-        Err(stop) => (Err(stop), disk_of(log)),
+        Err(stop) => (Err(stop), disk_of(log), Vec::new(alloc)),
     }
 }
 
@@ -115,7 +123,7 @@ fn run_items<R, T, E, O, W, P, G, K, D>(
     banks: &mut K,
     items: Vec<Item>,
     disk: D,
-) -> (Result<u8, Stop>, D)
+) -> (Result<u8, Stop>, D, Vec<Standing>)
 where
     R: Threads + Wait + Sync,
     T: Tree,
@@ -134,24 +142,25 @@ where
         D.honest (D.seen disk) s (now (D.moments result.1))) }
     ensures times { (times : List ℕ → Option ℤ) → T.allows tree.new times → T.allows tree.old times }
     ensures untouched { keeps means.now.environment.now items.items ≡ false → result.1 ≡ disk }
+    ensures parted { IfErr result.0 (λ stop. IsParted stop → RecoversAsBefore D.honest (D.seen disk) (D.seen result.1)) }
     ensures let_go { K.serves banks.old ≡ false → K.serves banks.new ≡ false }
 {
     if keeps_state(means.environment, &items) {
         if let Err(stop) = hold_state(guard, means.say, wishes.state.as_str()) {
             drop(goals);
             drop(items);
-            return (Err(stop), disk);
+            return (Err(stop), disk, Vec::new(alloc));
         }
         return run_over(
             rt, alloc, means, wishes, true, goals, tree, banks, items, disk,
         );
     }
     let memory = MemDisk::new(alloc);
-    let (found, memory) = run_over(
+    let (found, memory, standing) = run_over(
         rt, alloc, means, wishes, false, goals, tree, banks, items, memory,
     );
     drop(memory);
-    (found, disk)
+    (found, disk, standing)
 }
 
 /// Makes the goals of these makefiles.
@@ -167,7 +176,7 @@ fn run_makefile<R, T, I, E, O, W, P, G, K, D>(
     includes: &mut I,
     banks: &mut K,
     disk: D,
-) -> (Result<u8, Stop>, D)
+) -> (Result<u8, Stop>, D, Vec<Standing>)
 where
     R: Threads + Wait + Sync,
     T: Tree,
@@ -184,27 +193,30 @@ where
     ensures makes { IfOk result.0 (λ s. (world : World) (times : List ℕ → Option ℤ) → I.allows includes.new world → T.allows tree.new times
         → Makes world times makefiles.now goals.profile goals.definitions.items means.now.environment.now goals.targets wishes.now.makes_all
         D.honest (D.seen disk) s (now (D.moments result.1))) }
-    ensures untouched { (world : World) (times : List ℕ → Option ℤ) → I.allows includes.new world → T.allows tree.new times
-        → (result.1 ≡ disk) ⊎ ((items : List MakefileItem) × AreItems world times makefiles.now (first_defined goals.profile goals.definitions.items means.now.environment.now) items
+    ensures untouched { (result.1 ≡ disk) ⊎ ((world : World) (times : List ℕ → Option ℤ) → I.allows includes.new world → T.allows tree.new times
+        → (items : List MakefileItem) × AreItems world times makefiles.now (first_defined goals.profile goals.definitions.items means.now.environment.now) items
         × (keeps means.now.environment.now items ≡ true)) }
+    ensures parted { IfErr result.0 (λ stop. IsParted stop → RecoversAsBefore D.honest (D.seen disk) (D.seen result.1)) }
     ensures let_go { K.serves banks.old ≡ false → K.serves banks.new ≡ false }
 {
-    let environment = means.environment;
     match items_of(
         alloc,
         goals.profile,
         &goals.definitions,
-        environment,
+        means.environment,
         makefiles,
         tree,
         includes,
     ) {
-        Ok(items) => run_items(
-            rt, alloc, means, guard, wishes, goals, tree, banks, items, disk,
-        ),
+        Ok(items) => {
+            means.say.notes_of(alloc, goals.is_part, includes);
+            run_items(
+                rt, alloc, means, guard, wishes, goals, tree, banks, items, disk,
+            )
+        }
         Err(fault) => {
             drop(goals);
-            (Err(Stop::Before(fault)), disk)
+            (Err(Stop::Before(fault)), disk, Vec::new(alloc))
         }
     }
 }
@@ -229,6 +241,8 @@ fn found_status<R: Wait, O: Write + Drop, W: Write + Drop>(
             printer.held_above(state);
             2
         }
+        // No part is parted again.
+        Err(Stop::Parted(_)) => 2,
         Err(Stop::NotOnDisk(error)) => {
             printer.not_on_disk(*error);
             2
@@ -264,22 +278,24 @@ pub(crate) fn status_of<R: Wait, O: Write + Drop, W: Write + Drop>(
     2
 }
 
-/// Makes the targets that the words name, or the first of the makefile, and what they need. The status, and the state's disk.
+/// Makes goals by one look at files: the targets that the options name, or the first of the makefile, and what they need. What came
+/// of it, the state's disk, and which of the goals were judged up to date where a recipe was run.
 ///
 /// The makefile's faults come first, then, where state is kept, that the run which called this one has it, those of the state and
-/// of its compaction, then the rules'. Any of them ends the run before a recipe is run. Other runs over the state are waited for
-/// before it is looked at.
-pub fn build_targets<R, T, I, E, O, W, P, G, K, D>(
+/// of its compaction, then the rules'. Any of them ends the run before a recipe is run, and so does it that the goals are to be made in
+/// parts, unless they are one. Other runs over the state are waited for before it is looked at.
+pub fn build_at_once<R, T, I, E, O, W, P, G, K, D>(
     rt: &R,
     alloc: Global,
     means: &Means<'_, E, Printer<'_, R, O, W>, P>,
     guard: &mut G,
     options: Options,
+    is_part: bool,
     tree: &mut T,
     includes: &mut I,
     banks: &mut K,
     disk: D,
-) -> (u8, D)
+) -> (Result<u8, Stop>, D, Vec<Standing>)
 where
     R: Threads + Wait + Sync,
     T: Tree,
@@ -293,18 +309,21 @@ where
     K::End: Drop + Send,
     D: Disk + Drop + Send,
     // Recipes are run only where neither the words nor MAKEFLAGS ask for a listing.
-    requires { AsksToRun options (value_in means.now.environment.now (codes "MAKEFLAGS")) }
-    ensures status { result.0 ≤ 2 }
-    // At another status than 2 each target that was built is done in every pair of crash images, with the commands of the
-    // 'done' whose receipt its worker gathered: so for all texts and times that agree with what was answered.
-    ensures makes { result.0 ≢ 2
-        → (world : World) (times : List ℕ → Option ℤ) → I.allows includes.new world → T.allows tree.new times
+    requires asked { AsksToRun options (value_in means.now.environment.now (codes "MAKEFLAGS")) }
+    // Nothing is known yet of any file.
+    requires anew { (times : List ℕ → Option ℤ) → T.allows tree.old times }
+    ensures status { IfOk result.0 (λ s. s ≤ 2) }
+    // Each target that was built is done in every pair of crash images, with the commands of the 'done' whose receipt its worker
+    // gathered: so for all texts and times that agree with what was answered.
+    ensures makes { IfOk result.0 (λ s. (world : World) (times : List ℕ → Option ℤ) → I.allows includes.new world → T.allows tree.new times
         → Makes world times options.makefiles options.profile options.definitions.items means.now.environment.now options.targets options.makes_all
-        D.honest (D.seen disk) result.0 (now (D.moments result.1)) }
+        D.honest (D.seen disk) s (now (D.moments result.1))) }
     // Unless a makefile that was read keeps state, the disk is handed back as it came.
-    ensures untouched { (world : World) (times : List ℕ → Option ℤ) → I.allows includes.new world → T.allows tree.new times
-        → (result.1 ≡ disk) ⊎ ((items : List MakefileItem) × AreItems world times options.makefiles (first_defined options.profile options.definitions.items means.now.environment.now) items
+    ensures untouched { (result.1 ≡ disk) ⊎ ((world : World) (times : List ℕ → Option ℤ) → I.allows includes.new world → T.allows tree.new times
+        → (items : List MakefileItem) × AreItems world times options.makefiles (first_defined options.profile options.definitions.items means.now.environment.now) items
         × (keeps means.now.environment.now items ≡ true)) }
+    // Where the goals are to be made in parts, nothing was begun: the disk recovers no other state than before.
+    ensures parted { IfErr result.0 (λ stop. IsParted stop → RecoversAsBefore D.honest (D.seen disk) (D.seen result.1)) }
     // A pool that is served for the run is let go at its end.
     ensures let_go { K.serves banks.old ≡ false → K.serves banks.new ≡ false }
 {
@@ -336,10 +355,9 @@ where
         profile,
         definitions,
         targets,
+        is_part,
     };
-    let (found, disk) = run_makefile(
+    run_makefile(
         rt, alloc, means, guard, &wishes, &makefiles, goals, tree, includes, banks, disk,
-    );
-    let status = status_of(means.say, wishes.state.as_str(), found);
-    (status, disk)
+    )
 }

@@ -1,8 +1,9 @@
 //! What was planned, made over the log of a store whose state the plan holds.
-ghost use Rattle.std.specs.Prelude.{◌≡◌, ◌≤◌, false, IfOk};
+ghost use Rattle.std.specs.Prelude.{◌≡◌, ◌≤◌, false, IfOk, IfErr};
 ghost use Rattle.st_disk.specs.Moments.{now};
 ghost use Rattle.st_state.specs.Keepable.{AllCanBeKept};
 ghost use Rattle.st_recovery.specs.Stored.{IsStoredOn};
+ghost use Rattle.dmk_run.specs.InTurn.{IsParted};
 ghost use Rattle.dmk_run.specs.Made.{HasEnded};
 ghost use Rattle.dmk_run.specs.Planned.{recorded_in};
 
@@ -12,7 +13,9 @@ use crate::driver::Means;
 use crate::opening::disk_of;
 use crate::planning::{Plan, recorded_apart};
 use crate::printer::Printer;
+use crate::refusing::ready_recipes;
 use crate::settling::is_none_to_run;
+use crate::standing::{Standing, standing_in};
 use crate::stop::Stop;
 use bd_flusher::Receipt;
 use bd_lists::Exec;
@@ -40,7 +43,7 @@ fn make_listed<R, O, W, E, P, K, D>(
     plan: Plan,
     banks: &mut K,
     log: Log<D>,
-) -> (Result<u8, Stop>, D)
+) -> (Result<u8, Stop>, D, Vec<Standing>)
 where
     R: Threads + Wait + Sync,
     E: Exec<Receipt> + Sync,
@@ -55,6 +58,7 @@ where
     requires keepable { AllCanBeKept (recorded_in plan) }
     ensures status { IfOk result.0 (λ s. s ≤ 2) }
     ensures ended { IfOk result.0 (HasEnded plan.graph plan.conduct.counts_records plan.conduct.keeps_state D.honest (now (D.moments result.1))) }
+    ensures parted { IfErr result.0 (λ stop. IsParted stop → result.1 ≡ log.disk) }
     ensures let_go { K.serves banks.old ≡ false → K.serves banks.new ≡ false }
 {
     let Plan {
@@ -67,17 +71,18 @@ where
         Err(error) => {
             drop(graph);
             drop(conduct);
-            return (Err(Stop::from(error)), disk_of(log));
+            return (Err(Stop::from(error)), disk_of(log), Vec::new(alloc));
         }
     };
     let workers = wishes.workers(&graph.settings);
     let store = Store { log, state };
     let Built { found, store } = build(rt, alloc, means, &graph, conduct, workers, banks, store);
     let Store { log, state } = store;
+    let standing = standing_in(alloc, &graph, &found);
     mem::forget(graph);
     mem::forget(state);
     let disk = disk_of(log);
-    (reported(found), disk)
+    (reported(found), disk, standing)
 }
 
 /// Makes what was planned over an opened store's log. The disk comes back.
@@ -89,7 +94,7 @@ pub(crate) fn make<R, O, W, E, P, K, D>(
     plan: Plan,
     banks: &mut K,
     log: Log<D>,
-) -> (Result<u8, Stop>, D)
+) -> (Result<u8, Stop>, D, Vec<Standing>)
 where
     R: Threads + Wait + Sync,
     E: Exec<Receipt> + Sync,
@@ -105,12 +110,22 @@ where
     requires keepable { AllCanBeKept (recorded_in plan) }
     ensures status { IfOk result.0 (λ s. s ≤ 2) }
     ensures ended { IfOk result.0 (HasEnded plan.graph plan.conduct.counts_records plan.conduct.keeps_state D.honest (now (D.moments result.1))) }
+    ensures parted { IfErr result.0 (λ stop. IsParted stop → result.1 ≡ log.disk) }
     ensures let_go { K.serves banks.old ≡ false → K.serves banks.new ≡ false }
 {
     if !is_none_to_run(alloc, &plan, means.say) {
+        if let Err(stop) = ready_recipes(
+            alloc,
+            plan.conduct.counts_records,
+            &plan.graph,
+            means.shell,
+        ) {
+            mem::forget(plan);
+            return (Err(stop), disk_of(log), Vec::new(alloc));
+        }
         return make_listed(rt, alloc, means, wishes, plan, banks, log);
     }
     // It is millions of small pieces of memory. The run ends here, and the system takes all of them back at once.
     mem::forget(plan);
-    (Ok(0), disk_of(log))
+    (Ok(0), disk_of(log), Vec::new(alloc))
 }

@@ -11,7 +11,7 @@ ghost use Rattle.st_disk.specs.declared.which.Which.TheVariants as sides;
 ghost use Rattle.bd_flusher.specs.declared.fault.FlushFault.TheVariants as refusals;
 ghost use Rattle.bd_flusher.specs.Faults.{fault_of};
 ghost use Rattle.jb_closing.specs.declared.fault.RunFault.TheVariants as run_faults;
-ghost use Rattle.dmk_run.specs.Opened.{ArePossibleOrRecover, StandsInVersion1, TellsNotCompacted, IsWhyNotOpened, IsOfDevice};
+ghost use Rattle.dmk_run.specs.Opened.{ArePossibleOrRecover, RecoversAsBefore, StandsInVersion1, TellsNotCompacted, IsWhyNotOpened, IsOfDevice};
 
 use crate::stop::Stop;
 use bd_flusher::FlushFault;
@@ -119,6 +119,8 @@ pub fn open_store<D: Disk + Drop>(
         (ArePossibleOrRecover (D.seen disk) (now (D.moments disk)))) }
     ensures found { IfOk result (λ store. D.honest → Recovers (D.seen disk sides.A) (D.seen disk sides.B) store.state) }
     ensures recovers { IfOk result (λ store. D.honest → AllRecover store.state (now (D.moments store.log.disk))) }
+    // What the disk recovers then it recovered before.
+    ensures as_before { IfOk result (λ store. RecoversAsBefore D.honest (D.seen disk) (D.seen store.log.disk)) }
     ensures alive { IfOk result (λ store. store.log.dead ≡ false) }
     ensures version { IfOk result (λ store. store.log.version ≡ versions.Two) }
     ensures refused { IfErr result (λ e. IsWhyNotOpened D.honest (D.seen disk) (D.seen e.1) (now (D.moments e.1)) e.0) }

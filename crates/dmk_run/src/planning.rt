@@ -12,10 +12,11 @@ ghost use Rattle.dmk_run.specs.Planned.{recorded_in};
 ghost use Rattle.dmk_run.specs.declared.stop.Stop.TheVariants as stops;
 
 use crate::conducting::Wishes;
+use crate::parting::at_once;
 use crate::printer::Printer;
 use crate::stop::Stop;
 use bd_lists::Variable;
-use byte_strings::ByteStrings;
+use byte_strings::{ByteString, ByteStrings};
 use dmk_drive::{Fault, first_macros, judged_graph};
 use jb_recipe::Conduct;
 use mk_profile::Profile;
@@ -25,7 +26,7 @@ use st_records::HashKey;
 use st_state::State;
 use std::alloc::{AllocError, Global};
 use std::io::Write;
-use std::sync::Wait;
+use std::sync::{OnceLock, Wait};
 
 /// What is to be made.
 #[derive(Drop)]
@@ -34,6 +35,8 @@ pub struct Goals {
     pub profile: Profile,
     pub definitions: Vec<Variable>,
     pub targets: ByteStrings,
+    /// They are a part of what the words ask for: they are made at once, and what there was to say of the makefiles is said.
+    pub is_part: bool,
 }
 
 /// The graph of what is to be made, by which it is judged, and how the run over it goes.
@@ -130,7 +133,7 @@ pub(crate) fn graph_of<T: Tree>(
 {
     let macros = first_macros(alloc, profile, definitions, environment)?;
     let limit = node_limit(profile);
-    match mk_rules::build(alloc, items, macros, targets, tree, state, limit) {
+    match mk_rules::build(alloc, items, macros, targets, tree, state, limit, false) {
         Ok(graph) => Ok(graph),
         Err(fault) => Err(Stop::Before(Fault::Rules(fault))),
     }
@@ -142,6 +145,7 @@ pub(crate) fn planned<R: Wait, T: Tree, O: Write + Drop, W: Write + Drop>(
     key: HashKey,
     environment: &[Variable],
     printer: &Printer<'_, R, O, W>,
+    shell: &OnceLock<ByteString>,
     wishes: &Wishes<'_>,
     keeping: bool,
     goals: Goals,
@@ -161,6 +165,7 @@ pub(crate) fn planned<R: Wait, T: Tree, O: Write + Drop, W: Write + Drop>(
         profile,
         definitions,
         targets,
+        is_part,
     } = goals;
     let (forgotten, conduct) = match prepared(alloc, wishes, keeping, definitions, &state) {
         Ok(made) => made,
@@ -188,10 +193,18 @@ pub(crate) fn planned<R: Wait, T: Tree, O: Write + Drop, W: Write + Drop>(
             return Err(stop);
         }
     };
-    if graph.soft_dropped {
+    if graph.soft_dropped && !is_part {
         printer.soft_edges_dropped();
     }
     let graph = judged_graph(alloc, key, wishes.makes_all, graph);
+    if !is_part {
+        if let Err(stop) = at_once(alloc, conduct.counts_records, &graph, shell) {
+            drop(graph);
+            drop(forgotten);
+            drop(conduct);
+            return Err(stop);
+        }
+    }
     Ok(Plan {
         graph,
         forgotten,

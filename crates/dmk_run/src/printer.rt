@@ -1,13 +1,15 @@
 //! What a run prints. Several threads print, so a lock is taken for each line and for each block, and each ends with a flush:
 //! through a writer with a buffer it is one write, as long as it fits.
+ghost use Rattle.mk_eval.specs.Output.{World};
 
 use crate::status_line::StatusLine;
 use crate::streams::Streams;
 use crate::trusting::Trusted;
 use bd_lists::Ended;
-use dmk_drive::{Message, print_fault, print_note};
+use dmk_drive::{Message, print_fault, print_lines, print_note};
 use jb_closing::RunFault;
 use jb_recipe::{News, Say, Step};
+use mk_eval::Includes;
 use plain_text::Plain;
 use std::alloc::Global;
 use std::io::{self, Write};
@@ -177,6 +179,25 @@ impl<'a, R: Wait, O: Write + Drop, E: Write + Drop> Printer<'a, R, O, E> {
     /// Says that the run which called this one has the state.
     pub fn held_above(&self, state: &str) {
         self.of_state("", state, " is held by the run that called this one");
+    }
+
+    /// Says what there is to note of the makefiles that were read, unless it was said. A note that there is no memory for isn't said.
+    pub(crate) fn notes_of<I: Includes>(&self, alloc: Global, are_said: bool, includes: &mut I)
+        ensures { (world : World) → I.allows includes.new world → I.allows includes.old world }
+    {
+        let notes = includes.take_notes(alloc);
+        if are_said {
+            return;
+        }
+        if let Ok(notes) = notes {
+            let mut streams = self.streams.lock(self.rt);
+            print_lines(&mut Plain::over(&mut streams.err), &notes);
+        }
+    }
+
+    /// Says what became of a goal that was judged up to date.
+    pub(crate) fn lost(&self, goal: &[u8], became: &str) {
+        self.streams.lock(self.rt).note_goal(goal, became);
     }
 
     /// Says that soft edges are dropped.

@@ -78,7 +78,7 @@ impl StatusLine {
     pub(crate) fn go_on(&mut self, step: Step<'_>) {
         self.seconds = 0;
         match step {
-            Step::Planned(planned) => self.planned = planned,
+            Step::Planned(planned) => self.planned = self.ended.saturating_add(planned),
             Step::Begins => {
                 self.running = self.running.saturating_add(1);
                 self.is_wanted = true;

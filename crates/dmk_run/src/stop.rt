@@ -1,11 +1,11 @@
-//! Why a run ends with status 2 and no report.
+//! Why a run has no report.
 
 use dmk_drive::Fault;
 use jb_closing::RunFault;
 use std::alloc::AllocError;
 use std::io;
 
-/// Why a run ends with status 2 and no report.
+/// Why a run has no report: it ends with status 2, or its goals are to be made in parts.
 #[derive(Debug, Drop)]
 pub enum Stop {
     /// Nothing was begun: the makefile, the state or the rules have a fault.
@@ -14,6 +14,8 @@ pub enum Stop {
     HeldAbove,
     /// The file of a target that was to be taken as it is couldn't be put on the disk. Nothing was recorded.
     NotOnDisk(io::Error),
+    /// The goals are to be made in turn, a part of them at once: one ends behind each goal whose mark is set. Nothing was begun.
+    Parted(Vec<bool>),
     /// The state couldn't be written, or memory or a thread was refused.
     Run(RunFault),
 }

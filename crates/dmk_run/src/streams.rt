@@ -121,6 +121,12 @@ fn write_unreported<E: Write>(err: &mut E, target: &[u8]) {
     );
 }
 
+fn write_goal<E: Write>(err: &mut E, goal: &[u8], became: &str) {
+    let _ = err.write_all(b"dmk: note: ");
+    let _ = err.write_all(goal);
+    let _ = writeln!(err, " was up to date, {became}");
+}
+
 // The line that says that a target isn't made, if this is such news.
 fn write_failure<E: Write>(err: &mut E, news: News<'_>) {
     match news {
@@ -324,6 +330,15 @@ impl<O: Write + Drop, E: Write + Drop> Streams<O, E> {
         let _ = self.err.flush();
         self.ends_err = true;
         self.draw_status();
+    }
+
+    /// Says of a goal what became of it.
+    pub(crate) fn note_goal(&mut self, goal: &[u8], became: &str) {
+        self.go_on();
+        self.make_way();
+        write_goal(&mut Plain::over(&mut self.err), goal, became);
+        let _ = self.err.flush();
+        self.ends_err = true;
     }
 
     /// Says once more which targets failed, unless that stands last.

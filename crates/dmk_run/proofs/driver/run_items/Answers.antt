@@ -1,11 +1,11 @@
-use Rattle.std.proofs.Common.{sym, subst, ◌∙◌, ℕ, ℤ, List, Option, IfOk}
+use Rattle.std.proofs.Common.{refl, sym, subst, ◌∙◌, ℕ, ℤ, List, Option, IfOk}
 use Rattle.st_memory.specs.MemDisk.{memory_bytes, memory_moments}
 use Rattle.st_disk.specs.Moments.{now}
 use Rattle.mk_rule_lines.proofs.ResultLemmas.{if_ok}
 use Rattle.dmk_drive.specs.Keeping.{keeps}
 use Rattle.dmk_drive.proofs.AllowedLemmas.{each_ok}
 use Rattle.dmk_run.specs.Made.{MakesItems}
-use Rattle.dmk_run.proofs.DriverLemmas.{found_without_state}
+use Rattle.dmk_run.proofs.DriverLemmas.{found_without_state, same_as_before}
 use Rattle.dmk_run.proofs.driver.run_items.Goals as goal
 
 pub returns-then-keeps_state-clause-makes : goal.returns-then-keeps_state-clause-makes
@@ -33,3 +33,6 @@ returns-clause-makes g c =
     (Unit {0}) (memory_bytes c.new-memory.result) tt c.new-memory.ensures.a c.new-memory.ensures.b (now (memory_moments c.run_over-found.result.1)) g.D.Disk.honest seen sides
     (keeps environment items) (sym c.if-keeps_state.false ∙ is) c.run_over-found.result.0
     (if_ok c.run_over-found.result.0 _ _ (λ s made. made times may) c.run_over-found.ensures.makes))
+
+pub returns-clause-parted : goal.returns-clause-parted
+returns-clause-parted g c = same_as_before g.D.Disk.honest (λ d. g.D.Disk.seen d) c.args.disk c.args.disk c.run_over-found.result.0 refl

@@ -1,8 +1,9 @@
 use Rattle.std.proofs.Common.{subst}
 use Rattle.mk_rule_lines.proofs.ResultLemmas.{if_ok}
 use Rattle.dmk_drive.specs.Definitions.{first_defined}
+use Rattle.dmk_drive.specs.Keeping.{keeps}
 use Rattle.dmk_drive.specs.Planned.{AreItems}
-use Rattle.dmk_run.proofs.DriverLemmas.{untouched_unless_kept}
+use Rattle.dmk_run.proofs.DriverLemmas.{untouched_or}
 use Rattle.dmk_run.proofs.driver.run_makefile.Goals as goal
 
 pub returns-in-Ok-clause-makes : goal.returns-in-Ok-clause-makes
@@ -11,13 +12,17 @@ returns-in-Ok-clause-makes g c =
     (λ s made world times text may. record {
       items = c.in-Ok.items.items;
       are_items = subst (λ defined. AreItems world times c.args.makefiles.now (first_defined c.args.goals.profile defined c.args.means.now.environment.now) c.in-Ok.items.items) c.deref.ensures.value
-          (c.in-Ok.ensures.items world times text (c.run_items.ensures.times times may));
+          (c.in-Ok.ensures.items world times (c.notes_of.ensures world text) (c.run_items.ensures.times times may));
       made = made times may;
     })
     c.run_items.ensures.makes
 
 pub returns-in-Ok-clause-untouched : goal.returns-in-Ok-clause-untouched
-returns-in-Ok-clause-untouched g c = λ world times text may.
-    untouched_unless_kept (AreItems world times c.args.makefiles.now (first_defined c.args.goals.profile c.args.goals.definitions.items c.args.means.now.environment.now)) c.args.means.now.environment.now c.in-Ok.items.items
-    (subst (λ defined. AreItems world times c.args.makefiles.now (first_defined c.args.goals.profile defined c.args.means.now.environment.now) c.in-Ok.items.items) c.deref.ensures.value
-    (c.in-Ok.ensures.items world times text (c.run_items.ensures.times times may))) c.args.disk c.run_items.result.1 c.run_items.ensures.untouched
+returns-in-Ok-clause-untouched g c =
+    untouched_or (keeps c.args.means.now.environment.now c.in-Ok.items.items) c.args.disk c.run_items.result.1 _ c.run_items.ensures.untouched
+    (λ is world times text may. (
+      c.in-Ok.items.items,
+      subst (λ defined. AreItems world times c.args.makefiles.now (first_defined c.args.goals.profile defined c.args.means.now.environment.now) c.in-Ok.items.items) c.deref.ensures.value
+          (c.in-Ok.ensures.items world times (c.notes_of.ensures world text) (c.run_items.ensures.times times may)),
+      is,
+    ))

@@ -1,11 +1,11 @@
-use Rattle.std.proofs.Common.{true, sym, subst}
+use Rattle.std.proofs.Common.{true, Err, sym, subst}
 use Rattle.st_disk.specs.Moments.{now}
 use Rattle.st_state.specs.State.{StateMap}
 use Rattle.st_state.specs.Keepable.{AllCanBeKept}
 use Rattle.st_recovery.specs.Stored.{IsStoredOn}
 use Rattle.dmk_drive.proofs.AllowedLemmas.{each_ok}
 use Rattle.dmk_run.specs.Made.{MakesItems}
-use Rattle.dmk_run.proofs.DriverLemmas.{made_items}
+use Rattle.dmk_run.proofs.DriverLemmas.{made_items, left_as_before}
 use Rattle.dmk_run.proofs.driver.run_over.Goals as goal
 
 pub returns-in-Ok-planned-clause-makes : goal.returns-in-Ok-planned-clause-makes
@@ -35,3 +35,14 @@ make-requires-clause-stored g c = λ lifetimes outlives honest alive.
 
 pub make-requires-clause-keepable : goal.make-requires-clause-keepable
 make-requires-clause-keepable g c = λ lifetimes outlives. subst AllCanBeKept (sym c.in-Ok-planned.ensures.state) c.in-Ok.store.keepable
+
+-- a store that was opened recovers what its disk did
+pub returns-in-Ok-planned-clause-parted : goal.returns-in-Ok-planned-clause-parted
+returns-in-Ok-planned-clause-parted g c =
+    left_as_before g.D.Disk.honest (λ d. g.D.Disk.seen d) c.args.disk c.in-Ok.store.log.disk c.make.result.1 c.make.result.0 c.in-Ok.ensures.as_before
+    c.make.ensures.parted
+
+pub returns-in-Err-planned-clause-parted : goal.returns-in-Err-planned-clause-parted
+returns-in-Err-planned-clause-parted g c =
+    left_as_before g.D.Disk.honest (λ d. g.D.Disk.seen d) c.args.disk c.in-Ok.store.log.disk c.disk_of.result (Err c.in-Err-planned.stop)
+    c.in-Ok.ensures.as_before (λ parted. c.disk_of.ensures)

@@ -10,6 +10,6 @@ returns-clause-ended g c =
     let plan = c.args.plan in
     let log = c.args.log in
     let sides = now (g.D.Disk.moments log.disk) in
-    rw c.disk_of.ensures
+    rw c.disk_of-2.ensures
     (none_ended plan.conduct.counts_records plan.conduct.keeps_state plan.graph (recorded_in plan) g.D.Disk.honest sides (c.is_none_to_run.ensures c.if-not-is_none_to_run.false)
     (λ honest. all_recover log.side sides (c.requires.stored honest c.requires.alive)))

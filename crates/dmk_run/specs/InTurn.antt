@@ -1,0 +1,101 @@
+-- Goals that are made in parts, one behind the other. That the targets of the command line are made in their order is what POSIX make
+-- says of a run with one worker, and that a failure ends a run without -k (its "OPERANDS" and "OPTIONS"); where a part ends is own.
+use Rattle.std.specs.Prelude.{◌≡◌, ◌≢◌, ◌⊎◌, ℕ, ℤ, max, Bool, true, false, List, [], ◌∷◌, ◌++◌, Option, Result, Ok}
+use Rattle.mk_eval.specs.Output.{World}
+use Rattle.mk_reader.specs.declared.item.Item.{Item}
+use Rattle.st_disk.specs.Crash.{Sides}
+use Rattle.st_disk.specs.declared.which.Which.{Which}
+use Rattle.bd_lists.specs.declared.recipe.Variable.{Variable}
+use Rattle.dmk_drive.specs.Definitions.{first_defined}
+use Rattle.dmk_drive.specs.Keeping.{keeps}
+use Rattle.dmk_drive.specs.Planned.{AreItems}
+use Rattle.dmk_drive.specs.declared.options.Options.{Options}
+use Rattle.dmk_run.specs.Made.{Makes}
+use Rattle.dmk_run.specs.declared.stop.Stop.{Stop}
+use Rattle.dmk_run.specs.declared.stop.Stop.TheVariants as stops
+
+-- ---- One part
+
+-- a part is made: these goals are, as the options say, over the disk that was found, by what makefiles were read from and by looks at
+-- files of its own
+pub record MakesPart {Source Tree Disk : Type 0} (Reads : Source → World → Type 0) (Allows : Tree → (List ℕ → Option ℤ) → Type 0)
+    (options : Options) (environment : List Variable) (disk_honest : Type 0) (seen : Disk → Which → List ℕ) (sides : Disk → Sides)
+    (targets : List (List ℕ)) (found left : Disk) (status : ℕ) : Type 0 where
+  pub source : Source
+  pub tree : Tree
+  pub made : (world : World) (times : List ℕ → Option ℤ) → Reads source world → Allows tree times →
+      Makes world times options.makefiles options.profile options.definitions.items environment targets options.makes_all disk_honest
+      (seen found) status (sides left)
+
+-- the disk is left as it was found, or what makefiles were read from and looks at files say that a makefile keeps state
+abbrev pub LeavesDisk : {Source Tree Disk : Type 0} (Reads : Source → World → Type 0) (Allows : Tree → (List ℕ → Option ℤ) → Type 0)
+    (options : Options) (environment : List Variable) (found left : Disk) → Type 0
+LeavesDisk {Source} {Tree} Reads Allows options environment found left =
+    (left ≡ found) ⊎ ((source : Source) × (tree : Tree) × ((world : World) (times : List ℕ → Option ℤ) → Reads source world → Allows tree times →
+    (items : List Item) × AreItems world times options.makefiles (first_defined options.profile options.definitions.items environment) items
+    × (keeps environment items ≡ true)))
+
+-- ---- Which parts there are
+
+-- the goals are to be made in parts, and nothing was begun
+abbrev pub IsParted : Stop → Type 0
+IsParted (stops.Parted _) = Unit {0}
+IsParted _ = ⊥
+
+-- the goals in parts: all of them are one part, or the first of them are, and those behind these are in parts. No goal is left out, and
+-- only where none is named a part has none: by it the makefile's first target is made
+pub data AreParts : (goals : List (List ℕ)) → (parts : List (List (List ℕ))) → Type 0 where
+  at_once : (goals : List (List ℕ)) → AreParts goals (goals ∷ [])
+  in_turn : (first behind : List (List ℕ)) (parts : List (List (List ℕ))) → first ≢ [] → behind ≢ [] → AreParts behind parts →
+      AreParts (first ++ behind) (first ∷ parts)
+
+-- ---- One behind the other
+
+-- more is made behind what has this status: it is no failure, or the run goes on behind one
+abbrev pub GoesOn : (goes_on : Bool) (status : ℕ) → Type 0
+GoesOn goes_on status = (status ≡ 0) ⊎ (goes_on ≡ true)
+
+-- nothing more is: it is a failure, and the run goes on behind none
+abbrev pub EndsRun : (goes_on : Bool) (status : ℕ) → Type 0
+EndsRun goes_on status = (status ≢ 0) × (goes_on ≡ false)
+
+-- both have a status, and this is the larger one
+pub record Joined {Fault : Type 0} (before behind : Result ℕ Fault) (status : ℕ) : Type 0 where
+  pub first : ℕ
+  pub second : ℕ
+  pub is_first : before ≡ Ok first
+  pub is_second : behind ≡ Ok second
+  pub larger : status ≡ max second first
+
+-- these parts are made in turn, the first over the disk that was found and each other one over what the one before it left. The status is
+-- the largest of theirs. One that ends the run is the last that is made
+pub data MadeInTurn {Disk : Type 0} (MakesOne : (targets : List (List ℕ)) → (found left : Disk) → (status : ℕ) → Type 0) (goes_on : Bool) :
+    (parts : List (List (List ℕ))) → (found left : Disk) → (status : ℕ) → Type 0 where
+  none_left : (disk : Disk) → MadeInTurn MakesOne goes_on [] disk disk 0
+  first_made : {parts : List (List (List ℕ))} {between left : Disk} {status : ℕ} (targets : List (List ℕ)) (found : Disk) (own : ℕ) →
+      MakesOne targets found between own → GoesOn goes_on own → MadeInTurn MakesOne goes_on parts between left status →
+      MadeInTurn MakesOne goes_on (targets ∷ parts) found left (max own status)
+  run_ended : (targets : List (List ℕ)) (parts : List (List (List ℕ))) (found left : Disk) (own : ℕ) →
+      MakesOne targets found left own → EndsRun goes_on own → MadeInTurn MakesOne goes_on (targets ∷ parts) found left own
+
+-- behind what has a status nothing more is made or, where the run goes on, some targets are. The status is the larger one
+pub data MadeBehind {Disk : Type 0} (MakesOne : (targets : List (List ℕ)) → (found left : Disk) → (status : ℕ) → Type 0) (goes_on : Bool)
+    (before : ℕ) (found left : Disk) (status : ℕ) : Type 0 where
+  no_more : left ≡ found → status ≡ before → MadeBehind MakesOne goes_on before found left status
+  once_more : (targets : List (List ℕ)) (own : ℕ) → targets ≢ [] → GoesOn goes_on before → MakesOne targets found left own →
+      status ≡ max own before → MadeBehind MakesOne goes_on before found left status
+
+-- a part is made, and behind it targets that are lost since they were judged up to date
+pub record MakesWithLost {Disk : Type 0} (MakesOne : (targets : List (List ℕ)) → (found left : Disk) → (status : ℕ) → Type 0) (goes_on : Bool)
+    (targets : List (List ℕ)) (found left : Disk) (status : ℕ) : Type 0 where
+  pub between : Disk
+  pub before : ℕ
+  pub made : MakesOne targets found between before
+  pub behind : MadeBehind MakesOne goes_on before between left status
+
+-- the goals are made in parts, in turn, each with what is lost behind it
+pub record IsMadeInTurn {Disk : Type 0} (MakesOne : (targets : List (List ℕ)) → (found left : Disk) → (status : ℕ) → Type 0) (goes_on : Bool)
+    (goals : List (List ℕ)) (found left : Disk) (status : ℕ) : Type 0 where
+  pub parts : List (List (List ℕ))
+  pub are_parts : AreParts goals parts
+  pub in_turn : MadeInTurn (MakesWithLost MakesOne goes_on) goes_on parts found left status

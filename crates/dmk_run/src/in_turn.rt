@@ -1,0 +1,317 @@
+//! The parts of a run, made one behind the other: each over files that are looked at anew.
+ghost use Rattle.std.specs.Prelude.{◌≡◌, ◌≢◌, ◌≤◌, ℕ, ℤ, List, Option, Ok, codes, false, IfOk, IfErr, IsErrAnd, IsOk};
+ghost use Rattle.mk_profile.specs.declared.profile.Profile.TheVariants.{Strict};
+ghost use Rattle.st_disk.specs.Moments.{now};
+ghost use Rattle.dmk_drive.specs.Keeping.{value_in};
+ghost use Rattle.dmk_drive.specs.Output.{AsksToRun};
+ghost use Rattle.dmk_run.specs.InTurn.{MakesPart, MakesWithLost, MadeInTurn, MadeBehind, IsMadeInTurn, IsParted, LeavesDisk};
+
+use crate::driver::{Means, build_at_once, status_of};
+use crate::guard::Guard;
+use crate::parts::{goes_on, in_parts, joined, part_of};
+use crate::printer::Printer;
+use crate::standing::{Standing, lost_targets};
+use crate::stop::Stop;
+use bd_flusher::Receipt;
+use bd_lists::Exec;
+use byte_strings::ByteStrings;
+use dmk_drive::Options;
+use jb_recipe::Place;
+use jb_slots::Banks;
+use mk_eval::Includes;
+use mk_rules::Tree;
+use st_disk::Disk;
+use std::alloc::Global;
+use std::io::Write;
+use std::sync::Wait;
+use std::thread::Threads;
+
+/// Files that can be looked at anew.
+pub trait Looks<T: Tree> {
+    /// What knows nothing yet of any file.
+    fn anew(&self) -> T
+        ensures { (times : List ℕ → Option ℤ) → T.allows result times };
+}
+
+/// Makes a part of what the options ask for, over files that are looked at anew.
+fn made_part<R, T, L, I, E, O, W, P, G, K, D>(
+    rt: &R,
+    alloc: Global,
+    means: &Means<'_, E, Printer<'_, R, O, W>, P>,
+    guard: &mut G,
+    options: &Options,
+    targets: &ByteStrings,
+    looks: &L,
+    includes: &mut I,
+    banks: &mut K,
+    disk: D,
+) -> (Result<u8, Stop>, D, Vec<Standing>)
+where
+    R: Threads + Wait + Sync,
+    T: Tree + Drop,
+    L: Looks<T>,
+    I: Includes,
+    E: Exec<Receipt> + Sync,
+    O: Write + Drop + Send,
+    W: Write + Drop + Send,
+    P: Place + Sync,
+    G: Guard,
+    K: Banks,
+    K::End: Drop + Send,
+    D: Disk + Drop + Send,
+    requires { AsksToRun options.now (value_in means.now.environment.now (codes "MAKEFLAGS")) }
+    ensures status { IfOk result.0 (λ s. s ≤ 2) }
+    ensures part { IfOk result.0 (MakesPart (λ source world. I.allows source world) (λ tree times. T.allows tree times) options.now
+        means.now.environment.now D.honest (λ d. D.seen d) (λ d. now (D.moments d)) targets.now disk result.1) }
+    ensures untouched { LeavesDisk (λ source world. I.allows source world) (λ tree times. T.allows tree times) options.now
+        means.now.environment.now disk result.1 }
+    ensures let_go { K.serves banks.old ≡ false → K.serves banks.new ≡ false }
+{
+    match part_of(alloc, options, targets) {
+        Ok(part) => {
+            let mut files = looks.anew();
+            build_at_once(
+                rt, alloc, means, guard, part, true, &mut files, includes, banks, disk,
+            )
+        }
+        Err(error) => (Err(Stop::from(error)), disk, Vec::new(alloc)),
+    }
+}
+
+/// Notes which targets are lost since they were judged up to date. In the wide profile these are made. Those that there is no memory for
+/// aren't looked at again.
+fn lost_made<R, T, L, I, E, O, W, P, G, K, D>(
+    rt: &R,
+    alloc: Global,
+    means: &Means<'_, E, Printer<'_, R, O, W>, P>,
+    guard: &mut G,
+    options: &Options,
+    looks: &L,
+    includes: &mut I,
+    banks: &mut K,
+    ran: (Result<u8, Stop>, D, Vec<Standing>),
+) -> (Result<u8, Stop>, D)
+where
+    R: Threads + Wait + Sync,
+    T: Tree + Drop,
+    L: Looks<T>,
+    I: Includes,
+    E: Exec<Receipt> + Sync,
+    O: Write + Drop + Send,
+    W: Write + Drop + Send,
+    P: Place + Sync,
+    G: Guard,
+    K: Banks,
+    K::End: Drop + Send,
+    D: Disk + Drop + Send,
+    requires asks { AsksToRun options.now (value_in means.now.environment.now (codes "MAKEFLAGS")) }
+    requires status { IfOk ran.0 (λ s. s ≤ 2) }
+    ensures status { IfOk result.0 (λ s. s ≤ 2) }
+    ensures behind { IfOk result.0 (λ s. (before : ℕ) × (ran.0 ≡ Ok before) × MadeBehind (MakesPart (λ source world. I.allows source world) (λ tree times. T.allows tree times) options.now
+        means.now.environment.now D.honest (λ d. D.seen d) (λ d. now (D.moments d)))
+        options.now.goes_on before ran.1 result.1 s) }
+    ensures strict { options.now.profile ≡ Strict → (result.1 ≡ ran.1) × IfOk result.0 (λ s. ran.0 ≡ Ok s) }
+    ensures untouched { LeavesDisk (λ source world. I.allows source world) (λ tree times. T.allows tree times) options.now
+        means.now.environment.now ran.1 result.1 }
+    ensures let_go { K.serves banks.old ≡ false → K.serves banks.new ≡ false }
+{
+    let (found, disk, standing) = ran;
+    if standing.is_empty() {
+        return (found, disk);
+    }
+    let mut tree = looks.anew();
+    let Ok(lost) = lost_targets(alloc, means.say, means.place, &mut tree, &standing) else {
+        return (found, disk);
+    };
+    if lost.is_empty() || !options.profile.is_wide() || !goes_on(options, &found) {
+        return (found, disk);
+    }
+    let (again, disk, more) = made_part(
+        rt, alloc, means, guard, options, &lost, looks, includes, banks, disk,
+    );
+    drop(more);
+    (joined(found, again), disk)
+}
+
+/// Makes the parts, one behind the other, and behind each what is lost since. One that fails ends the run, unless it is to go on.
+fn made_in_turn<R, T, L, I, E, O, W, P, G, K, D>(
+    rt: &R,
+    alloc: Global,
+    means: &Means<'_, E, Printer<'_, R, O, W>, P>,
+    guard: &mut G,
+    options: &Options,
+    parts: &[ByteStrings],
+    looks: &L,
+    includes: &mut I,
+    banks: &mut K,
+    disk: D,
+) -> (Result<u8, Stop>, D)
+where
+    R: Threads + Wait + Sync,
+    T: Tree + Drop,
+    L: Looks<T>,
+    I: Includes,
+    E: Exec<Receipt> + Sync,
+    O: Write + Drop + Send,
+    W: Write + Drop + Send,
+    P: Place + Sync,
+    G: Guard,
+    K: Banks,
+    K::End: Drop + Send,
+    D: Disk + Drop + Send,
+    requires { AsksToRun options.now (value_in means.now.environment.now (codes "MAKEFLAGS")) }
+    ensures status { IfOk result.0 (λ s. s ≤ 2) }
+    ensures in_turn { IfOk result.0 (MadeInTurn (MakesWithLost (MakesPart (λ source world. I.allows source world) (λ tree times. T.allows tree times) options.now
+        means.now.environment.now D.honest (λ d. D.seen d) (λ d. now (D.moments d))) options.now.goes_on)
+        options.now.goes_on parts.now disk result.1) }
+    ensures untouched { LeavesDisk (λ source world. I.allows source world) (λ tree times. T.allows tree times) options.now
+        means.now.environment.now disk result.1 }
+    ensures let_go { K.serves banks.old ≡ false → K.serves banks.new ≡ false }
+{
+    let mut disk = disk;
+    let mut found = Ok(0);
+    for targets in parts {
+        if !goes_on(options, &found) {
+            break;
+        }
+        let ran = made_part(
+            rt, alloc, means, guard, options, targets, looks, includes, banks, disk,
+        );
+        let (behind, left) = lost_made(
+            rt, alloc, means, guard, options, looks, includes, banks, ran,
+        );
+        disk = left;
+        found = joined(found, behind);
+    }
+    (found, disk)
+}
+
+/// What a run came to, or behind which goals a part ends. In the strict profile nothing is made in parts.
+fn made_or_ends(options: &Options, found: Result<u8, Stop>) -> Result<Result<u8, Stop>, Vec<bool>>
+    ensures found { IfOk result (λ f. f ≡ found) }
+    ensures strict { options.now.profile ≡ Strict → IsOk result }
+    ensures parted { IfErr result (λ ends. IsErrAnd found IsParted) }
+{
+    if !options.profile.is_wide() {
+        return Ok(found);
+    }
+    match found {
+        Err(Stop::Parted(ends)) => Err(ends),
+        found => Ok(found),
+    }
+}
+
+/// Makes all that the options ask for: at once, or in parts.
+fn made_whole<R, T, L, I, E, O, W, P, G, K, D>(
+    rt: &R,
+    alloc: Global,
+    means: &Means<'_, E, Printer<'_, R, O, W>, P>,
+    guard: &mut G,
+    options: &Options,
+    looks: &L,
+    includes: &mut I,
+    banks: &mut K,
+    disk: D,
+) -> (Result<u8, Stop>, D)
+where
+    R: Threads + Wait + Sync,
+    T: Tree + Drop,
+    L: Looks<T>,
+    I: Includes,
+    E: Exec<Receipt> + Sync,
+    O: Write + Drop + Send,
+    W: Write + Drop + Send,
+    P: Place + Sync,
+    G: Guard,
+    K: Banks,
+    K::End: Drop + Send,
+    D: Disk + Drop + Send,
+    requires { AsksToRun options.now (value_in means.now.environment.now (codes "MAKEFLAGS")) }
+    ensures status { IfOk result.0 (λ s. s ≤ 2) }
+    ensures in_turn { IfOk result.0 (IsMadeInTurn (MakesPart (λ source world. I.allows source world) (λ tree times. T.allows tree times) options.now
+        means.now.environment.now D.honest (λ d. D.seen d) (λ d. now (D.moments d)))
+        options.now.goes_on options.now.targets disk result.1) }
+    ensures strict { options.now.profile ≡ Strict → IfOk result.0 (MakesPart (λ source world. I.allows source world) (λ tree times. T.allows tree times) options.now
+        means.now.environment.now D.honest (λ d. D.seen d) (λ d. now (D.moments d)) options.now.targets disk result.1) }
+    ensures untouched { LeavesDisk (λ source world. I.allows source world) (λ tree times. T.allows tree times) options.now
+        means.now.environment.now disk result.1 }
+    ensures let_go { K.serves banks.old ≡ false → K.serves banks.new ≡ false }
+{
+    let whole = match part_of(alloc, options, &options.targets) {
+        Ok(whole) => whole,
+        Err(error) => return (Err(Stop::from(error)), disk),
+    };
+    let mut tree = looks.anew();
+    let (found, disk, standing) = build_at_once(
+        rt, alloc, means, guard, whole, false, &mut tree, includes, banks, disk,
+    );
+    drop(tree);
+    let ends = match made_or_ends(options, found) {
+        Ok(found) => {
+            let ran = (found, disk, standing);
+            return lost_made(
+                rt, alloc, means, guard, options, looks, includes, banks, ran,
+            );
+        }
+        Err(ends) => ends,
+    };
+    drop(standing);
+    match in_parts(alloc, &options.targets, &ends) {
+        Ok(parts) => made_in_turn(
+            rt, alloc, means, guard, options, &parts, looks, includes, banks, disk,
+        ),
+        Err(error) => (Err(Stop::from(error)), disk),
+    }
+}
+
+/// Makes the targets that the words name, or the first of the makefile, and what they need. The status, and the state's disk.
+///
+/// Goals of the wide profile may be made in parts, one behind the other: of each what `build_at_once` says holds, over the disk that
+/// the one before it left. So it is of targets that are lost since they were judged up to date, which are made behind it.
+pub fn build_targets<R, T, L, I, E, O, W, P, G, K, D>(
+    rt: &R,
+    alloc: Global,
+    means: &Means<'_, E, Printer<'_, R, O, W>, P>,
+    guard: &mut G,
+    options: Options,
+    looks: &L,
+    includes: &mut I,
+    banks: &mut K,
+    disk: D,
+) -> (u8, D)
+where
+    R: Threads + Wait + Sync,
+    T: Tree + Drop,
+    L: Looks<T>,
+    I: Includes,
+    E: Exec<Receipt> + Sync,
+    O: Write + Drop + Send,
+    W: Write + Drop + Send,
+    P: Place + Sync,
+    G: Guard,
+    K: Banks,
+    K::End: Drop + Send,
+    D: Disk + Drop + Send,
+    // Recipes are run only where neither the words nor MAKEFLAGS ask for a listing.
+    requires { AsksToRun options (value_in means.now.environment.now (codes "MAKEFLAGS")) }
+    ensures status { result.0 ≤ 2 }
+    // At another status than 2 the goals were made over the disk, in parts one behind the other, and behind a part maybe some targets that
+    // were lost. Of each of these `build_at_once` tells what is so.
+    ensures in_turn { result.0 ≢ 2 → IsMadeInTurn (MakesPart (λ source world. I.allows source world) (λ tree times. T.allows tree times) options
+        means.now.environment.now D.honest (λ d. D.seen d) (λ d. now (D.moments d)))
+        options.goes_on options.targets disk result.1 result.0 }
+    // In the strict profile there is one part.
+    ensures strict { result.0 ≢ 2 → options.profile ≡ Strict → MakesPart (λ source world. I.allows source world) (λ tree times. T.allows tree times) options
+        means.now.environment.now D.honest (λ d. D.seen d) (λ d. now (D.moments d)) options.targets disk result.1 result.0 }
+    // Unless a makefile that was read keeps state, the disk is handed back as it came.
+    ensures untouched { LeavesDisk (λ source world. I.allows source world) (λ tree times. T.allows tree times) options
+        means.now.environment.now disk result.1 }
+    // A pool that is served for the run is let go at its end.
+    ensures let_go { K.serves banks.old ≡ false → K.serves banks.new ≡ false }
+{
+    let (found, disk) = made_whole(
+        rt, alloc, means, guard, &options, looks, includes, banks, disk,
+    );
+    let status = status_of(means.say, options.state.as_str(), found);
+    (status, disk)
+}
