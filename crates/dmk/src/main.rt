@@ -4,11 +4,16 @@
 mod making;
 mod state_lock;
 
+use bd_lists::Variable;
 use dmk_drive::{Fault, Message, Mode, Options, value_of};
 use dmk_host::{
-    FolderFault, ask, enter, held_streams, keep_blocks, read_input, run_anew, tell, tell_fault,
+    FolderFault, SignFault, ask, enter, held_streams, keep_blocks, needs_usual_makefile,
+    print_other_makefile, print_signs, read_input, run_anew, tell, tell_fault, with_signs,
 };
-use dmk_words::{Asked, Later, Request, macro_variables, processors, read_words, with_environment};
+use dmk_words::{
+    Asked, Later, Request, macro_variables, processors, read_words, with_environment,
+    with_flags_seen,
+};
 use making::make;
 use std::alloc::AllocError;
 use std::process::ExitCode;
@@ -54,13 +59,14 @@ fn run_there<R: Threads + Wait + Sync>(
     let Asked {
         folders,
         tells_folder,
+        program,
         later,
         options,
     } = asked;
     if let Err(fault) = begin(host, &folders, tells_folder) {
         return refused(host, fault);
     }
-    let status = run(rt, host, options, later, input);
+    let status = run(rt, host, options, later, program.as_deref(), input);
     if !tells_folder {
         return status;
     }
@@ -89,9 +95,10 @@ fn run<R: Threads + Wait + Sync>(
     host: HostRuntime,
     options: Options,
     later: Later,
+    program: Option<&[u8]>,
     input: Option<&[u8]>,
 ) -> u8 {
-    match run_in(rt, host, options, later, input) {
+    match run_in(rt, host, options, later, program, input) {
         Ok(status) => status,
         Err(_) => {
             let fault = Fault::OutOfMemory;
@@ -110,13 +117,39 @@ fn run_in<R: Threads + Wait + Sync>(
     host: HostRuntime,
     options: Options,
     later: Later,
+    program: Option<&[u8]>,
     input: Option<&[u8]>,
 ) -> Result<u8, AllocError> {
     let _held = held_streams(host);
-    let environment = macro_variables(host, &options)?;
+    let environment = macro_variables(host, &options, program)?;
     let options = with_environment(host.alloc(), later, options, &environment)?;
-    match options.mode(value_of(&environment, b"MAKEFLAGS")) {
-        Mode::Run => make(rt, host, options, later, &environment, input),
-        Mode::DryRun | Mode::Question => ask(host, options, later, &environment, input),
+    let before = later.definitions_before(options.profile, &environment);
+    print_signs(host, &options, before);
+    let is_usual = needs_usual_makefile(&options);
+    print_other_makefile(host, &mut host.stderr(), is_usual);
+    let options = match with_signs(host, options, before, &environment) {
+        Ok(options) => options,
+        Err(SignFault::OutOfMemory) => return Err(AllocError),
+        Err(fault) => {
+            tell_fault(host, &fault);
+            return Ok(2);
+        }
+    };
+    let environment = with_flags_seen(host.alloc(), &options, later, environment)?;
+    run_with(rt, host, options, later, &environment, input)
+}
+
+/// Makes or lists what the options ask for, or tells whether there is anything to make.
+fn run_with<R: Threads + Wait + Sync>(
+    rt: &R,
+    host: HostRuntime,
+    options: Options,
+    later: Later,
+    environment: &[Variable],
+    input: Option<&[u8]>,
+) -> Result<u8, AllocError> {
+    match options.mode(value_of(environment, b"MAKEFLAGS")) {
+        Mode::Run => make(rt, host, options, later, environment, input),
+        Mode::DryRun | Mode::Question => ask(host, options, later, environment, input),
     }
 }

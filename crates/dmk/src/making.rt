@@ -6,15 +6,15 @@ ghost use Rattle.dmk_drive.specs.Output.{AsksToRun};
 use crate::state_lock::{LockPlace, StateLock};
 use bd_flusher::Receipt;
 use bd_lists::{Exec, Variable};
-use dmk_drive::{FileTexts, Options, value_of};
+use dmk_drive::{FileTexts, FileTree, Options, value_of};
 use dmk_host::{
     HostFiles, Patient, PoolPath, base_asked, beside_recipes, buffered, needs_usual_makefile,
     print_gnu_makefile, print_notes, print_reasons, reports_path, status_columns, with_patience,
 };
-use dmk_run::{Guard, Means, Printer, build_targets, followed, trust_files};
+use dmk_run::{Guard, Looks, Means, Printer, build_targets, followed, trust_files};
 use dmk_words::{Later, handed_on};
 use jb_flags::{Handed, Handing};
-use jb_host::{HOLDS, HeldLock, HostPlace, Shell, Stops};
+use jb_host::{BeforeLines, HOLDS, HostPlace, Shell, Stops};
 use jb_recipe::Place;
 use jb_slots::{Banks, FifoBanks};
 use mk_eval::Includes;
@@ -23,7 +23,7 @@ use st_disk::{Disk, FileDisk, SystemFolder};
 use st_records::HashKey;
 use std::alloc::{AllocError, Global};
 use std::io::{BufWriter, Stderr, Stdout, Write};
-use std::sync::{OnceLock, Wait};
+use std::sync::Wait;
 use std::thread::Threads;
 
 type HostPrinter<'a, R> = Printer<'a, R, BufWriter<Patient<Stdout>>, BufWriter<Patient<Stderr>>>;
@@ -37,6 +37,18 @@ struct Outfit<'a, R: Wait> {
     handed: Option<Handed>,
     lock: LockPlace,
     printer: HostPrinter<'a, R>,
+}
+
+/// The files of this machine, looked at anew.
+#[derive(Drop)]
+struct HostLooks {
+    host: HostRuntime,
+}
+
+impl<'a> Looks<FileTree<HostFiles<'a>>> for HostLooks {
+    fn anew(&self) -> FileTree<HostFiles<'a>> {
+        HostFiles::tree(self.host)
+    }
 }
 
 /// A printer on the standard streams.
@@ -66,8 +78,8 @@ fn outfit_of<'a, R: Wait>(
     let alloc = host.alloc();
     let state = options.state.as_str();
     let flags = value_of(environment, b"MAKEFLAGS");
-    let before = later.definitions_before(environment);
-    let handed = handed_on(alloc, options, later.environment_counts, before, flags)?;
+    let before = later.definitions_before(options.profile, environment);
+    let handed = handed_on(alloc, options, later, before, flags)?;
     let lock = LockPlace::of(host, state)?;
     let folder = SystemFolder::new(host, alloc, state)?;
     let reports = reports_path(host, options.profile, state)?;
@@ -86,21 +98,22 @@ fn outfit_of<'a, R: Wait>(
 /// Takes targets as they are where that is asked for, makes the targets, and answers the status. The state's disk comes back.
 ///
 /// The parts of this machine are of any types here: made concrete once, at the call.
-fn make_over<R, T, I, E, O, W, P, G, K, D>(
+fn make_over<R, T, L, I, E, O, W, P, G, K, D>(
     rt: &R,
     alloc: Global,
     means: &Means<'_, E, Printer<'_, R, O, W>, P>,
     guard: &mut G,
     options: Options,
     trusts_files: bool,
-    tree: &mut T,
+    looks: &L,
     makefiles: &mut I,
     banks: &mut K,
     disk: D,
 ) -> (u8, D)
 where
     R: Threads + Wait + Sync,
-    T: Tree,
+    T: Tree + Drop,
+    L: Looks<T>,
     I: Includes,
     E: Exec<Receipt> + Sync,
     O: Write + Drop + Send,
@@ -114,6 +127,7 @@ where
 {
     let mut disk = disk;
     if trusts_files {
+        let mut tree = looks.anew();
         let (found, same) = trust_files(
             alloc,
             means.key,
@@ -121,7 +135,7 @@ where
             means.say,
             guard,
             &options,
-            tree,
+            &mut tree,
             means.place,
             makefiles,
             disk,
@@ -139,14 +153,14 @@ where
             requires { AsksToRun options (value_in means.now.environment.now (codes "MAKEFLAGS")) }
         {
             build_targets(
-                rt, alloc, means, guard, options, tree, makefiles, banks, disk,
+                rt, alloc, means, guard, options, looks, makefiles, banks, disk,
             )
         },
     )
 }
 
 /// Makes the targets with what was found, lets that go, and answers the status. What the system said of files is told at the end.
-/// Lines inherit the lock in `held`, and note in `stops` why they have no status.
+/// What lines are run with stands in `before`; they note in `stops` why they have no status.
 fn make_with<'a, R: Threads + Wait + Sync>(
     rt: &'a R,
     host: HostRuntime,
@@ -155,7 +169,7 @@ fn make_with<'a, R: Threads + Wait + Sync>(
     environment: &[Variable],
     makefiles: &mut FileTexts<HostFiles<'_>>,
     outfit: Outfit<'_, R>,
-    held: &'a OnceLock<HeldLock>,
+    before: &'a BeforeLines,
     stops: &'a Stops<'a, R>,
 ) -> u8
     requires { AsksToRun options (value_in environment.now (codes "MAKEFLAGS")) }
@@ -171,8 +185,8 @@ fn make_with<'a, R: Threads + Wait + Sync>(
     let alloc = host.alloc();
     let is_usual = needs_usual_makefile(&options);
     let above = str::from_utf8(value_of(environment, HOLDS.as_bytes())).unwrap_or("");
-    let mut guard = StateLock::new(host, lock, above, held);
-    let shell = Shell::new(host, alloc, held, stops);
+    let mut guard = StateLock::new(host, lock, above, &before.held);
+    let shell = Shell::new(host, alloc, before, stops);
     let exec = Handing {
         alloc,
         handed: handed.as_ref(),
@@ -187,8 +201,9 @@ fn make_with<'a, R: Threads + Wait + Sync>(
         exec: &exec,
         say: &printer,
         place: &place,
+        shell: &before.shell,
     };
-    let mut tree = HostFiles::tree(host);
+    let looks = HostLooks { host };
     let mut banks = FifoBanks::new(host, "mkfifo");
     let (status, disk) = make_over(
         rt,
@@ -197,15 +212,14 @@ fn make_with<'a, R: Threads + Wait + Sync>(
         &mut guard,
         options,
         trusts_files,
-        &mut tree,
+        &looks,
         makefiles,
         &mut banks,
         FileDisk::new(folder),
     );
-    drop(tree);
     pool.release();
     let (_out, mut err) = printer.into_streams();
-    print_notes(&mut err, makefiles);
+    print_notes(alloc, &mut err, makefiles);
     print_reasons(&mut err, makefiles, &disk);
     print_gnu_makefile(host, &mut err, is_usual && status == 2);
     status
@@ -223,13 +237,13 @@ pub fn make<R: Threads + Wait + Sync>(
     requires { AsksToRun options (value_in environment.now (codes "MAKEFLAGS")) }
 {
     let env = beside_recipes(host, &options, later, environment)?;
-    let mut makefiles = HostFiles::texts(host, input, &env);
+    let mut makefiles = HostFiles::texts(host, options.profile, input, &env);
     makefiles.define(options.profile, &options.definitions);
     makefiles.define(options.profile, environment);
     let base = base_asked(host, &options, environment, &mut makefiles)?;
     let outfit = outfit_of(rt, host, &options, later, environment)?;
     outfit.printer.text(&base);
-    let held = OnceLock::new();
+    let before = BeforeLines::new();
     let stops = Stops::new(rt, host);
     Ok(make_with(
         rt,
@@ -239,7 +253,7 @@ pub fn make<R: Threads + Wait + Sync>(
         environment,
         &mut makefiles,
         outfit,
-        &held,
+        &before,
         &stops,
     ))
 }

@@ -32,11 +32,11 @@ pub fn beside_recipes(
     given: &[Variable],
 ) -> Result<Vec<Variable>, AllocError> {
     let alloc = host.alloc();
-    let before = later.definitions_before(given);
+    let before = later.definitions_before(options.profile, given);
     let flags = value_of(given, b"MAKEFLAGS");
     let definitions = options.definitions.as_slice();
     let env = environment(alloc, definitions, &Makeflags::Removed, None, b"")?;
-    match handed_on(alloc, options, later.environment_counts, before, flags)? {
+    match handed_on(alloc, options, later, before, flags)? {
         Some(handed) => handed.environment(alloc, &env),
         None => Ok(env),
     }

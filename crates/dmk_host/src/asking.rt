@@ -7,6 +7,7 @@ use crate::always_run::{AlwaysLines, beside_recipes};
 use crate::base::base_asked;
 use crate::host_files::HostFiles;
 use crate::reasons::{needs_usual_makefile, print_gnu_makefile, print_notes, print_reasons};
+use crate::signs::{SignFault, with_signs};
 use crate::standard_streams::with_patience;
 use bd_lists::Variable;
 use dmk_drive::{
@@ -96,7 +97,7 @@ impl Look {
             &mut err,
         );
         drop(tree);
-        print_notes(&mut err, makefiles);
+        print_notes(host.alloc(), &mut err, makefiles);
         print_reasons(&mut err, makefiles, &disk);
         drop(disk);
         print_gnu_makefile(host, &mut err, is_usual && reply.status == 2);
@@ -157,12 +158,14 @@ impl Look {
         makefiles.forget_texts(host.alloc());
         match read_words(host, 1) {
             Ok(Request::Make(asked)) => {
-                let options = with_environment(
-                    host.alloc(),
-                    asked.later,
-                    asked.options,
-                    environment,
-                )?;
+                let later = asked.later;
+                let options = with_environment(host.alloc(), later, asked.options, environment)?;
+                let before = later.definitions_before(options.profile, environment);
+                let options = match with_signs(host, options, before, environment) {
+                    Ok(options) => options,
+                    Err(SignFault::OutOfMemory) => return Err(AllocError),
+                    Err(_) => return Ok(None),
+                };
                 Look::if_asked(host, options, environment, makefiles)
             }
             _ => Ok(None),
@@ -275,7 +278,7 @@ pub fn ask(
         }
     };
     let lines = AlwaysLines::new(host, &options, &env);
-    let mut makefiles = HostFiles::texts(host, input, &env);
+    let mut makefiles = HostFiles::texts(host, options.profile, input, &env);
     makefiles.define(options.profile, &options.definitions);
     makefiles.define(options.profile, environment);
     let look = last_look(host, options, environment, &mut makefiles);

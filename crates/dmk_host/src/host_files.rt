@@ -1,4 +1,7 @@
 //! Files and folders by the system's own calls, and the commands of definitions by its shell.
+ghost use Rattle.std.specs.Prelude.{◌≡◌, ℕ, List, None};
+ghost use Rattle.dmk_drive.specs.Stamps.{known_stamp};
+
 use crate::always_run::NONE;
 use crate::looks::Looks;
 use crate::standard_streams::with_patience;
@@ -7,6 +10,7 @@ use byte_strings::ByteStrings;
 use dmk_drive::{FileCalls, FileStatus, FileTexts, FileTree};
 use dmk_words::INPUT;
 use jb_host::{DryShell, Written};
+use mk_profile::Profile;
 use plain_text::Plain;
 use std::alloc::{AllocError, Global};
 use std::fs::{self, File};
@@ -21,6 +25,8 @@ pub struct HostFiles<'a> {
     input: Option<&'a [u8]>,
     /// What the environment of commands has beside dmk's own.
     env: &'a [Variable],
+    /// The language of makefiles: in the wide one a byte order mark at the front is no part of a file.
+    profile: Profile,
 }
 
 /// Reads standard input to its end.
@@ -46,8 +52,10 @@ fn read_whole<R: Read>(alloc: Global, file: &mut R, length: u64) -> io::Result<V
 }
 
 impl<'a> HostFiles<'a> {
-    /// The files as they are judged.
-    pub fn tree(rt: HostRuntime) -> FileTree<HostFiles<'a>> {
+    /// The files as they are judged. Nothing is known yet of any.
+    pub fn tree(rt: HostRuntime) -> FileTree<HostFiles<'a>>
+        ensures { (name : List ℕ) → known_stamp result.stamps name ≡ None }
+    {
         let looks = Looks::new();
         FileTree::new(
             rt.alloc(),
@@ -56,6 +64,7 @@ impl<'a> HostFiles<'a> {
                 looks,
                 input: None,
                 env: &[],
+                profile: Profile::Strict,
             },
         )
     }
@@ -63,6 +72,7 @@ impl<'a> HostFiles<'a> {
     /// The files as makefiles are read from them, and from standard input where that was read.
     pub fn texts(
         rt: HostRuntime,
+        profile: Profile,
         input: Option<&'a [u8]>,
         env: &'a [Variable],
     ) -> FileTexts<HostFiles<'a>> {
@@ -74,6 +84,7 @@ impl<'a> HostFiles<'a> {
                 looks,
                 input,
                 env,
+                profile,
             },
         )
     }
@@ -94,6 +105,14 @@ impl<'a> HostFiles<'a> {
         };
     }
 
+    /// A makefile's text without a byte order mark at its front.
+    fn unmarked<'t>(&self, text: &'t [u8]) -> &'t [u8] {
+        if !self.profile.is_wide() {
+            return text;
+        }
+        text.strip_prefix(MARK).unwrap_or(text)
+    }
+
     fn input_named(&self, name: &str) -> Option<&'a [u8]> {
         if name.as_bytes() == INPUT {
             self.input
@@ -102,6 +121,17 @@ impl<'a> HostFiles<'a> {
         }
     }
 }
+
+/// A command's first line, which is the shell, and the command.
+fn behind_shell(command: &[u8]) -> (&[u8], &[u8]) {
+    match command.iter().position(|byte| *byte == b'\n') {
+        Some(end) => (&command[..end], &command[end + 1..]),
+        None => (b"", command),
+    }
+}
+
+/// What a UTF-8 text may begin with, which is no part of it.
+const MARK: &[u8] = b"\xEF\xBB\xBF";
 
 impl FileCalls for HostFiles<'_> {
     fn status(&mut self, name: &str) -> io::Result<FileStatus> {
@@ -117,11 +147,16 @@ impl FileCalls for HostFiles<'_> {
 
     fn contents(&mut self, alloc: Global, name: &str) -> io::Result<Vec<u8>> {
         if let Some(input) = self.input_named(name) {
-            return Ok(Vec::from_slice(alloc, input)?);
+            return Ok(Vec::from_slice(alloc, self.unmarked(input))?);
         }
         let mut file = File::open(&self.rt, name)?;
         let length = file.metadata()?.len();
-        read_whole(alloc, &mut file, length)
+        let text = read_whole(alloc, &mut file, length)?;
+        let unmarked = self.unmarked(&text);
+        if unmarked.len() < text.len() {
+            return Ok(Vec::from_slice(alloc, unmarked)?);
+        }
+        Ok(text)
     }
 
     fn names(&mut self, alloc: Global, folder: &str) -> io::Result<ByteStrings> {
@@ -144,7 +179,8 @@ impl FileCalls for HostFiles<'_> {
         line: usize,
         command: &[u8],
     ) -> Result<Vec<u8>, AllocError> {
-        let written = match DryShell::new(self.rt, alloc, self.env).output(command) {
+        let (shell, text) = behind_shell(command);
+        let written = match DryShell::new(self.rt, alloc, self.env).output(shell, text) {
             Ok(written) => written,
             Err(_) => Written {
                 status: NONE,

@@ -13,6 +13,7 @@ mod memory;
 mod pool_path;
 mod reasons;
 mod run_name;
+mod signs;
 mod standard_streams;
 mod terminal;
 mod unfilled;
@@ -26,7 +27,10 @@ pub use host_files::{HostFiles, read_input};
 pub use lock_file::{LockFile, Tried};
 pub use memory::keep_blocks;
 pub use pool_path::{PoolPath, reports_path};
-pub use reasons::{needs_usual_makefile, print_gnu_makefile, print_notes, print_reasons};
+pub use reasons::{
+    needs_usual_makefile, print_gnu_makefile, print_notes, print_other_makefile, print_reasons,
+};
 pub use run_name::{is_open_above, is_over};
+pub use signs::{SignFault, print_signs, with_signs};
 pub use standard_streams::{Patient, buffered, held_streams, tell_fault, with_patience};
 pub use terminal::status_columns;

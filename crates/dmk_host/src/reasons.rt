@@ -1,9 +1,10 @@
 //! What the system said of the files that a fault is about, behind the fault.
 
 use crate::host_files::HostFiles;
-use dmk_drive::{FileTexts, Options};
+use dmk_drive::{FileTexts, Options, print_lines};
 use plain_text::Plain;
 use st_disk::{FailedCallMessage, FileDisk, SystemFolder, Which};
+use std::alloc::Global;
 use std::fs;
 use std::io::Write;
 
@@ -29,15 +30,11 @@ pub fn print_reasons<W: Write>(
 }
 
 /// Says what the makefiles ask for that has no meaning here, in the order of reading. A line that can't be printed changes nothing.
-pub fn print_notes<W: Write>(err: &mut W, makefiles: &FileTexts<HostFiles<'_>>) {
-    let mut err = Plain::over(err);
-    let notes = makefiles.notes();
-    for note in notes.found.iter() {
-        if notes.counts(note) {
-            let _ = writeln!(err, "dmk: {note}");
-        }
+/// A note that there is no memory for isn't said.
+pub fn print_notes<W: Write>(alloc: Global, err: &mut W, makefiles: &FileTexts<HostFiles<'_>>) {
+    if let Ok(notes) = makefiles.note_lines(alloc) {
+        print_lines(&mut Plain::over(err), &notes);
     }
-    let _ = err.flush();
 }
 
 /// Whether the makefile is one that other makes look for under one name more.
@@ -61,5 +58,22 @@ pub fn print_gnu_makefile<W: Write>(rt: HostRuntime, err: &mut W, is_wanted: boo
             "dmk: note: GNUmakefile is not read: -f GNUmakefile names it"
         );
         let _ = err.flush();
+    }
+}
+
+/// Says in front that GNUmakefile isn't read, where another makefile is, which GNU make then doesn't read.
+pub fn print_other_makefile<W: Write>(rt: HostRuntime, err: &mut W, is_wanted: bool) {
+    if !is_wanted || !is_there(rt, "GNUmakefile") {
+        return;
+    }
+    for name in ["makefile", "Makefile"] {
+        if is_there(rt, name) {
+            let _ = writeln!(
+                err,
+                "dmk: note: {name} is read, and not GNUmakefile: -f GNUmakefile names it"
+            );
+            let _ = err.flush();
+            return;
+        }
     }
 }

@@ -99,26 +99,27 @@ fn with_language(alloc: Global, command: Command<'_>) -> Result<Command<'_>, All
     )
 }
 
-/// How many recipes may run at once.
-fn workers<'a>(alloc: Global, processors: &'a str) -> Arg<'a> {
+/// How many recipes may run at once, with what a further -j does.
+fn workers<'a>(alloc: Global, processors: &'a str, jobs: ArgAction) -> Arg<'a> {
     value(
         alloc,
         RUNNING,
         'j',
         "workers",
         "N",
-        "Run up to N recipes at once, 1 to 256; without N as many as there are processors",
+        "Run up to N recipes at once, 1 to 256; without N as many as there are processors; by default 2, with --posix 1",
     )
+    .action(jobs)
     .value_parser(clap::value_parser!(u16).range(1..=i64::from(MAX_WORKERS)))
     .num_args(0..=1)
     .default_missing_value(processors)
-    .default_value("2")
 }
 
 fn with_running<'a>(
     alloc: Global,
     command: Command<'a>,
     processors: &'a str,
+    jobs: ArgAction,
 ) -> Result<Command<'a>, AllocError> {
     let command = command.arg(flag(
         alloc,
@@ -127,7 +128,7 @@ fn with_running<'a>(
         "makes_all",
         "Make each target, whatever the files and the state say of it",
     ))?;
-    let command = command.arg(workers(alloc, processors))?;
+    let command = command.arg(workers(alloc, processors, jobs))?;
     command.arg(
         Arg::new(alloc, "trusts_files")
             .long("trust-files")
@@ -178,7 +179,7 @@ fn with_asking(alloc: Global, command: Command<'_>) -> Result<Command<'_>, Alloc
         ASKING,
         'q',
         "asks",
-        "Print nothing and make nothing; status 1 where a target is out of date, else 0",
+        "Make nothing, and print nothing but what -d and -p ask for; status 1 where a target is out of date, else 0",
     ))
 }
 
@@ -244,32 +245,38 @@ fn with_options<'a>(
     alloc: Global,
     command: Command<'a>,
     processors: &'a str,
+    jobs: ArgAction,
 ) -> Result<Command<'a>, AllocError> {
     let command = with_files(alloc, command)?;
     let command = with_language(alloc, command)?;
-    let command = with_running(alloc, command, processors)?;
+    let command = with_running(alloc, command, processors, jobs)?;
     let command = with_failures(alloc, command)?;
     let command = with_asking(alloc, command)?;
     with_telling(alloc, command)
 }
 
-fn command<'a>(alloc: Global, processors: &'a str) -> Result<Command<'a>, AllocError> {
+fn command<'a>(
+    alloc: Global,
+    processors: &'a str,
+    jobs: ArgAction,
+) -> Result<Command<'a>, AllocError> {
     let command = Command::new(alloc, "dmk")
         .bin_name("dmk")?
         .version("0.2.0")
         .about(ABOUT)
         .after_help(AFTER);
-    let command = with_options(alloc, command, processors)?;
+    let command = with_options(alloc, command, processors, jobs)?;
     let command = with_refused(alloc, command)?;
     with_words(alloc, command)
 }
 
 /// The words by what they are, or clap's answer where there is help, the version or a mistake to be told of. A -j without a number has
-/// that of the processors.
+/// that of the processors, and `jobs` is what a further one does.
 pub fn find<'w>(
     alloc: Global,
     processors: &'w str,
+    jobs: ArgAction,
     words: &'w [String],
 ) -> Result<ArgMatches<'w>, clap::Error> {
-    command(alloc, processors)?.try_get_matches_from(words)
+    command(alloc, processors, jobs)?.try_get_matches_from(words)
 }

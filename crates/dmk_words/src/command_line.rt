@@ -3,18 +3,27 @@ use crate::arguments::find;
 use crate::environment::read_environment;
 use crate::flags::taken_words;
 use crate::job_words::with_numbers;
+use crate::program::started_by;
 use crate::request::{Asked, INPUT, Later, Request, WordsFault};
 use bd_lists::Variable;
 use byte_strings::{ByteString, ByteStrings};
-use clap::ArgMatches;
 use clap::error::ErrorKind;
-use dmk_drive::{Makefiles, Mode, Options, Telling, value_of};
-use jb_flags::PROFILE;
+use clap::{ArgAction, ArgMatches};
+use dmk_drive::{MAX_WORKERS, Makefiles, Mode, Options, Telling, value_of};
+use jb_auth::posix;
+use jb_flags::{Above, PROFILE, workers_by};
+use mk_eval::short_name;
 use mk_profile::Profile;
 use plain_text::Plain;
 use std::alloc::{AllocError, Global};
 use std::env;
 use std::io::Write;
+
+/// How many recipes may run at once in the strict profile where the words don't say it.
+const STRICT: Above = Above {
+    workers: 2,
+    is_said: false,
+};
 
 /// The words of the command line, each -j without a number with that of the processors.
 fn given_words(rt: HostRuntime, processors: &str) -> Result<Vec<String>, WordsFault> {
@@ -22,32 +31,66 @@ fn given_words(rt: HostRuntime, processors: &str) -> Result<Vec<String>, WordsFa
     Ok(with_numbers(rt.alloc(), words, processors)?)
 }
 
-/// What these words ask for. The help, the version or what is wrong with them is printed.
-fn asked_by(rt: HostRuntime, processors: &str, words: &[String]) -> Result<Request, WordsFault> {
-    match find(rt.alloc(), processors, words) {
-        Ok(found) => request_of(rt.alloc(), &found),
+/// What the words that were found ask for. The help, the version or what is wrong with them is printed.
+fn answered(
+    rt: HostRuntime,
+    found: Result<ArgMatches<'_>, clap::Error>,
+    above: Above,
+) -> Result<Request, WordsFault> {
+    match found {
+        Ok(found) => request_of(rt.alloc(), &found, above),
         Err(answer) => say(rt, answer),
     }
 }
 
 /// Reads the words, and prints the help, the version or what is wrong with them. A -j without a number has that of the processors.
+/// In the strict profile -j may stand once.
 pub fn read_words(rt: HostRuntime, processors: u16) -> Result<Request, WordsFault> {
-    let processors = format!(in rt.alloc(); "{processors}")?;
+    let alloc = rt.alloc();
+    let count = format!(in alloc; "{processors}")?;
     let environment = read_environment(rt)?;
     let makeflags = value_of(&environment, b"MAKEFLAGS");
-    let words = given_words(rt, processors.as_str())?;
-    let asked = asked_by(rt, processors.as_str(), words.as_slice());
-    if !is_wide(&asked, &environment) {
-        return checked(asked, makeflags);
+    let words = given_words(rt, count.as_str())?;
+    let found = find(alloc, count.as_str(), ArgAction::Set, &words);
+    if !is_wide(&found, &environment) && !is_wide_with_jobs(alloc, &found, &words, &environment) {
+        return checked(answered(rt, found, STRICT), makeflags);
     }
-    drop(asked);
-    let Some(words) = with_flags(rt.alloc(), words, makeflags)? else {
+    drop(found);
+    let program = program_of(rt, &words, &environment)?;
+    let Some(words) = with_flags(alloc, words, makeflags)? else {
         return Err(WordsFault::FlagsNotText);
     };
-    checked(
-        asked_by(rt, processors.as_str(), words.as_slice()),
-        makeflags,
-    )
+    let above = workers_by(alloc, makeflags, processors, MAX_WORKERS)?;
+    let found = find(alloc, count.as_str(), ArgAction::Append, &words);
+    checked(run_by(program, answered(rt, found, above)), makeflags)
+}
+
+/// What MAKE is, by the first of the words.
+fn program_of(
+    rt: HostRuntime,
+    words: &[String],
+    environment: &[Variable],
+) -> Result<Option<Vec<u8>>, AllocError> {
+    let Some(word) = words.first() else {
+        return Ok(None);
+    };
+    let folders = str::from_utf8(value_of(environment, b"PATH")).unwrap_or("");
+    started_by(rt, word.as_str(), folders)
+}
+
+/// What is asked for, of this program.
+fn run_by(
+    program: Option<Vec<u8>>,
+    asked: Result<Request, WordsFault>,
+) -> Result<Request, WordsFault> {
+    match asked {
+        Ok(Request::Make(asked)) => {
+            let mut asked = asked;
+            asked.program = program;
+            Ok(Request::Make(asked))
+        }
+        other => other,
+    }
 }
 
 /// What is asked for, unless targets are to be taken as they are where that has no meaning.
@@ -85,15 +128,28 @@ fn check_trust(options: &Options, makeflags: &[u8]) -> Result<(), WordsFault> {
 }
 
 /// Whether the wide profile is asked for: by the words, by MAKEFLAGS or by a run above that has it.
-fn is_wide(asked: &Result<Request, WordsFault>, environment: &[Variable]) -> bool {
+fn is_wide(found: &Result<ArgMatches<'_>, clap::Error>, environment: &[Variable]) -> bool {
     let (name, wide) = PROFILE;
-    match asked {
-        Ok(Request::Make(asked)) => {
-            value_of(environment, name) == wide
-                || asked
-                    .options
-                    .language(value_of(environment, b"MAKEFLAGS"))
-                    .is_wide()
+    match found {
+        Ok(found) => {
+            found.get_count("posix") > 0
+                || value_of(environment, name) == wide
+                || posix(value_of(environment, b"MAKEFLAGS"))
+        }
+        Err(_) => false,
+    }
+}
+
+/// Whether it is asked for beside several -j, which it takes.
+fn is_wide_with_jobs(
+    alloc: Global,
+    found: &Result<ArgMatches<'_>, clap::Error>,
+    words: &[String],
+    environment: &[Variable],
+) -> bool {
+    match found {
+        Err(answer) if answer.kind() == ErrorKind::ArgumentConflict => {
+            is_wide(&find(alloc, "1", ArgAction::Append, words), environment)
         }
         _ => false,
     }
@@ -124,14 +180,14 @@ fn with_flags(
 }
 
 // What the words that were found ask for, unless it is refused by name.
-fn request_of(alloc: Global, found: &ArgMatches<'_>) -> Result<Request, WordsFault> {
+fn request_of(alloc: Global, found: &ArgMatches<'_>, above: Above) -> Result<Request, WordsFault> {
     if found.get_count("touches") > 0 {
         return Err(WordsFault::Touch);
     }
     if found.contains_id("load") {
         return Err(WordsFault::Load);
     }
-    let asked = asked_of(alloc, found)?;
+    let asked = asked_of(alloc, found, above)?;
     if asked.options.state.as_str() == "-" {
         return Err(WordsFault::StateInput);
     }
@@ -174,6 +230,14 @@ fn say(rt: HostRuntime, answer: clap::Error) -> Result<Request, WordsFault> {
     }
 }
 
+/// The name of a target that is asked for: in the wide profile without a `./` in front, as rule lines have it.
+fn goal_of(profile: Profile, word: &[u8]) -> &[u8] {
+    if profile.is_wide() {
+        return short_name(word);
+    }
+    word
+}
+
 /// Adds a word: a definition where it holds a `=`, and else a target.
 fn add_word(alloc: Global, options: &mut Options, word: &str) -> Result<(), AllocError> {
     match word.split_once('=') {
@@ -184,7 +248,9 @@ fn add_word(alloc: Global, options: &mut Options, word: &str) -> Result<(), Allo
             })?;
             Ok(())
         }
-        None => options.targets.push(word.as_bytes()),
+        None => options
+            .targets
+            .push(goal_of(options.profile, word.as_bytes())),
     }
 }
 
@@ -209,28 +275,39 @@ fn profile_of(found: &ArgMatches<'_>) -> Profile {
     }
 }
 
-/// How much -d tells, by how often it stands.
+/// How much -d tells, by how often it stands. With -B there is one reason for all.
 fn telling_of(found: &ArgMatches<'_>) -> Telling {
     match found.get_count("tells") {
         0 => Telling::Nothing,
+        _ if makes_all(found) => Telling::AllMade,
         1 => Telling::Reasons,
         _ => Telling::All,
     }
 }
 
-/// The options that were found, without the words.
-fn options_of(alloc: Global, found: &ArgMatches<'_>) -> Result<Options, AllocError> {
+/// Whether all targets are to be made.
+fn makes_all(found: &ArgMatches<'_>) -> bool {
+    found.get_count("makes_all") > 0
+}
+
+/// How many recipes may run at once by the words: the last -j counts.
+fn named_workers(found: &ArgMatches<'_>) -> Option<u16> {
+    found.get_strs("workers")?.last()?.parse::<u16>().ok()
+}
+
+/// The options that were found, with so many workers, without the words.
+fn options_of(alloc: Global, found: &ArgMatches<'_>, workers: u16) -> Result<Options, AllocError> {
     Ok(Options {
         makefiles: makefiles_of(alloc, found)?,
         profile: profile_of(found),
         state: String::from_str(alloc, found.get_str("state").unwrap_or(""))?,
-        workers: found.get_one::<u16>("workers").unwrap_or(2),
+        workers,
         goes_on: found.get_count("goes_on") > 0,
         is_dry: found.get_count("dry") > 0,
         is_silent: found.get_count("silent") > 0,
         ignores_statuses: found.get_count("ignore") > 0,
         asks: found.get_count("asks") > 0,
-        makes_all: found.get_count("makes_all") > 0,
+        makes_all: makes_all(found),
         telling: telling_of(found),
         prints_base: found.get_count("base") > 0,
         definitions: Vec::new(alloc),
@@ -256,18 +333,21 @@ fn tells_folder(found: &ArgMatches<'_>) -> bool {
         || found.get_strs("folders").is_some() && found.get_count("silent") == 0
 }
 
-fn asked_of(alloc: Global, found: &ArgMatches<'_>) -> Result<Asked, AllocError> {
-    let mut options = options_of(alloc, found)?;
+fn asked_of(alloc: Global, found: &ArgMatches<'_>, above: Above) -> Result<Asked, AllocError> {
+    let named = named_workers(found);
+    let mut options = options_of(alloc, found, named.unwrap_or(above.workers))?;
     for word in found.get_strs("words").unwrap_or(&[]) {
         add_word(alloc, &mut options, *word)?;
     }
     Ok(Asked {
         folders: folders_of(alloc, found)?,
         tells_folder: tells_folder(found),
+        program: None,
         later: Later {
             environment_counts: found.get_count("environment") > 0,
             names_state: found.contains_id("state"),
             trusts_files: found.get_count("trusts_files") > 0,
+            has_jobs: named.is_some() || above.is_said,
         },
         options,
     })

@@ -1,8 +1,10 @@
 //! The variables of the environment, as bytes.
+use crate::flags::handed_on;
 use crate::request::Later;
 use bd_lists::Variable;
 use byte_strings::ByteString;
 use dmk_drive::{Options, usual_state, value_of};
+use mk_eval::doubled_text;
 use mk_profile::Profile;
 use std::alloc::{AllocError, Global};
 use std::env::{self, FillError};
@@ -58,36 +60,112 @@ pub fn read_environment(rt: HostRuntime) -> Result<Vec<Variable>, AllocError> {
     Ok(variables)
 }
 
-/// The variables in this language: in the wide one CURDIR is the folder that is worked in, whatever the environment says of it
-/// (POSIX make, "Macros"). It isn't handed to recipes. Where the folder has no name that can be had, there is none.
-fn with_folder(
+/// Whether a variable of the environment is one for macros in this language: in the wide one CURDIR, MAKEFLAGS and SHELL are set by
+/// the run itself.
+fn is_given(name: &[u8]) -> bool {
+    name != b"CURDIR".as_slice() && name != b"MAKEFLAGS".as_slice() && name != b"SHELL".as_slice()
+}
+
+/// How many of the variables that macros see count as definitions where the environment's do: in the wide language those before
+/// MAKEFLAGS.
+pub(crate) fn given_in(profile: Profile, environment: &[Variable]) -> usize {
+    if !profile.is_wide() {
+        return environment.len();
+    }
+    environment
+        .iter()
+        .position(|variable| variable.name.as_slice() == b"MAKEFLAGS".as_slice())
+        .unwrap_or(environment.len())
+}
+
+fn push(
+    alloc: Global,
+    variables: &mut Vec<Variable>,
+    name: &[u8],
+    value: &[u8],
+) -> Result<(), AllocError> {
+    variables.push(Variable {
+        name: ByteString::from_slice(alloc, name)?,
+        value: ByteString::from_slice(alloc, value)?,
+    })?;
+    Ok(())
+}
+
+/// The variables in this language: in the wide one CURDIR is the folder that is worked in, whatever the environment says of it (POSIX
+/// make, "Macros"), and SHELL isn't taken, with -e neither. Behind them stand MAKEFLAGS as it came, and MAKE, unless the environment
+/// has one. They aren't handed to recipes. What the folder or the program has no name for isn't there.
+fn with_own(
     rt: HostRuntime,
     profile: Profile,
+    program: Option<&[u8]>,
     environment: Vec<Variable>,
 ) -> Result<Vec<Variable>, AllocError> {
     if !profile.is_wide() {
         return Ok(environment);
     }
-    let mut variables = Vec::with_capacity(rt.alloc(), environment.len())?;
+    let alloc = rt.alloc();
+    let flags = Vec::from_slice(alloc, value_of(&environment, b"MAKEFLAGS"))?;
+    let mut variables = Vec::with_capacity(alloc, environment.len())?;
+    let mut has_make = false;
     for variable in environment {
-        if variable.name.as_slice() != b"CURDIR".as_slice() {
+        has_make = has_make || variable.name.as_slice() == b"MAKE".as_slice();
+        if is_given(variable.name.as_slice()) {
             variables.push(variable)?;
         }
     }
     if let Ok(folder) = env::current_dir(&rt) {
-        variables.push(Variable {
-            name: ByteString::from_slice(rt.alloc(), b"CURDIR")?,
-            value: ByteString::from_slice(rt.alloc(), folder.as_str().as_bytes())?,
-        })?;
+        push(alloc, &mut variables, b"CURDIR", folder.as_str().as_bytes())?;
+    }
+    push(alloc, &mut variables, b"MAKEFLAGS", &flags)?;
+    match program {
+        Some(program) if !has_make => push(alloc, &mut variables, b"MAKE", program)?,
+        _ => {}
     }
     Ok(variables)
 }
 
-/// The variables that macros see, in the language that these options and the environment's MAKEFLAGS ask for.
-pub fn macro_variables(rt: HostRuntime, options: &Options) -> Result<Vec<Variable>, AllocError> {
+/// The variables that macros see, in the language that these options and the environment's MAKEFLAGS ask for. This is what MAKE is
+/// where the program is known.
+pub fn macro_variables(
+    rt: HostRuntime,
+    options: &Options,
+    program: Option<&[u8]>,
+) -> Result<Vec<Variable>, AllocError> {
     let environment = read_environment(rt)?;
     let language = options.language(value_of(&environment, b"MAKEFLAGS"));
-    with_folder(rt, language, environment)
+    with_own(rt, language, program, environment)
+}
+
+/// The letters of a word of options, without its hyphen and without those by which nothing is run: a recipe that holds them is judged as
+/// in a run.
+fn letters_of(alloc: Global, word: &[u8]) -> Result<Vec<u8>, AllocError> {
+    let mut letters = Vec::new(alloc);
+    for byte in word {
+        if *byte != b'-' && *byte != b'n' && *byte != b'q' {
+            letters.push(*byte)?;
+        }
+    }
+    Ok(letters)
+}
+
+/// The variables with MAKEFLAGS as macros see it in the wide profile, behind the one that came: the letters of the options, and the
+/// definitions, as they are handed on (GNU make). What else is asked of MAKEFLAGS is asked of the first one.
+pub fn with_flags_seen(
+    alloc: Global,
+    options: &Options,
+    later: Later,
+    environment: Vec<Variable>,
+) -> Result<Vec<Variable>, AllocError> {
+    let before = later.definitions_before(options.profile, &environment);
+    let Some(handed) = handed_on(alloc, options, later, before, b"")? else {
+        return Ok(environment);
+    };
+    let mut text = letters_of(alloc, &handed.options)?;
+    text.extend_from_slice(&handed.definitions)?;
+    let text = doubled_text(alloc, &text)?;
+    let mut variables = environment;
+    push(alloc, &mut variables, b"MAKEFLAGS", &text)?;
+    Ok(variables)
 }
 
 /// The first makefile that the words name.
@@ -111,8 +189,9 @@ pub fn with_environment(
     if !later.environment_counts {
         return Ok(options);
     }
-    let mut definitions = Vec::with_capacity(alloc, environment.len())?;
-    for variable in environment {
+    let given = given_in(options.profile, environment);
+    let mut definitions = Vec::with_capacity(alloc, given)?;
+    for variable in environment.iter().take(given) {
         definitions.push(Variable {
             name: variable.name.copy(alloc)?,
             value: variable.value.copy(alloc)?,

@@ -1,21 +1,19 @@
 //! What MAKEFLAGS says of options and definitions, and what makes below are told of them. Only in the wide profile.
 
+use crate::request::Later;
 use byte_strings::ByteStrings;
 use dmk_drive::Options;
-use jb_flags::{Handed, definition_words, words_of};
+use jb_flags::{Handed, definition_words, has_value, jobs_word, words_of};
 use std::alloc::{AllocError, Global};
 
 /// The options that are taken: those of POSIX make but -f and -p, and what GNU make shares with dmk.
 const TAKEN: &[u8] = b"BSeiknqrstw";
 
-/// Those behind which a value stands, in this make and in others.
-const WITH_VALUES: &[u8] = b"CDIJKOTVWfjlmov";
-
 /// Appends the options of a word that are taken, as a word of the command line.
 fn push_options(alloc: Global, taken: &mut ByteStrings, letters: &[u8]) -> Result<(), AllocError> {
     let mut word = vec![in alloc; b'-'; 1]?;
     for letter in letters {
-        if WITH_VALUES.contains(letter) {
+        if has_value(*letter) {
             break;
         }
         if TAKEN.contains(letter) {
@@ -75,26 +73,43 @@ fn option_word(
     Ok(word)
 }
 
-/// The words of MAKEFLAGS that tell of job slots, as they stand there before the definitions.
-fn slot_words(alloc: Global, makeflags: &[u8]) -> Result<Vec<u8>, AllocError> {
-    let mut kept = Vec::new(alloc);
+/// The words of MAKEFLAGS that tell of a jobserver, as they stand there before the definitions.
+fn push_jobserver(words: &mut Vec<u8>, makeflags: &[u8]) -> Result<(), AllocError> {
     for word in makeflags.split(|byte| *byte == b' ') {
         if word == b"--".as_slice() {
             break;
         }
-        if word.starts_with(b"--jobserver-") || word.starts_with(b"-j") {
-            kept.push(b' ')?;
-            kept.extend_from_slice(word)?;
+        if word.starts_with(b"--jobserver-") {
+            words.push(b' ')?;
+            words.extend_from_slice(word)?;
         }
     }
-    Ok(kept)
+    Ok(())
+}
+
+/// What makes below are told of job slots where they share those of a make above: with one worker here they are to have one too, and no
+/// jobserver, by which GNU make would have more.
+fn shared_slots(alloc: Global, workers: u16, makeflags: &[u8]) -> Result<Vec<u8>, AllocError> {
+    let mut words = jobs_word(alloc, workers)?;
+    if workers > 1 {
+        push_jobserver(&mut words, makeflags)?;
+    }
+    Ok(words)
+}
+
+/// What they are told where they share none: one each, which is said where it was said how many.
+fn own_slot(alloc: Global, has_jobs: bool) -> Result<Vec<u8>, AllocError> {
+    if has_jobs {
+        return jobs_word(alloc, 1);
+    }
+    Ok(Vec::new(alloc))
 }
 
 /// What makes below are told of the options, and of the definitions of the command line, which stand behind so many others.
 pub fn handed_on(
     alloc: Global,
     options: &Options,
-    environment_counts: bool,
+    later: Later,
     before: usize,
     makeflags: &[u8],
 ) -> Result<Option<Handed>, AllocError> {
@@ -103,8 +118,9 @@ pub fn handed_on(
     }
     let definitions = options.definitions.get(before..).unwrap_or(&[]);
     Ok(Some(Handed {
-        options: option_word(alloc, options, environment_counts)?,
-        slots: slot_words(alloc, makeflags)?,
+        options: option_word(alloc, options, later.environment_counts)?,
+        slots: shared_slots(alloc, options.workers, makeflags)?,
+        alone: own_slot(alloc, later.has_jobs)?,
         definitions: definition_words(alloc, definitions)?,
     }))
 }

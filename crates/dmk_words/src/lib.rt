@@ -6,10 +6,11 @@ mod command_line;
 mod environment;
 mod flags;
 mod job_words;
+mod program;
 mod request;
 
 pub use command_line::read_words;
-pub use environment::{macro_variables, with_environment};
+pub use environment::{macro_variables, with_environment, with_flags_seen};
 pub use flags::handed_on;
 pub use job_words::processors;
 pub use request::{Asked, INPUT, Later, Request, WordsFault};

@@ -1,8 +1,10 @@
 //! What the words of the command line ask for, or why they aren't followed.
 ghost use Rattle.std.specs.Prelude.{◌≡◌};
 
+use crate::environment::given_in;
 use bd_lists::Variable;
 use dmk_drive::Options;
+use mk_profile::Profile;
 use std::alloc::AllocError;
 use std::io;
 use thiserror::Error;
@@ -17,6 +19,8 @@ pub struct Asked {
     pub folders: Vec<String>,
     /// The folder is told where the run begins and where it ends.
     pub tells_folder: bool,
+    /// The text of MAKE in the wide profile, where the path of the program is known.
+    pub program: Option<Vec<u8>>,
     pub later: Later,
     pub options: Options,
 }
@@ -30,6 +34,8 @@ pub struct Later {
     pub names_state: bool,
     /// Targets are taken as they are before the run, where nothing is recorded of any.
     pub trusts_files: bool,
+    /// The words or MAKEFLAGS say how many recipes may run at once.
+    pub has_jobs: bool,
 }
 
 /// What the words ask for.
@@ -71,9 +77,9 @@ pub enum WordsFault {
 
 impl Later {
     /// How many definitions stand before those of the command line.
-    pub fn definitions_before(self, environment: &[Variable]) -> usize {
+    pub fn definitions_before(self, profile: Profile, environment: &[Variable]) -> usize {
         if self.environment_counts {
-            environment.len()
+            given_in(profile, environment)
         } else {
             0
         }

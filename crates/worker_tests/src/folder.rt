@@ -101,6 +101,10 @@ impl Includes for Folder {
 
     fn see(&mut self, _alloc: Global, _profile: Profile, _file: &[u8], _statements: &[Statement]) {}
 
+    fn take_notes(&mut self, alloc: Global) -> Result<ByteStrings, AllocError> {
+        Ok(ByteStrings::empty(alloc))
+    }
+
     ghost possible = { λ folder. (
       record {
         files = λ name. option_map (λ file. file.2.now) (find (λ file. bytes_eq file.0.now name) folder.files.now);

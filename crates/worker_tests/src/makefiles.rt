@@ -32,6 +32,7 @@ pub fn graph(alloc: Global, asked: &Asked, state: &State) -> Result<Graph, Fail>
         &mut folder,
         state.copy(alloc)?,
         MAX_NODES,
+        false,
     )?)
 }
 

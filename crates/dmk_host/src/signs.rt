@@ -1,0 +1,252 @@
+//! Words of the command line that define a macro by another sign than `=`, in the wide profile: what GNU make has them stand for.
+use crate::standard_streams::with_patience;
+use bd_lists::Variable;
+use byte_strings::{ByteString, trim_end};
+use dmk_drive::{Options, first_macros};
+use jb_host::DryShell;
+use mk_eval::{doubled_text, output_text};
+use mk_macros::{Dynamic, MacroFault, Macros};
+use mk_profile::Profile;
+use plain_text::Plain;
+use std::alloc::{AllocError, AllocFailed, Global};
+use std::io::Write;
+use std::mem;
+use thiserror::Error;
+
+/// Why a word defines nothing.
+#[derive(Debug, Drop, Error)]
+pub enum SignFault {
+    #[error("out of memory")]
+    OutOfMemory,
+    /// The macro, and why its text has no expansion.
+    #[error("{0}: {1}")]
+    Macro(ByteString, MacroFault),
+}
+
+impl From<AllocError> for SignFault {
+    ghost from_gives = { λ _ _. Unit {0} };
+
+    fn from(_error: AllocError) -> SignFault {
+        SignFault::OutOfMemory
+    }
+}
+
+impl<T: Drop> From<AllocFailed<T>> for SignFault {
+    ghost from_gives = { λ _ _. Unit {0} };
+
+    fn from(_error: AllocFailed<T>) -> SignFault {
+        SignFault::OutOfMemory
+    }
+}
+
+/// What stands between the name and the `=`.
+#[derive(Clone, Copy)]
+enum Sign {
+    /// `:` and `::`, and `:::`: the text is expanded once.
+    AtOnce,
+    /// `+`
+    Appended,
+    /// `?`
+    IfUndefined,
+    /// `!`
+    Output,
+}
+
+/// A definition by a sign.
+#[derive(Clone, Copy)]
+struct Signed<'a> {
+    name: &'a [u8],
+    sign: Sign,
+    text: &'a [u8],
+}
+
+/// What is defined before such a definition: by the words in front of it, and by the environment.
+#[derive(Clone, Copy)]
+struct Before<'a> {
+    words: &'a [Variable],
+    environment: &'a [Variable],
+}
+
+fn sign_of(last: u8) -> Option<Sign> {
+    match last {
+        b':' => Some(Sign::AtOnce),
+        b'+' => Some(Sign::Appended),
+        b'?' => Some(Sign::IfUndefined),
+        b'!' => Some(Sign::Output),
+        _ => None,
+    }
+}
+
+fn without_colons(name: &[u8]) -> &[u8] {
+    let mut front = name;
+    for _ in 0..name.len() {
+        match front.split_last() {
+            Some((b':', before)) => front = before,
+            _ => break,
+        }
+    }
+    front
+}
+
+/// The definition by its sign, where it has one.
+fn by_sign(variable: &Variable) -> Option<Signed<'_>> {
+    let (last, before) = variable.name.as_slice().split_last()?;
+    let sign = sign_of(*last)?;
+    let name = match sign {
+        Sign::AtOnce => trim_end(without_colons(before)),
+        _ => trim_end(before),
+    };
+    if name.is_empty() {
+        return None;
+    }
+    let text = variable.value.as_slice();
+    Some(Signed { name, sign, text })
+}
+
+/// The last value that the name has among these.
+fn value_among<'a>(variables: &'a [Variable], name: &[u8]) -> Option<&'a [u8]> {
+    let mut found = None;
+    for variable in variables {
+        if variable.name.as_slice() == name {
+            found = Some(variable.value.as_slice());
+        }
+    }
+    found
+}
+
+impl<'a> Before<'a> {
+    /// What the words, or else the environment, have for the name. The tool's own definitions don't count (GNU make).
+    fn value(&self, name: &[u8]) -> Option<&'a [u8]> {
+        match value_among(self.words, name) {
+            Some(value) => Some(value),
+            None => value_among(self.environment, name),
+        }
+    }
+
+    /// The text behind what the name has.
+    fn appended(&self, alloc: Global, name: &[u8], text: &[u8]) -> Result<Vec<u8>, AllocError> {
+        let before = self.value(name).unwrap_or(b"");
+        let mut whole = Vec::from_slice(alloc, before)?;
+        if !before.is_empty() {
+            whole.push(b' ')?;
+        }
+        whole.extend_from_slice(text)?;
+        Ok(whole)
+    }
+}
+
+/// What a text comes to with these definitions, in the definition of this name.
+fn expanded(
+    alloc: Global,
+    macros: &Macros,
+    name: &[u8],
+    text: &[u8],
+) -> Result<Vec<u8>, SignFault> {
+    match macros.expand(alloc, text, &Dynamic::RuleLine) {
+        Ok(text) => Ok(text),
+        Err(MacroFault::OutOfMemory) => Err(SignFault::OutOfMemory),
+        Err(fault) => Err(SignFault::Macro(ByteString::from_slice(alloc, name)?, fault)),
+    }
+}
+
+/// What a command writes, as a text. One that can't be run writes nothing.
+fn written(host: HostRuntime, shell: &[u8], command: &[u8]) -> Result<Vec<u8>, AllocError> {
+    let alloc = host.alloc();
+    match DryShell::new(host, alloc, &[]).output(shell, command) {
+        Ok(written) => output_text(alloc, written.out.as_slice()),
+        Err(_) => Ok(Vec::new(alloc)),
+    }
+}
+
+/// The text that the name has by its sign; None where it keeps the one that it has.
+fn text_by(
+    host: HostRuntime,
+    profile: Profile,
+    before: &Before<'_>,
+    signed: &Signed<'_>,
+) -> Result<Option<Vec<u8>>, SignFault> {
+    let alloc = host.alloc();
+    let Signed { name, sign, text } = *signed;
+    let macros = first_macros(alloc, profile, before.words, before.environment)?;
+    match sign {
+        Sign::Appended => Ok(Some(before.appended(alloc, name, text)?)),
+        Sign::IfUndefined if before.value(name).is_some() => Ok(None),
+        Sign::IfUndefined => Ok(Some(Vec::from_slice(alloc, text)?)),
+        Sign::AtOnce => {
+            let text = expanded(alloc, &macros, name, text)?;
+            Ok(Some(doubled_text(alloc, &text)?))
+        }
+        Sign::Output => {
+            let shell = expanded(alloc, &macros, name, b"$(SHELL)")?;
+            let command = expanded(alloc, &macros, name, text)?;
+            Ok(Some(written(host, &shell, &command)?))
+        }
+    }
+}
+
+/// The variable of a definition: its own, or the one that it comes to by its sign; None where the name keeps the text that it has.
+fn variable_by(
+    host: HostRuntime,
+    profile: Profile,
+    before: &Before<'_>,
+    variable: Variable,
+) -> Result<Option<Variable>, SignFault> {
+    let Some(signed) = by_sign(&variable) else {
+        return Ok(Some(variable));
+    };
+    let Some(text) = text_by(host, profile, before, &signed)? else {
+        return Ok(None);
+    };
+    Ok(Some(Variable {
+        name: ByteString::from_slice(host.alloc(), signed.name)?,
+        value: ByteString::new(text),
+    }))
+}
+
+/// The options with what their definitions come to by their signs, but for the first ones, so many, which are the environment's.
+pub fn with_signs(
+    host: HostRuntime,
+    options: Options,
+    first: usize,
+    environment: &[Variable],
+) -> Result<Options, SignFault> {
+    let profile = options.profile;
+    if !profile.is_wide() {
+        return Ok(options);
+    }
+    let mut options = options;
+    let mut words: Vec<Variable> = Vec::new(host.alloc());
+    let given = mem::replace(&mut options.definitions, Vec::new(host.alloc()));
+    for variable in given {
+        if words.len() < first {
+            words.push(variable)?;
+            continue;
+        }
+        let before = Before {
+            words: &words,
+            environment,
+        };
+        if let Some(variable) = variable_by(host, profile, &before, variable)? {
+            words.push(variable)?;
+        }
+    }
+    options.definitions = words;
+    Ok(options)
+}
+
+/// Says of each definition of the strict profile, but for the first ones, that has such a sign what its macro is called.
+pub fn print_signs(host: HostRuntime, options: &Options, first: usize) {
+    if options.profile.is_wide() {
+        return;
+    }
+    let mut err = with_patience(host, host.stderr());
+    for variable in options.definitions.iter().skip(first) {
+        if by_sign(variable).is_some() {
+            let name = &variable.name;
+            let _ = writeln!(
+                Plain::over(&mut err),
+                "dmk: note: the macro is called {name}"
+            );
+        }
+    }
+}
