@@ -60,6 +60,7 @@ class Makefile:
     COMMAND = "dmk -n"
     STATEMENTS = 9  # and fewer
     PREFIXES = (b"", b" ", b"\t", b"@", b"-@ ", b"+", b"? !")
+    COMMENTS_IN_RECIPES = True  # a comment may stand behind a recipe that stands behind a `;`
 
     def __init__(self, seed):
         self.random = Random(seed)
@@ -109,9 +110,9 @@ class Makefile:
             return newline + self.random.choice((b"",) + BLANKS)
         return self.random.choice(blanks)
 
-    def end_line(self):
+    def end_line(self, may_have_comment=True):
         end = self.random.below(6)
-        if end == 0:
+        if end == 0 and may_have_comment:
             self.text += self.random.choice((b"", b" ")) + self.random.choice(COMMENTS)
         elif end == 1:
             self.text += self.random.choice(BLANKS)
@@ -190,7 +191,7 @@ class Makefile:
             spelled, meant = self.word([piece for piece in SHELL + REFERENCES if b"#" not in piece[0]])
             self.text += self.random.choice((b";", b" ; ", b"\t;")) + b"echo" + spelled
             lines.append(b"echo" + meant)
-        self.end_line()
+        self.end_line(self.COMMENTS_IN_RECIPES or not lines)
         if may_have_one:
             for _ in range(self.random.below(4)):
                 self.nothing()

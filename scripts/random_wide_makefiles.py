@@ -52,6 +52,7 @@ class WideMakefile(Makefile):
     COMMAND = "dmk --posix -r -n"
     STATEMENTS = 14
     PREFIXES = (b"", b" ", b"\t", b"@", b"-@ ", b"? !")  # a line with `+` would be run
+    COMMENTS_IN_RECIPES = False
 
     def __init__(self, seed):
         self.texts, self.flavors = {}, {}

@@ -1,6 +1,6 @@
 """Refuses memory to the built programs: the Nth call for it alone, or each from the Nth on, for each N up to 150 and then every
-37th, until none is refused. Each run has to end by itself with a status that the manual names, say `out of memory` where that
-status is 2, and leave a state that can be listed; the run that follows with memory has to make all that is missing.
+37th, until none is refused. Each run has to end by itself with a status that the manual names, say where that status is 2 that memory
+or a worker was wanting, and leave a state that can be listed; the run that follows with memory has to make all that is missing.
 
 The last line is 'N passed, M failed', of runs. Usage: refused_growths.py [RUNS AT ONCE]
 """
@@ -22,6 +22,8 @@ LISTER = ROOT / "crates/dmk_state/out/dmk_state"
 SECONDS = 20
 # So many runs of each program have to end for want of memory: with fewer, the library refuses nothing.
 LEAST = 50
+# A thread that has no memory to start with is told as a worker that can't be started.
+WORDS_OF_WANT = ("out of memory", "dmk: cannot start a worker")
 
 MAKEFILE = """.KEEP_STATE:
 .SUFFIXES: .c .o
@@ -86,7 +88,7 @@ def make_tree(folder, state):
 def faults_of_end(status, said, statuses):
     if status not in statuses:
         yield f"status {status}"
-    if status == 2 and "out of memory" not in said:
+    if status == 2 and not any(word in said for word in WORDS_OF_WANT):
         yield "another word than 'out of memory'"
 
 

@@ -30,6 +30,7 @@ sampler=$!
 started=$SECONDS
 run_part env RT_JOBS="${RT_JOBS:-$lanes}" rt ci
 if [ "$failed" -eq 0 ]; then
+    run_part python3 scripts/dead.py
     run_part bash scripts/must_not_compile.sh
     run_part python3 scripts/planted.py --built --lanes "$lanes"
     planted=$said

@@ -10,6 +10,8 @@ for word in $(cat /proc/cmdline); do
     case $word in mode=* | tools=* | pause=* | expire=*) eval "$word" ;; esac
 done
 export PAUSE=$pause
+# Without a status line, behind which what is said here wouldn't stand in a line of its own.
+export TERM=dumb
 echo "$expire" >/proc/sys/vm/dirty_expire_centisecs
 tools=$(echo "$tools" | tr , ' ')
 
