@@ -1,0 +1,2 @@
+-- Short: names without a `./` in front.
+pub mod Short
