@@ -5,6 +5,7 @@ use Rattle.std.specs.List.{AllByRecursion, IsDistinct}
 use Rattle.std.specs.Cmp.Lexicographic.{bytes_decides}
 use Rattle.std.proofs.lemmas.Map.Views.{any-filter_same}
 use Rattle.std.proofs.lemmas.Map.Keys.{IsDistinct-cons}
+use Rattle.mk_profile.specs.declared.profile.Profile.{Profile}
 use Rattle.mk_reader.specs.Lines.{joined_lines}
 use Rattle.mk_recipe.specs.Report.{has, mentioned, first_mentions, hidden_names}
 
@@ -70,17 +71,17 @@ once-first_mentions [] = tt
 once-first_mentions (n ∷ names) =
     (others n (first_mentions names), once-filter (λ other. not (bytes_eq other n)) (first_mentions names) (once-first_mentions names))
 
-pub hidden-each : (report target : List ℕ) (known : List (List ℕ)) (name : List ℕ)
-    → has name (hidden_names report target known) ≡ (has name (mentioned target (joined_lines (Some report))) && not (has name (target ∷ known)))
+pub hidden-each : (profile : Profile) (report target : List ℕ) (known : List (List ℕ)) (name : List ℕ)
+    → has name (hidden_names profile report target known) ≡ (has name (mentioned profile target (joined_lines (Some report))) && not (has name (target ∷ known)))
 unfolding hidden_names
-hidden-each report target known name =
-    let named = mentioned target (joined_lines (Some report)) in
+hidden-each profile report target known name =
+    let named = mentioned profile target (joined_lines (Some report)) in
     has-filter (λ n. not (has n (target ∷ known))) name (first_mentions named)
     ∙ ap (λ (b : Bool). not (has name (target ∷ known)) && b) (has-first_mentions name named)
     ∙ and_swapped (not (has name (target ∷ known))) (has name named)
 
-pub hidden-once : (report target : List ℕ) (known : List (List ℕ)) → IsDistinct bytes_eq (hidden_names report target known)
+pub hidden-once : (profile : Profile) (report target : List ℕ) (known : List (List ℕ)) → IsDistinct bytes_eq (hidden_names profile report target known)
 unfolding hidden_names
-hidden-once report target known =
-    let named = mentioned target (joined_lines (Some report)) in
+hidden-once profile report target known =
+    let named = mentioned profile target (joined_lines (Some report)) in
     once-filter (λ n. not (has n (target ∷ known))) (first_mentions named) (once-first_mentions named)

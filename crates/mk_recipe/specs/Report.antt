@@ -1,10 +1,12 @@
 -- What a report says of a target: the files that its commands read (own: a compiler's list of dependencies, as GCC's
 -- -MD and cc's -xM write it).
-use Rattle.std.specs.Prelude.{◌≡◌, ℕ, ◌+◌, ◌<◌, ◌≤◌, Bool, true, false, not, ◌&&◌, ◌==◌, List, [], ◌∷◌, take, drop, length, filter, Option, Some, None, option_map, Any, bytes_eq, if◌then◌else◌}
+use Rattle.std.specs.Prelude.{◌≡◌, ℕ, ◌+◌, ◌<◌, ◌≤◌, Bool, true, false, not, ◌&&◌, ◌==◌, List, [], ◌∷◌, take, drop, length, map, filter, Option, Some, None, option_map, Any, bytes_eq, if◌then◌else◌}
 use Rattle.std.specs.List.{list_any, flat_map}
 use Rattle.byte_strings.specs.Blanks.{is_blank, words}
+use Rattle.mk_profile.specs.declared.profile.Profile.{Profile}
 use Rattle.mk_reader.specs.Text.{is_text}
 use Rattle.mk_reader.specs.Lines.{joined_lines}
+use Rattle.mk_short_names.specs.Short.{name_in}
 use Rattle.st_records.specs.declared.limits.TheConstants.{MAX_NAME_BYTES, MAX_HIDDEN_NAMES}
 use Rattle.mk_recipe.specs.declared.report.ReportFault.{ReportFault}
 use Rattle.mk_recipe.specs.declared.report.ReportFault.TheVariants.{OutOfMemory, NotText, TooLong, TooMany}
@@ -23,6 +25,10 @@ colon_at (b ∷ bs) = if b == 58 && ends_here bs then Some 0 else option_map (λ
 abbrev pub has : (name : List ℕ) → List (List ℕ) → Bool
 has name names = list_any (bytes_eq name) names
 
+-- the names of a text, as they are read in this profile (in the wide one as GNU make reads the rule lines that such a report is)
+abbrev pub names_in : Profile → (text : List ℕ) → List (List ℕ)
+names_in profile text = map (name_in profile) (words text)
+
 -- the words are just this one name
 abbrev pub is_only : (name : List ℕ) → (ws : List (List ℕ)) → Bool
 is_only name [] = false
@@ -30,16 +36,16 @@ is_only name (word ∷ []) = bytes_eq name word
 is_only name (word ∷ next ∷ more) = false
 
 -- the names that a line says of the target, cut at the colon at this place: none where it is another target's
-abbrev pub names_behind : (target line : List ℕ) → (colon : Option ℕ) → List (List ℕ)
-names_behind target line None = []
-names_behind target line (Some at) = if is_only target (words (take at line)) then words (drop (at + 1) line) else []
+abbrev pub names_behind : Profile → (target line : List ℕ) → (colon : Option ℕ) → List (List ℕ)
+names_behind profile target line None = []
+names_behind profile target line (Some at) = if is_only target (names_in profile (take at line)) then names_in profile (drop (at + 1) line) else []
 
-abbrev pub names_on : (target line : List ℕ) → List (List ℕ)
-names_on target line = names_behind target line (colon_at line)
+abbrev pub names_on : Profile → (target line : List ℕ) → List (List ℕ)
+names_on profile target line = names_behind profile target line (colon_at line)
 
 -- the names that the lines of a report say of the target, in order and as often as they do
-abbrev pub mentioned : (target : List ℕ) → (lines : List (List ℕ)) → List (List ℕ)
-mentioned target lines = flat_map (names_on target) lines
+abbrev pub mentioned : Profile → (target : List ℕ) → (lines : List (List ℕ)) → List (List ℕ)
+mentioned profile target lines = flat_map (names_on profile target) lines
 
 -- each name at its first mention
 abbrev pub first_mentions : List (List ℕ) → List (List ℕ)
@@ -47,16 +53,16 @@ first_mentions [] = []
 first_mentions (name ∷ names) = name ∷ filter (λ other. not (bytes_eq other name)) (first_mentions names)
 
 -- the hidden prerequisites that a report names, in order of first mention: neither the target nor one that is known
-unfoldable pub hidden_names : (report target : List ℕ) → (known : List (List ℕ)) → List (List ℕ)
-hidden_names report target known =
-    filter (λ name. not (has name (target ∷ known))) (first_mentions (mentioned target (joined_lines (Some report))))
+unfoldable pub hidden_names : Profile → (report target : List ℕ) → (known : List (List ℕ)) → List (List ℕ)
+hidden_names profile report target known =
+    filter (λ name. not (has name (target ∷ known))) (first_mentions (mentioned profile target (joined_lines (Some report))))
 
 -- a fault of a report; want of memory is none
-abbrev pub HasFault : (report target : List ℕ) → (known : List (List ℕ)) → ReportFault → Type 0
-HasFault report target known OutOfMemory = ⊥
-HasFault report target known NotText = is_text report ≡ false
-HasFault report target known TooLong = Any (λ name. MAX_NAME_BYTES < length name) (hidden_names report target known)
-HasFault report target known TooMany = MAX_HIDDEN_NAMES < length (hidden_names report target known)
+abbrev pub HasFault : Profile → (report target : List ℕ) → (known : List (List ℕ)) → ReportFault → Type 0
+HasFault profile report target known OutOfMemory = ⊥
+HasFault profile report target known NotText = is_text report ≡ false
+HasFault profile report target known TooLong = Any (λ name. MAX_NAME_BYTES < length name) (hidden_names profile report target known)
+HasFault profile report target known TooMany = MAX_HIDDEN_NAMES < length (hidden_names profile report target known)
 
 -- the order of the faults
 abbrev pub rank : ReportFault → ℕ
@@ -66,18 +72,18 @@ rank TooLong = 2
 rank TooMany = 3
 
 -- of the faults that a report has this is the first
-pub record IsFirstFault (report target : List ℕ) (known : List (List ℕ)) (fault : ReportFault) : Type 0 where
-  pub there : HasFault report target known fault
-  pub first : (other : ReportFault) → HasFault report target known other → rank fault ≤ rank other
+pub record IsFirstFault (profile : Profile) (report target : List ℕ) (known : List (List ℕ)) (fault : ReportFault) : Type 0 where
+  pub there : HasFault profile report target known fault
+  pub first : (other : ReportFault) → HasFault profile report target known other → rank fault ≤ rank other
 
 -- the fault of a call that may also want memory, though not to find that a report is no text
-abbrev pub IsReportFault : (report target : List ℕ) → (known : List (List ℕ)) → ReportFault → Type 0
-IsReportFault report target known OutOfMemory = is_text report ≡ true
-IsReportFault report target known NotText = IsFirstFault report target known NotText
-IsReportFault report target known TooLong = IsFirstFault report target known TooLong
-IsReportFault report target known TooMany = IsFirstFault report target known TooMany
+abbrev pub IsReportFault : Profile → (report target : List ℕ) → (known : List (List ℕ)) → ReportFault → Type 0
+IsReportFault profile report target known OutOfMemory = is_text report ≡ true
+IsReportFault profile report target known NotText = IsFirstFault profile report target known NotText
+IsReportFault profile report target known TooLong = IsFirstFault profile report target known TooLong
+IsReportFault profile report target known TooMany = IsFirstFault profile report target known TooMany
 
 -- the hidden names, of a report that has no fault
-pub record AreHidden (report target : List ℕ) (known names : List (List ℕ)) : Type 0 where
-  pub sound : (fault : ReportFault) → HasFault report target known fault → ⊥
-  pub names_are : names ≡ hidden_names report target known
+pub record AreHidden (profile : Profile) (report target : List ℕ) (known names : List (List ℕ)) : Type 0 where
+  pub sound : (fault : ReportFault) → HasFault profile report target known fault → ⊥
+  pub names_are : names ≡ hidden_names profile report target known

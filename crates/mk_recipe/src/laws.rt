@@ -1,6 +1,7 @@
 //! What holds of the definitions alone. The functions do nothing: what they ensure is the law.
 ghost use Rattle.std.specs.Prelude.{◌≡◌, ℕ, Bool, not, ◌&&◌, List, ◌∷◌, Some, bytes_eq};
 ghost use Rattle.std.specs.List.{IsDistinct};
+ghost use Rattle.mk_profile.specs.declared.profile.Profile.{Profile};
 ghost use Rattle.mk_reader.specs.Lines.{joined_lines};
 ghost use Rattle.mk_recipe.specs.declared.line.Line.{Line};
 ghost use Rattle.mk_recipe.specs.declared.line_status.LineStatus.{LineStatus};
@@ -23,9 +24,9 @@ pub fn one_outcome()
 /// A name is hidden just where a line of the report says it of the target, and it is neither the target nor known. None
 /// is hidden twice.
 pub fn hidden_as_mentioned()
-    ensures each { (report target : List ℕ) (known names : List (List ℕ)) (name : List ℕ)
-        → AreHidden report target known names
-        → has name names ≡ (has name (mentioned target (joined_lines (Some report))) && not (has name (target ∷ known))) }
-    ensures once { (report target : List ℕ) (known names : List (List ℕ))
-        → AreHidden report target known names → IsDistinct bytes_eq names }
+    ensures each { (profile : Profile) (report target : List ℕ) (known names : List (List ℕ)) (name : List ℕ)
+        → AreHidden profile report target known names
+        → has name names ≡ (has name (mentioned profile target (joined_lines (Some report))) && not (has name (target ∷ known))) }
+    ensures once { (profile : Profile) (report target : List ℕ) (known names : List (List ℕ))
+        → AreHidden profile report target known names → IsDistinct bytes_eq names }
 {}

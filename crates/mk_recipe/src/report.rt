@@ -1,15 +1,16 @@
 //! The report of a target: the files that its commands have read beside those that the makefile names.
 ghost use Rattle.std.specs.Prelude.{◌≡◌, ℕ, ◌∷◌, [], List, Some, true, false, IfOk, IfErr, OnOk, ◌||◌, ◌⊎◌};
-ghost use Rattle.byte_strings.specs.Blanks.{words};
 ghost use Rattle.mk_reader.specs.Lines.{joined_lines};
-ghost use Rattle.mk_recipe.specs.Report.{has, mentioned, AreHidden, IsReportFault};
+ghost use Rattle.mk_recipe.specs.Report.{has, names_in, mentioned, AreHidden, IsReportFault};
 ghost use Rattle.mk_recipe.specs.Reading.{Reads, Stops};
 ghost use Rattle.mk_recipe.specs.declared.report.ReportFault.TheVariants.{TooMany};
 
 use crate::name_set::NameSet;
 use crate::report_line::names_on;
 use byte_strings::{ByteStrings, Words};
+use mk_profile::Profile;
 use mk_reader::{is_text, next_joined_line};
+use mk_short_names::name_in;
 use st_records::{HashKey, MAX_HIDDEN_NAMES, MAX_NAME_BYTES};
 use std::alloc::{AllocError, Global};
 use thiserror::Error;
@@ -90,19 +91,20 @@ fn read_name(
     Ok(false)
 }
 
-/// Takes in the words of a text. Says whether one is left out.
+/// Takes in the names of a text. Says whether one is left out.
 fn read_names(
     alloc: Global,
+    profile: Profile,
     seen: &mut NameSet,
     hidden: &mut ByteStrings,
     text: &[u8],
 ) -> Result<bool, ReportFault>
-    ensures ok { IfOk result (Reads (words text.now) seen.old hidden.old seen.new hidden.new) }
-    ensures fault { IfErr result (Stops (words text.now) seen.old) }
+    ensures ok { IfOk result (Reads (names_in profile text.now) seen.old hidden.old seen.new hidden.new) }
+    ensures fault { IfErr result (Stops (names_in profile text.now) seen.old) }
 {
     let mut left_out = false;
-    for name in Words::new(text) {
-        let is_left_out = read_name(alloc, seen, hidden, name)?;
+    for word in Words::new(text) {
+        let is_left_out = read_name(alloc, seen, hidden, name_in(profile, word))?;
         left_out |= is_left_out;
     }
     Ok(left_out)
@@ -111,20 +113,27 @@ fn read_names(
 /// Takes in all names that the lines of a report say of the target. Says whether one is left out.
 fn read_lines(
     alloc: Global,
+    profile: Profile,
     seen: &mut NameSet,
     hidden: &mut ByteStrings,
     report: &[u8],
     target: &[u8],
 ) -> Result<bool, ReportFault>
-    ensures ok { IfOk result (Reads (mentioned target.now (joined_lines (Some report.now)))
+    ensures ok { IfOk result (Reads (mentioned profile target.now (joined_lines (Some report.now)))
         seen.old hidden.old seen.new hidden.new) }
-    ensures fault { IfErr result (Stops (mentioned target.now (joined_lines (Some report.now))) seen.old) }
+    ensures fault { IfErr result (Stops (mentioned profile target.now (joined_lines (Some report.now))) seen.old) }
 {
     let mut left_out = false;
     let mut left = Some(report);
     while let Some(bytes) = left {
         let (line, after) = next_joined_line(alloc, bytes)?;
-        let is_left_out = read_names(alloc, seen, hidden, names_on(target, line.as_slice()))?;
+        let is_left_out = read_names(
+            alloc,
+            profile,
+            seen,
+            hidden,
+            names_on(profile, target, line.as_slice()),
+        )?;
         left_out |= is_left_out;
         left = after;
     }
@@ -134,18 +143,19 @@ fn read_lines(
 /// The names that the lines of a report say of the target and that weren't seen before.
 fn hidden_names(
     alloc: Global,
+    profile: Profile,
     seen: &mut NameSet,
     report: &[u8],
     target: &[u8],
 ) -> Result<ByteStrings, ReportFault>
-    ensures names { IfOk result (λ hidden. Reads (mentioned target.now (joined_lines (Some report.now)))
+    ensures names { IfOk result (λ hidden. Reads (mentioned profile target.now (joined_lines (Some report.now)))
         seen.old [] seen.new hidden false) }
-    ensures fault { IfErr result (λ fault. Stops (mentioned target.now (joined_lines (Some report.now))) seen.old fault
-        ⊎ ((fault ≡ TooMany) × (hidden : List (List ℕ)) × Reads (mentioned target.now (joined_lines (Some report.now)))
+    ensures fault { IfErr result (λ fault. Stops (mentioned profile target.now (joined_lines (Some report.now))) seen.old fault
+        ⊎ ((fault ≡ TooMany) × (hidden : List (List ℕ)) × Reads (mentioned profile target.now (joined_lines (Some report.now)))
         seen.old [] seen.new hidden true)) }
 {
     let mut hidden = ByteStrings::empty(alloc);
-    if read_lines(alloc, seen, &mut hidden, report, target)? {
+    if read_lines(alloc, profile, seen, &mut hidden, report, target)? {
         return Err(ReportFault::TooMany);
     }
     Ok(hidden)
@@ -154,21 +164,22 @@ fn hidden_names(
 /// The hidden prerequisites that a target's report names, in order of their first mention: neither the target nor one
 /// of the names in `known`, which are its source and its explicit prerequisites.
 ///
-/// Lines for other targets are passed over. An `Err` gives no names, and of several faults the first is answered.
+/// Names are read as in this profile's rule lines. Lines for other targets are passed over. An `Err` gives no names, and of several faults the first is answered.
 /// `key` hides from the report's writer which names collide in a table.
 pub fn read_report(
     alloc: Global,
+    profile: Profile,
     key: HashKey,
     report: &[u8],
     target: &[u8],
     known: &ByteStrings,
 ) -> Result<ByteStrings, ReportFault>
-    ensures names { IfOk result (AreHidden report.now target.now known.now) }
-    ensures fault { IfErr result (IsReportFault report.now target.now known.now) }
+    ensures names { IfOk result (AreHidden profile report.now target.now known.now) }
+    ensures fault { IfErr result (IsReportFault profile report.now target.now known.now) }
 {
     if !is_text(report) {
         return Err(ReportFault::NotText);
     }
     let mut seen = known_names(alloc, key, target, known)?;
-    hidden_names(alloc, &mut seen, report, target)
+    hidden_names(alloc, profile, &mut seen, report, target)
 }

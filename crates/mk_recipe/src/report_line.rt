@@ -1,9 +1,10 @@
 //! What a line of a report says.
 ghost use Rattle.std.specs.Prelude.{◌≡◌, ◌<◌, ◌+◌, ◌==◌, ◌&&◌, length, drop, slice_index, IfSome};
-ghost use Rattle.byte_strings.specs.Blanks.{words};
-ghost use Rattle.mk_recipe.specs.Report.{ends_here, colon_at, is_only, names_on};
+ghost use Rattle.mk_recipe.specs.Report.{ends_here, colon_at, is_only, names_in, names_on};
 
 use byte_strings::{is_blank, next_word};
+use mk_profile::Profile;
+use mk_short_names::name_in;
 
 /// Nothing follows, or a blank.
 fn ends_here(bytes: &[u8]) -> bool
@@ -38,24 +39,24 @@ fn colon_at(line: &[u8]) -> Option<usize>
     None
 }
 
-/// The words of a text are just this one name.
-fn is_only(name: &[u8], text: &[u8]) -> bool
-    ensures { result ≡ is_only name.now (words text.now) }
+/// The names of a text are just this one.
+fn is_only(profile: Profile, name: &[u8], text: &[u8]) -> bool
+    ensures { result ≡ is_only name.now (names_in profile text.now) }
 {
     match next_word(text) {
         None => false,
-        Some((word, rest)) => next_word(rest).is_none() && name == word,
+        Some((word, rest)) => next_word(rest).is_none() && name == name_in(profile, word),
     }
 }
 
 /// The text of the names that a line says of the target.
-pub fn names_on<'a>(target: &[u8], line: &'a [u8]) -> &'a [u8]
-    ensures { words result.now ≡ names_on target.now line.now }
+pub fn names_on<'a>(profile: Profile, target: &[u8], line: &'a [u8]) -> &'a [u8]
+    ensures { names_in profile result.now ≡ names_on profile target.now line.now }
 {
     let Some(at) = colon_at(line) else {
         return &[];
     };
-    if is_only(target, &line[..at]) {
+    if is_only(profile, target, &line[..at]) {
         &line[at + 1..]
     } else {
         &[]

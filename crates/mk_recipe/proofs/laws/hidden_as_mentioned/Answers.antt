@@ -6,7 +6,7 @@ use Rattle.mk_recipe.proofs.HiddenLemmas.{hidden-each, hidden-once}
 use Rattle.mk_recipe.proofs.laws.hidden_as_mentioned.Goals as goal
 
 pub returns-clause-each : goal.returns-clause-each
-returns-clause-each c = λ report target known names name h. ap (has name) h.names_are ∙ hidden-each report target known name
+returns-clause-each c = λ profile report target known names name h. ap (has name) h.names_are ∙ hidden-each profile report target known name
 
 pub returns-clause-once : goal.returns-clause-once
-returns-clause-once c = λ report target known names h. subst (IsDistinct bytes_eq) (sym h.names_are) (hidden-once report target known)
+returns-clause-once c = λ profile report target known names h. subst (IsDistinct bytes_eq) (sym h.names_are) (hidden-once profile report target known)

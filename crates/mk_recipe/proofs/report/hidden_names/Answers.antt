@@ -12,7 +12,7 @@ returns-in_err-read_lines-clause-fault c =
 
 pub returns-then-branch-clause-fault : goal.returns-then-branch-clause-fault
 returns-then-branch-clause-fault c =
-    let all = mentioned c.args.target.now (joined_lines (Some c.args.report.now)) in
+    let all = mentioned c.args.profile c.args.target.now (joined_lines (Some c.args.report.now)) in
     let seen = c.args.seen.now in
     let read = subst (λ (b : Bool). Reads all seen [] c.read_lines.new.seen c.read_lines.new.hidden b) c.if-branch.true
     (subst (λ (h : List (List ℕ)). Reads all seen h c.read_lines.new.seen c.read_lines.new.hidden c.in_ok-read_lines.field-0) c.empty-hidden.ensures c.in_ok-read_lines.ensures.ok) in
@@ -20,7 +20,7 @@ returns-then-branch-clause-fault c =
 
 pub returns-clause-names : goal.returns-clause-names
 returns-clause-names c =
-    let all = mentioned c.args.target.now (joined_lines (Some c.args.report.now)) in
+    let all = mentioned c.args.profile c.args.target.now (joined_lines (Some c.args.report.now)) in
     let seen = c.args.seen.now in
     subst (λ (b : Bool). Reads all seen [] c.read_lines.new.seen c.read_lines.new.hidden b) c.if-branch.false
     (subst (λ (h : List (List ℕ)). Reads all seen h c.read_lines.new.seen c.read_lines.new.hidden c.in_ok-read_lines.field-0) c.empty-hidden.ensures c.in_ok-read_lines.ensures.ok)
