@@ -5,7 +5,7 @@ use Rattle.std.proofs.Common.{◌≡◌, ◌∙◌, true, ◌||◌, List, [], �
 use Rattle.mk_graph.specs.Numbering.{all_added}
 use Rattle.mk_graph.proofs.NameLemmas.{all_added-append}
 use Rattle.mk_reader.specs.declared.special.SpecialName.{SpecialName}
-use Rattle.mk_rule_lines.specs.Goals.{is_keep_state, is_no_parallel, is_delete_on_error, has_special, settings_of}
+use Rattle.mk_rule_lines.specs.Goals.{is_no_parallel, is_delete_on_error, has_special, settings_of}
 use Rattle.mk_rule_lines.specs.Marks.{speaks_of_all, names_in, patterns_in}
 use Rattle.mk_rule_lines.specs.Rules.{is_rule}
 use Rattle.mk_rule_lines.specs.Settled.{nothing_set, marked_with, settings_with}
@@ -34,7 +34,6 @@ marked-more m marked l lines =
 -- the settings with what these lines set
 abbrev all_behind : Settings → List RuleLine → Settings
 all_behind s lines = record {
-  keeps_state = s.keeps_state || has_special is_keep_state lines;
   has_one_worker = s.has_one_worker || has_special is_no_parallel lines;
   deletes_on_error = s.deletes_on_error || has_special is_delete_on_error lines;
   ignored = marked_behind Ignored s.ignored lines;
@@ -47,7 +46,6 @@ settings-none s = simp (or_none, append-nil) refl
 
 settings-more : (s : Settings) (l : RuleLine) (lines : List RuleLine) → all_behind (settings_with s l) lines ≡ all_behind s (l ∷ lines)
 settings-more s l lines =
-    let keeps = or_both s.keeps_state (is_keep_state l.special) (has_special is_keep_state lines) in
     let one = or_both s.has_one_worker (is_no_parallel l.special) (has_special is_no_parallel lines) in
     let deletes = or_both s.deletes_on_error (is_delete_on_error l.special) (has_special is_delete_on_error lines) in
     let ignored = marked-more Ignored s.ignored l lines in

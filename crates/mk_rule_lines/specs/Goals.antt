@@ -108,7 +108,6 @@ has_special is_it lines = list_any (λ l. is_it l.special) lines
 -- `.DELETE_ON_ERROR`: GNU make manual, "Special Built-in Target Names")
 abbrev pub settings_of : List RuleLine → Settings
 settings_of lines = record {
-  keeps_state = has_special is_keep_state lines;
   has_one_worker = has_special is_no_parallel lines;
   deletes_on_error = has_special is_delete_on_error lines;
   ignored = marked_by Ignored lines;

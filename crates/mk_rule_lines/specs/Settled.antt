@@ -1,7 +1,7 @@
 -- What special rules set, taken in one line after the other.
 use Rattle.std.specs.Prelude.{[], false, ◌||◌, ◌++◌}
 use Rattle.mk_graph.specs.Numbering.{all_added}
-use Rattle.mk_rule_lines.specs.Goals.{is_keep_state, is_no_parallel, is_delete_on_error}
+use Rattle.mk_rule_lines.specs.Goals.{is_no_parallel, is_delete_on_error}
 use Rattle.mk_rule_lines.specs.Marks.{speaks_of_all, names_in, patterns_in}
 use Rattle.mk_rule_lines.specs.declared.marked.Mark.{Mark}
 use Rattle.mk_rule_lines.specs.declared.marked.Mark.TheVariants.{Ignored, Silent, Precious}
@@ -22,7 +22,6 @@ marked_with m marked l = record {
 
 abbrev pub nothing_set : Settings
 nothing_set = record {
-  keeps_state = false;
   has_one_worker = false;
   deletes_on_error = false;
   ignored = nothing_marked;
@@ -33,7 +32,6 @@ nothing_set = record {
 -- what is set with one more line
 abbrev pub settings_with : Settings → RuleLine → Settings
 settings_with s l = record {
-  keeps_state = s.keeps_state || is_keep_state l.special;
   has_one_worker = s.has_one_worker || is_no_parallel l.special;
   deletes_on_error = s.deletes_on_error || is_delete_on_error l.special;
   ignored = marked_with Ignored s.ignored l;

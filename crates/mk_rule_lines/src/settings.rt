@@ -1,6 +1,6 @@
 //! What the special targets of a makefile set.
 ghost use Rattle.std.specs.Prelude.{◌≡◌, IfOk, OnOk};
-ghost use Rattle.mk_rule_lines.specs.Goals.{is_keep_state, is_no_parallel, is_delete_on_error, settings_of};
+ghost use Rattle.mk_rule_lines.specs.Goals.{is_no_parallel, is_delete_on_error, settings_of};
 ghost use Rattle.mk_rule_lines.specs.Settled.{nothing_set, settings_with};
 
 use crate::marked::{Mark, Marked};
@@ -9,8 +9,6 @@ use mk_reader::SpecialName;
 use std::alloc::{AllocError, Global};
 
 pub struct Settings {
-    /// `.KEEP_STATE:` stands in the makefile.
-    pub keeps_state: bool,
     /// `.NO_PARALLEL:`, or `.NOTPARALLEL:`.
     pub has_one_worker: bool,
     /// `.DELETE_ON_ERROR:`.
@@ -26,22 +24,12 @@ pub struct Settings {
 impl Drop for Settings {
     fn drop(self) {
         let Settings {
-            keeps_state: _,
             has_one_worker: _,
             deletes_on_error: _,
             ignored: _,
             silent: _,
             precious: _,
         } = self;
-    }
-}
-
-fn is_keep_state(line: &RuleLine) -> bool
-    ensures { result ≡ is_keep_state line.now.special }
-{
-    match line.special {
-        Some(SpecialName::KeepState) => true,
-        _ => false,
     }
 }
 
@@ -69,7 +57,6 @@ impl Settings {
         ensures { result ≡ nothing_set }
     {
         Settings {
-            keeps_state: false,
             has_one_worker: false,
             deletes_on_error: false,
             ignored: Marked::none(alloc),
@@ -82,7 +69,6 @@ impl Settings {
     fn take_in(&mut self, alloc: Global, line: &RuleLine) -> Result<(), AllocError>
         ensures { OnOk result (self.new ≡ settings_with self.old line.now) }
     {
-        self.keeps_state = self.keeps_state || is_keep_state(line);
         self.has_one_worker = self.has_one_worker || is_no_parallel(line);
         self.deletes_on_error = self.deletes_on_error || is_delete_on_error(line);
         self.ignored.take_in(alloc, Mark::Ignored, line)?;
