@@ -1,7 +1,19 @@
 -- Lines that are joined as if none were a recipe line.
-use Rattle.std.proofs.Common.{◌≡◌, ◌∙◌, ℕ, false, List, ◌∷◌, ◌++◌, map, flat_map, Option, sym, ap}
-use Rattle.mk_reader.specs.Lines.{Physical, lines_left, groups, rest_of_group, after_group, opening, joint, joined_text, joined_lines}
+use Rattle.std.proofs.Common.{◌≡◌, ◌∙◌, ℕ, Bool, false, List, [], ◌∷◌, ◌++◌, map, flat_map, Option, refl, sym, ap, append_assoc, append-nil}
+use Rattle.mk_reader.specs.Lines.{Physical, lines_left, groups, rest_of_group, after_group, opening, joint, in_recipe, joined_behind, joined_text, joined_lines}
 use Rattle.mk_reader.proofs.LinesLemmas.{groups-cons}
+
+-- where each text is in a recipe, or none is, all lines are joined one way
+pub joined_one_way : (recipe wide one : Bool) → ((text : List ℕ) → in_recipe recipe wide text ≡ one) → (text : List ℕ) (lines : List Physical) → joined_behind recipe wide text lines ≡ text ++ flat_map (joint one) lines
+joined_one_way recipe wide one same text [] = sym (append-nil text)
+joined_one_way recipe wide one same text (line ∷ more) =
+    ap (λ t. joined_behind recipe wide (text ++ joint t line) more) (same text)
+    ∙ joined_one_way recipe wide one same (text ++ joint one line) more
+    ∙ append_assoc text (joint one line) (flat_map (joint one) more)
+
+pub joined_plainly : (text : List ℕ) (lines : List Physical) → joined_behind false false text lines ≡ text ++ flat_map (joint false) lines
+unfolding in_recipe
+joined_plainly text lines = joined_one_way false false false (λ t. refl) text lines
 
 -- the first of them, and those behind it
 pub joined_lines-cons : (left after : Option (List ℕ)) (p : Physical) (ps : List Physical) (text : List ℕ) → lines_left left ≡ p ∷ ps → lines_left after ≡ after_group p ps

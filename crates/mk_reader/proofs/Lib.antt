@@ -6,6 +6,7 @@ pub mod FormLemmas
 pub mod GrammarLemmas
 pub mod JoinedLemmas
 pub mod LinesLemmas
+pub mod OpenedLemmas
 pub mod OpensLemmas
 pub mod OutsideLemmas
 pub mod PlaceLemmas
@@ -20,4 +21,5 @@ pub mod SpellingLemmas
 pub mod SplitLemmas
 pub mod StatementLemmas
 pub mod TextLemmas
+pub mod TextOfLemmas
 pub mod WordLemmas

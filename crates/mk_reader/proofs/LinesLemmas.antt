@@ -1,12 +1,12 @@
 -- The first line of a text, and the lines behind it.
-use Rattle.std.proofs.Common.{◌≡◌, ℕ, ◌+◌, ◌<◌, ◌≤◌, min, Bool, true, false, cond, List, [], ◌∷◌, ◌++◌, length, take, drop, flat_map, refl, sym, ap, ◌∙◌, ◌⊎◌, inl, inr, append_assoc, append-nil, arith, Option, Some, None, option_copied, Bor}
+use Rattle.std.proofs.Common.{◌≡◌, ℕ, ◌+◌, ◌<◌, ◌≤◌, min, Bool, true, false, cond, List, [], ◌∷◌, ◌++◌, length, take, drop, refl, sym, ap, ◌∙◌, ◌⊎◌, inl, inr, arith, Option, Some, None, option_copied, Bor}
 use Rattle.std.specs.List.{position_or_len, before_first, after_first, slice_split, onto_first}
 use Rattle.std.proofs.lemmas.List.{drop_more, length-drop, take_all}
 use Rattle.std.proofs.lemmas.List.Splits.{slice_split_first, slice_split_none, length-slice_split}
 use Rattle.std.proofs.lemmas.List.Sums.{fails_before_first}
 use Rattle.mk_reader.specs.Text.{is_newline, begins_with}
 use Rattle.mk_reader.specs.declared.line.Ending.TheVariants.{EndOfText}
-use Rattle.mk_reader.specs.Lines.{Physical, physical_lines, ended_line, lines_left, goes_on, groups, rest_of_group, after_group, number_after, numbered, opening, joint, joined_text, logical_line, logical_lines}
+use Rattle.mk_reader.specs.Lines.{Physical, physical_lines, ended_line, lines_left, goes_on, groups, rest_of_group, after_group, number_after, numbered, opening, joint, in_recipe, joined_behind, text_of, logical_line, logical_lines}
 use Rattle.mk_reader.specs.declared.line.LogicalLine.{LogicalLine}
 
 pub physical_lines-more : (text : List ℕ) (pieces : List (List ℕ)) → 0 < length pieces → physical_lines (text ∷ pieces) ≡ ended_line text ∷ physical_lines pieces
@@ -58,11 +58,11 @@ group_ends p (q ∷ qs) (inl e) = (ap (λ b. cond b (q ∷ rest_of_group q qs) [
 group_ends p (q ∷ qs) (inr e) = absurd (cc e)
 
 -- one more line of a group
-pub joined_more : (joint : Physical → List ℕ) (p q : Physical) (ps qs : List Physical) (old new : List ℕ) → goes_on p ≡ true → ps ≡ q ∷ qs → new ≡ old ++ joint q → new ++ flat_map joint (rest_of_group q qs) ≡ old ++ flat_map joint (rest_of_group p ps)
-joined_more joint p q ps qs old new e at more =
-    ap (λ (xs : List ℕ). xs ++ flat_map joint (rest_of_group q qs)) more
-    ∙ append_assoc old (joint q) (flat_map joint (rest_of_group q qs))
-    ∙ ap (λ (xs : List Physical). old ++ flat_map joint xs) (sym (ap (rest_of_group p) at ∙ rest_of_group-more p q qs e))
+pub joined_more : (recipe wide : Bool) (p q : Physical) (ps qs : List Physical) (old new : List ℕ) → goes_on p ≡ true → ps ≡ q ∷ qs → new ≡ old ++ joint (in_recipe recipe wide old) q
+    → joined_behind recipe wide new (rest_of_group q qs) ≡ joined_behind recipe wide old (rest_of_group p ps)
+joined_more recipe wide p q ps qs old new e at more =
+    ap (λ (xs : List ℕ). joined_behind recipe wide xs (rest_of_group q qs)) more
+    ∙ ap (λ (xs : List Physical). joined_behind recipe wide old xs) (sym (ap (rest_of_group p) at ∙ rest_of_group-more p q qs e))
 
 pub after_more : (p q : Physical) (ps qs : List Physical) → goes_on p ≡ true → ps ≡ q ∷ qs → after_group q qs ≡ after_group p ps
 after_more p q ps qs e at = sym (ap (after_group p) at ∙ after_group-more p q qs e)
@@ -83,30 +83,31 @@ unfolding lines_left
 nothing_left left e = ap (λ o. lines_left (option_copied o)) e
 
 -- a first line and the lines in which it goes on are the first logical line
-pub logical_lines-cons : (number next : ℕ) (left after : Option (List ℕ)) (p : Physical) (ps : List Physical) → lines_left left ≡ p ∷ ps → lines_left after ≡ after_group p ps → next ≡ number_after number (length (p ∷ rest_of_group p ps)) → logical_lines number left ≡ logical_line number (p ∷ rest_of_group p ps) ∷ logical_lines next after
+pub logical_lines-cons : (wide : Bool) (number next : ℕ) (left after : Option (List ℕ)) (p : Physical) (ps : List Physical) → lines_left left ≡ p ∷ ps → lines_left after ≡ after_group p ps → next ≡ number_after number (length (p ∷ rest_of_group p ps)) → logical_lines wide number left ≡ logical_line wide number (p ∷ rest_of_group p ps) ∷ logical_lines wide next after
 unfolding logical_lines
-logical_lines-cons number next left after p ps at behind numbers =
-    ap (λ ls. numbered number (groups ls)) at
-    ∙ ap (numbered number) (groups-cons p ps)
-    ∙ ap (λ ls. logical_line number (p ∷ rest_of_group p ps) ∷ numbered (number_after number (length (p ∷ rest_of_group p ps))) (groups ls)) (sym behind)
-    ∙ ap (λ n. logical_line number (p ∷ rest_of_group p ps) ∷ numbered n (groups (lines_left after))) (sym numbers)
+logical_lines-cons wide number next left after p ps at behind numbers =
+    ap (λ ls. numbered wide number (groups ls)) at
+    ∙ ap (numbered wide number) (groups-cons p ps)
+    ∙ ap (λ ls. logical_line wide number (p ∷ rest_of_group p ps) ∷ numbered wide (number_after number (length (p ∷ rest_of_group p ps))) (groups ls)) (sym behind)
+    ∙ ap (λ n. logical_line wide number (p ∷ rest_of_group p ps) ∷ numbered wide n (groups (lines_left after))) (sym numbers)
 
 -- the value of a logical line, from its parts
-pub logical_line-is : (number : ℕ) (recipe : Bool) (text : List ℕ) (p : Physical) (ps : List Physical) → recipe ≡ begins_with 9 p.text → text ≡ opening recipe p ++ flat_map (joint recipe) ps → logical_line number (p ∷ ps) ≡ record { number = number; is_recipe = recipe; text = text }
-unfolding logical_line joined_text
-logical_line-is number recipe text p ps kind joined =
-    let line : Bool → LogicalLine = λ r. record { number = number; is_recipe = r; text = opening r p ++ flat_map (joint r) ps } in
+pub logical_line-is : (wide : Bool) (number : ℕ) (recipe : Bool) (text : List ℕ) (p : Physical) (ps : List Physical) → recipe ≡ begins_with 9 p.text → text ≡ joined_behind recipe wide (opening recipe p) ps
+    → logical_line wide number (p ∷ ps) ≡ record { number = number; is_recipe = recipe; text = text }
+unfolding logical_line text_of
+logical_line-is wide number recipe text p ps kind joined =
+    let line : Bool → LogicalLine = λ r. record { number = number; is_recipe = r; text = joined_behind r wide (opening r p) ps } in
     let told : List ℕ → LogicalLine = λ t. record { number = number; is_recipe = recipe; text = t } in
     ap line (sym kind) ∙ ap told (sym joined)
 
-pub no_lines_left : (number : ℕ) (left : Option (Bor (List ℕ))) → left ≡ None → logical_lines number (option_copied left) ≡ []
+pub no_lines_left : (wide : Bool) (number : ℕ) (left : Option (Bor (List ℕ))) → left ≡ None → logical_lines wide number (option_copied left) ≡ []
 unfolding logical_lines
-no_lines_left number left e = ap (λ ls. numbered number (groups ls)) (nothing_left left e)
+no_lines_left wide number left e = ap (λ ls. numbered wide number (groups ls)) (nothing_left left e)
 
 -- a line that doesn't go on is a logical line
-pub text_alone : (recipe : Bool) (p : Physical) (ps : List Physical) (text : List ℕ) → goes_on p ≡ false → text ≡ opening recipe p → text ≡ opening recipe p ++ flat_map (joint recipe) (rest_of_group p ps)
-text_alone recipe p ps text ends told =
-    told ∙ sym (append-nil (opening recipe p)) ∙ ap (λ (qs : List Physical). opening recipe p ++ flat_map (joint recipe) qs) (sym (group_ends p ps (inl ends)).0)
+pub text_alone : (recipe wide : Bool) (p : Physical) (ps : List Physical) (text : List ℕ) → goes_on p ≡ false → text ≡ opening recipe p → text ≡ joined_behind recipe wide (opening recipe p) (rest_of_group p ps)
+text_alone recipe wide p ps text ends told =
+    told ∙ ap (λ (qs : List Physical). joined_behind recipe wide (opening recipe p) qs) (sym (group_ends p ps (inl ends)).0)
 
 pub number_alone : (number next : ℕ) (p : Physical) (ps : List Physical) → goes_on p ≡ false → next ≡ min (number + 1) 18446744073709551615 → next ≡ number_after number (length (p ∷ rest_of_group p ps))
 unfolding number_after

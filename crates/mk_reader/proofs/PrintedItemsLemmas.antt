@@ -1,7 +1,8 @@
 -- A makefile that is printed from plain items is read back as these.
-use Rattle.std.proofs.Common.{◌≡◌, ℕ, ◌+◌, ◌%◌, Bool, true, false, cond, ◌&&◌, ◌==◌, List, [], ◌∷◌, ◌++◌, drop, map, reverse, flat_map, refl, sym, ap, subst, ◌∙◌, inl, inr, append-nil, Some, Ok}
+use Rattle.std.proofs.Common.{◌≡◌, ℕ, ◌+◌, ◌%◌, Bool, true, false, cond, ◌&&◌, ◌==◌, List, [], ◌∷◌, ◌++◌, drop, map, reverse, flat_map, refl, sym, ap, subst, ◌∙◌, inl, inr, Some, Ok}
 use Rattle.std.specs.List.{prefix_len, onto_first}
 use Rattle.std.proofs.lemmas.Str.{is_utf8-from_IsUtf8, IsUtf8-nil}
+use Rattle.mk_profile.specs.Profile.{is_wide}
 use Rattle.mk_profile.specs.declared.profile.Profile.{Profile}
 use Rattle.mk_reader.specs.Text.{is_backslash, begins_with, without_last, is_text}
 use Rattle.mk_reader.specs.Lines.{Physical, spelling, goes_on, body, opening, groups, logical_line, numbered, logical_lines}
@@ -68,19 +69,19 @@ whole_body : (line : Physical) → goes_on line ≡ false → body line ≡ line
 unfolding body
 whole_body line e = ap (λ t. cond t (without_last line.text) line.text) e
 
-plain_logical : (number : ℕ) (line : Physical) → goes_on line ≡ false → begins_with 9 line.text ≡ false → logical_line number (line ∷ []) ≡ line_of_text number line.text
+plain_logical : (wide : Bool) (number : ℕ) (line : Physical) → goes_on line ≡ false → begins_with 9 line.text ≡ false → logical_line wide number (line ∷ []) ≡ line_of_text number line.text
 unfolding opening
-plain_logical number line ends tab =
-    logical_line-is number false line.text line [] (sym tab) (sym (append-nil (body line) ∙ whole_body line ends))
+plain_logical wide number line ends tab =
+    logical_line-is wide number false line.text line [] (sym tab) (sym (whole_body line ends))
 
 abbrev recipe_line : ℕ → List ℕ → LogicalLine
 recipe_line number text = record { number = number; is_recipe = true; text = text }
 
-recipe_logical : (number : ℕ) (text : List ℕ) → IsOwnLine (9 ∷ text) → logical_line number (newline_line (9 ∷ text) ∷ []) ≡ recipe_line number text
+recipe_logical : (wide : Bool) (number : ℕ) (text : List ℕ) → IsOwnLine (9 ∷ text) → logical_line wide number (newline_line (9 ∷ text) ∷ []) ≡ recipe_line number text
 unfolding opening
-recipe_logical number text own =
+recipe_logical wide number text own =
     let line = newline_line (9 ∷ text) in
-    logical_line-is number true text line [] refl (sym (append-nil (drop 1 (body line)) ∙ ap (drop 1) (whole_body line (own_ends (9 ∷ text) own))))
+    logical_line-is wide number true text line [] refl (sym (ap (drop 1) (whole_body line (own_ends (9 ∷ text) own))))
 
 -- the logical lines of the items, from this number on
 abbrev with_recipe : ℕ → List (List ℕ) → (ℕ → List LogicalLine) → List LogicalLine
@@ -93,45 +94,45 @@ plain_lines number (definition name append value ∷ more) = line_of_text number
 plain_lines number (rule special double targets prerequisites recipe ∷ more) =
     line_of_text number (rule_text double targets prerequisites) ∷ with_recipe (next number) recipe (λ n. plain_lines n more)
 
-one_more : (number : ℕ) (p : Physical) (rest : List Physical) (line : LogicalLine) (lines : List LogicalLine) → goes_on p ≡ false → logical_line number (p ∷ []) ≡ line → numbered (next number) (groups rest) ≡ lines →
-    numbered number (groups (p ∷ rest)) ≡ line ∷ lines
-one_more number p rest line lines ends is e =
-    ap (λ t. numbered number (cond t (onto_first p (groups rest)) ((p ∷ []) ∷ groups rest))) ends
-    ∙ ap (λ (l : LogicalLine). l ∷ numbered (next number) (groups rest)) is ∙ ap (λ (ls : List LogicalLine). line ∷ ls) e
+one_more : (wide : Bool) (number : ℕ) (p : Physical) (rest : List Physical) (line : LogicalLine) (lines : List LogicalLine) → goes_on p ≡ false → logical_line wide number (p ∷ []) ≡ line → numbered wide (next number) (groups rest) ≡ lines →
+    numbered wide number (groups (p ∷ rest)) ≡ line ∷ lines
+one_more wide number p rest line lines ends is e =
+    ap (λ t. numbered wide number (cond t (onto_first p (groups rest)) ((p ∷ []) ∷ groups rest))) ends
+    ∙ ap (λ (l : LogicalLine). l ∷ numbered wide (next number) (groups rest)) is ∙ ap (λ (ls : List LogicalLine). line ∷ ls) e
 
 no_tab : (text : List ℕ) → begins_blank text ≡ false → begins_with 9 text ≡ false
 no_tab [] h = refl
 no_tab (b ∷ bs) h = (or_false (b == 32) (b == 9) h).1
 
-plain_one : (number : ℕ) (text : List ℕ) (rest : List Physical) (lines : List LogicalLine) → IsOwnLine text → begins_blank text ≡ false → numbered (next number) (groups rest) ≡ lines →
-    numbered number (groups (newline_line text ∷ rest)) ≡ line_of_text number text ∷ lines
-plain_one number text rest lines own bare e =
-    one_more number (newline_line text) rest (line_of_text number text) lines (own_ends text own) (plain_logical number (newline_line text) (own_ends text own) (no_tab text bare)) e
+plain_one : (wide : Bool) (number : ℕ) (text : List ℕ) (rest : List Physical) (lines : List LogicalLine) → IsOwnLine text → begins_blank text ≡ false → numbered wide (next number) (groups rest) ≡ lines →
+    numbered wide number (groups (newline_line text ∷ rest)) ≡ line_of_text number text ∷ lines
+plain_one wide number text rest lines own bare e =
+    one_more wide number (newline_line text) rest (line_of_text number text) lines (own_ends text own) (plain_logical wide number (newline_line text) (own_ends text own) (no_tab text bare)) e
 
-recipe_numbered : (number : ℕ) (recipe texts : List (List ℕ)) (rest : ℕ → List LogicalLine) → IsPlainRecipe recipe → numbered (after_recipe number recipe) (groups (physical_of texts)) ≡ rest (after_recipe number recipe) →
-    numbered number (groups (physical_of (map (λ text. 9 ∷ text) recipe ++ texts))) ≡ with_recipe number recipe rest
-recipe_numbered number [] texts rest h e = e
-recipe_numbered number (text ∷ more) texts rest h e =
-    one_more number (newline_line (9 ∷ text)) (physical_of (map (λ t. 9 ∷ t) more ++ texts)) (recipe_line number text) (with_recipe (next number) more rest)
-    (own_ends (9 ∷ text) h.0) (recipe_logical number text h.0) (recipe_numbered (next number) more texts rest h.3 e)
+recipe_numbered : (wide : Bool) (number : ℕ) (recipe texts : List (List ℕ)) (rest : ℕ → List LogicalLine) → IsPlainRecipe recipe → numbered wide (after_recipe number recipe) (groups (physical_of texts)) ≡ rest (after_recipe number recipe) →
+    numbered wide number (groups (physical_of (map (λ text. 9 ∷ text) recipe ++ texts))) ≡ with_recipe number recipe rest
+recipe_numbered wide number [] texts rest h e = e
+recipe_numbered wide number (text ∷ more) texts rest h e =
+    one_more wide number (newline_line (9 ∷ text)) (physical_of (map (λ t. 9 ∷ t) more ++ texts)) (recipe_line number text) (with_recipe (next number) more rest)
+    (own_ends (9 ∷ text) h.0) (recipe_logical wide number text h.0) (recipe_numbered wide (next number) more texts rest h.3 e)
 
-items_numbered : (profile : Profile) (number : ℕ) (items : List PlainItem) → ArePlain profile items → numbered number (groups (physical_of (flat_map lines_of items))) ≡ plain_lines number items
-items_numbered profile number [] h =
-    one_more number last_line [] (line_of_text number []) [] (last_ends last_line refl) (plain_logical number last_line (last_ends last_line refl) refl) refl
-items_numbered profile number (definition name append value ∷ more) h =
-    plain_one number (definition_text name append value) (physical_of (flat_map lines_of more)) (plain_lines (next number) more) h.0.3
-    (begins_more name (sign append ++ spaced value) h.0.0.0 (no_blank_first name h.0.0.1)) (items_numbered profile (next number) more h.1)
-items_numbered profile number (rule special double targets prerequisites recipe ∷ more) h =
-    plain_one number (rule_text double targets prerequisites) (physical_of (map (λ t. 9 ∷ t) recipe ++ flat_map lines_of more)) (with_recipe (next number) recipe (λ n. plain_lines n more)) h.0.5
+items_numbered : (wide : Bool) (profile : Profile) (number : ℕ) (items : List PlainItem) → ArePlain profile items → numbered wide number (groups (physical_of (flat_map lines_of items))) ≡ plain_lines number items
+items_numbered wide profile number [] h =
+    one_more wide number last_line [] (line_of_text number []) [] (last_ends last_line refl) (plain_logical wide number last_line (last_ends last_line refl) refl) refl
+items_numbered wide profile number (definition name append value ∷ more) h =
+    plain_one wide number (definition_text name append value) (physical_of (flat_map lines_of more)) (plain_lines (next number) more) h.0.3
+    (begins_more name (sign append ++ spaced value) h.0.0.0 (no_blank_first name h.0.0.1)) (items_numbered wide profile (next number) more h.1)
+items_numbered wide profile number (rule special double targets prerequisites recipe ∷ more) h =
+    plain_one wide number (rule_text double targets prerequisites) (physical_of (map (λ t. 9 ∷ t) recipe ++ flat_map lines_of more)) (with_recipe (next number) recipe (λ n. plain_lines n more)) h.0.5
     (begins_more targets (rule_sign double ++ spaced prerequisites) h.0.0.0 h.0.0.1.0)
-    (recipe_numbered (next number) recipe (flat_map lines_of more) (λ n. plain_lines n more) h.0.6 (items_numbered profile (after_recipe (next number) recipe) more h.1))
+    (recipe_numbered wide (next number) recipe (flat_map lines_of more) (λ n. plain_lines n more) h.0.6 (items_numbered wide profile (after_recipe (next number) recipe) more h.1))
 
-pub printed_lines : (profile : Profile) (items : List PlainItem) → ArePlain profile items → logical_lines 1 (Some (printed items)) ≡ plain_lines 1 items
+pub printed_lines : (profile : Profile) (items : List PlainItem) → ArePlain profile items → logical_lines (is_wide profile) 1 (Some (printed items)) ≡ plain_lines 1 items
 unfolding logical_lines
 printed_lines profile items h =
     let texts = flat_map lines_of items in
-    ap (λ ls. numbered 1 (groups ls)) (lines_are_back (printed items) (physical_of texts) (spelled_lines texts, own_physical texts (own_lines profile items h)))
-    ∙ items_numbered profile 1 items h
+    ap (λ ls. numbered (is_wide profile) 1 (groups ls)) (lines_are_back (printed items) (physical_of texts) (spelled_lines texts, own_physical texts (own_lines profile items h)))
+    ∙ items_numbered (is_wide profile) profile 1 items h
 
 -- What they give
 

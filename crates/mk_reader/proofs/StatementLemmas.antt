@@ -93,7 +93,7 @@ line_one profile file above (line ∷ more) one other (told, is, below, lies, a)
     (subst (λ x. FormStatements file line.number above told x Rest one) (recipe_one profile file more below under lies stands) a)) b
 
 pub text_one : (profile : Profile) (file text : List ℕ) (one other : List Statement) → AreStatements profile file text one → AreStatements profile file text other → one ≡ other
-text_one profile file text one other a b = line_one profile file false (logical_lines 1 (Some text)) one other a b
+text_one profile file text one other a b = line_one profile file false (logical_lines (is_wide profile) 1 (Some text)) one other a b
 
 -- There is one.
 
@@ -130,7 +130,7 @@ line_some profile file above (line ∷ more) =
     (whole.0, (form_below profile file above line, told_said profile file above line, below.0, below.1, whole.1))
 
 pub text_some : (profile : Profile) (file text : List ℕ) → Some_of (AreStatements profile file text)
-text_some profile file text = line_some profile file false (logical_lines 1 (Some text))
+text_some profile file text = line_some profile file false (logical_lines (is_wide profile) 1 (Some text))
 
 -- What is gathered comes to it.
 
@@ -305,7 +305,7 @@ adds_nothing old new line none front rule e = absurd (no_more front (sym none �
 
 -- at the start nothing is gathered
 pub comes_from_start : (profile : Profile) (file text : List ℕ) (gathered : List Statement) (above : Bool) → gathered ≡ [] → above ≡ false → (whole : List Statement) →
-    Comes profile file gathered above (logical_lines 1 (Some text)) whole → AreStatements profile file text whole
+    Comes profile file gathered above (logical_lines (is_wide profile) 1 (Some text)) whole → AreStatements profile file text whole
 comes_from_start profile file text gathered above g f whole comes =
     let (below, lies, rest, r, e) = comes [] None g f in
     subst (AreStatements profile file text) (sym e) r

@@ -1,8 +1,9 @@
 -- The lines of a text: physical lines as they are spelled, and logical lines, which go on behind a backslash.
-use Rattle.std.specs.Prelude.{ℕ, ◌+◌, ◌%◌, min, Bool, true, false, ◌&&◌, ◌==◌, List, [], ◌∷◌, ◌++◌, length, drop, map, flat_map, Option, Some, None, if◌then◌else◌}
+use Rattle.std.specs.Prelude.{ℕ, ◌+◌, ◌%◌, min, Bool, true, false, ◌&&◌, ◌||◌, ◌==◌, List, [], ◌∷◌, ◌++◌, length, drop, map, flat_map, Option, Some, None, if◌then◌else◌}
 use Rattle.std.specs.List.{suffix_len, slice_split, onto_first}
 use Rattle.byte_strings.specs.Blanks.{trimmed_start}
 use Rattle.mk_reader.specs.Text.{is_newline, is_backslash, begins_with, ends_with, without_last, without_tab}
+use Rattle.mk_reader.specs.Form.{opens_recipe}
 use Rattle.mk_reader.specs.declared.line.Ending.{Ending}
 use Rattle.mk_reader.specs.declared.line.Ending.TheVariants.{EndOfText, Newline, ReturnNewline}
 use Rattle.mk_reader.specs.declared.line.PhysicalLine.{PhysicalLine}
@@ -85,10 +86,24 @@ unfoldable pub joint : Bool → Physical → List ℕ
 joint true line = 92 ∷ 10 ∷ without_tab (body line)
 joint false line = 32 ∷ trimmed_start (body line)
 
--- the text of a logical line
+-- the text of a recipe line, or of a line that no recipe belongs to
 unfoldable pub joined_text : Bool → List Physical → List ℕ
 joined_text recipe [] = []
 joined_text recipe (line ∷ more) = opening recipe line ++ flat_map (joint recipe) more
+
+-- what follows this text in a logical line belongs to a recipe: that of a recipe line, or in the wide profile that of a rule line behind its `;`
+unfoldable pub in_recipe : (recipe wide : Bool) → List ℕ → Bool
+in_recipe recipe wide text = recipe || (wide && opens_recipe text)
+
+-- this text with the lines that follow it in a logical line
+abbrev pub joined_behind : (recipe wide : Bool) → List ℕ → List Physical → List ℕ
+joined_behind recipe wide text [] = text
+joined_behind recipe wide text (line ∷ more) = joined_behind recipe wide (text ++ joint (in_recipe recipe wide text) line) more
+
+-- the text of a logical line of a makefile, as it is read; IsTextOf says what it is
+unfoldable pub text_of : (recipe wide : Bool) → List Physical → List ℕ
+text_of recipe wide [] = []
+text_of recipe wide (line ∷ more) = joined_behind recipe wide (opening recipe line) more
 
 -- a group whose first byte is a TAB is a recipe line
 abbrev pub is_recipe : List Physical → Bool
@@ -99,17 +114,17 @@ is_recipe (line ∷ _) = begins_with 9 line.text
 unfoldable pub number_after : ℕ → ℕ → ℕ
 number_after number lines = min (number + lines) 18446744073709551615
 
-unfoldable pub logical_line : ℕ → List Physical → LogicalLine
-logical_line number group = record { number = number; is_recipe = is_recipe group; text = joined_text (is_recipe group) group }
+unfoldable pub logical_line : (wide : Bool) → ℕ → List Physical → LogicalLine
+logical_line wide number group = record { number = number; is_recipe = is_recipe group; text = text_of (is_recipe group) wide group }
 
 -- the logical lines, each with the number of its first physical line
-abbrev pub numbered : ℕ → List (List Physical) → List LogicalLine
-numbered number [] = []
-numbered number (group ∷ more) = logical_line number group ∷ numbered (number_after number (length group)) more
+abbrev pub numbered : (wide : Bool) → ℕ → List (List Physical) → List LogicalLine
+numbered wide number [] = []
+numbered wide number (group ∷ more) = logical_line wide number group ∷ numbered wide (number_after number (length group)) more
 
 -- the logical lines of what is left of a text
-unfoldable pub logical_lines : ℕ → Option (List ℕ) → List LogicalLine
-logical_lines number left = numbered number (groups (lines_left left))
+unfoldable pub logical_lines : (wide : Bool) → ℕ → Option (List ℕ) → List LogicalLine
+logical_lines wide number left = numbered wide number (groups (lines_left left))
 
 -- the lines of what is left of a text, each joined as one that is no recipe line
 unfoldable pub joined_lines : Option (List ℕ) → List (List ℕ)

@@ -1,9 +1,9 @@
 -- How a text is spelled of physical lines, and how these are grouped to logical ones: which lists of lines are the
 -- text's. There is one such list for each text.
-use Rattle.std.specs.Prelude.{◌≡◌, ℕ, true, false, List, [], ◌∷◌, reverse, flat_map}
+use Rattle.std.specs.Prelude.{◌≡◌, ◌⊎◌, ℕ, Bool, true, false, List, [], ◌∷◌, ◌++◌, reverse, flat_map}
 use Rattle.mk_reader.specs.Text.{begins_with}
-use Rattle.mk_reader.specs.Grammar.{Lacks}
-use Rattle.mk_reader.specs.Lines.{Physical, spelling, goes_on}
+use Rattle.mk_reader.specs.Grammar.{Lacks, OpensRecipe}
+use Rattle.mk_reader.specs.Lines.{Physical, spelling, goes_on, joint, joined_text}
 use Rattle.mk_reader.specs.declared.line.Ending.{Ending}
 use Rattle.mk_reader.specs.declared.line.Ending.TheVariants.{EndOfText, Newline, ReturnNewline}
 
@@ -39,3 +39,20 @@ AreAllGroups (group ∷ groups) = IsGroup group × AreAllGroups groups
 -- these are the physical lines of the text, in groups that are one logical line each
 abbrev pub AreGroups : (text : List ℕ) → List (List Physical) → Type 0
 AreGroups text groups = AreLines text (flat_map (λ group. group) groups) × AreAllGroups groups
+
+-- with this line of a group, and not before it, what is joined so far is a rule line whose recipe has begun behind its `;`
+abbrev pub OpensWith : (before : List Physical) → Physical → Type 0
+OpensWith before line = OpensRecipe (joined_text false (before ++ line ∷ [])) × (OpensRecipe (joined_text false before) → ⊥)
+
+-- the text of a line that doesn't begin with a TAB: in the wide profile the lines behind the one with which a recipe opens are joined as a
+-- recipe's, with backslash and newline (POSIX make, "Target Rules"; GNU make), and all others as those of a rule line
+abbrev pub IsJoined : (wide : Bool) → List Physical → List ℕ → Type 0
+IsJoined wide group text =
+    ((before : List Physical) × (line : Physical) × (rest : List Physical) × (wide ≡ true) × (group ≡ before ++ line ∷ rest) × OpensWith before line
+    × (text ≡ joined_text false (before ++ line ∷ []) ++ flat_map (joint true) rest))
+    ⊎ ((wide ≡ true → OpensRecipe (joined_text false group) → ⊥) × (text ≡ joined_text false group))
+
+-- the text of the logical line of a group, which is a recipe line or isn't
+abbrev pub IsTextOf : (recipe wide : Bool) → List Physical → List ℕ → Type 0
+IsTextOf true wide group text = text ≡ joined_text true group
+IsTextOf false wide group text = IsJoined wide group text

@@ -118,7 +118,7 @@ LineStatements profile file above (line ∷ more) statements =
 
 -- these are the statements of a text that is read in this profile, under this file name
 abbrev pub AreStatements : Profile → (file text : List ℕ) → List Statement → Type 0
-AreStatements profile file text statements = LineStatements profile file false (logical_lines 1 (Some text)) statements
+AreStatements profile file text statements = LineStatements profile file false (logical_lines (is_wide profile) 1 (Some text)) statements
 
 -- What is gathered of a file while it is read.
 

@@ -9,6 +9,9 @@ is_newline b = b == 10
 abbrev pub is_backslash : ℕ → Bool
 is_backslash b = b == 92
 
+abbrev pub is_semicolon : ℕ → Bool
+is_semicolon b = b == 59
+
 -- a comment begins here
 abbrev pub is_hash : ℕ → Bool
 is_hash b = b == 35

@@ -2,8 +2,8 @@
 ghost use Rattle.std.specs.Prelude.{◌≡◌, ◌↔◌, ◌&&◌, ℕ, Bool, true, false, List, ◌∷◌, ◌++◌, Option, Some, Result, Ok, map, flat_map};
 ghost use Rattle.mk_profile.specs.Profile.{is_wide};
 ghost use Rattle.mk_profile.specs.declared.profile.Profile.{Profile};
-ghost use Rattle.mk_reader.specs.Lines.{Physical, spelling, groups, lines_left};
-ghost use Rattle.mk_reader.specs.Spelling.{AreLines, AreGroups};
+ghost use Rattle.mk_reader.specs.Lines.{Physical, spelling, groups, lines_left, text_of};
+ghost use Rattle.mk_reader.specs.Spelling.{AreLines, AreGroups, IsTextOf};
 ghost use Rattle.mk_reader.specs.Form.{form_of};
 ghost use Rattle.mk_reader.specs.Text.{ends_with, is_text};
 ghost use Rattle.mk_reader.specs.Grammar.{Lacks, HasSpecial, is_refused_with, OpensRecipe, IsForm};
@@ -25,6 +25,12 @@ pub fn text_is_its_lines()
     ensures lines { (text : List ℕ) (lines : List Physical) → (lines_left (Some text) ≡ lines) ↔ AreLines text lines }
     ensures groups { (text : List ℕ) (parts : List (List Physical))
         → (groups (lines_left (Some text)) ≡ parts) ↔ AreGroups text parts }
+{}
+
+/// A recipe line is joined as a recipe, and any other as a rule line, but in the wide profile for what stands behind the `;` of a rule.
+pub fn lines_are_joined()
+    ensures { (recipe wide : Bool) (group : List Physical) (text : List ℕ)
+        → (text_of recipe wide group ≡ text) ↔ IsTextOf recipe wide group text }
 {}
 
 /// A text has just one list of statements in each profile.

@@ -1,12 +1,16 @@
 //! Reads a text line by line from its front: physical lines, and the logical lines that they are joined to.
-ghost use Rattle.std.specs.Prelude.{◌≡◌, false, ◌+◌, ◌<◌, ◌≤◌, ◌==◌, ◌∷◌, ◌++◌, [], length, take, drop, flat_map, IfOk, IfSome, OnOk, Some, option_copied};
-ghost use Rattle.std.specs.List.{suffix_len, position_or_len};
-ghost use Rattle.mk_reader.specs.Text.{is_newline, is_backslash, begins_with, ends_with, without_last, without_tab};
-ghost use Rattle.mk_reader.specs.Lines.{ended_line, goes_on, body, opening, joint, groups, lines_left, rest_of_group, after_group, logical_line, is_recipe, logical_lines, joined_lines, numbered, number_after, physical, size_left};
+ghost use Rattle.std.specs.Prelude.{◌≡◌, ◌&&◌, Bool, false, ◌+◌, ◌<◌, ◌≤◌, ◌==◌, ◌∷◌, ◌++◌, [], length, take, drop, flat_map, IfOk, IfSome, OnOk, Some, option_copied};
+ghost use Rattle.std.specs.List.{suffix_len, position_or_len, list_any};
+ghost use Rattle.mk_profile.specs.Profile.{is_wide};
+ghost use Rattle.mk_reader.specs.Text.{is_newline, is_backslash, is_semicolon, begins_with, ends_with, without_last, without_tab};
+ghost use Rattle.mk_reader.specs.Form.{opens_recipe};
+ghost use Rattle.mk_reader.specs.Lines.{ended_line, goes_on, body, opening, joint, in_recipe, joined_behind, groups, lines_left, rest_of_group, after_group, logical_line, is_recipe, logical_lines, joined_lines, numbered, number_after, physical, size_left};
 
 use crate::line::{Ending, LineText, LogicalLine, PhysicalLine};
+use crate::semicolon::opens_recipe;
 use byte_strings::trim_start;
 use memchr::memchr;
+use mk_profile::Profile;
 use std::alloc::{AllocError, Global};
 
 pub fn begins_with(bytes: &[u8], byte: u8) -> bool
@@ -169,17 +173,58 @@ fn opening(is_recipe: bool, line: PhysicalLine<'_>) -> &[u8]
     }
 }
 
+fn has_semicolon(bytes: &[u8]) -> bool
+    ensures { result ≡ list_any is_semicolon bytes.now }
+{
+    bytes.contains(&b';')
+}
+
+/// Whether what follows this text in a logical line belongs to a recipe.
+#[tactic(auto, unfolding(crate::specs::Lines::in_recipe))]
+fn in_recipe(is_recipe: bool, profile: Profile, text: &[u8]) -> bool
+    ensures { result ≡ in_recipe is_recipe (is_wide profile) text.now }
+{
+    is_recipe || (profile.is_wide() && opens_recipe(text))
+}
+
+/// Whether the text, which ends with this piece, opens a recipe there.
+fn opens_in(profile: Profile, text: &[u8], piece: &[u8]) -> bool
+    ensures { result ≡ (is_wide profile && (list_any is_semicolon piece.now && opens_recipe text.now)) }
+{
+    profile.is_wide() && has_semicolon(piece) && opens_recipe(text)
+}
+
+/// Adds the next line, and answers whether what follows it belongs to a recipe.
+#[tactic(auto, using(crate::proofs::OpenedLemmas::stays_in_recipe), unfolding(crate::specs::Lines::in_recipe))]
+fn push_line(
+    text: &mut Vec<u8>,
+    is_in_recipe: bool,
+    profile: Profile,
+    line: PhysicalLine<'_>,
+) -> Result<bool, AllocError>
+    ensures text { OnOk result (text.new.items ≡ text.old.items ++ joint is_in_recipe (physical line.entry)) }
+    ensures place { IfOk result (λ now. (recipe : Bool) → is_in_recipe ≡ in_recipe recipe (is_wide profile) text.old.items
+        → now ≡ in_recipe recipe (is_wide profile) text.new.items) }
+{
+    push_joint(text, is_in_recipe, line)?;
+    if is_in_recipe {
+        return Ok(true);
+    }
+    Ok(opens_in(profile, text.as_slice(), trim_start(body(line))))
+}
+
 /// Adds the lines in which `first` goes on. Gives the number of the line behind them, and what is left there.
 #[inline(never)]
 fn join_rest<'a>(
     text: &mut Vec<u8>,
+    profile: Profile,
     is_recipe: bool,
     first: PhysicalLine<'a>,
     first_number: usize,
     left: Option<&'a [u8]>,
 ) -> Result<(usize, Option<&'a [u8]>), AllocError>
     ensures text { let others = rest_of_group (physical first.entry) (lines_left (option_copied left.entry)) in
-        OnOk result (text.new.items ≡ text.old.items ++ flat_map (joint is_recipe) others) }
+        OnOk result (text.new.items ≡ joined_behind is_recipe (is_wide profile) text.old.items others) }
     ensures number { let others = rest_of_group (physical first.entry) (lines_left (option_copied left.entry)) in
         IfOk result (λ found. found.0 ≡ number_after first_number (length (physical first.entry ∷ others))) }
     ensures left { IfOk result (λ found. lines_left (option_copied found.1)
@@ -187,13 +232,15 @@ fn join_rest<'a>(
     ensures shorter { IfOk result (λ found.
         size_left (option_copied found.1) ≤ size_left (option_copied left.entry)) }
 {
+    let mut is_in_recipe = in_recipe(is_recipe, profile, text.as_slice());
     let mut last = first;
     let mut number = first_number.saturating_add(1);
     let mut left = left;
     while goes_on(last) {
         let Some(bytes) = left else { break };
         let (line, after) = next_line(bytes);
-        push_joint(text, is_recipe, line)?;
+        let is_now = push_line(text, is_in_recipe, profile, line)?;
+        is_in_recipe = is_now;
         last = line;
         left = after;
         number = number.saturating_add(1);
@@ -218,13 +265,14 @@ fn alone(is_recipe: bool, line: PhysicalLine<'_>) -> &[u8]
 #[tactic(auto, using(crate::proofs::LinesLemmas::text_alone, crate::proofs::LinesLemmas::number_alone, crate::proofs::LinesLemmas::left_alone))]
 fn whole_text<'a>(
     alloc: Global,
+    profile: Profile,
     number: usize,
     is_recipe: bool,
     first: PhysicalLine<'a>,
     left: Option<&'a [u8]>,
 ) -> Result<(LineText<'a>, usize, Option<&'a [u8]>), AllocError>
     ensures text { let others = rest_of_group (physical first.entry) (lines_left (option_copied left.entry)) in
-        IfOk result (λ found. found.0 ≡ opening is_recipe (physical first.entry) ++ flat_map (joint is_recipe) others) }
+        IfOk result (λ found. found.0 ≡ joined_behind is_recipe (is_wide profile) (opening is_recipe (physical first.entry)) others) }
     ensures number { let others = rest_of_group (physical first.entry) (lines_left (option_copied left.entry)) in
         IfOk result (λ found. found.1 ≡ number_after number (length (physical first.entry ∷ others))) }
     ensures left { IfOk result (λ found. lines_left (option_copied found.2)
@@ -237,23 +285,24 @@ fn whole_text<'a>(
         return Ok((text, number.saturating_add(1), left));
     }
     let mut text = Vec::from_slice(alloc, opening(is_recipe, first))?;
-    let (next_number, left) = join_rest(&mut text, is_recipe, first, number, left)?;
+    let (next_number, left) = join_rest(&mut text, profile, is_recipe, first, number, left)?;
     Ok((LineText::joined(text), next_number, left))
 }
 
 /// The logical line that the bytes begin with, the number of the line behind it, and what is left there.
 pub fn next_logical_line(
     alloc: Global,
+    profile: Profile,
     number: usize,
     bytes: &[u8],
 ) -> Result<(LogicalLine<'_>, usize, Option<&[u8]>), AllocError>
-    ensures line { IfOk result (λ found. logical_lines number (Some bytes.now)
-        ≡ found.0 ∷ logical_lines found.1 (option_copied found.2)) }
+    ensures line { IfOk result (λ found. logical_lines (is_wide profile) number (Some bytes.now)
+        ≡ found.0 ∷ logical_lines (is_wide profile) found.1 (option_copied found.2)) }
     ensures shorter { IfOk result (λ found. size_left (option_copied found.2) ≤ length bytes.now) }
 {
     let (first, left) = next_line(bytes);
     let is_recipe = begins_with(first.text, b'\t');
-    let (text, next_number, left) = whole_text(alloc, number, is_recipe, first, left)?;
+    let (text, next_number, left) = whole_text(alloc, profile, number, is_recipe, first, left)?;
     let line = LogicalLine {
         number,
         is_recipe,
@@ -271,6 +320,6 @@ pub fn next_joined_line(alloc: Global, bytes: &[u8]) -> Result<(Vec<u8>, Option<
 {
     let (first, left) = next_line(bytes);
     let mut text = Vec::from_slice(alloc, opening(false, first))?;
-    let (_, left) = join_rest(&mut text, false, first, 1, left)?;
+    let (_, left) = join_rest(&mut text, Profile::Strict, false, first, 1, left)?;
     Ok((text, left))
 }

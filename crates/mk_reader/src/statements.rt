@@ -25,7 +25,7 @@ fn statements_in(
     let mut left = Some(text);
     let mut number = 1;
     while let Some(bytes) = left {
-        let (line, next_number, after) = next_logical_line(alloc, number, bytes)?;
+        let (line, next_number, after) = next_logical_line(alloc, profile, number, bytes)?;
         let is_refused = gathered.take_line(alloc, profile, file, line)?;
         if is_refused {
             return Ok(gathered.statements);

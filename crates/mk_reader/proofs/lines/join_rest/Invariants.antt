@@ -1,11 +1,13 @@
-use Rattle.std.proofs.Common.{◌≡◌, ◌+◌, ◌<◌, ◌≤◌, ◌++◌, length, flat_map, option_copied}
-use Rattle.mk_reader.specs.Lines.{physical, rest_of_group, after_group, lines_left, joint, size_left, number_after}
+use Rattle.std.proofs.Common.{◌≡◌, ◌+◌, ◌<◌, ◌≤◌, length, option_copied}
+use Rattle.mk_profile.specs.Profile.{is_wide}
+use Rattle.mk_reader.specs.Lines.{physical, rest_of_group, after_group, lines_left, in_recipe, joined_behind, size_left, number_after}
 use Rattle.mk_reader.proofs.lines.join_rest.Given as goal
 
-abbrev pub invariant-loop-left : goal.invariant-loop-left
-invariant-loop-left l = record {
-  text : l.text.items ++ flat_map (joint l.is_recipe) (rest_of_group (physical l.last) (lines_left (option_copied l.left)))
-      ≡ l.initial.text.items ++ flat_map (joint l.is_recipe) (rest_of_group (physical l.first) (lines_left (option_copied l.initial.left)));
+abbrev pub invariant-loop-profile : goal.invariant-loop-profile
+invariant-loop-profile l = record {
+  text : joined_behind l.is_recipe (is_wide l.profile) l.text.items (rest_of_group (physical l.last) (lines_left (option_copied l.left)))
+      ≡ joined_behind l.is_recipe (is_wide l.profile) l.initial.text.items (rest_of_group (physical l.first) (lines_left (option_copied l.initial.left)));
+  place : l.is_in_recipe ≡ in_recipe l.is_recipe (is_wide l.profile) l.text.items;
   number : number_after l.number (length (rest_of_group (physical l.last) (lines_left (option_copied l.left))))
       ≡ number_after l.first_number (length (rest_of_group (physical l.first) (lines_left (option_copied l.initial.left))) + 1);
   after : after_group (physical l.last) (lines_left (option_copied l.left)) ≡ after_group (physical l.first) (lines_left (option_copied l.initial.left));
@@ -13,5 +15,5 @@ invariant-loop-left l = record {
   small : l.number < 18446744073709551616;
 }
 
-abbrev pub decreases-loop-left : goal.decreases-loop-left
-decreases-loop-left l = size_left (option_copied l.left)
+abbrev pub decreases-loop-profile : goal.decreases-loop-profile
+decreases-loop-profile l = size_left (option_copied l.left)
