@@ -12,8 +12,8 @@ use clap::{ArgAction, ArgMatches};
 use dmk_drive::{MAX_WORKERS, Makefiles, Mode, Options, Telling, value_of};
 use jb_auth::posix;
 use jb_flags::{Above, PROFILE, workers_by};
-use mk_eval::short_name;
 use mk_profile::Profile;
+use mk_short_names::name_in;
 use plain_text::Plain;
 use std::alloc::{AllocError, Global};
 use std::env;
@@ -230,14 +230,6 @@ fn say(rt: HostRuntime, answer: clap::Error) -> Result<Request, WordsFault> {
     }
 }
 
-/// The name of a target that is asked for: in the wide profile without a `./` in front, as rule lines have it.
-fn goal_of(profile: Profile, word: &[u8]) -> &[u8] {
-    if profile.is_wide() {
-        return short_name(word);
-    }
-    word
-}
-
 /// Adds a word: a definition where it holds a `=`, and else a target.
 fn add_word(alloc: Global, options: &mut Options, word: &str) -> Result<(), AllocError> {
     match word.split_once('=') {
@@ -250,7 +242,7 @@ fn add_word(alloc: Global, options: &mut Options, word: &str) -> Result<(), Allo
         }
         None => options
             .targets
-            .push(goal_of(options.profile, word.as_bytes())),
+            .push(name_in(options.profile, word.as_bytes())),
     }
 }
 

@@ -289,8 +289,8 @@ definition_taken language file d false is taken = refl
 definition_taken language file d true is taken =
     let here = taken is in
     ap (λ o. with_refusal file (statement.Item (item.Definition d)) (at_line d.line o))
-    (ap (λ t. cond t (Some ShellFlags) (cond (bytes_eq d.name (codes "VPATH") && searches d.value) (Some SearchPath) (cond (changes_recipes d) (Some RecipePrefix) None))) here.0
-    ∙ ap (λ t. cond t (Some SearchPath) (cond (changes_recipes d) (Some RecipePrefix) None)) here.1
+    (ap (λ t. cond t (Some ShellFlags) (cond (bytes_eq d.name (codes "VPATH") && searches d.value) (Some SearchPath) (cond (changes_recipes d.name d.value) (Some RecipePrefix) None))) here.0
+    ∙ ap (λ t. cond t (Some SearchPath) (cond (changes_recipes d.name d.value) (Some RecipePrefix) None)) here.1
     ∙ ap (λ t. cond t (Some RecipePrefix) None) here.2)
 
 rule_taken : (language : Profile) (file : List ℕ) (lines : Rule) (wide : Bool) → is_wide language ≡ wide → IsTakenRule language lines.targets →

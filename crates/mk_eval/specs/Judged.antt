@@ -19,16 +19,19 @@ abbrev pub searches : (text : List ℕ) → Bool
 searches text = not (is_empty text || bytes_eq text (codes "."))
 
 -- with a text `.RECIPEPREFIX` has other lines be recipe lines
-abbrev pub changes_recipes : Definition → Bool
-changes_recipes d = bytes_eq d.name (codes ".RECIPEPREFIX") && not (is_empty d.value)
+abbrev pub changes_recipes : (name text : List ℕ) → Bool
+changes_recipes name text = bytes_eq name (codes ".RECIPEPREFIX") && not (is_empty text)
 
 -- `.SHELLFLAGS` has its lines run otherwise, `VPATH` may have files looked for elsewhere, and `.RECIPEPREFIX` has lines read otherwise (GNU make
 -- manual, "Choosing the Shell", "VPATH: Search Path for All Prerequisites", "Other Special Variables")
+abbrev pub macro_refused : (name text : List ℕ) → Option Feature
+macro_refused name text =
+    if bytes_eq name (codes ".SHELLFLAGS") then Some ShellFlags
+    else (if bytes_eq name (codes "VPATH") && searches text then Some SearchPath
+    else (if changes_recipes name text then Some RecipePrefix else None))
+
 abbrev pub definition_refused : Definition → Option Feature
-definition_refused d =
-    if bytes_eq d.name (codes ".SHELLFLAGS") then Some ShellFlags
-    else (if bytes_eq d.name (codes "VPATH") && searches d.value then Some SearchPath
-    else (if changes_recipes d then Some RecipePrefix else None))
+definition_refused d = macro_refused d.name d.value
 
 -- `vpath` with a word behind it is a directive, though a `:` stands in the line
 abbrev pub opens_vpath : (targets : List ℕ) → Bool

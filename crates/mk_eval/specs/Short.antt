@@ -1,27 +1,8 @@
--- Names that begin with `./`: without it they are names of the same files, and GNU make drops it from each name that it reads, in makefiles
--- and of the command line.
-use Rattle.std.specs.Prelude.{ℕ, Bool, false, ◌&&◌, ◌==◌, List, [], ◌∷◌, flat_map, drop, codes, if◌then◌else◌}
+-- Texts of rule lines, their names without a `./` in front.
+use Rattle.std.specs.Prelude.{ℕ, Bool, List, ◌∷◌, flat_map, if◌then◌else◌}
 use Rattle.std.specs.List.{list_any}
 use Rattle.byte_strings.specs.Blanks.{words}
-
-abbrev pub begins_here : (name : List ℕ) → Bool
-begins_here [] = false
-begins_here (b ∷ []) = false
-begins_here (b ∷ c ∷ more) = b == 46 && c == 47
-
--- what stands behind `./`, without more slashes and more `./`
-abbrev pub behind_here : (rest : List ℕ) → List ℕ
-behind_here [] = []
-behind_here (b ∷ []) = if b == 47 then [] else b ∷ []
-behind_here (b ∷ c ∷ more) = if b == 47 then behind_here (c ∷ more) else (if b == 46 && c == 47 then behind_here more else b ∷ c ∷ more)
-
--- nothing is left of the name of the folder itself, which stays `./`
-abbrev pub or_here : List ℕ → List ℕ
-or_here [] = codes "./"
-or_here (b ∷ bs) = b ∷ bs
-
-abbrev pub short_name : (name : List ℕ) → List ℕ
-short_name name = if begins_here name then or_here (behind_here (drop 2 name)) else name
+use Rattle.mk_short_names.specs.Short.{begins_here, short_name}
 
 abbrev pub has_here : (text : List ℕ) → Bool
 has_here text = list_any begins_here (words text)

@@ -1,7 +1,7 @@
 //! Statements that the wide profile refuses by name.
 ghost use Rattle.std.specs.Prelude.{◌≡◌, map, IfOk};
 ghost use Rattle.mk_profile.specs.Profile.{is_wide};
-ghost use Rattle.mk_eval.specs.Judged.{searches, changes_recipes, definition_refused, opens_vpath, rule_refused, item_refused, statement_refused, at_line, judged, all_judged};
+ghost use Rattle.mk_eval.specs.Judged.{searches, changes_recipes, macro_refused, definition_refused, opens_vpath, rule_refused, item_refused, statement_refused, at_line, judged, all_judged};
 
 use byte_strings::{ByteString, first_word};
 use mk_profile::Profile;
@@ -16,27 +16,32 @@ fn searches(text: &[u8]) -> bool
 }
 
 /// Whether other lines are recipe lines behind this definition.
-fn changes_recipes(definition: &Definition) -> bool
-    ensures { result ≡ changes_recipes definition.now }
+fn changes_recipes(name: &[u8], text: &[u8]) -> bool
+    ensures { result ≡ changes_recipes name.now text.now }
 {
-    definition.name.as_slice() == b".RECIPEPREFIX".as_slice()
-        && !definition.value.as_slice().is_empty()
+    name == b".RECIPEPREFIX".as_slice() && !text.is_empty()
+}
+
+/// Whether the definition of a macro with this text is refused, in a makefile as on the command line.
+pub fn macro_refused(name: &[u8], text: &[u8]) -> Option<Feature>
+    ensures { result ≡ macro_refused name.now text.now }
+{
+    if name == b".SHELLFLAGS".as_slice() {
+        return Some(Feature::ShellFlags);
+    }
+    if name == b"VPATH".as_slice() && searches(text) {
+        return Some(Feature::SearchPath);
+    }
+    if changes_recipes(name, text) {
+        return Some(Feature::RecipePrefix);
+    }
+    None
 }
 
 fn definition_refused(definition: &Definition) -> Option<Feature>
     ensures { result ≡ definition_refused definition.now }
 {
-    let name = definition.name.as_slice();
-    if name == b".SHELLFLAGS".as_slice() {
-        return Some(Feature::ShellFlags);
-    }
-    if name == b"VPATH".as_slice() && searches(definition.value.as_slice()) {
-        return Some(Feature::SearchPath);
-    }
-    if changes_recipes(definition) {
-        return Some(Feature::RecipePrefix);
-    }
-    None
+    macro_refused(definition.name.as_slice(), definition.value.as_slice())
 }
 
 /// Whether the line is one of `vpath`, though a `:` stands in it.

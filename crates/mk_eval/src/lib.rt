@@ -21,6 +21,6 @@ mod unmade;
 
 pub use doubled::doubled as doubled_text;
 pub use includes::Includes;
+pub use judged::macro_refused;
 pub use makefile::{MAX_INCLUDE_DEPTH, read_makefile};
 pub use output::output_text;
-pub use short::short_name;

@@ -1,45 +1,10 @@
-//! Names without a `./` in front.
+//! Texts without a `./` in front of their names.
 ghost use Rattle.std.specs.Prelude.{◌≡◌, IfOk};
-ghost use Rattle.mk_eval.specs.Short.{begins_here, behind_here, or_here, short_name, has_here, shortened};
+ghost use Rattle.mk_eval.specs.Short.{has_here, shortened};
 
 use byte_strings::next_word;
+use mk_short_names::{begins_here, short_name};
 use std::alloc::{AllocError, Global};
-
-fn begins_here(name: &[u8]) -> bool
-    ensures { result ≡ begins_here name.now }
-{
-    matches!(name, [b'.', b'/', ..])
-}
-
-/// What stands behind `./`, without more of it.
-fn behind_here(rest: &[u8]) -> &[u8]
-    ensures { result.now ≡ behind_here rest.now }
-{
-    let mut left = rest;
-    while let [b'/', after @ ..] | [b'.', b'/', after @ ..] = left {
-        left = after;
-    }
-    left
-}
-
-fn or_here(name: &[u8]) -> &[u8]
-    ensures { result.now ≡ or_here name.now }
-{
-    if name.is_empty() {
-        return b"./".as_slice();
-    }
-    name
-}
-
-/// The name without a `./` in front, which names the same file.
-pub fn short_name(name: &[u8]) -> &[u8]
-    ensures { result.now ≡ short_name name.now }
-{
-    if !begins_here(name) {
-        return name;
-    }
-    or_here(behind_here(name.split_at(2).1))
-}
 
 /// Whether a word of the text begins with `./`.
 pub fn has_here(text: &[u8]) -> bool

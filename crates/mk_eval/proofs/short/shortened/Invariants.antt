@@ -1,6 +1,6 @@
 use Rattle.std.proofs.Common.{◌≡◌, ◌++◌, ◌∷◌, length, flat_map}
 use Rattle.byte_strings.specs.Blanks.{words}
-use Rattle.mk_eval.specs.Short.{short_name}
+use Rattle.mk_short_names.specs.Short.{short_name}
 use Rattle.mk_eval.proofs.short.shortened.Given as goal
 
 abbrev pub invariant-loop-word : goal.invariant-loop-word
