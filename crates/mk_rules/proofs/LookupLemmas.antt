@@ -1,5 +1,5 @@
 -- What is looked up of a name, in terms of the inputs.
-use Rattle.std.proofs.Common.{◌≡◌, ℕ, ℤ, Bool, true, false, not, cond, List, [], ◌∷◌, Option, Some, None, refl, sym, ap, ◌∙◌}
+use Rattle.std.proofs.Common.{◌≡◌, ℕ, ℤ, Bool, true, false, not, cond, List, [], ◌∷◌, Option, Some, None, refl, sym, ap, ◌∙◌, arith}
 use Rattle.std.specs.Prelude.{◌&&◌, ◌||◌, is_some, option_to_list}
 use Rattle.std.specs.List.{list_any}
 use Rattle.std.specs.Option.{option_or}
@@ -16,12 +16,22 @@ use Rattle.mk_rule_lines.specs.declared.form.Source.{Source}
 use Rattle.mk_rule_lines.specs.declared.rule_line.RuleLine.{RuleLine}
 use Rattle.mk_rule_lines.specs.declared.table.TargetTable.{TargetTable}
 use Rattle.mk_rules.specs.Chain.{source_in, steps_of}
+use Rattle.mk_rules.specs.declared.chain.TheConstants.{MAX_STEPS}
 use Rattle.mk_rules.specs.Wanted.{from_wanted}
 use Rattle.mk_rules.proofs.RuleLemmas.{any_place}
 
 -- a test has one answer
 pub one_answer : {A : Type 0} (b : Bool) → b ≡ true → b ≡ false → A
 one_answer b is isnt = cc
+
+-- chains have steps in the wide profile alone
+pub no_steps : (wide : Bool) (steps : ℕ) → steps ≡ cond wide MAX_STEPS 0 → steps ≡ 0 → wide ≡ false
+no_steps true steps is none = let five : MAX_STEPS ≡ 5 = refl in absurd (omega (arith, is, none, five))
+no_steps false steps is none = refl
+
+pub some_steps : (wide : Bool) (steps : ℕ) → steps ≡ cond wide MAX_STEPS 0 → (steps ≡ 0 → ⊥) → wide ≡ true
+some_steps true steps is some = refl
+some_steps false steps is some = absurd (some is)
 
 -- a table without a recipe for a name
 pub no_own : (recipe : Option ℕ) → is_some recipe ≡ false → option_to_list recipe ≡ []
@@ -62,9 +72,13 @@ module _ (lines : List RuleLine) (targets : TargetTable)
   pub same_there : table.is_there targets times ≡ inputs.is_there (inputs.inputs_of lines entries times)
   same_there = λ i name. there_at name i
 
-  -- a name that is text is a node where it is there
-  pub node_there : (name : List ℕ) → is_utf8 name ≡ true → table.is_there targets times name ≡ inputs.is_node (inputs.inputs_of lines entries times) name
-  node_there name text = there_at name ∙ sym (ap (λ (t : Bool). t && inputs.is_there (inputs.inputs_of lines entries times) name) text)
+  -- a name that is text and that the lines may have is a node where it is there
+  pub node_there : (name : List ℕ) → is_utf8 name ≡ true → inputs.is_read lines name ≡ true
+      → table.is_there targets times name ≡ inputs.is_node (inputs.inputs_of lines entries times) name
+  node_there name text read =
+      there_at name
+      ∙ sym (ap (λ (t : Bool). t && inputs.is_there (inputs.inputs_of lines entries times) name) read)
+      ∙ sym (ap (λ (t : Bool). t && (inputs.is_read lines name && inputs.is_there (inputs.inputs_of lines entries times) name)) text)
 
   -- where the name isn't phony, and no line has a recipe for it
   pub found_is : (forms : List Form) (steps : ℕ) (name : List ℕ) (recipe : Option ℕ) (found : Option Source) → forms ≡ forms_of (suffixes_of lines) lines → steps ≡ steps_of lines →

@@ -12,9 +12,13 @@ use Rattle.mk_rule_lines.specs.declared.form.Source.{Source}
 use Rattle.mk_rule_lines.specs.declared.rule_line.RuleLine.{RuleLine}
 use Rattle.mk_rules.specs.declared.chain.TheConstants.{MAX_STEPS}
 
+-- some line is in the wide profile
+abbrev pub any_wide : List RuleLine → Bool
+any_wide lines = list_any (λ l. is_wide l.profile) lines
+
 -- how many rules a chain of these lines may have before its last one: in the strict profile none (own)
 abbrev pub steps_of : List RuleLine → ℕ
-steps_of lines = if list_any (λ l. is_wide l.profile) lines then MAX_STEPS else 0
+steps_of lines = if any_wide lines then MAX_STEPS else 0
 
 -- the form has nothing beside its stem: it makes any name
 abbrev pub makes_any : Form → Bool

@@ -13,7 +13,8 @@ use Rattle.mk_rule_lines.specs.Doubles.{first_double}
 use Rattle.mk_rule_lines.specs.Forms.{forms_of}
 use Rattle.mk_rule_lines.specs.declared.form.Source.{Source}
 use Rattle.mk_rule_lines.specs.declared.rule_line.RuleLine.{RuleLine}
-use Rattle.mk_rules.specs.Chain.{source_in, steps_of}
+use Rattle.mk_short_names.specs.Short.{is_short}
+use Rattle.mk_rules.specs.Chain.{any_wide, source_in, steps_of}
 use Rattle.mk_rules.specs.Wanted.{from_wanted}
 
 -- what a graph is made of: the rule lines, the times of names as the lines let them be seen, and what the state has of each
@@ -163,10 +164,15 @@ hidden_of inputs name = hidden_in (inputs.entries name)
 abbrev pub IsTextAmong : (names : List (List ℕ)) (name : List ℕ) → Type 0
 IsTextAmong names name = (has name names ≡ true) × (is_utf8 name ≡ true)
 
--- a hidden prerequisite that is a node: its name is text, and there is a file of it or a line that makes it (own); else
--- it is gone
+-- a name as these lines may have it: in the wide profile the lines have none with a `./` in front, by which a state may know a file
+-- that they make (own)
+abbrev pub is_read : List RuleLine → (name : List ℕ) → Bool
+is_read lines name = not (any_wide lines) || is_short name
+
+-- a hidden prerequisite that is a node: its name is text and one that the lines may have, and there is a file of it or a line that
+-- makes it (own); else it is gone
 abbrev pub is_node : Inputs → (hidden : List ℕ) → Bool
-is_node inputs hidden = is_utf8 hidden && is_there inputs hidden
+is_node inputs hidden = is_utf8 hidden && (is_read inputs.lines hidden && is_there inputs hidden)
 
 -- the order-only prerequisites: those of the implicit rule, then those of the lines (GNU make manual, "Types of Prerequisites")
 abbrev pub order_only_of : Inputs → (name : List ℕ) → List (List ℕ)

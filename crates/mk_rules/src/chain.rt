@@ -2,10 +2,9 @@
 ghost use Rattle.std.specs.Prelude.{◌≡◌, ◌<◌, ℕ, ℤ, false, List, ◌∷◌, Option, None, option_map, if◌then◌else◌, IfOk, IfErr};
 ghost use Rattle.std.specs.List.{list_any, list_all};
 ghost use Rattle.mk_graph.specs.Edges.{has as has_number};
-ghost use Rattle.mk_profile.specs.Profile.{is_wide};
 ghost use Rattle.mk_rule_lines.specs.Source.{stem_of, source_of};
 ghost use Rattle.mk_rule_lines.specs.Table.{is_there};
-ghost use Rattle.mk_rules.specs.Chain.{steps_of, makes_any, has_a_type, is_usable, usable, first_that, can_be, chained, source_in};
+ghost use Rattle.mk_rules.specs.Chain.{any_wide, steps_of, makes_any, has_a_type, is_usable, usable, first_that, can_be, chained, source_in};
 ghost use Rattle.mk_rules.specs.Links.{AreLinks};
 ghost use Rattle.mk_rules.specs.Search.{IsAmong, IsAskedIn, IsBehind, IsChainedTo, IsLedFault, IsSearchFault};
 ghost use Rattle.mk_rules.specs.Looks.{Looks};
@@ -22,7 +21,7 @@ pub const MAX_STEPS: usize = 5;
 
 /// Whether some line is in the wide profile.
 fn any_wide(lines: &[RuleLine]) -> bool
-    ensures { result ≡ list_any (λ l. is_wide l.profile) lines.now }
+    ensures { result ≡ any_wide lines.now }
 {
     lines.iter().any(|line| line.profile.is_wide())
 }

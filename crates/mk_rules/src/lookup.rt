@@ -4,7 +4,7 @@ ghost use Rattle.std.specs.FinMap as map;
 ghost use Rattle.std.specs.List.{list_all};
 ghost use Rattle.std.specs.Str.{is_utf8};
 ghost use Rattle.mk_rule_lines.specs.Explicit.{is_phony};
-ghost use Rattle.mk_rules.specs.Prerequisites.{inputs_of, is_node, found_source, own_recipes};
+ghost use Rattle.mk_rules.specs.Prerequisites.{inputs_of, is_read, is_node, found_source, own_recipes};
 ghost use Rattle.mk_rules.specs.Looks.{IsLookFault, Looks, and_this};
 ghost use Rattle.mk_rules.specs.Search.{IsSearchFault};
 
@@ -13,6 +13,7 @@ use crate::rules::Rules;
 use crate::source::is_there;
 use crate::tree::Tree;
 use mk_rule_lines::{RuleFault, Source};
+use mk_short_names::is_short;
 use std::alloc::Global;
 use std::str;
 
@@ -36,6 +37,13 @@ fn is_utf8(bytes: &[u8]) -> bool
     }
 }
 
+/// Whether the lines may have this name.
+fn is_read(rules: &Rules, name: &[u8]) -> bool
+    ensures { result ≡ is_read rules.now.lines.now name.now }
+{
+    rules.steps == 0 || is_short(name)
+}
+
 /// Whether a hidden prerequisite is a node.
 pub(crate) fn is_node<T: Tree>(
     alloc: Global,
@@ -51,6 +59,9 @@ pub(crate) fn is_node<T: Tree>(
     ensures unasked { is_utf8 name.now ≡ false → (tree.new ≡ tree.old) × IsOk result }
 {
     if !is_utf8(name) {
+        return Ok(false);
+    }
+    if !is_read(rules, name) {
         return Ok(false);
     }
     is_there(alloc, rules.targets, tree, name)
