@@ -4,6 +4,7 @@ ghost use Rattle.mk_graph.specs.Numbering.{name_at};
 ghost use Rattle.mk_recipe.specs.Line.{Records};
 ghost use Rattle.mk_rule_lines.specs.Marks.{has_mark};
 ghost use Rattle.mk_plan.specs.Nodes.{explicit_of, made_beside};
+ghost use Rattle.mk_plan.specs.Parts.{language_of};
 ghost use Rattle.mk_plan.specs.Passage.{to_make, commands_of};
 ghost use Rattle.mk_plan.specs.Telling.{lines_about};
 ghost use Rattle.st_records.specs.Limits.{IsGood, IsWithin, SaysExplicit};
@@ -19,6 +20,7 @@ use crate::{Conduct, environment};
 use bd_lists::{Recipe, Variable};
 use byte_strings::{ByteString, ByteStrings};
 use mk_plan::{Why, explicit_of, made_beside, why_lines};
+use mk_profile::Profile;
 use mk_recipe::{Line, recorded};
 use mk_rules::Graph;
 use st_records::{Explicit, Record};
@@ -58,6 +60,8 @@ pub struct Plan {
     /// The names of its source and its explicit prerequisites: a report that names them says nothing new.
     pub known: ByteStrings,
     pub report: Option<ByteString>,
+    /// How the names of the report are read.
+    pub profile: Profile,
     /// The target's file is removed where the recipe fails and has changed it.
     pub removes: bool,
     ghost within: { IsWithin Two begun },
@@ -188,6 +192,7 @@ impl Plan {
         ensures known { IfOk result (λ plan. IfSome plan (λ p. p.known ≡ known_of graph.now number)) }
         ensures report { IfOk result (λ plan. IfSome plan (λ p. p.report
             ≡ report_path conduct.now.keeps_state conduct.now.state_name number)) }
+        ensures profile { IfOk result (λ plan. IfSome plan (λ p. p.profile ≡ language_of graph.now)) }
         ensures env { IfOk result (λ plan. IfSome plan (λ p. p.recipe.env.items ≡ environment conduct.now.definitions.items
             conduct.now.makeflags p.report (name_at graph.now.names number))) }
         ensures ignore { IfOk result (λ plan. IfSome plan (λ p. p.recipe.ignore
@@ -219,6 +224,7 @@ impl Plan {
             others: noted.others,
             known: noted.known,
             report,
+            profile: graph.macros.profile(),
             removes,
         }))
     }

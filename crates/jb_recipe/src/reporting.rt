@@ -12,6 +12,7 @@ use crate::noting::{Plan, writable};
 use crate::{NotDone, Place, PlaceFault};
 use bd_lists::Recipe;
 use byte_strings::{ByteString, ByteStrings, Words};
+use mk_profile::Profile;
 use mk_recipe::{Outcome, read_report};
 use st_records::{Explicit, HashKey, Record};
 use std::alloc::{AllocError, Global};
@@ -36,6 +37,8 @@ pub struct EndNote {
     others: ByteStrings,
     known: ByteStrings,
     report: Option<ByteString>,
+    /// How the names of the report are read.
+    profile: Profile,
     removes: bool,
     /// The time of the target's file before the recipe, where that may be removed.
     before: Option<i128>,
@@ -66,6 +69,7 @@ impl Plan {
           others = self.others;
           known = self.known;
           report = self.report;
+          profile = self.profile;
           removes = self.removes;
           before = None;
           left = None;
@@ -80,6 +84,7 @@ impl Plan {
             others: self.others,
             known: self.known,
             report: self.report,
+            profile: self.profile,
             removes: self.removes,
             before: None,
             left: None,
@@ -121,6 +126,7 @@ fn taken<P: Place>(
     place: &P,
     path: &ByteString,
     target: &ByteString,
+    profile: Profile,
     known: &ByteStrings,
 ) -> Result<Result<Option<ByteStrings>, NotDone>, AllocError> {
     let bytes = match taken_away(alloc, place, path.as_slice()) {
@@ -129,7 +135,7 @@ fn taken<P: Place>(
         Err(PlaceFault::Device(error)) => return Ok(Err(NotDone::Unread(error))),
         Err(PlaceFault::OutOfMemory) => return Err(AllocError),
     };
-    match read_report(alloc, key, &bytes, target.as_slice(), known) {
+    match read_report(alloc, profile, key, &bytes, target.as_slice(), known) {
         Ok(hidden) => Ok(Ok(Some(hidden))),
         Err(fault) => match NotDone::of_report(fault) {
             Some(not_done) => Ok(Err(not_done)),
@@ -202,7 +208,15 @@ impl EndNote {
             return Ok(Err(NotDone::NotRemoved(error)));
         }
         match &self.report {
-            Some(path) => taken(alloc, key, place, path, &self.target, &self.known),
+            Some(path) => taken(
+                alloc,
+                key,
+                place,
+                path,
+                &self.target,
+                self.profile,
+                &self.known,
+            ),
             None => Ok(Ok(None)),
         }
     }
@@ -222,6 +236,7 @@ impl EndNote {
             others: _,
             known: _,
             report: _,
+            profile: _,
             removes: _,
             before: _,
             left: _,
