@@ -2,11 +2,12 @@
 use crate::standard_streams::with_patience;
 use bd_lists::Variable;
 use byte_strings::{ByteString, trim_end};
-use dmk_drive::{Options, first_macros};
+use dmk_drive::Options;
 use jb_host::DryShell;
-use mk_eval::{doubled_text, output_text};
-use mk_macros::{Dynamic, MacroFault, Macros};
+use mk_eval::{doubled_text, macro_refused, output_text};
+use mk_macros::{Dynamic, MacroFault, Macros, Rank};
 use mk_profile::Profile;
+use mk_reader::Feature;
 use plain_text::Plain;
 use std::alloc::{AllocError, AllocFailed, Global};
 use std::io::Write;
@@ -21,6 +22,9 @@ pub enum SignFault {
     /// The macro, and why its text has no expansion.
     #[error("{0}: {1}")]
     Macro(ByteString, MacroFault),
+    /// The macro is one that a makefile may not define either.
+    #[error("command line: not supported: {0}")]
+    Unsupported(Feature),
 }
 
 impl From<AllocError> for SignFault {
@@ -42,8 +46,10 @@ impl<T: Drop> From<AllocFailed<T>> for SignFault {
 /// What stands between the name and the `=`.
 #[derive(Clone, Copy)]
 enum Sign {
-    /// `:` and `::`, and `:::`: the text is expanded once.
-    AtOnce,
+    /// `:` and `::`: the text is expanded once, and so is what is appended to it.
+    Fixed,
+    /// `:::`: the text is expanded once.
+    Once,
     /// `+`
     Appended,
     /// `?`
@@ -64,12 +70,15 @@ struct Signed<'a> {
 #[derive(Clone, Copy)]
 struct Before<'a> {
     words: &'a [Variable],
+    /// Of each word, whether what is appended to it is expanded at once.
+    fixed: &'a [bool],
     environment: &'a [Variable],
 }
 
-fn sign_of(last: u8) -> Option<Sign> {
+fn sign_of(last: u8, colons: usize) -> Option<Sign> {
     match last {
-        b':' => Some(Sign::AtOnce),
+        b':' if colons > 1 => Some(Sign::Once),
+        b':' => Some(Sign::Fixed),
         b'+' => Some(Sign::Appended),
         b'?' => Some(Sign::IfUndefined),
         b'!' => Some(Sign::Output),
@@ -91,9 +100,10 @@ fn without_colons(name: &[u8]) -> &[u8] {
 /// The definition by its sign, where it has one.
 fn by_sign(variable: &Variable) -> Option<Signed<'_>> {
     let (last, before) = variable.name.as_slice().split_last()?;
-    let sign = sign_of(*last)?;
+    let front = without_colons(before);
+    let sign = sign_of(*last, before.len().saturating_sub(front.len()))?;
     let name = match sign {
-        Sign::AtOnce => trim_end(without_colons(before)),
+        Sign::Fixed | Sign::Once => trim_end(front),
         _ => trim_end(before),
     };
     if name.is_empty() {
@@ -103,15 +113,30 @@ fn by_sign(variable: &Variable) -> Option<Signed<'_>> {
     Some(Signed { name, sign, text })
 }
 
-/// The last value that the name has among these.
-fn value_among<'a>(variables: &'a [Variable], name: &[u8]) -> Option<&'a [u8]> {
+/// The place of the last of these that has the name.
+fn last_of(variables: &[Variable], name: &[u8]) -> Option<usize> {
     let mut found = None;
-    for variable in variables {
+    for (place, variable) in variables.iter().enumerate() {
         if variable.name.as_slice() == name {
-            found = Some(variable.value.as_slice());
+            found = Some(place);
         }
     }
     found
+}
+
+fn value_among<'a>(variables: &'a [Variable], name: &[u8]) -> Option<&'a [u8]> {
+    let variable = variables.get(last_of(variables, name)?)?;
+    Some(variable.value.as_slice())
+}
+
+fn define(
+    alloc: Global,
+    macros: &mut Macros,
+    rank: Rank,
+    given: &Variable,
+) -> Result<(), AllocError> {
+    let name = given.name.as_slice();
+    macros.define(alloc, rank, name, given.value.as_slice(), false)
 }
 
 impl<'a> Before<'a> {
@@ -123,11 +148,38 @@ impl<'a> Before<'a> {
         }
     }
 
+    /// Whether what is appended to the name is expanded at once.
+    fn is_fixed(&self, name: &[u8]) -> bool {
+        match last_of(self.words, name) {
+            Some(place) => self.fixed.get(place).copied().unwrap_or(false),
+            None => false,
+        }
+    }
+
+    /// What texts are expanded with. Neither the tool's own definitions nor those that a run puts behind the environment count yet
+    /// (GNU make).
+    fn macros(&self, alloc: Global, profile: Profile) -> Result<Macros, AllocError> {
+        let mut macros = Macros::new(alloc, profile);
+        for variable in self.environment {
+            if variable.name.as_slice() == b"MAKEFLAGS".as_slice() {
+                break;
+            }
+            if variable.name.as_slice() != b"CURDIR".as_slice() {
+                define(alloc, &mut macros, Rank::Environment, variable)?;
+            }
+        }
+        macros.define(alloc, Rank::Environment, b"SHELL", b"/bin/sh", false)?;
+        for variable in self.words {
+            define(alloc, &mut macros, Rank::CommandLine, variable)?;
+        }
+        Ok(macros)
+    }
+
     /// The text behind what the name has.
     fn appended(&self, alloc: Global, name: &[u8], text: &[u8]) -> Result<Vec<u8>, AllocError> {
         let before = self.value(name).unwrap_or(b"");
         let mut whole = Vec::from_slice(alloc, before)?;
-        if !before.is_empty() {
+        if !before.is_empty() && !text.is_empty() {
             whole.push(b' ')?;
         }
         whole.extend_from_slice(text)?;
@@ -149,6 +201,12 @@ fn expanded(
     }
 }
 
+/// The same, as a text of its own, which isn't expanded again.
+fn at_once(alloc: Global, macros: &Macros, name: &[u8], text: &[u8]) -> Result<Vec<u8>, SignFault> {
+    let text = expanded(alloc, macros, name, text)?;
+    Ok(doubled_text(alloc, &text)?)
+}
+
 /// What a command writes, as a text. One that can't be run writes nothing.
 fn written(host: HostRuntime, shell: &[u8], command: &[u8]) -> Result<Vec<u8>, AllocError> {
     let alloc = host.alloc();
@@ -167,20 +225,33 @@ fn text_by(
 ) -> Result<Option<Vec<u8>>, SignFault> {
     let alloc = host.alloc();
     let Signed { name, sign, text } = *signed;
-    let macros = first_macros(alloc, profile, before.words, before.environment)?;
+    let macros = before.macros(alloc, profile)?;
     match sign {
+        Sign::Appended if before.is_fixed(name) => {
+            let text = at_once(alloc, &macros, name, text)?;
+            Ok(Some(before.appended(alloc, name, &text)?))
+        }
         Sign::Appended => Ok(Some(before.appended(alloc, name, text)?)),
         Sign::IfUndefined if before.value(name).is_some() => Ok(None),
         Sign::IfUndefined => Ok(Some(Vec::from_slice(alloc, text)?)),
-        Sign::AtOnce => {
-            let text = expanded(alloc, &macros, name, text)?;
-            Ok(Some(doubled_text(alloc, &text)?))
-        }
+        Sign::Fixed | Sign::Once => Ok(Some(at_once(alloc, &macros, name, text)?)),
         Sign::Output => {
             let shell = expanded(alloc, &macros, name, b"$(SHELL)")?;
             let command = expanded(alloc, &macros, name, text)?;
             Ok(Some(written(host, &shell, &command)?))
         }
+    }
+}
+
+/// Whether what is appended to the name of this definition is expanded at once.
+fn fixes(before: &Before<'_>, variable: &Variable) -> bool {
+    match by_sign(variable) {
+        Some(Signed { name, sign, .. }) => match sign {
+            Sign::Fixed => true,
+            Sign::Appended => before.is_fixed(name),
+            _ => false,
+        },
+        None => false,
     }
 }
 
@@ -203,6 +274,14 @@ fn variable_by(
     }))
 }
 
+/// Refuses what a makefile may not define either.
+fn check(variable: &Variable) -> Result<(), SignFault> {
+    match macro_refused(variable.name.as_slice(), variable.value.as_slice()) {
+        None => Ok(()),
+        Some(feature) => Err(SignFault::Unsupported(feature)),
+    }
+}
+
 /// The options with what their definitions come to by their signs, but for the first ones, so many, which are the environment's.
 pub fn with_signs(
     host: HostRuntime,
@@ -216,18 +295,24 @@ pub fn with_signs(
     }
     let mut options = options;
     let mut words: Vec<Variable> = Vec::new(host.alloc());
+    let mut fixed: Vec<bool> = Vec::new(host.alloc());
     let given = mem::replace(&mut options.definitions, Vec::new(host.alloc()));
     for variable in given {
         if words.len() < first {
             words.push(variable)?;
+            fixed.push(false)?;
             continue;
         }
         let before = Before {
             words: &words,
+            fixed: &fixed,
             environment,
         };
+        let is_fixed = fixes(&before, &variable);
         if let Some(variable) = variable_by(host, profile, &before, variable)? {
+            check(&variable)?;
             words.push(variable)?;
+            fixed.push(is_fixed)?;
         }
     }
     options.definitions = words;
