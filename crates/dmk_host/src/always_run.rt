@@ -16,12 +16,29 @@ pub const NONE: u32 = 256;
 #[derive(Drop)]
 pub struct AlwaysLines<'a> {
     host: HostRuntime,
+    /// The shell that runs them; empty where the makefile names none.
+    shell: &'a [u8],
     /// Their environment, beside dmk's own.
     env: &'a [Variable],
+    settings: LineSettings,
+}
+
+/// What the options say of such lines.
+#[derive(Clone, Copy)]
+pub struct LineSettings {
     /// The statuses of all lines are ignored, as those of makes below that answer a question.
     ignores_statuses: bool,
     /// A line that fails ends nothing.
     goes_on: bool,
+}
+
+impl LineSettings {
+    pub fn of(options: &Options) -> LineSettings {
+        LineSettings {
+            ignores_statuses: options.ignores_statuses || options.asks,
+            goes_on: options.goes_on,
+        }
+    }
 }
 
 /// What is run beside recipes has this in its environment, beside dmk's own: what recipes have where no job slots are served.
@@ -43,21 +60,26 @@ pub fn beside_recipes(
 }
 
 impl<'a> AlwaysLines<'a> {
-    /// As these options have it, in this environment.
-    pub fn new(host: HostRuntime, options: &Options, env: &'a [Variable]) -> AlwaysLines<'a> {
+    /// As these settings have it, by this shell and in this environment.
+    pub fn new(
+        host: HostRuntime,
+        settings: LineSettings,
+        shell: &'a [u8],
+        env: &'a [Variable],
+    ) -> AlwaysLines<'a> {
         AlwaysLines {
             host,
+            shell,
             env,
-            ignores_statuses: options.ignores_statuses || options.asks,
-            goes_on: options.goes_on,
+            settings,
         }
     }
 
     /// Runs a line. Whether its status counts as a failure, which is told.
     fn fails(&self, line: &AlwaysRun) -> bool {
         let shell = DryShell::new(self.host, self.host.alloc(), self.env);
-        let status = shell.run(line.text.as_slice()).unwrap_or(NONE);
-        if status == 0 || line.is_ignored || self.ignores_statuses {
+        let status = shell.run(self.shell, line.text.as_slice()).unwrap_or(NONE);
+        if status == 0 || line.is_ignored || self.settings.ignores_statuses {
             return false;
         }
         self.tell_failed(line, status);
@@ -93,7 +115,7 @@ impl<'a> AlwaysLines<'a> {
             out.flush()?;
             printed = place;
             if self.fails(line) {
-                if !self.goes_on {
+                if !self.settings.goes_on {
                     return Ok(false);
                 }
                 failed = Some(target);

@@ -3,10 +3,11 @@ ghost use Rattle.std.specs.Prelude.{codes};
 ghost use Rattle.dmk_drive.specs.Keeping.{value_in};
 ghost use Rattle.dmk_drive.specs.Output.{AsksToLook};
 
-use crate::always_run::{AlwaysLines, beside_recipes};
+use crate::always_run::{AlwaysLines, LineSettings, beside_recipes};
 use crate::base::base_asked;
 use crate::host_files::HostFiles;
 use crate::reasons::{needs_usual_makefile, print_gnu_makefile, print_notes, print_reasons};
+use crate::shell_asked::ShellSource;
 use crate::signs::{SignFault, with_signs};
 use crate::standard_streams::with_patience;
 use bd_lists::Variable;
@@ -172,6 +173,11 @@ impl Look {
         }
     }
 
+    /// Whether it has lines that are run all the same.
+    fn runs_any(&self) -> bool {
+        !self.always.is_empty()
+    }
+
     fn is_fault(&self) -> bool {
         self.status == 2
     }
@@ -218,20 +224,25 @@ impl Look {
             Ok(true) => status,
             Ok(false) => 2,
             Err(_) => {
-                tell_unwritten(host);
+                say(host, &Fault::Write);
                 2
             }
         }
     }
 }
 
-fn tell_unwritten(host: HostRuntime) {
-    let fault = Fault::Write;
-    let message = Message {
-        state: "",
-        fault: &fault,
-    };
+fn say(host: HostRuntime, fault: &Fault) {
+    let message = Message { state: "", fault };
     print_fault(&mut with_patience(host, host.stderr()), message);
+}
+
+/// Tells why nothing is listed.
+fn tell_refused(host: HostRuntime, fault: &Fault) -> Result<u8, AllocError> {
+    if fault.is_of_memory() {
+        return Err(AllocError);
+    }
+    say(host, fault);
+    Ok(2)
 }
 
 /// Looks until there is no fault, or two looks, one behind the other, have come to the same one.
@@ -277,14 +288,29 @@ pub fn ask(
             return Err(error);
         }
     };
-    let lines = AlwaysLines::new(host, &options, &env);
+    let source = match ShellSource::of(host.alloc(), &options) {
+        Ok(source) => source,
+        Err(error) => {
+            drop(options);
+            return Err(error);
+        }
+    };
+    let settings = LineSettings::of(&options);
     let mut makefiles = HostFiles::texts(host, options.profile, input, &env);
     makefiles.define(options.profile, &options.definitions);
     makefiles.define(options.profile, environment);
-    let look = last_look(host, options, environment, &mut makefiles);
+    let look = last_look(host, options, environment, &mut makefiles)?;
+    if !look.runs_any() {
+        drop(makefiles);
+        return Ok(look.tell(host, &AlwaysLines::new(host, settings, b"", &env)));
+    }
+    let shell = source.shell(host, environment, &mut makefiles);
     drop(makefiles);
-    match look {
-        Ok(look) => Ok(look.tell(host, &lines)),
-        Err(error) => Err(error),
+    match shell {
+        Ok(shell) => Ok(look.tell(host, &AlwaysLines::new(host, settings, &shell, &env))),
+        Err(fault) => {
+            drop(look);
+            tell_refused(host, &fault)
+        }
     }
 }

@@ -13,6 +13,7 @@ mod memory;
 mod pool_path;
 mod reasons;
 mod run_name;
+mod shell_asked;
 mod signs;
 mod standard_streams;
 mod terminal;

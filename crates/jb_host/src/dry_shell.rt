@@ -37,8 +37,8 @@ fn written_by(rt: &HostRuntime, command: &mut Command) -> Result<Written, ExecFa
     }
 }
 
-/// Runs lines in a dry run, each as `/bin/sh -c TEXT`, and commands of definitions by a shell of any name, with empty standard input, in
-/// dmk's own environment and these variables. They write where dmk does. What it runs is no recipe: it takes no clearance, so it has
+/// Runs lines in a dry run, and commands of definitions, by a shell of any name, with empty standard input, in dmk's own environment and
+/// these variables. They write where dmk does. What it runs is no recipe: it takes no clearance, so it has
 /// none to give, and a recipe is never run by it. Nothing is claimed of the shell.
 #[derive(Drop)]
 pub struct DryShell<'a> {
@@ -62,11 +62,11 @@ impl<'a> DryShell<'a> {
         }
     }
 
-    /// Runs a line to its end, and answers its status: 256 where a signal ended it.
-    pub fn run(&self, text: &[u8]) -> Result<u32, ExecFault>
+    /// Runs a line to its end by the shell of this name, and answers its status: 256 where a signal ended it.
+    pub fn run(&self, shell: &[u8], text: &[u8]) -> Result<u32, ExecFault>
         ensures { IfOk result (λ status. status ≤ 256) }
     {
-        let mut command = self.command(b"", text)?;
+        let mut command = self.command(shell, text)?;
         let status = end_of(&self.rt, &mut command);
         drop(command);
         status
