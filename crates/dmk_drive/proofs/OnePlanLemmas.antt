@@ -105,9 +105,9 @@ module _ (profile : Profile) (definitions environment : List Variable) (targets 
       let keeping : Bool = keeps environment items in
       let state = state_once keeping honest seen of_x.state of_y.state works of_x.is_state of_y.is_state in
       let of_b : IsGraphOf profile definitions environment targets times items of_x.state of_y.graph
-      = subst (λ m. IsGraphOf profile definitions environment targets times items m of_y.graph) (sym state) of_y.is_graph in (
-        listing_once profile definitions environment targets times items of_x.state of_x.graph of_y.graph of_x.is_graph of_b all (all || keeping) x y of_x.lists of_y.lists,
-        of_x.soft ∙ dropped_once profile definitions environment targets times items of_x.state of_x.graph of_y.graph of_x.is_graph of_b ∙ sym of_y.soft,
+      = subst (λ m. IsGraphOf profile definitions environment targets times items m of_y.graph) (sym state) of_y.is_graph.is_graph in (
+        listing_once profile definitions environment targets times items of_x.state of_x.graph of_y.graph of_x.is_graph.is_graph of_b all (all || keeping) x y of_x.lists of_y.lists,
+        of_x.soft ∙ dropped_once profile definitions environment targets times items of_x.state of_x.graph of_y.graph of_x.is_graph.is_graph of_b ∙ sym of_y.soft,
       )
 
 pub plan_once : (world : World) (times : List ℕ → Option ℤ) (makefiles : Makefiles) (profile : Profile) (definitions environment : List Variable)

@@ -27,7 +27,7 @@ use Rattle.dmk_drive.specs.Definitions.{first_defined}
 use Rattle.dmk_drive.specs.Keeping.{keeps}
 use Rattle.dmk_drive.specs.AlwaysRun.{lines_run_always}
 use Rattle.dmk_drive.specs.Passing.{IsListing, IsListingFault, listing_text, lists_any}
-use Rattle.dmk_drive.specs.Planned.{IsStateOn, IsGraphOf, Tells, judged_graph}
+use Rattle.dmk_drive.specs.Planned.{IsStateOn, IsWholeGraphOf, Tells, judged_graph}
 use Rattle.dmk_drive.specs.Faults.{IsPlanFault}
 use Rattle.dmk_drive.specs.declared.fault.Fault.{Fault}
 use Rattle.dmk_drive.specs.declared.fault.Fault.TheVariants as fault
@@ -111,7 +111,7 @@ module _ (profile : Profile) (definitions environment : List Variable) (targets 
       subst (IsPlanFault profile definitions environment targets all times refuses disk_honest seen items) (sym is) (state, kept, meets times may)
 
   -- listed is the graph by which targets are judged
-  module _ (graph : Graph) (is_graph : IsGraphOf profile definitions environment targets times items state graph)
+  module _ (graph : Graph) (is_graph : IsWholeGraphOf profile definitions environment targets times items state graph)
       (judged : Graph) (is_judged : judged ≡ judged_graph all graph) (counting : Bool) (counts : counting ≡ all || keeping) where
     counted : counting ≡ all || keeps environment items
     counted = counts ∙ ap (λ k. all || k) is_keeping

@@ -23,7 +23,7 @@ use Rattle.dmk_drive.specs.Definitions.{first_defined}
 use Rattle.dmk_drive.specs.Keeping.{keeps}
 use Rattle.dmk_drive.specs.Makefile.{IsUsualMakefile, HasNoMakefile, LacksOne, NamedItems, AllItems}
 use Rattle.dmk_drive.specs.Passing.{IsListingFault}
-use Rattle.dmk_drive.specs.Planned.{AreItems, AreOwnItems, IsStateOn, IsGraphOf, judged_graph}
+use Rattle.dmk_drive.specs.Planned.{AreItems, AreOwnItems, IsStateOn, IsWholeGraphOf, judged_graph}
 use Rattle.dmk_drive.specs.declared.fault.Fault.{Fault}
 use Rattle.dmk_drive.specs.declared.fault.Fault.TheVariants as fault
 use Rattle.dmk_drive.specs.declared.makefiles.Makefiles.{Makefiles}
@@ -100,7 +100,7 @@ IsPlanFault profile definitions environment targets all times refuses disk_hones
     × IsRuleFault (first_defined profile definitions environment) items times (map.get state) refuses targets (node_limit profile) f
 IsPlanFault profile definitions environment targets all times refuses disk_honest seen items (fault.Recipe f) =
     (state : StateMap) × IsStateOn (keeps environment items) disk_honest seen state
-    × ((graph : Graph) × IsGraphOf profile definitions environment targets times items state graph × IsListingFault (all || keeps environment items) (judged_graph all graph) f)
+    × ((graph : Graph) × IsWholeGraphOf profile definitions environment targets times items state graph × IsListingFault (all || keeps environment items) (judged_graph all graph) f)
 IsPlanFault profile definitions environment targets all times refuses disk_honest seen items _ = ⊥
 
 -- a fault of the makefile comes before all else; the others are those of a plan for its items

@@ -67,14 +67,18 @@ abbrev pub AreItems : (world : World) (times : List ℕ → Option ℤ) → Make
 AreItems world times makefiles given =
     WithRules (reads_rules makefiles given.language) world (AreOwnItems world times makefiles.named given) given
 
--- the graph of these items for the targets that are named, with this state, in the language of the profile. Each name in it is there, or
--- something makes it
+-- the graph of these items for the targets that are named, with this state, in the language of the profile
 pub record IsGraphOf (profile : Profile) (definitions environment : List Variable) (targets : List (List ℕ)) (times : List ℕ → Option ℤ)
     (items : List Item) (state : StateMap) (graph : Graph) : Type 0 where
   pub inputs : Inputs
   pub are_inputs : AreInputs (first_defined profile definitions environment) items times (map.get state) inputs
   pub is_graph : IsGraph inputs targets graph
   pub macros : defined_by graph.macros ≡ behind_items (first_defined profile definitions environment) items
+
+-- so it is, and each name in it has a file, or something makes it
+pub record IsWholeGraphOf (profile : Profile) (definitions environment : List Variable) (targets : List (List ℕ)) (times : List ℕ → Option ℤ)
+    (items : List Item) (state : StateMap) (graph : Graph) : Type 0 where
+  pub is_graph : IsGraphOf profile definitions environment targets times items state graph
   pub all_made : graph.unmade.items ≡ []
 
 -- the graph by which targets are judged: where all are to be made, nothing is recorded of any of them
@@ -91,7 +95,7 @@ pub record IsPlanned (profile : Profile) (definitions environment : List Variabl
   pub state : StateMap
   pub is_state : IsStateOn (keeps environment items) disk_honest seen state
   pub graph : Graph
-  pub is_graph : IsGraphOf profile definitions environment targets times items state graph
+  pub is_graph : IsWholeGraphOf profile definitions environment targets times items state graph
   pub lists : IsListing (all || keeps environment items) (judged_graph all graph) plan
   pub soft : dropped ≡ graph.soft_dropped
 

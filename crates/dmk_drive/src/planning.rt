@@ -16,7 +16,7 @@ ghost use Rattle.st_file.specs.declared.fault.OpenFault.{OpenFault as StateFault
 ghost use Rattle.st_file.specs.declared.fault.OpenFault.TheVariants as open_faults;
 ghost use Rattle.dmk_drive.specs.AlwaysRun.{lines_run_always};
 ghost use Rattle.dmk_drive.specs.Passing.{IsListing, IsListingFault, listing_text, lists_any};
-ghost use Rattle.dmk_drive.specs.Planned.{AreItems, IsStateOn, IsGraphOf, Tells, judged_graph};
+ghost use Rattle.dmk_drive.specs.Planned.{AreItems, IsStateOn, IsWholeGraphOf, Tells, judged_graph};
 ghost use Rattle.dmk_drive.specs.Faults.{IsOpenFault, IsTextFault, IsPlanFault, IsRunFault};
 ghost use Rattle.dmk_drive.specs.declared.fault.Fault.TheVariants as faults;
 ghost use Rattle.mk_eval.specs.Output.{World};
@@ -79,7 +79,7 @@ fn graph_of<T: Tree>(
     state: State,
 ) -> Result<Graph, Fault>
     ensures graph { IfOk result (λ graph. (times : List ℕ → Option ℤ) → T.allows tree.new times
-        → IsGraphOf given.entry.profile given.entry.definitions.now given.entry.environment.now targets times items.items state graph) }
+        → IsWholeGraphOf given.entry.profile given.entry.definitions.now given.entry.environment.now targets times items.items state graph) }
     ensures fault { IfErr result (λ fault. (fault ≡ faults.OutOfMemory) ⊎ ((f : RulesFault) × (fault ≡ faults.Rules f)
         × ((times : List ℕ → Option ℤ) → T.allows tree.new times
         → IsRuleFault (first_defined given.entry.profile given.entry.definitions.now given.entry.environment.now) items.items times
@@ -175,7 +175,7 @@ fn kept_graph<T: Tree, D: Disk>(
     requires { keeping ≡ keeps given.environment.now items.items }
     ensures graph { IfOk result (λ graph. (m : StateMap) × IsStateOn keeping D.honest (D.seen disk.old) m
         × ((times : List ℕ → Option ℤ) → T.allows tree.new times
-        → IsGraphOf given.entry.profile given.entry.definitions.now given.entry.environment.now targets times items.items m graph)) }
+        → IsWholeGraphOf given.entry.profile given.entry.definitions.now given.entry.environment.now targets times items.items m graph)) }
     ensures fault { IfErr result (λ fault. (times : List ℕ → Option ℤ) → T.allows tree.new times
         → IsPlanFault given.entry.profile given.entry.definitions.now given.entry.environment.now targets given.entry.makes_all times (T.refuses tree.new) D.honest (D.seen disk.old)
         items.items fault) }

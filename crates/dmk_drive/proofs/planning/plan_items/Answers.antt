@@ -16,7 +16,7 @@ listed-requires g c =
     let (times, now) = g.met.T.Tree.possible c.kept_graph.new.tree in
     let by = is times now in
     order_judged c.args.given.makes_all c.in_ok-graph.graph c.judged_graph-judged.result c.judged_graph-judged.ensures
-    (order_below by.inputs c.args.targets c.in_ok-graph.graph by.is_graph)
+    (order_below by.is_graph.inputs c.args.targets c.in_ok-graph.graph by.is_graph.is_graph)
 
 pub returns-clause-tells : goal.returns-clause-tells
 returns-clause-tells g c =
