@@ -1,5 +1,6 @@
 //! One node, from its claim to its end.
-ghost use Rattle.std.specs.Prelude.{◌≡◌, ◌<◌, length};
+ghost use Rattle.std.specs.Prelude.{◌≡◌, ◌<◌, ◌≤◌, length, true, false};
+ghost use Rattle.mk_graph.specs.Edges.{has};
 ghost use Rattle.jb_runner.specs.Making.{is_remade};
 
 use crate::Shift;
@@ -83,7 +84,8 @@ fn tell_not_recorded<S: Say>(say: &S, graph: &Graph, node: Node, long: Option<us
 }
 
 impl<D: Disk + Drop, E: Exec<Receipt>, S: Say, P: Place> Bench<'_, D, E, S, P> {
-    /// Makes a node that was claimed. A fault ends the run; the node is then still to be abandoned.
+    /// Makes a node that was claimed. A fault ends the run; the node is then still to be abandoned. One that isn't there and that
+    /// nothing makes is lost, which was told before the run.
     pub(crate) fn make<R: Wait, B: Bank>(
         &self,
         rt: &R,
@@ -92,8 +94,15 @@ impl<D: Disk + Drop, E: Exec<Receipt>, S: Say, P: Place> Bench<'_, D, E, S, P> {
         marks: &mut Vec<bool>,
         bank: &mut B,
         shift: &mut Shift,
-    ) -> Result<(), RunFault> {
+    ) -> Result<(), RunFault>
+        ensures unmade { has self.now.graph.now.unmade.items node ≡ true → 2 ≤ shift.new.status }
+    {
         let number = node.number();
+        if self.graph.is_unmade(number) {
+            shift.worsen(2);
+            self.clerk.desk.lose(rt, node);
+            return Ok(());
+        }
         if number >= self.graph.len() {
             self.clerk.desk.lose(rt, node);
             return Ok(());
@@ -120,7 +129,8 @@ impl<D: Disk + Drop, E: Exec<Receipt>, S: Say, P: Place> Bench<'_, D, E, S, P> {
         bank: &mut B,
         shift: &mut Shift,
     ) -> Result<(), RunFault>
-        requires { node < length self.now.graph.now.nodes.items }
+        requires node { node < length self.now.graph.now.nodes.items }
+        requires made { has self.now.graph.now.unmade.items node ≡ false }
     {
         match passed {
             Passed::UpToDate => return self.finish(rt, alloc, node),
@@ -170,7 +180,8 @@ impl<D: Disk + Drop, E: Exec<Receipt>, S: Say, P: Place> Bench<'_, D, E, S, P> {
         bank: &mut B,
         shift: &mut Shift,
     ) -> Result<(), RunFault>
-        requires { node < length self.now.graph.now.nodes.items }
+        requires node { node < length self.now.graph.now.nodes.items }
+        requires made { has self.now.graph.now.unmade.items node ≡ false }
     {
         shift.make_room()?;
         let long = long_line(&lines);
