@@ -22,7 +22,9 @@ use Rattle.jb_closing.specs.Report.{ends_well}
 use Rattle.dmk_run.specs.Judged.{IsBorneOut}
 use Rattle.dmk_run.specs.Known.{IsTold}
 use Rattle.dmk_run.specs.Made.{HasEnded, IsMade}
+use Rattle.dmk_run.specs.Planned.{with_unmade}
 use Rattle.dmk_run.specs.Settled.{IsNoneToRun}
+use Rattle.dmk_run.proofs.DriverLemmas.{ended_with}
 
 true_of : {told : List Record} {receipts : List Receipt} {wide narrow : Type 0} {sides : Sides} {name : List ℕ} → (narrow → wide) → IsTrueOf told receipts wide sides name → IsTrueOf told receipts narrow sides name
 true_of implies is = record {
@@ -97,19 +99,16 @@ none_built (n ∷ nodes) (suc node) built = none_built nodes node built
 
 -- nothing was told, and no node ended as built
 pub none_ended : (counting keeping : Bool) (graph : Graph) (m : StateMap) (honest : Type 0) (sides : Sides) → IsNoneToRun counting keeping graph m → (honest → AllRecover m sides)
-    → HasEnded graph counting keeping honest sides 0
-none_ended counting keeping graph m honest sides is recovers = record {
-  ends = up_to_date graph.nodes.items;
-  all = length-map graph.nodes.items _;
-  well = λ none. up_to_date_well graph.nodes.items;
-  borne_out = λ none. inl is.listing;
-  made = λ kept. record {
-    told = [];
-    receipts = [];
-    are_those = λ ticket. refl;
-    are_true = λ node built. absurd (none_built graph.nodes.items node built);
-    left = m;
-    recovers = recovers;
-    known = λ none. is.known kept;
-  };
-}
+    → (status : ℕ) → status ≡ with_unmade graph.unmade.items 0 → HasEnded graph counting keeping honest sides status
+none_ended counting keeping graph m honest sides is recovers status comes =
+    ended_with graph counting keeping honest sides 0 status comes (up_to_date graph.nodes.items) (length-map graph.nodes.items _)
+    (λ none. up_to_date_well graph.nodes.items) (λ none. inl is.listing)
+    (λ kept. record {
+      told = [];
+      receipts = [];
+      are_those = λ ticket. refl;
+      are_true = λ node built. absurd (none_built graph.nodes.items node built);
+      left = m;
+      recovers = recovers;
+      known = λ none. is.known kept;
+    })

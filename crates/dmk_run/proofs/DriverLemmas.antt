@@ -1,5 +1,5 @@
 -- What a run over a store says of a makefile.
-use Rattle.std.proofs.Common.{◌≡◌, ◌⊎◌, ◌||◌, inl, inr, ℕ, ℤ, ◌≤◌, Bool, true, false, List, [], Option, Result, Ok, Err, IfOk, IfErr, IsTrue, ◌∙◌, length, refl, sym, subst}
+use Rattle.std.proofs.Common.{◌≡◌, ◌≢◌, ◌⊎◌, ◌||◌, inl, inr, ℕ, ℤ, ◌≤◌, Bool, true, false, List, [], ◌∷◌, Option, Result, Ok, Err, IfOk, IfErr, IsTrue, ◌∙◌, length, refl, sym, subst, arith}
 use Rattle.std.specs.FinMap as map
 use Rattle.std.specs.Coded.{Coded-set}
 use Rattle.std.proofs.Math.Logic.{∥∥₁_elim}
@@ -18,12 +18,14 @@ use Rattle.st_recovery.specs.Recovers.{Recovers, recovered}
 use Rattle.st_recovery.specs.Stored.{AllRecover}
 use Rattle.st_recovery.proofs.RecoversLemmas.{one_recovery}
 use Rattle.bd_lists.specs.declared.recipe.Variable.{Variable}
+use Rattle.bd_places.specs.declared.end.End.{End}
 use Rattle.dmk_drive.specs.Keeping.{keeps}
 use Rattle.dmk_drive.specs.Planned.{IsGraphOf, IsStateOn, judged_graph}
 use Rattle.dmk_run.specs.InTurn.{IsParted}
 use Rattle.dmk_run.specs.Opened.{RecoversAsBefore}
 use Rattle.dmk_run.specs.Judged.{IsBorneOut}
 use Rattle.dmk_run.specs.Made.{HasEnded, IsMade, MakesItems}
+use Rattle.dmk_run.specs.Planned.{goes_without, with_unmade}
 use Rattle.dmk_run.specs.declared.stop.Stop.{Stop}
 
 -- what isn't parted may have left anything
@@ -72,59 +74,103 @@ empty_state a b m is_a is_b found =
 pub at_ok : {A E : Type 0} (P : A → Type 0) (got : Result A E) (x : A) → got ≡ Ok x → IfOk got P → P x
 at_ok P got x is found = subst (λ g. IfOk g P) is found
 
+-- a status with names that nothing makes is a status, is 0 where it was and there are none, and is 2 where there are some
+pub small_with : (unmade : List ℕ) (status : ℕ) → status ≤ 2 → with_unmade unmade status ≤ 2
+small_with [] status small = small
+small_with (node ∷ nodes) status small = omega arith
+
+zero_with : (unmade : List ℕ) (status : ℕ) → with_unmade unmade status ≡ 0 → status ≡ 0
+zero_with [] status none = none
+zero_with (node ∷ nodes) status none = absurd (omega (arith, none))
+
+pub none_with : (unmade : List ℕ) (status : ℕ) → with_unmade unmade status ≢ 2 → unmade ≡ []
+none_with [] status other = refl
+none_with (node ∷ nodes) status other = absurd (other refl)
+
 -- the status of a report is a report's
-pub status_of_report : (found : Result Report RunFault) (got : Result ℕ Stop) → IfOk got (λ s. (r : Report) × (found ≡ Ok r) × (s ≡ r.status))
+pub status_of_report : (unmade : List ℕ) (found : Result Report RunFault) (got : Result ℕ Stop)
+    → IfOk got (λ s. (r : Report) × (found ≡ Ok r) × (s ≡ with_unmade unmade r.status))
     → IfOk found (λ r. r.status ≤ 2) → IfOk got (λ s. s ≤ 2)
-status_of_report found (Ok s) (r, is, same) small = subst (λ n. n ≤ 2) (sym same) (at_ok (λ r. r.status ≤ 2) found r is small)
-status_of_report found (Err stop) is small = tt
+status_of_report unmade found (Ok s) (r, is, same) small =
+    subst (λ n. n ≤ 2) (sym same) (small_with unmade r.status (at_ok (λ r. r.status ≤ 2) found r is small))
+status_of_report unmade found (Err stop) is small = tt
+
+-- what is made at a status is made at another that is 0 only where that is
+made_at : (graph : Graph) (sound : Type 0) (sides : Sides) (ends : List End) (before after : ℕ) → (after ≡ 0 → before ≡ 0) →
+    IsMade graph sound sides before ends → IsMade graph sound sides after ends
+made_at graph sound sides ends before after implies is = record {
+  told = is.told;
+  receipts = is.receipts;
+  are_those = is.are_those;
+  are_true = is.are_true;
+  left = is.left;
+  recovers = is.recovers;
+  known = λ none. is.known (implies none);
+}
+
+-- so a run has ended that came to another status for names that nothing makes
+pub ended_with : (graph : Graph) (counting keeping : Bool) (sound : Type 0) (sides : Sides) (before after : ℕ) → after ≡ with_unmade graph.unmade.items before →
+    (ends : List End) → length ends ≡ length graph.nodes.items → (before ≡ 0 → IsTrue (list_all ends_well ends)) → (before ≡ 0 → IsBorneOut counting graph ends) →
+    (keeping ≡ true → IsMade graph sound sides before ends) → HasEnded graph counting keeping sound sides after
+ended_with graph counting keeping sound sides before after is ends all well borne made =
+    let implies : after ≡ 0 → before ≡ 0 = λ none. zero_with graph.unmade.items before (sym is ∙ none) in
+    record {
+      ends = ends;
+      all = all;
+      unmade = λ other. none_with graph.unmade.items before (subst (λ s. s ≢ 2) is other);
+      well = λ none. well (implies none);
+      borne_out = λ none. borne (implies none);
+      made = λ kept. made_at graph sound sides ends before after implies (made kept);
+    }
 
 -- the status of a report is that of a graph that has ended
 pub has_ended : (graph : Graph) (counting keeping : Bool) (sound : Type 0) (sides : Sides) (found : Result Report RunFault) (got : Result ℕ Stop)
-    → IfOk got (λ s. (r : Report) × (found ≡ Ok r) × (s ≡ r.status)) → IfOk found (λ r. length r.ends.items ≡ length graph.nodes.items)
+    → IfOk got (λ s. (r : Report) × (found ≡ Ok r) × (s ≡ with_unmade graph.unmade.items r.status))
+    → IfOk found (λ r. length r.ends.items ≡ length graph.nodes.items)
     → IfOk found (λ r. r.status ≡ 0 → IsTrue (list_all ends_well r.ends.items)) → IfOk found (λ r. r.status ≡ 0 → IsBorneOut counting graph r.ends.items)
     → IfOk found (λ r. keeping ≡ true → IsMade graph sound sides r.status r.ends.items) → IfOk got (HasEnded graph counting keeping sound sides)
-has_ended graph counting keeping sound sides found (Ok s) (r, is, same) all well borne made = record {
-  ends = r.ends.items;
-  all = at_ok (λ r. length r.ends.items ≡ length graph.nodes.items) found r is all;
-  well = λ none. at_ok (λ r. r.status ≡ 0 → IsTrue (list_all ends_well r.ends.items)) found r is well (sym same ∙ none);
-  borne_out = λ none. at_ok (λ r. r.status ≡ 0 → IsBorneOut counting graph r.ends.items) found r is borne (sym same ∙ none);
-  made = λ kept.
-      subst (λ s. IsMade graph sound sides s r.ends.items) (sym same)
-      (at_ok (λ r. keeping ≡ true → IsMade graph sound sides r.status r.ends.items) found r is made kept);
-}
+has_ended graph counting keeping sound sides found (Ok s) (r, is, same) all well borne made =
+    ended_with graph counting keeping sound sides r.status s same r.ends.items
+    (at_ok (λ r. length r.ends.items ≡ length graph.nodes.items) found r is all)
+    (at_ok (λ r. r.status ≡ 0 → IsTrue (list_all ends_well r.ends.items)) found r is well)
+    (at_ok (λ r. r.status ≡ 0 → IsBorneOut counting graph r.ends.items) found r is borne)
+    (at_ok (λ r. keeping ≡ true → IsMade graph sound sides r.status r.ends.items) found r is made)
 has_ended graph counting keeping sound sides found (Err stop) is all well borne made = tt
 
-module _ (profile : Profile) (definitions environment : List Variable) (targets : List (List ℕ)) (all : Bool) (times : List ℕ → Option ℤ) where
+module _ (profile : Profile) (definitions environment : List Variable) (targets : List (List ℕ)) (all goes_on : Bool) (times : List ℕ → Option ℤ) where
   -- so a graph of these items has
   pub made_items : (items : List Item) (stored keeping : Bool) (disk_honest : Type 0) (seen : Which → List ℕ) (sides : Sides) (state : StateMap)
       (graph judged : Graph) (counted kept : Bool) → IsStateOn stored disk_honest seen state →
-      IsGraphOf profile definitions environment targets times items state graph → judged ≡ judged_graph all graph → counted ≡ all || keeping →
+      IsGraphOf profile definitions environment targets times items state graph → (goes_without profile goes_on ≡ false → graph.unmade.items ≡ []) → judged ≡ judged_graph all graph → counted ≡ all || keeping →
       kept ≡ keeping → (got : Result ℕ Stop) → IfOk got (HasEnded judged counted kept disk_honest sides) →
-      IfOk got (λ s. MakesItems profile definitions environment targets all times items stored keeping disk_honest seen s sides)
-  made_items items stored keeping disk_honest seen sides state graph judged counted kept is_state is_graph is_judged counts same (Ok s) ended = record {
+      IfOk got (λ s. MakesItems profile definitions environment targets all goes_on times items stored keeping disk_honest seen s sides)
+  made_items items stored keeping disk_honest seen sides state graph judged counted kept is_state is_graph all_made is_judged counts same (Ok s) ended = record {
     state = state;
     is_state = is_state;
     graph = graph;
     is_graph = is_graph;
+    all_made = all_made;
     ended = subst (λ g. HasEnded g (all || keeping) keeping disk_honest sides s) is_judged
         (subst (λ n. HasEnded judged n keeping disk_honest sides s) counts (subst (λ k. HasEnded judged counted k disk_honest sides s) same ended));
   }
-  made_items items stored keeping disk_honest seen sides state graph judged counted kept is_state is_graph is_judged counts same (Err stop) ended = tt
+  made_items items stored keeping disk_honest seen sides state graph judged counted kept is_state is_graph all_made is_judged counts same (Err stop) ended = tt
 
   -- over a disk in memory that was empty nothing of a state is known
   module _ (items : List Item) (memory_honest : Type 0) (memory : Which → List ℕ) (works : memory_honest)
       (a : memory which.A ≡ []) (b : memory which.B ≡ []) (memory_sides : Sides) (disk_honest : Type 0) (seen : Which → List ℕ) (sides : Sides) where
     pub without_state : (status : ℕ) →
-        MakesItems profile definitions environment targets all times items true false memory_honest memory status memory_sides →
-        MakesItems profile definitions environment targets all times items false false disk_honest seen status sides
+        MakesItems profile definitions environment targets all goes_on times items true false memory_honest memory status memory_sides →
+        MakesItems profile definitions environment targets all goes_on times items false false disk_honest seen status sides
     without_state status run = record {
       state = run.state;
       is_state = empty_state (memory which.A) (memory which.B) run.state a b (run.is_state works);
       graph = run.graph;
       is_graph = run.is_graph;
+      all_made = run.all_made;
       ended = record {
         ends = run.ended.ends;
         all = run.ended.all;
+        unmade = run.ended.unmade;
         well = run.ended.well;
         borne_out = run.ended.borne_out;
         made = λ keeping. absurd (no_value keeping);
@@ -132,10 +178,10 @@ module _ (profile : Profile) (definitions environment : List Variable) (targets 
     }
 
     pub found_without_state : (keeping : Bool) → false ≡ keeping → (got : Result ℕ Stop) →
-        IfOk got (λ s. MakesItems profile definitions environment targets all times items true false memory_honest memory s memory_sides) →
-        IfOk got (λ s. MakesItems profile definitions environment targets all times items keeping keeping disk_honest seen s sides)
+        IfOk got (λ s. MakesItems profile definitions environment targets all goes_on times items true false memory_honest memory s memory_sides) →
+        IfOk got (λ s. MakesItems profile definitions environment targets all goes_on times items keeping keeping disk_honest seen s sides)
     found_without_state keeping is (Ok status) run =
-        subst (λ k. MakesItems profile definitions environment targets all times items k k disk_honest seen status sides) is
+        subst (λ k. MakesItems profile definitions environment targets all goes_on times items k k disk_honest seen status sides) is
         (without_state status run)
     found_without_state keeping is (Err stop) run = tt
 

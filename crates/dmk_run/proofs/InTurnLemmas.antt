@@ -204,21 +204,22 @@ module _ {Source Tree Disk : Type 0} (Reads : Source → World → Type 0) (Allo
     )
 
     module _ (disk_honest : Type 0) (seen : Disk → Which → List ℕ) (sides : Disk → Sides) (targets : List (List ℕ)) (asked : part.targets ≡ targets)
-        (all : part.makes_all ≡ whole.makes_all) where
+        (all : part.makes_all ≡ whole.makes_all) (goes_on : part.goes_on ≡ whole.goes_on) where
       makes_alike : (world : World) (times : List ℕ → Option ℤ) (found left : Disk) (status : ℕ) →
-          Makes world times part.makefiles part.profile part.definitions.items environment part.targets part.makes_all disk_honest (seen found) status (sides left) →
-          Makes world times whole.makefiles whole.profile whole.definitions.items environment targets whole.makes_all disk_honest (seen found) status (sides left)
+          Makes world times part.makefiles part.profile part.definitions.items environment part.targets part.makes_all part.goes_on disk_honest (seen found) status (sides left) →
+          Makes world times whole.makefiles whole.profile whole.definitions.items environment targets whole.makes_all whole.goes_on disk_honest (seen found) status (sides left)
       makes_alike world times found left status is =
-          subst (λ a. Makes world times whole.makefiles whole.profile whole.definitions.items environment targets a disk_honest (seen found) status (sides left)) all
-          (subst (λ t. Makes world times whole.makefiles whole.profile whole.definitions.items environment t part.makes_all disk_honest (seen found) status (sides left)) asked
-          (subst (λ d. Makes world times whole.makefiles whole.profile d environment part.targets part.makes_all disk_honest (seen found) status (sides left)) definitions
-          (subst (λ p. Makes world times whole.makefiles p part.definitions.items environment part.targets part.makes_all disk_honest (seen found) status (sides left)) profile
-          (subst (λ m. Makes world times m part.profile part.definitions.items environment part.targets part.makes_all disk_honest (seen found) status (sides left)) makefiles is))))
+          subst (λ g. Makes world times whole.makefiles whole.profile whole.definitions.items environment targets whole.makes_all g disk_honest (seen found) status (sides left)) goes_on
+          (subst (λ a. Makes world times whole.makefiles whole.profile whole.definitions.items environment targets a part.goes_on disk_honest (seen found) status (sides left)) all
+          (subst (λ t. Makes world times whole.makefiles whole.profile whole.definitions.items environment t part.makes_all part.goes_on disk_honest (seen found) status (sides left)) asked
+          (subst (λ d. Makes world times whole.makefiles whole.profile d environment part.targets part.makes_all part.goes_on disk_honest (seen found) status (sides left)) definitions
+          (subst (λ p. Makes world times whole.makefiles p part.definitions.items environment part.targets part.makes_all part.goes_on disk_honest (seen found) status (sides left)) profile
+          (subst (λ m. Makes world times m part.profile part.definitions.items environment part.targets part.makes_all part.goes_on disk_honest (seen found) status (sides left)) makefiles is)))))
 
       -- and what it makes is made
       pub part_makes : {Fault : Type 0} (source : Source) (tree : Tree) (found left : Disk) (got : Result ℕ Fault) →
           IfOk got (λ s. (world : World) (times : List ℕ → Option ℤ) → Reads source world → Allows tree times →
-          Makes world times part.makefiles part.profile part.definitions.items environment part.targets part.makes_all disk_honest (seen found) s (sides left)) →
+          Makes world times part.makefiles part.profile part.definitions.items environment part.targets part.makes_all part.goes_on disk_honest (seen found) s (sides left)) →
           IfOk got (MakesPart Reads Allows whole environment disk_honest seen sides targets found left)
       part_makes source tree found left (Ok status) is = record {
         source = source;
@@ -235,13 +236,14 @@ module _ {Source Tree Disk : Type 0} (Reads : Source → World → Type 0) (Allo
     state_before false m is = is
 
     items_before : (targets : List (List ℕ)) (times : List ℕ → Option ℤ) (items : List Item) (stored keeping : Bool) (left : Sides) (own : ℕ) →
-        MakesItems options.profile options.definitions.items environment targets options.makes_all times items stored keeping disk_honest (seen opened) own left →
-        MakesItems options.profile options.definitions.items environment targets options.makes_all times items stored keeping disk_honest (seen found) own left
+        MakesItems options.profile options.definitions.items environment targets options.makes_all options.goes_on times items stored keeping disk_honest (seen opened) own left →
+        MakesItems options.profile options.definitions.items environment targets options.makes_all options.goes_on times items stored keeping disk_honest (seen found) own left
     items_before targets times items stored keeping left own run = record {
       state = run.state;
       is_state = state_before stored run.state run.is_state;
       graph = run.graph;
       is_graph = run.is_graph;
+      all_made = run.all_made;
       ended = run.ended;
     }
 

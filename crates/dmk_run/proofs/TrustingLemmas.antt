@@ -1,7 +1,11 @@
 -- What an opening leaves behind which targets are taken as they are.
-use Rattle.std.proofs.Common.{◌≡◌, ◌≢◌, ◌<◌, ◌⊎◌, inl, inr, ℕ, List, length, refl, subst, arith, ◌∙◌, ap, Result, Ok, Err, IfOk, OnOk}
+use Rattle.std.proofs.Common.{◌≡◌, ◌≢◌, ◌<◌, ◌⊎◌, inl, inr, ℕ, ℤ, List, [], Option, length, refl, subst, arith, ◌∙◌, ap, Result, Ok, Err, IfOk, OnOk}
 use Rattle.std.proofs.Math.Logic.{∥∥₁_map}
 use Rattle.std.specs.FinMap as map
+use Rattle.bd_lists.specs.declared.recipe.Variable.{Variable}
+use Rattle.dmk_drive.specs.Planned.{IsGraphOf, IsWholeGraphOf}
+use Rattle.mk_profile.specs.declared.profile.Profile.{Profile}
+use Rattle.mk_reader.specs.declared.item.Item.{Item}
 use Rattle.mk_rules.specs.declared.graph.Graph.{Graph}
 use Rattle.st_disk.specs.declared.which.Which.{Which}
 use Rattle.st_disk.specs.declared.which.Which.TheVariants as which
@@ -17,6 +21,12 @@ use Rattle.dmk_run.specs.Taken.{AreTaken}
 use Rattle.dmk_run.specs.Trusted.{AllRecoverTaken, IsOfTaken, IsLeft, LeavesState, RecoversTaken, AllRecoverOrTaken, ArePossibleOrTaken}
 use Rattle.dmk_run.specs.declared.stop.Stop.{Stop}
 use Rattle.dmk_run.specs.declared.trusting.Trusted.{Trusted}
+
+-- a graph in which each name has a file or is made
+pub as_whole : {profile : Profile} {definitions environment : List Variable} {targets : List (List ℕ)} {times : List ℕ → Option ℤ} {items : List Item}
+    {state : StateMap} {graph : Graph} → IsGraphOf profile definitions environment targets times items state graph → graph.unmade.items ≡ [] →
+    IsWholeGraphOf profile definitions environment targets times items state graph
+as_whole is made = record { is_graph = is; all_made = made }
 
 -- a batch of the records of all that are taken
 pub batch_taken : (graph : Graph) (m : StateMap) (taken : List Record) {m0 m1 : Moments} → AreTaken graph taken →

@@ -24,7 +24,7 @@ pub record MakesPart {Source Tree Disk : Type 0} (Reads : Source → World → T
   pub source : Source
   pub tree : Tree
   pub made : (world : World) (times : List ℕ → Option ℤ) → Reads source world → Allows tree times →
-      Makes world times options.makefiles options.profile options.definitions.items environment targets options.makes_all disk_honest
+      Makes world times options.makefiles options.profile options.definitions.items environment targets options.makes_all options.goes_on disk_honest
       (seen found) status (sides left)
 
 -- the disk is left as it was found, or what makefiles were read from and looks at files say that a makefile keeps state

@@ -1,5 +1,5 @@
 -- What a run leaves on its disk, where it ends with a report.
-use Rattle.std.specs.Prelude.{◌≡◌, ◌||◌, ℕ, ℤ, Bool, true, List, Option, length, IsTrue}
+use Rattle.std.specs.Prelude.{◌≡◌, ◌≢◌, ◌||◌, ℕ, ℤ, Bool, true, false, List, [], Option, length, IsTrue}
 use Rattle.std.specs.List.{list_all}
 use Rattle.mk_profile.specs.declared.profile.Profile.{Profile}
 use Rattle.mk_reader.specs.declared.item.Item.{Item}
@@ -21,6 +21,7 @@ use Rattle.dmk_drive.specs.Planned.{AreItems, IsGraphOf, IsStateOn, judged_graph
 use Rattle.dmk_drive.specs.Keeping.{keeps}
 use Rattle.dmk_run.specs.Judged.{IsBorneOut}
 use Rattle.dmk_run.specs.Known.{AreKnownDone}
+use Rattle.dmk_run.specs.Planned.{goes_without}
 use Rattle.mk_eval.specs.Output.{World}
 
 -- how the nodes of a graph ended, which is true of what the disk holds: workers gathered the receipts of all that was told, each
@@ -37,28 +38,32 @@ pub record IsMade (graph : Graph) (sound : Type 0) (sides : Sides) (status : ℕ
   pub known : status ≡ 0 → AreKnownDone graph left
 
 -- so it is of some ends of a graph: each of its nodes has one, and at status 0 each is up to date or was made, and whatever wasn't
--- built needn't be, where what is recorded of targets counts or doesn't. Where no state is kept nothing is said of what the disk holds then
+-- built needn't be, where what is recorded of targets counts or doesn't. Where no state is kept nothing is said of what the disk holds then.
+-- At a status other than 2 each name has a file, or something makes it
 pub record HasEnded (graph : Graph) (counting keeping : Bool) (sound : Type 0) (sides : Sides) (status : ℕ) : Type 0 where
   pub ends : List End
   pub all : length ends ≡ length graph.nodes.items
+  pub unmade : status ≢ 2 → graph.unmade.items ≡ []
   pub well : status ≡ 0 → IsTrue (list_all ends_well ends)
   pub borne_out : status ≡ 0 → IsBorneOut counting graph ends
   pub made : keeping ≡ true → IsMade graph sound sides status ends
 
--- so the graph of these items has, for the targets that are named, by the state that the disk recovers, if it is stored there
-pub record MakesItems (profile : Profile) (definitions environment : List Variable) (targets : List (List ℕ)) (all : Bool) (times : List ℕ → Option ℤ)
+-- so the graph of these items has, for the targets that are named, by the state that the disk recovers, if it is stored there. A run that
+-- doesn't go on without names has none that lacks a file and that nothing makes
+pub record MakesItems (profile : Profile) (definitions environment : List Variable) (targets : List (List ℕ)) (all goes_on : Bool) (times : List ℕ → Option ℤ)
     (items : List Item) (stored keeping : Bool) (disk_honest : Type 0) (seen : Which → List ℕ)
     (status : ℕ) (sides : Sides) : Type 0 where
   pub state : StateMap
   pub is_state : IsStateOn stored disk_honest seen state
   pub graph : Graph
   pub is_graph : IsGraphOf profile definitions environment targets times items state graph
+  pub all_made : goes_without profile goes_on ≡ false → graph.unmade.items ≡ []
   pub ended : HasEnded (judged_graph all graph) (all || keeping) keeping disk_honest sides status
 
 -- so it is for the items of the makefile that is found by these files and times
 pub record Makes (world : World) (times : List ℕ → Option ℤ) (makefiles : Makefiles)
-    (profile : Profile) (definitions environment : List Variable) (targets : List (List ℕ)) (all : Bool) (disk_honest : Type 0) (seen : Which → List ℕ) (status : ℕ) (sides : Sides) : Type 0 where
+    (profile : Profile) (definitions environment : List Variable) (targets : List (List ℕ)) (all goes_on : Bool) (disk_honest : Type 0) (seen : Which → List ℕ) (status : ℕ) (sides : Sides) : Type 0 where
   pub items : List Item
   pub are_items : AreItems world times makefiles (first_defined profile definitions environment) items
-  pub made : MakesItems profile definitions environment targets all times items (keeps environment items) (keeps environment items)
+  pub made : MakesItems profile definitions environment targets all goes_on times items (keeps environment items) (keeps environment items)
       disk_honest seen status sides

@@ -11,12 +11,14 @@ ghost use Rattle.dmk_run.specs.InTurn.{IsParted};
 ghost use Rattle.dmk_run.specs.Judged.{AreJudged, IsBorneOut};
 ghost use Rattle.dmk_run.specs.Known.{AreKnownDone, IsTold};
 ghost use Rattle.dmk_run.specs.Made.{IsMade};
+ghost use Rattle.dmk_run.specs.Planned.{with_unmade};
 
 use crate::counting::tell_planned;
 use crate::driver::Means;
 use crate::judging::are_judged;
 use crate::known::are_known_done;
 use crate::stop::Stop;
+use crate::unmade::with_unmade;
 use bd_flusher::{FlushFault, Receipt, Site};
 use bd_lists::Exec;
 use bd_places::End;
@@ -125,13 +127,13 @@ fn told<D: Disk + Drop>(
     }
 }
 
-/// The status of a report, or why there is none.
-pub(crate) fn reported(found: Result<Report, RunFault>) -> Result<u8, Stop>
-    ensures status { IfOk result (λ s. (r : RunReport) × (found ≡ Ok r) × (s ≡ r.status)) }
+/// What a report over the graph comes to, or why there is none.
+pub(crate) fn reported(graph: &Graph, found: Result<Report, RunFault>) -> Result<u8, Stop>
+    ensures status { IfOk result (λ s. (r : RunReport) × (found ≡ Ok r) × (s ≡ with_unmade graph.now.unmade.items r.status)) }
     ensures begun { IfErr result (λ stop. IsParted stop → ⊥) }
 {
     match found {
-        Ok(report) => Ok(report.status),
+        Ok(report) => Ok(with_unmade(graph, report.status)),
         Err(fault) => Err(Stop::Run(fault)),
     }
 }

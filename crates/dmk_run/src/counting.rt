@@ -1,5 +1,6 @@
 //! How many recipes a run is to run, for whoever follows it.
 
+use crate::unmade::{is_lost, lost_nodes};
 use jb_recipe::{Say, Step};
 use mk_plan::{has_text_names, pass_in};
 use mk_rules::Graph;
@@ -10,7 +11,11 @@ fn recipes_to_run(alloc: Global, counting: bool, graph: &Graph) -> Result<usize,
     let mut marks = vec![in alloc; false; graph.len()]?;
     let mut found: usize = 0;
     let texts = has_text_names(graph);
+    let lost = lost_nodes(alloc, graph)?;
     for node in graph.order.as_slice() {
+        if is_lost(&lost, *node) {
+            continue;
+        }
         if *node < graph.len() && *node < marks.len() {
             if let Ok(passed) = pass_in(alloc, counting, texts, graph, &marks, *node) {
                 if passed.is_listed() {

@@ -78,7 +78,7 @@ where
     D: Disk + Drop + Send,
     ensures status { IfOk result.0 (λ s. s ≤ 2) }
     ensures makes { IfOk result.0 (λ s. (times : List ℕ → Option ℤ) → T.allows tree.new times
-        → MakesItems goals.profile goals.definitions.items means.now.environment.now goals.targets wishes.now.makes_all times items.items true keeping
+        → MakesItems goals.profile goals.definitions.items means.now.environment.now goals.targets wishes.now.makes_all wishes.now.goes_on times items.items true keeping
         D.honest (D.seen disk) s (now (D.moments result.1))) }
     ensures times { (times : List ℕ → Option ℤ) → T.allows tree.new times → T.allows tree.old times }
     ensures parted { IfErr result.0 (λ stop. IsParted stop → RecoversAsBefore D.honest (D.seen disk) (D.seen result.1)) }
@@ -137,7 +137,7 @@ where
     D: Disk + Drop + Send,
     ensures status { IfOk result.0 (λ s. s ≤ 2) }
     ensures makes { IfOk result.0 (λ s. (times : List ℕ → Option ℤ) → T.allows tree.new times
-        → MakesItems goals.profile goals.definitions.items means.now.environment.now goals.targets wishes.now.makes_all times items.items
+        → MakesItems goals.profile goals.definitions.items means.now.environment.now goals.targets wishes.now.makes_all wishes.now.goes_on times items.items
         (keeps means.now.environment.now items.items) (keeps means.now.environment.now items.items)
         D.honest (D.seen disk) s (now (D.moments result.1))) }
     ensures times { (times : List ℕ → Option ℤ) → T.allows tree.new times → T.allows tree.old times }
@@ -191,7 +191,7 @@ where
     D: Disk + Drop + Send,
     ensures status { IfOk result.0 (λ s. s ≤ 2) }
     ensures makes { IfOk result.0 (λ s. (world : World) (times : List ℕ → Option ℤ) → I.allows includes.new world → T.allows tree.new times
-        → Makes world times makefiles.now goals.profile goals.definitions.items means.now.environment.now goals.targets wishes.now.makes_all
+        → Makes world times makefiles.now goals.profile goals.definitions.items means.now.environment.now goals.targets wishes.now.makes_all wishes.now.goes_on
         D.honest (D.seen disk) s (now (D.moments result.1))) }
     ensures untouched { (result.1 ≡ disk) ⊎ ((world : World) (times : List ℕ → Option ℤ) → I.allows includes.new world → T.allows tree.new times
         → (items : List MakefileItem) × AreItems world times makefiles.now (first_defined goals.profile goals.definitions.items means.now.environment.now) items
@@ -316,7 +316,7 @@ where
     // Each target that was built is done in every pair of crash images, with the commands of the 'done' whose receipt its worker
     // gathered: so for all texts and times that agree with what was answered.
     ensures makes { IfOk result.0 (λ s. (world : World) (times : List ℕ → Option ℤ) → I.allows includes.new world → T.allows tree.new times
-        → Makes world times options.makefiles options.profile options.definitions.items means.now.environment.now options.targets options.makes_all
+        → Makes world times options.makefiles options.profile options.definitions.items means.now.environment.now options.targets options.makes_all options.goes_on
         D.honest (D.seen disk) s (now (D.moments result.1))) }
     // Unless a makefile that was read keeps state, the disk is handed back as it came.
     ensures untouched { (result.1 ≡ disk) ⊎ ((world : World) (times : List ℕ → Option ℤ) → I.allows includes.new world → T.allows tree.new times

@@ -11,6 +11,7 @@ mod in_turn;
 mod judging;
 mod known;
 mod making;
+mod news;
 mod opening;
 mod parting;
 mod parts;
@@ -24,6 +25,7 @@ mod stop;
 mod streams;
 mod taking;
 mod trusting;
+mod unmade;
 
 pub use building::{Built, build};
 pub use conducting::Wishes;

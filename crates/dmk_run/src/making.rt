@@ -17,6 +17,7 @@ use crate::refusing::ready_recipes;
 use crate::settling::is_none_to_run;
 use crate::standing::{Standing, standing_in};
 use crate::stop::Stop;
+use crate::unmade::with_unmade;
 use bd_flusher::Receipt;
 use bd_lists::Exec;
 use jb_recipe::Place;
@@ -79,10 +80,11 @@ where
     let Built { found, store } = build(rt, alloc, means, &graph, conduct, workers, banks, store);
     let Store { log, state } = store;
     let standing = standing_in(alloc, &graph, &found);
+    let came_to = reported(&graph, found);
     mem::forget(graph);
     mem::forget(state);
     let disk = disk_of(log);
-    (reported(found), disk, standing)
+    (came_to, disk, standing)
 }
 
 /// Makes what was planned over an opened store's log. The disk comes back.
@@ -125,7 +127,8 @@ where
         }
         return make_listed(rt, alloc, means, wishes, plan, banks, log);
     }
+    let status = with_unmade(&plan.graph, 0);
     // It is millions of small pieces of memory. The run ends here, and the system takes all of them back at once.
     mem::forget(plan);
-    (Ok(0), disk_of(log), Vec::new(alloc))
+    (Ok(status), disk_of(log), Vec::new(alloc))
 }

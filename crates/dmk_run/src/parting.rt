@@ -1,6 +1,7 @@
 //! Where the goals of a run are parted, to be made one behind the other.
 use crate::refusing::ready_recipes;
 use crate::stop::Stop;
+use crate::unmade::{is_lost, lost_nodes};
 use byte_strings::ByteString;
 use mk_plan::{has_text_names, pass_in};
 use mk_rules::Graph;
@@ -95,7 +96,11 @@ fn to_make(alloc: Global, counting: bool, graph: &Graph) -> Result<Vec<bool>, Al
     let mut made = vec![in alloc; false; graph.len()]?;
     let mut marks = vec![in alloc; false; graph.len()]?;
     let texts = has_text_names(graph);
+    let lost = lost_nodes(alloc, graph)?;
     for node in graph.order.as_slice() {
+        if is_lost(&lost, *node) {
+            continue;
+        }
         if *node < graph.len() && *node < marks.len() && *node < made.len() {
             match pass_in(alloc, counting, texts, graph, &marks, *node) {
                 Ok(passed) => {

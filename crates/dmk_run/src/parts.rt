@@ -58,6 +58,7 @@ pub(crate) fn part_of(
     ensures profile { IfOk result (λ part. part.profile ≡ options.now.profile) }
     ensures definitions { IfOk result (λ part. part.definitions.items ≡ options.now.definitions.items) }
     ensures all { IfOk result (λ part. part.makes_all ≡ options.now.makes_all) }
+    ensures goes_on { IfOk result (λ part. part.goes_on ≡ options.now.goes_on) }
     ensures targets { IfOk result (λ part. part.targets ≡ targets.now) }
 {
     let named = options.makefiles.named.copy(alloc)?;

@@ -1,5 +1,5 @@
 //! What a run makes and how it goes, before anything is made.
-ghost use Rattle.std.specs.Prelude.{◌≡◌, ◌⊎◌, ◌||◌, ℕ, ℤ, List, Option, Some, None, true, false, unwrap_or, IfOk, IfErr};
+ghost use Rattle.std.specs.Prelude.{◌≡◌, ◌⊎◌, ◌||◌, ℕ, ℤ, List, [], Option, Some, None, true, false, unwrap_or, IfOk, IfErr};
 ghost use Rattle.std.specs.FinMap as finmap;
 ghost use Rattle.mk_rules.specs.Faults.{IsRuleFault};
 ghost use Rattle.mk_rules.specs.Limit.{node_limit};
@@ -8,13 +8,14 @@ ghost use Rattle.mk_rules.specs.declared.graph.Graph.{Graph as MadeGraph};
 ghost use Rattle.dmk_drive.specs.Definitions.{first_defined};
 ghost use Rattle.dmk_drive.specs.Planned.{IsGraphOf, judged_graph};
 ghost use Rattle.dmk_drive.specs.declared.fault.Fault.TheVariants as faults;
-ghost use Rattle.dmk_run.specs.Planned.{recorded_in};
+ghost use Rattle.dmk_run.specs.Planned.{recorded_in, goes_without};
 ghost use Rattle.dmk_run.specs.declared.stop.Stop.TheVariants as stops;
 
 use crate::conducting::Wishes;
 use crate::parting::at_once;
 use crate::printer::Printer;
 use crate::stop::Stop;
+use crate::unmade::tell_unmade;
 use bd_lists::Variable;
 use byte_strings::{ByteString, ByteStrings};
 use dmk_drive::{Fault, first_macros, judged_graph};
@@ -110,7 +111,8 @@ fn prepared(
     }
 }
 
-/// The graph of what is to be made, by this state.
+/// The graph of what is to be made, by this state. Unless the run goes on without them, a name that has no file and that nothing makes
+/// is refused.
 pub(crate) fn graph_of<T: Tree>(
     alloc: Global,
     profile: Profile,
@@ -120,9 +122,11 @@ pub(crate) fn graph_of<T: Tree>(
     tree: &mut T,
     items: Vec<Item>,
     state: State,
+    goes_without: bool,
 ) -> Result<Graph, Stop>
     ensures graph { IfOk result (λ graph. (times : List ℕ → Option ℤ) → T.allows tree.new times
         → IsGraphOf profile definitions.now environment.now targets times items.items state graph) }
+    ensures made { goes_without ≡ false → IfOk result (λ graph. graph.unmade.items ≡ []) }
     ensures fault { IfErr result (λ stop. (stop ≡ stops.Before faults.OutOfMemory)
         ⊎ ((f : RulesFault) × (stop ≡ stops.Before (faults.Rules f))
         × ((times : List ℕ → Option ℤ) → T.allows tree.new times
@@ -133,13 +137,23 @@ pub(crate) fn graph_of<T: Tree>(
 {
     let macros = first_macros(alloc, profile, definitions, environment)?;
     let limit = node_limit(profile);
-    match mk_rules::build(alloc, items, macros, targets, tree, state, limit, false) {
+    match mk_rules::build(
+        alloc,
+        items,
+        macros,
+        targets,
+        tree,
+        state,
+        limit,
+        goes_without,
+    ) {
         Ok(graph) => Ok(graph),
         Err(fault) => Err(Stop::Before(Fault::Rules(fault))),
     }
 }
 
-/// Plans the goals by a state, and says where soft edges are dropped.
+/// Plans the goals by a state, and says where soft edges are dropped, and which names there are that have no file and that nothing makes.
+/// Where the goals are to be made in parts, each part says that of its own.
 pub(crate) fn planned<R: Wait, T: Tree, O: Write + Drop, W: Write + Drop>(
     alloc: Global,
     key: HashKey,
@@ -155,6 +169,7 @@ pub(crate) fn planned<R: Wait, T: Tree, O: Write + Drop, W: Write + Drop>(
 ) -> Result<Plan, Stop>
     ensures graph { IfOk result (λ plan. (times : List ℕ → Option ℤ) → T.allows tree.new times
         → (graph : MadeGraph) × IsGraphOf goals.profile goals.definitions.items environment.now goals.targets times items.items state graph
+        × (goes_without goals.profile wishes.now.goes_on ≡ false → graph.unmade.items ≡ [])
         × (plan.graph ≡ judged_graph wishes.now.makes_all graph)) }
     ensures times { (times : List ℕ → Option ℤ) → T.allows tree.new times → T.allows tree.old times }
     ensures state { IfOk result (λ plan. recorded_in plan ≡ state) }
@@ -184,6 +199,7 @@ pub(crate) fn planned<R: Wait, T: Tree, O: Write + Drop, W: Write + Drop>(
         tree,
         items,
         state,
+        wishes.goes_without(profile),
     );
     let graph = match found {
         Ok(graph) => graph,
@@ -204,6 +220,12 @@ pub(crate) fn planned<R: Wait, T: Tree, O: Write + Drop, W: Write + Drop>(
             drop(conduct);
             return Err(stop);
         }
+    }
+    if let Err(error) = tell_unmade(alloc, printer, &graph) {
+        drop(graph);
+        drop(forgotten);
+        drop(conduct);
+        return Err(Stop::from(error));
     }
     Ok(Plan {
         graph,

@@ -10,6 +10,7 @@ use dmk_drive::{Message, print_fault, print_lines, print_note};
 use jb_closing::RunFault;
 use jb_recipe::{News, Say, Step};
 use mk_eval::Includes;
+use mk_rule_lines::Unmade;
 use plain_text::Plain;
 use std::alloc::Global;
 use std::io::{self, Write};
@@ -198,6 +199,11 @@ impl<'a, R: Wait, O: Write + Drop, E: Write + Drop> Printer<'a, R, O, E> {
     /// Says what became of a goal that was judged up to date.
     pub(crate) fn lost(&self, goal: &[u8], became: &str) {
         self.streams.lock(self.rt).note_goal(goal, became);
+    }
+
+    /// Says that a name has no file and that nothing makes it, as where a run is refused for it. Of each name it is said once.
+    pub(crate) fn unmade(&self, alloc: Global, unmade: Unmade) {
+        self.streams.lock(self.rt).unmade(alloc, unmade);
     }
 
     /// Says that soft edges are dropped.

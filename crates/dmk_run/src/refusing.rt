@@ -1,6 +1,7 @@
 //! What is found of recipes before any is run: the shell that runs them, and whether one calls a function.
 
 use crate::stop::Stop;
+use crate::unmade::{is_lost, lost_nodes};
 use byte_strings::ByteString;
 use dmk_drive::Fault;
 use mk_macros::{Dynamic, MacroFault};
@@ -53,7 +54,11 @@ fn refuse_functions(alloc: Global, counting: bool, graph: &Graph) -> Result<(), 
     }
     let mut marks = vec![in alloc; false; graph.len()]?;
     let texts = has_text_names(graph);
+    let lost = lost_nodes(alloc, graph)?;
     for node in graph.order.as_slice() {
+        if is_lost(&lost, *node) {
+            continue;
+        }
         if *node < graph.len() && *node < marks.len() {
             match pass_in(alloc, counting, texts, graph, &marks, *node) {
                 Ok(passed) => marks[*node] = passed.is_remade(),

@@ -1,12 +1,13 @@
 //! The two streams that a run prints on, one of which may show a status line between what stays.
 
+use crate::news::{is_failure, write_failure, write_fault, write_goal, write_news};
 use crate::status_line::StatusLine;
 use bd_lists::Ended;
-use jb_recipe::{News, NotDone, Step};
-use mk_plan::LinePlace;
+use jb_recipe::{News, Step};
+use mk_graph::Names;
+use mk_rule_lines::{RuleFault, Unmade};
 use plain_text::Plain;
 use std::alloc::Global;
-use std::fmt::Display;
 use std::io::{self, Write};
 
 pub(crate) struct Streams<O: Write + Drop, E: Write + Drop> {
@@ -27,6 +28,8 @@ pub(crate) struct Streams<O: Write + Drop, E: Write + Drop> {
     pub(crate) is_over: bool,
     /// It was told that a recipe wrote no report.
     told_unreported: bool,
+    /// The names of which it was told that nothing makes them.
+    unmade: Names,
 }
 
 impl<O: Write + Drop, E: Write + Drop> Drop for Streams<O, E> {
@@ -42,6 +45,7 @@ impl<O: Write + Drop, E: Write + Drop> Drop for Streams<O, E> {
             status: _,
             is_over: _,
             told_unreported: _,
+            unmade: _,
         } = self;
     }
 }
@@ -71,110 +75,6 @@ fn write_err<E: Write>(err: &mut E, ended: &[Ended]) -> io::Result<()> {
     err.flush()
 }
 
-// The target may be no text.
-fn write_of_target<E: Write>(err: &mut E, target: &[u8]) {
-    let _ = err.write_all(b"dmk: target ");
-    let _ = err.write_all(target);
-}
-
-fn write_failed<E: Write>(err: &mut E, target: &[u8], status: u32) {
-    write_of_target(err, target);
-    let _ = if status < 256 {
-        writeln!(err, " failed with status {status}")
-    } else {
-        writeln!(err, " was stopped or not started")
-    };
-}
-
-fn write_note<E: Write, D: Display>(err: &mut E, target: &[u8], why: &D) {
-    let _ = err.write_all(b"dmk: note: target ");
-    let _ = err.write_all(target);
-    let _ = writeln!(err, ": {why}");
-}
-
-fn write_not_done<E: Write>(err: &mut E, target: &[u8], not_done: &NotDone) {
-    match not_done {
-        NotDone::StoppedAndRemoved(stopped) => {
-            write_note(err, target, stopped);
-            write_note(err, target, &NotDone::Removed);
-        }
-        _ => write_note(err, target, not_done),
-    }
-}
-
-fn write_not_recorded<E: Write>(err: &mut E, target: &[u8], long: Option<LinePlace<'_>>) {
-    write_of_target(err, target);
-    let _ = err.write_all(b" cannot be recorded");
-    if let Some(LinePlace { file, line }) = long {
-        let _ = err.write_all(b": ");
-        let _ = err.write_all(file);
-        let _ = write!(err, ":{line}: line too long");
-    }
-    let _ = err.write_all(b"\n");
-}
-
-fn write_unreported<E: Write>(err: &mut E, target: &[u8]) {
-    let _ = err.write_all(b"dmk: note: target ");
-    let _ = err.write_all(target);
-    let _ = err.write_all(
-        b": no headers are known of it: told -MD or -MMD, gcc writes no report\n",
-    );
-}
-
-fn write_goal<E: Write>(err: &mut E, goal: &[u8], became: &str) {
-    let _ = err.write_all(b"dmk: note: ");
-    let _ = err.write_all(goal);
-    let _ = writeln!(err, " was up to date, {became}");
-}
-
-// The line that says that a target isn't made, if this is such news.
-fn write_failure<E: Write>(err: &mut E, news: News<'_>) {
-    match news {
-        News::Failed { target, status, .. } => write_failed(err, target, status),
-        News::NotRecorded { target, long } => write_not_recorded(err, target, long),
-        News::NotExpanded { fault } => {
-            let _ = writeln!(err, "dmk: {fault}");
-        }
-        _ => {}
-    }
-}
-
-fn is_failure(news: News<'_>) -> bool {
-    matches!(
-        news,
-        News::Failed { .. } | News::NotRecorded { .. } | News::NotExpanded { .. }
-    )
-}
-
-fn write_news<E: Write>(err: &mut E, news: News<'_>) {
-    match news {
-        News::Failed {
-            target,
-            not_done,
-            ..
-        } => {
-            write_failure(err, news);
-            if let Some(not_done) = not_done {
-                write_not_done(err, target, not_done);
-            }
-        }
-        News::NotRecorded { .. } | News::NotExpanded { .. } => write_failure(err, news),
-        News::Unreported { target } => write_unreported(err, target),
-        News::SlotsUnused => {
-            let _ = writeln!(err, "dmk: note: jobserver not used: one slot");
-        }
-        News::NotServed => {
-            let _ = writeln!(err, "dmk: note: no jobserver for recipes");
-        }
-        News::JobserverFailed => {
-            let _ = writeln!(err, "dmk: jobserver fault");
-        }
-        News::FewerWorkers { workers, asked } => {
-            let _ = writeln!(err, "dmk: note: {workers} workers in place of {asked}");
-        }
-    }
-}
-
 // Whether what the lines of a recipe wrote is more than nothing.
 fn has_output(ended: &[Ended]) -> bool {
     ended.iter().any(|one| !one.out.as_slice().is_empty() || !one.err.as_slice().is_empty())
@@ -201,6 +101,7 @@ impl<O: Write + Drop, E: Write + Drop> Streams<O, E> {
             status,
             is_over: false,
             told_unreported: false,
+            unmade: Names::new(alloc),
         }
     }
 
@@ -217,6 +118,7 @@ impl<O: Write + Drop, E: Write + Drop> Streams<O, E> {
             status: _,
             is_over: _,
             told_unreported: _,
+            unmade: _,
         } = self;
         (out, err)
     }
@@ -330,6 +232,25 @@ impl<O: Write + Drop, E: Write + Drop> Streams<O, E> {
         let _ = self.err.flush();
         self.ends_err = true;
         self.draw_status();
+    }
+
+    /// Whether a name wasn't told of as one that nothing makes. It was from then on, as far as there is memory.
+    fn is_new(&mut self, alloc: Global, name: &[u8]) -> bool {
+        self.unmade.mention(alloc, name).unwrap_or(true)
+    }
+
+    /// Says that nothing makes a name. It is kept for the end of the run, as a target that failed is.
+    pub(crate) fn unmade(&mut self, alloc: Global, unmade: Unmade) {
+        if !self.is_new(alloc, unmade.name.as_slice()) {
+            drop(unmade);
+            return;
+        }
+        let fault = RuleFault::NoRule(unmade);
+        self.make_way();
+        write_fault(&mut Plain::over(&mut self.err), &fault);
+        write_fault(&mut Plain::over(&mut self.failures), &fault);
+        let _ = self.err.flush();
+        self.ends_err = true;
     }
 
     /// Says of a goal what became of it.

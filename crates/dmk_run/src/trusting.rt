@@ -1,5 +1,5 @@
 //! Targets taken as they are, on a disk where nothing is known of any.
-ghost use Rattle.std.specs.Prelude.{◌≡◌, ◌≢◌, ◌⊎◌, ℕ, ℤ, true, false, List, Option, length, nat_lt, IfOk, IfErr, OnOk};
+ghost use Rattle.std.specs.Prelude.{◌≡◌, ◌≢◌, ◌⊎◌, ℕ, ℤ, true, false, List, [], Option, length, nat_lt, IfOk, IfErr, OnOk};
 ghost use Rattle.std.specs.FinMap as finmap;
 ghost use Rattle.std.specs.List.{list_all};
 ghost use Rattle.mk_eval.specs.Output.{World};
@@ -10,7 +10,7 @@ ghost use Rattle.st_records.specs.declared.record.Record.{Record as Step};
 ghost use Rattle.st_state.specs.State.{replay};
 ghost use Rattle.dmk_drive.specs.Definitions.{first_defined};
 ghost use Rattle.dmk_drive.specs.Keeping.{keeps};
-ghost use Rattle.dmk_drive.specs.Planned.{AreItems, IsGraphOf};
+ghost use Rattle.dmk_drive.specs.Planned.{AreItems, IsGraphOf, IsWholeGraphOf};
 ghost use Rattle.dmk_run.specs.Taken.{AreTaken};
 ghost use Rattle.dmk_run.specs.Trusted.{AllRecoverTaken, AllRecoverOrTaken, ArePossibleOrTaken, IsLeft, LeavesState};
 ghost use Rattle.dmk_run.specs.declared.trusting.Trusted.TheVariants as trusteds;
@@ -91,6 +91,7 @@ fn graph_asked<T: Tree>(
 ) -> Result<Graph, Stop>
     ensures graph { IfOk result (λ graph. (times : List ℕ → Option ℤ) → T.allows tree.new times
         → IsGraphOf options.now.profile options.now.definitions.items environment.now options.now.targets times items.items state.now graph) }
+    ensures made { IfOk result (λ graph. graph.unmade.items ≡ []) }
     ensures times { (times : List ℕ → Option ℤ) → T.allows tree.new times → T.allows tree.old times }
 {
     let targets = options.targets.copy(alloc)?;
@@ -105,6 +106,7 @@ fn graph_asked<T: Tree>(
         tree,
         items,
         state,
+        false,
     )
 }
 
@@ -120,11 +122,11 @@ fn trust_over<T: Tree, P: Place, D: Disk + Drop>(
 ) -> Result<Trusted, Stop>
     requires { store.old.log.dead ≡ false }
     ensures any_moment { D.honest → (times : List ℕ → Option ℤ) → T.allows tree.new times
-        → Throughout (D.moments store.old.log.disk) (D.moments store.new.log.disk) (AllRecoverOrTaken (IsGraphOf
+        → Throughout (D.moments store.old.log.disk) (D.moments store.new.log.disk) (AllRecoverOrTaken (IsWholeGraphOf
         options.now.profile options.now.definitions.items environment.now options.now.targets times items.items finmap.empty) store.old.state) }
     ensures recovers { D.honest → OnOk result (AllRecover store.new.state (now (D.moments store.new.log.disk))) }
     ensures left { IfOk result (λ found. (times : List ℕ → Option ℤ) → T.allows tree.new times
-        → IsLeft (IsGraphOf options.now.profile options.now.definitions.items environment.now options.now.targets times items.items finmap.empty)
+        → IsLeft (IsWholeGraphOf options.now.profile options.now.definitions.items environment.now options.now.targets times items.items finmap.empty)
         store.old.state store.new.state found) }
     ensures kept { IfOk result (λ found. found ≢ trusteds.Unkept) }
     ensures times { (times : List ℕ → Option ℤ) → T.allows tree.new times → T.allows tree.old times }
@@ -152,10 +154,10 @@ fn trust_on<T: Tree, P: Place, D: Disk + Drop>(
     disk: D,
 ) -> (Result<Trusted, Stop>, D)
     ensures any_moment { D.honest → (times : List ℕ → Option ℤ) → T.allows tree.new times
-        → Throughout (D.moments disk) (D.moments result.1) (ArePossibleOrTaken (IsGraphOf options.now.profile options.now.definitions.items
+        → Throughout (D.moments disk) (D.moments result.1) (ArePossibleOrTaken (IsWholeGraphOf options.now.profile options.now.definitions.items
         environment.now options.now.targets times items.items finmap.empty) (D.seen disk) (now (D.moments disk))) }
     ensures left { IfOk result.0 (λ found. D.honest → (times : List ℕ → Option ℤ) → T.allows tree.new times
-        → LeavesState (IsGraphOf options.now.profile options.now.definitions.items environment.now options.now.targets times items.items finmap.empty)
+        → LeavesState (IsWholeGraphOf options.now.profile options.now.definitions.items environment.now options.now.targets times items.items finmap.empty)
         (D.seen disk) (now (D.moments result.1)) found) }
     ensures kept { IfOk result.0 (λ found. found ≢ trusteds.Unkept) }
     ensures times { (times : List ℕ → Option ℤ) → T.allows tree.new times → T.allows tree.old times }
@@ -193,13 +195,13 @@ where
     ensures any_moment { D.honest → (world : World) (times : List ℕ → Option ℤ) → I.allows includes.new world → T.allows tree.new times
         → (result.1 ≡ disk) ⊎ ((items : List MakefileItem) × AreItems world times options.now.makefiles
         (first_defined options.now.profile options.now.definitions.items environment.now) items × (keeps environment.now items ≡ true)
-        × Throughout (D.moments disk) (D.moments result.1) (ArePossibleOrTaken (IsGraphOf options.now.profile options.now.definitions.items
+        × Throughout (D.moments disk) (D.moments result.1) (ArePossibleOrTaken (IsWholeGraphOf options.now.profile options.now.definitions.items
         environment.now options.now.targets times items finmap.empty) (D.seen disk) (now (D.moments disk)))) }
     ensures left { IfOk result.0 (λ found. D.honest → found ≢ trusteds.Unkept
         → (world : World) (times : List ℕ → Option ℤ) → I.allows includes.new world → T.allows tree.new times
         → (items : List MakefileItem) × AreItems world times options.now.makefiles
         (first_defined options.now.profile options.now.definitions.items environment.now) items × (keeps environment.now items ≡ true)
-        × LeavesState (IsGraphOf options.now.profile options.now.definitions.items environment.now options.now.targets times items finmap.empty)
+        × LeavesState (IsWholeGraphOf options.now.profile options.now.definitions.items environment.now options.now.targets times items finmap.empty)
         (D.seen disk) (now (D.moments result.1)) found) }
     ensures unkept { IfOk result.0 (λ found. found ≡ trusteds.Unkept → (result.1 ≡ disk)
         × ((world : World) (times : List ℕ → Option ℤ) → I.allows includes.new world → T.allows tree.new times
@@ -260,14 +262,14 @@ where
     ensures any_moment { D.honest → (world : World) (times : List ℕ → Option ℤ) → I.allows includes.new world → T.allows tree.new times
         → (result.1 ≡ disk) ⊎ ((items : List MakefileItem) × AreItems world times options.now.makefiles
         (first_defined options.now.profile options.now.definitions.items environment.now) items × (keeps environment.now items ≡ true)
-        × Throughout (D.moments disk) (D.moments result.1) (ArePossibleOrTaken (IsGraphOf options.now.profile options.now.definitions.items
+        × Throughout (D.moments disk) (D.moments result.1) (ArePossibleOrTaken (IsWholeGraphOf options.now.profile options.now.definitions.items
         environment.now options.now.targets times items finmap.empty) (D.seen disk) (now (D.moments disk)))) }
     // Of a state that knows of some target nothing changes; where nothing is known, all targets that are taken are recorded.
     ensures left { IfOk result.0 (λ found. D.honest → found ≢ trusteds.Unkept
         → (world : World) (times : List ℕ → Option ℤ) → I.allows includes.new world → T.allows tree.new times
         → (items : List MakefileItem) × AreItems world times options.now.makefiles
         (first_defined options.now.profile options.now.definitions.items environment.now) items × (keeps environment.now items ≡ true)
-        × LeavesState (IsGraphOf options.now.profile options.now.definitions.items environment.now options.now.targets times items finmap.empty)
+        × LeavesState (IsWholeGraphOf options.now.profile options.now.definitions.items environment.now options.now.targets times items finmap.empty)
         (D.seen disk) (now (D.moments result.1)) found) }
     ensures unkept { IfOk result.0 (λ found. found ≡ trusteds.Unkept → (result.1 ≡ disk)
         × ((world : World) (times : List ℕ → Option ℤ) → I.allows includes.new world → T.allows tree.new times

@@ -14,7 +14,7 @@ returns-then-keeps_state-clause-makes g c =
     let items = c.args.items.items in
     let is = rw c.deref.ensures.value at c.keeps_state.ensures in
     subst (λ k. IfOk c.run_over.result.0 (λ s. (times : List ℕ → Option ℤ) → g.T.Tree.allows c.run_over.new.tree times →
-    MakesItems c.args.goals.profile c.args.goals.definitions.items environment c.args.goals.targets c.args.wishes.now.makes_all times items k k g.D.Disk.honest (g.D.Disk.seen c.args.disk) s
+    MakesItems c.args.goals.profile c.args.goals.definitions.items environment c.args.goals.targets c.args.wishes.now.makes_all c.args.wishes.now.goes_on times items k k g.D.Disk.honest (g.D.Disk.seen c.args.disk) s
     (now (g.D.Disk.moments c.run_over.result.1))))
     (sym c.if-keeps_state.true ∙ is) c.run_over.ensures.makes
 
@@ -26,10 +26,10 @@ returns-clause-makes g c =
     let sides = now (g.D.Disk.moments c.args.disk) in
     let is = rw c.deref.ensures.value at c.keeps_state.ensures in
     each_ok c.run_over-found.result.0 (g.T.Tree.allows c.run_over-found.new.tree)
-    (λ times s. MakesItems c.args.goals.profile c.args.goals.definitions.items environment c.args.goals.targets c.args.wishes.now.makes_all times items (keeps environment items) (keeps environment items)
+    (λ times s. MakesItems c.args.goals.profile c.args.goals.definitions.items environment c.args.goals.targets c.args.wishes.now.makes_all c.args.wishes.now.goes_on times items (keeps environment items) (keeps environment items)
     g.D.Disk.honest seen s sides)
     (λ times may.
-    found_without_state c.args.goals.profile c.args.goals.definitions.items environment c.args.goals.targets c.args.wishes.now.makes_all times items
+    found_without_state c.args.goals.profile c.args.goals.definitions.items environment c.args.goals.targets c.args.wishes.now.makes_all c.args.wishes.now.goes_on times items
     (Unit {0}) (memory_bytes c.new-memory.result) tt c.new-memory.ensures.a c.new-memory.ensures.b (now (memory_moments c.run_over-found.result.1)) g.D.Disk.honest seen sides
     (keeps environment items) (sym c.if-keeps_state.false ∙ is) c.run_over-found.result.0
     (if_ok c.run_over-found.result.0 _ _ (λ s made. made times may) c.run_over-found.ensures.makes))

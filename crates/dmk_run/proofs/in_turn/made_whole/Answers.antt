@@ -13,7 +13,7 @@ returns-in-Ok-made_or_ends-clause-in_turn g c =
     subst (λ r. IfOk r M) (sym c.in-Ok-made_or_ends.ensures.found)
     (part_makes (λ source world. g.I.Includes.allows source world) (λ tree times. g.T.Tree.allows tree times) c.args.means.now.environment.now c.in-Ok.whole c.args.options.now
     c.in-Ok.ensures.makefiles c.in-Ok.ensures.profile c.in-Ok.ensures.definitions g.D.Disk.honest (λ d. g.D.Disk.seen d) (λ d. now (g.D.Disk.moments d))
-    c.args.options.now.targets c.in-Ok.ensures.targets c.in-Ok.ensures.all c.build_at_once-found.new.includes c.build_at_once-found.new.tree c.args.disk c.build_at_once-found.result.1 c.build_at_once-found.result.0
+    c.args.options.now.targets c.in-Ok.ensures.targets c.in-Ok.ensures.all c.in-Ok.ensures.goes_on c.build_at_once-found.new.includes c.build_at_once-found.new.tree c.args.disk c.build_at_once-found.result.1 c.build_at_once-found.result.0
     c.build_at_once-found.ensures.makes) in
     alone _ c.args.options.now.goes_on c.args.options.now.targets c.args.disk c.lost_made.result.1 c.lost_made.result.0
     (with_lost _ c.args.options.now.goes_on c.args.options.now.targets c.args.disk c.build_at_once-found.result.1 c.lost_made.result.1 c.in-Ok-made_or_ends.found
@@ -28,7 +28,7 @@ returns-in-Ok-made_or_ends-clause-strict g c = λ strict.
     (subst (λ r. IfOk r (M c.build_at_once-found.result.1)) (sym c.in-Ok-made_or_ends.ensures.found)
     (part_makes (λ source world. g.I.Includes.allows source world) (λ tree times. g.T.Tree.allows tree times) c.args.means.now.environment.now c.in-Ok.whole c.args.options.now
     c.in-Ok.ensures.makefiles c.in-Ok.ensures.profile c.in-Ok.ensures.definitions g.D.Disk.honest (λ d. g.D.Disk.seen d) (λ d. now (g.D.Disk.moments d))
-    c.args.options.now.targets c.in-Ok.ensures.targets c.in-Ok.ensures.all c.build_at_once-found.new.includes c.build_at_once-found.new.tree c.args.disk c.build_at_once-found.result.1 c.build_at_once-found.result.0
+    c.args.options.now.targets c.in-Ok.ensures.targets c.in-Ok.ensures.all c.in-Ok.ensures.goes_on c.build_at_once-found.new.includes c.build_at_once-found.new.tree c.args.disk c.build_at_once-found.result.1 c.build_at_once-found.result.0
     c.build_at_once-found.ensures.makes))
 
 pub returns-in-Ok-made_or_ends-clause-untouched : goal.returns-in-Ok-made_or_ends-clause-untouched

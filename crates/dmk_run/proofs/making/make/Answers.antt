@@ -1,4 +1,4 @@
-use Rattle.std.proofs.Common.{sym, ◌∙◌}
+use Rattle.std.proofs.Common.{sym, ◌∙◌, arith}
 use Rattle.st_disk.specs.Moments.{now}
 use Rattle.st_recovery.proofs.StoredLemmas.{all_recover}
 use Rattle.dmk_run.specs.Planned.{recorded_in}
@@ -12,4 +12,7 @@ returns-clause-ended g c =
     let sides = now (g.D.Disk.moments log.disk) in
     rw c.disk_of-2.ensures
     (none_ended plan.conduct.counts_records plan.conduct.keeps_state plan.graph (recorded_in plan) g.D.Disk.honest sides (c.is_none_to_run.ensures c.if-not-is_none_to_run.false)
-    (λ honest. all_recover log.side sides (c.requires.stored honest c.requires.alive)))
+    (λ honest. all_recover log.side sides (c.requires.stored honest c.requires.alive)) c.with_unmade-status.result c.with_unmade-status.ensures.status)
+
+pub returns-clause-status : goal.returns-clause-status
+returns-clause-status g c = c.with_unmade-status.ensures.small (omega arith)

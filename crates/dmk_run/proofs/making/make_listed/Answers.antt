@@ -10,10 +10,10 @@ pub returns-clause-ended : goal.returns-clause-ended
 returns-clause-ended g c =
     rw c.disk_of-disk.ensures
     (has_ended c.args.plan.graph c.args.plan.conduct.counts_records c.args.plan.conduct.keeps_state g.D.Disk.honest (now (g.D.Disk.moments c.build-found.result.store.log.disk)) c.build-found.result.found
-    c.reported.result c.reported.ensures.status c.build-found.ensures.ends c.build-found.ensures.well c.build-found.ensures.borne_out c.build-found.ensures.made)
+    c.reported-came_to.result c.reported-came_to.ensures.status c.build-found.ensures.ends c.build-found.ensures.well c.build-found.ensures.borne_out c.build-found.ensures.made)
 
 pub returns-clause-status : goal.returns-clause-status
-returns-clause-status g c = status_of_report c.build-found.result.found c.reported.result c.reported.ensures.status c.build-found.ensures.status
+returns-clause-status g c = status_of_report c.args.plan.graph.unmade.items c.build-found.result.found c.reported-came_to.result c.reported-came_to.ensures.status c.build-found.ensures.status
 
 -- the store is put together again, with an equal state
 pub invariant_of-store-clause-stored : goal.invariant_of-store-clause-stored
@@ -26,4 +26,4 @@ pub invariant_of-store-clause-keepable : goal.invariant_of-store-clause-keepable
 invariant_of-store-clause-keepable g c = subst AllCanBeKept (sym c.in-Ok.ensures) c.requires.keepable
 
 pub returns-clause-parted : goal.returns-clause-parted
-returns-clause-parted g c = never_parted c.reported.result _ c.reported.ensures.begun
+returns-clause-parted g c = never_parted c.reported-came_to.result _ c.reported-came_to.ensures.begun

@@ -39,5 +39,4 @@ returns-in-Ok-clause-graph g c = λ times allows.
       are_inputs = subst (λ given. AreInputs given c.args.items.items times (finmap.get c.args.state) built.0) c.in_ok-macros.ensures built.1;
       is_graph = built.2;
       macros = c.in-Ok.ensures.macros ∙ ap (λ given. behind_items given c.args.items.items) c.in_ok-macros.ensures;
-      all_made = c.in-Ok.ensures.made refl;
     }

@@ -10,6 +10,7 @@ returns-clause-graph g c = λ times may.
       made,
       subst (λ d. IsGraphOf c.args.goals.profile d c.args.environment.now c.args.goals.targets times c.args.items.items c.args.state made)
           (c.deref.ensures.value ∙ ap (λ (v : Vec Variable Global). v.items) c.in-Ok.ensures.definitions) (c.in-Ok-found.ensures.graph times may),
+      λ stays. c.in-Ok-found.ensures.made (c.goes_without.ensures ∙ stays),
       c.judged_graph-graph.ensures,
     )
 

@@ -3,9 +3,9 @@ use Rattle.std.specs.FinMap as map
 use Rattle.st_disk.specs.Moments.{now}
 use Rattle.st_disk.proofs.MomentLaws.{started}
 use Rattle.st_recovery.proofs.StoredLemmas.{all_recover}
-use Rattle.dmk_drive.specs.Planned.{IsGraphOf}
+use Rattle.dmk_drive.specs.Planned.{IsWholeGraphOf}
 use Rattle.dmk_drive.proofs.PassingLemmas.{order_below}
-use Rattle.dmk_run.proofs.TrustingLemmas.{of_taken, over_graph, without_calls}
+use Rattle.dmk_run.proofs.TrustingLemmas.{as_whole, of_taken, over_graph, without_calls}
 use Rattle.dmk_run.proofs.trusting.trust_over.Goals as goal
 
 -- something is known: no call of the device
@@ -13,7 +13,7 @@ pub returns-then-knows_any-clause-any_moment : goal.returns-then-knows_any-claus
 returns-then-knows_any-clause-any_moment g c = λ honest times may.
     let store = c.args.store.now in
     let moments = g.D.Disk.moments store.log.disk in
-    let wanted = IsGraphOf c.args.options.now.profile c.args.options.now.definitions.items c.args.environment.now c.args.options.now.targets times c.args.items.items map.empty in
+    let wanted = IsWholeGraphOf c.args.options.now.profile c.args.options.now.definitions.items c.args.environment.now c.args.options.now.targets times c.args.items.items map.empty in
     without_calls wanted store.state (started moments (all_recover store.log.side (now moments) (store.stored honest c.requires)))
 
 pub returns-then-knows_any-clause-recovers : goal.returns-then-knows_any-clause-recovers
@@ -30,7 +30,7 @@ pub returns-in_err-graph-clause-any_moment : goal.returns-in_err-graph-clause-an
 returns-in_err-graph-clause-any_moment g c = λ honest times may.
     let store = c.args.store.now in
     let moments = g.D.Disk.moments store.log.disk in
-    let wanted = IsGraphOf c.args.options.now.profile c.args.options.now.definitions.items c.args.environment.now c.args.options.now.targets times c.args.items.items map.empty in
+    let wanted = IsWholeGraphOf c.args.options.now.profile c.args.options.now.definitions.items c.args.environment.now c.args.options.now.targets times c.args.items.items map.empty in
     without_calls wanted store.state (started moments (all_recover store.log.side (now moments) (store.stored honest c.requires)))
 
 pub record_taken-taken-requires-clause-order : goal.record_taken-taken-requires-clause-order
@@ -45,10 +45,10 @@ returns-in_err-count-clause-any_moment g c = λ honest times may.
     let options = c.args.options.now in
     let graph = c.in_ok-graph.graph in
     let none = sym c.state.ensures ∙ c.knows_any.ensures.no c.if-knows_any.false in
-    over_graph (IsGraphOf options.profile options.definitions.items c.args.environment.now options.targets times c.args.items.items map.empty)
+    over_graph (IsWholeGraphOf options.profile options.definitions.items c.args.environment.now options.targets times c.args.items.items map.empty)
     graph store.state none
-    (subst (λ m. IsGraphOf options.profile options.definitions.items c.args.environment.now options.targets times c.args.items.items m graph)
-    (c.state-2.ensures ∙ none) (c.in_ok-graph.ensures.graph times may))
+    (subst (λ m. IsWholeGraphOf options.profile options.definitions.items c.args.environment.now options.targets times c.args.items.items m graph)
+    (c.state-2.ensures ∙ none) (as_whole (c.in_ok-graph.ensures.graph times may) c.in_ok-graph.ensures.made))
     (c.record_taken-taken.ensures.any_moment honest)
 
 pub returns-clause-any_moment : goal.returns-clause-any_moment
@@ -57,10 +57,10 @@ returns-clause-any_moment g c = λ honest times may.
     let options = c.args.options.now in
     let graph = c.in_ok-graph.graph in
     let none = sym c.state.ensures ∙ c.knows_any.ensures.no c.if-knows_any.false in
-    over_graph (IsGraphOf options.profile options.definitions.items c.args.environment.now options.targets times c.args.items.items map.empty)
+    over_graph (IsWholeGraphOf options.profile options.definitions.items c.args.environment.now options.targets times c.args.items.items map.empty)
     graph store.state none
-    (subst (λ m. IsGraphOf options.profile options.definitions.items c.args.environment.now options.targets times c.args.items.items m graph)
-    (c.state-2.ensures ∙ none) (c.in_ok-graph.ensures.graph times may))
+    (subst (λ m. IsWholeGraphOf options.profile options.definitions.items c.args.environment.now options.targets times c.args.items.items m graph)
+    (c.state-2.ensures ∙ none) (as_whole (c.in_ok-graph.ensures.graph times may) c.in_ok-graph.ensures.made))
     (c.record_taken-taken.ensures.any_moment honest)
 
 pub returns-clause-left : goal.returns-clause-left
@@ -71,9 +71,9 @@ returns-clause-left g c = λ times may.
     let none = sym c.state.ensures ∙ c.knows_any.ensures.no c.if-knows_any.false in
     let (taken, are, is, counted) = c.in_ok-count.ensures.taken in (
       none,
-      of_taken (IsGraphOf options.profile options.definitions.items c.args.environment.now options.targets times c.args.items.items map.empty)
+      of_taken (IsWholeGraphOf options.profile options.definitions.items c.args.environment.now options.targets times c.args.items.items map.empty)
           graph store.state c.record_taken-taken.new.store.state taken c.in_ok-count.count none
-          (subst (λ m. IsGraphOf options.profile options.definitions.items c.args.environment.now options.targets times c.args.items.items m graph)
-          (c.state-2.ensures ∙ none) (c.in_ok-graph.ensures.graph times may))
+          (subst (λ m. IsWholeGraphOf options.profile options.definitions.items c.args.environment.now options.targets times c.args.items.items m graph)
+          (c.state-2.ensures ∙ none) (as_whole (c.in_ok-graph.ensures.graph times may) c.in_ok-graph.ensures.made))
           are is counted,
     )
