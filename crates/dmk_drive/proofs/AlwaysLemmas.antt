@@ -8,7 +8,7 @@ use Rattle.mk_plan.specs.Telling.{lines_about}
 use Rattle.mk_plan.specs.declared.passing.Passed.{Passed}
 use Rattle.mk_plan.specs.declared.passing.Passed.TheVariants as passed
 use Rattle.mk_plan.specs.declared.telling.Telling.{Telling}
-use Rattle.mk_rules.specs.declared.graph.Graph.{Graph}
+use Rattle.mk_nodes.specs.declared.graph.Graph.{Graph}
 use Rattle.dmk_drive.specs.AlwaysRun.{always_in, always_of, always_passed, always_from, lines_run_always}
 use Rattle.dmk_drive.specs.Passing.{text_of, passage_text, listing_text}
 

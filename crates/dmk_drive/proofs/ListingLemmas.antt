@@ -2,7 +2,7 @@
 use Rattle.std.proofs.Common.{◌≡◌, ◌∙◌, ℕ, Bool, List, [], ◌∷◌, ◌++◌, refl, sym, ap, subst}
 use Rattle.std.specs.Prelude.{slice_set}
 use Rattle.mk_plan.specs.Passage.{Passage}
-use Rattle.mk_rules.specs.declared.graph.Graph.{Graph}
+use Rattle.mk_nodes.specs.declared.graph.Graph.{Graph}
 use Rattle.mk_plan.proofs.SameLemmas.{passes_once}
 use Rattle.dmk_drive.specs.Passing.{Lists, at_end, behind}
 

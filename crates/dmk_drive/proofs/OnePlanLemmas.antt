@@ -5,10 +5,10 @@ use Rattle.std.specs.FinMap as map
 use Rattle.mk_reader.specs.declared.item.Item.{Item}
 use Rattle.mk_plan.specs.Passage.{Passage}
 use Rattle.mk_graph.specs.Numbering.{name_at}
-use Rattle.mk_rules.specs.Graph.{IsGraph}
-use Rattle.mk_rules.specs.declared.graph.Graph.{Graph}
+use Rattle.mk_nodes.specs.Graph.{IsGraph}
+use Rattle.mk_nodes.specs.declared.graph.Graph.{Graph}
 use Rattle.mk_rules.proofs.InputLemmas.{inputs_once}
-use Rattle.mk_rules.proofs.OneGraphLemmas.{one_count, one_dropped, one_order}
+use Rattle.mk_nodes.proofs.OneGraphLemmas.{one_count, one_dropped, one_order}
 use Rattle.mk_plan.proofs.AlikeLemmas.{AreAlike, passes_in}
 use Rattle.mk_plan.proofs.OneNodeLemmas.{one_graph}
 use Rattle.st_disk.specs.declared.which.Which.{Which}

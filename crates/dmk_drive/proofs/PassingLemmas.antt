@@ -12,9 +12,9 @@ use Rattle.mk_graph.specs.Plan.{IsPlanAfter}
 use Rattle.mk_graph.proofs.WholeLemmas.{whole_plan}
 use Rattle.mk_plan.specs.declared.fault.RecipeFault.{RecipeFault}
 use Rattle.mk_plan.specs.declared.fault.RecipeFault.TheVariants as fault
-use Rattle.mk_rules.specs.Graph.{IsGraph, required_in, counting_in}
-use Rattle.mk_rules.specs.Prerequisites.{Inputs}
-use Rattle.mk_rules.specs.declared.graph.Graph.{Graph}
+use Rattle.mk_nodes.specs.Graph.{IsGraph, required_in, counting_in}
+use Rattle.mk_nodes.specs.Prerequisites.{Inputs}
+use Rattle.mk_nodes.specs.declared.graph.Graph.{Graph}
 use Rattle.mk_graph.proofs.CountedLemmas.{length-counting, closed_counting}
 use Rattle.mk_graph.specs.Numbering.{name_at}
 use Rattle.mk_plan.specs.Passage.{Passage, to_make, finished, is_listed, commands_of}

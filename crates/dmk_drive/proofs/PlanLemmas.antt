@@ -10,7 +10,7 @@ use Rattle.mk_rule_lines.specs.Rules.{suffixes_of}
 use Rattle.mk_rule_lines.specs.Table.{named_at}
 use Rattle.mk_rule_lines.specs.declared.rule_line.RuleLine.{RuleLine}
 use Rattle.mk_rule_lines.specs.declared.table.TargetTable.{TargetTable}
-use Rattle.mk_rules.specs.Node.{EachHasOneNumber}
+use Rattle.mk_nodes.specs.Node.{EachHasOneNumber}
 use Rattle.std.specs.FinMap as map
 use Rattle.mk_plan.specs.declared.fault.RecipeFault.{RecipeFault}
 use Rattle.mk_reader.specs.declared.item.Item.{Item}
@@ -19,7 +19,7 @@ use Rattle.mk_plan.specs.Passage.{Passage}
 use Rattle.mk_plan.specs.declared.telling.Telling.{Telling}
 use Rattle.mk_rules.specs.Faults.{IsRuleFault}
 use Rattle.mk_rule_lines.specs.declared.fault.RuleFault.{RuleFault}
-use Rattle.mk_rules.specs.declared.graph.Graph.{Graph}
+use Rattle.mk_nodes.specs.declared.graph.Graph.{Graph}
 use Rattle.mk_rules.specs.Limit.{node_limit}
 use Rattle.st_disk.specs.declared.which.Which.{Which}
 use Rattle.st_state.specs.State.{StateMap}

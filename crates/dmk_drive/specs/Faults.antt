@@ -11,7 +11,7 @@ use Rattle.mk_reader.specs.declared.fault.ReadFault.TheVariants as read_fault
 use Rattle.mk_rules.specs.Faults.{IsRuleFault}
 use Rattle.mk_profile.specs.declared.profile.Profile.{Profile}
 use Rattle.mk_rules.specs.Limit.{node_limit}
-use Rattle.mk_rules.specs.declared.graph.Graph.{Graph}
+use Rattle.mk_nodes.specs.declared.graph.Graph.{Graph}
 use Rattle.st_disk.specs.declared.which.Which.{Which}
 use Rattle.st_disk.specs.declared.which.Which.TheVariants as sides
 use Rattle.st_file.specs.declared.fault.OpenFault.{OpenFault}

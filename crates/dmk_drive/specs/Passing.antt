@@ -3,7 +3,7 @@ use Rattle.std.specs.Prelude.{◌≡◌, ℕ, Bool, true, false, nat_lt, List, [
 use Rattle.std.specs.List.{flat_map, list_any}
 use Rattle.mk_graph.specs.Edges.{times}
 use Rattle.mk_graph.specs.Plan.{IsPlan}
-use Rattle.mk_rules.specs.Graph.{counting_in}
+use Rattle.mk_nodes.specs.Graph.{counting_in}
 use Rattle.mk_plan.specs.declared.fault.RecipeFault.{RecipeFault}
 use Rattle.mk_plan.specs.declared.fault.RecipeFault.TheVariants.{OutOfMemory}
 use Rattle.mk_plan.specs.Passage.{Passage, to_make, finished, is_listed}
@@ -14,7 +14,7 @@ use Rattle.mk_plan.specs.declared.passing.Passed.TheVariants as passed
 use Rattle.mk_plan.specs.declared.telling.Telling.{Telling}
 use Rattle.mk_recipe.specs.Line.{is_blank_text}
 use Rattle.mk_recipe.specs.declared.line.Line.{Line}
-use Rattle.mk_rules.specs.declared.graph.Graph.{Graph}
+use Rattle.mk_nodes.specs.declared.graph.Graph.{Graph}
 
 -- the nodes are passed in this order, behind others whose marks these are, and this is what there is to tell of them: for each
 -- listed target the reason and its recipe, and the targets with a recipe that are up to date

@@ -9,10 +9,10 @@ use Rattle.mk_reader.specs.declared.item.Item.{Item}
 use Rattle.mk_plan.specs.Passage.{Passage}
 use Rattle.mk_plan.specs.declared.telling.Telling.{Telling}
 use Rattle.mk_rules.specs.Faults.{AreInputs}
-use Rattle.mk_rules.specs.Graph.{IsGraph}
+use Rattle.mk_nodes.specs.Graph.{IsGraph}
 use Rattle.mk_rule_lines.specs.Lines.{behind_items}
-use Rattle.mk_rules.specs.Prerequisites.{Inputs}
-use Rattle.mk_rules.specs.declared.graph.Graph.{Graph}
+use Rattle.mk_nodes.specs.Prerequisites.{Inputs}
+use Rattle.mk_nodes.specs.declared.graph.Graph.{Graph}
 use Rattle.st_disk.specs.declared.which.Which.{Which}
 use Rattle.st_disk.specs.declared.which.Which.TheVariants as sides
 use Rattle.st_state.specs.State.{StateMap}

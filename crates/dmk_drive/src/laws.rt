@@ -3,12 +3,12 @@ ghost use Rattle.std.specs.Prelude.{◌≡◌, ℕ, ℤ, Bool, true, List, Optio
 ghost use Rattle.std.specs.List.{list_all, list_any};
 ghost use Rattle.mk_reader.specs.declared.item.Item.{Item};
 ghost use Rattle.mk_rule_lines.specs.Goals.{is_keep_state, has_special};
-ghost use Rattle.mk_rules.specs.Graph.{IsGraph};
+ghost use Rattle.mk_nodes.specs.Graph.{IsGraph};
 ghost use Rattle.mk_profile.specs.declared.profile.Profile.{Profile};
 ghost use Rattle.mk_macros.specs.Ranks.{Defined};
 ghost use Rattle.mk_rule_lines.specs.InForce.{AreLinesInForce};
-ghost use Rattle.mk_rules.specs.Prerequisites.{Inputs};
-ghost use Rattle.mk_rules.specs.declared.graph.Graph.{Graph};
+ghost use Rattle.mk_nodes.specs.Prerequisites.{Inputs};
+ghost use Rattle.mk_nodes.specs.declared.graph.Graph.{Graph};
 ghost use Rattle.mk_rule_lines.specs.declared.rule_line.RuleLine.{RuleLine};
 ghost use Rattle.dmk_drive.specs.Keeping.{is_keep_item};
 ghost use Rattle.mk_plan.specs.Passage.{Passage, is_listed};

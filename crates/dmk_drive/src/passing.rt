@@ -9,9 +9,9 @@ ghost use Rattle.dmk_drive.specs.Passing.{IsListing, IsListingFault, ListsNone, 
 
 use crate::always_run::{AlwaysRun, add_line, add_lines};
 use byte_strings::ByteStrings;
+use mk_nodes::Graph;
 use mk_plan::{Passed, RecipeFault, Telling, has_text_names, name_of, pass_in, told_lines};
 use mk_recipe::Line;
-use mk_rules::Graph;
 use std::alloc::{AllocError, Global};
 
 /// What is printed of the targets that a listing is of.

@@ -5,7 +5,7 @@ use std::alloc::{AllocError, Global};
 use std::boxed::Box;
 use std::marker::Model;
 
-/// As `mk_rules::Stamp` keeps a time, with one case more: an option of a stamp would take 8 bytes more for it.
+/// As `mk_nodes::Stamp` keeps a time, with one case more: an option of a stamp would take 8 bytes more for it.
 #[derive(Drop)]
 pub(crate) enum Kept {
     Untold,

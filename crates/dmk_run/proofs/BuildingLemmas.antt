@@ -8,8 +8,8 @@ use Rattle.st_disk.specs.Moments.{Moments, now}
 use Rattle.st_records.specs.declared.record.Record.{Record}
 use Rattle.st_state.specs.State.{StateMap}
 use Rattle.st_recovery.specs.Stored.{AllRecover}
-use Rattle.mk_rules.specs.declared.graph.Graph.{Graph}
-use Rattle.mk_rules.specs.declared.graph.Node.{Node}
+use Rattle.mk_nodes.specs.declared.graph.Graph.{Graph}
+use Rattle.mk_nodes.specs.declared.graph.Node.{Node}
 use Rattle.bd_places.specs.declared.end.End.{End}
 use Rattle.bd_places.specs.declared.end.End.TheVariants as end
 use Rattle.bd_flusher.specs.Site.{Facts}

@@ -4,7 +4,7 @@ use Rattle.std.proofs.lemmas.Bool.{cases_lt}
 use Rattle.std.specs.Bool.{beq}
 use Rattle.std.proofs.lemmas.Option.{slice_get_within, same_Some}
 use Rattle.std.specs.List.{list_any}
-use Rattle.mk_rules.specs.declared.graph.Graph.{Graph}
+use Rattle.mk_nodes.specs.declared.graph.Graph.{Graph}
 use Rattle.mk_plan.specs.Passage.{is_listed}
 use Rattle.mk_plan.specs.Passing.{Passes, PassesUnlisted, is_remade, told_in}
 use Rattle.mk_plan.specs.declared.passing.Passed.{Passed}

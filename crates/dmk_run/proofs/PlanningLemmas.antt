@@ -1,7 +1,7 @@
 -- What is recorded by a plan.
 use Rattle.std.proofs.Common.{◌≡◌, Bool, true, false, Option, Some, None, refl, ap, ◌∙◌}
 use Rattle.std.specs.Prelude.{unwrap_or}
-use Rattle.mk_rules.specs.declared.graph.Graph.{Graph}
+use Rattle.mk_nodes.specs.declared.graph.Graph.{Graph}
 use Rattle.st_state.specs.State.{StateMap}
 use Rattle.dmk_drive.specs.Planned.{judged_graph}
 

@@ -2,8 +2,8 @@
 use Rattle.std.specs.Prelude.{◌≡◌, ◌⊎◌, ℕ, Bool, true, List, Some, IsSome, slice_get}
 use Rattle.std.specs.FinMap as map
 use Rattle.mk_graph.specs.Numbering.{name_at}
-use Rattle.mk_rules.specs.declared.graph.Graph.{Graph}
-use Rattle.mk_rules.specs.declared.graph.Node.{Node}
+use Rattle.mk_nodes.specs.declared.graph.Graph.{Graph}
+use Rattle.mk_nodes.specs.declared.graph.Node.{Node}
 use Rattle.st_records.specs.declared.record.Entry.{Entry}
 use Rattle.st_records.specs.declared.record.Phase.TheVariants as phases
 use Rattle.st_state.specs.State.{StateMap}

@@ -3,7 +3,7 @@ use Rattle.std.specs.Prelude.{◌≡◌, ◌≢◌, ◌||◌, ℕ, ℤ, Bool, tr
 use Rattle.std.specs.List.{list_all}
 use Rattle.mk_profile.specs.declared.profile.Profile.{Profile}
 use Rattle.mk_reader.specs.declared.item.Item.{Item}
-use Rattle.mk_rules.specs.declared.graph.Graph.{Graph}
+use Rattle.mk_nodes.specs.declared.graph.Graph.{Graph}
 use Rattle.st_disk.specs.Crash.{Sides}
 use Rattle.st_disk.specs.declared.which.Which.{Which}
 use Rattle.st_records.specs.declared.record.Record.{Record}

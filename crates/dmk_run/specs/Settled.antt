@@ -1,6 +1,6 @@
 -- A run in which no recipe is to be run. Own.
 use Rattle.std.specs.Prelude.{◌≡◌, Bool, true}
-use Rattle.mk_rules.specs.declared.graph.Graph.{Graph}
+use Rattle.mk_nodes.specs.declared.graph.Graph.{Graph}
 use Rattle.st_state.specs.State.{StateMap}
 use Rattle.dmk_drive.specs.Passing.{ListsNone}
 use Rattle.dmk_run.specs.Known.{AreKnownDone}

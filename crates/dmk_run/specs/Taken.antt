@@ -5,7 +5,7 @@ use Rattle.mk_graph.specs.Numbering.{name_at}
 use Rattle.mk_rule_lines.specs.declared.fault.TextFault.{TextFault}
 use Rattle.mk_recipe.specs.Line.{Records}
 use Rattle.mk_recipe.specs.declared.line.Line.{Line}
-use Rattle.mk_rules.specs.declared.graph.Graph.{Graph}
+use Rattle.mk_nodes.specs.declared.graph.Graph.{Graph}
 use Rattle.mk_plan.specs.Nodes.{explicit_of}
 use Rattle.mk_plan.specs.Passage.{Passage, to_make, commands_of}
 use Rattle.mk_plan.specs.Passing.{Passes, PassesUnlisted, IsFaultAt}

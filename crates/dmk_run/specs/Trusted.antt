@@ -1,7 +1,7 @@
 -- What is left on a disk where targets are to be taken as they are. Own.
 use Rattle.std.specs.Prelude.{◌≡◌, ◌≢◌, ◌⊎◌, ℕ, List, length}
 use Rattle.std.specs.FinMap as map
-use Rattle.mk_rules.specs.declared.graph.Graph.{Graph}
+use Rattle.mk_nodes.specs.declared.graph.Graph.{Graph}
 use Rattle.st_disk.specs.declared.which.Which.{Which}
 use Rattle.st_disk.specs.declared.which.Which.TheVariants as which
 use Rattle.st_disk.specs.Crash.{Sides, EachPair, IsCrashImage}

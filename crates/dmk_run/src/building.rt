@@ -27,7 +27,7 @@ use jb_closing::{Report, RunFault};
 use jb_recipe::{Conduct, Place, Say};
 use jb_runner::{Parts, Slotting, run_slotted};
 use jb_slots::Banks;
-use mk_rules::Graph;
+use mk_nodes::Graph;
 use st_disk::Disk;
 use st_recovery::Store;
 use st_state::State;

@@ -2,8 +2,8 @@
 
 use crate::unmade::{is_lost, lost_nodes};
 use jb_recipe::{Say, Step};
+use mk_nodes::Graph;
 use mk_plan::{has_text_names, pass_in};
-use mk_rules::Graph;
 use std::alloc::{AllocError, Global};
 
 /// How many recipes a listing would have. A target whose recipe can't be expanded isn't counted.

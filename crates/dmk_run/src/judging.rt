@@ -4,8 +4,8 @@ ghost use Rattle.mk_plan.specs.Passing.{PassesUnlisted};
 ghost use Rattle.dmk_run.specs.Judged.{counts_as_remade, IsJudged, AreJudged};
 
 use bd_places::End;
+use mk_nodes::Graph;
 use mk_plan::{RecipeFault, pass};
-use mk_rules::Graph;
 use std::alloc::{AllocError, Global};
 
 fn counts_as_remade(end: End) -> bool

@@ -2,7 +2,7 @@
 ghost use Rattle.std.specs.Prelude.{◌↔◌, ◌<◌, length, IsTrue};
 ghost use Rattle.dmk_run.specs.Known.{IsKnownDone, IsNodeKnownDone, AreKnownDone};
 
-use mk_rules::Graph;
+use mk_nodes::Graph;
 use st_records::Phase;
 use st_state::State;
 

@@ -3,8 +3,8 @@ use crate::refusing::ready_recipes;
 use crate::stop::Stop;
 use crate::unmade::{is_lost, lost_nodes};
 use byte_strings::ByteString;
+use mk_nodes::Graph;
 use mk_plan::{has_text_names, pass_in};
-use mk_rules::Graph;
 use std::alloc::{AllocError, Global};
 use std::sync::OnceLock;
 

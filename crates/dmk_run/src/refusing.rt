@@ -5,9 +5,9 @@ use crate::unmade::{is_lost, lost_nodes};
 use byte_strings::ByteString;
 use dmk_drive::Fault;
 use mk_macros::{Dynamic, MacroFault};
+use mk_nodes::Graph;
 use mk_plan::{RecipeFault, has_text_names, pass_in};
 use mk_rule_lines::TextFault;
-use mk_rules::Graph;
 use std::alloc::Global;
 use std::sync::OnceLock;
 

@@ -8,8 +8,8 @@ use crate::planning::Plan;
 use byte_strings::ByteStrings;
 use dmk_drive::unlisted;
 use jb_recipe::Say;
+use mk_nodes::Graph;
 use mk_plan::{Passed, Telling, told_lines};
-use mk_rules::Graph;
 use std::alloc::{AllocError, Global};
 
 /// What is told of the targets of a graph that are all up to date.

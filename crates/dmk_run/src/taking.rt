@@ -17,9 +17,9 @@ use crate::stop::Stop;
 use byte_strings::{ByteString, ByteStrings};
 use dmk_drive::Fault;
 use jb_recipe::{Place, PlaceFault, is_writable};
+use mk_nodes::Graph;
 use mk_plan::{Passed, RecipeFault, explicit_of, name_of, pass};
 use mk_recipe::{Line, recorded};
-use mk_rules::Graph;
 use st_records::{Explicit, Record};
 use std::alloc::{AllocError, Global};
 

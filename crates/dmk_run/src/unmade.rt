@@ -5,9 +5,9 @@ ghost use Rattle.dmk_run.specs.Planned.{with_unmade};
 
 use crate::printer::Printer;
 use byte_strings::ByteString;
+use mk_nodes::Graph;
 use mk_plan::name_of;
 use mk_rule_lines::Unmade;
-use mk_rules::Graph;
 use std::alloc::{AllocError, Global};
 use std::io::Write;
 use std::sync::Wait;

@@ -1,7 +1,7 @@
 -- What a run comes to. Own.
 use Rattle.std.specs.Prelude.{◌≡◌, ◌≤◌, Bool, true, false, List, length, Result, IfOk, IsTrue}
 use Rattle.std.specs.List.{list_all}
-use Rattle.mk_rules.specs.declared.graph.Graph.{Graph}
+use Rattle.mk_nodes.specs.declared.graph.Graph.{Graph}
 use Rattle.st_disk.specs.Moments.{Moments, now}
 use Rattle.st_state.specs.State.{replay}
 use Rattle.bd_places.specs.declared.end.End.{End}

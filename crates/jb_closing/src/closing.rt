@@ -3,7 +3,7 @@ ghost use Rattle.std.specs.Prelude.{◌≡◌, ℕ, ◌<◌, List, length, false
 ghost use Rattle.st_disk.specs.Moments.{now};
 ghost use Rattle.st_state.specs.State.{replay};
 ghost use Rattle.mk_graph.specs.Numbering.{name_at};
-ghost use Rattle.mk_rules.specs.Node.{EachHasOneNumber};
+ghost use Rattle.mk_nodes.specs.Node.{EachHasOneNumber};
 ghost use Rattle.bd_places.specs.declared.end.End.TheVariants.{Built};
 ghost use Rattle.jb_closing.specs.Agreement.{AreThoseOf};
 ghost use Rattle.jb_closing.specs.Last.{IsLastPlace, ArePlaces, EndsDone};
@@ -16,7 +16,7 @@ use bd_flusher::{FlushFault, Receipt, Site};
 use bd_ledger::Ticket;
 use bd_places::End;
 use mk_graph::Names;
-use mk_rules::Graph;
+use mk_nodes::Graph;
 use st_disk::Disk;
 use st_records::Record;
 use std::alloc::Global;

@@ -1,7 +1,7 @@
 //! The last record of each target.
 ghost use Rattle.std.specs.Prelude.{◌≡◌, List, [], ◌∷◌, ◌++◌, length, replicate, None, IfOk, IsTrue, ◌↔◌};
 ghost use Rattle.st_records.specs.declared.record.Record.{Record};
-ghost use Rattle.mk_rules.specs.Node.{EachHasOneNumber};
+ghost use Rattle.mk_nodes.specs.Node.{EachHasOneNumber};
 ghost use Rattle.jb_closing.specs.Last.{ArePlaces, IsDoneRecord};
 
 use mk_graph::Names;

@@ -19,10 +19,10 @@ use crate::silence::as_run;
 use crate::{Conduct, environment};
 use bd_lists::{Recipe, Variable};
 use byte_strings::{ByteString, ByteStrings};
+use mk_nodes::Graph;
 use mk_plan::{Why, explicit_of, made_beside, why_lines};
 use mk_profile::Profile;
 use mk_recipe::{Line, recorded};
-use mk_rules::Graph;
 use st_records::{Explicit, Record};
 use std::alloc::{AllocError, Global};
 

@@ -3,7 +3,7 @@
 use crate::desk::Clerk;
 use jb_recipe::{Conduct, News, Say};
 use jb_slots::{Bank, Slots};
-use mk_rules::Graph;
+use mk_nodes::Graph;
 use st_disk::Disk;
 use st_records::HashKey;
 use std::sync::{Mutex, Wait};

@@ -3,7 +3,7 @@
 ghost use Rattle.std.specs.Prelude.{◌≡◌, ℕ, false, List, IfOk};
 ghost use Rattle.bd_ledger.specs.Sheet.{first_sheet};
 ghost use Rattle.mk_graph.specs.Counted.{AreSets, joined};
-ghost use Rattle.mk_rules.specs.Graph.{required_in, counting_in};
+ghost use Rattle.mk_nodes.specs.Graph.{required_in, counting_in};
 ghost use Rattle.jb_runner.specs.InOrder.{HasAlso};
 
 use crate::in_order::edges_in_order;
@@ -11,7 +11,7 @@ use bd_flusher::Receipt;
 use bd_lists::Board;
 use byte_strings::ByteString;
 use mk_graph::{Names, counted_edges};
-use mk_rules::Graph;
+use mk_nodes::Graph;
 use std::alloc::{AllocError, Global};
 
 /// The same names in order.

@@ -18,7 +18,7 @@ use bd_lists::{Advanced, Clearance, Exec, Recipe, Spent, Told};
 use jb_closing::RunFault;
 use jb_recipe::{EndNote, Last, News, NotDone, Place, Plan, Ran, Say, run_recipe};
 use jb_slots::Bank;
-use mk_rules::Graph;
+use mk_nodes::Graph;
 use st_disk::Disk;
 use st_records::Record;
 use std::alloc::Global;

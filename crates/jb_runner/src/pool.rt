@@ -22,7 +22,7 @@ use bd_places::End;
 use jb_closing::{Closed, Report, RunFault};
 use jb_recipe::{Conduct, News, Place, Say};
 use jb_slots::Bank;
-use mk_rules::Graph;
+use mk_nodes::Graph;
 use st_disk::Disk;
 use st_records::HashKey;
 use std::alloc::{AllocError, Global};

@@ -6,7 +6,7 @@ use bd_flusher::{Flusher, Receipt, Site};
 use bd_lists::Board;
 use jb_recipe::{Conduct, Say};
 use jb_slots::Slots;
-use mk_rules::Graph;
+use mk_nodes::Graph;
 use st_disk::Disk;
 use st_records::HashKey;
 use std::sync::Mutex;

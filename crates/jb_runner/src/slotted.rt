@@ -1,7 +1,7 @@
 //! A whole run with job slots from where MAKEFLAGS says.
 ghost use Rattle.std.specs.Prelude.{◌≡◌, ◌≤◌, List, false, length, IfOk, IsTrue};
 ghost use Rattle.std.specs.List.{list_all};
-ghost use Rattle.mk_rules.specs.declared.graph.Graph.{Graph};
+ghost use Rattle.mk_nodes.specs.declared.graph.Graph.{Graph};
 ghost use Rattle.st_disk.specs.Moments.{now};
 ghost use Rattle.st_state.specs.State.{replay};
 ghost use Rattle.bd_flusher.specs.declared.site.receipt.Receipt.{Receipt};
@@ -17,7 +17,7 @@ use bd_lists::Exec;
 use jb_closing::{Closed, Report, RunFault};
 use jb_recipe::{Conduct, Makeflags, News, Place, Say};
 use jb_slots::{Banks, MemoryBank, MemoryPool};
-use mk_rules::Graph;
+use mk_nodes::Graph;
 use st_disk::Disk;
 use st_records::HashKey;
 use std::alloc::{AllocError, Global};

@@ -20,8 +20,8 @@ use Rattle.mk_reader.specs.Text.{is_empty}
 use Rattle.mk_rule_lines.specs.Explicit.{names_in, explicit_of as explicit_names}
 use Rattle.mk_rule_lines.specs.Rules.{suffixes_of, is_default_rule}
 use Rattle.mk_rule_lines.specs.declared.rule_line.RuleLine.{RuleLine}
-use Rattle.mk_rules.specs.Prerequisites.{distinct, hidden_in}
-use Rattle.mk_rules.specs.declared.graph.Graph.{Graph}
+use Rattle.mk_nodes.specs.Prerequisites.{distinct, hidden_in}
+use Rattle.mk_nodes.specs.declared.graph.Graph.{Graph}
 use Rattle.st_records.specs.declared.record.Entry.{Entry}
 use Rattle.mk_plan.specs.ExplicitWords.{once_of, first_of, is_implicit, source_word, stem_left, stem_word}
 use Rattle.mk_plan.specs.Nodes.{stamp_of, made_of, entry_of, hidden_of, stem_of, source_of, explicit_of, is_marked, IsNewer, AreNewer, nothing, named, left_out, EndsRemade}

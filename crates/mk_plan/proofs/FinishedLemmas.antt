@@ -15,8 +15,8 @@ use Rattle.mk_recipe.proofs.RecordedLemmas.{recorded_by}
 use Rattle.mk_recipe.specs.Line.{Records}
 use Rattle.mk_rule_lines.specs.Doubles.{double_lines}
 use Rattle.mk_rule_lines.specs.declared.rule_line.RuleLine.{RuleLine}
-use Rattle.mk_rules.specs.Node.{explicit_in}
-use Rattle.mk_rules.specs.declared.graph.Graph.{Graph}
+use Rattle.mk_nodes.specs.Node.{explicit_in}
+use Rattle.mk_nodes.specs.declared.graph.Graph.{Graph}
 use Rattle.mk_verdict.proofs.ReasonLemmas.{is_newer-decides, is_gone-decides, counts_as_remade-decides}
 use Rattle.mk_verdict.specs.Tests.{is_later, is_newer, is_gone, counts_as_remade}
 use Rattle.mk_verdict.specs.Verdict.{HasFailed, IsLater, IsGone, IsRemade, NamesOthers, Holds}

@@ -9,20 +9,20 @@ use Rattle.mk_graph.specs.Numbering.{all_added, name_at}
 use Rattle.mk_rule_lines.specs.Explicit.{explicit_of as names_written}
 use Rattle.mk_rule_lines.specs.declared.rule_line.RuleLine.{RuleLine}
 use Rattle.mk_rule_lines.specs.Rules.{is_default_rule}
-use Rattle.mk_rules.specs.Graph.{IsNode, IsGraph, judged, required_in}
-use Rattle.mk_rules.specs.Node.{source_by, source_in, explicit_in, implied_in, hidden_in as hidden_at}
-use Rattle.mk_rules.specs.Prerequisites.{Inputs, implicit_source, made_from, recipe_of as rule_of, hard_of, hidden_in, distinct, required_of}
-use Rattle.mk_rules.specs.declared.graph.Node.{Node}
-use Rattle.mk_rules.specs.declared.graph.Graph.{Graph}
+use Rattle.mk_nodes.specs.Graph.{IsNode, IsGraph, judged, required_in}
+use Rattle.mk_nodes.specs.Node.{source_by, source_in, explicit_in, implied_in, hidden_in as hidden_at}
+use Rattle.mk_nodes.specs.Prerequisites.{Inputs, implicit_source, made_from, recipe_of as rule_of, hard_of, hidden_in, distinct, required_of}
+use Rattle.mk_nodes.specs.declared.graph.Node.{Node}
+use Rattle.mk_nodes.specs.declared.graph.Graph.{Graph}
 use Rattle.mk_plan.specs.Known.{IsNodeOf}
 use Rattle.st_records.specs.declared.record.Entry.{Entry}
 use Rattle.mk_plan.specs.Nodes.{group_in, made_in, entry_of}
 use Rattle.mk_plan.specs.Parts.{language_of, parts_of}
-use Rattle.mk_rules.specs.Groups.{group_of}
-use Rattle.mk_rules.specs.declared.group.Group.{Group}
+use Rattle.mk_nodes.specs.Groups.{group_of}
+use Rattle.mk_nodes.specs.declared.group.Group.{Group}
 use Rattle.mk_plan.specs.Words.{implied_names}
 use Rattle.mk_graph.proofs.NameLemmas.{all_added-append}
-use Rattle.mk_rules.proofs.FreshLemmas.{front_added}
+use Rattle.mk_nodes.proofs.FreshLemmas.{front_added}
 
 or_map : {A B : Type 0} (f : A → B) (o : Option A) (d : B) → unwrap_or (option_map f o) d ≡ option_map_or f o d
 or_map f None d = refl

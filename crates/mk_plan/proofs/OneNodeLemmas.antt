@@ -15,13 +15,13 @@ use Rattle.mk_macros.specs.Ranks.{defined_by, Defined}
 use Rattle.mk_profile.specs.declared.profile.Profile.{Profile}
 use Rattle.mk_rule_lines.specs.declared.rule_line.RuleLine.{RuleLine}
 use Rattle.mk_rule_lines.specs.Rules.{is_default_rule}
-use Rattle.mk_rules.specs.Graph.{IsGraph, is_numbered, judged, judged_name, required_in}
-use Rattle.mk_rules.specs.Node.{source_in, explicit_in, implied_in, hidden_in}
-use Rattle.mk_rules.specs.Groups.{made_time}
-use Rattle.mk_rules.specs.Prerequisites.{Inputs, hard_of, judged_of, distinct, implicit_source, made_from, source_name, recipe_of as rule_of, explicit_names, required_of}
-use Rattle.mk_rules.specs.declared.graph.Node.{Node}
-use Rattle.mk_rules.specs.declared.graph.Graph.{Graph}
-use Rattle.mk_rules.proofs.OneGraphLemmas.{one_names, one_count, one_hard, one_dropped, same_hidden}
+use Rattle.mk_nodes.specs.Graph.{IsGraph, is_numbered, judged, judged_name, required_in}
+use Rattle.mk_nodes.specs.Node.{source_in, explicit_in, implied_in, hidden_in}
+use Rattle.mk_nodes.specs.Groups.{made_time}
+use Rattle.mk_nodes.specs.Prerequisites.{Inputs, hard_of, judged_of, distinct, implicit_source, made_from, source_name, recipe_of as rule_of, explicit_names, required_of}
+use Rattle.mk_nodes.specs.declared.graph.Node.{Node}
+use Rattle.mk_nodes.specs.declared.graph.Graph.{Graph}
+use Rattle.mk_nodes.proofs.OneGraphLemmas.{one_names, one_count, one_hard, one_dropped, same_hidden}
 use Rattle.mk_plan.specs.Nodes.{node_at, stamp_of, made_in, made_of, hidden_of, stem_of, source_of, explicit_of}
 use Rattle.mk_plan.specs.ExplicitWords.{is_implicit}
 use Rattle.mk_plan.specs.Known.{IsNodeOf}

@@ -10,7 +10,7 @@ use Rattle.mk_profile.specs.declared.profile.Profile.{Profile}
 use Rattle.mk_recipe.specs.declared.line.Line.{Line}
 use Rattle.mk_rule_lines.specs.declared.fault.TextFault.{TextFault}
 use Rattle.mk_rule_lines.specs.declared.rule_line.RuleLine.{RuleLine}
-use Rattle.mk_rules.specs.declared.graph.Graph.{Graph}
+use Rattle.mk_nodes.specs.declared.graph.Graph.{Graph}
 use Rattle.mk_plan.specs.Nodes.{AreNewer}
 use Rattle.mk_plan.specs.PartTests.{newer_among}
 use Rattle.mk_plan.specs.PartWords.{row_among}

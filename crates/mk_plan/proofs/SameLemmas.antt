@@ -27,7 +27,7 @@ use Rattle.mk_verdict.specs.declared.verdict.Reason.TheVariants as reason
 use Rattle.mk_verdict.specs.declared.verdict.Verdict.TheVariants.{OutOfDate}
 use Rattle.mk_verdict.proofs.VerdictLemmas.{same_verdict}
 use Rattle.mk_rule_lines.specs.declared.rule_line.RuleLine.{RuleLine}
-use Rattle.mk_rules.specs.declared.graph.Graph.{Graph}
+use Rattle.mk_nodes.specs.declared.graph.Graph.{Graph}
 use Rattle.st_records.specs.declared.record.Entry.{Entry}
 use Rattle.mk_plan.specs.Nodes.{entry_of}
 use Rattle.mk_plan.specs.PartWords.{row_in}

@@ -22,7 +22,7 @@ use Rattle.mk_recipe.specs.Line.{IsKept}
 use Rattle.mk_graph.specs.Numbering.{name_at}
 use Rattle.mk_reader.specs.declared.item.RecipeLine.{RecipeLine}
 use Rattle.mk_rule_lines.specs.declared.rule_line.RuleLine.{RuleLine}
-use Rattle.mk_rules.specs.declared.graph.Graph.{Graph}
+use Rattle.mk_nodes.specs.declared.graph.Graph.{Graph}
 use Rattle.mk_plan.specs.ExplicitWords.{source_word, stem_word}
 use Rattle.mk_plan.specs.Finished.{GivesFirst, GivesCommands, PartGives}
 use Rattle.mk_plan.specs.Nodes.{AreNewer}

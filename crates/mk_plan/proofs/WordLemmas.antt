@@ -4,7 +4,7 @@ use Rattle.std.proofs.Common.{◌≡◌, ◌∙◌, ℕ, List, ◌++◌, Option,
 use Rattle.mk_graph.specs.Numbering.{name_at}
 use Rattle.mk_profile.specs.Profile.{is_wide}
 use Rattle.mk_rule_lines.specs.Explicit.{explicit_of}
-use Rattle.mk_rules.specs.declared.graph.Graph.{Graph}
+use Rattle.mk_nodes.specs.declared.graph.Graph.{Graph}
 use Rattle.mk_plan.specs.Parts.{language_of}
 use Rattle.mk_plan.specs.Words.{in_wide, implied_names, written_of}
 

@@ -10,8 +10,8 @@ use Rattle.mk_recipe.specs.Line.{text_kept}
 use Rattle.mk_recipe.specs.Tests.{recorded_texts}
 use Rattle.mk_recipe.specs.declared.line.Line.{Line}
 use Rattle.mk_rule_lines.specs.declared.rule_line.RuleLine.{RuleLine}
-use Rattle.mk_rules.specs.Node.{explicit_in}
-use Rattle.mk_rules.specs.declared.graph.Graph.{Graph}
+use Rattle.mk_nodes.specs.Node.{explicit_in}
+use Rattle.mk_nodes.specs.declared.graph.Graph.{Graph}
 use Rattle.mk_verdict.specs.Tests.{is_later}
 use Rattle.mk_plan.specs.Nodes.{node_at, stamp_of, made_of, hidden_of, is_marked}
 use Rattle.mk_plan.specs.Recipe.{IsExpandedLine, AreExpanded, AreLinesIn}

@@ -5,10 +5,10 @@ use Rattle.mk_graph.specs.Edges.{row}
 use Rattle.mk_graph.specs.Numbering.{all_added, name_at}
 use Rattle.mk_rule_lines.specs.Explicit.{explicit_of as names_written}
 use Rattle.mk_rule_lines.specs.Rules.{is_default_rule}
-use Rattle.mk_rules.specs.Graph.{judged, judged_name}
-use Rattle.mk_rules.specs.Groups.{made_time, made_beside as names_beside}
-use Rattle.mk_rules.specs.Prerequisites.{Inputs, implicit_source, made_from, source_name, recipe_of as rule_of, distinct, hard_of, hidden_of as hidden_names, judged_of, explicit_names, required_of}
-use Rattle.mk_rules.specs.declared.graph.Graph.{Graph}
+use Rattle.mk_nodes.specs.Graph.{judged, judged_name}
+use Rattle.mk_nodes.specs.Groups.{made_time, made_beside as names_beside}
+use Rattle.mk_nodes.specs.Prerequisites.{Inputs, implicit_source, made_from, source_name, recipe_of as rule_of, distinct, hard_of, hidden_of as hidden_names, judged_of, explicit_names, required_of}
+use Rattle.mk_nodes.specs.declared.graph.Graph.{Graph}
 use Rattle.mk_plan.specs.ExplicitWords.{is_implicit}
 use Rattle.mk_plan.specs.Nodes.{stamp_of, made_of, made_beside, entry_of, hidden_of, stem_of, source_of, explicit_of}
 use Rattle.mk_plan.specs.Parts.{language_of, parts_of, recipe_of}

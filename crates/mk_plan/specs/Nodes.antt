@@ -6,10 +6,10 @@ use Rattle.std.specs.Option.{option_map_or}
 use Rattle.mk_graph.specs.Edges.{row}
 use Rattle.mk_graph.specs.Numbering.{name_at}
 use Rattle.mk_verdict.specs.Verdict.{IsLater}
-use Rattle.mk_rules.specs.Node.{source_in, explicit_in, hidden_in}
-use Rattle.mk_rules.specs.declared.graph.Node.{Node}
-use Rattle.mk_rules.specs.declared.graph.Graph.{Graph}
-use Rattle.mk_rules.specs.declared.group.Group.{Group}
+use Rattle.mk_nodes.specs.Node.{source_in, explicit_in, hidden_in}
+use Rattle.mk_nodes.specs.declared.graph.Node.{Node}
+use Rattle.mk_nodes.specs.declared.graph.Graph.{Graph}
+use Rattle.mk_nodes.specs.declared.group.Group.{Group}
 use Rattle.st_records.specs.declared.record.Entry.{Entry}
 
 abbrev pub node_at : Graph → (n : ℕ) → Option Node

@@ -14,7 +14,7 @@ use Rattle.mk_rule_lines.specs.Rules.{told_file}
 use Rattle.mk_rule_lines.specs.declared.rule_line.RuleLine.{RuleLine}
 use Rattle.mk_recipe.specs.Line.{IsLine}
 use Rattle.mk_recipe.specs.declared.line.Line.{Line}
-use Rattle.mk_rules.specs.declared.graph.Graph.{Graph}
+use Rattle.mk_nodes.specs.declared.graph.Graph.{Graph}
 use Rattle.mk_graph.specs.Numbering.{name_at}
 use Rattle.mk_plan.specs.ExplicitWords.{source_word, stem_word}
 use Rattle.mk_plan.specs.Nodes.{AreNewer}

@@ -6,7 +6,7 @@ use Rattle.mk_recipe.specs.Line.{Records}
 use Rattle.mk_recipe.specs.declared.line.Line.{Line}
 use Rattle.mk_verdict.specs.declared.verdict.Prerequisite.{Prerequisite}
 use Rattle.mk_verdict.specs.declared.verdict.Target.{Target}
-use Rattle.mk_rules.specs.declared.graph.Graph.{Graph}
+use Rattle.mk_nodes.specs.declared.graph.Graph.{Graph}
 use Rattle.mk_plan.specs.Nodes.{stamp_of, made_of, hidden_of, explicit_of, is_marked}
 
 -- a prerequisite, with its name as a list of bytes

@@ -4,7 +4,7 @@ use Rattle.std.specs.List.{list_any}
 use Rattle.mk_graph.specs.Edges.{row}
 use Rattle.mk_graph.specs.Numbering.{name_at}
 use Rattle.mk_verdict.specs.Tests.{is_later}
-use Rattle.mk_rules.specs.declared.graph.Graph.{Graph}
+use Rattle.mk_nodes.specs.declared.graph.Graph.{Graph}
 use Rattle.mk_plan.specs.Nodes.{stamp_of, made_of, is_marked}
 
 -- the prerequisite m is newer than the target n

@@ -8,8 +8,8 @@ use Rattle.mk_verdict.specs.Verdict.{IsFirstReason, IsOutOfDate}
 use Rattle.mk_verdict.specs.declared.verdict.Target.{Target}
 use Rattle.mk_verdict.specs.declared.verdict.Reason.{Reason}
 use Rattle.mk_verdict.specs.declared.verdict.Reason.TheVariants.{HiddenGone}
-use Rattle.mk_rules.specs.Prerequisites.{distinct, hidden_in}
-use Rattle.mk_rules.specs.declared.graph.Graph.{Graph}
+use Rattle.mk_nodes.specs.Prerequisites.{distinct, hidden_in}
+use Rattle.mk_nodes.specs.declared.graph.Graph.{Graph}
 use Rattle.mk_plan.specs.Nodes.{entry_of}
 use Rattle.mk_plan.specs.declared.why.Why.{Why}
 

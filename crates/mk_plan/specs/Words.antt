@@ -6,9 +6,9 @@ use Rattle.mk_graph.specs.Numbering.{name_at}
 use Rattle.mk_profile.specs.Profile.{is_wide}
 use Rattle.mk_profile.specs.declared.profile.Profile.{Profile}
 use Rattle.mk_rule_lines.specs.Explicit.{explicit_of}
-use Rattle.mk_rules.specs.Graph.{required_in}
-use Rattle.mk_rules.specs.Node.{implied_in}
-use Rattle.mk_rules.specs.declared.graph.Graph.{Graph}
+use Rattle.mk_nodes.specs.Graph.{required_in}
+use Rattle.mk_nodes.specs.Node.{implied_in}
+use Rattle.mk_nodes.specs.declared.graph.Graph.{Graph}
 use Rattle.mk_plan.specs.Nodes.{node_at}
 
 -- what the wide profile alone has

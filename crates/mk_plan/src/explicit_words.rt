@@ -9,8 +9,8 @@ ghost use Rattle.mk_plan.specs.ExplicitWords.{first_of, once_of, is_implicit, fi
 use crate::nodes::{name_of, source_of, stem_of};
 use crate::parts::is_part;
 use byte_strings::ByteStrings;
+use mk_nodes::Graph;
 use mk_rule_lines::{RuleLine, is_bar, is_default_rule, is_wait};
-use mk_rules::Graph;
 
 /// Whether an implicit rule makes a node.
 fn is_implicit(graph: &Graph, node: usize) -> bool

@@ -17,8 +17,8 @@ use crate::parts::is_part;
 use crate::same::is_same;
 use crate::text_names::is_text_name;
 use byte_strings::Iter;
+use mk_nodes::Graph;
 use mk_rule_lines::RuleLine;
-use mk_rules::Graph;
 use st_records::{PackedEntry, Phase};
 use std::alloc::{AllocError, Global};
 

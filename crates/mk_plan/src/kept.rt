@@ -11,10 +11,10 @@ use crate::simple::{gives_simply, is_over};
 use crate::words::{RecipeWords, explicit_names, recipe_words};
 use byte_strings::Iter;
 use mk_macros::{Dynamic, Macros};
+use mk_nodes::Graph;
 use mk_reader::RecipeLine;
 use mk_recipe::kept_text;
 use mk_rule_lines::RuleLine;
-use mk_rules::Graph;
 use std::alloc::{AllocError, Global};
 
 /// Takes what a line gives the state to keep from the front of these commands; false where it doesn't stand there. A faulty line

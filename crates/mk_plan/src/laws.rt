@@ -4,9 +4,9 @@ ghost use Rattle.mk_graph.specs.Numbering.{name_at};
 ghost use Rattle.mk_plan.specs.Known.{IsNodeOf};
 ghost use Rattle.mk_plan.specs.Passage.{Passage};
 ghost use Rattle.mk_plan.specs.Passing.{Passes};
-ghost use Rattle.mk_rules.specs.Graph.{IsGraph};
-ghost use Rattle.mk_rules.specs.Prerequisites.{Inputs};
-ghost use Rattle.mk_rules.specs.declared.graph.Graph.{Graph};
+ghost use Rattle.mk_nodes.specs.Graph.{IsGraph};
+ghost use Rattle.mk_nodes.specs.Prerequisites.{Inputs};
+ghost use Rattle.mk_nodes.specs.declared.graph.Graph.{Graph};
 
 /// A node is passed in one way: whether it counts as remade, and what is told of it, follow from the graph and the marks.
 pub fn one_passing()

@@ -5,12 +5,12 @@ ghost use Rattle.std.specs.Option.{option_copied, option_map_or};
 ghost use Rattle.mk_graph.specs.Edges.{row};
 ghost use Rattle.mk_graph.specs.Numbering.{name_at};
 ghost use Rattle.mk_verdict.specs.Tests.{is_later};
-ghost use Rattle.mk_rules.specs.Node.{source_in};
+ghost use Rattle.mk_nodes.specs.Node.{source_in};
 ghost use Rattle.mk_plan.specs.Nodes.{node_at, stamp_of, made_of, made_beside, entry_of, stem_of, source_of, explicit_of, is_marked};
 ghost use Rattle.mk_plan.specs.Tests.{is_newer_word, newer_words, ends_remade};
 
 use byte_strings::ByteStrings;
-use mk_rules::Graph;
+use mk_nodes::Graph;
 use st_records::PackedEntry;
 use std::alloc::{AllocError, Global};
 

@@ -2,7 +2,7 @@
 ghost use Rattle.std.specs.Prelude.{◌≡◌, ◌<◌, true, length, map, IfOk, OnOk};
 ghost use Rattle.mk_graph.specs.Numbering.{all_added};
 ghost use Rattle.mk_rule_lines.specs.Explicit.{names_in};
-ghost use Rattle.mk_rules.specs.Prerequisites.{distinct};
+ghost use Rattle.mk_nodes.specs.Prerequisites.{distinct};
 ghost use Rattle.mk_plan.specs.Parts.{language_of, is_part};
 ghost use Rattle.mk_plan.specs.PartTests.{newer_among};
 ghost use Rattle.mk_plan.specs.Recipe.{AreRecipeWords};
@@ -11,8 +11,8 @@ use crate::nodes::{is_newer_word, name_of};
 use crate::words::{RecipeWords, order_only_words};
 use byte_strings::ByteStrings;
 use mk_graph::Names;
+use mk_nodes::Graph;
 use mk_rule_lines::{RuleLine, names_in};
-use mk_rules::Graph;
 use std::alloc::{AllocError, Global};
 
 /// The prerequisites of a line, as they are written and each once.

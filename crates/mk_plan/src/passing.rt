@@ -1,7 +1,7 @@
 //! One node of a graph passed: whether its recipe is to be run, and with which lines.
 ghost use Rattle.std.specs.Prelude.{◌≡◌, ◌<◌, ℕ, true, Some, length, map, IfOk, IfErr};
 ghost use Rattle.std.specs.List.{list_any};
-ghost use Rattle.mk_rules.specs.declared.graph.Graph.{Graph as Plan};
+ghost use Rattle.mk_nodes.specs.declared.graph.Graph.{Graph as Plan};
 ghost use Rattle.mk_plan.specs.Parts.{recipe_of, recipe_line};
 ghost use Rattle.mk_plan.specs.Passage.{is_listed};
 ghost use Rattle.mk_plan.specs.Passing.{Passes, IsFaultAt, is_remade, told_in};
@@ -14,9 +14,9 @@ use crate::parts::{parts_of, recipe_line};
 use crate::recipe::lines_of;
 use crate::target::judge_node;
 use crate::why::Why;
+use mk_nodes::Graph;
 use mk_recipe::Line;
 use mk_rule_lines::RuleLine;
-use mk_rules::Graph;
 use std::alloc::Global;
 
 /// What passing a node comes to.

@@ -13,10 +13,10 @@ use crate::parts::is_part;
 use crate::words::{RecipeWords, as_words, explicit_names, recipe_words};
 use byte_strings::ByteString;
 use mk_macros::{Dynamic, MacroFault, Macros, RecipeNames};
+use mk_nodes::Graph;
 use mk_reader::RecipeLine;
 use mk_recipe::{Line, split_line};
 use mk_rule_lines::{RuleLine, TextFault, TextPlace};
-use mk_rules::Graph;
 use std::alloc::{AllocError, Global};
 
 /// What a line of a recipe gives.

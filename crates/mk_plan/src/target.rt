@@ -6,8 +6,8 @@ ghost use Rattle.mk_plan.specs.Why.{IsJudgedSo};
 
 use crate::nodes::{explicit_of, is_marked, made_of, name_of, stamp_of};
 use crate::why::{Why, why_of};
+use mk_nodes::Graph;
 use mk_recipe::{Line, Prerequisite, Target, recorded};
-use mk_rules::Graph;
 use std::alloc::{AllocError, Global};
 
 /// A prerequisite that is a node. It has a file or a rule, or else it would be none.

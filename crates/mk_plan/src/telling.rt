@@ -11,8 +11,8 @@ use crate::nodes::{entry_of, name_of};
 use crate::passing::Passed;
 use crate::why::Why;
 use byte_strings::{ByteStrings, Iter};
+use mk_nodes::Graph;
 use mk_recipe::{Line, Reason, recorded};
-use mk_rules::Graph;
 use std::alloc::{AllocError, Global};
 
 /// How much is told of targets with a recipe.

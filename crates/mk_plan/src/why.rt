@@ -1,7 +1,7 @@
 //! Why a recipe is to be run, by the verdict on its target.
 ghost use Rattle.std.specs.Prelude.{◌≡◌, ◌<◌, length, map, IfOk, OnOk};
 ghost use Rattle.mk_graph.specs.Numbering.{all_added, name_at};
-ghost use Rattle.mk_rules.specs.Prerequisites.{hidden_in};
+ghost use Rattle.mk_nodes.specs.Prerequisites.{hidden_in};
 ghost use Rattle.mk_verdict.specs.Told.{words_for};
 ghost use Rattle.mk_plan.specs.Nodes.{entry_of};
 ghost use Rattle.mk_plan.specs.Why.{IsJudgedSo, gone_number, gone_words, judged_names, words_of};
@@ -9,7 +9,7 @@ ghost use Rattle.mk_plan.specs.Why.{IsJudgedSo, gone_number, gone_words, judged_
 use crate::nodes::{entry_of, name_of};
 use byte_strings::ByteString;
 use mk_graph::Names;
-use mk_rules::Graph;
+use mk_nodes::Graph;
 use mk_verdict::{Prerequisite, Reason, Target, Told, Verdict, judge};
 use std::alloc::{AllocError, Global};
 

@@ -12,8 +12,8 @@ ghost use Rattle.mk_plan.specs.Words.{in_wide, implied_names, written_of, order_
 
 use crate::nodes::{name_of, newer_words};
 use byte_strings::ByteStrings;
+use mk_nodes::Graph;
 use mk_rule_lines::{RuleLine, TargetTable, explicit_of};
-use mk_rules::Graph;
 use std::alloc::{AllocError, Global};
 
 /// The words of the dynamic macros of a recipe that have more than one.

@@ -8,7 +8,7 @@ use Rattle.mk_graph.specs.Edges.{has as has_number}
 use Rattle.mk_rule_lines.specs.Source.{stem_of, source_at, candidates, source_of}
 use Rattle.mk_rule_lines.specs.declared.form.Form.{Form}
 use Rattle.mk_rule_lines.specs.declared.form.Source.{Source}
-use Rattle.mk_rules.specs.Chain.{makes_any, has_a_type, is_usable, usable, first_that, can_be, chained, source_in}
+use Rattle.mk_nodes.specs.Chain.{makes_any, has_a_type, is_usable, usable, first_that, can_be, chained, source_in}
 use Rattle.mk_rules.proofs.ChainLemmas.{there_can}
 
 -- the names of the form's candidate can all be

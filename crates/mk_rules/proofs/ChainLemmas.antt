@@ -14,7 +14,7 @@ use Rattle.mk_rule_lines.specs.declared.form.Source.{Source}
 use Rattle.mk_rule_lines.specs.declared.table.TargetTable.{TargetTable}
 use Rattle.mk_rule_lines.specs.declared.fault.RuleFault.{RuleFault}
 use Rattle.mk_rule_lines.specs.declared.fault.RuleFault.TheVariants as fault
-use Rattle.mk_rules.specs.Chain.{is_usable, usable, first_that, can_be, chained, source_in}
+use Rattle.mk_nodes.specs.Chain.{is_usable, usable, first_that, can_be, chained, source_in}
 use Rattle.mk_rules.specs.Looks.{IsLookFault}
 use Rattle.mk_rules.specs.Search.{IsBehind, IsAskedIn, IsChainedTo, IsLedFault, IsSearchFault}
 use Rattle.mk_rules.specs.Source.{IsSourceFault}

@@ -5,7 +5,7 @@ use Rattle.std.specs.List.{IsDistinct}
 use Rattle.std.specs.Str.{bytes_eq}
 use Rattle.mk_graph.specs.Numbering.{name_at}
 use Rattle.mk_graph.proofs.NameLemmas.{bytes_same}
-use Rattle.mk_rules.specs.Node.{EachHasOneNumber}
+use Rattle.mk_nodes.specs.Node.{EachHasOneNumber}
 
 -- an earlier name is another
 apart : (names : List (List ℕ)) → IsDistinct bytes_eq names → (n m : ℕ) → n < m → m < length names → name_at names n ≡ name_at names m → ⊥

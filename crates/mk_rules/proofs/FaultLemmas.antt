@@ -8,7 +8,7 @@ use Rattle.mk_rules.specs.Found.{IsFindingFault}
 use Rattle.mk_rule_lines.specs.Goals.{goals_of, IsGoalFault}
 use Rattle.mk_macros.specs.Ranks.{Defined}
 use Rattle.mk_rule_lines.specs.Lines.{IsLinesFault}
-use Rattle.mk_rules.specs.Prerequisites.{Inputs, prerequisites_of}
+use Rattle.mk_nodes.specs.Prerequisites.{Inputs, prerequisites_of}
 use Rattle.mk_rule_lines.specs.Rules.{targets_by, suffixes_of}
 use Rattle.mk_rule_lines.specs.Supported.{IsRefusal}
 use Rattle.mk_rule_lines.specs.Table.{IsTableFault}

@@ -1,6 +1,6 @@
 -- Less than two names are distinct.
 use Rattle.std.proofs.Common.{arith, ◌≡◌, ◌<◌, ◌≤◌, ℕ, zero, suc, take, List, [], ◌∷◌, length, refl}
-use Rattle.mk_rules.specs.Prerequisites.{distinct}
+use Rattle.mk_nodes.specs.Prerequisites.{distinct}
 
 pub few_counted : (count : ℕ) (names : List (List ℕ)) → count < 2 → count ≤ length names → count ≡ length (distinct (take count names))
 few_counted zero names few there = refl

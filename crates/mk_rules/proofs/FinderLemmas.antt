@@ -7,22 +7,22 @@ use Rattle.st_records.specs.declared.record.Entry.{Entry}
 use Rattle.mk_rule_lines.specs.Explicit.{explicit_of, is_phony}
 use Rattle.mk_rule_lines.specs.Rules.{has}
 use Rattle.mk_rule_lines.specs.declared.rule_line.RuleLine.{RuleLine}
-use Rattle.mk_rules.specs.Hidden.{IsNamesFault}
+use Rattle.mk_nodes.specs.Hidden.{IsNamesFault}
 use Rattle.mk_rules.specs.Seen.{made_in, order_only_in, rare_in, IsGiven, IsSeen, IsNumberedAs}
 use Rattle.mk_rules.specs.declared.known.Seen.{Seen}
-use Rattle.mk_rules.specs.declared.group.Group.{Group}
+use Rattle.mk_nodes.specs.declared.group.Group.{Group}
 use Rattle.std.specs.Global.{Box}
-use Rattle.mk_rules.specs.Groups.{others_in}
+use Rattle.mk_nodes.specs.Groups.{others_in}
 use Rattle.mk_rules.specs.Known.{IsKnown, IsLookUpFault, IsFoundFault, IsImplicitFault, IsOthersFault}
-use Rattle.mk_rules.specs.Prerequisites.{Inputs, inputs_of, distinct, found_source, implicit_source, hard_of, hidden_in, hidden_of, is_node, prerequisites_of, judged_of, own_recipes, order_only_of}
+use Rattle.mk_nodes.specs.Prerequisites.{Inputs, inputs_of, distinct, found_source, implicit_source, hard_of, hidden_in, hidden_of, is_node, prerequisites_of, judged_of, own_recipes, order_only_of}
 use Rattle.mk_rules.specs.Search.{IsSearchFault}
 use Rattle.mk_rules.specs.Looks.{IsLookFault}
 use Rattle.mk_rule_lines.specs.declared.fault.RuleFault.{RuleFault}
 use Rattle.mk_rule_lines.specs.declared.fault.RuleFault.TheVariants as fault
 use Rattle.mk_rule_lines.specs.declared.form.Form.{Form}
 use Rattle.mk_rule_lines.specs.declared.form.Source.{Source}
-use Rattle.mk_rules.specs.declared.graph.Node.{Node}
-use Rattle.mk_rules.specs.declared.rare.Rare.{Rare}
+use Rattle.mk_nodes.specs.declared.graph.Node.{Node}
+use Rattle.mk_nodes.specs.declared.rare.Rare.{Rare}
 use Rattle.mk_rule_lines.specs.declared.table.TargetTable.{TargetTable}
 
 -- what follows of a call that gave an answer

@@ -13,9 +13,9 @@ use Rattle.mk_rules.specs.Faults.{IsReachedFrom, IsLedToFrom, IsSearchedFrom, Is
 use Rattle.mk_rule_lines.specs.Forms.{forms_of}
 use Rattle.mk_rules.specs.Found.{IsFindingFault}
 use Rattle.mk_rules.specs.Known.{IsAsked, IsLookUpFault}
-use Rattle.mk_rules.specs.Prerequisites.{inputs_of, own_recipes, is_target, prerequisites_of}
+use Rattle.mk_nodes.specs.Prerequisites.{inputs_of, own_recipes, is_target, prerequisites_of}
 use Rattle.mk_rule_lines.specs.Rules.{has, places, targets_by, suffixes_of}
-use Rattle.mk_rules.specs.Chain.{steps_of}
+use Rattle.mk_nodes.specs.Chain.{steps_of}
 use Rattle.mk_rules.specs.Search.{IsLedTo, IsSearched, IsChainedTo}
 use Rattle.mk_rules.specs.Source.{IsReached}
 use Rattle.mk_rule_lines.specs.Source.{source_of}

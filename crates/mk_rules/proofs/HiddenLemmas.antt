@@ -7,8 +7,8 @@ use Rattle.std.proofs.lemmas.List.Folds.{list_any-append}
 use Rattle.mk_graph.specs.Numbering.{has_name, added, all_added}
 use Rattle.mk_rule_lines.specs.Rules.{has}
 use Rattle.mk_rules.specs.Looks.{IsLookFault}
-use Rattle.mk_rules.specs.Hidden.{Takes, HasHidden, IsNamesFault}
-use Rattle.mk_rules.specs.Prerequisites.{IsTextAmong}
+use Rattle.mk_nodes.specs.Hidden.{Takes, HasHidden, IsNamesFault}
+use Rattle.mk_nodes.specs.Prerequisites.{IsTextAmong}
 use Rattle.mk_rule_lines.specs.declared.fault.RuleFault.{RuleFault}
 use Rattle.mk_rule_lines.specs.declared.fault.RuleFault.TheVariants as fault
 use Rattle.mk_rule_lines.proofs.NameLemmas.{bytes_eq-same}

@@ -17,7 +17,7 @@ use Rattle.mk_rule_lines.specs.Lines.{AreWordsOf, targets_text, ArePrerequisites
 use Rattle.mk_rule_lines.specs.Rules.{suffixes_of}
 use Rattle.mk_rule_lines.specs.declared.rule_line.RuleLine.{RuleLine}
 use Rattle.mk_rules.specs.Faults.{AreInputs}
-use Rattle.mk_rules.specs.Prerequisites.{Inputs, seen_times}
+use Rattle.mk_nodes.specs.Prerequisites.{Inputs, seen_times}
 
 words_once : (given : Defined) (text : List ℕ) (ws vs : List (List ℕ)) → AreWordsOf given text ws → AreWordsOf given text vs → ws ≡ vs
 words_once given text ws vs of_a of_b =

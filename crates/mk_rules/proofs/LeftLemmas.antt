@@ -6,7 +6,7 @@ use Rattle.mk_reader.specs.Text.{is_empty}
 use Rattle.mk_rule_lines.specs.Explicit.{explicit_targets, numbers_of, is_default_at}
 use Rattle.mk_rule_lines.specs.Rules.{has, recipe_places}
 use Rattle.mk_rule_lines.specs.declared.rule_line.RuleLine.{RuleLine}
-use Rattle.mk_rules.specs.Prerequisites.{Inputs, default_of, is_cut, is_left, is_target, left_recipe}
+use Rattle.mk_nodes.specs.Prerequisites.{Inputs, default_of, is_cut, is_left, is_target, left_recipe}
 use Rattle.mk_rules.proofs.RuleLemmas.{any_place}
 use Rattle.st_records.specs.declared.record.Entry.{Entry}
 

@@ -9,7 +9,6 @@ pub mod FaultLemmas
 pub mod FewLemmas
 pub mod FinderLemmas
 pub mod FoundLemmas
-pub mod FreshLemmas
 pub mod HiddenLemmas
 pub mod InputLemmas
 pub mod LeftLemmas
@@ -19,8 +18,6 @@ pub mod LookupLemmas
 pub mod MadeLemmas
 pub mod MarkLemmas
 pub mod NeededLemmas
-pub mod OneGraphLemmas
-pub mod OneNumberingLemmas
 pub mod OrderOnlyLemmas
 pub mod PartsLaws
 pub mod PlaceLemmas

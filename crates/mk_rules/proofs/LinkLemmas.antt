@@ -12,8 +12,8 @@ use Rattle.mk_macros.specs.Words.{place_of, last_slash, behind_slash, file_of, w
 use Rattle.mk_rule_lines.specs.Source.{folder_of, seen_by, stem_by, stem_of, with_stem, source_at, candidates, source_of}
 use Rattle.mk_rule_lines.specs.declared.form.Form.{Form}
 use Rattle.mk_rule_lines.specs.declared.form.Source.{Source}
-use Rattle.mk_rules.specs.Chain.{makes_any, is_usable, usable, first_that, can_be}
-use Rattle.mk_rules.specs.Links.{end_of, ends_with, end_alike, may_make, leads_on, AreLinks}
+use Rattle.mk_nodes.specs.Chain.{makes_any, is_usable, usable, first_that, can_be}
+use Rattle.mk_nodes.specs.Links.{end_of, ends_with, end_alike, may_make, leads_on, AreLinks}
 use Rattle.mk_rules.proofs.ChainLemmas.{unfit_more, passed_more, asked_here}
 use Rattle.mk_rules.proofs.SourceLemmas.{from_form, candidates-append, taken}
 

@@ -8,16 +8,16 @@ use Rattle.mk_reader.specs.Text.{is_empty}
 use Rattle.st_records.specs.declared.record.Entry.{Entry}
 use Rattle.mk_rule_lines.specs.Explicit.{explicit_targets, makes_phony, is_phony}
 use Rattle.mk_rule_lines.specs.Forms.{forms_of}
-use Rattle.mk_rules.specs.Prerequisites as inputs
+use Rattle.mk_nodes.specs.Prerequisites as inputs
 use Rattle.mk_rule_lines.specs.Rules.{has, places, targets_by, suffixes_of}
 use Rattle.mk_rule_lines.specs.Table as table
 use Rattle.mk_rule_lines.specs.declared.form.Form.{Form}
 use Rattle.mk_rule_lines.specs.declared.form.Source.{Source}
 use Rattle.mk_rule_lines.specs.declared.rule_line.RuleLine.{RuleLine}
 use Rattle.mk_rule_lines.specs.declared.table.TargetTable.{TargetTable}
-use Rattle.mk_rules.specs.Chain.{source_in, steps_of}
-use Rattle.mk_rules.specs.declared.chain.TheConstants.{MAX_STEPS}
-use Rattle.mk_rules.specs.Wanted.{from_wanted}
+use Rattle.mk_nodes.specs.Chain.{source_in, steps_of}
+use Rattle.mk_nodes.specs.declared.limits.TheConstants.{MAX_STEPS}
+use Rattle.mk_nodes.specs.Wanted.{from_wanted}
 use Rattle.mk_rules.proofs.RuleLemmas.{any_place}
 
 -- a test has one answer

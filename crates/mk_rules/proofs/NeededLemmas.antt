@@ -7,8 +7,8 @@ use Rattle.mk_rule_lines.specs.Rules.{has}
 use Rattle.mk_rules.specs.Faults.{IsNeededBy}
 use Rattle.mk_rules.specs.Found.{HasItInItsRow}
 use Rattle.mk_rules.specs.Known.{IsKnown}
-use Rattle.mk_rules.specs.Prerequisites.{Inputs, prerequisites_of}
-use Rattle.mk_rules.specs.declared.graph.Node.{Node}
+use Rattle.mk_nodes.specs.Prerequisites.{Inputs, prerequisites_of}
+use Rattle.mk_nodes.specs.declared.graph.Node.{Node}
 use Rattle.mk_rules.proofs.HiddenLemmas.{has_first, has_later}
 use Rattle.mk_rules.proofs.MadeLemmas.{has_at}
 use Rattle.mk_rules.proofs.RowLaws.{rows_count, row_at}

@@ -10,13 +10,13 @@ use Rattle.mk_graph.specs.Numbering.{name_at, has_name, added, all_added, AreDes
 use Rattle.mk_graph.proofs.CountedLemmas.{closed_from_below}
 use Rattle.mk_graph.proofs.RowLemmas.{list_all-has}
 use Rattle.mk_graph.proofs.NameLemmas.{all_added-append, list_all-all_added, has_name_at, same_bytes, added_new}
-use Rattle.mk_rules.specs.Graph.{AreHard, AreRequired}
+use Rattle.mk_nodes.specs.Graph.{AreHard, AreRequired}
 use Rattle.mk_rules.specs.Known.{IsKnown, listed_in}
-use Rattle.mk_rules.specs.Prerequisites.{Inputs, hard_of, hidden_of, is_node, order_only_of, prerequisites_of, required_of}
+use Rattle.mk_nodes.specs.Prerequisites.{Inputs, hard_of, hidden_of, is_node, order_only_of, prerequisites_of, required_of}
 use Rattle.mk_rules.specs.Required.{has_others, names_in_row, IsRequiredRow}
 use Rattle.mk_rules.specs.Rows.{EachRow}
-use Rattle.mk_rules.specs.declared.graph.Node.{Node}
-use Rattle.mk_rules.proofs.FreshLemmas.{added_fresh}
+use Rattle.mk_nodes.specs.declared.graph.Node.{Node}
+use Rattle.mk_nodes.proofs.FreshLemmas.{added_fresh}
 use Rattle.mk_rules.proofs.RowLaws.{known_at}
 use Rattle.mk_rules.proofs.WaitLemmas.{are_below}
 

@@ -1,7 +1,7 @@
 -- What the rows of numbered names say of the names.
 use Rattle.std.proofs.Common.{arith, ◌≡◌, ℕ, ◌<◌, ◌≤◌, nat_eq, lt-ltb, suc, zero, true≢false, ⊎_elim, Bool, true, false, not, ◌&&◌, ◌||◌, cond, List, [], ◌∷◌, ◌++◌, length, map, take, drop, filter, get_or, append_assoc, Option, Some, None, refl, sym, ap, subst, ◌∙◌}
 use Rattle.std.specs.Prelude.{option_map, slice_get, bytes_eq, nat_lt}
-use Rattle.std.specs.List.{list_all, flat_map, IsDistinct}
+use Rattle.std.specs.List.{list_all, IsDistinct}
 use Rattle.std.proofs.lemmas.List.{map-append, take-map, drop-map, length-map}
 use Rattle.std.proofs.lemmas.Bool.{cases_lt, and_parts, and_from}
 use Rattle.std.proofs.lemmas.List.{get_or_past, get_or-map}
@@ -9,22 +9,21 @@ use Rattle.std.proofs.lemmas.Option.{slice_get-get_or, slice_get_within}
 use Rattle.mk_graph.specs.Edges.{row, is_closed, has as has_number}
 use Rattle.mk_graph.proofs.CountedLemmas.{below_from_closed, closed_from_below}
 use Rattle.mk_graph.proofs.CycleLemmas.{closed_row}
-use Rattle.mk_graph.proofs.NameLemmas.{distinct_all_added, distinct_none}
 use Rattle.mk_graph.specs.Cycle.{IsChain, IsCycle}
 use Rattle.std.proofs.lemmas.List.Folds.{list_all-append}
-use Rattle.mk_graph.specs.Numbering.{name_at, all_added, AreDescribed, IsNumbering}
-use Rattle.mk_rules.specs.Graph.{judged, judged_name, is_numbered, AreHard, IsNode}
+use Rattle.mk_graph.specs.Numbering.{name_at, all_added, AreDescribed}
+use Rattle.mk_nodes.specs.Graph.{judged, judged_name, is_numbered, AreHard, IsNode}
 use Rattle.mk_rules.specs.Known.{IsKnown, nodes_among}
-use Rattle.mk_rules.specs.Prerequisites.{Inputs, prerequisites_of, waited_for, judged_of, hard_of, hidden_of, soft_names, is_node, order_only_of}
-use Rattle.mk_rules.specs.Hidden.{spread}
-use Rattle.mk_rules.specs.Node.{hidden_marks, hidden_by}
+use Rattle.mk_nodes.specs.Prerequisites.{Inputs, prerequisites_of, waited_for, judged_of, hard_of, hidden_of, soft_names, is_node, order_only_of}
+use Rattle.mk_nodes.specs.Hidden.{spread}
+use Rattle.mk_nodes.specs.Node.{hidden_marks, hidden_by}
 use Rattle.mk_rules.specs.Rows.{EachRow, IsHardRow, IsWaitedRow, IsSoftRow}
 use Rattle.mk_rule_lines.specs.Rules.{has}
-use Rattle.mk_rules.specs.declared.graph.Node.{Node}
+use Rattle.mk_nodes.specs.declared.graph.Node.{Node}
 use Rattle.mk_rules.proofs.HiddenLemmas.{has_first, has_later}
 use Rattle.mk_rules.proofs.PartsLaws.{source_is, explicit_is}
 use Rattle.mk_rules.proofs.WaitLemmas.{are_below, has_named}
-use Rattle.mk_rules.proofs.FreshLemmas.{fresh, fresh-append, added_fresh, front_added, behind_added, has_fresh, has_filtered, filter_fresh}
+use Rattle.mk_nodes.proofs.FreshLemmas.{fresh, fresh-append, added_fresh, front_added, behind_added, has_fresh, has_filtered, filter_fresh}
 
 -- ---- a number for each that is a node
 
@@ -243,9 +242,6 @@ spread_numbered count (true ∷ bs) (n ∷ ns) all =
     and_from (nat_lt n count) (list_all (is_numbered count) (spread bs ns)) parts.0 (spread_numbered count bs ns parts.1)
 
 -- ---- what a graph is put together from
-
-pub distinct_names : (of : List ℕ → List (List ℕ)) (goals names : List (List ℕ)) → IsNumbering of goals names → IsDistinct bytes_eq names
-distinct_names of goals names is = subst (IsDistinct bytes_eq) (sym is.order) (distinct_all_added [] (goals ++ flat_map of names) distinct_none)
 
 chain_below : (g : List (List ℕ)) → is_closed g ≡ true → (n : ℕ) (ms : List ℕ) → IsChain g n ms → list_all (λ m. nat_lt m (length g)) ms ≡ true
 chain_below g closed n [] chain = refl

@@ -10,7 +10,7 @@ use Rattle.mk_graph.specs.Edges.{row}
 use Rattle.mk_graph.specs.Parts.{by_counts, fronts, backs}
 use Rattle.mk_graph.proofs.PartLemmas.{length-by_counts, row-by_counts}
 use Rattle.mk_rules.specs.Rows.{EachRow, IsHardRow, IsWaitedRow}
-use Rattle.mk_rules.specs.declared.graph.Node.{Node}
+use Rattle.mk_nodes.specs.declared.graph.Node.{Node}
 
 at_end : (n : ℕ) (rows : List (List ℕ)) (r : List ℕ) → n < length (rows ++ r ∷ []) → length rows ≤ n → n ≡ length rows
 at_end n rows r within past = let l = length-append rows (r ∷ []) in omega arith

@@ -11,8 +11,8 @@ use Rattle.mk_rule_lines.specs.declared.form.Source.{Source}
 use Rattle.mk_rule_lines.specs.declared.rule_line.RuleLine.{RuleLine}
 use Rattle.mk_rules.specs.Known.{IsOthersFault}
 use Rattle.mk_rules.specs.Looks.{IsLookFault}
-use Rattle.mk_rules.specs.Prerequisites.{Inputs, own_recipes, unless_any, first_or, found_source, implicit_source, is_led, is_run_of, runs_for, rule_or, left_recipe, recipe_of, source_name}
-use Rattle.mk_rules.specs.declared.group.Group.{Group}
+use Rattle.mk_nodes.specs.Prerequisites.{Inputs, own_recipes, unless_any, first_or, found_source, implicit_source, is_led, is_run_of, runs_for, rule_or, left_recipe, recipe_of, source_name}
+use Rattle.mk_nodes.specs.declared.group.Group.{Group}
 
 abbrev where_led : Inputs → Option Source → Option Source
 where_led inputs = option_and_then (λ source. cond (is_led inputs source) (Some source) None)

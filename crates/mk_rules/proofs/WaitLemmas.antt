@@ -18,7 +18,7 @@ use Rattle.mk_profile.specs.declared.profile.Profile.{Profile}
 use Rattle.mk_rule_lines.specs.Explicit.{is_wait, is_bar, before_bar, behind_bar, words_by}
 use Rattle.mk_rule_lines.specs.declared.rule_line.RuleLine.{RuleLine}
 use Rattle.mk_rule_lines.specs.Rules.{has, targets_by}
-use Rattle.mk_rules.specs.Waits.{before_first, groups_of, orders, waits_in, line_orders}
+use Rattle.mk_nodes.specs.Waits.{before_first, groups_of, orders, waits_in, line_orders}
 use Rattle.mk_rule_lines.proofs.NameLemmas.{bytes_eq-same}
 
 -- a group that is begun, and the groups that go on with it

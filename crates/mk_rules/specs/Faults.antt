@@ -9,14 +9,14 @@ use Rattle.mk_rule_lines.specs.Doubles.{HasBothKinds}
 use Rattle.mk_rule_lines.specs.Explicit.{is_phony}
 use Rattle.mk_rule_lines.specs.Forms.{forms_of}
 use Rattle.mk_rule_lines.specs.Goals.{goals_of}
-use Rattle.mk_rules.specs.Chain.{steps_of}
-use Rattle.mk_rules.specs.Graph.{AreRequired}
+use Rattle.mk_nodes.specs.Chain.{steps_of}
+use Rattle.mk_nodes.specs.Graph.{AreRequired}
 use Rattle.mk_rules.specs.Search.{IsChainedTo}
-use Rattle.mk_rules.specs.Groups.{others_in}
+use Rattle.mk_nodes.specs.Groups.{others_in}
 use Rattle.mk_macros.specs.Ranks.{Defined}
 use Rattle.mk_rule_lines.specs.InForce.{AreLinesInForce}
 use Rattle.mk_rule_lines.specs.Lines.{IsLinesFault}
-use Rattle.mk_rules.specs.Prerequisites.{Inputs, IsTextAmong, seen_times, own_recipes, found_source, implicit_source, is_target, is_there, hidden_of, prerequisites_of, is_made}
+use Rattle.mk_nodes.specs.Prerequisites.{Inputs, IsTextAmong, seen_times, own_recipes, found_source, implicit_source, is_target, is_there, hidden_of, prerequisites_of, is_made}
 use Rattle.mk_rule_lines.specs.Rules.{has, targets_by, suffixes_of}
 use Rattle.mk_rule_lines.specs.Source.{stem_of, source_at, source_of}
 use Rattle.mk_rule_lines.specs.Supported.{HasRefusedLine}

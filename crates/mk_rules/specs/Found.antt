@@ -5,11 +5,11 @@ use Rattle.mk_graph.specs.Numbering.{IsNumbering, AreDescribed, name_at, has_nam
 use Rattle.mk_graph.specs.declared.numbering.Numbered.{Numbered}
 use Rattle.mk_rules.specs.Faults.{IsAskedOf, HasUnmade, HasNamedCycle}
 use Rattle.mk_rules.specs.Known.{IsKnown}
-use Rattle.mk_rules.specs.Prerequisites.{Inputs, prerequisites_of, is_made}
+use Rattle.mk_nodes.specs.Prerequisites.{Inputs, prerequisites_of, is_made}
 use Rattle.mk_rule_lines.specs.declared.fault.Unmade.{Unmade}
 use Rattle.mk_rule_lines.specs.declared.fault.RuleFault.{RuleFault}
 use Rattle.mk_rule_lines.specs.declared.fault.RuleFault.TheVariants as fault
-use Rattle.mk_rules.specs.declared.graph.Node.{Node}
+use Rattle.mk_nodes.specs.declared.graph.Node.{Node}
 
 -- the names that the goals lead to by these inputs, with their prerequisites by number, and what the inputs say of each
 pub record AreFound (inputs : Inputs) (goals : List (List ℕ)) (n : Numbered Node) : Type 0 where

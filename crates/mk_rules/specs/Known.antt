@@ -1,12 +1,12 @@
 -- What is found of a name while names are numbered.
 use Rattle.std.specs.Prelude.{◌≡◌, ◌⊎◌, ℕ, ℤ, Bool, true, false, List, [], length, map, drop, Option, Some, option_map, unwrap_or}
 use Rattle.st_records.specs.declared.record.Entry.{Entry}
-use Rattle.mk_rules.specs.Prerequisites.{Inputs, IsTextAmong, inputs_of, own_recipes, found_source, implicit_source, hidden_in, made_from, distinct, recipe_of, hard_of, judged_of, is_node, prerequisites_of, required_of}
+use Rattle.mk_nodes.specs.Prerequisites.{Inputs, IsTextAmong, inputs_of, own_recipes, found_source, implicit_source, hidden_in, made_from, distinct, recipe_of, hard_of, judged_of, is_node, prerequisites_of, required_of}
 use Rattle.mk_rules.specs.Search.{IsSearched}
-use Rattle.mk_rules.specs.Groups.{others_in, group_of}
-use Rattle.mk_rules.specs.Node.{hidden_marks}
+use Rattle.mk_nodes.specs.Groups.{others_in, group_of}
+use Rattle.mk_nodes.specs.Node.{hidden_marks}
 use Rattle.mk_rule_lines.specs.declared.rule_line.RuleLine.{RuleLine}
-use Rattle.mk_rules.specs.declared.graph.Node.{Node}
+use Rattle.mk_nodes.specs.declared.graph.Node.{Node}
 use Rattle.mk_rule_lines.specs.Explicit.{is_phony}
 use Rattle.mk_rule_lines.specs.Rules.{has}
 use Rattle.mk_rule_lines.specs.declared.form.Form.{Form}

@@ -4,7 +4,7 @@ use Rattle.std.specs.Prelude.{ℕ, ℤ, ◌≤◌, max, List, Option, refl}
 use Rattle.st_records.specs.declared.record.Entry.{Entry}
 use Rattle.mk_rules.specs.Known.{IsAllowed}
 use Rattle.mk_rules.specs.Looks.{Looks, any_name}
-use Rattle.mk_rules.specs.Prerequisites.{inputs_of, prerequisites_of}
+use Rattle.mk_nodes.specs.Prerequisites.{inputs_of, prerequisites_of}
 use Rattle.mk_rule_lines.specs.declared.rule_line.RuleLine.{RuleLine}
 
 no_more : (a : ℕ) → a ≤ max a 1

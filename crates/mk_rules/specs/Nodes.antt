@@ -1,7 +1,7 @@
 -- What is kept of numbered names without their rows.
 use Rattle.std.specs.Prelude.{◌≡◌, ℕ, List}
 use Rattle.mk_graph.specs.declared.numbering.Numbered.{Numbered}
-use Rattle.mk_rules.specs.declared.graph.Node.{Node}
+use Rattle.mk_nodes.specs.declared.graph.Node.{Node}
 use Rattle.mk_rules.specs.declared.nodes.Named.{Named}
 
 -- the names, goals and nodes are those that were found, and these are the nodes that nothing makes

@@ -4,7 +4,7 @@ use Rattle.std.specs.List.{list_all}
 use Rattle.mk_graph.specs.Edges.{row}
 use Rattle.mk_graph.specs.Numbering.{has_name, name_at}
 use Rattle.mk_rules.specs.Known.{listed_in}
-use Rattle.mk_rules.specs.declared.graph.Node.{Node}
+use Rattle.mk_nodes.specs.declared.graph.Node.{Node}
 
 -- there are order-only prerequisites beside the hard ones
 abbrev pub has_others : Node → Bool

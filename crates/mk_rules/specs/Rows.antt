@@ -1,7 +1,7 @@
 -- The rows of numbered names: their first numbers are those of hard prerequisites, the others those of hidden and order-only ones.
 use Rattle.std.specs.Prelude.{◌≡◌, ℕ, ◌<◌, List, ◌++◌, length, take, drop, Some, slice_get}
 use Rattle.mk_graph.specs.Edges.{row}
-use Rattle.mk_rules.specs.declared.graph.Node.{Node}
+use Rattle.mk_nodes.specs.declared.graph.Node.{Node}
 
 -- each row has a property that speaks of its number too
 abbrev pub EachRow : (is : (n : ℕ) → List ℕ → Type 0) → (rows : List (List ℕ)) → Type 0

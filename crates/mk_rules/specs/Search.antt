@@ -7,7 +7,7 @@ use Rattle.mk_rule_lines.specs.declared.form.Source.{Source}
 use Rattle.mk_rule_lines.specs.declared.table.TargetTable.{TargetTable}
 use Rattle.mk_rule_lines.specs.declared.fault.RuleFault.{RuleFault}
 use Rattle.mk_rule_lines.specs.declared.fault.RuleFault.TheVariants as fault
-use Rattle.mk_rules.specs.Chain.{has_a_type, usable}
+use Rattle.mk_nodes.specs.Chain.{has_a_type, usable}
 use Rattle.mk_rules.specs.Source.{IsReached}
 
 -- one of these names leads to n

@@ -5,15 +5,15 @@ use Rattle.std.specs.Option.{option_map_or}
 use Rattle.mk_graph.specs.Numbering.{all_added}
 use Rattle.mk_rule_lines.specs.Explicit.{numbers_of, explicit_of, order_only_of}
 use Rattle.mk_rule_lines.specs.declared.form.Source.{Source}
-use Rattle.mk_rules.specs.Prerequisites.{Inputs, implicit_source, own_recipes, left_recipe, first_or, rule_or, made_from, behind_bar_of, distinct}
-use Rattle.mk_rules.specs.Groups.{others_in, group_with}
-use Rattle.mk_rules.specs.Node.{hidden_marks}
-use Rattle.mk_rules.specs.Rare.{no_parts, with_marks}
-use Rattle.mk_rules.specs.declared.graph.Node.{Node}
+use Rattle.mk_nodes.specs.Prerequisites.{Inputs, implicit_source, own_recipes, left_recipe, first_or, rule_or, made_from, behind_bar_of, distinct}
+use Rattle.mk_nodes.specs.Groups.{others_in, group_with}
+use Rattle.mk_nodes.specs.Node.{hidden_marks}
+use Rattle.mk_nodes.specs.Rare.{no_parts, with_marks}
+use Rattle.mk_nodes.specs.declared.graph.Node.{Node}
 use Rattle.mk_rules.specs.declared.known.Given.{Given}
 use Rattle.mk_rules.specs.declared.known.Ruled.{Ruled}
 use Rattle.mk_rules.specs.declared.known.Seen.{Seen}
-use Rattle.mk_rules.specs.declared.rare.Rare.{Rare}
+use Rattle.mk_nodes.specs.declared.rare.Rare.{Rare}
 
 -- what an implicit rule makes a name from
 abbrev pub made_in : Option (Box Given) → List (List ℕ)

@@ -1,11 +1,11 @@
 //! Chains of implicit rules.
 ghost use Rattle.std.specs.Prelude.{◌≡◌, ◌<◌, ℕ, ℤ, false, List, ◌∷◌, Option, None, option_map, if◌then◌else◌, IfOk, IfErr};
-ghost use Rattle.std.specs.List.{list_any, list_all};
+ghost use Rattle.std.specs.List.{list_all};
 ghost use Rattle.mk_graph.specs.Edges.{has as has_number};
 ghost use Rattle.mk_rule_lines.specs.Source.{stem_of, source_of};
 ghost use Rattle.mk_rule_lines.specs.Table.{is_there};
-ghost use Rattle.mk_rules.specs.Chain.{any_wide, steps_of, makes_any, has_a_type, is_usable, usable, first_that, can_be, chained, source_in};
-ghost use Rattle.mk_rules.specs.Links.{AreLinks};
+ghost use Rattle.mk_nodes.specs.Chain.{any_wide, steps_of, makes_any, has_a_type, is_usable, usable, first_that, can_be, chained, source_in};
+ghost use Rattle.mk_nodes.specs.Links.{AreLinks};
 ghost use Rattle.mk_rules.specs.Search.{IsAmong, IsAskedIn, IsBehind, IsChainedTo, IsLedFault, IsSearchFault};
 ghost use Rattle.mk_rules.specs.Looks.{Looks};
 
@@ -13,11 +13,9 @@ use crate::links::{makes_any, may_lead_on, stem_of, steps_behind};
 use crate::source::{is_there, source_of};
 use crate::tree::Tree;
 use byte_strings::ByteStrings;
+use mk_nodes::MAX_STEPS;
 use mk_rule_lines::{Form, RuleFault, RuleLine, Source, TargetTable};
 use std::alloc::{AllocError, Global};
-
-/// How many rules a chain may have before its last one.
-pub const MAX_STEPS: usize = 5;
 
 /// Whether some line is in the wide profile.
 fn any_wide(lines: &[RuleLine]) -> bool

@@ -3,11 +3,11 @@ ghost use Rattle.std.specs.Prelude.{◌≡◌, ◌<◌, ℕ, ℤ, List, Option, 
 ghost use Rattle.std.specs.FinMap as map;
 ghost use Rattle.mk_graph.specs.Numbering.{name_at, added};
 ghost use Rattle.mk_rule_lines.specs.Rules.{has};
-ghost use Rattle.mk_rules.specs.Prerequisites.{inputs_of, is_node, hidden_in};
+ghost use Rattle.mk_nodes.specs.Prerequisites.{inputs_of, is_node, hidden_in};
 ghost use Rattle.mk_rules.specs.Looks.{Looks};
 ghost use Rattle.mk_rules.specs.NodeNotes.{AreKnownNodes};
 ghost use Rattle.mk_rules.specs.Row.{named, IsRow, IsSomeRow};
-ghost use Rattle.mk_rules.specs.Hidden.{Takes, HasHidden, IsNamesFault};
+ghost use Rattle.mk_nodes.specs.Hidden.{Takes, HasHidden, IsNamesFault};
 
 use crate::lookup::is_node;
 use crate::mentioned::Mentioned;

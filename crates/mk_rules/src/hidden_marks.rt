@@ -1,6 +1,6 @@
 //! Which hidden prerequisites of a name are nodes, while they are taken in.
 ghost use Rattle.std.specs.Prelude.{◌≡◌, ◌∷◌, ◌++◌, [], true, false, replicate, IfOk, OnOk};
-ghost use Rattle.mk_rules.specs.Hidden.{marks_kept};
+ghost use Rattle.mk_nodes.specs.Hidden.{marks_kept};
 
 use std::alloc::{AllocError, Global};
 use std::boxed::Box;
@@ -15,7 +15,7 @@ pub(crate) struct HiddenMarks {
 
 impl Model for HiddenMarks {
     ghost use Rattle.std.specs.Prelude.{Bool, List};
-    ghost use Rattle.mk_rules.specs.Hidden.{marks_kept};
+    ghost use Rattle.mk_nodes.specs.Hidden.{marks_kept};
 
     ghost Value = { List Bool };
 

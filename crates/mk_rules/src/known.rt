@@ -1,8 +1,6 @@
 //! What is found of a name while names are numbered.
-use crate::rare::RareParts;
-use crate::short_number::ShortNumber;
-use crate::stamp::Stamp;
 use byte_strings::ByteStrings;
+use mk_nodes::{RareParts, ShortNumber, Stamp};
 use std::boxed::Box;
 
 /// What few names have: what an implicit rule gives them, and order-only prerequisites.

@@ -5,9 +5,9 @@ ghost use Rattle.mk_reader.specs.Text.{is_empty};
 ghost use Rattle.mk_rule_lines.specs.Explicit.{explicit_targets, is_default_at};
 ghost use Rattle.mk_rule_lines.specs.Rules.{recipe_places};
 ghost use Rattle.mk_rule_lines.specs.Table.{named_at};
-ghost use Rattle.mk_rules.specs.Prerequisites.{default_of, is_cut, run_by, rule_or};
+ghost use Rattle.mk_nodes.specs.Prerequisites.{default_of, is_cut, run_by, rule_or};
 
-use crate::stamp::Stamp;
+use mk_nodes::Stamp;
 use mk_rule_lines::{RuleLine, Source, TargetTable, is_default_at};
 use st_records::{PackedEntry, Phase};
 

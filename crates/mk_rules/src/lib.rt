@@ -1,4 +1,4 @@
-//! The graph of a makefile: which file an implicit rule makes a name from, and what orders the goals' names.
+//! The graph of a makefile is built: which file an implicit rule makes a name from, and what orders the goals' names.
 #![tactic(auto)]
 
 mod building;
@@ -8,11 +8,8 @@ mod distinct_numbers;
 mod explicit;
 mod finder;
 mod followers;
-mod graph;
-mod group;
 mod hidden;
 mod hidden_marks;
-mod hidden_numbers;
 mod known;
 mod laws;
 mod left_over;
@@ -27,31 +24,21 @@ mod mentioned;
 mod node_notes;
 mod nodes;
 mod ordering;
-mod rare;
 mod recorded;
-mod removing;
 mod required;
 mod rows;
 mod rules;
 mod seen;
 mod several;
-mod short_number;
 mod soft;
 mod source;
-mod stamp;
 mod tree;
 mod unmade;
 mod waits;
 mod wanted;
 
 pub use building::build;
-pub use graph::{Graph, Node};
-pub use group::Group;
-pub use hidden_numbers::HiddenNumbers;
 pub use laws::further_targets_follow_the_run;
 pub use limit::{MAX_NODES, MAX_WIDE_NODES, node_limit};
-pub use rare::{Rare, RareParts};
-pub use short_number::ShortNumber;
 pub use source::source_of;
-pub use stamp::Stamp;
 pub use tree::{Tree, TreeFault};

@@ -5,8 +5,8 @@ ghost use Rattle.mk_macros.specs.Words.{place_of};
 ghost use Rattle.mk_reader.specs.Text.{is_empty};
 ghost use Rattle.mk_rule_lines.specs.Source.{stem_of, source_at, with_stem};
 ghost use Rattle.mk_rule_lines.specs.declared.form.Form.{Form};
-ghost use Rattle.mk_rules.specs.Chain.{makes_any, can_be};
-ghost use Rattle.mk_rules.specs.Links.{end_of, ends_with, end_alike, may_make, leads_on, AreLinks};
+ghost use Rattle.mk_nodes.specs.Chain.{makes_any, can_be};
+ghost use Rattle.mk_nodes.specs.Links.{end_of, ends_with, end_alike, may_make, leads_on, AreLinks};
 ghost use Rattle.mk_rules.specs.Search.{IsAskedIn};
 
 use mk_rule_lines::Form;

@@ -4,7 +4,7 @@ ghost use Rattle.std.specs.FinMap as map;
 ghost use Rattle.std.specs.List.{list_all};
 ghost use Rattle.std.specs.Str.{is_utf8};
 ghost use Rattle.mk_rule_lines.specs.Explicit.{is_phony};
-ghost use Rattle.mk_rules.specs.Prerequisites.{inputs_of, is_read, is_node, found_source, own_recipes};
+ghost use Rattle.mk_nodes.specs.Prerequisites.{inputs_of, is_read, is_node, found_source, own_recipes};
 ghost use Rattle.mk_rules.specs.Looks.{IsLookFault, Looks, and_this};
 ghost use Rattle.mk_rules.specs.Search.{IsSearchFault};
 

@@ -4,7 +4,7 @@ ghost use Rattle.mk_graph.specs.Edges.{has};
 ghost use Rattle.mk_graph.specs.Numbering.{name_at, has_name, added, all_added};
 ghost use Rattle.mk_rules.specs.NodeNotes.{AreKnownNodes};
 ghost use Rattle.mk_rules.specs.Row.{named, IsRow, IsSomeRow};
-ghost use Rattle.mk_rules.specs.Hidden.{Takes};
+ghost use Rattle.mk_nodes.specs.Hidden.{Takes};
 
 use crate::distinct_names::DistinctNames;
 use crate::distinct_numbers::DistinctNumbers;

@@ -1,8 +1,8 @@
 //! What is kept of numbered names once their rows are parted.
 ghost use Rattle.mk_rules.specs.Nodes.{IsNamedOf};
 
-use crate::graph::Node;
 use mk_graph::{Names, Numbered};
+use mk_nodes::Node;
 
 /// The names of a graph, the numbers of the goals, the node of each name, and the numbers of those that nothing makes.
 #[derive(Drop)]

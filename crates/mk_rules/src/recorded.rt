@@ -2,9 +2,9 @@
 ghost use Rattle.std.specs.Prelude.{◌≡◌, ℕ, ℤ, List, Option, IfOk, IfErr, OnOk};
 ghost use Rattle.std.specs.FinMap as finmap;
 ghost use Rattle.std.specs.Option.{option_copied};
-ghost use Rattle.mk_rules.specs.Prerequisites.{inputs_of, is_node, hidden_in};
+ghost use Rattle.mk_nodes.specs.Prerequisites.{inputs_of, is_node, hidden_in};
 ghost use Rattle.mk_rules.specs.Looks.{Looks};
-ghost use Rattle.mk_rules.specs.Hidden.{HasHidden, IsNamesFault};
+ghost use Rattle.mk_nodes.specs.Hidden.{HasHidden, IsNamesFault};
 ghost use Rattle.mk_rules.specs.NodeNotes.{AreKnownNodes};
 ghost use Rattle.mk_rules.specs.Row.{named, IsRow, IsSomeRow};
 

@@ -3,15 +3,15 @@ ghost use Rattle.std.specs.Prelude.{◌≡◌, ◌<◌, ◌||◌, ℕ, List, len
 ghost use Rattle.std.specs.List.{list_any, list_all};
 ghost use Rattle.mk_graph.specs.Edges.{row, is_closed};
 ghost use Rattle.mk_graph.specs.Numbering.{AreDescribed, has_name, name_at};
-ghost use Rattle.mk_rules.specs.Graph.{AreHard, AreRequired};
+ghost use Rattle.mk_nodes.specs.Graph.{AreHard, AreRequired};
 ghost use Rattle.mk_rules.specs.Known.{IsKnown};
-ghost use Rattle.mk_rules.specs.Prerequisites.{Inputs, prerequisites_of};
+ghost use Rattle.mk_nodes.specs.Prerequisites.{Inputs, prerequisites_of};
 ghost use Rattle.mk_rules.specs.Required.{has_others, names_in_row, IsRequiredRow};
 ghost use Rattle.mk_rules.specs.Rows.{EachRow};
 
-use crate::graph::Node;
 use byte_strings::ByteStrings;
 use mk_graph::{Edges, Names};
+use mk_nodes::Node;
 use std::alloc::{AllocError, Global};
 
 fn has_others(known: &Node) -> bool

@@ -1,31 +1,11 @@
 //! The rows of numbered names, parted into hard prerequisites and others.
-ghost use Rattle.std.specs.Prelude.{◌≡◌, take, drop, length, map, IfOk, IsTrue};
+ghost use Rattle.std.specs.Prelude.{◌≡◌, length, map, IfOk, IsTrue};
 ghost use Rattle.mk_graph.specs.Edges.{is_closed};
 ghost use Rattle.mk_rules.specs.Rows.{EachRow, IsHardRow, IsWaitedRow};
 
-use crate::graph::Node;
 use mk_graph::{Edges, Numbered, Parts};
+use mk_nodes::Node;
 use std::alloc::{AllocError, Global};
-
-/// The first so many numbers, or all where there are no more.
-pub(crate) fn front(row: &[u32], count: usize) -> &[u32]
-    ensures { result.now ≡ take count row.now }
-{
-    if count >= row.len() {
-        return row;
-    }
-    &row[..count]
-}
-
-/// The numbers behind the first so many.
-pub(crate) fn behind(row: &[u32], count: usize) -> &[u32]
-    ensures { result.now ≡ drop count row.now }
-{
-    if count >= row.len() {
-        return &[];
-    }
-    &row[count..]
-}
 
 /// How many hard prerequisites each node has.
 fn hard_counts(alloc: Global, known: &[Node]) -> Result<Vec<u32>, AllocError>

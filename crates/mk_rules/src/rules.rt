@@ -3,22 +3,22 @@ ghost use Rattle.std.specs.Prelude.{◌≡◌, ℕ, ℤ, List, Option, false, []
 ghost use Rattle.std.specs.FinMap as map;
 ghost use Rattle.std.specs.Option.{option_copied, option_map_or, option_or};
 ghost use Rattle.mk_rule_lines.specs.Rules.{has, suffixes_of, targets_by, places, recipe_places};
-ghost use Rattle.mk_rules.specs.Chain.{steps_of};
-ghost use Rattle.mk_rules.specs.Links.{AreLinks};
+ghost use Rattle.mk_nodes.specs.Chain.{steps_of};
+ghost use Rattle.mk_nodes.specs.Links.{AreLinks};
 ghost use Rattle.mk_rules.specs.Search.{IsSearchFault};
 ghost use Rattle.mk_rules.specs.Looks.{Looks};
 ghost use Rattle.mk_rule_lines.specs.Table.{is_there, named_at};
 ghost use Rattle.mk_rule_lines.specs.Doubles.{first_double};
 ghost use Rattle.mk_rule_lines.specs.Explicit.{numbers_of, order_only_in};
 ghost use Rattle.mk_rule_lines.specs.Forms.{forms_of};
-ghost use Rattle.mk_rules.specs.Prerequisites.{any_or, default_of};
+ghost use Rattle.mk_nodes.specs.Prerequisites.{any_or, default_of};
 
 use crate::chain::{Makers, source_in};
 use crate::left_over::is_left;
-use crate::stamp::Stamp;
 use crate::tree::Tree;
 use crate::wanted::from_wanted;
 use byte_strings::ByteStrings;
+use mk_nodes::Stamp;
 use mk_rule_lines::{
     Form, RuleFault, RuleLine, Source, TargetTable, explicit_of, first_double, is_phony,
     may_have_bar, order_only_of,
@@ -73,9 +73,9 @@ fn may_have_bar_at(lines: &[RuleLine], number: usize) -> bool
 
 impl<'m> Rules<'m> {
     ghost use Rattle.mk_rule_lines.specs.Explicit.{numbers_of, explicit_of, order_only_of, is_phony};
-    ghost use Rattle.mk_rules.specs.Prerequisites.{Inputs, own_recipes, is_target, left_recipe};
-    ghost use Rattle.mk_rules.specs.Chain.{source_in};
-    ghost use Rattle.mk_rules.specs.Wanted.{from_wanted};
+    ghost use Rattle.mk_nodes.specs.Prerequisites.{Inputs, own_recipes, is_target, left_recipe};
+    ghost use Rattle.mk_nodes.specs.Chain.{source_in};
+    ghost use Rattle.mk_nodes.specs.Wanted.{from_wanted};
 
     /// The numbers of the lines that make the name, in order, and of the one that has its recipe, or the first of its lines with `::`.
     pub fn named(&self, name: &[u8]) -> (&[usize], Option<usize>)

@@ -2,16 +2,16 @@
 ghost use Rattle.std.specs.Prelude.{◌≡◌, ◌&&◌, ◌==◌, ℕ, ℤ, List, Option, Some, is_none, map, option_map, option_to_list, IfOk, IfErr};
 ghost use Rattle.std.specs.FinMap as finmap;
 ghost use Rattle.mk_rule_lines.specs.Explicit.{is_phony};
-ghost use Rattle.mk_rules.specs.Groups.{earlier, earliest, others_in, group_with};
+ghost use Rattle.mk_nodes.specs.Groups.{earlier, earliest, others_in, group_with};
 ghost use Rattle.mk_rules.specs.Known.{IsImplicitFault, IsFoundFault, IsOthersFault};
 ghost use Rattle.mk_rules.specs.Looks.{Looks};
-ghost use Rattle.mk_rules.specs.Prerequisites.{inputs_of, own_recipes, seen_times, implicit_source, is_led, is_run_of, runs_for};
+ghost use Rattle.mk_nodes.specs.Prerequisites.{inputs_of, own_recipes, seen_times, implicit_source, is_led, is_run_of, runs_for};
 
-use crate::group::Group;
 use crate::lookup::{found_source, seen_stamp};
 use crate::rules::Rules;
 use crate::tree::Tree;
 use byte_strings::ByteStrings;
+use mk_nodes::Group;
 use mk_rule_lines::{RuleFault, Source};
 use std::alloc::Global;
 use std::boxed::Box;

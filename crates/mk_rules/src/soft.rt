@@ -4,16 +4,16 @@ ghost use Rattle.std.specs.List.{IsDistinct};
 ghost use Rattle.std.specs.Str.{bytes_eq};
 ghost use Rattle.mk_graph.specs.Edges.{is_closed};
 ghost use Rattle.mk_graph.specs.Numbering.{AreDescribed, name_at};
-ghost use Rattle.mk_rules.specs.Graph.{AreSoft};
+ghost use Rattle.mk_nodes.specs.Graph.{AreSoft};
 ghost use Rattle.mk_rules.specs.Known.{IsKnown};
-ghost use Rattle.mk_rules.specs.Prerequisites.{Inputs, prerequisites_of};
+ghost use Rattle.mk_nodes.specs.Prerequisites.{Inputs, prerequisites_of};
 ghost use Rattle.mk_rules.specs.Rows.{EachRow, IsWaitedRow, IsSoftRow};
 ghost use Rattle.mk_rule_lines.specs.Rules.{suffixes_of};
 
-use crate::graph::Node;
 use crate::waits::with_waits;
 use byte_strings::ByteStrings;
 use mk_graph::{Edges, Numbered};
+use mk_nodes::Node;
 use mk_rule_lines::RuleLine;
 use std::alloc::{AllocError, Global};
 

@@ -6,14 +6,14 @@ ghost use Rattle.mk_rule_lines.specs.Explicit.{explicit_targets};
 ghost use Rattle.mk_rule_lines.specs.Rules.{recipe_places};
 ghost use Rattle.mk_rule_lines.specs.Table.{is_named, named_at};
 ghost use Rattle.mk_rules.specs.Found.{HasItInItsRow, IsUnmadeFault};
-ghost use Rattle.mk_rules.specs.Graph.{AreUnmade};
+ghost use Rattle.mk_nodes.specs.Graph.{AreUnmade};
 ghost use Rattle.mk_rules.specs.Known.{IsKnown};
-ghost use Rattle.mk_rules.specs.Prerequisites.{Inputs, is_target};
+ghost use Rattle.mk_nodes.specs.Prerequisites.{Inputs, is_target};
 
-use crate::graph::Node;
 use crate::left_over::default_of;
 use byte_strings::ByteString;
 use mk_graph::Numbered;
+use mk_nodes::Node;
 use mk_profile::Profile;
 use mk_rule_lines::{RuleFault, RuleLine, TargetTable, Unmade};
 use std::alloc::{AllocError, Global};

@@ -6,7 +6,7 @@ ghost use Rattle.mk_graph.specs.Edges.{row, is_closed, has as has_number};
 ghost use Rattle.mk_graph.specs.Numbering.{has_name, name_at};
 ghost use Rattle.mk_graph.specs.Waits.{BeginWith};
 ghost use Rattle.mk_rule_lines.specs.Explicit.{is_wait};
-ghost use Rattle.mk_rules.specs.Waits.{groups_of, orders, line_orders, waits_in};
+ghost use Rattle.mk_nodes.specs.Waits.{groups_of, orders, line_orders, waits_in};
 
 use crate::rows::apart;
 use byte_strings::ByteStrings;

@@ -2,8 +2,8 @@
 ghost use Rattle.std.specs.Prelude.{◌≡◌, ◌||◌, None, option_map, if◌then◌else◌, IfOk};
 ghost use Rattle.std.specs.List.{list_all};
 ghost use Rattle.mk_rule_lines.specs.Source.{stem_of, source_at};
-ghost use Rattle.mk_rules.specs.Prerequisites.{is_target};
-ghost use Rattle.mk_rules.specs.Wanted.{wants, is_wanted, takes_any, from_wanted};
+ghost use Rattle.mk_nodes.specs.Prerequisites.{is_target};
+ghost use Rattle.mk_nodes.specs.Wanted.{wants, is_wanted, takes_any, from_wanted};
 
 use crate::links::{ends_anyhow, set_name, stem_of};
 use crate::rules::Rules;

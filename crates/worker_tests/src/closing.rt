@@ -9,7 +9,7 @@ use bd_flusher::{FlushFault, Receipt, Site};
 use bd_ledger::Ticket;
 use bd_places::End;
 use jb_closing::{Closed, Report, RunFault};
-use mk_rules::Graph;
+use mk_nodes::Graph;
 use st_memory::MemDisk;
 use std::alloc::{AllocError, Global};
 use std::process::Abort;

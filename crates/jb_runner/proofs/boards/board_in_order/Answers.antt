@@ -3,7 +3,7 @@ use Rattle.std.proofs.lemmas.Result.{IfOk-weaker}
 use Rattle.mk_graph.specs.Counted.{AreSets, joined}
 use Rattle.bd_ledger.specs.Sheet.{AreDistinct, first_sheet}
 use Rattle.bd_lists.proofs.OnceLemmas.{times_once}
-use Rattle.mk_rules.specs.Graph.{required_in}
+use Rattle.mk_nodes.specs.Graph.{required_in}
 use Rattle.mk_graph.proofs.JoinLemmas.{length-joined}
 use Rattle.jb_runner.specs.InOrder.{HasAlso}
 use Rattle.jb_runner.proofs.BoardLemmas.{same_board}

@@ -1,6 +1,6 @@
 use Rattle.std.proofs.Common.{◌≡◌}
 use Rattle.mk_graph.specs.Numbering.{all_added}
-use Rattle.mk_rules.specs.Prerequisites.{distinct}
+use Rattle.mk_nodes.specs.Prerequisites.{distinct}
 use Rattle.mk_plan.proofs.part_words.once_of.Given as goal
 
 abbrev pub invariant-loop-name : goal.invariant-loop-name

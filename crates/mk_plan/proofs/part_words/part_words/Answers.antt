@@ -1,7 +1,7 @@
 use Rattle.std.proofs.Common.{◌≡◌, ◌∙◌, ℕ, List, map, Some, sym, ap, subst}
 use Rattle.mk_graph.specs.Edges.{row}
 use Rattle.mk_rule_lines.specs.Explicit.{names_in}
-use Rattle.mk_rules.specs.Prerequisites.{distinct}
+use Rattle.mk_nodes.specs.Prerequisites.{distinct}
 use Rattle.mk_plan.specs.ExplicitWords.{once_of}
 use Rattle.mk_plan.specs.Nodes.{AreNewer}
 use Rattle.mk_plan.specs.PartTests.{newer_among}

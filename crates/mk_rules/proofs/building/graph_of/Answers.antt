@@ -3,16 +3,16 @@ use Rattle.std.specs.Prelude.{codes}
 use Rattle.mk_graph.specs.Numbering.{AreDescribed}
 use Rattle.mk_graph.specs.declared.numbering.Numbered.{Numbered}
 use Rattle.mk_rules.specs.Found.{AreFound, IsGraphlessFault}
-use Rattle.mk_rules.specs.Graph.{AreUnmade}
+use Rattle.mk_nodes.specs.Graph.{AreUnmade}
 use Rattle.mk_rules.specs.Known.{IsKnown}
-use Rattle.mk_rules.specs.declared.graph.Node.{Node}
+use Rattle.mk_nodes.specs.declared.graph.Node.{Node}
 use Rattle.mk_rule_lines.specs.Explicit.{explicit_targets}
 use Rattle.mk_rule_lines.specs.Rules.{recipe_places}
 use Rattle.mk_rule_lines.specs.Goals.{goals_of}
 use Rattle.mk_rule_lines.specs.Taken.{AreTaken}
 use Rattle.mk_rule_lines.specs.declared.rule_line.RuleLine.{RuleLine}
-use Rattle.mk_rules.specs.Node.{EachHasOneNumber}
-use Rattle.mk_rules.specs.Prerequisites.{Inputs, is_target}
+use Rattle.mk_nodes.specs.Node.{EachHasOneNumber}
+use Rattle.mk_nodes.specs.Prerequisites.{Inputs, is_target}
 use Rattle.mk_rule_lines.specs.declared.fault.RuleFault.TheVariants.{OutOfMemory}
 use Rattle.mk_rules.proofs.AssemblyLemmas.{unmade_fault}
 use Rattle.mk_rules.proofs.DistinctLemmas.{distinct_numbers}

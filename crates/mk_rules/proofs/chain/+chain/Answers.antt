@@ -7,7 +7,7 @@ use Rattle.mk_rule_lines.proofs.LineLemmas.{handed_on}
 use Rattle.mk_rule_lines.specs.Source.{source_at}
 use Rattle.mk_rule_lines.specs.Table.{is_there}
 use Rattle.mk_rule_lines.specs.declared.form.Source.{Source}
-use Rattle.mk_rules.specs.Chain.{usable, can_be}
+use Rattle.mk_nodes.specs.Chain.{usable, can_be}
 use Rattle.mk_rules.specs.LooksLaws.{looks_none, looks_on}
 use Rattle.mk_rules.specs.Search.{IsAmong, IsBehind, IsAskedIn, IsLedFault}
 use Rattle.mk_rules.proofs.SourceLemmas.{all_more, all_left}

@@ -1,6 +1,6 @@
 use Rattle.std.proofs.Common.{◌≡◌, ◌+◌, ◌*◌, true, false, take, List, ◌∷◌, ◌++◌, ℕ, ℤ, Option, None}
 use Rattle.std.specs.List.{list_all}
-use Rattle.mk_rules.specs.Chain.{can_be, usable, first_that}
+use Rattle.mk_nodes.specs.Chain.{can_be, usable, first_that}
 use Rattle.mk_rules.specs.Looks.{Looks}
 use Rattle.mk_rule_lines.specs.Table.{is_there}
 use Rattle.mk_rules.proofs.chain.+chain.Given as goal

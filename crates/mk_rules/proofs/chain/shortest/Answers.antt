@@ -1,6 +1,6 @@
 use Rattle.std.proofs.Common.{◌≡◌, ◌-◌, ◌+◌, ◌<◌, ◌≤◌, ℕ, Some, None, sym, subst, ◌∙◌, arith}
 use Rattle.mk_rule_lines.specs.Table.{is_there}
-use Rattle.mk_rules.specs.Chain.{chained, source_in}
+use Rattle.mk_nodes.specs.Chain.{chained, source_in}
 use Rattle.mk_rules.specs.LooksLaws.{looks_on}
 use Rattle.mk_rules.proofs.ChainLemmas.{source_here, source_kept}
 use Rattle.mk_rules.proofs.ChainLaws.{none_at_all}

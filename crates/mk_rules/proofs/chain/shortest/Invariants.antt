@@ -1,5 +1,5 @@
 use Rattle.std.proofs.Common.{◌≡◌, ◌-◌, List, ℕ, ℤ, Option, Some, None}
-use Rattle.mk_rules.specs.Chain.{chained, source_in}
+use Rattle.mk_nodes.specs.Chain.{chained, source_in}
 use Rattle.mk_rules.specs.Looks.{Looks}
 use Rattle.mk_rule_lines.specs.Table.{is_there}
 use Rattle.mk_rules.proofs.chain.shortest.Given as goal

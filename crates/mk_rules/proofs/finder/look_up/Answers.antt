@@ -3,11 +3,11 @@ use Rattle.std.specs.FinMap as map
 use Rattle.mk_rule_lines.specs.Explicit.{explicit_of}
 use Rattle.mk_rule_lines.proofs.LineLemmas.{handed_on}
 use Rattle.mk_rule_lines.proofs.ResultLemmas.{if_ok, if_err}
-use Rattle.mk_rules.specs.Hidden.{IsNamesFault}
+use Rattle.mk_nodes.specs.Hidden.{IsNamesFault}
 use Rattle.mk_rules.specs.Known.{IsKnown, IsLookUpFault}
 use Rattle.mk_rules.specs.Looks.{Looks, and_this}
 use Rattle.mk_rules.specs.LooksLaws.{looks_on}
-use Rattle.mk_rules.specs.Prerequisites.{inputs_of, is_node, hidden_in, prerequisites_of}
+use Rattle.mk_nodes.specs.Prerequisites.{inputs_of, is_node, hidden_in, prerequisites_of}
 use Rattle.mk_rules.specs.Row.{named}
 use Rattle.mk_rules.specs.Seen.{made_in, IsNumberedAs}
 use Rattle.mk_rules.proofs.FinderLemmas.{on_ok, on_ok_if, all_are, known_is, hidden_look}

@@ -1,6 +1,6 @@
 use Rattle.std.specs.Prelude.{is_some}
 use Rattle.std.specs.FinMap as map
-use Rattle.mk_rules.specs.Prerequisites.{inputs_of, is_node}
+use Rattle.mk_nodes.specs.Prerequisites.{inputs_of, is_node}
 use Rattle.mk_rules.proofs.HiddenLemmas.{takes_same}
 use Rattle.mk_rules.proofs.hidden.take_hidden.Goals as goal
 

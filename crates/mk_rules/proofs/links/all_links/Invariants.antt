@@ -1,5 +1,5 @@
 use Rattle.std.proofs.Common.{◌≡◌, map, take}
-use Rattle.mk_rules.specs.Links.{leads_on}
+use Rattle.mk_nodes.specs.Links.{leads_on}
 use Rattle.mk_rules.proofs.links.all_links.Given as goal
 
 abbrev pub invariant-loop-form : goal.invariant-loop-form

@@ -1,7 +1,7 @@
 use Rattle.std.proofs.Common.{◌≡◌, true, ◌∙◌}
 use Rattle.std.specs.FinMap as map
 use Rattle.std.specs.Str.{is_utf8}
-use Rattle.mk_rules.specs.Prerequisites.{is_read}
+use Rattle.mk_nodes.specs.Prerequisites.{is_read}
 use Rattle.mk_rules.proofs.LookupLemmas.{node_there, one_answer}
 use Rattle.mk_rule_lines.proofs.ResultLemmas.{if_ok}
 use Rattle.mk_rules.proofs.lookup.is_node.Goals as goal

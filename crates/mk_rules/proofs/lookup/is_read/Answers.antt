@@ -1,7 +1,7 @@
 use Rattle.std.proofs.Common.{◌∙◌, not, sym, ap}
 use Rattle.std.specs.Prelude.{◌||◌, ◌==◌}
 use Rattle.mk_short_names.specs.Short.{is_short}
-use Rattle.mk_rules.specs.Chain.{any_wide}
+use Rattle.mk_nodes.specs.Chain.{any_wide}
 use Rattle.mk_rules.proofs.LookupLemmas.{no_steps, some_steps}
 use Rattle.mk_rules.proofs.lookup.is_read.Goals as goal
 

@@ -1,8 +1,8 @@
 use Rattle.std.proofs.Common.{◌∙◌, ℕ, List, sym, subst}
 use Rattle.std.specs.FinMap as map
-use Rattle.mk_rules.specs.Hidden.{HasHidden}
+use Rattle.mk_nodes.specs.Hidden.{HasHidden}
 use Rattle.mk_rules.specs.NodeNotes.{AreKnownNodes}
-use Rattle.mk_rules.specs.Prerequisites.{inputs_of, is_node}
+use Rattle.mk_nodes.specs.Prerequisites.{inputs_of, is_node}
 use Rattle.mk_rules.specs.Row.{named, IsRow}
 use Rattle.mk_rules.proofs.recorded.add_all_hidden.Goals as goal
 

@@ -1,6 +1,6 @@
 use Rattle.std.proofs.Common.{sym, ◌∙◌}
 use Rattle.std.specs.FinMap as map
-use Rattle.mk_rules.specs.Prerequisites.{inputs_of, is_node}
+use Rattle.mk_nodes.specs.Prerequisites.{inputs_of, is_node}
 use Rattle.mk_rules.specs.Row.{named}
 use Rattle.mk_rules.proofs.HiddenLemmas.{none_hidden}
 use Rattle.mk_rules.proofs.recorded.add_listed.Goals as goal

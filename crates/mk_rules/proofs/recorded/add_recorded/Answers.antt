@@ -1,7 +1,7 @@
 use Rattle.std.proofs.Common.{length, ap}
 use Rattle.std.specs.Option.{option_copied}
 use Rattle.std.specs.FinMap as map
-use Rattle.mk_rules.specs.Prerequisites.{inputs_of, is_node, hidden_in}
+use Rattle.mk_nodes.specs.Prerequisites.{inputs_of, is_node, hidden_in}
 use Rattle.mk_rules.specs.Row.{named}
 use Rattle.mk_rules.proofs.HiddenLemmas.{none_hidden}
 use Rattle.mk_rules.proofs.recorded.add_recorded.Goals as goal

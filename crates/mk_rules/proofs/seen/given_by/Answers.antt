@@ -4,10 +4,10 @@ use Rattle.std.specs.Global.{Box}
 use Rattle.std.specs.FinMap as map
 use Rattle.mk_graph.specs.Numbering.{all_added}
 use Rattle.mk_rule_lines.specs.Explicit.{explicit_of}
-use Rattle.mk_rules.specs.declared.group.Group.{Group}
+use Rattle.mk_nodes.specs.declared.group.Group.{Group}
 use Rattle.mk_rules.specs.declared.known.Given.{Given}
-use Rattle.mk_rules.specs.declared.rare.Rare.{Rare}
-use Rattle.mk_rules.specs.Prerequisites.{inputs_of, made_from, distinct}
+use Rattle.mk_nodes.specs.declared.rare.Rare.{Rare}
+use Rattle.mk_nodes.specs.Prerequisites.{inputs_of, made_from, distinct}
 use Rattle.mk_rules.specs.Seen.{IsGiven}
 use Rattle.mk_rules.proofs.seen.given_by.Goals as goal
 

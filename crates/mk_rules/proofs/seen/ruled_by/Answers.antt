@@ -1,6 +1,6 @@
 use Rattle.std.proofs.Common.{◌∙◌, ap}
 use Rattle.std.specs.Prelude.{option_to_list}
-use Rattle.mk_rules.specs.Prerequisites.{first_or}
+use Rattle.mk_nodes.specs.Prerequisites.{first_or}
 use Rattle.mk_rules.proofs.seen.ruled_by.Goals as goal
 
 pub returns-clause-ruled : goal.returns-clause-ruled

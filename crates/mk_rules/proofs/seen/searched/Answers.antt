@@ -6,7 +6,7 @@ use Rattle.mk_rule_lines.proofs.ResultLemmas.{if_ok, if_err}
 use Rattle.mk_rule_lines.specs.declared.form.Source.{Source}
 use Rattle.mk_rules.specs.Known.{IsLookUpFault}
 use Rattle.mk_rules.specs.LooksLaws.{looks_on}
-use Rattle.mk_rules.specs.Prerequisites.{inputs_of, implicit_source}
+use Rattle.mk_nodes.specs.Prerequisites.{inputs_of, implicit_source}
 use Rattle.mk_rules.specs.Seen.{IsRuled}
 use Rattle.mk_rules.proofs.FinderLemmas.{source_look, others_look}
 use Rattle.mk_rules.proofs.seen.searched.Goals as goal

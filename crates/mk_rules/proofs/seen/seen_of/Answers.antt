@@ -1,7 +1,7 @@
 use Rattle.std.proofs.Common.{◌∙◌, Bool, Option, None, cond, refl, sym, ap, ℕ, subst}
 use Rattle.std.specs.FinMap as map
 use Rattle.mk_rules.specs.LooksLaws.{looks_on}
-use Rattle.mk_rules.specs.Prerequisites.{inputs_of}
+use Rattle.mk_nodes.specs.Prerequisites.{inputs_of}
 use Rattle.mk_rules.specs.Seen.{IsRuledIn}
 use Rattle.mk_rules.proofs.seen.seen_of.Goals as goal
 

@@ -3,10 +3,10 @@ use Rattle.mk_rule_lines.proofs.LineLemmas.{handed_on}
 use Rattle.mk_rule_lines.specs.Rules.{has}
 use Rattle.mk_rules.proofs.HiddenLemmas.{has_first, has_later}
 use Rattle.mk_rules.proofs.SeveralLemmas.{others_fault}
-use Rattle.mk_rules.specs.Groups.{earlier, earliest}
+use Rattle.mk_nodes.specs.Groups.{earlier, earliest}
 use Rattle.mk_rules.specs.Known.{IsOthersFault}
 use Rattle.mk_rules.specs.LooksLaws.{looks_none, looks_on}
-use Rattle.mk_rules.specs.Prerequisites.{seen_times}
+use Rattle.mk_nodes.specs.Prerequisites.{seen_times}
 use Rattle.mk_rules.proofs.several.earliest.Goals as goal
 
 pub loop-name-init : goal.loop-name-init

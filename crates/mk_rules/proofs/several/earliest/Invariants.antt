@@ -1,8 +1,8 @@
 use Rattle.std.proofs.Common.{◌≡◌, true, List, ℕ, ℤ, Option, map}
 use Rattle.mk_rule_lines.specs.Rules.{has}
-use Rattle.mk_rules.specs.Groups.{earliest}
+use Rattle.mk_nodes.specs.Groups.{earliest}
 use Rattle.mk_rules.specs.Looks.{Looks}
-use Rattle.mk_rules.specs.Prerequisites.{seen_times}
+use Rattle.mk_nodes.specs.Prerequisites.{seen_times}
 use Rattle.mk_rules.proofs.several.earliest.Given as goal
 
 abbrev pub invariant-loop-name : goal.invariant-loop-name

@@ -5,7 +5,7 @@ use Rattle.mk_rules.proofs.FinderLemmas.{search_look, name_search, leader_search
 use Rattle.mk_rules.proofs.SeveralLemmas.{led_is, not_found}
 use Rattle.mk_rules.specs.Known.{IsImplicitFault}
 use Rattle.mk_rules.specs.LooksLaws.{looks_on}
-use Rattle.mk_rules.specs.Prerequisites.{inputs_of, found_source}
+use Rattle.mk_nodes.specs.Prerequisites.{inputs_of, found_source}
 use Rattle.mk_rules.proofs.several.implicit_source.Goals as goal
 
 pub returns-in_default-clause-source : goal.returns-in_default-clause-source

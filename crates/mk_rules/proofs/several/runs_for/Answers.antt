@@ -5,7 +5,7 @@ use Rattle.mk_rule_lines.proofs.LineLemmas.{handed_on}
 use Rattle.mk_rule_lines.specs.declared.form.Source.{Source}
 use Rattle.mk_rules.proofs.FinderLemmas.{search_look}
 use Rattle.mk_rules.specs.Known.{IsFoundFault}
-use Rattle.mk_rules.specs.Prerequisites.{inputs_of, found_source, is_run_of}
+use Rattle.mk_nodes.specs.Prerequisites.{inputs_of, found_source, is_run_of}
 use Rattle.mk_rules.proofs.several.runs_for.Goals as goal
 
 pub returns-in-Some-clause-runs : goal.returns-in-Some-clause-runs

@@ -3,12 +3,12 @@ use Rattle.std.proofs.lemmas.Result.{IfOk-weaker}
 use Rattle.std.specs.List.{list_any}
 use Rattle.mk_graph.specs.Edges.{row, is_closed, has as has_number}
 use Rattle.mk_graph.specs.Numbering.{AreDescribed, name_at}
-use Rattle.mk_rules.specs.Graph.{AreSoft}
+use Rattle.mk_nodes.specs.Graph.{AreSoft}
 use Rattle.mk_rules.specs.Known.{IsKnown}
-use Rattle.mk_rules.specs.Prerequisites.{Inputs, soft_names, prerequisites_of}
+use Rattle.mk_nodes.specs.Prerequisites.{Inputs, soft_names, prerequisites_of}
 use Rattle.mk_rules.specs.Rows.{EachRow, IsWaitedRow, IsSoftRow}
 use Rattle.mk_rule_lines.specs.Rules.{has, suffixes_of}
-use Rattle.mk_rules.specs.Waits.{line_orders}
+use Rattle.mk_nodes.specs.Waits.{line_orders}
 use Rattle.mk_rules.proofs.RowLaws.{are_waited}
 use Rattle.mk_graph.specs.Waits.{BeginWith}
 use Rattle.std.specs.Prelude.{Result, Ok, Err, IfOk}

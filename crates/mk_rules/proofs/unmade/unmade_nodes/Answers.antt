@@ -4,11 +4,11 @@ use Rattle.std.proofs.lemmas.Option.{slice_get_read}
 use Rattle.mk_graph.specs.Edges.{has}
 use Rattle.mk_graph.specs.Numbering.{AreDescribed, name_at}
 use Rattle.mk_rules.specs.Known.{IsKnown}
-use Rattle.mk_rules.specs.Prerequisites.{Inputs, default_of, is_target, is_made}
+use Rattle.mk_nodes.specs.Prerequisites.{Inputs, default_of, is_target, is_made}
 use Rattle.mk_rule_lines.specs.Table.{is_named, named_at}
 use Rattle.mk_rule_lines.specs.declared.rule_line.RuleLine.{RuleLine}
 use Rattle.mk_rule_lines.specs.declared.table.TargetTable.{TargetTable}
-use Rattle.mk_rules.specs.declared.graph.Node.{Node}
+use Rattle.mk_nodes.specs.declared.graph.Node.{Node}
 use Rattle.mk_rules.proofs.MadeLemmas.{made_is, made_more, unmade_more}
 use Rattle.mk_rules.proofs.unmade.unmade_nodes.Goals as goal
 

@@ -3,7 +3,7 @@ use Rattle.std.specs.List.{list_any}
 use Rattle.mk_graph.specs.Edges.{row, is_closed, has as has_number}
 use Rattle.mk_graph.specs.Numbering.{name_at}
 use Rattle.mk_graph.specs.Waits.{BeginWith}
-use Rattle.mk_rules.specs.Waits.{line_orders}
+use Rattle.mk_nodes.specs.Waits.{line_orders}
 use Rattle.mk_rules.proofs.waits.add_all_waits.Given as goal
 
 abbrev pub invariant-loop-line : goal.invariant-loop-line

@@ -6,7 +6,7 @@ use Rattle.std.proofs.lemmas.Result.{on_ok_weaker}
 use Rattle.mk_graph.specs.Edges.{row, is_closed, has as has_number}
 use Rattle.mk_graph.specs.Numbering.{name_at, has_name}
 use Rattle.mk_graph.specs.Waits.{waits}
-use Rattle.mk_rules.specs.Waits.{orders}
+use Rattle.mk_nodes.specs.Waits.{orders}
 use Rattle.mk_rules.proofs.WaitLemmas.{are_below, told_waits, closed_waits, both_ok}
 use Rattle.mk_rules.proofs.waits.add_groups.Goals as goal
 

@@ -6,7 +6,7 @@ use Rattle.mk_graph.specs.Numbering.{name_at, has_name}
 use Rattle.mk_graph.proofs.WaitLemmas.{begin_through}
 use Rattle.mk_rule_lines.specs.Explicit.{words_by}
 use Rattle.mk_rule_lines.specs.Rules.{targets_by}
-use Rattle.mk_rules.specs.Waits.{groups_of, orders}
+use Rattle.mk_nodes.specs.Waits.{groups_of, orders}
 use Rattle.mk_rules.proofs.WaitLemmas.{no_orders, and_none, or_none}
 use Rattle.mk_rules.proofs.waits.add_line_waits.Goals as goal
 

@@ -2,7 +2,7 @@ use Rattle.std.proofs.Common.{map, length, nat_lt, ap, ◌∙◌}
 use Rattle.std.specs.List.{list_all}
 use Rattle.std.proofs.lemmas.Result.{on_ok_weaker}
 use Rattle.mk_graph.specs.Numbering.{name_at}
-use Rattle.mk_rules.specs.Waits.{groups_of}
+use Rattle.mk_nodes.specs.Waits.{groups_of}
 use Rattle.mk_rules.proofs.waits.add_word_waits.Goals as goal
 
 pub add_groups-requires-clause-groups : goal.add_groups-requires-clause-groups

@@ -2,8 +2,8 @@ use Rattle.std.proofs.Common.{◌≡◌, ◌++◌, ◌∷◌, ◌&&◌, ◌||◌
 use Rattle.std.specs.List.{list_all}
 use Rattle.std.proofs.lemmas.List.{append_assoc, append-nil, map-append}
 use Rattle.mk_rule_lines.specs.Source.{with_stem}
-use Rattle.mk_rules.specs.Prerequisites.{is_target}
-use Rattle.mk_rules.specs.Wanted.{is_wanted}
+use Rattle.mk_nodes.specs.Prerequisites.{is_target}
+use Rattle.mk_nodes.specs.Wanted.{is_wanted}
 use Rattle.mk_rules.proofs.SourceLemmas.{all_more, all_left}
 use Rattle.mk_rules.proofs.wanted.all_ought_to_exist.Goals as goal
 

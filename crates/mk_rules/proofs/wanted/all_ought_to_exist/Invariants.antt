@@ -1,8 +1,8 @@
 use Rattle.std.proofs.Common.{◌≡◌, ◌||◌, true, map, List, ◌++◌, ℕ}
 use Rattle.std.specs.List.{list_all}
 use Rattle.mk_rule_lines.specs.Source.{with_stem}
-use Rattle.mk_rules.specs.Prerequisites.{is_target}
-use Rattle.mk_rules.specs.Wanted.{is_wanted}
+use Rattle.mk_nodes.specs.Prerequisites.{is_target}
+use Rattle.mk_nodes.specs.Wanted.{is_wanted}
 use Rattle.mk_rules.proofs.wanted.all_ought_to_exist.Given as goal
 
 abbrev pub invariant-loop-pattern : goal.invariant-loop-pattern

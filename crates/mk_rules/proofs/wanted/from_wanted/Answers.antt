@@ -2,8 +2,8 @@ use Rattle.std.proofs.Common.{◌≡◌, ◌||◌, ◌∙◌, ℕ, Bool, true, f
 use Rattle.std.specs.List.{list_all}
 use Rattle.mk_rule_lines.specs.Source.{source_at}
 use Rattle.mk_rule_lines.specs.declared.form.Source.{Source}
-use Rattle.mk_rules.specs.Prerequisites.{is_target}
-use Rattle.mk_rules.specs.Wanted.{is_wanted, takes_any}
+use Rattle.mk_nodes.specs.Prerequisites.{is_target}
+use Rattle.mk_nodes.specs.Wanted.{is_wanted, takes_any}
 use Rattle.mk_rules.proofs.WantedLemmas.{unfit_among, passed_among, taken_among}
 use Rattle.mk_rules.proofs.wanted.from_wanted.Goals as goal
 

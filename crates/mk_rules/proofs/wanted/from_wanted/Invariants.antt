@@ -1,8 +1,8 @@
 use Rattle.std.proofs.Common.{◌≡◌, ◌||◌, take, None}
 use Rattle.std.specs.Prelude.{filter}
 use Rattle.mk_rule_lines.specs.Source.{source_of}
-use Rattle.mk_rules.specs.Prerequisites.{is_target}
-use Rattle.mk_rules.specs.Wanted.{is_wanted, takes_any}
+use Rattle.mk_nodes.specs.Prerequisites.{is_target}
+use Rattle.mk_nodes.specs.Wanted.{is_wanted, takes_any}
 use Rattle.mk_rules.proofs.wanted.from_wanted.Given as goal
 
 abbrev pub invariant-loop-form : goal.invariant-loop-form

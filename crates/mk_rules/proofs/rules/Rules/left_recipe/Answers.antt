@@ -5,7 +5,7 @@ use Rattle.std.specs.Prelude.{is_none}
 use Rattle.mk_reader.specs.Text.{is_empty}
 use Rattle.mk_rule_lines.specs.Explicit.{numbers_of}
 use Rattle.st_records.specs.declared.record.Entry.{Entry}
-use Rattle.mk_rules.specs.Prerequisites.{default_of, is_cut}
+use Rattle.mk_nodes.specs.Prerequisites.{default_of, is_cut}
 use Rattle.mk_rules.proofs.LeftLemmas.{left_is, none_left}
 use Rattle.mk_rules.proofs.rules.Rules.left_recipe.Goals as goal
 

@@ -2,7 +2,7 @@
 //! An option for each part in each node took 144 bytes; a node with one box takes 40.
 ghost use Rattle.std.specs.Prelude.{◌≡◌, true, option_map, IfOk};
 ghost use Rattle.std.specs.Option.{option_copied};
-ghost use Rattle.mk_rules.specs.Rare.{no_parts, with_marks};
+ghost use Rattle.mk_nodes.specs.Rare.{no_parts, with_marks};
 
 use crate::group::Group;
 use byte_strings::{ByteString, ByteStrings};
@@ -42,8 +42,8 @@ pub struct RareParts {
 }
 
 impl Model for RareParts {
-    ghost use Rattle.mk_rules.specs.Rare.{parts_kept};
-    ghost use Rattle.mk_rules.specs.declared.rare.Rare.{Rare};
+    ghost use Rattle.mk_nodes.specs.Rare.{parts_kept};
+    ghost use Rattle.mk_nodes.specs.declared.rare.Rare.{Rare};
 
     ghost Value = { Rare };
 

@@ -8,7 +8,7 @@ use Rattle.mk_rule_lines.specs.Source.{source_of}
 use Rattle.mk_rule_lines.specs.declared.form.Form.{Form}
 use Rattle.mk_rule_lines.specs.declared.form.Source.{Source}
 use Rattle.mk_rule_lines.specs.declared.rule_line.RuleLine.{RuleLine}
-use Rattle.mk_rules.specs.Links.{end_of}
+use Rattle.mk_nodes.specs.Links.{end_of}
 
 -- the line is one of a rule and has the name among its prerequisites, in the wide profile
 abbrev pub wants : (name : List ℕ) → RuleLine → Bool

@@ -20,7 +20,7 @@ pub struct Stamp {
 
 impl Model for Stamp {
     ghost use Rattle.std.specs.Prelude.{ℤ, Option};
-    ghost use Rattle.mk_rules.specs.Stamp.{time_kept};
+    ghost use Rattle.mk_nodes.specs.Stamp.{time_kept};
 
     ghost Value = { Option ℤ };
 

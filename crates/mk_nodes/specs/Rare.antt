@@ -1,7 +1,7 @@
 -- What few nodes have.
 use Rattle.std.specs.Prelude.{Bool, Option, Some, None, Vec}
 use Rattle.std.specs.Global.{Box, Global}
-use Rattle.mk_rules.specs.declared.rare.Rare.{Rare}
+use Rattle.mk_nodes.specs.declared.rare.Rare.{Rare}
 
 -- the parts of a node that has none of them
 abbrev pub no_parts : Rare

@@ -4,7 +4,7 @@ use Rattle.std.specs.List.{list_any}
 use Rattle.std.specs.Option.{option_map_or}
 use Rattle.mk_macros.specs.Words.{place_of}
 use Rattle.mk_rule_lines.specs.declared.form.Form.{Form}
-use Rattle.mk_rules.specs.Chain.{makes_any}
+use Rattle.mk_nodes.specs.Chain.{makes_any}
 
 -- what all names of a pattern end with: what stands behind its first `%`, or the whole of one without
 abbrev pub end_of : (pattern : List ℕ) → List ℕ

@@ -1,4 +1,4 @@
-use Rattle.mk_rules.proofs.removing.is_phony_name.Goals as goal
+use Rattle.mk_nodes.proofs.removing.is_phony_name.Goals as goal
 
 pub returns : goal.returns
 returns c = c.is_phony.ensures c.args.name.now c.numbers_of.ensures

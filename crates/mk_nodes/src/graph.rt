@@ -1,6 +1,6 @@
 //! The graph of a makefile's names: what each is made from, and what the state and the files say of it.
 ghost use Rattle.std.proofs.Props.{props};
-ghost use Rattle.std.specs.Prelude.{◌≡◌, ℕ, List, ◌<◌, drop, length, option_copied, option_map, slice_index, slice_get, is_some, unwrap_or, IsTrue, IfOk, IfSome};
+ghost use Rattle.std.specs.Prelude.{◌≡◌, ℕ, List, ◌<◌, drop, length, option_copied, option_map, slice_get, is_some, unwrap_or, IsTrue, IfOk, IfSome};
 ghost use Rattle.mk_graph.specs.Counted.{counting, AreSets};
 ghost use Rattle.mk_graph.specs.Edges.{row, has, is_closed};
 ghost use Rattle.mk_macros.specs.Ranks.{defined_by};
@@ -8,12 +8,12 @@ ghost use Rattle.mk_profile.specs.Profile.{is_wide};
 ghost use Rattle.mk_rule_lines.specs.Explicit.{numbers_of};
 ghost use Rattle.mk_rule_lines.specs.Rules.{suffixes_of};
 ghost use Rattle.mk_rule_lines.specs.Table.{named_at};
-ghost use Rattle.mk_rules.specs.Node.{EachHasOneNumber, source_in, explicit_in, implied_in, hidden_in};
+ghost use Rattle.mk_nodes.specs.Node.{EachHasOneNumber, source_in, explicit_in, implied_in, hidden_in};
 
 use crate::group::Group;
 use crate::hidden_numbers::HiddenNumbers;
+use crate::parts::{behind, front};
 use crate::rare::RareParts;
-use crate::rows::{behind, front};
 use crate::short_number::ShortNumber;
 use crate::stamp::Stamp;
 use byte_strings::{ByteString, ByteStrings};

@@ -1,16 +1,18 @@
 -- The names that goals lead to have one numbering.
 use Rattle.std.proofs.Common.{◌≡◌, ℕ, ◌+◌, ◌<◌, ◌≤◌, Bool, true, false, ◌||◌, List, [], ◌∷◌, ◌++◌, length, take, drop, suc, zero, refl, sym, ap, ◌∙◌, subst, ⊎_elim, arith, append_assoc, true≢false}
 use Rattle.std.specs.Prelude.{if◌then◌else◌}
-use Rattle.std.specs.List.{list_all, flat_map}
+use Rattle.std.specs.List.{list_all, flat_map, IsDistinct}
 use Rattle.std.specs.Str.{bytes_eq}
 use Rattle.std.proofs.lemmas.Bool.{and_parts, and_from, cases_lt}
 use Rattle.std.proofs.lemmas.Grind.{flat_map-append}
 use Rattle.std.proofs.lemmas.List.{take_all, take-append-le, take-append-drop}
 use Rattle.std.proofs.lemmas.List.Folds.{list_all-append, list_any-append}
 use Rattle.mk_graph.specs.Numbering.{has_name, name_at, added, all_added, IsNumbering}
-use Rattle.mk_graph.proofs.NameLemmas.{Begins, begins_all_added, all_added-append, same_bytes, bytes_same, new_at}
+use Rattle.mk_graph.proofs.NameLemmas.{distinct_all_added, distinct_none, Begins, begins_all_added, all_added-append, same_bytes, bytes_same, new_at}
 use Rattle.mk_graph.proofs.RowLemmas.{list_all_place}
-use Rattle.mk_rules.proofs.RowLaws.{distinct_names}
+
+pub distinct_names : (of : List ℕ → List (List ℕ)) (goals names : List (List ℕ)) → IsNumbering of goals names → IsDistinct bytes_eq names
+distinct_names of goals names is = subst (IsDistinct bytes_eq) (sym is.order) (distinct_all_added [] (goals ++ flat_map of names) distinct_none)
 
 -- ---- names that are mentioned
 

@@ -7,16 +7,16 @@ use Rattle.mk_graph.specs.Numbering.{IsNumbering, name_at}
 use Rattle.mk_rule_lines.specs.Rules.{suffixes_of, has}
 use Rattle.mk_rule_lines.specs.Taken.{AreTaken}
 use Rattle.mk_rule_lines.specs.Goals.{goals_of, settings_of}
-use Rattle.mk_rules.specs.Groups.{group_of}
-use Rattle.mk_rules.specs.Node.{source_by, explicit_by, hidden_by}
-use Rattle.mk_rules.specs.Prerequisites.{Inputs, implicit_source, made_from, source_name, distinct, explicit_names, recipe_of, hard_of, is_node, prerequisites_of, judged_of, is_made, required_of, soft_names}
-use Rattle.mk_rules.specs.Waits.{line_orders}
+use Rattle.mk_nodes.specs.Groups.{group_of}
+use Rattle.mk_nodes.specs.Node.{source_by, explicit_by, hidden_by}
+use Rattle.mk_nodes.specs.Prerequisites.{Inputs, implicit_source, made_from, source_name, distinct, explicit_names, recipe_of, hard_of, is_node, prerequisites_of, judged_of, is_made, required_of, soft_names}
+use Rattle.mk_nodes.specs.Waits.{line_orders}
 use Rattle.mk_graph.specs.Plan.{IsPlan}
 use Rattle.std.specs.FinMap as finmap
 use Rattle.std.specs.List.{list_all, list_any}
 use Rattle.std.specs.Option.{option_map_or}
-use Rattle.mk_rules.specs.declared.graph.Node.{Node}
-use Rattle.mk_rules.specs.declared.graph.Graph.{Graph}
+use Rattle.mk_nodes.specs.declared.graph.Node.{Node}
+use Rattle.mk_nodes.specs.declared.graph.Graph.{Graph}
 
 -- the prerequisites of a node as they are judged, numbered from 0: the hard ones, which are nodes, then the hidden ones,
 -- which may be gone

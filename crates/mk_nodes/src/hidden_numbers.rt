@@ -2,7 +2,7 @@
 //! Verdicts number hidden prerequisites that are gone too, and nearly always none is: then the numbers are what the node's soft
 //! row begins with, and a list of them would take 24 bytes and an allocation in each node.
 ghost use Rattle.std.specs.Prelude.{◌≡◌, ◌∷◌, ◌++◌, [], Bool, List, true, length, replicate, MatchOption};
-ghost use Rattle.mk_rules.specs.Hidden.{spread};
+ghost use Rattle.mk_nodes.specs.Hidden.{spread};
 
 use std::marker::Model;
 
@@ -19,7 +19,7 @@ pub struct HiddenNumbers<'g> {
 
 impl<'g> Model for HiddenNumbers<'g> {
     ghost use Rattle.std.specs.Prelude.{◌++◌, ℕ, List, Option, true, replicate};
-    ghost use Rattle.mk_rules.specs.Hidden.{spread};
+    ghost use Rattle.mk_nodes.specs.Hidden.{spread};
 
     ghost Value = { List (Option ℕ) };
 

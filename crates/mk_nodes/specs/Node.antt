@@ -2,8 +2,8 @@
 use Rattle.std.specs.Option.{option_map_or}
 use Rattle.std.specs.Prelude.{◌≡◌, ◌<◌, ℕ, ◌==◌, if◌then◌else◌, length, take, Bool, List, [], ◌∷◌, Option, Some, None}
 use Rattle.mk_graph.specs.Numbering.{name_at}
-use Rattle.mk_rules.specs.Hidden.{marks_kept, spread}
-use Rattle.mk_rules.specs.declared.graph.Node.{Node}
+use Rattle.mk_nodes.specs.Hidden.{marks_kept, spread}
+use Rattle.mk_nodes.specs.declared.graph.Node.{Node}
 
 -- two nodes have no name in common
 abbrev pub EachHasOneNumber : (names : List (List ℕ)) → Type 0

@@ -15,7 +15,7 @@ pub struct ShortNumber {
 
 impl Model for ShortNumber {
     ghost use Rattle.std.specs.Prelude.{ℕ, Option};
-    ghost use Rattle.mk_rules.specs.ShortNumber.{number_kept};
+    ghost use Rattle.mk_nodes.specs.ShortNumber.{number_kept};
 
     ghost Value = { Option ℕ };
 

@@ -1,7 +1,7 @@
 -- The time that a stamp keeps.
 use Rattle.std.specs.Prelude.{ℤ, Option, Some, None}
-use Rattle.mk_rules.specs.declared.stamp.Kept.{Kept}
-use Rattle.mk_rules.specs.declared.stamp.Kept.TheVariants as kept
+use Rattle.mk_nodes.specs.declared.stamp.Kept.{Kept}
+use Rattle.mk_nodes.specs.declared.stamp.Kept.TheVariants as kept
 
 abbrev pub time_kept : Kept → Option ℤ
 time_kept kept.Nothing = None

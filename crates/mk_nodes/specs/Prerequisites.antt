@@ -14,8 +14,8 @@ use Rattle.mk_rule_lines.specs.Forms.{forms_of}
 use Rattle.mk_rule_lines.specs.declared.form.Source.{Source}
 use Rattle.mk_rule_lines.specs.declared.rule_line.RuleLine.{RuleLine}
 use Rattle.mk_short_names.specs.Short.{is_short}
-use Rattle.mk_rules.specs.Chain.{any_wide, source_in, steps_of}
-use Rattle.mk_rules.specs.Wanted.{from_wanted}
+use Rattle.mk_nodes.specs.Chain.{any_wide, source_in, steps_of}
+use Rattle.mk_nodes.specs.Wanted.{from_wanted}
 
 -- what a graph is made of: the rule lines, the times of names as the lines let them be seen, and what the state has of each
 -- target

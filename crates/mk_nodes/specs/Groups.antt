@@ -2,8 +2,8 @@
 use Rattle.std.specs.Prelude.{ℕ, ℤ, int_lt, List, [], ◌∷◌, map, Option, Some, None, if◌then◌else◌}
 use Rattle.std.specs.Option.{option_map_or}
 use Rattle.mk_rule_lines.specs.declared.form.Source.{Source}
-use Rattle.mk_rules.specs.Prerequisites.{Inputs, implicit_source}
-use Rattle.mk_rules.specs.declared.group.Group.{Group}
+use Rattle.mk_nodes.specs.Prerequisites.{Inputs, implicit_source}
+use Rattle.mk_nodes.specs.declared.group.Group.{Group}
 
 -- the earlier of two times; none where one is missing
 abbrev pub earlier : (a b : Option ℤ) → Option ℤ

@@ -10,7 +10,7 @@ use Rattle.mk_rule_lines.specs.Source.{stem_of, candidates, source_of}
 use Rattle.mk_rule_lines.specs.declared.form.Form.{Form}
 use Rattle.mk_rule_lines.specs.declared.form.Source.{Source}
 use Rattle.mk_rule_lines.specs.declared.rule_line.RuleLine.{RuleLine}
-use Rattle.mk_rules.specs.declared.chain.TheConstants.{MAX_STEPS}
+use Rattle.mk_nodes.specs.declared.limits.TheConstants.{MAX_STEPS}
 
 -- some line is in the wide profile
 abbrev pub any_wide : List RuleLine → Bool

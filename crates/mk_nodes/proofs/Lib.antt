@@ -1,0 +1,4 @@
+pub mod FreshLemmas
+pub mod MarkLemmas
+pub mod OneGraphLemmas
+pub mod OneNumberingLemmas

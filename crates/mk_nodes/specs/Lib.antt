@@ -1,0 +1,12 @@
+pub mod Chain
+pub mod Graph
+pub mod Groups
+pub mod Hidden
+pub mod Links
+pub mod Node
+pub mod Prerequisites
+pub mod Rare
+pub mod ShortNumber
+pub mod Stamp
+pub mod Waits
+pub mod Wanted
