@@ -8,7 +8,7 @@ use Rattle.mk_wildcards.specs.Pattern.{has_wildcard}
 use Rattle.mk_wildcards.specs.Found.{Folders, is_slash, parts, joined, steps, is_end, found, in_order, or_itself, names_of, line_of}
 use Rattle.mk_eval.specs.Output.{World}
 use Rattle.mk_eval.specs.Listed.{found_in, listed, listed_text, stepped}
-use Rattle.mk_eval.specs.Short.{has_here, shortened}
+use Rattle.mk_eval.specs.Short.{has_other_names, renamed}
 use Rattle.mk_eval.specs.Static.{doubled}
 use Rattle.mk_eval.proofs.MakefileLemmas.{names_stand}
 use Rattle.mk_reader.specs.Text.{is_dollar}
@@ -66,7 +66,7 @@ names_found folders word names some e =
 -- Texts and rules
 
 abbrev is_respelled : (text : List ℕ) → Bool
-is_respelled text = has_here text || has_wildcard text
+is_respelled text = has_other_names text || has_wildcard text
 
 pub text_plain : (folders : Folders) (text bytes : List ℕ) → is_respelled bytes ≡ false → text ≡ listed_text folders text (gives bytes)
 text_plain folders text bytes none = sym (ap (λ t. cond t (doubled (listed folders bytes)) text) none)
@@ -74,5 +74,5 @@ text_plain folders text bytes none = sym (ap (λ t. cond t (doubled (listed fold
 pub text_stands : (world : World) (text : List ℕ) (given : Defined) → list_any is_dollar text ≡ false → is_respelled text ≡ false → IsListedText world text given text
 text_stands world text given none plain = (gives text, names_stand given text text none refl, text_plain world.folders text text plain)
 
-pub listed_some : (folders : Folders) (text short line : List ℕ) → short ≡ shortened text → has_wildcard short ≡ true → line ≡ line_of folders short → line ≡ listed folders text
+pub listed_some : (folders : Folders) (text short line : List ℕ) → short ≡ renamed text → has_wildcard short ≡ true → line ≡ line_of folders short → line ≡ listed folders text
 listed_some folders text short line is some e = e ∙ sym (ap (λ t. cond t (line_of folders short) short) some) ∙ ap (found_in folders) is

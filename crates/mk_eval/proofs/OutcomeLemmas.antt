@@ -15,6 +15,7 @@ use Rattle.mk_macros.proofs.SomeOutcomeLemmas.{outcome_some}
 use Rattle.mk_reader.specs.Special.{special_name}
 use Rattle.mk_reader.specs.Text.{is_dollar}
 use Rattle.mk_reader.specs.Grammar.{Without, refusal}
+use Rattle.mk_reader.specs.Quoted.{without_quoted}
 use Rattle.mk_reader.specs.Printed.{PlainItem, definition, rule, ArePlain, printed, next, after_recipe, definition_on, recipe_on, items_on}
 use Rattle.mk_reader.specs.declared.fault.Cause.TheVariants.{IncludeDepth, IncludeMissing, Macro}
 use Rattle.mk_reader.specs.declared.directive.Directive.TheVariants.{Vpath}
@@ -40,7 +41,7 @@ use Rattle.mk_eval.specs.Judged.{searches, changes_recipes, opens_vpath, at_line
 use Rattle.mk_eval.specs.PlainRules.{IsPlainText, IsPlainLine, IsPlainRule, IsTakenRule, IsTakenDefinition, ArePlainRules}
 use Rattle.mk_eval.specs.Static.{doubled}
 use Rattle.mk_eval.specs.Listed.{listed_text}
-use Rattle.mk_eval.specs.Short.{has_here}
+use Rattle.mk_eval.specs.Short.{has_other_names}
 use Rattle.mk_eval.proofs.ListedLemmas.{text_plain}
 use Rattle.mk_wildcards.specs.Pattern.{has_wildcard}
 use Rattle.mk_wildcards.specs.Found.{Folders}
@@ -227,7 +228,7 @@ targets_stand : (given : Defined) (text : List ℕ) → list_any is_dollar text 
 targets_stand given text none = subst (λ refers. NamesIn refers given text (gives text)) (sym none) refl
 
 -- a text without a wildcard and a `./` stands as it is
-text_listed : (folders : Folders) (text : List ℕ) → has_wildcard text ≡ false → has_here text ≡ false → listed_text folders text (gives text) ≡ text
+text_listed : (folders : Folders) (text : List ℕ) → has_wildcard text ≡ false → has_other_names text ≡ false → listed_text folders text (gives text) ≡ text
 text_listed folders text none here = sym (text_plain folders text text (ap (λ t. t || has_wildcard text) here ∙ none))
 
 rule_listed : (world : World) (lines : Rule) (given : Defined) → IsPlainText lines.targets → IsPlainText lines.prerequisites → IsListedRule world lines given (gives lines.targets) lines
@@ -241,7 +242,7 @@ rule_listed world lines given targets prerequisites = (
 )
 
 rule_given : (world : World) (wide : Bool) (lines : Rule) (given : Defined) → special_name given.language (first_word lines.targets) ≡ None →
-    (wide ≡ true → (DefinesMacro lines.prerequisites → ⊥) × Without 58 58 lines.prerequisites × IsPlainText lines.targets × IsPlainText lines.prerequisites) →
+    (wide ≡ true → (DefinesMacro lines.prerequisites → ⊥) × Without 58 58 (without_quoted lines.prerequisites) × IsPlainText lines.targets × IsPlainText lines.prerequisites) →
     RuleItems world wide lines given (Ok (item.Rule lines ∷ []))
 rule_given world true lines given none plain =
     let here = plain refl in

@@ -10,7 +10,8 @@ use Rattle.mk_macros.specs.Expansion as expansion
 use Rattle.mk_macros.specs.Expansion.{gives, fails, ExpandsTo}
 use Rattle.mk_macros.specs.Ranks.{Defined, rule_meanings}
 use Rattle.mk_macros.proofs.OutcomeLemmas.{expands_once}
-use Rattle.mk_reader.specs.Grammar.{Without}
+use Rattle.mk_reader.specs.Grammar.{Without, IsColonCut}
+use Rattle.mk_reader.specs.Quoted.{without_quoted}
 use Rattle.mk_reader.specs.Text.{is_dollar}
 use Rattle.mk_reader.specs.Form.{first_outside, Refuses}
 use Rattle.mk_reader.specs.declared.form.Place.TheVariants.{Outside}
@@ -27,10 +28,11 @@ use Rattle.mk_profile.specs.declared.profile.Profile.{Profile}
 use Rattle.mk_reader.specs.declared.fault.StaticCause.TheVariants.{NoPercent}
 use Rattle.mk_reader.proofs.ReferenceLemmas.{either, cut_found, none_found, Said, said}
 use Rattle.mk_reader.proofs.CutLemmas.{one_of, cut_left, cut_right}
+use Rattle.mk_reader.proofs.QuotedLemmas.{one_colon, no_colon, colon_found}
 use Rattle.mk_eval.specs.Static.{IsCutAt, name_macro, DefinesMacro, has_percent, pattern_fault, rule_for}
 use Rattle.mk_eval.specs.Output.{World}
 use Rattle.mk_eval.specs.Listed.{listed, listed_rule}
-use Rattle.mk_eval.specs.Short.{shortened}
+use Rattle.mk_eval.specs.Short.{renamed}
 use Rattle.mk_reader.specs.declared.item.Special.{Special}
 use Rattle.mk_reader.specs.declared.special.SpecialName.{SpecialName}
 use Rattle.mk_eval.specs.Makefile.{Outcome, GivesItems, refused_rule, TargetItems, unmoved, JudgedItems, PatternItems, Behind, WithText, StaticItems, NamesIn, LineNames, special_in, named_rule, IsListed, PlainItems, WideRuleItems, RuleItems, SpecialItems}
@@ -145,7 +147,7 @@ module _ (rule : Rule) where
   static_one : (world : World) (left right : List ℕ) (given : Defined) → IsOne (StaticItems world rule left right given)
   static_one world left right given =
       with_text_one given rule.targets _ (λ targets. with_text_one given left _ (λ patterns. with_text_one given right _ (λ prerequisites.
-      pattern_one (words (listed world.folders targets)) (words (shortened patterns)) (words (listed world.folders prerequisites)))))
+      pattern_one (words (listed world.folders targets)) (words (renamed patterns)) (words (listed world.folders prerequisites)))))
 
   -- the rule with names in the place of wildcards
   listed_one : (world : World) (given : Defined) (targets also : expansion.Outcome) (one other : Rule) → LineNames given rule.targets targets → LineNames given rule.targets also →
@@ -166,10 +168,10 @@ module _ (rule : Rule) where
   wide_one world given one other (inr (inl h)) (inl (defines, b)) = absurd (h.0 defines)
   wide_one world given one other (inr (inr h)) (inl (defines, b)) = absurd (h.0 defines)
   wide_one world given one other (inr (inl (never, without, a))) (inr (inl (also, lacks, b))) = plain_one world given one other a b
-  wide_one world given one other (inr (inl (never, without, a))) (inr (inr (also, left, right, cut, b))) = absurd (cut_none 58 refl refl rule.prerequisites left right cut without)
-  wide_one world given one other (inr (inr (never, left, right, cut, a))) (inr (inl (also, without, b))) = absurd (cut_none 58 refl refl rule.prerequisites left right cut without)
+  wide_one world given one other (inr (inl (never, without, a))) (inr (inr (also, left, right, cut, b))) = absurd (no_colon rule.prerequisites left right cut without)
+  wide_one world given one other (inr (inr (never, left, right, cut, a))) (inr (inl (also, without, b))) = absurd (no_colon rule.prerequisites left right cut without)
   wide_one world given one other (inr (inr (never, left, right, cut, a))) (inr (inr (also, l, r, is, b))) =
-      let same = cut_one 58 refl refl rule.prerequisites left right l r cut is in
+      let same = one_colon rule.prerequisites left right l r cut is in
       static_one world l r given one other (subst (λ x. StaticItems world rule x r given one) same.0 (subst (λ y. StaticItems world rule left y given one) same.1 a)) b
 
   pub rule_one : (world : World) (wide : Bool) (given : Defined) → IsOne (RuleItems world wide rule given)
@@ -203,7 +205,7 @@ module _ (rule : Rule) where
     static_some : (world : World) (left right : List ℕ) → Some_of (StaticItems world rule left right given)
     static_some world left right =
         with_text_some rule.targets _ (λ targets. with_text_some left _ (λ patterns. with_text_some right _ (λ prerequisites.
-        pattern_some (words (listed world.folders targets)) (words (shortened patterns)) (words (listed world.folders prerequisites)))))
+        pattern_some (words (listed world.folders targets)) (words (renamed patterns)) (words (listed world.folders prerequisites)))))
 
     pub names_told : (text : List ℕ) → (names : expansion.Outcome) × LineNames given text names
     names_told text = either_way (list_any is_dollar text)
@@ -223,9 +225,9 @@ module _ (rule : Rule) where
         (named_rule given.language found.0 (special_in given.language targets.0), (targets.0, targets.1, found.0, found.1, refl))
 
     wide_some : (world : World) → Some_of (WideRuleItems world rule given)
-    wide_some world = at (macro_found rule.prerequisites) (cut_some 58 refl refl rule.prerequisites)
+    wide_some world = at (macro_found rule.prerequisites) (colon_found rule.prerequisites)
       where
-        at : DefinesMacro rule.prerequisites ⊎ (DefinesMacro rule.prerequisites → ⊥) → Without 58 58 rule.prerequisites ⊎ ((left : List ℕ) × (right : List ℕ) × IsCutAt 58 rule.prerequisites left right) → Some_of (WideRuleItems world rule given)
+        at : DefinesMacro rule.prerequisites ⊎ (DefinesMacro rule.prerequisites → ⊥) → Without 58 58 (without_quoted rule.prerequisites) ⊎ ((left : List ℕ) × (right : List ℕ) × IsColonCut rule.prerequisites left right) → Some_of (WideRuleItems world rule given)
         at (inl defines) cut = (refused_rule rule (Unsupported TargetMacro), inl (defines, refl))
         at (inr never) (inl without) = let whole = plain_some world in (whole.0, inr (inl (never, without, whole.1)))
         at (inr never) (inr (left, right, cut)) = let whole = static_some world left right in (whole.0, inr (inr (never, left, right, cut, whole.1)))
@@ -248,13 +250,13 @@ special_some world true special given expands =
 special_some world false special given expands = (_, refl)
 
 -- what a static pattern rule gives is what the rule gives
-pub static_given : (world : World) (rule : Rule) (given : Defined) (left right : List ℕ) (r : Result (Vec Item Global) ReadFault) → is_wide given.language ≡ true → (DefinesMacro rule.prerequisites → ⊥) → IsCutAt 58 rule.prerequisites left right →
+pub static_given : (world : World) (rule : Rule) (given : Defined) (left right : List ℕ) (r : Result (Vec Item Global) ReadFault) → is_wide given.language ≡ true → (DefinesMacro rule.prerequisites → ⊥) → IsColonCut rule.prerequisites left right →
     GivesItems r (StaticItems world rule left right given) → GivesItems r (RuleItems world (is_wide given.language) rule given)
 static_given world rule given left right r wide never cut h =
     items_passed_on r (StaticItems world rule left right given) (RuleItems world (is_wide given.language) rule given) h (λ o s. subst (λ w. RuleItems world w rule given o) (sym wide) (inr (inr (never, left, right, cut, s))))
 
 -- so is what a plain rule gives
-pub plain_given : (world : World) (rule : Rule) (given : Defined) (r : Result (Vec Item Global) ReadFault) → is_wide given.language ≡ true → (DefinesMacro rule.prerequisites → ⊥) → Without 58 58 rule.prerequisites →
+pub plain_given : (world : World) (rule : Rule) (given : Defined) (r : Result (Vec Item Global) ReadFault) → is_wide given.language ≡ true → (DefinesMacro rule.prerequisites → ⊥) → Without 58 58 (without_quoted rule.prerequisites) →
     GivesItems r (PlainItems world rule given) → GivesItems r (RuleItems world (is_wide given.language) rule given)
 plain_given world rule given r wide never without h =
     items_passed_on r (PlainItems world rule given) (RuleItems world (is_wide given.language) rule given) h (λ o s. subst (λ w. RuleItems world w rule given o) (sym wide) (inr (inl (never, without, s))))

@@ -12,7 +12,8 @@ use Rattle.mk_macros.specs.declared.definitions.Rank.TheVariants.{Makefile}
 use Rattle.mk_macros.specs.declared.fault.MacroFault.{MacroFault}
 use Rattle.mk_macros.specs.declared.fault.MacroFault.TheVariants as macro_fault
 use Rattle.mk_reader.specs.Text.{is_dollar, is_text}
-use Rattle.mk_reader.specs.Grammar.{Without, refusal}
+use Rattle.mk_reader.specs.Grammar.{Without, IsColonCut, refusal}
+use Rattle.mk_reader.specs.Quoted.{without_quoted}
 use Rattle.mk_reader.specs.Special.{special_name, is_refused}
 use Rattle.mk_reader.specs.declared.special.SpecialName.{SpecialName}
 use Rattle.mk_reader.specs.Statements.{AreStatements}
@@ -39,8 +40,8 @@ use Rattle.mk_eval.specs.Output.{World, output_text, with_shell}
 use Rattle.mk_reader.specs.declared.item.Special.{Special}
 use Rattle.mk_eval.specs.Judged.{all_judged}
 use Rattle.mk_eval.specs.Listed.{listed, listed_text, listed_rule}
-use Rattle.mk_eval.specs.Short.{shortened}
-use Rattle.mk_eval.specs.Static.{doubled, IsCutAt, DefinesMacro, with_stem, pattern_fault, rule_for}
+use Rattle.mk_eval.specs.Short.{renamed}
+use Rattle.mk_eval.specs.Static.{doubled, DefinesMacro, with_stem, pattern_fault, rule_for}
 use Rattle.mk_eval.specs.Unmade.{outcome_beside}
 
 -- the items of a text, or its first fault
@@ -212,7 +213,7 @@ WithText rule given text Rest outcome = (told : expansion.Outcome) × ExpandsTo 
 abbrev pub StaticItems : World → Rule → (left right : List ℕ) → Defined → Outcome → Type 0
 StaticItems world rule left right given outcome =
     WithText rule given rule.targets (λ targets. WithText rule given left (λ patterns. WithText rule given right (λ prerequisites.
-    PatternItems rule (words (listed world.folders targets)) (words (shortened patterns)) (words (listed world.folders prerequisites))))) outcome
+    PatternItems rule (words (listed world.folders targets)) (words (renamed patterns)) (words (listed world.folders prerequisites))))) outcome
 
 -- the special name that stands first among the targets of a rule line, which came to this; targets without an expansion name none, which
 -- is told with the line
@@ -244,8 +245,8 @@ PlainItems world rule given outcome =
 abbrev pub WideRuleItems : World → Rule → Defined → Outcome → Type 0
 WideRuleItems world rule given outcome =
     (DefinesMacro rule.prerequisites × (outcome ≡ refused_rule rule (Unsupported TargetMacro)))
-    ⊎ (((DefinesMacro rule.prerequisites → ⊥) × Without 58 58 rule.prerequisites × PlainItems world rule given outcome)
-    ⊎ ((DefinesMacro rule.prerequisites → ⊥) × (left : List ℕ) × (right : List ℕ) × IsCutAt 58 rule.prerequisites left right × StaticItems world rule left right given outcome))
+    ⊎ (((DefinesMacro rule.prerequisites → ⊥) × Without 58 58 (without_quoted rule.prerequisites) × PlainItems world rule given outcome)
+    ⊎ ((DefinesMacro rule.prerequisites → ⊥) × (left : List ℕ) × (right : List ℕ) × IsColonCut rule.prerequisites left right × StaticItems world rule left right given outcome))
 
 abbrev pub RuleItems : World → (wide : Bool) → Rule → Defined → Outcome → Type 0
 RuleItems world true rule given outcome = WideRuleItems world rule given outcome

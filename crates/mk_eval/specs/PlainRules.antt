@@ -4,16 +4,17 @@ use Rattle.std.specs.List.{list_any}
 use Rattle.mk_profile.specs.Profile.{is_wide}
 use Rattle.mk_profile.specs.declared.profile.Profile.{Profile}
 use Rattle.mk_reader.specs.Grammar.{Without}
+use Rattle.mk_reader.specs.Quoted.{without_quoted}
 use Rattle.mk_reader.specs.Text.{is_dollar, is_empty, ends_with}
 use Rattle.mk_wildcards.specs.Pattern.{has_wildcard}
 use Rattle.mk_reader.specs.Printed.{PlainItem, definition, rule}
 use Rattle.mk_eval.specs.Judged.{opens_vpath, searches}
-use Rattle.mk_eval.specs.Short.{has_here}
+use Rattle.mk_eval.specs.Short.{has_other_names}
 use Rattle.mk_eval.specs.Static.{DefinesMacro}
 
--- neither a reference nor a wildcard stands in the text, and no word of it begins with `./`
+-- neither a reference nor a wildcard stands in the text, and each word of it is the name that it stands for
 abbrev pub IsPlainText : List ℕ → Type 0
-IsPlainText text = (list_any is_dollar text ≡ false) × (has_wildcard text ≡ false) × (has_here text ≡ false)
+IsPlainText text = (list_any is_dollar text ≡ false) × (has_wildcard text ≡ false) × (has_other_names text ≡ false)
 
 abbrev pub IsPlainLine : Profile → (targets prerequisites : List ℕ) → Type 0
 IsPlainLine profile targets prerequisites = is_wide profile ≡ true → IsPlainText targets × IsPlainText prerequisites
@@ -21,7 +22,7 @@ IsPlainLine profile targets prerequisites = is_wide profile ≡ true → IsPlain
 -- a rule of these targets and prerequisites gives itself in each profile
 abbrev pub IsPlainRule : Profile → (targets prerequisites : List ℕ) → Type 0
 IsPlainRule profile targets prerequisites =
-    is_wide profile ≡ true → (DefinesMacro prerequisites → ⊥) × Without 58 58 prerequisites × IsPlainText targets × IsPlainText prerequisites
+    is_wide profile ≡ true → (DefinesMacro prerequisites → ⊥) × Without 58 58 (without_quoted prerequisites) × IsPlainText targets × IsPlainText prerequisites
 
 -- the wide profile doesn't refuse the line by name
 abbrev pub IsTakenRule : Profile → (targets : List ℕ) → Type 0

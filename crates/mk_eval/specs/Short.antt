@@ -1,12 +1,27 @@
--- Texts of rule lines, their names without a `./` in front.
-use Rattle.std.specs.Prelude.{ℕ, Bool, List, ◌∷◌, flat_map, if◌then◌else◌}
+-- Texts of rule lines, their names without a `./` in front and without the backslashes that quote a colon.
+use Rattle.std.specs.Prelude.{ℕ, Bool, false, ◌&&◌, ◌||◌, List, [], ◌∷◌, flat_map, if◌then◌else◌}
 use Rattle.std.specs.List.{list_any}
 use Rattle.byte_strings.specs.Blanks.{words}
+use Rattle.mk_reader.specs.Text.{is_backslash, begins_with}
 use Rattle.mk_short_names.specs.Short.{begins_here, short_name}
 
-abbrev pub has_here : (text : List ℕ) → Bool
-has_here text = list_any begins_here (words text)
+-- a backslash directly before a colon
+abbrev pub quotes_colon : (b : ℕ) (behind : List ℕ) → Bool
+quotes_colon b behind = is_backslash b && begins_with 58 behind
 
--- the words of a text, each in its short form, where one of them has another
-abbrev pub shortened : (text : List ℕ) → List ℕ
-shortened text = if has_here text then flat_map (λ word. 32 ∷ short_name word) (words text) else text
+abbrev pub has_quoted : (text : List ℕ) → Bool
+has_quoted [] = false
+has_quoted (b ∷ bs) = quotes_colon b bs || has_quoted bs
+
+-- the name with `:` for `\:` (GNU make; that other backslashes before it stay: own, where GNU make halves them)
+abbrev pub unquoted : (name : List ℕ) → List ℕ
+unquoted [] = []
+unquoted (b ∷ bs) = if quotes_colon b bs then unquoted bs else b ∷ unquoted bs
+
+-- a word of the text stands for another name
+abbrev pub has_other_names : (text : List ℕ) → Bool
+has_other_names text = list_any begins_here (words text) || has_quoted text
+
+-- the words of a text, each by the name that it stands for, where one of them stands for another
+abbrev pub renamed : (text : List ℕ) → List ℕ
+renamed text = if has_other_names text then flat_map (λ word. 32 ∷ unquoted (short_name word)) (words text) else text

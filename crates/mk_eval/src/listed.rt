@@ -7,13 +7,13 @@ ghost use Rattle.mk_macros.specs.Ranks.{defined_by};
 ghost use Rattle.mk_eval.specs.Output.{World};
 ghost use Rattle.mk_wildcards.specs.Pattern.{has_wildcard};
 ghost use Rattle.mk_eval.specs.Listed.{listed, stepped};
-ghost use Rattle.mk_eval.specs.Short.{has_here};
+ghost use Rattle.mk_eval.specs.Short.{has_other_names};
 ghost use Rattle.mk_eval.specs.Makefile.{LineNames, IsListed, IsTold, IsListedText};
 
 use crate::doubled::doubled;
 use crate::includes::Includes;
 use crate::names::{has_dollar, ran_out};
-use crate::short::{has_here, shortened};
+use crate::short::{has_other_names, renamed};
 use byte_strings::{ByteString, ByteStrings, next_word};
 use mk_macros::{Dynamic, Macros};
 use mk_reader::Rule;
@@ -142,7 +142,7 @@ pub fn listed<I: Includes>(
         → line.items ≡ listed world.folders text.items) }
     ensures grows { (world : World) → I.allows includes.new world → I.allows includes.old world }
 {
-    let text = shortened(alloc, text)?;
+    let text = renamed(alloc, text)?;
     if !has_wildcard(text.as_slice()) {
         return Ok(text);
     }
@@ -151,9 +151,9 @@ pub fn listed<I: Includes>(
 
 /// Whether a name in the text may have another spelling.
 fn is_respelled(text: &[u8]) -> bool
-    ensures { result ≡ (has_here text.now || has_wildcard text.now) }
+    ensures { result ≡ (has_other_names text.now || has_wildcard text.now) }
 {
-    has_here(text) || has_wildcard(text)
+    has_other_names(text) || has_wildcard(text)
 }
 
 /// What a text of a rule line comes to, or none where it has a fault, which is told with the line.

@@ -16,7 +16,7 @@ use crate::special_rule::plain_items;
 use crate::static_rule::static_items;
 use byte_strings::next_word;
 use mk_macros::Macros;
-use mk_reader::{Cause, Feature, Item, ReadFault, Rule, split_outside};
+use mk_reader::{Cause, Feature, Item, ReadFault, Rule, split_at_colon, split_outside};
 use std::alloc::Global;
 
 fn is_sign(word: &[u8]) -> bool
@@ -68,7 +68,7 @@ pub fn evaluate_rule<I: Includes>(
         let cause = Cause::Unsupported(Feature::TargetMacro);
         return Err(refuse(alloc, rule.file.as_slice(), rule.line, cause));
     }
-    if let Some((left, right)) = split_outside(rule.prerequisites.as_slice(), b':') {
+    if let Some((left, right)) = split_at_colon(rule.prerequisites.as_slice()) {
         return static_items(alloc, &rule, left, right, macros, includes);
     }
     plain_items(alloc, rule, macros, includes)

@@ -12,7 +12,7 @@ use crate::doubled::doubled;
 use crate::includes::Includes;
 use crate::listed::listed;
 use crate::refuse::{refuse, refuse_text};
-use crate::short::shortened;
+use crate::short::renamed;
 use crate::stem::{pattern_fault, prerequisites_with, stem_of};
 use byte_strings::{ByteString, next_word};
 use mk_macros::{Dynamic, Macros};
@@ -155,7 +155,7 @@ pub fn static_items<I: Includes>(
     let patterns = text_of(alloc, rule, left, macros)?;
     let prerequisites = text_of(alloc, rule, right, macros)?;
     let targets = listed(alloc, targets, includes)?;
-    let patterns = shortened(alloc, patterns)?;
+    let patterns = renamed(alloc, patterns)?;
     let prerequisites = listed(alloc, prerequisites, includes)?;
     pattern_items(
         alloc,

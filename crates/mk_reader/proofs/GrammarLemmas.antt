@@ -7,6 +7,7 @@ use Rattle.mk_profile.specs.declared.profile.Profile.{Profile}
 use Rattle.mk_reader.specs.Text.{is_dollar, is_empty, is_text}
 use Rattle.mk_reader.specs.Grammar.{refusal, is_bad_include, IsIncludeForm, IsLine, IsTextLine, IsRecipeLine, IsOfKind, IsForm}
 use Rattle.mk_reader.specs.Directive.{told_as}
+use Rattle.mk_reader.specs.Quoted.{signs_in}
 use Rattle.mk_reader.specs.Form.{include_kind, include_form, opened_form, decided_form, first_outside, line_form, line_content, content_form, statement_form, recipe_form, form_of}
 use Rattle.mk_reader.specs.declared.fault.Feature.TheVariants as feature
 use Rattle.mk_reader.specs.declared.fault.Cause.TheVariants as cause
@@ -71,7 +72,7 @@ module _ (file : List ℕ) (number : ℕ) (profile : Profile) where
       opened f (Some required) e =
           let names = drop (length (first_word line)) line in
           inr (inl (required, names, kind_opens profile line required e, include_said required names))
-      opened f None e = inr (inr (f, (λ required names h. absurd (cc ((opens_kind profile line required names h).0, e))), (decided_form profile file number line (first_outside 61 58 Outside line), decided_said file number profile line _ (said 61 58 refl line), refl)))
+      opened f None e = inr (inr (f, (λ required names h. absurd (cc ((opens_kind profile line required names h).0, e))), (decided_form profile file number line (first_outside 61 58 Outside (signs_in profile line)), decided_said file number profile line _ (said 61 58 refl (signs_in profile line)), refl)))
 
   pub line_back : (line : List ℕ) (told : Told) → IsLine profile file number line told → line_form profile file number line ≡ told
   unfolding line_form

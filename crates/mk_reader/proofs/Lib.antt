@@ -6,15 +6,16 @@ pub mod FormLemmas
 pub mod GrammarLemmas
 pub mod JoinedLemmas
 pub mod LinesLemmas
-pub mod OpenedLemmas
 pub mod OpensLemmas
 pub mod OutsideLemmas
 pub mod PlaceLemmas
 pub mod PlainLemmas
 pub mod PrintedItemsLemmas
 pub mod PrintedLemmas
+pub mod QuotedLemmas
 pub mod ReferenceLemmas
 pub mod SaidLemmas
+pub mod SearchLemmas
 pub mod SpecialLemmas
 pub mod SpelledLemmas
 pub mod SpellingLemmas

@@ -3,8 +3,9 @@ use Rattle.std.proofs.Common.{◌≡◌, ℕ, ◌+◌, Bool, true, false, not, �
 use Rattle.std.proofs.lemmas.Bool.Decides.{Decides-eqb}
 use Rattle.std.specs.List.{list_any}
 use Rattle.mk_reader.specs.Text.{is_hash}
-use Rattle.mk_reader.specs.Grammar.{ends_definition, OpensBehind, OpensRecipe}
+use Rattle.mk_reader.specs.Grammar.{ends_definition, OpensBehind, OpensAsSeen, OpensRecipe}
 use Rattle.mk_reader.specs.Form.{first_outside, recipe_behind, opens_at, opens_recipe}
+use Rattle.mk_reader.specs.Quoted.{without_quoted}
 use Rattle.mk_reader.specs.declared.form.Place.TheVariants.{Outside}
 use Rattle.mk_reader.proofs.ReferenceLemmas.{Said, said, cut_found}
 use Rattle.mk_reader.proofs.BlankLemmas.{and_true}
@@ -28,7 +29,7 @@ behind_is right (before, recipe, e, whole, none) =
     ap (recipe_behind right) (cut_found 59 59 refl right before 59 recipe e whole refl)
     ∙ ap (λ xs. not (has_hash xs)) (cut_left right before 59 recipe (length before) e refl) ∙ ap not none
 
-opens_of : (text : List ℕ) (o : Option ℕ) → Said 61 58 refl o text → opens_at text o ≡ true → OpensRecipe text
+opens_of : (text : List ℕ) (o : Option ℕ) → Said 61 58 refl o text → opens_at text o ≡ true → OpensAsSeen text
 opens_of text None s h = absurd (cc h)
 opens_of text (Some n) (left, b, right, e, whole, is_one, long) h =
     let front : take n text ≡ left = cut_left text left b right n e long in
@@ -50,11 +51,10 @@ opens_of text (Some n) (left, b, right, e, whole, is_one, long) h =
 
 pub opens_said : (text : List ℕ) → opens_recipe text ≡ true → OpensRecipe text
 unfolding opens_recipe
-opens_said text h = opens_of text (first_outside 61 58 Outside text) (said 61 58 refl text) h
+opens_said text h = let line = without_quoted text in opens_of line (first_outside 61 58 Outside line) (said 61 58 refl line) h
 
-pub opens_is : (text : List ℕ) → OpensRecipe text → opens_recipe text ≡ true
-unfolding opens_recipe
-opens_is text (left, right, (e, whole), no_sign, behind, none) =
+as_seen : (text : List ℕ) → OpensAsSeen text → opens_at text (first_outside 61 58 Outside text) ≡ true
+as_seen text (left, right, (e, whole), no_sign, behind, none) =
     let n = length left in
     let r = drop (n + 1) text in
     let back : r ≡ right = cut_right text left 58 right n e refl in
@@ -65,3 +65,7 @@ opens_is text (left, right, (e, whole), no_sign, behind, none) =
     ∙ ap (λ c. c == 58 && (not (ends_definition r) && (not (has_hash (take n text)) && recipe_behind r (first_outside 59 59 Outside r)))) (cut_byte text left 58 right n e refl)
     ∙ ap (λ t. not t && (not (has_hash (take n text)) && recipe_behind r (first_outside 59 59 Outside r))) no_definition
     ∙ ap (λ t. not t && recipe_behind r (first_outside 59 59 Outside r)) no_hash ∙ rest
+
+pub opens_is : (text : List ℕ) → OpensRecipe text → opens_recipe text ≡ true
+unfolding opens_recipe
+opens_is text opens = as_seen (without_quoted text) opens

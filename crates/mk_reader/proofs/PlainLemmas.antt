@@ -5,11 +5,14 @@ use Rattle.std.proofs.lemmas.List.Folds.{list_all-append, list_any-append}
 use Rattle.std.specs.List.{list_any, list_all}
 use Rattle.byte_strings.specs.Blanks.{is_blank, trimmed, first_word}
 use Rattle.mk_profile.specs.declared.profile.Profile.{Profile}
-use Rattle.mk_reader.specs.Text.{is_empty, begins_with, is_plain, is_text}
+use Rattle.mk_profile.specs.Profile.{is_wide}
+use Rattle.mk_reader.specs.Text.{is_backslash, is_empty, begins_with, is_plain, is_text}
+use Rattle.mk_reader.specs.Quoted.{signs_in}
 use Rattle.mk_reader.specs.Form.{include_kind}
 use Rattle.mk_reader.specs.Plain.{is_sign, is_quiet, may_include, IsPlainLine, plain_rule, IsPlainRule}
 use Rattle.mk_reader.specs.Grammar.{plain, nothing, Lacks, Whole, Without, Padded, BeginsInclude, IsInclude, IsNoInclude, IsRuleEnd, IsShell, SpellsRule, IsStatement, HasContent}
 use Rattle.mk_reader.specs.declared.form.Form.TheVariants as form
+use Rattle.mk_reader.proofs.QuotedLemmas.{none_quoted}
 use Rattle.mk_reader.proofs.ReferenceLemmas.{either, or_false}
 use Rattle.mk_reader.proofs.BlankLemmas.{and_true, trimmed_padded}
 use Rattle.mk_reader.proofs.WordLemmas.{begins_with_first_word, has_special, opens_kind, kind_opens}
@@ -32,6 +35,7 @@ record Quiet (b : ℕ) : Type 0 where
   colon : (b == 58) ≡ false
   semicolon : (b == 59) ≡ false
   equals : (b == 61) ≡ false
+  backslash : (b == 92) ≡ false
 
 quiet : (b : ℕ) → is_quiet b ≡ true → Quiet b
 quiet b h =
@@ -41,7 +45,7 @@ quiet b h =
     let three = or_false (b == 35 || b == 36 || b == 58) (b == 59) four.0 in
     let two = or_false (b == 35 || b == 36) (b == 58) three.0 in
     let one = or_false (b == 35) (b == 36) two.0 in
-    record { plain = parts.0; hash = one.0; dollar = one.1; colon = two.1; semicolon = three.1; equals = four.1 }
+    record { plain = parts.0; hash = one.0; dollar = one.1; colon = two.1; semicolon = three.1; equals = four.1; backslash = five.1 }
 
 -- a byte of text that begins no comment
 abbrev is_clean : ℕ → Bool
@@ -146,9 +150,19 @@ not_opened profile line h = none_left (include_kind profile (first_word line)) r
 
 -- The line
 
+bare : (wide some : Bool) → some ≡ false → (wide && some) ≡ false
+bare true some h = h
+bare false some h = refl
+
 module _ (profile : Profile) (text line left right : List ℕ) (at : line ≡ trimmed text) (is : IsPlainLine line left right) where
+  all_seen : signs_in profile line ≡ left ++ 58 ∷ right
+  all_seen =
+      let front = lacks is_quiet 92 (λ b q. (quiet b q).backslash) left is.1 in
+      let back = lacks is_quiet 92 (λ b q. (quiet b q).backslash) right is.2 in
+      none_quoted profile line (bare (is_wide profile) (list_any is_backslash line) (ap (list_any is_backslash) is.0 ∙ list_any-append is_backslash left (58 ∷ right) ∙ ap (λ t. t || list_any is_backslash right) front ∙ back)) ∙ is.0
+
   spelled : is_empty (trimmed left) ≡ false → SpellsRule profile false line (trimmed left) (trimmed right) None
-  spelled some = (left, right, ((is.0, whole 61 58 no_colon_or_equals left is.1), rule_end right is.2), trimmed_padded left, some, (without right is.2, trimmed_padded right))
+  spelled some = (left, right, ((is.0, left, right, (all_seen, whole 61 58 no_colon_or_equals left is.1), refl), rule_end right is.2), trimmed_padded left, some, (without right is.2, trimmed_padded right))
 
   padded : Padded text line
   padded = subst (Padded text) (sym at) (trimmed_padded text)

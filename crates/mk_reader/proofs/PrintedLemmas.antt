@@ -1,13 +1,14 @@
 -- Plain lines are read back as what they were printed of, and a comment changes nothing.
-use Rattle.std.proofs.Common.{◌≡◌, ℕ, Bool, true, false, ◌&&◌, ◌||◌, ◌==◌, List, [], ◌∷◌, ◌++◌, reverse, flat_map, refl, sym, ap, subst, ◌∙◌, inr, append_assoc, append-nil, Option, None, Result, Ok}
+use Rattle.std.proofs.Common.{◌≡◌, ℕ, Bool, true, false, ◌&&◌, ◌||◌, ◌==◌, List, [], ◌∷◌, ◌++◌, length, reverse, flat_map, refl, sym, ap, subst, ◌∙◌, inr, arith, append_assoc, append-nil, length-append, Option, None, Result, Ok}
 use Rattle.std.specs.List.{list_any}
 use Rattle.std.proofs.lemmas.List.{reverse-append}
 use Rattle.std.proofs.lemmas.List.Folds.{list_any-append}
 use Rattle.byte_strings.specs.Blanks.{is_blank, first_word}
 use Rattle.mk_profile.specs.Profile.{is_wide}
 use Rattle.mk_profile.specs.declared.profile.Profile.{Profile}
-use Rattle.mk_reader.specs.Text.{is_empty, begins_with, ends_with, is_text}
-use Rattle.mk_reader.specs.Grammar.{Piece, plain, piece_text, IsPiece, ArePieces, nothing, Lacks, Whole, Without, begins_blank, Padded, BeginsWithWord, BeginsInclude, IsNoInclude, SpellsName, SpellsAssignment, SpellsDefinition, SpellsColon, IsRuleEnd, ends_sign, SpellsRuleSign, SpellsEnd, SpellsRule, HasSpecial, is_refused_with, IsStatement, OpensRecipe, HasContent, IsTextLine, IsForm}
+use Rattle.mk_reader.specs.Text.{is_backslash, is_empty, begins_with, ends_with, is_text}
+use Rattle.mk_reader.specs.Quoted.{signs_in}
+use Rattle.mk_reader.specs.Grammar.{Piece, plain, piece_text, IsPiece, ArePieces, nothing, Lacks, Whole, Without, begins_blank, Padded, BeginsWithWord, BeginsInclude, IsNoInclude, SpellsName, SpellsAssignment, SpellsDefinition, IsCut, IsRuleEnd, ends_sign, SpellsRuleSign, SpellsEnd, SpellsRule, HasSpecial, is_refused_with, IsStatement, OpensRecipe, HasContent, IsTextLine, IsForm}
 use Rattle.mk_reader.specs.Form.{line_content}
 use Rattle.mk_reader.specs.Printed.{line_of_text, HasBareEnds, IsPlainName, IsPlainValue, ArePlainTargets, ArePlainPrerequisites, sign, spaced, definition_text, rule_text, HasSign, definition_on, rule_on}
 use Rattle.mk_reader.specs.declared.special.SpecialName.{SpecialName}
@@ -16,6 +17,7 @@ use Rattle.mk_reader.specs.declared.form.Form.{Form}
 use Rattle.mk_reader.specs.declared.form.Form.TheVariants as form
 use Rattle.mk_reader.proofs.ReferenceLemmas.{or_false}
 use Rattle.mk_reader.proofs.WordLemmas.{word_is, begins_with_first_word, include_bare}
+use Rattle.mk_reader.proofs.QuotedLemmas.{seen_apart, seen_first, seen_length}
 use Rattle.mk_reader.proofs.ContentLemmas.{content_said, content_is, never_opens, alone, commented}
 
 abbrev Told : Type 0
@@ -133,9 +135,29 @@ sign_cuts name value false = sym (append_assoc name (32 ∷ []) (61 ∷ spaced v
 sign_cuts name value true =
     sym (append_assoc (name ++ 32 ∷ []) (43 ∷ []) (61 ∷ spaced value) ∙ append_assoc name (32 ∷ []) (43 ∷ 61 ∷ spaced value))
 
-whole_before : (name : List ℕ) (append : Bool) → Whole 61 58 name → Whole 61 58 (before_sign name append)
-whole_before name false w = whole_more 61 58 name 32 w refl refl
-whole_before name true w = whole_more 61 58 (name ++ 32 ∷ []) 43 (whole_more 61 58 name 32 w refl refl) refl refl
+-- a sign that stands behind a space
+spaced_cut : (profile : Profile) (front : List ℕ) (sign : ℕ) (rest : List ℕ) → is_backslash sign ≡ false → Whole 61 58 (signs_in profile front) →
+    IsCut profile sign (front ++ 32 ∷ sign ∷ rest) (front ++ 32 ∷ []) rest
+spaced_cut profile front sign rest none w =
+    let seen : signs_in profile (front ++ 32 ∷ sign ∷ rest) ≡ (signs_in profile front ++ 32 ∷ []) ++ sign ∷ signs_in profile rest =
+    seen_apart profile front 32 (sign ∷ rest) refl refl ∙ ap (λ xs. signs_in profile front ++ 32 ∷ xs) (seen_first profile sign rest none)
+    ∙ sym (append_assoc (signs_in profile front) (32 ∷ []) (sign ∷ signs_in profile rest)) in
+    let long : length (signs_in profile front ++ 32 ∷ []) ≡ length (front ++ 32 ∷ []) =
+    omega (arith, seen_length profile front, length-append (signs_in profile front) (32 ∷ []), length-append front (32 ∷ [])) in
+    (sym (append_assoc front (32 ∷ []) (sign ∷ rest)), signs_in profile front ++ 32 ∷ [], signs_in profile rest, (seen, whole_more 61 58 (signs_in profile front) 32 w refl refl), long)
+
+sign_cut : (profile : Profile) (name value : List ℕ) (append : Bool) → Whole 61 58 (signs_in profile name) → IsCut profile 61 (definition_text name append value) (before_sign name append) (spaced value)
+sign_cut profile name value false w = spaced_cut profile name 61 (spaced value) refl w
+sign_cut profile name value true w =
+    let seen : signs_in profile (definition_text name true value) ≡ (signs_in profile name ++ 32 ∷ 43 ∷ []) ++ 61 ∷ signs_in profile (spaced value) =
+    seen_apart profile name 32 (43 ∷ 61 ∷ spaced value) refl refl
+    ∙ ap (λ xs. signs_in profile name ++ 32 ∷ xs) (seen_first profile 43 (61 ∷ spaced value) refl ∙ ap (λ xs. 43 ∷ xs) (seen_first profile 61 (spaced value) refl))
+    ∙ sym (append_assoc (signs_in profile name) (32 ∷ 43 ∷ []) (61 ∷ signs_in profile (spaced value))) in
+    let long : length (signs_in profile name ++ 32 ∷ 43 ∷ []) ≡ length (before_sign name true) =
+    omega (arith, seen_length profile name, length-append (signs_in profile name) (32 ∷ 43 ∷ []), length-append (name ++ 32 ∷ []) (43 ∷ []), length-append name (32 ∷ [])) in
+    let whole : Whole 61 58 (signs_in profile name ++ 32 ∷ 43 ∷ []) =
+    subst (Whole 61 58) (append_assoc (signs_in profile name) (32 ∷ []) (43 ∷ [])) (whole_more 61 58 (signs_in profile name ++ 32 ∷ []) 43 (whole_more 61 58 (signs_in profile name) 32 w refl refl) refl refl) in
+    (sign_cuts name value true, signs_in profile name ++ 32 ∷ 43 ∷ [], signs_in profile (spaced value), (seen, whole), long)
 
 never : (t : Bool) → (t && false) ≡ false
 never true = refl
@@ -184,7 +206,7 @@ definition_read profile file name value number append n v good =
       begins_more name (sign append ++ spaced value) n.0 bare.0,
       ends_more name (sign append ++ spaced value) (signed_some append value) (signed_end append value v.1.1),
     ) in
-    let assigns : SpellsAssignment profile text (before_sign name append) (spaced value) = (sign_cuts name value append, whole_before name append n.3, no_question name append, no_mark profile name append) in
+    let assigns : SpellsAssignment profile text (before_sign name append) (spaced value) = (sign_cut profile name value append n.3, no_question name append, no_mark profile name append) in
     let spells : SpellsDefinition profile text name append value =
     (before_sign name append, spaced value, assigns, name_spelled name append bare, n.0, n.1, padded_spaced value v.1) in
     let none : IsNoInclude profile text = subst (λ xs. IsNoInclude profile (name ++ xs)) (sym behind.1) (no_include profile name behind.0 (plain_no_include profile name n)) in
@@ -236,12 +258,10 @@ module _ (profile : Profile) (file targets prerequisites : List ℕ) (number : �
 
   read_as : (double : Bool) → is_text (rule_text double targets prerequisites) ≡ true → HasSign profile double → IsReadAs double
   read_as false good is =
-      let colon : SpellsColon (targets ++ 32 ∷ 58 ∷ spaced prerequisites) (targets ++ 32 ∷ []) (spaced prerequisites) =
-      (sym (append_assoc targets (32 ∷ []) (58 ∷ spaced prerequisites)), whole_more 61 58 targets 32 t.3 refl refl) in
+      let colon = spaced_cut profile targets 58 (spaced prerequisites) refl t.3 in
       signed_read false (58 ∷ spaced prerequisites) (colon_end prerequisites p.1.1) (colon_plain prerequisites p.0) (colon, no_rule_sign prerequisites) good
   read_as true good is =
-      let colon : SpellsColon (targets ++ 32 ∷ 58 ∷ 58 ∷ spaced prerequisites) (targets ++ 32 ∷ []) (58 ∷ spaced prerequisites) =
-      (sym (append_assoc targets (32 ∷ []) (58 ∷ 58 ∷ spaced prerequisites)), whole_more 61 58 targets 32 t.3 refl refl) in
+      let colon = spaced_cut profile targets 58 (58 ∷ spaced prerequisites) refl t.3 in
       signed_read true (58 ∷ 58 ∷ spaced prerequisites) (double_end prerequisites p.1.1) (double_plain prerequisites p.0)
       (colon, is refl, no_sign_more prerequisites) good
 

@@ -1,5 +1,5 @@
 -- The code's definition of a statement's form gives what the grammar says.
-use Rattle.std.proofs.Common.{◌≡◌, ℕ, ◌+◌, Bool, true, false, cond, not, ◌&&◌, ◌||◌, ◌==◌, List, [], ◌∷◌, ◌++◌, take, drop, reverse, refl, sym, ap, subst, ◌∙◌, inl, inr, Option, Some, None, Err, slice_index, codes, bytes_eq}
+use Rattle.std.proofs.Common.{◌≡◌, ℕ, ◌+◌, Bool, true, false, cond, not, ◌&&◌, ◌||◌, ◌==◌, List, [], ◌∷◌, ◌++◌, length, take, drop, reverse, refl, sym, ap, subst, ◌∙◌, inl, inr, Option, Some, None, Err, slice_index, codes, bytes_eq}
 use Rattle.std.proofs.lemmas.Bool.Decides.{Decides-eqb}
 use Rattle.std.proofs.lemmas.Slice.Eq.{bytes_eq-Decides}
 use Rattle.std.specs.List.{list_any, list_all}
@@ -10,7 +10,8 @@ use Rattle.mk_profile.specs.Profile.{is_wide}
 use Rattle.mk_profile.specs.declared.profile.Profile.{Profile}
 use Rattle.mk_reader.specs.Text.{is_empty, begins_with, ends_with, without_last}
 use Rattle.mk_reader.specs.Special.{special_name}
-use Rattle.mk_reader.specs.Grammar.{Whole, Without, Padded, AllBlank, SpellsName, SpellsAssignment, SpellsSign, SpellsColon, IsShell, SpellsRuleSign, SpellsEnd, SpellsRule, HasSpecial, is_refused_with, refusal, first_line, IsStatement}
+use Rattle.mk_reader.specs.Grammar.{IsCut, HasNone, Padded, AllBlank, SpellsName, SpellsAssignment, SpellsSign, SpellsColon, IsShell, SpellsRuleSign, SpellsEnd, SpellsRule, HasSpecial, is_refused_with, refusal, first_line, IsStatement}
+use Rattle.mk_reader.specs.Quoted.{signs_in}
 use Rattle.mk_reader.specs.Form.{first_outside, defined_as, is_no_name, named_form, kind_form, optional_form, assigned_form, definition_form, prerequisites_of, recipe_of, judged_form, rule_form, begins_shell_definition, double_form, set_form, colon_form, unsigned_form, decided_form}
 use Rattle.mk_reader.specs.declared.special.SpecialName.{SpecialName}
 use Rattle.mk_reader.specs.declared.item.DefinitionKind.{DefinitionKind}
@@ -21,6 +22,7 @@ use Rattle.mk_reader.specs.declared.fault.Cause.TheVariants as cause
 use Rattle.mk_reader.specs.declared.form.Place.TheVariants.{Outside}
 use Rattle.mk_reader.proofs.ReferenceLemmas.{either, or_false, Said, said}
 use Rattle.mk_reader.proofs.BlankLemmas.{and_true, begins_is, start_cut, trimmed_start_of, trimmed_padded}
+use Rattle.mk_reader.proofs.QuotedLemmas.{cut_seen}
 use Rattle.mk_reader.proofs.SpellingLemmas.{ends_at}
 use Rattle.mk_reader.proofs.CutLemmas.{Told, by_test, empty_is, one_of, cut_first, not_false, not_true, cut_left, cut_right, cut_byte}
 use Rattle.mk_reader.proofs.WordLemmas.{has_special}
@@ -64,7 +66,7 @@ module _ (file : List ℕ) (number : ℕ) (profile : Profile) where
       (λ e. ((refl, refl), inr (inl (left, right, h, name, append, spells, e))))
       (λ e. let parts = or_false (is_empty name) (list_any is_blank name) e in (refl, refl, refl, (left, right, h, spells, parts.0, parts.1, trimmed_padded right)))
 
-  signed_said : (line : List ℕ) (kind : DefinitionKind) (left right : List ℕ) → is_wide profile ≡ true → SpellsSign kind line left right →
+  signed_said : (line : List ℕ) (kind : DefinitionKind) (left right : List ℕ) → is_wide profile ≡ true → SpellsSign profile kind line left right →
       IsStatement profile file number line (kind_form file number kind (trimmed left) right)
   unfolding kind_form is_no_name defined_as
   signed_said line kind left right wide spells =
@@ -73,13 +75,13 @@ module _ (file : List ℕ) (number : ℕ) (profile : Profile) where
       (λ e. ((refl, refl), inr (inr (inl (wide, kind, left, right, spells, name, trimmed_padded left, e)))))
       (λ e. inr (wide, refl, refl, (left, right, spells, trimmed_padded left, or_false (is_empty name) (list_any is_blank name) e, refl, refl, trimmed_padded right)))
 
-  optional_said : (line left right : List ℕ) → line ≡ left ++ 61 ∷ right → Whole 61 58 left → begins_with 63 (reverse left) ≡ true →
+  optional_said : (line left right : List ℕ) → IsCut profile 61 line left right → begins_with 63 (reverse left) ≡ true →
       IsStatement profile file number line (optional_form profile file number (without_last left) right)
   unfolding optional_form
-  optional_said line left right e whole mark =
+  optional_said line left right cut mark =
       let front = without_last left in
       let is : left ≡ front ++ 63 ∷ [] = ends_at 63 left (reverse left) refl mark in
-      let spells : SpellsSign IfUndefined line front right = (e ∙ ap (λ xs. xs ++ 61 ∷ right) is, subst (Whole 61 58) is whole) in
+      let spells : SpellsSign profile IfUndefined line front right = subst (λ xs. IsCut profile 61 line xs right) is cut in
       either _ (is_wide profile)
       (λ wide. subst (IsStatement profile file number line) (ap (λ t. cond (not t) (Err (refusal file number (cause.Unsupported feature.OptionalDefinition))) (kind_form file number IfUndefined (trimmed front) right)) (sym wide))
       (signed_said line IfUndefined front right wide spells))
@@ -93,21 +95,21 @@ module _ (file : List ℕ) (number : ℕ) (profile : Profile) where
       (λ t. named_said line left right (trimmed (without_last left)) true h (without_last left, ends_at 43 left (reverse left) refl t, trimmed_padded (without_last left)))
       (λ t. named_said line left right (trimmed left) false h (t, trimmed_padded left))
 
-  output_said : (line left right : List ℕ) → line ≡ left ++ 61 ∷ right → Whole 61 58 left → (is_wide profile ≡ true) × (begins_with 33 (reverse left) ≡ true) →
+  output_said : (line left right : List ℕ) → IsCut profile 61 line left right → (is_wide profile ≡ true) × (begins_with 33 (reverse left) ≡ true) →
       IsStatement profile file number line (kind_form file number Output (trimmed (without_last left)) right)
-  output_said line left right e whole (wide, mark) =
+  output_said line left right cut (wide, mark) =
       let is : left ≡ without_last left ++ 33 ∷ [] = ends_at 33 left (reverse left) refl mark in
-      signed_said line Output (without_last left) right wide (e ∙ ap (λ xs. xs ++ 61 ∷ right) is, subst (Whole 61 58) is whole)
+      signed_said line Output (without_last left) right wide (subst (λ xs. IsCut profile 61 line xs right) is cut)
 
-  definition_said : (line left right : List ℕ) → line ≡ left ++ 61 ∷ right → Whole 61 58 left →
+  definition_said : (line left right : List ℕ) → IsCut profile 61 line left right →
       IsStatement profile file number line (definition_form profile file number left right)
   unfolding definition_form ends_with
-  definition_said line left right e whole =
+  definition_said line left right cut =
       by_test (IsStatement profile file number line) (begins_with 63 (reverse left)) _ _
-      (λ t. optional_said line left right e whole t)
+      (λ t. optional_said line left right cut t)
       (λ f. by_test (IsStatement profile file number line) (is_wide profile && begins_with 33 (reverse left)) _ _
-      (λ t. output_said line left right e whole (both (is_wide profile) (begins_with 33 (reverse left)) t))
-      (λ g. assigned_said line left right (e, whole, f, g)))
+      (λ t. output_said line left right cut (both (is_wide profile) (begins_with 33 (reverse left)) t))
+      (λ g. assigned_said line left right (cut, f, g)))
 
   -- Rules
 
@@ -167,52 +169,55 @@ module _ (file : List ℕ) (number : ℕ) (profile : Profile) where
       (λ e. judged_said double line (trimmed left) (prerequisites_of right (first_outside 59 59 Outside right)) end.0 (special_name profile (first_word (trimmed left))) _
       refl refl refl refl refl end.2 (left, right, sign, trimmed_padded left, e, end.1) (has_special profile (trimmed left) (special_name profile (first_word (trimmed left))) refl))
 
-  double_said : (line left right : List ℕ) → SpellsColon line left (58 ∷ right) → IsStatement profile file number line (double_form profile file number left right)
+  double_said : (line left right : List ℕ) → SpellsColon profile line left (58 ∷ right) → IsStatement profile file number line (double_form profile file number left right)
   unfolding double_form
   double_said line left right h =
       let next = begins_with 58 right && begins_with 61 (drop 1 right) in
       by_test (IsStatement profile file number line) (not (is_wide profile)) _ _
       (λ t. ((refl, refl), (left, right, h, not_true (is_wide profile) t)))
       (λ f. by_test (IsStatement profile file number line) (begins_with 61 right) _ _
-      (λ t. signed_said line AtOnce left (drop 1 right) (not_false (is_wide profile) f) (inl (h.0 ∙ ap (λ xs. left ++ 58 ∷ 58 ∷ xs) (cut_first 61 right t), h.1)))
+      (λ t. signed_said line AtOnce left (drop 1 right) (not_false (is_wide profile) f) (inl (h.0 ∙ ap (λ xs. left ++ 58 ∷ 58 ∷ xs) (cut_first 61 right t), h.1, h.2, h.3, h.4)))
       (λ g. by_test (IsStatement profile file number line) next _ _
       (λ t.
       let more = and_true (begins_with 58 right) (begins_with 61 (drop 1 right)) t in
       let at : right ≡ 58 ∷ 61 ∷ drop 1 (drop 1 right) = cut_first 58 right more.0 ∙ ap (λ xs. 58 ∷ xs) (cut_first 61 (drop 1 right) more.1) in
-      signed_said line AtOnceAlone left (drop 1 (drop 1 right)) (not_false (is_wide profile) f) (h.0 ∙ ap (λ xs. left ++ 58 ∷ 58 ∷ xs) at, h.1))
+      signed_said line AtOnceAlone left (drop 1 (drop 1 right)) (not_false (is_wide profile) f) (h.0 ∙ ap (λ xs. left ++ 58 ∷ 58 ∷ xs) at, h.1, h.2, h.3, h.4))
       (λ k. rule_said true line left right (h, not_false (is_wide profile) f, ap (λ t. t || next) g ∙ k))))
 
-  set_said : (line left right : List ℕ) → SpellsColon line left (61 ∷ right) → IsStatement profile file number line (set_form profile file number left right)
+  set_said : (line left right : List ℕ) → SpellsColon profile line left (61 ∷ right) → IsStatement profile file number line (set_form profile file number left right)
   unfolding set_form is_no_name
   set_said line left right h =
       by_test (IsStatement profile file number line) (is_unset profile left right) _ _
       (λ t. ((refl, refl), (left, right, h, (λ wide set. absurd (cc (set_taken profile left right wide set, t))))))
       (λ f. let parts = set_parts profile left right f in signed_said line AtOnce left right parts.0 (inr (h, parts.1)))
 
-  colon_said : (line left right : List ℕ) → SpellsColon line left right → IsStatement profile file number line (colon_form profile file number left right)
+  colon_said : (line left right : List ℕ) → SpellsColon profile line left right → IsStatement profile file number line (colon_form profile file number left right)
   unfolding colon_form
   colon_said line left right h =
       by_test (IsStatement profile file number line) (begins_with 58 right) _ _
-      (λ t. double_said line left (drop 1 right) (h.0 ∙ ap (λ xs. left ++ 58 ∷ xs) (cut_first 58 right t), h.1))
+      (λ t. double_said line left (drop 1 right) (h.0 ∙ ap (λ xs. left ++ 58 ∷ xs) (cut_first 58 right t), h.1, h.2, h.3, h.4))
       (λ f. by_test (IsStatement profile file number line) (begins_with 61 right) _ _
-      (λ t. set_said line left (drop 1 right) (h.0 ∙ ap (λ xs. left ++ 58 ∷ xs) (cut_first 61 right t), h.1))
+      (λ t. set_said line left (drop 1 right) (h.0 ∙ ap (λ xs. left ++ 58 ∷ xs) (cut_first 61 right t), h.1, h.2, h.3, h.4))
       (λ g. by_test (IsStatement profile file number line) (begins_shell_definition right) _ _
       (λ t. ((refl, refl), (left, right, h, shell_said right t)))
       (λ k. rule_said false line left right (h, (f, g, (λ s. absurd (cc (shell_back right s, k))))))))
 
   -- Statements
 
-  unsigned_said : (line : List ℕ) → Without 61 58 line → IsStatement profile file number line (unsigned_form profile file number line)
+  unsigned_said : (line : List ℕ) → HasNone profile line → IsStatement profile file number line (unsigned_form profile file number line)
   unfolding unsigned_form
   unsigned_said line without =
       by_test (IsStatement profile file number line) (not (is_wide profile && begins_with 36 line)) _ _
       (λ t. ((refl, refl), inl (without, not_true (is_wide profile && begins_with 36 line) t)))
       (λ f. inl ((without, not_false (is_wide profile && begins_with 36 line) f), refl))
 
-  pub decided_said : (line : List ℕ) (o : Option ℕ) → Said 61 58 refl o line → IsStatement profile file number line (decided_form profile file number line o)
+  pub decided_said : (line : List ℕ) (o : Option ℕ) → Said 61 58 refl o (signs_in profile line) → IsStatement profile file number line (decided_form profile file number line o)
   unfolding decided_form
   decided_said line None s = unsigned_said line s
-  decided_said line (Some n) (left, b, right, e, whole, is_one, long) =
+  decided_said line (Some n) (before, b, behind, seen, whole, is_one, count) =
+      let (left, right, e, same) = cut_seen profile line before b behind is_one seen in
+      let long : length left ≡ n = sym same ∙ count in
+      let cut : IsCut profile b line left right = (e, before, behind, (seen, whole), same) in
       let form_at : List ℕ → List ℕ → ℕ → Told = λ xs ys c. cond (c == 61) (definition_form profile file number xs ys) (colon_form profile file number xs ys) in
       let at : form_at left right b ≡ form_at (take n line) (drop (n + 1) line) (slice_index line n) =
       sym (ap (λ xs. form_at xs (drop (n + 1) line) (slice_index line n)) (cut_left line left b right n e long)
@@ -220,5 +225,5 @@ module _ (file : List ℕ) (number : ℕ) (profile : Profile) where
       ∙ ap (form_at left right) (cut_byte line left b right n e long)) in
       subst (IsStatement profile file number line) at
       (by_test (IsStatement profile file number line) (b == 61) _ _
-      (λ t. definition_said line left right (e ∙ ap (λ c. left ++ c ∷ right) ((Decides-eqb b 61).0 t)) whole)
-      (λ f. colon_said line left right (e ∙ ap (λ c. left ++ c ∷ right) ((Decides-eqb b 58).0 (ap (λ t. t || b == 58) (sym f) ∙ is_one)), whole)))
+      (λ t. definition_said line left right (subst (λ c. IsCut profile c line left right) ((Decides-eqb b 61).0 t) cut))
+      (λ f. colon_said line left right (subst (λ c. IsCut profile c line left right) ((Decides-eqb b 58).0 (ap (λ t. t || b == 58) (sym f) ∙ is_one)) cut)))

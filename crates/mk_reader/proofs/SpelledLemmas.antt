@@ -7,7 +7,8 @@ use Rattle.mk_profile.specs.Profile.{is_wide}
 use Rattle.mk_profile.specs.declared.profile.Profile.{Profile}
 use Rattle.mk_reader.specs.Text.{begins_with, ends_with, without_last}
 use Rattle.mk_reader.specs.Special.{special_name}
-use Rattle.mk_reader.specs.Grammar.{Whole, SpellsName, SpellsAssignment, SpellsDefinition, SpellsSign, SpellsKind, IsUnsigned, SpellsColon, IsRuleEnd, SpellsRuleSign, SpellsEnd, SpellsRule, HasSpecial, is_refused_with, IsRefused, refusal, first_line, IsStatement}
+use Rattle.mk_reader.specs.Grammar.{IsCut, SpellsName, SpellsAssignment, SpellsDefinition, SpellsSign, SpellsKind, IsUnsigned, SpellsColon, IsRuleEnd, SpellsRuleSign, SpellsEnd, SpellsRule, HasSpecial, is_refused_with, IsRefused, refusal, first_line, IsStatement}
+use Rattle.mk_reader.specs.Quoted.{signs_in}
 use Rattle.mk_reader.specs.Form.{first_outside, defined_as, is_no_name, named_form, kind_form, optional_form, assigned_form, definition_form, prerequisites_of, recipe_of, judged_form, rule_form, begins_shell_definition, double_form, set_form, colon_form, unsigned_form, decided_form}
 use Rattle.mk_reader.specs.declared.special.SpecialName.{SpecialName}
 use Rattle.mk_reader.specs.declared.item.Definition.{Definition}
@@ -31,12 +32,12 @@ use Rattle.mk_reader.proofs.ConditionalLemmas.{is_unset, set_parts, set_taken}
 use Rattle.mk_reader.proofs.SaidLemmas.{shell_said, shell_back}
 
 module _ (file : List ℕ) (number : ℕ) (profile : Profile) where
-  at_cut : (line left : List ℕ) (c : ℕ) (right : List ℕ) → line ≡ left ++ c ∷ right → Whole 61 58 left → (c == 61 || c == 58) ≡ true →
-      decided_form profile file number line (first_outside 61 58 Outside line) ≡ cond (c == 61) (definition_form profile file number left right) (colon_form profile file number left right)
+  at_cut : (line left : List ℕ) (c : ℕ) (right : List ℕ) → IsCut profile c line left right → (c == 61 || c == 58) ≡ true →
+      decided_form profile file number line (first_outside 61 58 Outside (signs_in profile line)) ≡ cond (c == 61) (definition_form profile file number left right) (colon_form profile file number left right)
   unfolding decided_form
-  at_cut line left c right e whole is_one =
+  at_cut line left c right (e, before, behind, (seen, whole), long) is_one =
       let form_at : List ℕ → List ℕ → ℕ → Told = λ xs ys d. cond (d == 61) (definition_form profile file number xs ys) (colon_form profile file number xs ys) in
-      ap (decided_form profile file number line) (cut_found 61 58 refl line left c right e whole is_one)
+      ap (decided_form profile file number line) (cut_found 61 58 refl (signs_in profile line) before c behind seen whole is_one ∙ ap Some long)
       ∙ ap (λ xs. form_at xs (drop (length left + 1) line) (slice_index line (length left))) (cut_left line left c right (length left) e refl)
       ∙ ap (λ ys. form_at left ys (slice_index line (length left))) (cut_right line left c right (length left) e refl)
       ∙ ap (form_at left right) (cut_byte line left c right (length left) e refl)
@@ -65,15 +66,15 @@ module _ (file : List ℕ) (number : ℕ) (profile : Profile) where
       ap (λ t. at_equals t (is_wide profile && begins_with 33 (reverse left)) left right) mark
       ∙ ap (λ t. at_equals false t left right) other ∙ assigned_is left right name append spells
 
-  assigned : (line left right : List ℕ) → SpellsAssignment profile line left right → decided_form profile file number line (first_outside 61 58 Outside line) ≡ definition_form profile file number left right
-  assigned line left right (e, whole, mark, other) = at_cut line left 61 right e whole refl
+  assigned : (line left right : List ℕ) → SpellsAssignment profile line left right → decided_form profile file number line (first_outside 61 58 Outside (signs_in profile line)) ≡ definition_form profile file number left right
+  assigned line left right (cut, mark, other) = at_cut line left 61 right cut refl
 
   defined_back : (line : List ℕ) (d : Definition) → d.file ≡ file → d.line ≡ number → d.is_fixed ≡ false → SpellsDefinition profile line d.name d.append d.value →
-      decided_form profile file number line (first_outside 61 58 Outside line) ≡ Ok (form.Definition d)
+      decided_form profile file number line (first_outside 61 58 Outside (signs_in profile line)) ≡ Ok (form.Definition d)
   unfolding named_form is_no_name defined_as
   defined_back line d f n x (left, right, h, spells, some, one, padded) =
       assigned line left right h
-      ∙ definition_is left right d.name d.append h.2 h.3 spells
+      ∙ definition_is left right d.name d.append h.1 h.2 spells
       ∙ ap (λ t. cond (t || list_any is_blank d.name) (Err (refusal file number cause.MissingSeparator)) (made file number (trimmed right) false)) some
       ∙ ap (λ t. cond t (Err (refusal file number cause.MissingSeparator)) (made file number (trimmed right) false)) one
       ∙ ap (λ v. made file number v false) (trimmed_is right d.value padded)
@@ -82,26 +83,26 @@ module _ (file : List ℕ) (number : ℕ) (profile : Profile) where
       made : List ℕ → ℕ → List ℕ → Bool → Told
       made y k v b = Ok (form.Definition (record { file = y; line = k; name = d.name; append = d.append; value = v; is_fixed = b }))
 
-  optional_cut : (line left right : List ℕ) → SpellsSign IfUndefined line left right → decided_form profile file number line (first_outside 61 58 Outside line) ≡ optional_form profile file number left right
+  optional_cut : (line left right : List ℕ) → SpellsSign profile IfUndefined line left right → decided_form profile file number line (first_outside 61 58 Outside (signs_in profile line)) ≡ optional_form profile file number left right
   unfolding definition_form ends_with
-  optional_cut line left right (e, whole) =
+  optional_cut line left right cut =
       let signed = left ++ 63 ∷ [] in
       let mark : begins_with 63 (reverse signed) ≡ true = ap (begins_with 63) (reverse-append left (63 ∷ [])) in
       let front : without_last signed ≡ left = take_at left (63 ∷ []) (length signed - 1) (omega (arith, length-append left (63 ∷ []))) in
-      at_cut line signed 61 right e whole refl
+      at_cut line signed 61 right cut refl
       ∙ ap (λ t. at_equals t (is_wide profile && begins_with 33 (reverse signed)) signed right) mark
       ∙ ap (λ xs. optional_form profile file number xs right) front
 
-  output_cut : (line left right : List ℕ) → is_wide profile ≡ true → line ≡ (left ++ 33 ∷ []) ++ 61 ∷ right → Whole 61 58 (left ++ 33 ∷ []) →
-      decided_form profile file number line (first_outside 61 58 Outside line) ≡ kind_form file number Output (trimmed left) right
+  output_cut : (line left right : List ℕ) → is_wide profile ≡ true → IsCut profile 61 line (left ++ 33 ∷ []) right →
+      decided_form profile file number line (first_outside 61 58 Outside (signs_in profile line)) ≡ kind_form file number Output (trimmed left) right
   unfolding definition_form ends_with
-  output_cut line left right wide e whole =
+  output_cut line left right wide cut =
       let signed = left ++ 33 ∷ [] in
       let mark : begins_with 63 (reverse signed) ≡ false = ap (begins_with 63) (reverse-append left (33 ∷ [])) in
       let output : (is_wide profile && begins_with 33 (reverse signed)) ≡ true =
       ap (λ t. t && begins_with 33 (reverse signed)) wide ∙ ap (begins_with 33) (reverse-append left (33 ∷ [])) in
       let front : without_last signed ≡ left = take_at left (33 ∷ []) (length signed - 1) (omega (arith, length-append left (33 ∷ []))) in
-      at_cut line signed 61 right e whole refl
+      at_cut line signed 61 right cut refl
       ∙ ap (λ t. at_equals t (is_wide profile && begins_with 33 (reverse signed)) signed right) mark
       ∙ ap (λ t. at_equals false t signed right) output
       ∙ ap (λ xs. kind_form file number Output (trimmed xs) right) front
@@ -117,8 +118,8 @@ module _ (file : List ℕ) (number : ℕ) (profile : Profile) where
       no_shell true e = absurd (three (shell_said right e))
       no_shell false e = e
 
-  colon_back : (line left right : List ℕ) → SpellsColon line left right → decided_form profile file number line (first_outside 61 58 Outside line) ≡ colon_form profile file number left right
-  colon_back line left right (e, whole) = at_cut line left 58 right e whole refl
+  colon_back : (line left right : List ℕ) → SpellsColon profile line left right → decided_form profile file number line (first_outside 61 58 Outside (signs_in profile line)) ≡ colon_form profile file number left right
+  colon_back line left right cut = at_cut line left 58 right cut refl
 
   -- what `::` gives, where the profile is or isn't wide, and this stands behind it
   abbrev at_sign : (at_once alone : Bool) (left right : List ℕ) → Told
@@ -136,7 +137,7 @@ module _ (file : List ℕ) (number : ℕ) (profile : Profile) where
   at_set unset left right = cond unset (Err (refusal file number (cause.Unsupported feature.ColonDefinition))) (kind_form file number AtOnce (trimmed left) right)
 
   rule_sign_back : (double : Bool) (line left right : List ℕ) → SpellsRuleSign profile double line left right →
-      decided_form profile file number line (first_outside 61 58 Outside line) ≡ rule_form profile file number double (trimmed left) right
+      decided_form profile file number line (first_outside 61 58 Outside (signs_in profile line)) ≡ rule_form profile file number double (trimmed left) right
   unfolding colon_form double_form
   rule_sign_back false line left right (colon, ends) = colon_back line left right colon ∙ colon_is left right ends
   rule_sign_back true line left right (colon, wide, ends) =
@@ -145,8 +146,8 @@ module _ (file : List ℕ) (number : ℕ) (profile : Profile) where
       colon_back line left (58 ∷ right) colon ∙ ap (λ w. at_double w left right) wide
       ∙ ap (λ t. at_sign t next left right) none.0 ∙ ap (λ t. at_sign false t left right) none.1
 
-  sign_cut : (kind : DefinitionKind) (line left right : List ℕ) → is_wide profile ≡ true → SpellsSign kind line left right →
-      decided_form profile file number line (first_outside 61 58 Outside line) ≡ kind_form file number kind (trimmed left) right
+  sign_cut : (kind : DefinitionKind) (line left right : List ℕ) → is_wide profile ≡ true → SpellsSign profile kind line left right →
+      decided_form profile file number line (first_outside 61 58 Outside (signs_in profile line)) ≡ kind_form file number kind (trimmed left) right
   unfolding optional_form colon_form double_form set_form is_no_name
   sign_cut IfUndefined line left right wide spells =
       optional_cut line left right spells
@@ -154,12 +155,12 @@ module _ (file : List ℕ) (number : ℕ) (profile : Profile) where
   sign_cut AtOnce line left right wide (inl colon) = colon_back line left (58 ∷ 61 ∷ right) colon ∙ ap (λ w. at_double w left (61 ∷ right)) wide
   sign_cut AtOnce line left right wide (inr (colon, set)) =
       colon_back line left (61 ∷ right) colon ∙ ap (λ t. at_set t left right) (set_taken profile left right wide set)
-  sign_cut Output line left right wide (e, whole) = output_cut line left right wide e whole
+  sign_cut Output line left right wide cut = output_cut line left right wide cut
   sign_cut NoSign line left right wide spells = absurd spells
   sign_cut AtOnceAlone line left right wide colon = colon_back line left (58 ∷ 58 ∷ 61 ∷ right) colon ∙ ap (λ w. at_double w left (58 ∷ 61 ∷ right)) wide
 
-  signed_back : (line : List ℕ) (l : DefinitionLine) → is_wide profile ≡ true → l.definition.file ≡ file → l.definition.line ≡ number → SpellsKind line l.kind l.definition →
-      decided_form profile file number line (first_outside 61 58 Outside line) ≡ Ok (form.DefinitionLine l)
+  signed_back : (line : List ℕ) (l : DefinitionLine) → is_wide profile ≡ true → l.definition.file ≡ file → l.definition.line ≡ number → SpellsKind profile line l.kind l.definition →
+      decided_form profile file number line (first_outside 61 58 Outside (signs_in profile line)) ≡ Ok (form.DefinitionLine l)
   unfolding kind_form is_no_name defined_as
   signed_back line l wide f n (left, right, spells, padded, one, plain, loose, value) =
       sign_cut l.kind line left right wide spells
@@ -188,7 +189,7 @@ module _ (file : List ℕ) (number : ℕ) (profile : Profile) where
 
   ruled : (double : Bool) (line targets prerequisites : List ℕ) (recipe : Option (List ℕ)) (o : Option SpecialName) →
       SpellsRule profile double line targets prerequisites recipe → HasSpecial profile targets o →
-      decided_form profile file number line (first_outside 61 58 Outside line)
+      decided_form profile file number line (first_outside 61 58 Outside (signs_in profile line))
       ≡ judged_form profile o (record { file = file; line = number; is_double = double; targets = targets; prerequisites = prerequisites; recipe = first_line number recipe })
   unfolding rule_form
   ruled double line targets prerequisites recipe o (left, right, sign, padded, some, end) has =
@@ -210,7 +211,7 @@ module _ (file : List ℕ) (number : ℕ) (profile : Profile) where
   rule_taken (Some name) rule e =
       ap (λ t. cond t (Err (refusal rule.file rule.line (cause.Unsupported (feature.SpecialName name)))) (Ok (form.Rule (record { special = Some name; rule = rule })))) e
 
-  rule_back : (line : List ℕ) (u : UnfinishedRule) → IsStatement profile file number line (Ok (form.Rule u)) → decided_form profile file number line (first_outside 61 58 Outside line) ≡ Ok (form.Rule u)
+  rule_back : (line : List ℕ) (u : UnfinishedRule) → IsStatement profile file number line (Ok (form.Rule u)) → decided_form profile file number line (first_outside 61 58 Outside (signs_in profile line)) ≡ Ok (form.Rule u)
   rule_back line u (f, n, recipe, r, spells, has, taken) =
       ruled u.rule.is_double line u.rule.targets u.rule.prerequisites recipe u.special spells has
       ∙ rule_taken u.special _ taken
@@ -225,17 +226,17 @@ module _ (file : List ℕ) (number : ℕ) (profile : Profile) where
       cond (not is_told) (Err (refusal file number cause.MissingSeparator))
       (Ok (form.DefinitionLine (record { kind = NoSign; definition = record { file = file; line = number; name = []; append = false; value = line; is_fixed = false } })))
 
-  unsigned_back : (line : List ℕ) (l : DefinitionLine) → IsUnsigned profile file number line l → decided_form profile file number line (first_outside 61 58 Outside line) ≡ Ok (form.DefinitionLine l)
+  unsigned_back : (line : List ℕ) (l : DefinitionLine) → IsUnsigned profile file number line l → decided_form profile file number line (first_outside 61 58 Outside (signs_in profile line)) ≡ Ok (form.DefinitionLine l)
   unfolding decided_form unsigned_form
   unsigned_back line l ((without, is_told), e) =
-      ap (decided_form profile file number line) (none_found 61 58 refl line without) ∙ ap (λ t. at_no_sign t line) is_told ∙ ap (λ x. Ok (form.DefinitionLine x)) (sym e)
+      ap (decided_form profile file number line) (none_found 61 58 refl (signs_in profile line) without) ∙ ap (λ t. at_no_sign t line) is_told ∙ ap (λ x. Ok (form.DefinitionLine x)) (sym e)
 
-  refused_back : (line : List ℕ) (why : Cause) → IsRefused profile line why → decided_form profile file number line (first_outside 61 58 Outside line) ≡ Err (refusal file number why)
+  refused_back : (line : List ℕ) (why : Cause) → IsRefused profile line why → decided_form profile file number line (first_outside 61 58 Outside (signs_in profile line)) ≡ Err (refusal file number why)
   unfolding decided_form unsigned_form named_form is_no_name defined_as kind_form optional_form rule_form colon_form double_form set_form definition_form ends_with judged_form
   refused_back line cause.MissingSeparator (inl (without, none)) =
-      ap (decided_form profile file number line) (none_found 61 58 refl line without) ∙ ap (λ t. at_no_sign t line) none
+      ap (decided_form profile file number line) (none_found 61 58 refl (signs_in profile line) without) ∙ ap (λ t. at_no_sign t line) none
   refused_back line cause.MissingSeparator (inr (inl (left, right, h, name, append, spells, bad))) =
-      assigned line left right h ∙ definition_is left right name append h.2 h.3 spells
+      assigned line left right h ∙ definition_is left right name append h.1 h.2 spells
       ∙ ap (λ t. cond t (Err (refusal file number cause.MissingSeparator)) (Ok (form.Definition (record { file = file; line = number; name = name; append = append; value = trimmed right; is_fixed = false })))) bad
   refused_back line cause.MissingSeparator (inr (inr (inl (wide, kind, left, right, spells, name, padded, bad)))) =
       sign_cut kind line left right wide spells ∙ ap (λ xs. kind_form file number kind xs right) (trimmed_is left name padded)
@@ -278,7 +279,7 @@ module _ (file : List ℕ) (number : ℕ) (profile : Profile) where
   refusal_back : (r : Refusal) → r.file ≡ file → r.line ≡ number → (told : Told) → told ≡ Err (refusal file number r.cause) → told ≡ Err r
   refusal_back r f n told e = e ∙ ap (λ x. Err (refusal x number r.cause)) (sym f) ∙ ap (λ x. Err (refusal r.file x r.cause)) (sym n)
 
-  pub statement_back : (line : List ℕ) (told : Told) → IsStatement profile file number line told → decided_form profile file number line (first_outside 61 58 Outside line) ≡ told
+  pub statement_back : (line : List ℕ) (told : Told) → IsStatement profile file number line told → decided_form profile file number line (first_outside 61 58 Outside (signs_in profile line)) ≡ told
   statement_back line (Ok (form.Definition d)) h = defined_back line d h.0 h.1 h.2 h.3
   statement_back line (Ok (form.DefinitionLine l)) (inl h) = unsigned_back line l h
   statement_back line (Ok (form.DefinitionLine l)) (inr h) = signed_back line l h.0 h.1 h.2 h.3

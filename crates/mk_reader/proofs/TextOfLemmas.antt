@@ -6,7 +6,7 @@ use Rattle.mk_reader.specs.Grammar.{OpensRecipe}
 use Rattle.mk_reader.specs.Lines.{Physical, opening, joint, joined_text, in_recipe, joined_behind, text_of}
 use Rattle.mk_reader.specs.Spelling.{OpensWith, IsJoined, IsTextOf}
 use Rattle.mk_reader.proofs.JoinedLemmas.{joined_one_way, joined_plainly}
-use Rattle.mk_reader.proofs.OpenedLemmas.{stays_open, closed_before}
+use Rattle.mk_reader.proofs.SearchLemmas.{stays_open, closed_before}
 use Rattle.mk_reader.proofs.OpensLemmas.{opens_said, opens_is}
 use Rattle.mk_reader.proofs.ReferenceLemmas.{either}
 

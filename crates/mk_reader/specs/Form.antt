@@ -6,6 +6,7 @@ use Rattle.mk_profile.specs.Profile.{is_wide}
 use Rattle.mk_profile.specs.declared.profile.Profile.{Profile}
 use Rattle.mk_reader.specs.Directive.{told_as}
 use Rattle.mk_reader.specs.Grammar.{is_name_byte, is_apart, ends_definition}
+use Rattle.mk_reader.specs.Quoted.{without_quoted, signs_in}
 use Rattle.mk_reader.specs.Text.{is_hash, is_dollar, is_empty, begins_with, ends_with, without_last, without_plus, is_text}
 use Rattle.mk_reader.specs.Special.{special_name, is_refused, takes_no_prerequisites}
 use Rattle.mk_reader.specs.declared.special.SpecialName.{SpecialName}
@@ -178,7 +179,7 @@ unsigned_form profile file number line =
     if not (is_wide profile && begins_with 36 line) then Err (refusal file number MissingSeparator)
     else Ok (form.DefinitionLine (record { kind = NoSign; definition = record { file = file; line = number; name = []; append = false; value = line; is_fixed = false } }))
 
--- the first `=` or `:` outside references decides
+-- the first `=` or `:` outside references decides, in the wide profile of those that no backslash quotes
 unfoldable pub decided_form : Profile → List ℕ → ℕ → List ℕ → Option ℕ → Result Form Refusal
 decided_form profile file number line None = unsigned_form profile file number line
 decided_form profile file number line (Some at) =
@@ -188,7 +189,7 @@ decided_form profile file number line (Some at) =
 -- the first word says whether a line includes files, which comes before `=` and `:`, and how a line is told that is refused
 abbrev pub opened_form : Profile → List ℕ → ℕ → List ℕ → Option Bool → Result Form Refusal
 opened_form profile file number line (Some required) = include_form profile file number required (drop (length (first_word line)) line)
-opened_form profile file number line None = told_as profile line (decided_form profile file number line (first_outside 61 58 Outside line))
+opened_form profile file number line None = told_as profile line (decided_form profile file number line (first_outside 61 58 Outside (signs_in profile line)))
 
 -- a line without its comment and the blanks at its ends
 unfoldable pub line_form : Profile → List ℕ → ℕ → List ℕ → Result Form Refusal
@@ -220,7 +221,7 @@ opens_at text (Some at) =
     && recipe_behind (drop (at + 1) text) (first_outside 59 59 Outside (drop (at + 1) text))))
 
 unfoldable pub opens_recipe : List ℕ → Bool
-opens_recipe text = opens_at text (first_outside 61 58 Outside text)
+opens_recipe text = opens_at (without_quoted text) (first_outside 61 58 Outside (without_quoted text))
 
 -- what a line holds: in the wide profile all of it, where a recipe stands behind its `;`
 unfoldable pub line_content : Profile → List ℕ → List ℕ

@@ -1,6 +1,6 @@
 -- What a line of a makefile is, told by how its text is spelled: each form by its parts, each refusal by what stands
 -- there (make(1S), "Macros" and "Targets and Rules"; the refusals are own). Blanks at its ends and its comment are off.
-use Rattle.std.specs.Prelude.{◌≡◌, ◌⊎◌, ℕ, Bool, true, false, not, ◌&&◌, ◌||◌, ◌==◌, List, [], ◌∷◌, ◌++◌, reverse, drop, flat_map, Option, Some, None, Result, Ok, Err, codes}
+use Rattle.std.specs.Prelude.{◌≡◌, ◌⊎◌, ℕ, Bool, true, false, not, ◌&&◌, ◌||◌, ◌==◌, List, [], ◌∷◌, ◌++◌, length, reverse, drop, flat_map, Option, Some, None, Result, Ok, Err, codes}
 use Rattle.std.specs.Char.{is_ascii_alphanumeric}
 use Rattle.std.specs.List.{list_any, list_all}
 use Rattle.byte_strings.specs.Blanks.{is_blank}
@@ -8,6 +8,7 @@ use Rattle.mk_profile.specs.Profile.{is_wide}
 use Rattle.mk_profile.specs.declared.profile.Profile.{Profile}
 use Rattle.mk_reader.specs.Text.{is_dollar, is_empty, begins_with, without_plus, is_text}
 use Rattle.mk_reader.specs.Directive.{told_as}
+use Rattle.mk_reader.specs.Quoted.{without_quoted, signs_in}
 use Rattle.mk_reader.specs.Special.{name_text, is_known, is_refused, takes_no_prerequisites}
 use Rattle.mk_reader.specs.declared.special.SpecialName.{SpecialName}
 use Rattle.mk_reader.specs.declared.item.Definition.{Definition}
@@ -81,6 +82,26 @@ abbrev pub Without : (one other : ℕ) (text : List ℕ) → Type 0
 Without one other text =
     (pieces : List Piece) × (tail : Tail) × (text ≡ flat_map piece_text pieces ++ tail_text tail) × ArePieces one other pieces × IsTail tail
 
+-- Signs
+
+-- the text is cut at its first `=` or `:` outside references, which is this sign
+abbrev pub IsCutAsSeen : (sign : ℕ) (text before behind : List ℕ) → Type 0
+IsCutAsSeen sign text before behind = (text ≡ before ++ sign ∷ behind) × Whole 61 58 before
+
+-- the line is cut there, where the wide profile doesn't see the colons that a backslash quotes
+abbrev pub IsCut : Profile → (sign : ℕ) (line left right : List ℕ) → Type 0
+IsCut profile sign line left right =
+    (line ≡ left ++ sign ∷ right) × (before : List ℕ) × (behind : List ℕ) × IsCutAsSeen sign (signs_in profile line) before behind × (length before ≡ length left)
+
+-- neither sign is seen
+abbrev pub HasNone : Profile → (line : List ℕ) → Type 0
+HasNone profile line = Without 61 58 (signs_in profile line)
+
+-- so at the first `:`, where quoted ones aren't seen in any profile
+abbrev pub IsColonCut : (text left right : List ℕ) → Type 0
+IsColonCut text left right =
+    (text ≡ left ++ 58 ∷ right) × (before : List ℕ) × (behind : List ℕ) × (without_quoted text ≡ before ++ 58 ∷ behind) × Whole 58 58 before × (length before ≡ length left)
+
 -- Blanks
 
 abbrev pub AllBlank : List ℕ → Type 0
@@ -127,7 +148,7 @@ SpellsName left name false = (begins_with 43 (reverse left) ≡ false) × Padded
 -- the first `=` outside references comes before any `:`; no `?` stands directly before it, and in the wide profile no `!`
 abbrev pub SpellsAssignment : Profile → (line left right : List ℕ) → Type 0
 SpellsAssignment profile line left right =
-    (line ≡ left ++ 61 ∷ right) × Whole 61 58 left × (begins_with 63 (reverse left) ≡ false) × ((is_wide profile && begins_with 33 (reverse left)) ≡ false)
+    IsCut profile 61 line left right × (begins_with 63 (reverse left) ≡ false) × ((is_wide profile && begins_with 33 (reverse left)) ≡ false)
 
 abbrev pub SpellsDefinition : Profile → (line name : List ℕ) (append : Bool) (value : List ℕ) → Type 0
 SpellsDefinition profile line name append value =
@@ -139,8 +160,8 @@ abbrev pub IsOneWord : (name : List ℕ) → Type 0
 IsOneWord name = (is_empty name ≡ false) × (list_any is_blank name ≡ false)
 
 -- the first `:` outside references comes before any `=`
-abbrev pub SpellsColon : (line left right : List ℕ) → Type 0
-SpellsColon line left right = (line ≡ left ++ 58 ∷ right) × Whole 61 58 left
+abbrev pub SpellsColon : Profile → (line left right : List ℕ) → Type 0
+SpellsColon profile line left right = IsCut profile 58 line left right
 
 -- the names that every make takes for macros (POSIX make, "Macros")
 abbrev pub is_name_byte : ℕ → Bool
@@ -162,23 +183,23 @@ abbrev pub IsSet : (left right : List ℕ) → Type 0
 IsSet left right = ((name : List ℕ) × Padded left name × IsOneWord name) × (IsConditional right → ⊥)
 
 -- what stands around the sign of a definition of this kind (POSIX make, "Macros"; `:=`: GNU make)
-abbrev pub SpellsSign : DefinitionKind → (line left right : List ℕ) → Type 0
-SpellsSign IfUndefined line left right = (line ≡ (left ++ 63 ∷ []) ++ 61 ∷ right) × Whole 61 58 (left ++ 63 ∷ [])
-SpellsSign AtOnce line left right = SpellsColon line left (58 ∷ 61 ∷ right) ⊎ (SpellsColon line left (61 ∷ right) × IsSet left right)
-SpellsSign AtOnceAlone line left right = SpellsColon line left (58 ∷ 58 ∷ 61 ∷ right)
-SpellsSign Output line left right = (line ≡ (left ++ 33 ∷ []) ++ 61 ∷ right) × Whole 61 58 (left ++ 33 ∷ [])
-SpellsSign NoSign line left right = ⊥
+abbrev pub SpellsSign : Profile → DefinitionKind → (line left right : List ℕ) → Type 0
+SpellsSign profile IfUndefined line left right = IsCut profile 61 line (left ++ 63 ∷ []) right
+SpellsSign profile AtOnce line left right = SpellsColon profile line left (58 ∷ 61 ∷ right) ⊎ (SpellsColon profile line left (61 ∷ right) × IsSet left right)
+SpellsSign profile AtOnceAlone line left right = SpellsColon profile line left (58 ∷ 58 ∷ 61 ∷ right)
+SpellsSign profile Output line left right = IsCut profile 61 line (left ++ 33 ∷ []) right
+SpellsSign profile NoSign line left right = ⊥
 
 -- a definition of the wide profile, which counts by what stands above it; it doesn't append
-abbrev pub SpellsKind : (line : List ℕ) → DefinitionKind → Definition → Type 0
-SpellsKind line kind d =
-    (left : List ℕ) × (right : List ℕ) × SpellsSign kind line left right
+abbrev pub SpellsKind : Profile → (line : List ℕ) → DefinitionKind → Definition → Type 0
+SpellsKind profile line kind d =
+    (left : List ℕ) × (right : List ℕ) × SpellsSign profile kind line left right
     × Padded left d.name × IsOneWord d.name × (d.append ≡ false) × (d.is_fixed ≡ false) × Padded right d.value
 
 -- a line of the wide profile that begins with a reference and has no sign outside references: what it comes to says whether it is an empty
 -- line (GNU make, which takes it for what it comes to; that it is refused where it doesn't come to nothing: own)
 abbrev pub HasNoSign : Profile → (line : List ℕ) → Type 0
-HasNoSign profile line = Without 61 58 line × ((is_wide profile && begins_with 36 line) ≡ true)
+HasNoSign profile line = HasNone profile line × ((is_wide profile && begins_with 36 line) ≡ true)
 
 abbrev pub IsUnsigned : Profile → (file : List ℕ) (number : ℕ) (line : List ℕ) → DefinitionLine → Type 0
 IsUnsigned profile file number line l =
@@ -207,8 +228,8 @@ ends_sign right = begins_with 61 right || (begins_with 58 right && begins_with 6
 
 -- what stands around the sign of a rule: `:`, or in the wide profile `::` (GNU make manual, "Double-Colon Rules")
 abbrev pub SpellsRuleSign : Profile → (is_double : Bool) → (line left right : List ℕ) → Type 0
-SpellsRuleSign profile false line left right = SpellsColon line left right × IsRuleEnd right
-SpellsRuleSign profile true line left right = SpellsColon line left (58 ∷ right) × (is_wide profile ≡ true) × (ends_sign right ≡ false)
+SpellsRuleSign profile false line left right = SpellsColon profile line left right × IsRuleEnd right
+SpellsRuleSign profile true line left right = SpellsColon profile line left (58 ∷ right) × (is_wide profile ≡ true) × (ends_sign right ≡ false)
 
 abbrev pub SpellsRule : Profile → (is_double : Bool) → (line targets prerequisites : List ℕ) (recipe : Option (List ℕ)) → Type 0
 SpellsRule profile is_double line targets prerequisites recipe =
@@ -236,7 +257,7 @@ NamesNoWord profile line =
 -- one of the wide profile whose name isn't one word
 abbrev pub NamesNoWordOfKind : Profile → (line : List ℕ) → Type 0
 NamesNoWordOfKind profile line =
-    (is_wide profile ≡ true) × (kind : DefinitionKind) × (left : List ℕ) × (right : List ℕ) × SpellsSign kind line left right
+    (is_wide profile ≡ true) × (kind : DefinitionKind) × (left : List ℕ) × (right : List ℕ) × SpellsSign profile kind line left right
     × (name : List ℕ) × Padded left name × ((is_empty name || list_any is_blank name) ≡ true)
 
 -- a rule without a target
@@ -247,15 +268,15 @@ HasNoTarget profile line =
 -- why a line is refused that isn't empty and is no include line
 abbrev pub IsRefused : Profile → (line : List ℕ) → Cause → Type 0
 IsRefused profile line cause.MissingSeparator =
-    (Without 61 58 line × ((is_wide profile && begins_with 36 line) ≡ false))
+    (HasNone profile line × ((is_wide profile && begins_with 36 line) ≡ false))
     ⊎ (NamesNoWord profile line ⊎ (NamesNoWordOfKind profile line ⊎ HasNoTarget profile line))
 IsRefused profile line (cause.Unsupported feature.OptionalDefinition) =
-    (is_wide profile ≡ false) × (left : List ℕ) × (right : List ℕ) × SpellsSign IfUndefined line left right
+    (is_wide profile ≡ false) × (left : List ℕ) × (right : List ℕ) × SpellsSign profile IfUndefined line left right
 IsRefused profile line (cause.Unsupported feature.DoubleColon) =
-    (left : List ℕ) × (right : List ℕ) × SpellsColon line left (58 ∷ right) × (is_wide profile ≡ false)
+    (left : List ℕ) × (right : List ℕ) × SpellsColon profile line left (58 ∷ right) × (is_wide profile ≡ false)
 IsRefused profile line (cause.Unsupported feature.ColonDefinition) =
-    (left : List ℕ) × (right : List ℕ) × SpellsColon line left (61 ∷ right) × (is_wide profile ≡ true → IsSet left right → ⊥)
-IsRefused profile line (cause.Unsupported feature.ShellDefinition) = (left : List ℕ) × (right : List ℕ) × SpellsColon line left right × IsShell right
+    (left : List ℕ) × (right : List ℕ) × SpellsColon profile line left (61 ∷ right) × (is_wide profile ≡ true → IsSet left right → ⊥)
+IsRefused profile line (cause.Unsupported feature.ShellDefinition) = (left : List ℕ) × (right : List ℕ) × SpellsColon profile line left right × IsShell right
 IsRefused profile line (cause.Unsupported (feature.SpecialName name)) =
     (is_double : Bool) × (targets : List ℕ) × (prerequisites : List ℕ) × (recipe : Option (List ℕ))
     × SpellsRule profile is_double line targets prerequisites recipe
@@ -296,7 +317,7 @@ abbrev pub IsStatement : Profile → (file : List ℕ) (number : ℕ) (line : Li
 IsStatement profile file number line (Ok (form.Definition d)) = (d.file ≡ file) × (d.line ≡ number) × (d.is_fixed ≡ false) × SpellsDefinition profile line d.name d.append d.value
 IsStatement profile file number line (Ok (form.DefinitionLine l)) =
     IsUnsigned profile file number line l
-    ⊎ ((is_wide profile ≡ true) × (l.definition.file ≡ file) × (l.definition.line ≡ number) × SpellsKind line l.kind l.definition)
+    ⊎ ((is_wide profile ≡ true) × (l.definition.file ≡ file) × (l.definition.line ≡ number) × SpellsKind profile line l.kind l.definition)
 IsStatement profile file number line (Ok (form.Rule u)) =
     (u.rule.file ≡ file) × (u.rule.line ≡ number) × (recipe : Option (List ℕ)) × (u.rule.recipe ≡ first_line number recipe)
     × SpellsRule profile u.rule.is_double line u.rule.targets u.rule.prerequisites recipe
@@ -368,9 +389,13 @@ OpensBehind right = (before : List ℕ) × (recipe : List ℕ) × (right ≡ bef
 
 -- a rule line whose recipe begins behind a `;`, which no comment stands before: its rest is the shell's, whatever `#` stands there (POSIX
 -- make, "Target Rules"; GNU make; that a `\#` before the `;` begins a comment too: own)
+abbrev pub OpensAsSeen : (text : List ℕ) → Type 0
+OpensAsSeen text =
+    (left : List ℕ) × (right : List ℕ) × IsCutAsSeen 58 text left right × (ends_definition right ≡ false) × OpensBehind right × Lacks 35 left
+
+-- so where a line has quoted colons
 abbrev pub OpensRecipe : (text : List ℕ) → Type 0
-OpensRecipe text =
-    (left : List ℕ) × (right : List ℕ) × SpellsColon text left right × (ends_definition right ≡ false) × OpensBehind right × Lacks 35 left
+OpensRecipe text = OpensAsSeen (without_quoted text)
 
 -- what a line holds without its comment; in the strict profile the first `#` begins that
 abbrev pub ContentIn : (wide : Bool) → (text content : List ℕ) → Type 0

@@ -13,8 +13,12 @@ pub mod Lines
 pub mod Plain
 -- Printed: how plain items are printed.
 pub mod Printed
+-- Quoted: colons of names.
+pub mod Quoted
 -- Recipe: how the lines of a recipe are held.
 pub mod Recipe
+-- Search: a rule line read up to its recipe.
+pub mod Search
 -- Special: the special names.
 pub mod Special
 -- Spelling: which lines and groups of lines are a text's.

@@ -7,6 +7,7 @@ use Rattle.mk_profile.specs.declared.profile.Profile.{Profile}
 use Rattle.mk_reader.specs.Text.{is_empty, begins_with, is_text}
 use Rattle.mk_reader.specs.Lines.{number_after}
 use Rattle.mk_reader.specs.Grammar.{Lacks, Whole, Without, begins_blank, BeginsWithWord, BeginsInclude, HasSpecial, is_refused_with}
+use Rattle.mk_reader.specs.Quoted.{signs_in}
 use Rattle.mk_reader.specs.Statements.{item_of}
 use Rattle.mk_reader.specs.declared.special.SpecialName.{SpecialName}
 use Rattle.mk_reader.specs.declared.item.Definition.{Definition}
@@ -27,7 +28,7 @@ HasBareEnds text = (begins_blank text ≡ false) × (begins_blank (reverse text)
 -- a word that can be defined: no comment, no `=` or `:` outside references, and none that begins an include line
 abbrev pub IsPlainName : Profile → List ℕ → Type 0
 IsPlainName profile name =
-    (is_empty name ≡ false) × (list_any is_blank name ≡ false) × Lacks 35 name × Whole 61 58 name
+    (is_empty name ≡ false) × (list_any is_blank name ≡ false) × Lacks 35 name × Whole 61 58 (signs_in profile name)
     × ((required : Bool) → BeginsInclude profile name required → ⊥)
 
 -- a value may hold any bytes but a `#`
@@ -37,7 +38,7 @@ IsPlainValue value = Lacks 35 value × HasBareEnds value
 -- words that can be targets
 abbrev pub ArePlainTargets : Profile → List ℕ → Type 0
 ArePlainTargets profile targets =
-    (is_empty targets ≡ false) × HasBareEnds targets × Lacks 35 targets × Whole 61 58 targets
+    (is_empty targets ≡ false) × HasBareEnds targets × Lacks 35 targets × Whole 61 58 (signs_in profile targets)
     × ((word : List ℕ) (required : Bool) → BeginsInclude profile word required → BeginsWithWord targets word → ⊥)
 
 -- words that can be prerequisites: no `;` outside references

@@ -15,6 +15,8 @@ mod line;
 mod lines;
 mod outside;
 mod plain_line;
+mod quoted;
+mod recipe_search;
 mod reference;
 mod refuse;
 mod semicolon;
@@ -31,6 +33,7 @@ pub use item::{
     Special, Statement,
 };
 pub use lines::{ends_with, next_joined_line};
+pub use quoted::split_at_colon;
 pub use reference::split_outside;
 pub use special::{SpecialName, is_refused, special_name};
 pub use statements::statements_of;

@@ -2,12 +2,13 @@
 ghost use Rattle.std.specs.Prelude.{◌≡◌, ◌&&◌, Bool, false, ◌+◌, ◌<◌, ◌≤◌, ◌==◌, ◌∷◌, ◌++◌, [], length, take, drop, flat_map, IfOk, IfSome, OnOk, Some, option_copied};
 ghost use Rattle.std.specs.List.{suffix_len, position_or_len, list_any};
 ghost use Rattle.mk_profile.specs.Profile.{is_wide};
-ghost use Rattle.mk_reader.specs.Text.{is_newline, is_backslash, is_semicolon, begins_with, ends_with, without_last, without_tab};
-ghost use Rattle.mk_reader.specs.Form.{opens_recipe};
-ghost use Rattle.mk_reader.specs.Lines.{ended_line, goes_on, body, opening, joint, in_recipe, joined_behind, groups, lines_left, rest_of_group, after_group, logical_line, is_recipe, logical_lines, joined_lines, numbered, number_after, physical, size_left};
+ghost use Rattle.mk_reader.specs.Text.{is_newline, is_backslash, begins_with, ends_with, without_last, without_tab};
+ghost use Rattle.mk_reader.specs.Search.{is_in_recipe, HasRead};
+ghost use Rattle.mk_reader.specs.declared.recipe_search.RecipeSearch.{RecipeSearch};
+ghost use Rattle.mk_reader.specs.Lines.{ended_line, goes_on, body, opening, joint, joined_behind, groups, lines_left, rest_of_group, after_group, logical_line, is_recipe, logical_lines, joined_lines, numbered, number_after, physical, size_left};
 
 use crate::line::{Ending, LineText, LogicalLine, PhysicalLine};
-use crate::semicolon::opens_recipe;
+use crate::recipe_search::RecipeSearch;
 use byte_strings::trim_start;
 use memchr::memchr;
 use mk_profile::Profile;
@@ -173,44 +174,18 @@ fn opening(is_recipe: bool, line: PhysicalLine<'_>) -> &[u8]
     }
 }
 
-fn has_semicolon(bytes: &[u8]) -> bool
-    ensures { result ≡ list_any is_semicolon bytes.now }
-{
-    bytes.contains(&b';')
-}
-
-/// Whether what follows this text in a logical line belongs to a recipe.
-#[tactic(auto, unfolding(crate::specs::Lines::in_recipe))]
-fn in_recipe(is_recipe: bool, profile: Profile, text: &[u8]) -> bool
-    ensures { result ≡ in_recipe is_recipe (is_wide profile) text.now }
-{
-    is_recipe || (profile.is_wide() && opens_recipe(text))
-}
-
-/// Whether the text, which ends with this piece, opens a recipe there.
-fn opens_in(profile: Profile, text: &[u8], piece: &[u8]) -> bool
-    ensures { result ≡ (is_wide profile && (list_any is_semicolon piece.now && opens_recipe text.now)) }
-{
-    profile.is_wide() && has_semicolon(piece) && opens_recipe(text)
-}
-
-/// Adds the next line, and answers whether what follows it belongs to a recipe.
-#[tactic(auto, using(crate::proofs::OpenedLemmas::stays_in_recipe), unfolding(crate::specs::Lines::in_recipe))]
+/// Adds the next line of a text that has been read so far, and reads on in it.
 fn push_line(
     text: &mut Vec<u8>,
-    is_in_recipe: bool,
-    profile: Profile,
+    search: RecipeSearch,
     line: PhysicalLine<'_>,
-) -> Result<bool, AllocError>
-    ensures text { OnOk result (text.new.items ≡ text.old.items ++ joint is_in_recipe (physical line.entry)) }
-    ensures place { IfOk result (λ now. (recipe : Bool) → is_in_recipe ≡ in_recipe recipe (is_wide profile) text.old.items
-        → now ≡ in_recipe recipe (is_wide profile) text.new.items) }
+) -> Result<RecipeSearch, AllocError>
+    ensures text { OnOk result (text.new.items ≡ text.old.items ++ joint (is_in_recipe search.stage) (physical line.entry)) }
+    ensures search { IfOk result (λ now. (start : RecipeSearch) → HasRead start text.old.items search → HasRead start text.new.items now) }
 {
-    push_joint(text, is_in_recipe, line)?;
-    if is_in_recipe {
-        return Ok(true);
-    }
-    Ok(opens_in(profile, text.as_slice(), trim_start(body(line))))
+    let from = text.len();
+    push_joint(text, search.is_in_recipe(), line)?;
+    Ok(search.past(text.as_slice().split_at(from).1))
 }
 
 /// Adds the lines in which `first` goes on. Gives the number of the line behind them, and what is left there.
@@ -232,15 +207,15 @@ fn join_rest<'a>(
     ensures shorter { IfOk result (λ found.
         size_left (option_copied found.1) ≤ size_left (option_copied left.entry)) }
 {
-    let mut is_in_recipe = in_recipe(is_recipe, profile, text.as_slice());
+    let mut search = RecipeSearch::begin(is_recipe, profile).past(text.as_slice());
     let mut last = first;
     let mut number = first_number.saturating_add(1);
     let mut left = left;
     while goes_on(last) {
         let Some(bytes) = left else { break };
         let (line, after) = next_line(bytes);
-        let is_now = push_line(text, is_in_recipe, profile, line)?;
-        is_in_recipe = is_now;
+        let read = push_line(text, search, line)?;
+        search = read;
         last = line;
         left = after;
         number = number.saturating_add(1);

@@ -9,7 +9,7 @@ use crate::lines::around;
 use memchr::memchr3;
 
 #[tactic(auto, unfolding(crate::specs::Form::next_place))]
-fn next_place(place: Place, byte: u8) -> Place
+pub fn next_place(place: Place, byte: u8) -> Place
     ensures { result ≡ next_place place byte }
 {
     match place {
@@ -35,13 +35,17 @@ fn next_place(place: Place, byte: u8) -> Place
     }
 }
 
-fn is_found(place: Place, byte: u8, one: u8, other: u8) -> bool
+pub fn is_outside(place: Place) -> bool
+    ensures { result ≡ is_outside place }
+{
+    matches!(place, Place::Outside)
+}
+
+/// Whether one of two bytes stands there outside references.
+pub fn is_found(place: Place, byte: u8, one: u8, other: u8) -> bool
     ensures { result ≡ (is_outside place && (byte == one || byte == other)) }
 {
-    match place {
-        Place::Outside => byte == one || byte == other,
-        Place::Dollar | Place::Within(_) => false,
-    }
+    is_outside(place) && (byte == one || byte == other)
 }
 
 /// The first place of one of two bytes outside references, found byte by byte.

@@ -2,6 +2,7 @@
 ghost use Rattle.std.specs.Prelude.{◌≡◌, ◌+◌, ◌<◌, ◌==◌, ◌&&◌, IfOk, IfSome, length, take, drop, codes, bytes_eq};
 ghost use Rattle.std.specs.List.{list_any};
 ghost use Rattle.byte_strings.specs.Blanks.{trimmed_start};
+ghost use Rattle.mk_reader.specs.Quoted.{signs_in};
 ghost use Rattle.mk_reader.specs.Text.{is_dollar, is_empty, is_text};
 ghost use Rattle.mk_reader.specs.Directive.{told_as};
 ghost use Rattle.mk_reader.specs.Form.{Gives, include_kind, include_form, prerequisites_of, recipe_of, judged_form, rule_form, begins_shell_definition, double_form, colon_form, unsigned_form, decided_form, line_form, content_form, statement_form, first_outside};
@@ -17,6 +18,7 @@ use crate::item::{
 };
 use crate::line::LinePlace;
 use crate::lines::{around, begins_with, ends_with, without_first};
+use crate::quoted::first_sign;
 use crate::reference::first_outside;
 use crate::refuse::refuse;
 use crate::semicolon::opens_recipe;
@@ -216,9 +218,10 @@ fn unsigned_form(place: LinePlace<'_>, line: &[u8]) -> Result<Form, ReadFault>
 
 #[tactic(auto, unfolding(crate::specs::Form::decided_form))]
 fn decided_form(place: LinePlace<'_>, line: &[u8]) -> Result<Form, ReadFault>
-    ensures { Gives result (decided_form place.entry.profile place.entry.file.now place.entry.number line.now (first_outside 61 58 Outside line.now)) }
+    ensures { Gives result (decided_form place.entry.profile place.entry.file.now place.entry.number line.now
+        (first_outside 61 58 Outside (signs_in place.entry.profile line.now))) }
 {
-    let Some(at) = first_outside(line, b'=', b':') else {
+    let Some(at) = first_sign(place.profile, line) else {
         return unsigned_form(place, line);
     };
     let (left, right) = around(line, at);
@@ -232,7 +235,8 @@ fn decided_form(place: LinePlace<'_>, line: &[u8]) -> Result<Form, ReadFault>
 /// The form of a line that is neither empty nor an include line, as it is told.
 fn told_form(place: LinePlace<'_>, line: &[u8]) -> Result<Form, ReadFault>
     ensures { Gives result (told_as place.entry.profile line.now
-        (decided_form place.entry.profile place.entry.file.now place.entry.number line.now (first_outside 61 58 Outside line.now))) }
+        (decided_form place.entry.profile place.entry.file.now place.entry.number line.now
+        (first_outside 61 58 Outside (signs_in place.entry.profile line.now)))) }
 {
     let profile = place.profile;
     match decided_form(place, line) {
