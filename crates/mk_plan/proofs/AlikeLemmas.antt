@@ -12,6 +12,7 @@ use Rattle.mk_macros.specs.declared.dynamic.Dynamic.TheVariants as dynamic
 use Rattle.mk_macros.specs.declared.dynamic.RecipeNames.{RecipeNames}
 use Rattle.mk_recipe.specs.declared.line.Line.{Line}
 use Rattle.mk_verdict.specs.Verdict.{IsLater, IsFirstReason, IsOutOfDate}
+use Rattle.mk_verdict.specs.declared.mark.Mark.TheVariants.{NotKept}
 use Rattle.mk_verdict.specs.declared.verdict.Reason.{Reason}
 use Rattle.mk_verdict.specs.declared.verdict.Target.{Target}
 use Rattle.mk_profile.specs.Profile.{is_wide}
@@ -194,7 +195,7 @@ module _ (a b : Graph) (same : AreAlike a b) (marks : List Bool) (n : ℕ) where
 
   abbrev seen_by : (is_hidden : Bool) (m : ℕ) (name : List ℕ) (stamp : Option ℤ) → Seen
   seen_by is_hidden m name stamp =
-      record { name = name; stamp = stamp; is_hidden = is_hidden; has_rule = true; is_remade = is_marked marks m }
+      record { name = name; stamp = stamp; is_hidden = is_hidden; has_rule = true; is_remade = is_marked marks m; mark = NotKept }
 
   same_seen : (is_hidden : Bool) (h : Option ℕ) → seen_at a marks is_hidden h ≡ seen_at b marks is_hidden h
   same_seen is_hidden None = refl
@@ -215,6 +216,7 @@ module _ (a b : Graph) (same : AreAlike a b) (marks : List Bool) (n : ℕ) where
     stamp = is.stamp ∙ same.made n;
     prerequisites = is.prerequisites ∙ seen_in;
     ordered = is.ordered ∙ ap not same.dropped;
+    mark = is.mark;
   }
 
   -- ---- reasons, and what is told

@@ -17,12 +17,16 @@ use Rattle.mk_rule_lines.specs.Doubles.{double_lines}
 use Rattle.mk_rule_lines.specs.declared.rule_line.RuleLine.{RuleLine}
 use Rattle.mk_nodes.specs.Node.{explicit_in}
 use Rattle.mk_nodes.specs.declared.graph.Graph.{Graph}
-use Rattle.mk_verdict.proofs.ReasonLemmas.{is_newer-decides, is_gone-decides, counts_as_remade-decides}
-use Rattle.mk_verdict.specs.Tests.{is_later, is_newer, is_gone, counts_as_remade}
+use Rattle.mk_verdict.proofs.ByTimesLemmas.{by_times}
+use Rattle.mk_verdict.proofs.ReasonLemmas.{is_later-decides, is_gone-decides, counts_as_remade-decides}
+use Rattle.mk_verdict.specs.ByTimes.{HasNoMarks, HoldsByTimes}
+use Rattle.mk_verdict.specs.Tests.{is_later, is_gone, counts_as_remade}
 use Rattle.mk_verdict.specs.Verdict.{HasFailed, IsLater, IsGone, IsRemade, NamesOthers, Holds}
+use Rattle.mk_verdict.specs.declared.mark.Look.TheVariants.{NoFile}
+use Rattle.mk_verdict.specs.declared.mark.Mark.TheVariants.{NotKept}
 use Rattle.mk_verdict.specs.declared.verdict.Prerequisite.{Prerequisite}
 use Rattle.mk_verdict.specs.declared.verdict.Reason.{Reason}
-use Rattle.mk_verdict.specs.declared.verdict.Reason.TheVariants.{NoEntry, WasBegun, WasFailed, CommandsChanged, PrerequisitesChanged, Absent, Newer, HiddenGone, Remade}
+use Rattle.mk_verdict.specs.declared.verdict.Reason.TheVariants.{NoEntry, WasBegun, WasFailed, CommandsChanged, PrerequisitesChanged, Absent, TargetChanged, Newer, Changed, HiddenGone, Remade}
 use Rattle.mk_verdict.specs.declared.verdict.Target.{Target}
 use Rattle.mk_plan.specs.Finished.{leaves_hard, leaves_hidden, has_text_name, leaves_all, are_names_of, is_explicit, is_done, is_kept, PartGives}
 use Rattle.mk_plan.specs.Nodes.{node_at, stamp_of, made_of, entry_of, hidden_of, explicit_of, is_marked}
@@ -31,6 +35,7 @@ use Rattle.mk_plan.specs.Passage.{finished}
 use Rattle.mk_plan.specs.Passing.{Passes, is_up_to_date}
 use Rattle.mk_plan.specs.TextNames.{HasTextNames}
 use Rattle.mk_plan.specs.Target.{Seen, shown, seen_at, seen_hard, seen_of}
+use Rattle.mk_plan.proofs.MarkLemmas.{has_no_marks}
 use Rattle.st_records.specs.declared.record.Entry.{Entry}
 use Rattle.st_records.specs.declared.record.Explicit.{Explicit}
 use Rattle.st_records.specs.declared.record.Explicit.TheVariants.{Unknown, Known}
@@ -78,7 +83,15 @@ all_unless false q (x ∷ xs) e = all_unless false q xs refl
 -- ---- prerequisites
 
 abbrev as_seen : Seen → Prerequisite
-as_seen s = record { name = record { ref_ptr = (0, 0); now = s.name }; stamp = s.stamp; is_hidden = s.is_hidden; has_rule = s.has_rule; is_remade = s.is_remade }
+as_seen s = record {
+  name = record { ref_ptr = (0, 0); now = s.name };
+  stamp = s.stamp;
+  is_hidden = s.is_hidden;
+  has_rule = s.has_rule;
+  is_remade = s.is_remade;
+  look = NoFile;
+  mark = s.mark;
+}
 
 shown_again : (seen : List Seen) → map shown (map as_seen seen) ≡ seen
 shown_again [] = refl
@@ -86,7 +99,7 @@ shown_again (s ∷ seen) = ap (λ rest. s ∷ rest) (shown_again seen)
 
 -- no reason comes of the prerequisite
 abbrev quiet : (keeping orders : Bool) (made : Option ℤ) → Prerequisite → Bool
-quiet keeping orders made p = not (is_newer made p) && (not (keeping && is_gone p) && not (counts_as_remade orders p))
+quiet keeping orders made p = not (is_later p.stamp made) && (not (keeping && is_gone p) && not (counts_as_remade orders p))
 
 hard_quiet : (later marked keeping orders : Bool) → (not later && not marked) ≡ true → (not later && (not (keeping && false) && not (marked && (orders || true)))) ≡ true
 hard_quiet true marked keeping orders e = absurd cc
@@ -118,17 +131,17 @@ gone_quiet false e = refl
 
 not_newer : (keeping orders : Bool) (made : Option ℤ) (p : Prerequisite) → quiet keeping orders made p ≡ true → IsLater p.stamp made → ⊥
 not_newer keeping orders made p is later =
-    apart (is_newer made p) ((is_newer-decides made p).1 later) (both (not (is_newer made p)) (not (keeping && is_gone p) && not (counts_as_remade orders p)) is).0
+    apart (is_later p.stamp made) ((is_later-decides p.stamp made).1 later) (both (not (is_later p.stamp made)) (not (keeping && is_gone p) && not (counts_as_remade orders p)) is).0
 
 not_gone : (keeping orders : Bool) (made : Option ℤ) (p : Prerequisite) → keeping ≡ true → quiet keeping orders made p ≡ true → IsGone p → ⊥
 not_gone keeping orders made p kept is gone =
-    let rest = (both (not (is_newer made p)) (not (keeping && is_gone p) && not (counts_as_remade orders p)) is).1 in
+    let rest = (both (not (is_later p.stamp made)) (not (keeping && is_gone p) && not (counts_as_remade orders p)) is).1 in
     apart (keeping && is_gone p) (both_true keeping (is_gone p) kept ((is_gone-decides p).1 gone))
     (both (not (keeping && is_gone p)) (not (counts_as_remade orders p)) rest).0
 
 not_remade : (keeping orders : Bool) (made : Option ℤ) (p : Prerequisite) → quiet keeping orders made p ≡ true → IsRemade orders p → ⊥
 not_remade keeping orders made p is remade =
-    let rest = (both (not (is_newer made p)) (not (keeping && is_gone p) && not (counts_as_remade orders p)) is).1 in
+    let rest = (both (not (is_later p.stamp made)) (not (keeping && is_gone p) && not (counts_as_remade orders p)) is).1 in
     apart (counts_as_remade orders p) ((counts_as_remade-decides orders p).1 remade)
     (both (not (keeping && is_gone p)) (not (counts_as_remade orders p)) rest).1
 
@@ -186,7 +199,12 @@ module _ (keeping : Bool) (graph : Graph) (marks : List Bool) (n : ℕ) where
     stamp = made_of graph n;
     prerequisites = record { ref_ptr = (0, 0); now = prerequisites };
     orders_hidden = not graph.soft_dropped;
+    look = NoFile;
+    mark = NotKept;
   }
+
+  no_marks : (commands : List (List ℕ)) → HasNoMarks (target_of commands)
+  no_marks commands = has_no_marks graph marks n (target_of commands) refl (shown_again (seen_of graph marks n))
 
   abbrev tests : Prerequisite → Bool
   tests = quiet keeping (not graph.soft_dropped) (made_of graph n)
@@ -239,6 +257,10 @@ module _ (keeping : Bool) (graph : Graph) (marks : List Bool) (n : ℕ) where
     is_over : entry.phase ≡ phase.Done
     is_over = done_is entry.phase (both (is_done entry.phase) (is_explicit graph n entry.explicit) kept).0
 
+    by_time : (reason : Reason) → Holds keeping (entry_of graph n) (target_of entry.commands) reason →
+        HoldsByTimes keeping (entry_of graph n) (target_of entry.commands) reason
+    by_time reason = (by_times keeping (entry_of graph n) (target_of entry.commands) reason (no_marks entry.commands)).0
+
     no_reason : (reason : Reason) → Holds keeping (entry_of graph n) (target_of entry.commands) reason → ⊥
     no_reason NoEntry (k, none) = some_none entry (sym at ∙ none)
     no_reason WasBegun (k, h) = done_begun (sym is_over ∙ of_entry (λ e. e.phase ≡ phase.Begun) h)
@@ -248,8 +270,11 @@ module _ (keeping : Bool) (graph : Graph) (marks : List Bool) (n : ℕ) where
         let (names, known, others) = of_entry (NamesOthers (explicit_of graph n)) h in
         others (same_explicit graph n entry.explicit names known (both (is_done entry.phase) (is_explicit graph n entry.explicit) kept).1)
     no_reason Absent none = none_some (made_of graph n) has_files none
+    no_reason TargetChanged h = by_time TargetChanged h
     no_reason (Newer i) h =
-        none_at tests (λ p. IsLater p.stamp (made_of graph n)) (λ p is. not_newer keeping (not graph.soft_dropped) (made_of graph n) p is) prerequisites passes i h
+        none_at tests (λ p. IsLater p.stamp (made_of graph n)) (λ p is. not_newer keeping (not graph.soft_dropped) (made_of graph n) p is) prerequisites passes i
+        (by_time (Newer i) h)
+    no_reason (Changed i) h = by_time (Changed i) h
     no_reason (HiddenGone i) (k, h) =
         none_at tests IsGone (λ p is. not_gone keeping (not graph.soft_dropped) (made_of graph n) p k is) prerequisites passes i h
     no_reason (Remade i) h =
@@ -270,6 +295,7 @@ module _ (keeping : Bool) (graph : Graph) (marks : List Bool) (n : ℕ) where
             stamp = refl;
             prerequisites = shown_again (seen_of graph marks n);
             ordered = refl;
+            mark = refl;
           })
           (λ (reason, holds). no_reason reason holds)
 

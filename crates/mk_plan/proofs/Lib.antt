@@ -4,6 +4,7 @@ pub mod RecipeLemmas
 pub mod PartLemmas
 pub mod PassingLemmas
 pub mod KeptLemmas
+pub mod MarkLemmas
 pub mod FinishedLemmas
 pub mod SameLemmas
 pub mod SimpleLemmas

@@ -18,6 +18,8 @@ use Rattle.mk_reader.specs.declared.item.RecipeLine.{RecipeLine}
 use Rattle.mk_recipe.specs.Line.{IsLine, IsExempt, IsAlwaysRun}
 use Rattle.mk_recipe.specs.declared.line.Line.{Line}
 use Rattle.mk_recipe.proofs.RecordedLemmas.{same_records}
+use Rattle.mk_verdict.specs.ByTimes.{HasNoMarks}
+use Rattle.mk_verdict.specs.Marks.{mark_of, IsTimed}
 use Rattle.mk_verdict.specs.Told.{name_in}
 use Rattle.mk_verdict.specs.Verdict.{IsLater, NamesOthers, Holds, IsFirstReason, IsOutOfDate}
 use Rattle.mk_verdict.specs.declared.verdict.Prerequisite.{Prerequisite}
@@ -25,6 +27,7 @@ use Rattle.mk_verdict.specs.declared.verdict.Target.{Target}
 use Rattle.mk_verdict.specs.declared.verdict.Reason.{Reason}
 use Rattle.mk_verdict.specs.declared.verdict.Reason.TheVariants as reason
 use Rattle.mk_verdict.specs.declared.verdict.Verdict.TheVariants.{OutOfDate}
+use Rattle.mk_verdict.proofs.ByTimesLemmas.{by_times}
 use Rattle.mk_verdict.proofs.VerdictLemmas.{same_verdict}
 use Rattle.mk_rule_lines.specs.declared.rule_line.RuleLine.{RuleLine}
 use Rattle.mk_nodes.specs.declared.graph.Graph.{Graph}
@@ -38,6 +41,7 @@ use Rattle.mk_plan.specs.Passage.{Passage, to_make, commands_of}
 use Rattle.mk_plan.specs.Passing.{Passes, is_to_be_run, is_up_to_date, has_no_recipe, is_left}
 use Rattle.mk_plan.specs.Why.{IsWhy, words_of}
 use Rattle.mk_plan.specs.declared.why.Why.{Why}
+use Rattle.mk_plan.proofs.MarkLemmas.{has_no_marks}
 use Rattle.mk_plan.proofs.NodeLemmas.{same_newer}
 
 -- ---- one meaning
@@ -161,7 +165,7 @@ prerequisite_alike P ps qs i same h =
 
 module _ (keeping : Bool) (entry : Option Entry) (a b : Target) (commands : a.commands.now ≡ b.commands.now) (explicit : a.explicit.now ≡ b.explicit.now)
     (stamp : a.stamp ≡ b.stamp) (prerequisites : map shown a.prerequisites.now ≡ map shown b.prerequisites.now)
-    (ordered : a.orders_hidden ≡ b.orders_hidden) where
+    (ordered : a.orders_hidden ≡ b.orders_hidden) (none : HasNoMarks a) where
   holds_alike : (r : Reason) → Holds keeping entry a r → Holds keeping entry b r
   holds_alike reason.NoEntry h = h
   holds_alike reason.WasBegun h = h
@@ -169,9 +173,11 @@ module _ (keeping : Bool) (entry : Option Entry) (a b : Target) (commands : a.co
   holds_alike reason.CommandsChanged h = (h.0, subst (λ cs. IsSomeAnd entry (λ e. e.commands ≢ cs)) commands h.1)
   holds_alike reason.PrerequisitesChanged h = (h.0, subst (λ ns. IsSomeAnd entry (NamesOthers ns)) explicit h.1)
   holds_alike reason.Absent h = sym stamp ∙ h
+  holds_alike reason.TargetChanged h = absurd ((by_times keeping entry a reason.TargetChanged none).0 h)
   holds_alike (reason.Newer i) h =
-      subst (λ s. IsSomeAnd (slice_get b.prerequisites.now i) (λ p. IsLater p.stamp s)) stamp
-      (prerequisite_alike (λ s. IsLater s.stamp a.stamp) a.prerequisites.now b.prerequisites.now i prerequisites h)
+      subst (λ s. IsSomeAnd (slice_get b.prerequisites.now i) (λ p. IsTimed (mark_of keeping p.mark) × IsLater p.stamp s)) stamp
+      (prerequisite_alike (λ s. IsTimed (mark_of keeping s.mark) × IsLater s.stamp a.stamp) a.prerequisites.now b.prerequisites.now i prerequisites h)
+  holds_alike (reason.Changed i) h = absurd ((by_times keeping entry a (reason.Changed i) none).0 h)
   holds_alike (reason.HiddenGone i) h = (
     h.0,
     prerequisite_alike
@@ -219,12 +225,12 @@ module _ (keeping : Bool) (graph : Graph) (marks : List Bool) (n : ℕ) (lines :
   there : (r : Reason) → Holds keeping (entry_of graph n) a r → Holds keeping (entry_of graph n) b r
   there =
       holds_alike keeping (entry_of graph n) a b commands (of_a.explicit ∙ sym of_b.explicit) (of_a.stamp ∙ sym of_b.stamp)
-      prerequisites (of_a.ordered ∙ sym of_b.ordered)
+      prerequisites (of_a.ordered ∙ sym of_b.ordered) (has_no_marks graph marks n a of_a.mark of_a.prerequisites)
 
   back : (r : Reason) → Holds keeping (entry_of graph n) b r → Holds keeping (entry_of graph n) a r
   back =
       holds_alike keeping (entry_of graph n) b a (sym commands) (of_b.explicit ∙ sym of_a.explicit) (of_b.stamp ∙ sym of_a.stamp)
-      (sym prerequisites) (of_b.ordered ∙ sym of_a.ordered)
+      (sym prerequisites) (of_b.ordered ∙ sym of_a.ordered) (has_no_marks graph marks n b of_b.mark of_b.prerequisites)
 
   out_of_date_alike : IsOutOfDate keeping (entry_of graph n) a → IsOutOfDate keeping (entry_of graph n) b
   out_of_date_alike (r, holds) = (r, there r holds)
@@ -239,8 +245,11 @@ module _ (keeping : Bool) (graph : Graph) (marks : List Bool) (n : ℕ) (lines :
   words_alike reason.CommandsChanged = refl
   words_alike reason.PrerequisitesChanged = refl
   words_alike reason.Absent = refl
+  words_alike reason.TargetChanged = refl
   words_alike (reason.Newer i) =
       ap (λ name. codes "newer: " ++ encode_utf8_all (lossy_chars name)) (name_alike a.prerequisites.now b.prerequisites.now i prerequisites)
+  words_alike (reason.Changed i) =
+      ap (λ name. codes "changed: " ++ encode_utf8_all (lossy_chars name)) (name_alike a.prerequisites.now b.prerequisites.now i prerequisites)
   words_alike (reason.HiddenGone i) = refl
   words_alike (reason.Remade i) =
       ap (λ name. codes "remade: " ++ encode_utf8_all (lossy_chars name)) (name_alike a.prerequisites.now b.prerequisites.now i prerequisites)

@@ -7,10 +7,10 @@ ghost use Rattle.mk_plan.specs.Why.{IsJudgedSo};
 use crate::nodes::{explicit_of, is_marked, made_of, name_of, stamp_of};
 use crate::why::{Why, why_of};
 use mk_nodes::Graph;
-use mk_recipe::{Line, Prerequisite, Target, recorded};
+use mk_recipe::{Line, Look, Mark, Prerequisite, Target, recorded};
 use std::alloc::{AllocError, Global};
 
-/// A prerequisite that is a node. It has a file or a rule, or else it would be none.
+/// A prerequisite that is a node. It has a file or a rule, or else it would be none. No mark of it is kept, so that no look counts.
 fn node_seen<'g>(graph: &'g Graph, marks: &[bool], node: usize, is_hidden: bool) -> Prerequisite<'g>
     ensures { shown result ≡ seen_at graph.now marks.now is_hidden (Some node) }
 {
@@ -20,6 +20,8 @@ fn node_seen<'g>(graph: &'g Graph, marks: &[bool], node: usize, is_hidden: bool)
         is_hidden,
         has_rule: true,
         is_remade: is_marked(marks, node),
+        look: Look::NoFile,
+        mark: Mark::NotKept,
     }
 }
 
@@ -35,6 +37,8 @@ fn hidden_seen<'g>(graph: &'g Graph, marks: &[bool], hidden: Option<usize>) -> P
             is_hidden: true,
             has_rule: false,
             is_remade: false,
+            look: Look::NoFile,
+            mark: Mark::NotKept,
         },
     }
 }
@@ -83,6 +87,8 @@ pub fn judge_node(
         stamp: made_of(graph, node),
         prerequisites: &prerequisites,
         orders_hidden: !graph.soft_dropped,
+        look: Look::NoFile,
+        mark: Mark::NotKept,
     };
     why_of(alloc, keeping, graph, node, &target)
 }

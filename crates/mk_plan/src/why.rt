@@ -10,7 +10,7 @@ use crate::nodes::{entry_of, name_of};
 use byte_strings::ByteString;
 use mk_graph::Names;
 use mk_nodes::Graph;
-use mk_verdict::{Prerequisite, Reason, Target, Told, Verdict, judge};
+use mk_verdict::{Look, Mark, Prerequisite, Reason, Target, Told, Verdict, judge};
 use std::alloc::{AllocError, Global};
 
 /// Why a recipe is to be run.
@@ -104,6 +104,8 @@ fn gone_words(
         is_hidden: true,
         has_rule: false,
         is_remade: false,
+        look: Look::NoFile,
+        mark: Mark::NotKept,
     }];
     displayed(alloc, Reason::HiddenGone(0).told(&gone))
 }

@@ -16,5 +16,5 @@ pub use exit_status::outcome;
 pub use laws::{hidden_as_mentioned, one_outcome, one_record};
 pub use line::{Line, kept_of_expanded, kept_text, recorded, split_line};
 pub use line_status::{LineStatus, Outcome};
-pub use mk_verdict::{Prerequisite, Reason, Target, Told, Verdict, judge};
+pub use mk_verdict::{Look, Mark, Prerequisite, Reason, Target, Told, Verdict, judge};
 pub use report::{ReportFault, read_report};

@@ -4,12 +4,14 @@ use Rattle.std.specs.Prelude.{◌<ℤ◌, int_lt, IsTrue, is_none, nat_eq}
 use Rattle.std.specs.Str.{is_utf8}
 use Rattle.std.specs.Bool.{Decides}
 use Rattle.std.specs.Cmp.Lexicographic.{pointwise}
-use Rattle.std.proofs.lemmas.Bool.Decides.{Decides-eqb}
+use Rattle.std.proofs.lemmas.Bool.Decides.{Decides-and, Decides-eqb}
 use Rattle.std.proofs.lemmas.Int.{ints}
 use Rattle.std.proofs.lemmas.Slice.Eq.{slice_eq-Decides}
 use Rattle.mk_verdict.specs.declared.verdict.Prerequisite.{Prerequisite}
-use Rattle.mk_verdict.specs.Tests.{same_strings, is_later, is_newer, is_gone, counts_as_remade}
-use Rattle.mk_verdict.specs.Verdict.{IsLater, IsGone, IsRemade}
+use Rattle.mk_verdict.specs.Marks.{mark_of, Differs}
+use Rattle.mk_verdict.specs.Tests.{same_strings, is_timed, is_later, is_newer, is_changed, is_gone, counts_as_remade}
+use Rattle.mk_verdict.specs.Verdict.{IsLater, IsNewer, IsGone, IsRemade}
+use Rattle.mk_verdict.proofs.MarkLemmas.{differs_decides, timed_decides}
 
 same_bytes : (a b : List ℕ) → Decides (pointwise nat_eq a b) (a ≡ b)
 same_bytes a b = slice_eq-Decides Decides-eqb a b (pointwise nat_eq a b) refl
@@ -27,16 +29,20 @@ some_is : (a b : ℤ) → Some a ≡ Some b → a ≡ b
 some_is a b e = cc
 
 -- a time against that of the target
-newer_decides : (stamp target : Option ℤ) → Decides (is_later stamp target) (IsLater stamp target)
-newer_decides None target = ((λ e. absurd cc), λ (p, t, has, is, lt). absurd cc)
-newer_decides (Some s) None = ((λ e. absurd cc), λ (p, t, has, is, lt). absurd cc)
-newer_decides (Some s) (Some u) = (
+pub is_later-decides : (stamp target : Option ℤ) → Decides (is_later stamp target) (IsLater stamp target)
+is_later-decides None target = ((λ e. absurd cc), λ (p, t, has, is, lt). absurd cc)
+is_later-decides (Some s) None = ((λ e. absurd cc), λ (p, t, has, is, lt). absurd cc)
+is_later-decides (Some s) (Some u) = (
   (λ e. (s, u, refl, refl, later_yes u s e)),
   λ (p, t, has, is, lt). later_no u s (rw (some_is s p has, some_is u t is) lt),
 )
 
-pub is_newer-decides : (target : Option ℤ) (p : Prerequisite) → Decides (is_newer target p) (IsLater p.stamp target)
-is_newer-decides target p = newer_decides p.stamp target
+pub is_newer-decides : (keeping : Bool) (target : Option ℤ) (p : Prerequisite) → Decides (is_newer keeping target p) (IsNewer keeping target p)
+is_newer-decides keeping target p =
+    Decides-and (is_timed (mark_of keeping p.mark)) (is_later p.stamp target) (timed_decides (mark_of keeping p.mark)) (is_later-decides p.stamp target)
+
+pub is_changed-decides : (keeping : Bool) (p : Prerequisite) → Decides (is_changed keeping p) (Differs (mark_of keeping p.mark) p.look)
+is_changed-decides keeping p = differs_decides (mark_of keeping p.mark) p.look
 
 gone_decides : (hidden : Bool) (stamp : Option ℤ) (rule text : Bool)
     → Decides (hidden && ((is_none stamp && not rule) || not text)) (IsTrue hidden × (((stamp ≡ None) × (rule ≡ false)) ⊎ (text ≡ false)))

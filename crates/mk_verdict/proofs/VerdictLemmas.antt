@@ -8,13 +8,15 @@ use Rattle.st_records.specs.declared.record.Explicit.{Explicit}
 use Rattle.st_records.specs.declared.record.Explicit.TheVariants.{Unknown, Known}
 use Rattle.mk_verdict.specs.declared.verdict.Target.{Target}
 use Rattle.mk_verdict.specs.declared.verdict.Reason.{Reason}
-use Rattle.mk_verdict.specs.declared.verdict.Reason.TheVariants.{NoEntry, WasBegun, WasFailed, CommandsChanged, PrerequisitesChanged, Absent, Newer, HiddenGone, Remade}
+use Rattle.mk_verdict.specs.declared.verdict.Reason.TheVariants.{NoEntry, WasBegun, WasFailed, CommandsChanged, PrerequisitesChanged, Absent, TargetChanged, Newer, Changed, HiddenGone, Remade}
 use Rattle.mk_verdict.specs.declared.verdict.Verdict.{Verdict}
 use Rattle.mk_verdict.specs.declared.verdict.Verdict.TheVariants.{UpToDate, OutOfDate}
-use Rattle.mk_verdict.specs.Verdict.{rank, place, Precedes, Holds, IsLater, IsGone, IsRemade, IsVerdict}
-use Rattle.mk_verdict.specs.Tests.{same_strings, is_newer, is_gone, counts_as_remade, phase_reason, explicit_reason, changed_reason, recorded_reason, timed_reason, present_reason, first_reason, gone_at, or_else}
+use Rattle.mk_verdict.specs.Marks.{mark_of, Differs}
+use Rattle.mk_verdict.specs.Verdict.{rank, place, Precedes, Holds, IsNewer, IsGone, IsRemade, IsVerdict}
+use Rattle.mk_verdict.specs.Tests.{same_strings, mark_differs, is_newer, is_changed, is_gone, counts_as_remade, phase_reason, explicit_reason, changed_reason, recorded_reason, timed_reason, replaced_reason, present_reason, first_reason, gone_at, or_else}
 use Rattle.mk_verdict.proofs.FirstLemmas.{reason_at, reason_at-rank, From, from_first, from_next, IsAnswer, found_at, none_left, IsLeast, step, least_position}
-use Rattle.mk_verdict.proofs.ReasonLemmas.{strings_decide, is_newer-decides, is_gone-decides, counts_as_remade-decides}
+use Rattle.mk_verdict.proofs.MarkLemmas.{differs_decides}
+use Rattle.mk_verdict.proofs.ReasonLemmas.{strings_decide, is_newer-decides, is_changed-decides, is_gone-decides, counts_as_remade-decides}
 
 zero_least : (i : ℕ) → 0 ≤ i
 zero_least i = omega arith
@@ -32,11 +34,11 @@ alone : (H : Reason → Type 0) (answer : Option Reason) → IsAnswer H (or_else
 alone H None h = h
 alone H (Some r) h = h
 
-remade_step : (keeping : Bool) (entry : Option Entry) (target : Target) → From (Holds keeping entry target) 9
+remade_step : (keeping : Bool) (entry : Option Entry) (target : Target) → From (Holds keeping entry target) 11
     → IsAnswer (Holds keeping entry target) (option_map Remade (position (counts_as_remade target.orders_hidden) target.prerequisites.now))
 remade_step keeping entry target from =
     alone (Holds keeping entry target) (option_map Remade (position (counts_as_remade target.orders_hidden) target.prerequisites.now))
-    (step (Holds keeping entry target) 9 Remade (λ i. refl) (λ i. refl) (λ i. refl)
+    (step (Holds keeping entry target) 11 Remade (λ i. refl) (λ i. refl) (λ i. refl)
     (position (counts_as_remade target.orders_hidden) target.prerequisites.now) None from
     (least_position (counts_as_remade target.orders_hidden) (IsRemade target.orders_hidden) (counts_as_remade-decides target.orders_hidden) target.prerequisites.now)
     (none_left (Holds keeping entry target)))
@@ -44,50 +46,73 @@ remade_step keeping entry target from =
 no_keeping : false ≡ true → ⊥
 no_keeping e = cc
 
-gone_step : (keeping : Bool) (entry : Option Entry) (target : Target) → From (Holds keeping entry target) 8
+gone_step : (keeping : Bool) (entry : Option Entry) (target : Target) → From (Holds keeping entry target) 10
     → IsAnswer (Holds keeping entry target) (or_else (option_map HiddenGone (gone_at keeping target.prerequisites.now))
     (option_map Remade (position (counts_as_remade target.orders_hidden) target.prerequisites.now)))
 gone_step true entry target from =
-    step (Holds true entry target) 8 HiddenGone (λ i. refl) (λ i. refl) (λ i. refl)
+    step (Holds true entry target) 10 HiddenGone (λ i. refl) (λ i. refl) (λ i. refl)
     (position is_gone target.prerequisites.now) (option_map Remade (position (counts_as_remade target.orders_hidden) target.prerequisites.now)) from
     (least_of_same (λ i. IsSomeAnd (slice_get target.prerequisites.now i) IsGone) (λ i. IsTrue true × IsSomeAnd (slice_get target.prerequisites.now i) IsGone)
     (λ i h. (refl, h)) (λ i h. h.1) (position is_gone target.prerequisites.now)
     (least_position is_gone IsGone is_gone-decides target.prerequisites.now))
     (remade_step true entry target)
 gone_step false entry target from =
-    remade_step false entry target (from_next (Holds false entry target) 8 from (λ i h. no_keeping h.0))
+    remade_step false entry target (from_next (Holds false entry target) 10 from (λ i h. no_keeping h.0))
 
-newer_step : (keeping : Bool) (entry : Option Entry) (target : Target) → From (Holds keeping entry target) 7
-    → IsAnswer (Holds keeping entry target) (timed_reason keeping target)
-newer_step keeping entry target from =
-    step (Holds keeping entry target) 7 Newer (λ i. refl) (λ i. refl) (λ i. refl)
-    (position (is_newer target.stamp) target.prerequisites.now)
+changed_step : (keeping : Bool) (entry : Option Entry) (target : Target) → From (Holds keeping entry target) 9
+    → IsAnswer (Holds keeping entry target) (or_else (option_map Changed (position (is_changed keeping) target.prerequisites.now))
+    (or_else (option_map HiddenGone (gone_at keeping target.prerequisites.now))
+    (option_map Remade (position (counts_as_remade target.orders_hidden) target.prerequisites.now))))
+changed_step keeping entry target from =
+    step (Holds keeping entry target) 9 Changed (λ i. refl) (λ i. refl) (λ i. refl)
+    (position (is_changed keeping) target.prerequisites.now)
     (or_else (option_map HiddenGone (gone_at keeping target.prerequisites.now)) (option_map Remade (position (counts_as_remade target.orders_hidden) target.prerequisites.now)))
     from
-    (least_position (is_newer target.stamp) (λ p. IsLater p.stamp target.stamp) (is_newer-decides target.stamp) target.prerequisites.now)
+    (least_position (is_changed keeping) (λ p. Differs (mark_of keeping p.mark) p.look) (is_changed-decides keeping) target.prerequisites.now)
     (gone_step keeping entry target)
+
+newer_step : (keeping : Bool) (entry : Option Entry) (target : Target) → From (Holds keeping entry target) 8
+    → IsAnswer (Holds keeping entry target) (timed_reason keeping target)
+newer_step keeping entry target from =
+    step (Holds keeping entry target) 8 Newer (λ i. refl) (λ i. refl) (λ i. refl)
+    (position (is_newer keeping target.stamp) target.prerequisites.now)
+    (or_else (option_map Changed (position (is_changed keeping) target.prerequisites.now))
+    (or_else (option_map HiddenGone (gone_at keeping target.prerequisites.now)) (option_map Remade (position (counts_as_remade target.orders_hidden) target.prerequisites.now))))
+    from
+    (least_position (is_newer keeping target.stamp) (IsNewer keeping target.stamp) (is_newer-decides keeping target.stamp) target.prerequisites.now)
+    (changed_step keeping entry target)
+
+replaced_by : (keeping : Bool) (entry : Option Entry) (target : Target) (differs : Bool) → mark_differs (mark_of keeping target.mark) target.look ≡ differs
+    → From (Holds keeping entry target) 7 → IsAnswer (Holds keeping entry target) (cond differs (Some TargetChanged) (timed_reason keeping target))
+replaced_by keeping entry target true e from =
+    found_at (Holds keeping entry target) 7 TargetChanged from refl ((differs_decides (mark_of keeping target.mark) target.look).0 e) (λ i h. zero_least i)
+replaced_by keeping entry target false e from =
+    newer_step keeping entry target (from_next (Holds keeping entry target) 7 from
+    (λ i h. apart (mark_differs (mark_of keeping target.mark) target.look) ((differs_decides (mark_of keeping target.mark) target.look).1 h) e))
+
+replaced_step : (keeping : Bool) (entry : Option Entry) (target : Target) → From (Holds keeping entry target) 7
+    → IsAnswer (Holds keeping entry target) (replaced_reason keeping target)
+replaced_step keeping entry target from = replaced_by keeping entry target (mark_differs (mark_of keeping target.mark) target.look) refl from
 
 some_time : (t : ℤ) → Some t ≡ None → ⊥
 some_time t e = cc
 
 stamp_step : (keeping : Bool) (entry : Option Entry) (target : Target) (s : Option ℤ) → target.stamp ≡ s → From (Holds keeping entry target) 6
-    → IsAnswer (Holds keeping entry target) (cond (is_none s) (Some Absent) (timed_reason keeping target))
+    → IsAnswer (Holds keeping entry target) (cond (is_none s) (Some Absent) (replaced_reason keeping target))
 stamp_step keeping entry target None e from = found_at (Holds keeping entry target) 6 Absent from refl e (λ i h. zero_least i)
 stamp_step keeping entry target (Some t) e from =
-    newer_step keeping entry target (from_next (Holds keeping entry target) 6 from (λ i h. some_time t (sym e ∙ h)))
+    replaced_step keeping entry target (from_next (Holds keeping entry target) 6 from (λ i h. some_time t (sym e ∙ h)))
 
 present_step : (keeping : Bool) (entry : Option Entry) (target : Target) → From (Holds keeping entry target) 6
     → IsAnswer (Holds keeping entry target) (present_reason keeping target)
 present_step keeping entry target from = stamp_step keeping entry target target.stamp refl from
 
 -- what was found of each kind gives the reason
-pub timed_is : (keeping : Bool) (target : Target) (newer gone remade : Option ℕ) → newer ≡ position (is_newer target.stamp) target.prerequisites.now
+pub timed_is : (keeping : Bool) (target : Target) (newer changed gone remade : Option ℕ) → newer ≡ position (is_newer keeping target.stamp) target.prerequisites.now
+    → changed ≡ position (is_changed keeping) target.prerequisites.now
     → gone ≡ gone_at keeping target.prerequisites.now → remade ≡ position (counts_as_remade target.orders_hidden) target.prerequisites.now
-    → or_else (option_map Newer newer) (or_else (option_map HiddenGone gone) (option_map Remade remade)) ≡ timed_reason keeping target
-timed_is keeping target newer gone remade h k l =
-    ap (λ (o : Option ℕ). or_else (option_map Newer o) (or_else (option_map HiddenGone gone) (option_map Remade remade))) h
-    ∙ ap (λ (o : Option ℕ). or_else (option_map Newer (position (is_newer target.stamp) target.prerequisites.now)) (or_else (option_map HiddenGone o) (option_map Remade remade))) k
-    ∙ ap (λ (o : Option ℕ). or_else (option_map Newer (position (is_newer target.stamp) target.prerequisites.now)) (or_else (option_map HiddenGone (gone_at keeping target.prerequisites.now)) (option_map Remade o))) l
+    → or_else (option_map Newer newer) (or_else (option_map Changed changed) (or_else (option_map HiddenGone gone) (option_map Remade remade))) ≡ timed_reason keeping target
+timed_is keeping target newer changed gone remade h c k l = rw (h, c, k, l) refl
 
 -- ---- the state
 

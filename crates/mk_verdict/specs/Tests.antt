@@ -1,5 +1,6 @@
 -- What the private functions compute, by one test after the other. `Verdict` says what it means.
-use Rattle.std.specs.Prelude.{ℕ, ℤ, int_lt, Bool, false, not, ◌&&◌, ◌||◌, if◌then◌else◌, List, Option, Some, None, is_none, nat_eq, position, option_map}
+use Rattle.std.specs.Prelude.{ℕ, ℤ, int_lt, Bool, true, false, not, ◌&&◌, ◌||◌, if◌then◌else◌, List, Option, Some, None, is_none, nat_eq, position, option_map}
+use Rattle.std.specs.Ordering.{int_eq}
 use Rattle.std.specs.Str.{is_utf8}
 use Rattle.std.specs.Cmp.Lexicographic.{pointwise}
 use Rattle.st_records.specs.declared.record.Entry.{Entry}
@@ -7,10 +8,15 @@ use Rattle.st_records.specs.declared.record.Phase.{Phase}
 use Rattle.st_records.specs.declared.record.Phase.TheVariants as phase
 use Rattle.st_records.specs.declared.record.Explicit.{Explicit}
 use Rattle.st_records.specs.declared.record.Explicit.TheVariants.{Unknown, Known}
+use Rattle.mk_verdict.specs.declared.mark.Look.{Look}
+use Rattle.mk_verdict.specs.declared.mark.Look.TheVariants.{NoFile, Other, File}
+use Rattle.mk_verdict.specs.declared.mark.Mark.{Mark}
+use Rattle.mk_verdict.specs.declared.mark.Mark.TheVariants as mark
 use Rattle.mk_verdict.specs.declared.verdict.Prerequisite.{Prerequisite}
 use Rattle.mk_verdict.specs.declared.verdict.Target.{Target}
 use Rattle.mk_verdict.specs.declared.verdict.Reason.{Reason}
-use Rattle.mk_verdict.specs.declared.verdict.Reason.TheVariants.{NoEntry, WasBegun, WasFailed, CommandsChanged, PrerequisitesChanged, Absent, Newer, HiddenGone, Remade}
+use Rattle.mk_verdict.specs.declared.verdict.Reason.TheVariants.{NoEntry, WasBegun, WasFailed, CommandsChanged, PrerequisitesChanged, Absent, TargetChanged, Newer, Changed, HiddenGone, Remade}
+use Rattle.mk_verdict.specs.Marks.{mark_of}
 
 -- the strings are the same, one by one
 abbrev pub same_strings : List (List ℕ) → List (List ℕ) → Bool
@@ -22,8 +28,32 @@ is_later None target = false
 is_later (Some p) None = false
 is_later (Some p) (Some t) = int_lt t p
 
-abbrev pub is_newer : (target : Option ℤ) → Prerequisite → Bool
-is_newer target p = is_later p.stamp target
+-- the file is the same, as far as looks tell
+abbrev pub same_look : Look → Look → Bool
+same_look NoFile NoFile = true
+same_look Other Other = true
+same_look (File time size) (File now bytes) = int_eq time now && nat_eq size bytes
+same_look _ _ = false
+
+-- the file isn't, or may not be, the one that is recorded
+abbrev pub mark_differs : Mark → Look → Bool
+mark_differs mark.NotKept look = false
+mark_differs mark.Unknown look = true
+mark_differs (mark.Was was) look = not (same_look was look)
+
+-- the file's time is what counts
+abbrev pub is_timed : Mark → Bool
+is_timed mark.NotKept = true
+is_timed mark.Unknown = false
+is_timed (mark.Was NoFile) = false
+is_timed (mark.Was Other) = true
+is_timed (mark.Was (File time size)) = false
+
+abbrev pub is_newer : (keeping : Bool) → (target : Option ℤ) → Prerequisite → Bool
+is_newer keeping target p = is_timed (mark_of keeping p.mark) && is_later p.stamp target
+
+abbrev pub is_changed : (keeping : Bool) → Prerequisite → Bool
+is_changed keeping p = mark_differs (mark_of keeping p.mark) p.look
 
 abbrev pub is_gone : Prerequisite → Bool
 is_gone p = p.is_hidden && ((is_none p.stamp && not p.has_rule) || not (is_utf8 p.name.now))
@@ -62,12 +92,18 @@ gone_at keeping prerequisites = if keeping then position is_gone prerequisites e
 -- the first of the reasons that the files of a target give which has one, and the run
 abbrev pub timed_reason : (keeping : Bool) → Target → Option Reason
 timed_reason keeping target =
-    or_else (option_map Newer (position (is_newer target.stamp) target.prerequisites.now))
+    or_else (option_map Newer (position (is_newer keeping target.stamp) target.prerequisites.now))
+    (or_else (option_map Changed (position (is_changed keeping) target.prerequisites.now))
     (or_else (option_map HiddenGone (gone_at keeping target.prerequisites.now))
-    (option_map Remade (position (counts_as_remade target.orders_hidden) target.prerequisites.now)))
+    (option_map Remade (position (counts_as_remade target.orders_hidden) target.prerequisites.now))))
+
+-- the same, where the target has a file: first whether that is the recorded one
+abbrev pub replaced_reason : (keeping : Bool) → Target → Option Reason
+replaced_reason keeping target =
+    if mark_differs (mark_of keeping target.mark) target.look then Some TargetChanged else timed_reason keeping target
 
 abbrev pub present_reason : (keeping : Bool) → Target → Option Reason
-present_reason keeping target = if is_none target.stamp then Some Absent else timed_reason keeping target
+present_reason keeping target = if is_none target.stamp then Some Absent else replaced_reason keeping target
 
 -- the first of all reasons
 abbrev pub first_reason : (keeping : Bool) → Option Entry → Target → Option Reason

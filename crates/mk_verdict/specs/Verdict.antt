@@ -1,5 +1,5 @@
 -- Why a target is out of date (make(1S), "Reading Makefiles and the Environment" and .KEEP_STATE). That a recipe that was
--- begun or failed is run again, that changed prerequisites count, and the order of reasons are our own.
+-- begun or failed is run again, that changed prerequisites count, marks, and the order of reasons are our own.
 use Rattle.std.specs.Prelude.{◌≡◌, ◌≢◌, ◌⊎◌, ℕ, ◌<◌, ◌≤◌, ℤ, ◌<ℤ◌, Bool, false, IsTrue, List, Option, Some, None, IsSomeAnd, slice_get}
 use Rattle.std.specs.Str.{is_utf8}
 use Rattle.st_records.specs.declared.record.Entry.{Entry}
@@ -8,9 +8,10 @@ use Rattle.st_records.specs.declared.record.Explicit.TheVariants.{Known}
 use Rattle.mk_verdict.specs.declared.verdict.Prerequisite.{Prerequisite}
 use Rattle.mk_verdict.specs.declared.verdict.Target.{Target}
 use Rattle.mk_verdict.specs.declared.verdict.Reason.{Reason}
-use Rattle.mk_verdict.specs.declared.verdict.Reason.TheVariants.{NoEntry, WasBegun, WasFailed, CommandsChanged, PrerequisitesChanged, Absent, Newer, HiddenGone, Remade}
+use Rattle.mk_verdict.specs.declared.verdict.Reason.TheVariants.{NoEntry, WasBegun, WasFailed, CommandsChanged, PrerequisitesChanged, Absent, TargetChanged, Newer, Changed, HiddenGone, Remade}
 use Rattle.mk_verdict.specs.declared.verdict.Verdict.{Verdict}
 use Rattle.mk_verdict.specs.declared.verdict.Verdict.TheVariants.{UpToDate, OutOfDate}
+use Rattle.mk_verdict.specs.Marks.{mark_of, Differs, IsTimed}
 
 -- its recipe failed, with some status
 abbrev pub HasFailed : Entry → Type 0
@@ -23,6 +24,10 @@ NamesOthers explicit entry = (names : List (List ℕ)) × (entry.explicit ≡ Kn
 -- both have files, and that of the prerequisite is later
 abbrev pub IsLater : (prerequisite target : Option ℤ) → Type 0
 IsLater prerequisite target = (p : ℤ) × (t : ℤ) × (prerequisite ≡ Some p) × (target ≡ Some t) × (t <ℤ p)
+
+-- its file is later than the target's, where times are what counts
+abbrev pub IsNewer : (keeping : Bool) → (target : Option ℤ) → Prerequisite → Type 0
+IsNewer keeping target p = IsTimed (mark_of keeping p.mark) × IsLater p.stamp target
 
 -- a hidden prerequisite has neither file nor rule, or a name that is no text
 abbrev pub IsGone : Prerequisite → Type 0
@@ -42,7 +47,9 @@ Holds keeping entry target WasFailed = IsTrue keeping × IsSomeAnd entry HasFail
 Holds keeping entry target CommandsChanged = IsTrue keeping × IsSomeAnd entry (λ e. e.commands ≢ target.commands.now)
 Holds keeping entry target PrerequisitesChanged = IsTrue keeping × IsSomeAnd entry (NamesOthers target.explicit.now)
 Holds keeping entry target Absent = target.stamp ≡ None
-Holds keeping entry target (Newer i) = IsSomeAnd (slice_get target.prerequisites.now i) (λ p. IsLater p.stamp target.stamp)
+Holds keeping entry target TargetChanged = Differs (mark_of keeping target.mark) target.look
+Holds keeping entry target (Newer i) = IsSomeAnd (slice_get target.prerequisites.now i) (IsNewer keeping target.stamp)
+Holds keeping entry target (Changed i) = IsSomeAnd (slice_get target.prerequisites.now i) (λ p. Differs (mark_of keeping p.mark) p.look)
 Holds keeping entry target (HiddenGone i) = IsTrue keeping × IsSomeAnd (slice_get target.prerequisites.now i) IsGone
 Holds keeping entry target (Remade i) = IsSomeAnd (slice_get target.prerequisites.now i) (IsRemade target.orders_hidden)
 
@@ -58,13 +65,16 @@ rank WasFailed = 3
 rank CommandsChanged = 4
 rank PrerequisitesChanged = 5
 rank Absent = 6
-rank (Newer i) = 7
-rank (HiddenGone i) = 8
-rank (Remade i) = 9
+rank TargetChanged = 7
+rank (Newer i) = 8
+rank (Changed i) = 9
+rank (HiddenGone i) = 10
+rank (Remade i) = 11
 
 -- the number of the prerequisite that a reason names
 abbrev pub place : Reason → ℕ
 place (Newer i) = i
+place (Changed i) = i
 place (HiddenGone i) = i
 place (Remade i) = i
 place _ = 0

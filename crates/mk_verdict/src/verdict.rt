@@ -2,8 +2,9 @@
 ghost use Rattle.std.specs.Prelude.{◌≡◌, position};
 ghost use Rattle.std.specs.Option.{option_copied};
 ghost use Rattle.mk_verdict.specs.Verdict.{IsVerdict};
-ghost use Rattle.mk_verdict.specs.Tests.{is_newer, is_gone, gone_at, counts_as_remade, phase_reason, changed_reason, recorded_reason, timed_reason, present_reason, first_reason};
+ghost use Rattle.mk_verdict.specs.Tests.{is_later, is_newer, is_changed, is_gone, gone_at, counts_as_remade, phase_reason, changed_reason, recorded_reason, timed_reason, replaced_reason, present_reason, first_reason};
 
+use crate::mark::{Look, Mark};
 use byte_strings::ByteStrings;
 use mk_reader::is_utf8;
 use st_records::{PackedEntry, Phase};
@@ -20,6 +21,10 @@ pub struct Prerequisite<'a> {
     pub has_rule: bool,
     /// It was built in this run, or has no recipe and one of its own prerequisites was.
     pub is_remade: bool,
+    /// Its file now. It counts only where a mark of it is kept.
+    pub look: Look,
+    /// Its file as it was when the target's recipe was begun.
+    pub mark: Mark,
 }
 
 /// A target as it is now.
@@ -35,6 +40,10 @@ pub struct Target<'a> {
     pub prerequisites: &'a [Prerequisite<'a>],
     /// Hidden prerequisites count for the order of this run, and so for what is remade.
     pub orders_hidden: bool,
+    /// Its file now. It counts only where a mark of it is kept.
+    pub look: Look,
+    /// Its file as its recipe has left it.
+    pub mark: Mark,
 }
 
 /// Why a target is out of date. A number is that of a prerequisite. The order is that in which reasons are looked for.
@@ -50,8 +59,12 @@ pub enum Reason {
     PrerequisitesChanged,
     /// The target has no file.
     Absent,
-    /// The prerequisite's file is later than the target's.
+    /// The target's file isn't the one that its recipe has left.
+    TargetChanged,
+    /// The prerequisite's file is later than the target's. Where a mark of it is kept this doesn't count, but for folders.
     Newer(usize),
+    /// The prerequisite's file isn't the one of which the target was made.
+    Changed(usize),
     /// A hidden prerequisite has neither file nor rule, or a name that isn't UTF-8.
     HiddenGone(usize),
     Remade(usize),
@@ -65,13 +78,25 @@ pub enum Verdict {
 }
 
 impl Prerequisite<'_> {
-    fn is_newer(&self, target: &Target<'_>) -> bool
-        ensures { result ≡ is_newer target.now.stamp self.now }
+    fn is_later(&self, target: &Target<'_>) -> bool
+        ensures { result ≡ is_later self.now.stamp target.now.stamp }
     {
         match (self.stamp, target.stamp) {
             (Some(stamp), Some(made)) => made < stamp,
             _ => false,
         }
+    }
+
+    fn is_newer(&self, keeping: bool, target: &Target<'_>) -> bool
+        ensures { result ≡ is_newer keeping target.now.stamp self.now }
+    {
+        self.mark.kept(keeping).is_timed() && self.is_later(target)
+    }
+
+    fn is_changed(&self, keeping: bool) -> bool
+        ensures { result ≡ is_changed keeping self.now }
+    {
+        self.mark.kept(keeping).differs(self.look)
     }
 
     fn is_gone(&self) -> bool
@@ -129,10 +154,22 @@ fn recorded_reason(entry: Option<&PackedEntry>, target: &Target<'_>) -> Option<R
     }
 }
 
-fn first_newer(target: &Target<'_>) -> Option<usize>
-    ensures { result ≡ position (is_newer target.now.stamp) target.now.prerequisites.now }
+fn first_newer(keeping: bool, target: &Target<'_>) -> Option<usize>
+    ensures { result ≡ position (is_newer keeping target.now.stamp) target.now.prerequisites.now }
 {
-    target.prerequisites.iter().position(|p| p.is_newer(target))
+    target
+        .prerequisites
+        .iter()
+        .position(|p| p.is_newer(keeping, target))
+}
+
+fn first_changed(keeping: bool, target: &Target<'_>) -> Option<usize>
+    ensures { result ≡ position (is_changed keeping) target.now.prerequisites.now }
+{
+    target
+        .prerequisites
+        .iter()
+        .position(|p| p.is_changed(keeping))
 }
 
 fn first_gone(target: &Target<'_>) -> Option<usize>
@@ -161,8 +198,11 @@ fn gone_at(keeping: bool, target: &Target<'_>) -> Option<usize>
 fn timed_reason(keeping: bool, target: &Target<'_>) -> Option<Reason>
     ensures { result ≡ timed_reason keeping target.now }
 {
-    if let Some(number) = first_newer(target) {
+    if let Some(number) = first_newer(keeping, target) {
         return Some(Reason::Newer(number));
+    }
+    if let Some(number) = first_changed(keeping, target) {
+        return Some(Reason::Changed(number));
     }
     if let Some(number) = gone_at(keeping, target) {
         return Some(Reason::HiddenGone(number));
@@ -173,13 +213,23 @@ fn timed_reason(keeping: bool, target: &Target<'_>) -> Option<Reason>
     }
 }
 
+/// The first of the reasons that files and this run give, where the target has a file: first its own.
+fn replaced_reason(keeping: bool, target: &Target<'_>) -> Option<Reason>
+    ensures { result ≡ replaced_reason keeping target.now }
+{
+    if target.mark.kept(keeping).differs(target.look) {
+        return Some(Reason::TargetChanged);
+    }
+    timed_reason(keeping, target)
+}
+
 /// The first of the reasons that files and this run give.
 fn present_reason(keeping: bool, target: &Target<'_>) -> Option<Reason>
     ensures { result ≡ present_reason keeping target.now }
 {
     match target.stamp {
         None => Some(Reason::Absent),
-        Some(_) => timed_reason(keeping, target),
+        Some(_) => replaced_reason(keeping, target),
     }
 }
 

@@ -1,0 +1,78 @@
+//! What the state has of a file, against what a look at it tells.
+ghost use Rattle.std.specs.Prelude.{◌≡◌};
+ghost use Rattle.mk_verdict.specs.Marks.{mark_of};
+ghost use Rattle.mk_verdict.specs.Tests.{same_look, mark_differs, is_timed};
+
+/// What a look at a name tells of its file.
+#[derive(Clone, Copy)]
+pub enum Look {
+    NoFile,
+    /// A folder or a device: its time alone counts.
+    Other,
+    /// An ordinary file, last changed then (nanoseconds since 1970), with so many bytes (modulo 2^32).
+    File { time: i64, size: u32 },
+}
+
+/// What the state has of a file that went into a target, or came of its recipe.
+#[derive(Clone, Copy)]
+pub enum Mark {
+    /// Marks aren't kept, and the file's time counts.
+    NotKept,
+    /// The file may have changed while the recipe was run.
+    Unknown,
+    Was(Look),
+}
+
+impl Look {
+    fn is_same(self, other: Look) -> bool
+        ensures { result ≡ same_look self other }
+    {
+        match (self, other) {
+            (Look::NoFile, Look::NoFile) => true,
+            (Look::Other, Look::Other) => true,
+            (
+                Look::File { time, size },
+                Look::File {
+                    time: now,
+                    size: bytes,
+                },
+            ) => time == now && size == bytes,
+            _ => false,
+        }
+    }
+}
+
+impl Mark {
+    /// The mark where state is kept, else none.
+    pub(crate) fn kept(self, keeping: bool) -> Mark
+        ensures { result ≡ mark_of keeping self }
+    {
+        if keeping { self } else { Mark::NotKept }
+    }
+
+    /// Whether the file isn't, or may not be, the one that is recorded.
+    pub(crate) fn differs(self, look: Look) -> bool
+        ensures { result ≡ mark_differs self look }
+    {
+        match self {
+            Mark::NotKept => false,
+            Mark::Unknown => true,
+            Mark::Was(was) => !was.is_same(look),
+        }
+    }
+
+    /// Whether the file's time is what counts.
+    pub(crate) fn is_timed(self) -> bool
+        ensures { result ≡ is_timed self }
+    {
+        match self {
+            Mark::NotKept => true,
+            Mark::Unknown => false,
+            Mark::Was(was) => match was {
+                Look::NoFile => false,
+                Look::Other => true,
+                Look::File { .. } => false,
+            },
+        }
+    }
+}
