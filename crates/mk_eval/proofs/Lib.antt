@@ -5,4 +5,5 @@ pub mod MakefileLemmas
 pub mod OrderLemmas
 pub mod OutcomeLemmas
 pub mod RuleLemmas
+pub mod ShortLemmas
 pub mod StemLemmas

@@ -2,6 +2,7 @@
 ghost use Rattle.std.specs.Prelude.{◌≡◌, ◌++◌, IfOk, OnOk};
 ghost use Rattle.std.specs.List.{list_any};
 ghost use Rattle.byte_strings.specs.Blanks.{words};
+ghost use Rattle.mk_reader.specs.Text.{is_backslash};
 ghost use Rattle.mk_short_names.specs.Short.{begins_here};
 ghost use Rattle.mk_eval.specs.Short.{quotes_colon, has_quoted, unquoted, has_other_names, renamed};
 
@@ -29,9 +30,20 @@ fn quotes_colon(byte: u8, behind: &[u8]) -> bool
     byte == b'\\' && matches!(behind, [b':', ..])
 }
 
+fn has_backslash(text: &[u8]) -> bool
+    ensures { result ≡ list_any is_backslash text.now }
+{
+    text.contains(&b'\\')
+}
+
+#[tactic(auto, using(crate::proofs::ShortLemmas::none_quoted))]
 fn has_quoted(text: &[u8]) -> bool
     ensures { result ≡ has_quoted text.now }
 {
+    // Most texts have none, and each byte would be looked at by itself.
+    if !has_backslash(text) {
+        return false;
+    }
     let mut rest = text;
     while let Some((byte, behind)) = rest.split_first() {
         if quotes_colon(*byte, behind) {
