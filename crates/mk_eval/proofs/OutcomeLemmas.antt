@@ -37,8 +37,8 @@ use Rattle.mk_reader.proofs.PrintedItemsLemmas.{printed_read}
 use Rattle.mk_eval.specs.Static.{DefinesMacro}
 use Rattle.mk_eval.specs.Output.{World, with_shell}
 use Rattle.mk_eval.specs.Unmade.{outcome_beside}
-use Rattle.mk_eval.specs.Judged.{searches, changes_recipes, opens_vpath, at_line, with_refusal, judged, all_judged}
-use Rattle.mk_eval.specs.PlainRules.{IsPlainText, IsPlainLine, IsPlainRule, IsTakenRule, IsTakenDefinition, ArePlainRules}
+use Rattle.mk_eval.specs.Judged.{searches, changes_recipes, opens_vpath, refused_among, at_line, with_refusal, judged, all_judged}
+use Rattle.mk_eval.specs.PlainRules.{IsPlainText, IsPlainLine, IsPlainRule, IsTakenRule, IsTakenSpecial, IsTakenDefinition, ArePlainRules}
 use Rattle.mk_eval.specs.Static.{doubled}
 use Rattle.mk_eval.specs.Listed.{listed_text}
 use Rattle.mk_eval.specs.Short.{has_other_names}
@@ -280,7 +280,7 @@ plain_loose language file number (definition name append value ∷ more) (is, pl
 plain_loose language file number (rule None double targets prerequisites recipe ∷ more) (is, plain) (taken, here, later) =
     ((here, special_is language targets None is.2), plain_loose language file (after_recipe (next number) recipe) more plain later)
 plain_loose language file number (rule (Some name) double targets prerequisites recipe ∷ more) (is, plain) rules =
-    (rules.0, plain_loose language file (after_recipe (next number) recipe) more plain rules.1)
+    (rules.1, plain_loose language file (after_recipe (next number) recipe) more plain rules.2)
 
 -- no line of them is refused by name
 
@@ -300,12 +300,13 @@ rule_taken language file lines false is taken = refl
 rule_taken language file lines true is taken =
     let here = taken is in
     ap (λ o. with_refusal file (statement.Item (item.Rule lines)) (at_line lines.line o))
-    (ap (λ t. cond t (Some GroupedTargets) (cond (opens_vpath lines.targets) (Some (Directive Vpath)) None)) here.0
-    ∙ ap (λ t. cond t (Some (Directive Vpath)) None) here.1)
+    (ap (λ t. cond t (Some GroupedTargets) (cond (opens_vpath lines.targets) (Some (Directive Vpath)) (refused_among (words lines.targets)))) here.0
+    ∙ ap (λ t. cond t (Some (Directive Vpath)) (refused_among (words lines.targets))) here.1 ∙ here.2)
 
-special_taken : (file : List ℕ) (special : Special) (wide : Bool) → judged wide file (statement.Item (item.Special special)) ≡ statement.Item (item.Special special)
-special_taken file special false = refl
-special_taken file special true = refl
+special_taken : (language : Profile) (file : List ℕ) (special : Special) (wide : Bool) → is_wide language ≡ wide → IsTakenSpecial language special.rule.targets →
+    judged wide file (statement.Item (item.Special special)) ≡ statement.Item (item.Special special)
+special_taken language file special false is taken = refl
+special_taken language file special true is taken = ap (λ o. with_refusal file (statement.Item (item.Special special)) (at_line special.rule.line o)) (taken is)
 
 abbrev rule_on : (file : List ℕ) (number : ℕ) (double : Bool) (targets prerequisites : List ℕ) (recipe : List (List ℕ)) → Rule
 rule_on file number double targets prerequisites recipe =
@@ -322,7 +323,7 @@ plain_taken language file number (definition name append value ∷ more) (taken,
 plain_taken language file number (rule None double targets prerequisites recipe ∷ more) (taken, here, later) =
     both (rule_taken language file (rule_on file number double targets prerequisites recipe) (is_wide language) refl taken) (plain_taken language file (after_recipe (next number) recipe) more later)
 plain_taken language file number (rule (Some name) double targets prerequisites recipe ∷ more) rules =
-    both (special_taken file (record { name = name; rule = rule_on file number double targets prerequisites recipe }) (is_wide language)) (plain_taken language file (after_recipe (next number) recipe) more rules.1)
+    both (special_taken language file (record { name = name; rule = rule_on file number double targets prerequisites recipe }) (is_wide language) refl rules.0) (plain_taken language file (after_recipe (next number) recipe) more rules.2)
 
 pub printed_given : (world : World) (levels : ℕ) (given : Defined) (file : List ℕ) (items : List PlainItem) → NoneFixed given → ArePlain given.language items → ArePlainRules given.language items → TextItems world levels given file (printed items) (Ok (items_on file 1 items))
 printed_given world levels given file items none plain rules = (

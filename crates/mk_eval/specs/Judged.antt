@@ -1,12 +1,15 @@
 -- Statements that the wide profile refuses by name: GNU make gives them a meaning, and to pass over them would build something else.
-use Rattle.std.specs.Prelude.{ℕ, Bool, true, false, not, ◌&&◌, ◌||◌, List, length, map, nat_lt, Option, Some, None, bytes_eq, codes, if◌then◌else◌}
-use Rattle.byte_strings.specs.Blanks.{first_word}
+use Rattle.std.specs.Prelude.{ℕ, Bool, true, false, not, ◌&&◌, ◌||◌, List, [], ◌∷◌, length, map, nat_lt, Option, Some, None, bytes_eq, codes, if◌then◌else◌}
+use Rattle.byte_strings.specs.Blanks.{first_word, words}
+use Rattle.mk_profile.specs.declared.profile.Profile.TheVariants.{Posix}
+use Rattle.mk_reader.specs.Special.{special_name, is_refused}
+use Rattle.mk_reader.specs.declared.special.SpecialName.{SpecialName}
 use Rattle.mk_reader.specs.Text.{is_empty, ends_with}
 use Rattle.mk_reader.specs.Grammar.{refusal}
 use Rattle.mk_reader.specs.declared.directive.Directive.TheVariants.{Vpath}
 use Rattle.mk_reader.specs.declared.fault.Cause.TheVariants.{Unsupported}
 use Rattle.mk_reader.specs.declared.fault.Feature.{Feature}
-use Rattle.mk_reader.specs.declared.fault.Feature.TheVariants.{GroupedTargets, ShellFlags, SearchPath, RecipePrefix, Directive}
+use Rattle.mk_reader.specs.declared.fault.Feature.TheVariants.{GroupedTargets, ShellFlags, SearchPath, RecipePrefix, Directive, SpecialName as SpecialRule}
 use Rattle.mk_reader.specs.declared.item.Definition.{Definition}
 use Rattle.mk_reader.specs.declared.item.Item.{Item}
 use Rattle.mk_reader.specs.declared.item.Item.TheVariants as item
@@ -37,11 +40,25 @@ definition_refused d = macro_refused d.name d.value
 abbrev pub opens_vpath : (targets : List ℕ) → Bool
 opens_vpath targets = bytes_eq (first_word targets) (codes "vpath") && nat_lt (length (first_word targets)) (length targets)
 
+-- of the special name that a word is, if any, that which the wide profile refuses
+abbrev pub refused_name : Option SpecialName → Option SpecialName
+refused_name None = None
+refused_name (Some name) = if is_refused Posix name then Some name else None
+
+abbrev pub or_other : Option SpecialName → Option Feature → Option Feature
+or_other None other = other
+or_other (Some name) other = Some (SpecialRule name)
+
+-- the first such name among the targets, wherever it stands (GNU make manual, "Special Built-in Target Names")
+abbrev pub refused_among : (targets : List (List ℕ)) → Option Feature
+refused_among [] = None
+refused_among (word ∷ more) = or_other (refused_name (special_name Posix word)) (refused_among more)
+
 -- `&:` groups the targets before it (GNU make manual, "Rules with Grouped Targets")
 abbrev pub rule_refused : Rule → Option Feature
 rule_refused rule =
     if ends_with 38 rule.targets then Some GroupedTargets
-    else (if opens_vpath rule.targets then Some (Directive Vpath) else None)
+    else (if opens_vpath rule.targets then Some (Directive Vpath) else refused_among (words rule.targets))
 
 -- what is refused of a line, with its number
 abbrev pub at_line : ℕ → Option Feature → Option (ℕ × Feature)
@@ -51,7 +68,7 @@ at_line line (Some feature) = Some (line, feature)
 abbrev pub item_refused : Item → Option (ℕ × Feature)
 item_refused (item.Definition d) = at_line d.line (definition_refused d)
 item_refused (item.Rule rule) = at_line rule.line (rule_refused rule)
-item_refused (item.Special special) = None
+item_refused (item.Special special) = at_line special.rule.line (refused_among (words special.rule.targets))
 
 abbrev pub statement_refused : Statement → Option (ℕ × Feature)
 statement_refused (statement.Item one) = item_refused one

@@ -1,6 +1,7 @@
 -- Printed rules that give themselves in each profile.
 use Rattle.std.specs.Prelude.{◌≡◌, ℕ, true, false, not, ◌&&◌, List, [], ◌∷◌, Some, None, bytes_eq, codes}
 use Rattle.std.specs.List.{list_any}
+use Rattle.byte_strings.specs.Blanks.{words}
 use Rattle.mk_profile.specs.Profile.{is_wide}
 use Rattle.mk_profile.specs.declared.profile.Profile.{Profile}
 use Rattle.mk_reader.specs.Grammar.{Without}
@@ -8,7 +9,7 @@ use Rattle.mk_reader.specs.Quoted.{without_quoted}
 use Rattle.mk_reader.specs.Text.{is_dollar, is_empty, ends_with}
 use Rattle.mk_wildcards.specs.Pattern.{has_wildcard}
 use Rattle.mk_reader.specs.Printed.{PlainItem, definition, rule}
-use Rattle.mk_eval.specs.Judged.{opens_vpath, searches}
+use Rattle.mk_eval.specs.Judged.{opens_vpath, refused_among, searches}
 use Rattle.mk_eval.specs.Short.{has_other_names}
 use Rattle.mk_eval.specs.Static.{DefinesMacro}
 
@@ -26,7 +27,11 @@ IsPlainRule profile targets prerequisites =
 
 -- the wide profile doesn't refuse the line by name
 abbrev pub IsTakenRule : Profile → (targets : List ℕ) → Type 0
-IsTakenRule profile targets = is_wide profile ≡ true → (ends_with 38 targets ≡ false) × (opens_vpath targets ≡ false)
+IsTakenRule profile targets = is_wide profile ≡ true → (ends_with 38 targets ≡ false) × (opens_vpath targets ≡ false) × (refused_among (words targets) ≡ None)
+
+-- nor one of a special rule
+abbrev pub IsTakenSpecial : Profile → (targets : List ℕ) → Type 0
+IsTakenSpecial profile targets = is_wide profile ≡ true → refused_among (words targets) ≡ None
 
 abbrev pub IsTakenDefinition : Profile → (name value : List ℕ) → Type 0
 IsTakenDefinition profile name value =
@@ -39,4 +44,5 @@ ArePlainRules profile [] = Unit {0}
 ArePlainRules profile (definition name append value ∷ more) = IsTakenDefinition profile name value × ArePlainRules profile more
 ArePlainRules profile (rule None is_double targets prerequisites recipe ∷ more) =
     IsTakenRule profile targets × IsPlainRule profile targets prerequisites × ArePlainRules profile more
-ArePlainRules profile (rule (Some name) is_double targets prerequisites recipe ∷ more) = IsPlainLine profile targets prerequisites × ArePlainRules profile more
+ArePlainRules profile (rule (Some name) is_double targets prerequisites recipe ∷ more) =
+    IsTakenSpecial profile targets × IsPlainLine profile targets prerequisites × ArePlainRules profile more

@@ -1,11 +1,17 @@
 //! Statements that the wide profile refuses by name.
 ghost use Rattle.std.specs.Prelude.{◌≡◌, map, IfOk};
+ghost use Rattle.byte_strings.specs.Blanks.{words};
 ghost use Rattle.mk_profile.specs.Profile.{is_wide};
-ghost use Rattle.mk_eval.specs.Judged.{searches, changes_recipes, macro_refused, definition_refused, opens_vpath, rule_refused, item_refused, statement_refused, at_line, judged, all_judged};
+ghost use Rattle.mk_reader.specs.Special.{special_name};
+ghost use Rattle.mk_profile.specs.declared.profile.Profile.TheVariants.{Posix};
+ghost use Rattle.mk_eval.specs.Judged.{searches, changes_recipes, macro_refused, definition_refused, opens_vpath, refused_name, refused_among, rule_refused, item_refused, statement_refused, at_line, judged, all_judged};
 
-use byte_strings::{ByteString, first_word};
+use byte_strings::{ByteString, first_word, next_word};
 use mk_profile::Profile;
-use mk_reader::{Cause, Definition, Directive, Feature, Item, Refusal, Rule, Statement, ends_with};
+use mk_reader::{
+    Cause, Definition, Directive, Feature, Item, Refusal, Rule, SpecialName, Statement, ends_with,
+    is_refused, special_name,
+};
 use std::alloc::{AllocError, Global};
 
 /// Whether a text of `VPATH` has files looked for elsewhere. `.` says nothing.
@@ -52,6 +58,36 @@ fn opens_vpath(targets: &[u8]) -> bool
     word == b"vpath".as_slice() && word.len() < targets.len()
 }
 
+/// The special name that this word is, where the wide profile refuses it.
+fn refused_name(word: &[u8]) -> Option<SpecialName>
+    ensures { result ≡ refused_name (special_name Posix word.now) }
+{
+    match special_name(Profile::Posix, word) {
+        Some(name) => {
+            if is_refused(Profile::Posix, name) {
+                Some(name)
+            } else {
+                None
+            }
+        }
+        None => None,
+    }
+}
+
+/// The first such name among the targets of a line.
+fn refused_among(targets: &[u8]) -> Option<Feature>
+    ensures { result ≡ refused_among (words targets.now) }
+{
+    let mut rest = targets;
+    while let Some((word, behind)) = next_word(rest) {
+        if let Some(name) = refused_name(word) {
+            return Some(Feature::SpecialName(name));
+        }
+        rest = behind;
+    }
+    None
+}
+
 fn rule_refused(rule: &Rule) -> Option<Feature>
     ensures { result ≡ rule_refused rule.now }
 {
@@ -62,7 +98,7 @@ fn rule_refused(rule: &Rule) -> Option<Feature>
     if opens_vpath(targets) {
         return Some(Feature::Directive(Directive::Vpath));
     }
-    None
+    refused_among(targets)
 }
 
 fn at_line(line: usize, feature: Option<Feature>) -> Option<(usize, Feature)>
@@ -80,7 +116,10 @@ fn item_refused(item: &Item) -> Option<(usize, Feature)>
     match item {
         Item::Definition(definition) => at_line(definition.line, definition_refused(definition)),
         Item::Rule(rule) => at_line(rule.line, rule_refused(rule)),
-        Item::Special(_) => None,
+        Item::Special(special) => {
+            let rule = &special.rule;
+            at_line(rule.line, refused_among(rule.targets.as_slice()))
+        }
     }
 }
 
