@@ -1,0 +1,5 @@
+pub mod FaultLemmas
+pub mod ManyLemmas
+pub mod FieldLemmas
+pub mod TextLemmas
+mod PlaceLemmas

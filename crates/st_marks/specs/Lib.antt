@@ -1,0 +1,4 @@
+-- Encoding is the model: marks as bytes, and when bytes are the text of a source and marks.
+pub mod Encoding
+-- Reading: what private functions compute, from the left; of public contracts no part, but the list that is seen of `Marks`.
+pub mod Reading
