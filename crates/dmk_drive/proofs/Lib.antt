@@ -1,4 +1,5 @@
 pub mod KeepingLemmas
+pub mod LostLemmas
 pub mod PassingLemmas
 pub mod FaultLemmas
 pub mod CommandLemmas

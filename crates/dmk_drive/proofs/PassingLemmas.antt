@@ -1,7 +1,9 @@
 -- What stays true while the nodes of a graph are passed, and what its order says.
-use Rattle.std.proofs.Common.{◌≡◌, ◌+◌, inl, inr, ℕ, ℤ, Bool, Option, true, false, not, ◌&&◌, ◌||◌, nat_lt, List, [], ◌∷◌, ◌++◌, length, drop, set, refl, sym, ap, ◌∙◌, subst, append_assoc, append-nil}
+use Rattle.std.proofs.Common.{◌≡◌, ◌+◌, ◌<◌, ltb-true, inl, inr, ℕ, ℤ, Bool, Option, true, false, not, ◌&&◌, ◌||◌, nat_lt, List, [], ◌∷◌, ◌++◌, length, take, drop, set, refl, sym, ap, ◌∙◌, subst, append_assoc, append-nil}
 use Rattle.std.proofs.lemmas.Bool.{and_parts, and_from}
 use Rattle.std.proofs.lemmas.Grind.{flat_map-append}
+use Rattle.std.proofs.lemmas.List.{take-append-drop}
+use Rattle.std.proofs.lemmas.List.Folds.{list_all-append}
 use Rattle.std.specs.FinMap.{get-empty}
 use Rattle.std.specs.List.{list_all, flat_map}
 use Rattle.std.specs.Bool.{if◌then◌else◌}
@@ -30,7 +32,8 @@ use Rattle.mk_plan.specs.declared.telling.Telling.{Telling}
 use Rattle.mk_plan.specs.declared.telling.Telling.TheVariants as tellings
 use Rattle.dmk_drive.specs.Planned.{Plans, judged_graph}
 use Rattle.dmk_drive.specs.declared.makefiles.Makefiles.{Makefiles}
-use Rattle.dmk_drive.specs.Passing.{Lists, at_end, behind, ListsFault, here, later, IsListing, IsListingFault, no_marks, printed, text_of, recipe_in, passage_text, listing_text, lists_any, PassesEach}
+use Rattle.dmk_drive.specs.Lost.{IsLost}
+use Rattle.dmk_drive.specs.Passing.{Lists, at_end, behind, without, ListsFault, here, later, beyond, IsListing, IsListingFault, no_marks, printed, text_of, recipe_in, passage_text, listing_text, lists_any, PassesEach}
 use Rattle.mk_profile.specs.declared.profile.Profile.{Profile}
 use Rattle.mk_eval.specs.Output.{World}
 
@@ -40,12 +43,19 @@ ListedSoFar keeping graph marks i listed =
     (rest : List Passage) → Lists keeping graph marks (drop i graph.order.items) rest → IsListing keeping graph (listed ++ rest)
 
 pub listed_more : (keeping : Bool) (graph : Graph) (marks : List Bool) (i n : ℕ) (remade : Bool) (front listed : List Passage) →
-    drop i graph.order.items ≡ n ∷ drop (i + 1) graph.order.items → Passes keeping graph marks n remade front →
+    drop i graph.order.items ≡ n ∷ drop (i + 1) graph.order.items → (IsLost graph n → ⊥) → Passes keeping graph marks n remade front →
     ListedSoFar keeping graph marks i listed → ListedSoFar keeping graph (set marks n remade) (i + 1) (listed ++ front)
-listed_more keeping graph marks i n remade front listed next passes before = λ rest after.
+listed_more keeping graph marks i n remade front listed next stands passes before = λ rest after.
     subst (IsListing keeping graph) (sym (append_assoc listed front rest))
     (before (front ++ rest)
-    (subst (λ left. Lists keeping graph marks left (front ++ rest)) (sym next) (behind passes after)))
+    (subst (λ left. Lists keeping graph marks left (front ++ rest)) (sym next) (behind stands passes after)))
+
+-- a lost node is passed over
+pub listed_without : (keeping : Bool) (graph : Graph) (marks : List Bool) (i n : ℕ) (listed : List Passage) →
+    drop i graph.order.items ≡ n ∷ drop (i + 1) graph.order.items → IsLost graph n →
+    ListedSoFar keeping graph marks i listed → ListedSoFar keeping graph marks (i + 1) listed
+listed_without keeping graph marks i n listed next lost before = λ rest after.
+    before rest (subst (λ left. Lists keeping graph marks left rest) (sym next) (without lost after))
 
 -- the fault that is met among the nodes that are left is that of all
 abbrev pub NoFaultSoFar : (keeping : Bool) (graph : Graph) (marks : List Bool) (i : ℕ) → Type 0
@@ -53,18 +63,24 @@ NoFaultSoFar keeping graph marks i =
     (f : RecipeFault) → ListsFault keeping graph marks (drop i graph.order.items) f → ListsFault keeping graph (no_marks graph) graph.order.items f
 
 pub no_fault_more : (keeping : Bool) (graph : Graph) (marks : List Bool) (i n : ℕ) (remade : Bool) (front : List Passage) →
-    drop i graph.order.items ≡ n ∷ drop (i + 1) graph.order.items → Passes keeping graph marks n remade front →
+    drop i graph.order.items ≡ n ∷ drop (i + 1) graph.order.items → (IsLost graph n → ⊥) → Passes keeping graph marks n remade front →
     NoFaultSoFar keeping graph marks i → NoFaultSoFar keeping graph (set marks n remade) (i + 1)
-no_fault_more keeping graph marks i n remade front next passes before = λ f meets.
-    before f (subst (λ left. ListsFault keeping graph marks left f) (sym next) (later passes meets))
+no_fault_more keeping graph marks i n remade front next stands passes before = λ f meets.
+    before f (subst (λ left. ListsFault keeping graph marks left f) (sym next) (later stands passes meets))
+
+pub no_fault_without : (keeping : Bool) (graph : Graph) (marks : List Bool) (i n : ℕ) →
+    drop i graph.order.items ≡ n ∷ drop (i + 1) graph.order.items → IsLost graph n →
+    NoFaultSoFar keeping graph marks i → NoFaultSoFar keeping graph marks (i + 1)
+no_fault_without keeping graph marks i n next lost before = λ f meets.
+    before f (subst (λ left. ListsFault keeping graph marks left f) (sym next) (beyond lost meets))
 
 -- the node that is next has a fault
 pub fault_next : (keeping : Bool) (graph : Graph) (marks : List Bool) (i n : ℕ) (f : RecipeFault) →
-    drop i graph.order.items ≡ n ∷ drop (i + 1) graph.order.items → IsFaultAt graph marks n f →
+    drop i graph.order.items ≡ n ∷ drop (i + 1) graph.order.items → (IsLost graph n → ⊥) → IsFaultAt graph marks n f →
     NoFaultSoFar keeping graph marks i → IsListingFault keeping graph f
-fault_next keeping graph marks i n fault.OutOfMemory next is before = tt
-fault_next keeping graph marks i n f next is before =
-    before f (subst (λ left. ListsFault keeping graph marks left f) (sym next) (here is))
+fault_next keeping graph marks i n fault.OutOfMemory next stands is before = tt
+fault_next keeping graph marks i n f next stands is before =
+    before f (subst (λ left. ListsFault keeping graph marks left f) (sym next) (here stands is))
 
 -- all nodes are passed
 pub listed_all : (keeping : Bool) (graph : Graph) (marks : List Bool) (i : ℕ) (listed : List Passage) →
@@ -138,6 +154,16 @@ pub order_judged : (all : Bool) (graph judged : Graph) → judged ≡ judged_gra
 order_judged true graph judged is below = subst (λ g. list_all (λ n. nat_lt n (length g.nodes.items)) g.order.items ≡ true) (sym is) below
 order_judged false graph judged is below = subst (λ g. list_all (λ n. nat_lt n (length g.nodes.items)) g.order.items ≡ true) (sym is) below
 
+-- a node of the order is one of the graph
+pub order_within : (graph : Graph) (i n : ℕ) → drop i graph.order.items ≡ n ∷ drop (i + 1) graph.order.items →
+    list_all (λ m. nat_lt m (length graph.nodes.items)) graph.order.items ≡ true → n < length graph.nodes.items
+order_within graph i n next below =
+    let order = graph.order.items in
+    let is_below : ℕ → Bool = λ m. nat_lt m (length graph.nodes.items) in
+    let parted : order ≡ take i order ++ n ∷ drop (i + 1) order = sym (take-append-drop i order) ∙ ap (λ ns. take i order ++ ns) next in
+    let both = sym (list_all-append is_below (take i order) (n ∷ drop (i + 1) order)) ∙ ap (list_all is_below) (sym parted) ∙ below in
+    ltb-true n (length graph.nodes.items) (and_parts (is_below n) _ (and_parts (list_all is_below (take i order)) _ both).1).0
+
 -- no edges that count make a cycle where the hard ones don't
 uncycled : (hard soft : List (List ℕ)) (dropped : Bool) → IsDropped hard soft dropped → (HasCycle hard → ⊥) → HasCycle (counting hard soft dropped) → ⊥
 uncycled hard soft true is acyclic cycle = acyclic cycle
@@ -153,19 +179,25 @@ passes_each inputs named graph is = record {
       (uncycled (required_in graph) graph.soft graph.soft_dropped is.dropped is.acyclic) is.order n);
 }
 
+-- so it is of the graph by which targets are judged
+pub passes_judged : (all : Bool) (graph judged : Graph) → judged ≡ judged_graph all graph → PassesEach graph → PassesEach judged
+passes_judged true graph judged is passes = subst PassesEach (sym is) (record { order = passes.order; once = passes.once })
+passes_judged false graph judged is passes = subst PassesEach (sym is) passes
+
 -- ---- where all targets are to be made
 
 -- of each that has a recipe nothing is recorded
 all_listed : (graph : Graph) (marks : List Bool) (order : List ℕ) (listed : List Passage) → Lists true (judged_graph true graph) marks order listed →
     list_all is_listed listed ≡ true
 all_listed graph marks _ _ at_end = refl
-all_listed graph marks _ _ (behind (is_to_be_run recipe lines target why is_recipe are of because) rest) = all_listed graph _ _ _ rest
-all_listed graph marks _ _ (behind (is_up_to_date recipe lines target is_recipe are of up) rest) = absurd (up (NoEntry, (refl, get-empty by_bytes _)))
-all_listed graph marks _ _ (behind (has_no_recipe none remade) rest) = all_listed graph _ _ _ rest
-all_listed graph marks _ _ (behind (is_left none left) rest) = all_listed graph _ _ _ rest
+all_listed graph marks _ _ (behind stands (is_to_be_run recipe lines target why is_recipe are of because) rest) = all_listed graph _ _ _ rest
+all_listed graph marks _ _ (behind stands (is_up_to_date recipe lines target is_recipe are of up) rest) = absurd (up (NoEntry, (refl, get-empty by_bytes _)))
+all_listed graph marks _ _ (behind stands (has_no_recipe none remade) rest) = all_listed graph _ _ _ rest
+all_listed graph marks _ _ (behind stands (is_left none left) rest) = all_listed graph _ _ _ rest
+all_listed graph marks _ _ (without lost rest) = all_listed graph _ _ _ rest
 
 pub each_made : (world : World) (times : List ℕ → Option ℤ) (makefiles : Makefiles) (profile : Profile) (definitions environment : List Variable)
-    (targets : List (List ℕ)) (honest : Type 0) (seen : Which → List ℕ) (plan : List Passage) (dropped : Bool) →
-    Plans world times makefiles profile definitions environment targets true honest seen plan dropped → list_all is_listed plan ≡ true
-each_made world times makefiles profile definitions environment targets honest seen plan dropped is =
+    (targets : List (List ℕ)) (goes_on : Bool) (honest : Type 0) (seen : Which → List ℕ) (plan : List Passage) (dropped : Bool) (unmade : List (List ℕ)) →
+    Plans world times makefiles profile definitions environment targets true goes_on honest seen plan dropped unmade → list_all is_listed plan ≡ true
+each_made world times makefiles profile definitions environment targets goes_on honest seen plan dropped unmade is =
     all_listed is.planned.graph _ _ plan is.planned.lists

@@ -1,8 +1,9 @@
 -- The stages of a plan put together.
 use Rattle.std.proofs.Common.{◌≡◌, ◌⊎◌, ◌||◌, inl, inr, ℕ, ℤ, Bool, List, length, Option, Result, Ok, Err, IfOk, IfErr, IfSome, is_some, IsTrue, refl, sym, ap, subst, ◌∙◌, true, false}
-use Rattle.std.specs.Prelude.{unwrap_or}
+use Rattle.std.specs.Prelude.{unwrap_or, map as each}
 use Rattle.std.proofs.Props.{props}
 use Rattle.mk_graph.specs.Edges.{is_closed}
+use Rattle.mk_graph.specs.Numbering.{name_at}
 use Rattle.mk_macros.specs.Ranks.{defined_by}
 use Rattle.mk_profile.specs.Profile.{is_wide}
 use Rattle.mk_rule_lines.specs.Explicit.{numbers_of}
@@ -27,7 +28,7 @@ use Rattle.dmk_drive.specs.Definitions.{first_defined}
 use Rattle.dmk_drive.specs.Keeping.{keeps}
 use Rattle.dmk_drive.specs.AlwaysRun.{lines_run_always}
 use Rattle.dmk_drive.specs.Passing.{IsListing, IsListingFault, listing_text, lists_any}
-use Rattle.dmk_drive.specs.Planned.{IsStateOn, IsWholeGraphOf, Tells, judged_graph}
+use Rattle.dmk_drive.specs.Planned.{IsStateOn, IsListedGraphOf, Tells, judged_graph}
 use Rattle.dmk_drive.specs.Faults.{IsPlanFault}
 use Rattle.dmk_drive.specs.declared.fault.Fault.{Fault}
 use Rattle.dmk_drive.specs.declared.fault.Fault.TheVariants as fault
@@ -96,7 +97,11 @@ judged_dropped : (all : Bool) (graph : Graph) → (judged_graph all graph).soft_
 judged_dropped true graph = refl
 judged_dropped false graph = refl
 
-module _ (profile : Profile) (definitions environment : List Variable) (targets : List (List ℕ)) (all : Bool) (times : List ℕ → Option ℤ)
+judged_names : (all : Bool) (graph : Graph) → each (name_at (judged_graph all graph).names) (judged_graph all graph).unmade.items ≡ each (name_at graph.names) graph.unmade.items
+judged_names true graph = refl
+judged_names false graph = refl
+
+module _ (profile : Profile) (definitions environment : List Variable) (targets : List (List ℕ)) (all goes_on : Bool) (times : List ℕ → Option ℤ)
     (disk_honest : Type 0) (seen : Which → List ℕ) (items : List Item) (keeping : Bool) (is_keeping : keeping ≡ keeps environment items)
     (state : StateMap) (found : IsStateOn keeping disk_honest seen state) where
   kept : IsStateOn (keeps environment items) disk_honest seen state
@@ -105,21 +110,21 @@ module _ (profile : Profile) (definitions environment : List Variable) (targets 
   pub rules_fault : (refuses : List ℕ → Type 0) (Allowed : (List ℕ → Option ℤ) → Type 0) → Allowed times → (got : Fault) →
       ((got ≡ fault.OutOfMemory) ⊎ ((f : RuleFault) × (got ≡ fault.Rules f)
       × ((ts : List ℕ → Option ℤ) → Allowed ts → IsRuleFault (first_defined profile definitions environment) items ts (map.get state) refuses targets (node_limit profile) f))) →
-      IsPlanFault profile definitions environment targets all times refuses disk_honest seen items got
-  rules_fault refuses Allowed may got (inl is) = subst (IsPlanFault profile definitions environment targets all times refuses disk_honest seen items) (sym is) tt
+      IsPlanFault profile definitions environment targets all goes_on times refuses disk_honest seen items got
+  rules_fault refuses Allowed may got (inl is) = subst (IsPlanFault profile definitions environment targets all goes_on times refuses disk_honest seen items) (sym is) tt
   rules_fault refuses Allowed may got (inr (f, is, meets)) =
-      subst (IsPlanFault profile definitions environment targets all times refuses disk_honest seen items) (sym is) (state, kept, meets times may)
+      subst (IsPlanFault profile definitions environment targets all goes_on times refuses disk_honest seen items) (sym is) (state, kept, meets times may)
 
   -- listed is the graph by which targets are judged
-  module _ (graph : Graph) (is_graph : IsWholeGraphOf profile definitions environment targets times items state graph)
+  module _ (graph : Graph) (is_graph : IsListedGraphOf profile definitions environment targets goes_on times items state graph)
       (judged : Graph) (is_judged : judged ≡ judged_graph all graph) (counting : Bool) (counts : counting ≡ all || keeping) where
     counted : counting ≡ all || keeps environment items
     counted = counts ∙ ap (λ k. all || k) is_keeping
 
     pub recipes_fault : (refuses : List ℕ → Type 0) (got : Fault) → ((f : RecipeFault) × (got ≡ fault.Recipe f) × IsListingFault counting judged f) →
-        IsPlanFault profile definitions environment targets all times refuses disk_honest seen items got
+        IsPlanFault profile definitions environment targets all goes_on times refuses disk_honest seen items got
     recipes_fault refuses got (f, is, meets) =
-        subst (IsPlanFault profile definitions environment targets all times refuses disk_honest seen items) (sym is) (
+        subst (IsPlanFault profile definitions environment targets all goes_on times refuses disk_honest seen items) (sym is) (
           state,
           kept,
           (
@@ -132,8 +137,8 @@ module _ (profile : Profile) (definitions environment : List Variable) (targets 
     pub told : (telling : Telling) (recipes : Bool) (run : DryRun) → ((plan : List Passage) × IsListing counting judged plan
         × (run.text.items ≡ listing_text telling recipes plan) × (run.lists_any ≡ lists_any plan)
         × (run.always.items ≡ lines_run_always telling recipes plan)) →
-        run.soft_dropped ≡ judged.soft_dropped → Tells profile definitions environment targets all times disk_honest seen items telling recipes run
-    told telling recipes run (plan, lists, text, any, always) dropped = record {
+        run.soft_dropped ≡ judged.soft_dropped → each (λ u. u.name) run.unmade.items ≡ each (name_at judged.names) judged.unmade.items → Tells profile definitions environment targets all goes_on times disk_honest seen items telling recipes run
+    told telling recipes run (plan, lists, text, any, always) dropped named = record {
       plan = plan;
       planned = record {
         state = state;
@@ -142,6 +147,7 @@ module _ (profile : Profile) (definitions environment : List Variable) (targets 
         is_graph = is_graph;
         lists = subst (λ k. IsListing k (judged_graph all graph) plan) counted (subst (λ g. IsListing counting g plan) is_judged lists);
         soft = dropped ∙ ap (λ g. g.soft_dropped) is_judged ∙ judged_dropped all graph;
+        names = named ∙ ap (λ g. each (name_at g.names) g.unmade.items) is_judged ∙ judged_names all graph;
       };
       text = text;
       any = any;
@@ -150,7 +156,7 @@ module _ (profile : Profile) (definitions environment : List Variable) (targets 
 
     pub recipes_result : (refuses : List ℕ → Type 0) (got : Result DryRun Fault) →
         IfErr got (λ g. (f : RecipeFault) × (g ≡ fault.Recipe f) × IsListingFault counting judged f) →
-        IfErr got (IsPlanFault profile definitions environment targets all times refuses disk_honest seen items)
+        IfErr got (IsPlanFault profile definitions environment targets all goes_on times refuses disk_honest seen items)
     recipes_result refuses (Ok run) is = tt
     recipes_result refuses (Err f) is = recipes_fault refuses f is
 
@@ -158,6 +164,7 @@ module _ (profile : Profile) (definitions environment : List Variable) (targets 
         IfOk got (λ run. (plan : List Passage) × IsListing counting judged plan × (run.text.items ≡ listing_text telling recipes plan)
         × (run.lists_any ≡ lists_any plan)
         × (run.always.items ≡ lines_run_always telling recipes plan)) → IfOk got (λ run. run.soft_dropped ≡ judged.soft_dropped) →
-        IfOk got (Tells profile definitions environment targets all times disk_honest seen items telling recipes)
-    told_result telling recipes (Ok run) listing dropped = told telling recipes run listing dropped
-    told_result telling recipes (Err f) listing dropped = tt
+        IfOk got (λ run. each (λ u. u.name) run.unmade.items ≡ each (name_at judged.names) judged.unmade.items) →
+        IfOk got (Tells profile definitions environment targets all goes_on times disk_honest seen items telling recipes)
+    told_result telling recipes (Ok run) listing dropped named = told telling recipes run listing dropped named
+    told_result telling recipes (Err f) listing dropped named = tt

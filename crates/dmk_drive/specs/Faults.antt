@@ -23,7 +23,7 @@ use Rattle.dmk_drive.specs.Definitions.{first_defined}
 use Rattle.dmk_drive.specs.Keeping.{keeps}
 use Rattle.dmk_drive.specs.Makefile.{IsUsualMakefile, HasNoMakefile, LacksOne, NamedItems, AllItems}
 use Rattle.dmk_drive.specs.Passing.{IsListingFault}
-use Rattle.dmk_drive.specs.Planned.{AreItems, AreOwnItems, IsStateOn, IsWholeGraphOf, judged_graph}
+use Rattle.dmk_drive.specs.Planned.{AreItems, AreOwnItems, IsStateOn, IsListedGraphOf, judged_graph}
 use Rattle.dmk_drive.specs.declared.fault.Fault.{Fault}
 use Rattle.dmk_drive.specs.declared.fault.Fault.TheVariants as fault
 use Rattle.dmk_drive.specs.declared.makefiles.Makefiles.{Makefiles}
@@ -89,19 +89,19 @@ IsTextFault world times refuses makefiles given (fault.Read f) =
 IsTextFault world times refuses makefiles given f = IsOwnFault world times refuses makefiles.named given f
 
 -- the fault of a plan for items that were read
-abbrev pub IsPlanFault : (profile : Profile) (definitions environment : List Variable) (targets : List (List ℕ)) (all : Bool) (times : List ℕ → Option ℤ)
+abbrev pub IsPlanFault : (profile : Profile) (definitions environment : List Variable) (targets : List (List ℕ)) (all goes_on : Bool) (times : List ℕ → Option ℤ)
     (refuses : List ℕ → Type 0) (disk_honest : Type 0) (seen : Which → List ℕ) (items : List Item) →
     Fault → Type 0
-IsPlanFault profile definitions environment targets all times refuses disk_honest seen items fault.OutOfMemory = Unit {0}
-IsPlanFault profile definitions environment targets all times refuses disk_honest seen items (fault.State f) =
+IsPlanFault profile definitions environment targets all goes_on times refuses disk_honest seen items fault.OutOfMemory = Unit {0}
+IsPlanFault profile definitions environment targets all goes_on times refuses disk_honest seen items (fault.State f) =
     (keeps environment items ≡ true) × (disk_honest → IsOpenFault seen f)
-IsPlanFault profile definitions environment targets all times refuses disk_honest seen items (fault.Rules f) =
+IsPlanFault profile definitions environment targets all goes_on times refuses disk_honest seen items (fault.Rules f) =
     (state : StateMap) × IsStateOn (keeps environment items) disk_honest seen state
     × IsRuleFault (first_defined profile definitions environment) items times (map.get state) refuses targets (node_limit profile) f
-IsPlanFault profile definitions environment targets all times refuses disk_honest seen items (fault.Recipe f) =
+IsPlanFault profile definitions environment targets all goes_on times refuses disk_honest seen items (fault.Recipe f) =
     (state : StateMap) × IsStateOn (keeps environment items) disk_honest seen state
-    × ((graph : Graph) × IsWholeGraphOf profile definitions environment targets times items state graph × IsListingFault (all || keeps environment items) (judged_graph all graph) f)
-IsPlanFault profile definitions environment targets all times refuses disk_honest seen items _ = ⊥
+    × ((graph : Graph) × IsListedGraphOf profile definitions environment targets goes_on times items state graph × IsListingFault (all || keeps environment items) (judged_graph all graph) f)
+IsPlanFault profile definitions environment targets all goes_on times refuses disk_honest seen items _ = ⊥
 
 -- a fault of the makefile comes before all else; the others are those of a plan for its items
 abbrev pub IsRunFault : (Text : Fault → Type 0) (Items : List Item → Type 0) (Plan : List Item → Fault → Type 0) → Fault → Type 0
@@ -115,9 +115,9 @@ IsRunFault Text Items Plan fault.Write = ⊥
 
 -- so it is of the makefile that is named, or the usual one, for these targets
 abbrev pub IsFaultOf : (world : World) (times : List ℕ → Option ℤ) (makefiles : Makefiles)
-    (profile : Profile) (definitions environment : List Variable) (targets : List (List ℕ)) (all : Bool) (refuses : List ℕ → Type 0) (disk_honest : Type 0)
+    (profile : Profile) (definitions environment : List Variable) (targets : List (List ℕ)) (all goes_on : Bool) (refuses : List ℕ → Type 0) (disk_honest : Type 0)
     (seen : Which → List ℕ) → Fault → Type 0
-IsFaultOf world times makefiles profile definitions environment targets all refuses disk_honest seen =
+IsFaultOf world times makefiles profile definitions environment targets all goes_on refuses disk_honest seen =
     IsRunFault (IsTextFault world times refuses makefiles (first_defined profile definitions environment))
     (AreItems world times makefiles (first_defined profile definitions environment))
-    (IsPlanFault profile definitions environment targets all times refuses disk_honest seen)
+    (IsPlanFault profile definitions environment targets all goes_on times refuses disk_honest seen)

@@ -6,6 +6,8 @@ pub mod Keeping
 pub mod BuiltIn
 -- Makefile: which file is the makefile.
 pub mod Makefile
+-- Lost: the nodes that aren't made for want of a name.
+pub mod Lost
 -- Passing: the nodes passed in order, and which are listed.
 pub mod Passing
 -- AlwaysRun: the lines that are run in a dry run too.

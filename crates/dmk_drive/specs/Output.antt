@@ -1,11 +1,13 @@
 -- What went out, and why a listing or an answer is refused.
-use Rattle.std.specs.Prelude.{◌≡◌, ◌≢◌, ◌⊎◌, ◌↔◌, ◌||◌, ◌&&◌, ℕ, ◌<◌, Bool, true, false, not, List, ◌++◌, length, Option, codes, IsTrue, if◌then◌else◌}
+use Rattle.std.specs.Prelude.{◌≡◌, ◌≢◌, ◌⊎◌, ◌↔◌, ◌||◌, ◌&&◌, ℕ, ◌<◌, Bool, true, false, not, List, [], ◌++◌, length, Option, codes, IsTrue, if◌then◌else◌}
 use Rattle.std.specs.Io.KnownBytes.{Appends, Keeps}
 use Rattle.mk_plan.specs.Passage.{Passage}
 use Rattle.mk_plan.specs.declared.telling.Telling.{Telling}
 use Rattle.mk_profile.specs.declared.profile.Profile.{Profile}
 use Rattle.mk_profile.specs.declared.profile.Profile.TheVariants.{Posix}
 use Rattle.jb_auth.specs.Auth.{AsksForDryRun, AsksForPosix}
+use Rattle.dmk_drive.specs.AlwaysRun.{lines_run_always}
+use Rattle.dmk_drive.specs.declared.always_run.AlwaysRun.{AlwaysRun}
 use Rattle.dmk_drive.specs.Keeping.{value_in}
 use Rattle.dmk_drive.specs.Messages.{SaysFault, SaysCut}
 use Rattle.dmk_drive.specs.Passing.{listing_text, lists_any}
@@ -31,18 +33,36 @@ pub record TellsFault (Meets : Fault → Type 0) (told : Bool) (out out_after er
   pub line : told ≡ true → SaysFault err err_after fault
 
 -- the listing of a plan, of which a question has no recipes, is cut short: a part of it went out, and where each line was taken
--- standard error says so
-pub record CutsListing (Plans : List Passage → Bool → Type 0) (telling : Telling) (asks : Bool) (told : Bool)
+-- standard error says so. Before that it tells each name that nothing makes, in a text of a crate below
+pub record CutsListing (Plans : List Passage → Bool → List (List ℕ) → Type 0) (telling : Telling) (asks : Bool) (told : Bool)
     (out out_after err err_after : Option (List ℕ)) : Type 0 where
   pub plan : List Passage
   pub dropped : Bool
-  pub planned : Plans plan dropped
+  pub unmade : List (List ℕ)
+  pub planned : Plans plan dropped unmade
   pub part : AppendsPart out out_after (listing_text telling (not asks) plan)
-  pub line : SaysCut err err_after told (dropped && not asks)
+  pub line : unmade ≡ [] → SaysCut err err_after told (dropped && not asks)
+
+-- there are names that nothing makes: the listing of a plan without them went out, or what a question has of it, and these are its lines
+-- that are run all the same
+pub record ListsWithout (Plans : List Passage → Bool → List (List ℕ) → Type 0) (telling : Telling) (asks : Bool)
+    (out out_after : Option (List ℕ)) (always : List AlwaysRun) : Type 0 where
+  pub plan : List Passage
+  pub dropped : Bool
+  pub unmade : List (List ℕ)
+  pub planned : Plans plan dropped unmade
+  pub some : unmade ≢ []
+  pub whole : Appends out out_after (listing_text telling (not asks) plan)
+  pub lines : always ≡ lines_run_always telling (not asks) plan
 
 -- how `-q` answers of what is listed: 1 where a recipe is
 abbrev pub question_status : List Passage → ℕ
 question_status plan = if lists_any plan then 1 else 0
+
+-- the status of what went out whole and is without no name: that of the answer, if there is one
+abbrev pub shown_status : (asks lists : Bool) → ℕ
+shown_status true lists = if lists then 1 else 0
+shown_status false lists = 0
 
 -- what the words and MAKEFLAGS ask for: `-q` counts before `-n`
 abbrev pub mode_of : (asks dry : Bool) → Mode

@@ -15,29 +15,34 @@ use Rattle.mk_plan.specs.declared.telling.Telling.{Telling}
 use Rattle.mk_recipe.specs.Line.{is_blank_text}
 use Rattle.mk_recipe.specs.declared.line.Line.{Line}
 use Rattle.mk_nodes.specs.declared.graph.Graph.{Graph}
+use Rattle.dmk_drive.specs.Lost.{IsLost}
 
 -- the nodes are passed in this order, behind others whose marks these are, and this is what there is to tell of them: for each
--- listed target the reason and its recipe, and the targets with a recipe that are up to date
+-- listed target the reason and its recipe, and the targets with a recipe that are up to date. Of a lost node nothing is told
 pub data Lists (keeping : Bool) (graph : Graph) : (marks : List Bool) → (order : List ℕ) → (listed : List Passage) → Type 0 where
   at_end : {marks : List Bool} → Lists keeping graph marks [] []
-  behind : {marks : List Bool} {n : ℕ} {order : List ℕ} {remade : Bool} {front listed : List Passage} →
+  behind : {marks : List Bool} {n : ℕ} {order : List ℕ} {remade : Bool} {front listed : List Passage} → (IsLost graph n → ⊥) →
       Passes keeping graph marks n remade front → Lists keeping graph (slice_set marks n remade) order listed →
       Lists keeping graph marks (n ∷ order) (front ++ listed)
+  without : {marks : List Bool} {n : ℕ} {order : List ℕ} {listed : List Passage} → IsLost graph n →
+      Lists keeping graph marks order listed → Lists keeping graph marks (n ∷ order) listed
 
--- passing them in this order meets the fault: it is that of the recipe of a node, and all before it are passed
+-- passing them in this order meets the fault: it is that of the recipe of a node, and all before it are passed. A lost node has none
 pub data ListsFault (keeping : Bool) (graph : Graph) : (marks : List Bool) → (order : List ℕ) → (fault : RecipeFault) → Type 0 where
-  here : {marks : List Bool} {n : ℕ} {order : List ℕ} {fault : RecipeFault} →
+  here : {marks : List Bool} {n : ℕ} {order : List ℕ} {fault : RecipeFault} → (IsLost graph n → ⊥) →
       IsFaultAt graph marks n fault → ListsFault keeping graph marks (n ∷ order) fault
-  later : {marks : List Bool} {n : ℕ} {order : List ℕ} {fault : RecipeFault} {remade : Bool} {front : List Passage} →
+  later : {marks : List Bool} {n : ℕ} {order : List ℕ} {fault : RecipeFault} {remade : Bool} {front : List Passage} → (IsLost graph n → ⊥) →
       Passes keeping graph marks n remade front → ListsFault keeping graph (slice_set marks n remade) order fault →
       ListsFault keeping graph marks (n ∷ order) fault
+  beyond : {marks : List Bool} {n : ℕ} {order : List ℕ} {fault : RecipeFault} → IsLost graph n →
+      ListsFault keeping graph marks order fault → ListsFault keeping graph marks (n ∷ order) fault
 
 -- nothing was remade yet
 abbrev pub no_marks : Graph → List Bool
 no_marks graph = replicate (length graph.nodes.items) false
 
 -- what a dry run has to tell: the nodes in the graph's own order, in which again and again the least one is passed whose
--- counted prerequisites were passed
+-- counted prerequisites were passed, without those that are lost
 abbrev pub IsListing : (keeping : Bool) (graph : Graph) (listed : List Passage) → Type 0
 IsListing keeping graph listed = Lists keeping graph (no_marks graph) graph.order.items listed
 

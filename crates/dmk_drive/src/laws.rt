@@ -47,16 +47,16 @@ pub fn one_listing()
 /// Where all targets are to be made, a plan has none that is up to date: it lists the recipe of each that has one.
 pub fn each_made<D: Disk>()
     ensures { (world : World) (times : List ℕ → Option ℤ) (makefiles : Makefiles) (profile : Profile) (definitions environment : List Variable)
-        (targets : List (List ℕ)) (seen : Which → List ℕ) (plan : List Passage) (dropped : Bool)
-        → Plans world times makefiles profile definitions environment targets true D.honest seen plan dropped → list_all is_listed plan ≡ true }
+        (targets : List (List ℕ)) (goes_on : Bool) (seen : Which → List ℕ) (plan : List Passage) (dropped : Bool) (unmade : List (List ℕ))
+        → Plans world times makefiles profile definitions environment targets true goes_on D.honest seen plan dropped unmade → list_all is_listed plan ≡ true }
 {}
 
 /// By the same files, times and state there is one plan: two plans list the same, and soft edges make a cycle in both or in none.
 /// Where state is kept, that is where the disk keeps its model.
 pub fn one_plan<D: Disk>()
     ensures { (world : World) (times : List ℕ → Option ℤ) (makefiles : Makefiles) (profile : Profile) (definitions environment : List Variable)
-        (targets : List (List ℕ)) (all : Bool) (seen : Which → List ℕ) (a b : List Passage) (d e : Bool) → D.honest
-        → Plans world times makefiles profile definitions environment targets all D.honest seen a d
-        → Plans world times makefiles profile definitions environment targets all D.honest seen b e
+        (targets : List (List ℕ)) (all goes_on : Bool) (seen : Which → List ℕ) (a b : List Passage) (d e : Bool) (u v : List (List ℕ)) → D.honest
+        → Plans world times makefiles profile definitions environment targets all goes_on D.honest seen a d u
+        → Plans world times makefiles profile definitions environment targets all goes_on D.honest seen b e v
         → (a ≡ b) × (d ≡ e) }
 {}

@@ -18,6 +18,7 @@ mod keeping;
 mod laws;
 mod listed;
 mod listings;
+mod lost;
 mod makefile;
 mod makefiles;
 mod messages;
@@ -44,6 +45,7 @@ pub use keeping::{keeps_state, value_of};
 pub use laws::{
     each_made, one_listing, one_makefile, one_plan, one_reading_of_the_settings, plan_of_the_graph,
 };
+pub use lost::{goes_without, is_lost, lost_nodes, unmade_names};
 pub use makefile::items_of;
 pub use makefiles::Makefiles;
 pub use messages::{Message, SOFT_EDGES_NOTE};

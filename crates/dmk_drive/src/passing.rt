@@ -5,9 +5,10 @@ ghost use Rattle.mk_plan.specs.Passage.{Passage};
 ghost use Rattle.mk_plan.specs.Passing.{told_in};
 ghost use Rattle.mk_graph.specs.Numbering.{name_at};
 ghost use Rattle.dmk_drive.specs.AlwaysRun.{always_behind, always_passed, always_from, lines_run_always};
-ghost use Rattle.dmk_drive.specs.Passing.{IsListing, IsListingFault, ListsNone, lists_any, printed_line, printed, recipe_in, text_of, listing_text};
+ghost use Rattle.dmk_drive.specs.Passing.{IsListing, IsListingFault, ListsNone, PassesEach, lists_any, printed_line, printed, recipe_in, text_of, listing_text};
 
 use crate::always_run::{AlwaysRun, add_line, add_lines};
+use crate::lost::{is_lost, lost_nodes};
 use byte_strings::ByteStrings;
 use mk_nodes::Graph;
 use mk_plan::{Passed, RecipeFault, Telling, has_text_names, name_of, pass_in, told_lines};
@@ -122,7 +123,7 @@ impl Listing {
     }
 }
 
-/// What there is to tell of all nodes, in the graph's order: the recipes of those that are out of date, and why they are.
+/// What there is to tell of all nodes that aren't lost, in the graph's order: the recipes of those that are out of date, and why they are.
 #[tactic(auto, unfolding(crate::specs::AlwaysRun::always_from))]
 pub fn listing_of(
     alloc: Global,
@@ -130,7 +131,8 @@ pub fn listing_of(
     shows: Shows,
     graph: &Graph,
 ) -> Result<Listing, RecipeFault>
-    requires { list_all (λ n. nat_lt n (length graph.now.nodes.items)) graph.now.order.items ≡ true }
+    requires order { list_all (λ n. nat_lt n (length graph.now.nodes.items)) graph.now.order.items ≡ true }
+    requires plan { PassesEach graph.now }
     ensures listing { IfOk result (λ found. (plan : List Passage) × IsListing keeping graph.now plan
         × (found.text.items ≡ listing_text shows.telling shows.recipes plan) × (found.lists_any ≡ lists_any plan)
         × (found.always.items ≡ lines_run_always shows.telling shows.recipes plan)) }
@@ -143,7 +145,11 @@ pub fn listing_of(
         always: Vec::new(alloc),
     };
     let texts = has_text_names(graph);
+    let lost = lost_nodes(alloc, graph)?;
     for node in graph.order.as_slice() {
+        if is_lost(&lost, *node) {
+            continue;
+        }
         let passed = pass_in(alloc, keeping, texts, graph, &marks, *node)?;
         marks[*node] = passed.is_remade();
         listing.add(alloc, shows, graph, *node, &passed)?;
@@ -151,11 +157,15 @@ pub fn listing_of(
     Ok(listing)
 }
 
-/// Which nodes count as remade where no recipe is listed, by their numbers. None where one is, and where that can't be found out.
+/// Which nodes count as remade where no recipe is listed, by their numbers. None where one is, where nothing makes a name, and where that
+/// can't be found out.
 pub fn unlisted(alloc: Global, keeping: bool, graph: &Graph) -> Option<Vec<bool>>
     ensures count { IfSome result (λ marks. length marks.items ≡ length graph.now.nodes.items) }
     ensures listing { IfSome result (λ marks. ListsNone keeping graph.now) }
 {
+    if !graph.unmade.is_empty() {
+        return None;
+    }
     let Ok(mut marks) = vec![in alloc; false; graph.len()] else {
         return None;
     };

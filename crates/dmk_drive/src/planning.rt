@@ -1,8 +1,9 @@
 //! From a makefile to what is listed, stage by stage. The first stage that has a fault ends it.
-ghost use Rattle.std.specs.Prelude.{◌≡◌, ◌⊎◌, ◌||◌, ℕ, ℤ, true, List, Option, length, nat_lt, IfOk, IfErr, IsErrOf};
+ghost use Rattle.std.specs.Prelude.{◌≡◌, ◌⊎◌, ◌||◌, ℕ, ℤ, true, List, Option, length, map, nat_lt, IfOk, IfErr, IsErrOf};
 ghost use Rattle.std.specs.FinMap as finmap;
 ghost use Rattle.std.specs.List.{list_all};
 ghost use Rattle.mk_plan.specs.declared.fault.RecipeFault.{RecipeFault as LineFault};
+ghost use Rattle.mk_graph.specs.Numbering.{name_at};
 ghost use Rattle.mk_reader.specs.declared.item.Item.{Item as MakefileItem};
 ghost use Rattle.mk_plan.specs.Passage.{Passage};
 ghost use Rattle.mk_rules.specs.Faults.{IsRuleFault};
@@ -15,8 +16,8 @@ ghost use Rattle.st_state.specs.State.{StateMap};
 ghost use Rattle.st_file.specs.declared.fault.OpenFault.{OpenFault as StateFault};
 ghost use Rattle.st_file.specs.declared.fault.OpenFault.TheVariants as open_faults;
 ghost use Rattle.dmk_drive.specs.AlwaysRun.{lines_run_always};
-ghost use Rattle.dmk_drive.specs.Passing.{IsListing, IsListingFault, listing_text, lists_any};
-ghost use Rattle.dmk_drive.specs.Planned.{AreItems, IsStateOn, IsWholeGraphOf, Tells, judged_graph};
+ghost use Rattle.dmk_drive.specs.Passing.{IsListing, IsListingFault, PassesEach, listing_text, lists_any};
+ghost use Rattle.dmk_drive.specs.Planned.{AreItems, IsStateOn, IsListedGraphOf, Tells, judged_graph};
 ghost use Rattle.dmk_drive.specs.Faults.{IsOpenFault, IsTextFault, IsPlanFault, IsRunFault};
 ghost use Rattle.dmk_drive.specs.declared.fault.Fault.TheVariants as faults;
 ghost use Rattle.mk_eval.specs.Output.{World};
@@ -25,6 +26,7 @@ use crate::always_run::AlwaysRun;
 use crate::definitions::first_macros;
 use crate::fault::Fault;
 use crate::keeping::keeps_state;
+use crate::lost::{goes_without, unmade_names};
 use crate::makefile::items_of;
 use crate::makefiles::Makefiles;
 use crate::passing::{Listing, Shows, listing_of};
@@ -33,8 +35,10 @@ use bd_lists::Variable;
 use byte_strings::ByteStrings;
 use mk_eval::Includes;
 use mk_nodes::Graph;
+use mk_plan::RecipeFault;
 use mk_profile::Profile;
 use mk_reader::Item;
+use mk_rule_lines::Unmade;
 use mk_rules::{Tree, build, node_limit};
 use st_disk::Disk;
 use st_records::HashKey;
@@ -53,6 +57,8 @@ pub struct Given<'m, 'a> {
     pub environment: &'a [Variable],
     /// All targets are to be made.
     pub makes_all: bool,
+    /// What can be listed is, where nothing makes a name.
+    pub goes_on: bool,
     /// What of the listing is printed.
     pub shows: Shows,
 }
@@ -68,6 +74,8 @@ pub struct DryRun {
     pub always: Vec<AlwaysRun>,
     /// Soft edges make a cycle and don't order nodes.
     pub soft_dropped: bool,
+    /// The names that have no file and that nothing makes, where it goes on without them.
+    pub unmade: Vec<Unmade>,
 }
 
 /// The graph of the items.
@@ -80,7 +88,7 @@ fn graph_of<T: Tree>(
     state: State,
 ) -> Result<Graph, Fault>
     ensures graph { IfOk result (λ graph. (times : List ℕ → Option ℤ) → T.allows tree.new times
-        → IsWholeGraphOf given.entry.profile given.entry.definitions.now given.entry.environment.now targets times items.items state graph) }
+        → IsListedGraphOf given.entry.profile given.entry.definitions.now given.entry.environment.now targets given.entry.goes_on times items.items state graph) }
     ensures fault { IfErr result (λ fault. (fault ≡ faults.OutOfMemory) ⊎ ((f : RulesFault) × (fault ≡ faults.Rules f)
         × ((times : List ℕ → Option ℤ) → T.allows tree.new times
         → IsRuleFault (first_defined given.entry.profile given.entry.definitions.now given.entry.environment.now) items.items times
@@ -89,7 +97,8 @@ fn graph_of<T: Tree>(
 {
     let macros = first_macros(alloc, given.profile, given.definitions, given.environment)?;
     let limit = node_limit(given.profile);
-    match build(alloc, items, macros, targets, tree, state, limit, false) {
+    let without = goes_without(given.profile, given.goes_on);
+    match build(alloc, items, macros, targets, tree, state, limit, without) {
         Ok(graph) => Ok(graph),
         Err(fault) => Err(Fault::Rules(fault)),
     }
@@ -116,20 +125,28 @@ fn counts_records(all: bool, keeping: bool) -> bool
 
 /// What the graph lists.
 fn listed(alloc: Global, keeping: bool, shows: Shows, graph: Graph) -> Result<DryRun, Fault>
-    requires { list_all (λ n. nat_lt n (length graph.nodes.items)) graph.order.items ≡ true }
+    requires order { list_all (λ n. nat_lt n (length graph.nodes.items)) graph.order.items ≡ true }
+    requires plan { PassesEach graph }
     ensures listing { IfOk result (λ run. (plan : List Passage) × IsListing keeping graph plan
         × (run.text.items ≡ listing_text shows.telling shows.recipes plan) × (run.lists_any ≡ lists_any plan)
         × (run.always.items ≡ lines_run_always shows.telling shows.recipes plan)) }
     ensures dropped { IfOk result (λ run. run.soft_dropped ≡ graph.soft_dropped) }
+    ensures unmade { IfOk result (λ run. map (λ u. u.name) run.unmade.items ≡ map (name_at graph.names) graph.unmade.items) }
     ensures fault { IfErr result (λ fault. (f : LineFault) × (fault ≡ faults.Recipe f) × IsListingFault keeping graph f) }
 {
+    let Ok(unmade) = unmade_names(alloc, &graph) else {
+        return Err(Fault::Recipe(RecipeFault::OutOfMemory));
+    };
     let Listing {
         text,
         lists_any,
         always,
     } = match listing_of(alloc, keeping, shows, &graph) {
         Ok(listing) => listing,
-        Err(fault) => return Err(Fault::Recipe(fault)),
+        Err(fault) => {
+            drop(unmade);
+            return Err(Fault::Recipe(fault));
+        }
     };
     let soft_dropped = graph.soft_dropped;
     // It is millions of small pieces of memory. Whoever asked ends now, and the system takes all of them back at once.
@@ -139,6 +156,7 @@ fn listed(alloc: Global, keeping: bool, shows: Shows, graph: Graph) -> Result<Dr
         lists_any,
         always,
         soft_dropped,
+        unmade,
     })
 }
 
@@ -176,9 +194,9 @@ fn kept_graph<T: Tree, D: Disk>(
     requires { keeping ≡ keeps given.environment.now items.items }
     ensures graph { IfOk result (λ graph. (m : StateMap) × IsStateOn keeping D.honest (D.seen disk.old) m
         × ((times : List ℕ → Option ℤ) → T.allows tree.new times
-        → IsWholeGraphOf given.entry.profile given.entry.definitions.now given.entry.environment.now targets times items.items m graph)) }
+        → IsListedGraphOf given.entry.profile given.entry.definitions.now given.entry.environment.now targets given.entry.goes_on times items.items m graph)) }
     ensures fault { IfErr result (λ fault. (times : List ℕ → Option ℤ) → T.allows tree.new times
-        → IsPlanFault given.entry.profile given.entry.definitions.now given.entry.environment.now targets given.entry.makes_all times (T.refuses tree.new) D.honest (D.seen disk.old)
+        → IsPlanFault given.entry.profile given.entry.definitions.now given.entry.environment.now targets given.entry.makes_all given.entry.goes_on times (T.refuses tree.new) D.honest (D.seen disk.old)
         items.items fault) }
     ensures times { (times : List ℕ → Option ℤ) → T.allows tree.new times → T.allows tree.old times }
     ensures seen { D.honest → D.seen disk.new ≡ D.seen disk.old }
@@ -200,10 +218,10 @@ fn plan_items<T: Tree, D: Disk>(
     items: Vec<Item>,
 ) -> Result<DryRun, Fault>
     ensures tells { IfOk result (λ run. (times : List ℕ → Option ℤ) → T.allows tree.new times
-        → Tells given.entry.profile given.entry.definitions.now given.entry.environment.now targets given.entry.makes_all times D.honest (D.seen disk.old) items.items
+        → Tells given.entry.profile given.entry.definitions.now given.entry.environment.now targets given.entry.makes_all given.entry.goes_on times D.honest (D.seen disk.old) items.items
         given.entry.shows.telling given.entry.shows.recipes run) }
     ensures fault { IfErr result (λ fault. (times : List ℕ → Option ℤ) → T.allows tree.new times
-        → IsPlanFault given.entry.profile given.entry.definitions.now given.entry.environment.now targets given.entry.makes_all times (T.refuses tree.new) D.honest (D.seen disk.old)
+        → IsPlanFault given.entry.profile given.entry.definitions.now given.entry.environment.now targets given.entry.makes_all given.entry.goes_on times (T.refuses tree.new) D.honest (D.seen disk.old)
         items.items fault) }
     ensures times { (times : List ℕ → Option ℤ) → T.allows tree.new times → T.allows tree.old times }
     ensures seen { D.honest → D.seen disk.new ≡ D.seen disk.old }
@@ -231,12 +249,12 @@ pub fn dry_run<T: Tree, I: Includes, D: Disk>(
 ) -> Result<DryRun, Fault>
     ensures tells { IfOk result (λ run. (world : World) (times : List ℕ → Option ℤ) → I.allows includes.new world → T.allows tree.new times
         → (items : List MakefileItem) × AreItems world times given.entry.makefiles.now (first_defined given.entry.profile given.entry.definitions.now given.entry.environment.now) items
-        × Tells given.entry.profile given.entry.definitions.now given.entry.environment.now targets given.entry.makes_all times D.honest (D.seen disk.old) items
+        × Tells given.entry.profile given.entry.definitions.now given.entry.environment.now targets given.entry.makes_all given.entry.goes_on times D.honest (D.seen disk.old) items
         given.entry.shows.telling given.entry.shows.recipes run) }
     ensures fault { IfErr result (λ fault. (world : World) (times : List ℕ → Option ℤ) → I.allows includes.new world → T.allows tree.new times
         → IsRunFault (IsTextFault world times (T.refuses tree.new) given.entry.makefiles.now (first_defined given.entry.profile given.entry.definitions.now given.entry.environment.now))
         (AreItems world times given.entry.makefiles.now (first_defined given.entry.profile given.entry.definitions.now given.entry.environment.now))
-        (IsPlanFault given.entry.profile given.entry.definitions.now given.entry.environment.now targets given.entry.makes_all times (T.refuses tree.new) D.honest (D.seen disk.old))
+        (IsPlanFault given.entry.profile given.entry.definitions.now given.entry.environment.now targets given.entry.makes_all given.entry.goes_on times (T.refuses tree.new) D.honest (D.seen disk.old))
         fault) }
     ensures seen { D.honest → D.seen disk.new ≡ D.seen disk.old }
     ensures moments { D.honest → D.moments disk.new ≡ D.moments disk.old }

@@ -25,7 +25,7 @@ use Rattle.dmk_run.specs.InTurn.{IsParted}
 use Rattle.dmk_run.specs.Opened.{RecoversAsBefore}
 use Rattle.dmk_run.specs.Judged.{IsBorneOut}
 use Rattle.dmk_run.specs.Made.{HasEnded, IsMade, MakesItems}
-use Rattle.dmk_run.specs.Planned.{goes_without, with_unmade}
+use Rattle.dmk_drive.specs.Lost.{goes_without, with_unmade}
 use Rattle.dmk_run.specs.declared.stop.Stop.{Stop}
 
 -- what isn't parted may have left anything

@@ -21,7 +21,7 @@ use Rattle.dmk_drive.specs.Planned.{AreItems, IsGraphOf, IsStateOn, judged_graph
 use Rattle.dmk_drive.specs.Keeping.{keeps}
 use Rattle.dmk_run.specs.Judged.{IsBorneOut}
 use Rattle.dmk_run.specs.Known.{AreKnownDone}
-use Rattle.dmk_run.specs.Planned.{goes_without}
+use Rattle.dmk_drive.specs.Lost.{goes_without}
 use Rattle.mk_eval.specs.Output.{World}
 
 -- how the nodes of a graph ended, which is true of what the disk holds: workers gathered the receipts of all that was told, each

@@ -11,7 +11,7 @@ ghost use Rattle.dmk_run.specs.InTurn.{IsParted};
 ghost use Rattle.dmk_run.specs.Judged.{AreJudged, IsBorneOut};
 ghost use Rattle.dmk_run.specs.Known.{AreKnownDone, IsTold};
 ghost use Rattle.dmk_run.specs.Made.{IsMade};
-ghost use Rattle.dmk_run.specs.Planned.{with_unmade};
+ghost use Rattle.dmk_drive.specs.Lost.{with_unmade};
 
 use crate::counting::tell_planned;
 use crate::driver::Means;

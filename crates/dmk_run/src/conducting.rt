@@ -1,11 +1,12 @@
 //! How a run goes, by the words of the command line and the makefile.
 
 ghost use Rattle.std.specs.Prelude.{◌≡◌, ◌||◌, if◌then◌else◌, IfOk};
-ghost use Rattle.dmk_run.specs.Planned.{goes_without};
+ghost use Rattle.dmk_drive.specs.Lost.{goes_without};
 ghost use Rattle.jb_recipe.specs.declared.variables.Makeflags.TheVariants as flags;
 
 use bd_lists::Variable;
 use byte_strings::ByteString;
+use dmk_drive::goes_without;
 use jb_recipe::{Conduct, Makeflags};
 use mk_plan::Telling;
 use mk_profile::Profile;
@@ -45,7 +46,7 @@ impl Wishes<'_> {
     pub(crate) fn goes_without(&self, profile: Profile) -> bool
         ensures { result ≡ goes_without profile self.now.goes_on }
     {
-        profile.is_wide() && self.goes_on
+        goes_without(profile, self.goes_on)
     }
 
     /// How the run goes. What recipes get of MAKEFLAGS is said when the job slots are known.

@@ -1,8 +1,8 @@
 //! Where the goals of a run are parted, to be made one behind the other.
 use crate::refusing::ready_recipes;
 use crate::stop::Stop;
-use crate::unmade::{is_lost, lost_nodes};
 use byte_strings::ByteString;
+use dmk_drive::{is_lost, lost_nodes};
 use mk_nodes::Graph;
 use mk_plan::{has_text_names, pass_in};
 use std::alloc::{AllocError, Global};

@@ -8,7 +8,8 @@ ghost use Rattle.mk_nodes.specs.declared.graph.Graph.{Graph as MadeGraph};
 ghost use Rattle.dmk_drive.specs.Definitions.{first_defined};
 ghost use Rattle.dmk_drive.specs.Planned.{IsGraphOf, judged_graph};
 ghost use Rattle.dmk_drive.specs.declared.fault.Fault.TheVariants as faults;
-ghost use Rattle.dmk_run.specs.Planned.{recorded_in, goes_without};
+ghost use Rattle.dmk_drive.specs.Lost.{goes_without};
+ghost use Rattle.dmk_run.specs.Planned.{recorded_in};
 ghost use Rattle.dmk_run.specs.declared.stop.Stop.TheVariants as stops;
 
 use crate::conducting::Wishes;

@@ -1,9 +1,8 @@
 //! What is found of recipes before any is run: the shell that runs them, and whether one calls a function.
 
 use crate::stop::Stop;
-use crate::unmade::{is_lost, lost_nodes};
 use byte_strings::ByteString;
-use dmk_drive::Fault;
+use dmk_drive::{Fault, is_lost, lost_nodes};
 use mk_macros::{Dynamic, MacroFault};
 use mk_nodes::Graph;
 use mk_plan::{RecipeFault, has_text_names, pass_in};

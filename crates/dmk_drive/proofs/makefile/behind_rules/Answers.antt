@@ -1,9 +1,8 @@
 use Rattle.std.proofs.Common.{◌≡◌, subst, Ok, Err}
 use Rattle.mk_eval.specs.Makefile.{GivesItems, TextItems, depth}
 use Rattle.mk_macros.specs.Ranks.{defined_by}
-use Rattle.dmk_drive.specs.BuiltIn.{TellsOwn, texts, standing, rules_name, rules_text, AreRules}
+use Rattle.dmk_drive.specs.BuiltIn.{TellsOwn, texts, standing, rules_name, rules_text}
 use Rattle.dmk_drive.specs.Definitions.{first_defined}
-use Rattle.dmk_drive.specs.declared.fault.Fault.TheVariants.{Read}
 use Rattle.dmk_drive.proofs.MakefileLemmas.{rules_given, rules_refused}
 use Rattle.dmk_drive.proofs.makefile.behind_rules.Goals as goal
 

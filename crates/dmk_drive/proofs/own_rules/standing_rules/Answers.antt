@@ -1,5 +1,4 @@
-use Rattle.std.specs.Option.{IfSome}
-use Rattle.std.proofs.Common.{◌≡◌, ◌∙◌, ℕ, ◌+◌, List, ◌∷◌, Some, drop, filter, not, refl, sym, ap, subst}
+use Rattle.std.proofs.Common.{◌≡◌, ◌∙◌, ℕ, ◌+◌, List, ◌∷◌, drop, filter, not, refl, sym, ap, subst}
 use Rattle.byte_strings.specs.Blanks.{words}
 use Rattle.mk_macros.specs.Expansion.{ExpandsTo, gives}
 use Rattle.mk_macros.specs.Ranks.{Defined, defined_by, rule_meanings}
@@ -7,7 +6,7 @@ use Rattle.mk_reader.specs.declared.item.Item.{Item}
 use Rattle.mk_reader.specs.declared.item.Item.TheVariants as item
 use Rattle.dmk_drive.specs.BuiltIn.{texts, rules}
 use Rattle.mk_rule_lines.specs.Rules.{has}
-use Rattle.dmk_drive.proofs.OwnLemmas.{SoFar, so_far_start, so_far_same, so_far_definition, so_far_special, so_far_fault, so_far_rule, so_far_end, from_item}
+use Rattle.dmk_drive.proofs.OwnLemmas.{SoFar, so_far_start, so_far_same, so_far_definition, so_far_special, so_far_fault, so_far_rule, from_item}
 use Rattle.dmk_drive.proofs.own_rules.standing_rules.Goals as goal
 use Rattle.dmk_drive.proofs.own_rules.standing_rules.Goals.{in-Definition+in_ok-define-in-Definition, in-Rule+in_ok-targets-in-Rule+in-Some+in_ok-left-in-Rule, in-Rule+in_ok-targets-in-Rule+in_default, in-Special}
 

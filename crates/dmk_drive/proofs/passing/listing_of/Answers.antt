@@ -1,12 +1,14 @@
-use Rattle.std.proofs.Common.{◌≡◌, ◌+◌, ◌||◌, ℕ, Bool, List, [], ◌∷◌, ◌++◌, drop, get_or, length, add-one, refl, sym, ap, subst, ◌∙◌}
+use Rattle.std.proofs.Common.{◌≡◌, ◌+◌, ◌<◌, ◌||◌, ℕ, Bool, List, [], ◌∷◌, ◌++◌, drop, get_or, length, add-one, true≢false, refl, sym, ap, subst, ◌∙◌}
 use Rattle.std.proofs.Math.Seq.{drop-cons}
 use Rattle.std.proofs.lemmas.List.{append-nil, drop_all, length-set}
 use Rattle.std.proofs.lemmas.Result.{err_from_is_err_and}
 use Rattle.mk_plan.specs.Passing.{Passes, IsFaultAt, is_remade, told_in}
 use Rattle.dmk_drive.specs.AlwaysRun.{always_from, lines_run_always}
+use Rattle.mk_plan.specs.Nodes.{is_marked}
+use Rattle.dmk_drive.specs.Lost.{IsLost}
 use Rattle.dmk_drive.specs.Passing.{listing_text, lists_any}
 use Rattle.dmk_drive.proofs.AlwaysLemmas.{lines_more}
-use Rattle.dmk_drive.proofs.PassingLemmas.{listed_more, no_fault_more, fault_next, listed_all, text_more, any_more}
+use Rattle.dmk_drive.proofs.PassingLemmas.{listed_more, listed_without, no_fault_more, no_fault_without, fault_next, listed_all, order_within, text_more, any_more}
 use Rattle.dmk_drive.proofs.passing.listing_of.Goals as goal
 
 -- want of memory says nothing of a recipe
@@ -14,6 +16,26 @@ pub returns-in_err-add-clause-fault : goal.returns-in_err-add-clause-fault
 returns-in_err-add-clause-fault c =
     let p = err_from_is_err_and c.from_residual-in_err-add.result c.from_residual-in_err-add.ensures.1 in
     rw (p.1, p.2) tt
+
+pub loop-node-preserved-then-is_lost : goal.loop-node-preserved-then-is_lost
+loop-node-preserved-then-is_lost c =
+    let keeping = c.args.keeping in
+    let graph = c.args.graph.now in
+    let marks = c.loop-node.marks.items in
+    let i = c.loop-node.node-index in
+    let read = c.as_slice-node-items.result.now in
+    let n = get_or read i 0 in
+    let (listed, text, any, always, before) = c.loop-node.invariant.so_far in
+    let at : drop i read ≡ n ∷ drop (i + 1) read = drop-cons read i 0 c.loop-node-test.true ∙ rw add-one refl in
+    let here : drop i graph.order.items ≡ n ∷ drop (i + 1) graph.order.items =
+    subst (λ (nodes : List ℕ). drop i nodes ≡ n ∷ drop (i + 1) nodes) c.as_slice-node-items.ensures.value at in
+    let inside : n < length graph.nodes.items = order_within graph i n here c.requires.order in
+    let lost : IsLost graph n = (c.in_ok-lost.ensures c.requires.plan n inside).0 (sym (c.is_lost.ensures ∙ ap (λ ms. is_marked ms n) c.deref.ensures.value) ∙ c.if-is_lost.true) in
+    record {
+      count = c.loop-node.invariant.count;
+      so_far = (listed, text, any, always, listed_without keeping graph marks i n listed here lost before);
+      no_fault = no_fault_without keeping graph marks i n here lost c.loop-node.invariant.no_fault;
+    }
 
 pub loop-node-preserved : goal.loop-node-preserved
 loop-node-preserved c =
@@ -32,9 +54,13 @@ loop-node-preserved c =
     let here : drop i graph.order.items ≡ n ∷ drop (i + 1) graph.order.items =
     subst (λ (nodes : List ℕ). drop i nodes ≡ n ∷ drop (i + 1) nodes) c.as_slice-node-items.ensures.value at in
     let by_marks : Passes keeping graph marks n (is_remade passed) front =
-    subst (λ (ms : List Bool). Passes keeping graph ms n (is_remade passed) front) c.deref.ensures.value c.in_ok-passed.ensures.passes in
+    subst (λ (ms : List Bool). Passes keeping graph ms n (is_remade passed) front) c.deref-in-loop-node.ensures.value c.in_ok-passed.ensures.passes in
     let passes : Passes keeping graph marks n c.is_remade.result front =
     subst (λ (remade : Bool). Passes keeping graph marks n remade front) (sym c.is_remade.ensures) by_marks in
+    let inside : n < length graph.nodes.items = order_within graph i n here c.requires.order in
+    let stands : IsLost graph n → ⊥ = λ lost.
+    true≢false (sym ((c.in_ok-lost.ensures c.requires.plan n inside).1 lost)
+    ∙ sym (c.is_lost.ensures ∙ ap (λ ms. is_marked ms n) c.deref.ensures.value) ∙ c.if-is_lost.false) in
     record {
       count = length-set marks n c.is_remade.result ∙ c.loop-node.invariant.count;
       so_far = (
@@ -45,9 +71,9 @@ loop-node-preserved c =
             ∙ ap (λ l. l ++ always_from telling recipes (length c.loop-node.listing.text.items) front) always
             ∙ ap (λ t. lines_run_always telling recipes listed ++ always_from telling recipes (length t) front) text
             ∙ lines_more telling recipes listed front,
-        listed_more keeping graph marks i n c.is_remade.result front listed here passes before,
+        listed_more keeping graph marks i n c.is_remade.result front listed here stands passes before,
       );
-      no_fault = no_fault_more keeping graph marks i n c.is_remade.result front here passes c.loop-node.invariant.no_fault;
+      no_fault = no_fault_more keeping graph marks i n c.is_remade.result front here stands passes c.loop-node.invariant.no_fault;
     }
 
 pub returns-clause-listing : goal.returns-clause-listing
@@ -71,6 +97,10 @@ returns-in_err-passed-clause-fault c =
     let at : drop i read ≡ n ∷ drop (i + 1) read = drop-cons read i 0 c.loop-node-test.true ∙ rw add-one refl in
     let next : drop i graph.order.items ≡ n ∷ drop (i + 1) graph.order.items =
     subst (λ (nodes : List ℕ). drop i nodes ≡ n ∷ drop (i + 1) nodes) c.as_slice-node-items.ensures.value at in
-    let is : IsFaultAt graph marks n f = subst (λ (ms : List Bool). IsFaultAt graph ms n f) c.deref.ensures.value c.in_err-passed.ensures.fault in
+    let is : IsFaultAt graph marks n f = subst (λ (ms : List Bool). IsFaultAt graph ms n f) c.deref-in-loop-node.ensures.value c.in_err-passed.ensures.fault in
+    let inside : n < length graph.nodes.items = order_within graph i n next c.requires.order in
+    let stands : IsLost graph n → ⊥ = λ lost.
+    true≢false (sym ((c.in_ok-lost.ensures c.requires.plan n inside).1 lost)
+    ∙ sym (c.is_lost.ensures ∙ ap (λ ms. is_marked ms n) c.deref.ensures.value) ∙ c.if-is_lost.false) in
     let p = err_from_is_err_and c.from_residual-in_err-passed.result c.from_residual-in_err-passed.ensures.1 in
-    rw (p.1, p.2) (fault_next keeping graph marks i n f next is c.loop-node.invariant.no_fault)
+    rw (p.1, p.2) (fault_next keeping graph marks i n f next stands is c.loop-node.invariant.no_fault)

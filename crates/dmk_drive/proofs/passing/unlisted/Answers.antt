@@ -1,8 +1,10 @@
-use Rattle.std.proofs.Common.{◌≡◌, ◌+◌, ℕ, Bool, List, false, [], ◌∷◌, ◌++◌, drop, get_or, add-one, refl, sym, subst, ◌∙◌}
+use Rattle.std.proofs.Common.{arith, ◌≡◌, ◌+◌, ℕ, Bool, List, false, [], ◌∷◌, ◌++◌, drop, get_or, add-one, refl, sym, subst, ◌∙◌}
 use Rattle.std.proofs.Math.Seq.{drop-cons}
 use Rattle.std.proofs.lemmas.List.{append-nil, drop_all, length-set}
 use Rattle.mk_plan.specs.Passing.{Passes, is_remade, told_in}
 use Rattle.dmk_drive.specs.Passing.{lists_any}
+use Rattle.std.proofs.lemmas.Grind.{common_steps}
+use Rattle.dmk_drive.proofs.LostLemmas.{none_lost, nothing_in}
 use Rattle.dmk_drive.proofs.PassingLemmas.{listed_more, listed_all, none_more}
 use Rattle.dmk_drive.proofs.passing.unlisted.Goals as goal
 
@@ -29,7 +31,7 @@ loop-number-preserved c =
       count = length-set marks n c.is_remade.result ∙ c.loop-number.invariant.count;
       none_so_far = (
         listed ++ front,
-        listed_more keeping graph marks i n c.is_remade.result front listed here passes before,
+        listed_more keeping graph marks i n c.is_remade.result front listed here (none_lost graph (nothing_in graph.unmade.items (let ok = graph.unmade.ok in let e = c.if-not-is_empty.false in let f = c.is_empty.ensures in grind (arith, common_steps, ok, e, f))) n) passes before,
         none_more listed front none here_none,
       );
     }

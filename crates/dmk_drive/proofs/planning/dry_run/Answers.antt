@@ -20,7 +20,7 @@ returns-clause-fault g c =
     if_err c.plan_items.result _ _
     (λ f meets world times text now.
     plan_fault (IsTextFault world times refuses named given) (AreItems world times named given)
-    (IsPlanFault c.args.given.profile c.args.given.definitions.now c.args.given.environment.now c.args.targets c.args.given.makes_all times refuses g.D.Disk.honest (g.D.Disk.seen c.args.disk.now))
+    (IsPlanFault c.args.given.profile c.args.given.definitions.now c.args.given.environment.now c.args.targets c.args.given.makes_all c.args.given.goes_on times refuses g.D.Disk.honest (g.D.Disk.seen c.args.disk.now))
     c.in_ok-items.items.items (c.in_ok-items.ensures.items world times text (c.plan_items.ensures.times times now)) f (meets times now)
     (λ no. no) (λ f no. no) (λ no. no))
     c.plan_items.ensures.fault

@@ -30,5 +30,5 @@ returns-in-Ok-clause-graph g c = λ times allows.
         is_graph = built.2;
         macros = c.in-Ok.ensures.macros ∙ ap (λ given. behind_items given c.args.items.items) c.in_ok-macros.ensures;
       };
-      all_made = c.in-Ok.ensures.made refl;
+      all_made = λ stays. c.in-Ok.ensures.made (c.goes_without-without.ensures ∙ stays);
     }

@@ -1,4 +1,4 @@
-use Rattle.std.proofs.Common.{◌≡◌, true≢false, true, ℕ, List, [], length, sym, ap, subst, ◌∙◌}
+use Rattle.std.proofs.Common.{◌≡◌, true≢false, true, ℕ, List, length, sym, ap, subst, ◌∙◌}
 use Rattle.mk_graph.specs.Numbering.{has_name, all_added}
 use Rattle.dmk_drive.specs.Stamps.{Known, known_stamp, told_of}
 use Rattle.dmk_drive.proofs.stamps.Stamps.find_listed.Goals as goal

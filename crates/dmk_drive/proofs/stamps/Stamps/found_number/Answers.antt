@@ -1,4 +1,4 @@
-use Rattle.std.proofs.Common.{◌≡◌, ◌<◌, ℕ, List, length, ap, subst, ◌∙◌}
+use Rattle.std.proofs.Common.{◌≡◌, ◌<◌, length, ap, subst, ◌∙◌}
 use Rattle.mk_graph.specs.Numbering.{name_at, has_name}
 use Rattle.dmk_drive.specs.Stamps.{Known, names_of}
 use Rattle.dmk_drive.proofs.ListedLemmas.{among_all}

@@ -1,5 +1,4 @@
-use Rattle.std.proofs.Common.{length, ap, arith, ◌∙◌}
-use Rattle.mk_graph.specs.Numbering.{all_added}
+use Rattle.std.proofs.Common.{length, ap}
 use Rattle.mk_graph.proofs.NameLemmas.{distinct_none}
 use Rattle.dmk_drive.proofs.stamps.Stamps.new.Goals as goal
 

@@ -1,4 +1,4 @@
-use Rattle.std.proofs.Common.{◌≡◌, ◌<◌, true≢false, true, ℕ, List, [], length, sym, ap, subst, ◌∙◌}
+use Rattle.std.proofs.Common.{◌≡◌, ◌<◌, true≢false, true, ℕ, List, length, sym, ap, subst, ◌∙◌}
 use Rattle.std.specs.Prelude.{IfOk}
 use Rattle.mk_graph.specs.Numbering.{name_at, has_name, all_added}
 use Rattle.dmk_drive.specs.Stamps.{Known, known_stamp, told_of}

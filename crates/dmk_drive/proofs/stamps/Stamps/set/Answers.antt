@@ -1,4 +1,4 @@
-use Rattle.std.proofs.Common.{◌<◌, ℕ, List, Some, cond, length, length-set, ap, ◌∙◌, arith, rules}
+use Rattle.std.proofs.Common.{◌<◌, ℕ, List, Some, cond, length, length-set, ap, ◌∙◌, arith}
 use Rattle.std.specs.Prelude.{bytes_eq}
 use Rattle.mk_graph.specs.Numbering.{name_at, all_added}
 use Rattle.mk_graph.proofs.NameLemmas.{distinct_all_added}
