@@ -22,252 +22,267 @@ const ASKING: &str = "Asking";
 
 const TELLING: &str = "What is told";
 
-fn value<'a>(
+/// How an option is written.
+#[derive(Clone, Copy)]
+enum Name {
+    /// Behind one hyphen.
+    Letter(char),
+    /// Behind two.
+    Word(&'static str),
+}
+
+/// What stands behind an option, and what counts of one that is there several times.
+#[derive(Clone, Copy)]
+enum Takes {
+    /// Nothing, and it counts how often.
+    Nothing,
+    /// Nothing, and the last of it and of this one counts.
+    NothingAfter(&'static str),
+    /// A value of this name, once.
+    Value(&'static str),
+    /// A value of this name, and all count.
+    Values(&'static str),
+    /// A value or none.
+    Perhaps,
+    /// How many recipes may run at once.
+    Workers,
+}
+
+/// An option, as the help tells it. Without help it is one of other makes, which is refused by name, with the reason.
+#[derive(Clone, Copy)]
+struct Row {
+    group: &'static str,
+    name: Name,
+    id: &'static str,
+    takes: Takes,
+    help: &'static str,
+}
+
+const OPTIONS: [Row; 21] = [
+    Row {
+        group: FILES,
+        name: Name::Letter('C'),
+        id: "folders",
+        takes: Takes::Values("DIR"),
+        help: "Go to DIR before all else; a further one counts from there",
+    },
+    Row {
+        group: FILES,
+        name: Name::Letter('f'),
+        id: "makefiles",
+        takes: Takes::Values("FILE"),
+        help: "Read FILE as the makefile, several one behind the other; - is standard input",
+    },
+    Row {
+        group: FILES,
+        name: Name::Letter('K'),
+        id: "state",
+        takes: Takes::Value("FILE"),
+        help: "Keep the state in FILE and FILE.2",
+    },
+    Row {
+        group: FILES,
+        name: Name::Letter('e'),
+        id: "environment",
+        takes: Takes::Nothing,
+        help: "Have the environment's variables count before the makefile's definitions",
+    },
+    Row {
+        group: FILES,
+        name: Name::Letter('r'),
+        id: "no_rules",
+        takes: Takes::Nothing,
+        help: "Leave out the rules and suffixes that the wide profile has built in",
+    },
+    Row {
+        group: FILES,
+        name: Name::Word("posix"),
+        id: "posix",
+        takes: Takes::Nothing,
+        help: "Read the makefile in the wide profile: built-in rules, references in references, 1,000,000 names",
+    },
+    Row {
+        group: RUNNING,
+        name: Name::Letter('B'),
+        id: "makes_all",
+        takes: Takes::Nothing,
+        help: "Make each target, whatever the files and the state say of it",
+    },
+    Row {
+        group: RUNNING,
+        name: Name::Letter('j'),
+        id: "workers",
+        takes: Takes::Workers,
+        help: "Run up to N recipes at once, 1 to 256; without N as many as there are processors; by default 2, with --posix 1",
+    },
+    Row {
+        group: RUNNING,
+        name: Name::Word("trust-files"),
+        id: "trusts_files",
+        takes: Takes::Nothing,
+        help: "With --posix, once: where nothing is recorded take targets as they are whose files are up to date by their times",
+    },
+    Row {
+        group: RUNNING,
+        name: Name::Letter('k'),
+        id: "goes_on",
+        takes: Takes::NothingAfter("stops"),
+        help: "Go on with what doesn't depend on a failed target",
+    },
+    Row {
+        group: RUNNING,
+        name: Name::Letter('S'),
+        id: "stops",
+        takes: Takes::NothingAfter("goes_on"),
+        help: "Begin nothing more behind a failed target, as without -k; the last one counts",
+    },
+    Row {
+        group: RUNNING,
+        name: Name::Letter('i'),
+        id: "ignore",
+        takes: Takes::Nothing,
+        help: "Ignore the statuses of all lines",
+    },
+    Row {
+        group: ASKING,
+        name: Name::Letter('n'),
+        id: "dry",
+        takes: Takes::Nothing,
+        help: "Print the recipes of the targets that are out of date, and make none",
+    },
+    Row {
+        group: ASKING,
+        name: Name::Letter('q'),
+        id: "asks",
+        takes: Takes::Nothing,
+        help: "Make nothing, and print nothing but what -d and -p ask for; status 1 where a target is out of date, else 0",
+    },
+    Row {
+        group: TELLING,
+        name: Name::Letter('d'),
+        id: "tells",
+        takes: Takes::Nothing,
+        help: "Tell why each target is made; -dd also which aren't, and what changed of commands",
+    },
+    Row {
+        group: TELLING,
+        name: Name::Letter('p'),
+        id: "base",
+        takes: Takes::Nothing,
+        help: "Print macros and rules first, as they were read, with file and line",
+    },
+    Row {
+        group: TELLING,
+        name: Name::Letter('s'),
+        id: "silent",
+        takes: Takes::Nothing,
+        help: "Don't print lines before they are run",
+    },
+    Row {
+        group: TELLING,
+        name: Name::Letter('w'),
+        id: "told",
+        takes: Takes::Nothing,
+        help: "Tell the folder at the beginning and at the end, as -C does",
+    },
+    Row {
+        group: TELLING,
+        name: Name::Word("no-print-directory"),
+        id: "untold",
+        takes: Takes::Nothing,
+        help: "Don't tell the folder, though there is -C",
+    },
+    Row {
+        group: RUNNING,
+        name: Name::Letter('t'),
+        id: "touches",
+        takes: Takes::Nothing,
+        help: "",
+    },
+    Row {
+        group: RUNNING,
+        name: Name::Letter('l'),
+        id: "load",
+        takes: Takes::Perhaps,
+        help: "",
+    },
+];
+
+/// An option without what stands behind it.
+fn named<'a>(alloc: Global, row: &Row) -> Arg<'a> {
+    let arg = Arg::new(alloc, row.id)
+        .help_heading(row.group)
+        .help(row.help)
+        .hide(row.help.is_empty());
+    match row.name {
+        Name::Letter(letter) => arg.short(letter),
+        Name::Word(word) => arg.long(word),
+    }
+}
+
+/// With how many recipes may run at once behind it, and what a further one does.
+fn with_workers<'a>(arg: Arg<'a>, processors: &'a str, jobs: ArgAction) -> Arg<'a> {
+    arg.value_name("N")
+        .action(jobs)
+        .value_parser(clap::value_parser!(u16).range(1..=i64::from(MAX_WORKERS)))
+        .num_args(0..=1)
+        .default_missing_value(processors)
+}
+
+fn argument<'a>(
     alloc: Global,
-    group: &'a str,
-    letter: char,
-    id: &'a str,
-    name: &'a str,
-    help: &'a str,
-) -> Arg<'a> {
-    Arg::new(alloc, id)
-        .short(letter)
-        .value_name(name)
-        .action(ArgAction::Set)
-        .help_heading(group)
-        .help(help)
-}
-
-fn flag<'a>(alloc: Global, group: &'a str, letter: char, id: &'a str, help: &'a str) -> Arg<'a> {
-    Arg::new(alloc, id)
-        .short(letter)
-        .action(ArgAction::Count)
-        .help_heading(group)
-        .help(help)
-}
-
-fn with_files(alloc: Global, command: Command<'_>) -> Result<Command<'_>, AllocError> {
-    let command = command.arg(
-        Arg::new(alloc, "folders")
-            .short('C')
-            .value_name("DIR")
-            .action(ArgAction::Append)
-            .help_heading(FILES)
-            .help("Go to DIR before all else; a further one counts from there"),
-    )?;
-    let command = command.arg(
-        Arg::new(alloc, "makefiles")
-            .short('f')
-            .value_name("FILE")
-            .action(ArgAction::Append)
-            .help_heading(FILES)
-            .help("Read FILE as the makefile, several one behind the other; - is standard input"),
-    )?;
-    command.arg(value(
-        alloc,
-        FILES,
-        'K',
-        "state",
-        "FILE",
-        "Keep the state in FILE and FILE.2",
-    ))
-}
-
-fn with_language(alloc: Global, command: Command<'_>) -> Result<Command<'_>, AllocError> {
-    let command = command.arg(flag(
-        alloc,
-        FILES,
-        'e',
-        "environment",
-        "Have the environment's variables count before the makefile's definitions",
-    ))?;
-    let command = command.arg(flag(
-        alloc,
-        FILES,
-        'r',
-        "no_rules",
-        "Leave out the rules and suffixes that the wide profile has built in",
-    ))?;
-    command.arg(
-        Arg::new(alloc, "posix")
-            .long("posix")
-            .action(ArgAction::Count)
-            .help_heading(FILES)
-            .help(
-                "Read the makefile in the wide profile: built-in rules, references in references, 1,000,000 names",
-            ),
-    )
-}
-
-/// How many recipes may run at once, with what a further -j does.
-fn workers<'a>(alloc: Global, processors: &'a str, jobs: ArgAction) -> Arg<'a> {
-    value(
-        alloc,
-        RUNNING,
-        'j',
-        "workers",
-        "N",
-        "Run up to N recipes at once, 1 to 256; without N as many as there are processors; by default 2, with --posix 1",
-    )
-    .action(jobs)
-    .value_parser(clap::value_parser!(u16).range(1..=i64::from(MAX_WORKERS)))
-    .num_args(0..=1)
-    .default_missing_value(processors)
-}
-
-fn with_running<'a>(
-    alloc: Global,
-    command: Command<'a>,
+    row: &Row,
     processors: &'a str,
     jobs: ArgAction,
-) -> Result<Command<'a>, AllocError> {
-    let command = command.arg(flag(
-        alloc,
-        RUNNING,
-        'B',
-        "makes_all",
-        "Make each target, whatever the files and the state say of it",
-    ))?;
-    let command = command.arg(workers(alloc, processors, jobs))?;
-    command.arg(
-        Arg::new(alloc, "trusts_files")
-            .long("trust-files")
-            .action(ArgAction::Count)
-            .help_heading(RUNNING)
-            .help(
-                "With --posix, once: where nothing is recorded take targets as they are whose files are up to date by their times",
-            ),
-    )
+) -> Result<Arg<'a>, AllocError> {
+    let arg = named(alloc, row);
+    match row.takes {
+        Takes::Nothing => Ok(arg.action(ArgAction::Count)),
+        Takes::NothingAfter(other) => arg.action(ArgAction::Count).overrides_with(other),
+        Takes::Value(name) => Ok(arg.value_name(name).action(ArgAction::Set)),
+        Takes::Values(name) => Ok(arg.value_name(name).action(ArgAction::Append)),
+        Takes::Perhaps => Ok(arg.num_args(0..=1)),
+        Takes::Workers => Ok(with_workers(arg, processors, jobs)),
+    }
 }
 
-fn with_failures(alloc: Global, command: Command<'_>) -> Result<Command<'_>, AllocError> {
-    let goes_on = flag(
-        alloc,
-        RUNNING,
-        'k',
-        "goes_on",
-        "Go on with what doesn't depend on a failed target",
-    );
-    let command = command.arg(goes_on.overrides_with("stops")?)?;
-    let stops = flag(
-        alloc,
-        RUNNING,
-        'S',
-        "stops",
-        "Begin nothing more behind a failed target, as without -k; the last one counts",
-    );
-    let command = command.arg(stops.overrides_with("goes_on")?)?;
-    command.arg(flag(
-        alloc,
-        RUNNING,
-        'i',
-        "ignore",
-        "Ignore the statuses of all lines",
-    ))
-}
-
-fn with_asking(alloc: Global, command: Command<'_>) -> Result<Command<'_>, AllocError> {
-    let command = command.arg(flag(
-        alloc,
-        ASKING,
-        'n',
-        "dry",
-        "Print the recipes of the targets that are out of date, and make none",
-    ))?;
-    command.arg(flag(
-        alloc,
-        ASKING,
-        'q',
-        "asks",
-        "Make nothing, and print nothing but what -d and -p ask for; status 1 where a target is out of date, else 0",
-    ))
-}
-
-fn with_telling(alloc: Global, command: Command<'_>) -> Result<Command<'_>, AllocError> {
-    let command = command.arg(flag(
-        alloc,
-        TELLING,
-        'd',
-        "tells",
-        "Tell why each target is made; -dd also which aren't, and what changed of commands",
-    ))?;
-    let command = command.arg(flag(
-        alloc,
-        TELLING,
-        'p',
-        "base",
-        "Print macros and rules first, as they were read, with file and line",
-    ))?;
-    let command = command.arg(flag(
-        alloc,
-        TELLING,
-        's',
-        "silent",
-        "Don't print lines before they are run",
-    ))?;
-    let command = command.arg(flag(
-        alloc,
-        TELLING,
-        'w',
-        "told",
-        "Tell the folder at the beginning and at the end, as -C does",
-    ))?;
-    command.arg(
-        Arg::new(alloc, "untold")
-            .long("no-print-directory")
-            .action(ArgAction::Count)
-            .help_heading(TELLING)
-            .help("Don't tell the folder, though there is -C"),
-    )
-}
-
-// Options of other makes that are refused by name, with the reason.
-fn with_refused(alloc: Global, command: Command<'_>) -> Result<Command<'_>, AllocError> {
-    let command = command.arg(flag(alloc, RUNNING, 't', "touches", "").hide(true))?;
-    command.arg(
-        Arg::new(alloc, "load")
-            .short('l')
-            .num_args(0..=1)
-            .hide(true),
-    )
-}
-
-fn with_words(alloc: Global, command: Command<'_>) -> Result<Command<'_>, AllocError> {
-    let words = Arg::new(alloc, "words")
+/// What stands beside options.
+fn operands<'a>(alloc: Global) -> Arg<'a> {
+    Arg::new(alloc, "words")
         .value_name("NAME=VALUE | TARGET")
         .action(ArgAction::Append)
         .num_args(0..)
-        .help("A definition, or a target to be made; else the first target of the makefile");
-    command.arg(words)
+        .help("A definition, or a target to be made; else the first target of the makefile")
 }
 
-fn with_options<'a>(
-    alloc: Global,
-    command: Command<'a>,
-    processors: &'a str,
-    jobs: ArgAction,
-) -> Result<Command<'a>, AllocError> {
-    let command = with_files(alloc, command)?;
-    let command = with_language(alloc, command)?;
-    let command = with_running(alloc, command, processors, jobs)?;
-    let command = with_failures(alloc, command)?;
-    let command = with_asking(alloc, command)?;
-    with_telling(alloc, command)
+/// Adds one. That nothing comes back where there is no memory spares each caller an argument to let go.
+fn add<'a>(arguments: &mut Vec<Arg<'a>>, argument: Arg<'a>) -> Result<(), AllocError> {
+    match arguments.push(argument) {
+        Ok(()) => Ok(()),
+        Err(_) => Err(AllocError),
+    }
 }
 
-fn command<'a>(
+fn arguments<'a>(
     alloc: Global,
     processors: &'a str,
     jobs: ArgAction,
-) -> Result<Command<'a>, AllocError> {
-    let command = Command::new(alloc, "dmk")
-        .bin_name("dmk")?
+) -> Result<Vec<Arg<'a>>, AllocError> {
+    let mut arguments = Vec::new(alloc);
+    for row in &OPTIONS {
+        add(&mut arguments, argument(alloc, row, processors, jobs)?)?;
+    }
+    add(&mut arguments, operands(alloc))?;
+    Ok(arguments)
+}
+
+fn command<'a>(alloc: Global, arguments: Vec<Arg<'a>>) -> Result<Command<'a>, AllocError> {
+    Command::new(alloc, "dmk")
         .version("0.2.0")
         .about(ABOUT)
-        .after_help(AFTER);
-    let command = with_options(alloc, command, processors, jobs)?;
-    let command = with_refused(alloc, command)?;
-    with_words(alloc, command)
+        .after_help(AFTER)
+        .bin_name("dmk")?
+        .args(arguments)
 }
 
 /// The words by what they are, or clap's answer where there is help, the version or a mistake to be told of. A -j without a number has
@@ -278,5 +293,6 @@ pub fn find<'w>(
     jobs: ArgAction,
     words: &'w [String],
 ) -> Result<ArgMatches<'w>, clap::Error> {
-    command(alloc, processors, jobs)?.try_get_matches_from(words)
+    let arguments = arguments(alloc, processors, jobs)?;
+    command(alloc, arguments)?.try_get_matches_from(words)
 }
