@@ -66,7 +66,9 @@ fn planned<P: Plan + Drop>(
         plan,
         refused: 0,
     };
-    say_planned(said, &mut disk, words.rest)
+    let answered = say_planned(said, &mut disk, words.rest);
+    drop(disk);
+    answered
 }
 
 /// The answers, how many more calls the disk within would pass, and what it then holds.
@@ -105,7 +107,10 @@ fn say_left(
     cuts: &[Cut],
 ) -> Result<(), RowFault> {
     for cut in cuts {
-        say_side(said, &after(alloc, disk, *cut)?)?;
+        let left = after(alloc, disk, *cut)?;
+        let answered = say_side(said, &left);
+        drop(left);
+        answered?;
     }
     Ok(())
 }

@@ -24,15 +24,25 @@ pub(crate) const MANY: u64 = 1_000_000;
 /// A disk that may fail one call, and may stop.
 pub(crate) type Device = FailOnce<Fuse<MemDisk>>;
 
-#[derive(Drop)]
-pub(crate) enum Held {
+/// What is open over a disk of this type.
+pub(crate) enum Held<D: Disk + Drop> {
     Nothing,
-    Disk(Device),
-    Store(Store<Device>),
+    Disk(D),
+    Store(Store<D>),
 }
 
-impl Held {
-    pub(crate) fn store(&mut self) -> Result<&mut Store<Device>, RowFault> {
+impl<D: Disk + Drop> Drop for Held<D> {
+    fn drop(self) {
+        match self {
+            Held::Nothing => {}
+            Held::Disk(disk) => drop(disk),
+            Held::Store(store) => drop(store),
+        }
+    }
+}
+
+impl<D: Disk + Drop> Held<D> {
+    pub(crate) fn store(&mut self) -> Result<&mut Store<D>, RowFault> {
         match self {
             Held::Store(store) => Ok(store),
             _ => Err(RowFault::NotOpen),
@@ -40,7 +50,7 @@ impl Held {
     }
 
     /// The disk within.
-    pub(crate) fn device(&self) -> Result<&Device, RowFault> {
+    pub(crate) fn device(&self) -> Result<&D, RowFault> {
         match self {
             Held::Nothing => Err(RowFault::NotOpen),
             Held::Disk(disk) => Ok(disk),
@@ -48,7 +58,7 @@ impl Held {
         }
     }
 
-    pub(crate) fn into_device(self) -> Result<Device, RowFault> {
+    pub(crate) fn into_device(self) -> Result<D, RowFault> {
         match self {
             Held::Nothing => Err(RowFault::NotOpen),
             Held::Disk(disk) => Ok(disk),
@@ -135,9 +145,9 @@ pub(crate) fn compacted<D: Disk + Drop>(
 }
 
 /// Makes a change of a store: commits records that a later batch may hold, or compacts.
-pub(crate) fn changed(
+pub(crate) fn changed<D: Disk + Drop>(
     alloc: Global,
-    store: &mut Store<Device>,
+    store: &mut Store<D>,
     change: &Change,
 ) -> Result<Result<(), CommitFault>, RowFault> {
     match change {

@@ -2,7 +2,7 @@
 use crate::held::opened;
 use crate::shown::{say_once, say_state};
 use row_files::RowFault;
-use st_disk::Which;
+use st_disk::{Disk, Which};
 use st_memory::MemDisk;
 use std::alloc::{AllocError, Global};
 
@@ -36,14 +36,19 @@ pub(crate) fn after(alloc: Global, disk: &MemDisk, cut: Cut) -> Result<MemDisk, 
 }
 
 /// The state of the store of a disk, or why it is refused.
-fn say_opened(alloc: Global, said: &mut String, disk: MemDisk) -> Result<(), AllocError> {
+fn say_opened<D: Disk + Drop>(alloc: Global, said: &mut String, disk: D) -> Result<(), AllocError> {
     match opened(alloc, disk) {
         Ok(store) => say_state(alloc, said, store.state()),
         Err((fault, _disk)) => write!(said, "{fault:?}"),
     }
 }
 
-fn say_cut(alloc: Global, said: &mut String, front: &str, disk: MemDisk) -> Result<(), AllocError> {
+fn say_cut<D: Disk + Drop>(
+    alloc: Global,
+    said: &mut String,
+    front: &str,
+    disk: D,
+) -> Result<(), AllocError> {
     let mut text = String::from_str(alloc, front)?;
     say_opened(alloc, &mut text, disk)?;
     say_once(said, text.as_str())

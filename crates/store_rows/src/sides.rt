@@ -19,7 +19,7 @@ pub(crate) struct Sides {
     pub(crate) stop: u64,
     /// How many pass before one fails.
     pub(crate) fail: u64,
-    pub(crate) held: Held,
+    pub(crate) held: Held<Device>,
 }
 
 pub(crate) fn side_named(word: &str) -> Result<Which, RowFault> {

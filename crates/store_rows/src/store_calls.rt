@@ -5,6 +5,7 @@ use crate::shown::say_state;
 use crate::sides::{Sides, side_named};
 use crate::sweeps::sweep;
 use row_files::{RowFault, Words, bytes};
+use st_disk::Disk;
 use st_file::{CommitFault, Extent};
 use st_records::HashKey;
 use st_recovery::{Store, choose, recover};
@@ -55,16 +56,20 @@ fn open(alloc: Global, said: &mut String, sides: &mut Sides) -> Result<(), RowFa
 }
 
 /// Opens what the disk holds once more.
-fn reopen(alloc: Global, said: &mut String, held: &mut Held) -> Result<(), RowFault> {
+fn reopen<D: Disk + Drop>(
+    alloc: Global,
+    said: &mut String,
+    held: &mut Held<D>,
+) -> Result<(), RowFault> {
     let disk = mem::replace(held, Held::Nothing).into_device()?;
     Ok(open_disk(alloc, said, held, disk)?)
 }
 
-fn open_disk(
+fn open_disk<D: Disk + Drop>(
     alloc: Global,
     said: &mut String,
-    held: &mut Held,
-    disk: Device,
+    held: &mut Held<D>,
+    disk: D,
 ) -> Result<(), AllocError> {
     match opened(alloc, disk) {
         Ok(store) => {
@@ -82,7 +87,7 @@ fn open_disk(
 fn counted(
     alloc: Global,
     said: &mut String,
-    held: &mut Held,
+    held: &mut Held<Device>,
     words: &mut Words<'_>,
 ) -> Result<(), RowFault> {
     let store = held.store()?;
@@ -93,16 +98,17 @@ fn counted(
 }
 
 /// `commit RECORDS`, or `compact`: `ok`, or the fault.
-fn change(
+fn change<D: Disk + Drop>(
     alloc: Global,
     said: &mut String,
-    store: &mut Store<Device>,
+    store: &mut Store<D>,
     name: &str,
     rest: &str,
 ) -> Result<(), RowFault> {
     let change = Change::of(alloc, name, rest)?;
-    let answer = changed(alloc, store, &change)?;
-    Ok(say_change(said, answer)?)
+    let answer = changed(alloc, store, &change);
+    drop(change);
+    Ok(say_change(said, answer?)?)
 }
 
 fn say_change(said: &mut String, answer: Result<(), CommitFault>) -> Result<(), AllocError> {
@@ -112,10 +118,10 @@ fn say_change(said: &mut String, answer: Result<(), CommitFault>) -> Result<(), 
     }
 }
 
-fn change_or_ask(
+fn change_or_ask<D: Disk + Drop>(
     alloc: Global,
     said: &mut String,
-    held: &mut Held,
+    held: &mut Held<D>,
     name: &str,
     rest: &str,
 ) -> Result<(), RowFault> {
@@ -130,7 +136,7 @@ fn change_or_ask(
 }
 
 /// The open side, and what it has beside its records.
-fn say_log(said: &mut String, store: &Store<Device>) -> Result<(), AllocError> {
+fn say_log<D: Disk + Drop>(said: &mut String, store: &Store<D>) -> Result<(), AllocError> {
     let extent = Extent {
         version: store.log.version,
         generation: store.log.generation,
@@ -140,13 +146,17 @@ fn say_log(said: &mut String, store: &Store<Device>) -> Result<(), AllocError> {
 }
 
 /// `bytes SIDE`: what a side holds.
-fn say_bytes(said: &mut String, held: &Held, words: &mut Words<'_>) -> Result<(), RowFault> {
+fn say_bytes(
+    said: &mut String,
+    held: &Held<Device>,
+    words: &mut Words<'_>,
+) -> Result<(), RowFault> {
     let side = side_named(words.next())?;
     Ok(bytes::say_all(said, held.device()?.inner.inner.bytes(side))?)
 }
 
 /// How many calls the disk has refused.
-fn say_refused(said: &mut String, held: &Held) -> Result<(), RowFault> {
+fn say_refused(said: &mut String, held: &Held<Device>) -> Result<(), RowFault> {
     let disk = held.device()?;
     let refused = disk.refused.saturating_add(disk.inner.refused);
     Ok(write!(said, "{refused}")?)

@@ -3,7 +3,8 @@ use crate::held::{Change, Device, MANY, changed, opened};
 use crate::power_cuts::say_cuts;
 use crate::sides::Sides;
 use row_files::{RowFault, Words};
-use st_memory::MemDisk;
+use st_disk::Disk;
+use st_recovery::Store;
 use std::alloc::Global;
 
 /// More calls than opening a disk and one change make.
@@ -11,17 +12,31 @@ const RUNS: u64 = 100;
 
 const DONE: &str = "done: ";
 
-/// How far a change comes on a disk, and the disk in memory that it leaves.
-fn left(alloc: Global, disk: Device, change: &Change) -> Result<(&'static str, MemDisk), RowFault> {
+/// How far a change of a store comes.
+fn front<D: Disk + Drop>(
+    alloc: Global,
+    store: &mut Store<D>,
+    change: &Change,
+) -> Result<&'static str, RowFault> {
+    Ok(match changed(alloc, store, change)? {
+        Ok(()) => DONE,
+        Err(_) => "failed: ",
+    })
+}
+
+/// How far a change comes on a disk, and the disk as it leaves it.
+fn left<D: Disk + Drop>(
+    alloc: Global,
+    disk: D,
+    change: &Change,
+) -> Result<(&'static str, D), RowFault> {
     match opened(alloc, disk) {
         Ok(mut store) => {
-            let front = match changed(alloc, &mut store, change)? {
-                Ok(()) => DONE,
-                Err(_) => "failed: ",
-            };
-            Ok((front, store.log.disk.inner.inner))
+            let front = front(alloc, &mut store, change);
+            let disk = store.log.disk;
+            Ok((front?, disk))
         }
-        Err((_fault, disk)) => Ok(("not opened: ", disk.inner.inner)),
+        Err((_fault, disk)) => Ok(("not opened: ", disk)),
     }
 }
 
@@ -40,9 +55,28 @@ fn is_done(
     disk: Device,
     change: &Change,
 ) -> Result<bool, RowFault> {
-    let (front, memory) = left(alloc, disk, change)?;
-    say_cuts(alloc, said, front, &memory)?;
+    let (front, disk) = left(alloc, disk, change)?;
+    let answered = say_cuts(alloc, said, front, &disk.inner.inner);
+    drop(disk);
+    answered?;
     Ok(front == DONE)
+}
+
+/// Makes the change on one such disk behind the other, until it is done.
+fn make_often(
+    alloc: Global,
+    said: &mut String,
+    sides: &Sides,
+    how: &str,
+    change: &Change,
+) -> Result<(), RowFault> {
+    for calls in 0..RUNS {
+        let disk = device_at(alloc, sides, how, calls)?;
+        if is_done(alloc, said, disk, change)? {
+            return Ok(());
+        }
+    }
+    Ok(said.push_str(" and never done")?)
 }
 
 /// `sweep stop CALL` and `sweep fail CALL`: opens the disk and makes the call, over and over, and stops the disk, or fails
@@ -55,11 +89,5 @@ pub(crate) fn sweep(
 ) -> Result<(), RowFault> {
     let how = words.next();
     let change = Change::of(alloc, words.next(), words.rest)?;
-    for calls in 0..RUNS {
-        let disk = device_at(alloc, sides, how, calls)?;
-        if is_done(alloc, said, disk, &change)? {
-            return Ok(());
-        }
-    }
-    Ok(said.push_str(" and never done")?)
+    make_often(alloc, said, sides, how, &change)
 }
