@@ -255,21 +255,23 @@ fn operands<'a>(alloc: Global) -> Arg<'a> {
         .help("A definition, or a target to be made; else the first target of the makefile")
 }
 
-/// Adds one. That nothing comes back where there is no memory spares each caller an argument to let go.
-fn add<'a>(arguments: &mut Vec<Arg<'a>>, argument: Arg<'a>) -> Result<(), AllocError> {
-    match arguments.push(argument) {
+/// Adds one. Over any type: one that finds no memory is let go by one call.
+fn add<T: Drop>(list: &mut Vec<T>, item: T) -> Result<(), AllocError> {
+    match list.push(item) {
         Ok(()) => Ok(()),
         Err(_) => Err(AllocError),
     }
 }
 
+/// Those of these rows, and what stands beside options.
 fn arguments<'a>(
     alloc: Global,
+    rows: &[Row],
     processors: &'a str,
     jobs: ArgAction,
 ) -> Result<Vec<Arg<'a>>, AllocError> {
     let mut arguments = Vec::new(alloc);
-    for row in &OPTIONS {
+    for row in rows {
         add(&mut arguments, argument(alloc, row, processors, jobs)?)?;
     }
     add(&mut arguments, operands(alloc))?;
@@ -293,6 +295,6 @@ pub fn find<'w>(
     jobs: ArgAction,
     words: &'w [String],
 ) -> Result<ArgMatches<'w>, clap::Error> {
-    let arguments = arguments(alloc, processors, jobs)?;
+    let arguments = arguments(alloc, &OPTIONS, processors, jobs)?;
     command(alloc, arguments)?.try_get_matches_from(words)
 }
