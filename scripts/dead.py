@@ -2,8 +2,8 @@
 """Lists what nothing needs: dead.py [--lines]
 
 Lemmas of proofs/ that nothing but dead lemmas and themselves names, and libraries in crates.txt that no file of the crate
-names. `--lines` shows the lines of each lemma, FILE FIRST LAST. Prints a finding a line, and in its last line 'N passed, M
-failed': how many are needed, and how many aren't.
+names. Those that wait for the next change of their crate are told apart. `--lines` shows the lines of each lemma, FILE FIRST
+LAST. Prints a finding a line, and in its last line 'N passed, M failed': how many are needed, and how many aren't.
 """
 import collections
 import pathlib
@@ -17,6 +17,12 @@ BETWEEN = re.compile(r"[\s(){},;.:\[\]\"`]+")
 # What ends a term that stands over several lines.
 CLOSING = tuple("})]")
 SIGNATURE = re.compile(r"^(?:pub )?([^\s:(){}]+) : ")
+# Lemmas that go with the next change of their crate, since without them each crate above would be proved anew. One that isn't dead
+# any more has to be taken out here.
+WAITING = {
+    "crates/dmk_drive/proofs/DriveLemmas.antt": {"status_shown"},
+    "crates/mk_reader/proofs/SearchLemmas.antt": {"read_further"},
+}
 # Names that a proof file gives because the checker asks for them: the answer to a goal, and a proof that is written whole.
 ASKED = re.compile(r"^(?:pub )?[^\s:(){}]+ : (.*\bgoal\.|\{M : Type 1\} → statement M$)")
 
@@ -126,7 +132,13 @@ def main():
             print(lemma.file, lemma.first + 1, lemma.last + 1)
         return 0
     libraries, entries = idle_libraries()
-    found = [f"{lemma.place()}: nothing names {lemma.name}" for lemma in dead] + libraries
+    waiting = {(file, name) for file, names in WAITING.items() for name in names}
+    there = {(str(lemma.file.relative_to(TOP)), lemma.name) for lemma in dead}
+    found = [f"{lemma.place()}: nothing names {lemma.name}" for lemma in dead
+             if (str(lemma.file.relative_to(TOP)), lemma.name) not in waiting]
+    found += [f"{file}: {name} waits to be taken out, and isn't dead" for file, name in sorted(waiting - there)] + libraries
+    for file, name in sorted(waiting & there):
+        print(f"{file}: {name} goes with the next change of its crate")
     for line in found:
         print(line)
     print(f"{lemmas + entries - len(found)} passed, {len(found)} failed")
