@@ -6,17 +6,19 @@ ghost use Rattle.dmk_drive.specs.Output.{AsksToLook};
 use crate::always_run::{AlwaysLines, LineSettings, beside_recipes};
 use crate::base::base_asked;
 use crate::host_files::HostFiles;
+use crate::options_again::options_again;
 use crate::reasons::{needs_usual_makefile, print_gnu_makefile, print_notes, print_reasons};
 use crate::shell_asked::ShellSource;
-use crate::signs::{SignFault, with_signs};
 use crate::standard_streams::with_patience;
 use bd_lists::Variable;
 use dmk_drive::{
     AlwaysRun, Fault, FileTexts, Message, Mode, Options, drive, print_fault, value_of,
 };
-use dmk_words::{Later, Request, read_words, with_environment};
+use dmk_words::Later;
+use mk_eval::Includes;
+use mk_rules::Tree;
 use plain_text::write_plain;
-use st_disk::{FileDisk, SystemFolder};
+use st_disk::{Disk, FileDisk, SystemFolder};
 use st_records::HashKey;
 use std::alloc::AllocError;
 use std::time::Duration;
@@ -32,7 +34,6 @@ const PAUSE_MILLISECONDS: u64 = 2;
 const FAULT_BYTES: usize = 64;
 
 /// What one look came to.
-#[derive(Drop)]
 struct Look {
     status: u8,
     /// What -p prints, so many bytes, and the listing.
@@ -43,13 +44,24 @@ struct Look {
     always: Vec<AlwaysRun>,
 }
 
+impl Drop for Look {
+    fn drop(self) {
+        let Look {
+            status: _,
+            out: _,
+            before: _,
+            err: _,
+            always: _,
+        } = self;
+    }
+}
+
 /// What a look is made with.
 #[derive(Drop)]
 struct Room {
     folder: SystemFolder,
-    /// What -p prints.
-    base: Vec<u8>,
-    err: Vec<u8>,
+    /// It has what -p prints, and room for a fault.
+    look: Look,
 }
 
 impl Room {
@@ -62,8 +74,15 @@ impl Room {
         let alloc = host.alloc();
         let folder = SystemFolder::new(host, alloc, options.state.as_str())?;
         let err = Vec::with_capacity(alloc, FAULT_BYTES)?;
-        let base = base_asked(host, options, environment, makefiles)?;
-        Ok(Room { folder, base, err })
+        let out = base_asked(host, options, environment, makefiles)?;
+        let look = Look {
+            status: 0,
+            before: out.len(),
+            out,
+            err,
+            always: Vec::new(alloc),
+        };
+        Ok(Room { folder, look })
     }
 }
 
@@ -78,14 +97,39 @@ impl Look {
     ) -> Result<Look, AllocError>
         requires { AsksToLook options (value_in environment.now (codes "MAKEFLAGS")) }
     {
-        let Room {
-            folder,
-            base: mut out,
-            mut err,
-        } = room;
-        let before = out.len();
         let is_usual = needs_usual_makefile(&options);
-        let mut tree = HostFiles::tree(host);
+        let Room { folder, mut look } = room;
+        let tree = HostFiles::tree(host);
+        let disk = FileDisk::new(folder);
+        let (is_told, disk) = look.take(host, options, environment, tree, makefiles, disk);
+        print_notes(host.alloc(), &mut look.err, makefiles);
+        print_reasons(&mut look.err, makefiles, &disk);
+        drop(disk);
+        let is_wanted = is_usual && look.is_fault();
+        print_gnu_makefile(host, &mut look.err, is_wanted);
+        // A vector takes a line as long as there is memory.
+        if is_told {
+            return Ok(look);
+        }
+        drop(look);
+        Err(AllocError)
+    }
+
+    /// Takes what is listed or answered. Whether all was told, and the disk.
+    ///
+    /// The parts of this machine are of any types here: made concrete once, at the call.
+    fn take<T: Tree + Drop, I: Includes, D: Disk>(
+        &mut self,
+        host: HostRuntime,
+        options: Options,
+        environment: &[Variable],
+        tree: T,
+        makefiles: &mut I,
+        disk: D,
+    ) -> (bool, D)
+        requires { AsksToLook options (value_in environment.now (codes "MAKEFLAGS")) }
+    {
+        let mut tree = tree;
         let (reply, disk, always) = drive(
             host.alloc(),
             HashKey::from_system(&host),
@@ -93,28 +137,14 @@ impl Look {
             environment,
             &mut tree,
             makefiles,
-            FileDisk::new(folder),
-            &mut out,
-            &mut err,
+            disk,
+            &mut self.out,
+            &mut self.err,
         );
         drop(tree);
-        print_notes(host.alloc(), &mut err, makefiles);
-        print_reasons(&mut err, makefiles, &disk);
-        drop(disk);
-        print_gnu_makefile(host, &mut err, is_usual && reply.status == 2);
-        let look = Look {
-            status: reply.status,
-            out,
-            before,
-            err,
-            always,
-        };
-        // A vector takes a line as long as there is memory.
-        if reply.is_told {
-            return Ok(look);
-        }
-        drop(look);
-        Err(AllocError)
+        self.status = reply.status;
+        self.always = always;
+        (reply.is_told, disk)
     }
 
     /// Looks once.
@@ -157,19 +187,9 @@ impl Look {
         makefiles: &mut FileTexts<HostFiles<'_>>,
     ) -> Result<Option<Look>, AllocError> {
         makefiles.forget_texts(host.alloc());
-        match read_words(host, 1) {
-            Ok(Request::Make(asked)) => {
-                let later = asked.later;
-                let options = with_environment(host.alloc(), later, asked.options, environment)?;
-                let before = later.definitions_before(options.profile, environment);
-                let options = match with_signs(host, options, before, environment) {
-                    Ok(options) => options,
-                    Err(SignFault::OutOfMemory) => return Err(AllocError),
-                    Err(_) => return Ok(None),
-                };
-                Look::if_asked(host, options, environment, makefiles)
-            }
-            _ => Ok(None),
+        match options_again(host, environment)? {
+            Some(options) => Look::if_asked(host, options, environment, makefiles),
+            None => Ok(None),
         }
     }
 
@@ -269,6 +289,25 @@ fn last_look(
     Ok(look)
 }
 
+/// The last look, and the shell of its lines, where it has any.
+fn look_and_shell(
+    host: HostRuntime,
+    options: Options,
+    environment: &[Variable],
+    makefiles: &mut FileTexts<HostFiles<'_>>,
+    source: &ShellSource,
+) -> Result<(Look, Result<Vec<u8>, Fault>), AllocError>
+    requires { AsksToLook options (value_in environment.now (codes "MAKEFLAGS")) }
+{
+    let look = last_look(host, options, environment, makefiles)?;
+    let shell = if look.runs_any() {
+        source.shell(host, environment, makefiles)
+    } else {
+        Ok(Vec::new(host.alloc()))
+    };
+    Ok((look, shell))
+}
+
 /// Lists what a run would make, or asks whether there is anything. A run that writes the state meanwhile may make a reading of it fail;
 /// so a fault is told once two looks, one behind the other, have come to the same. The lines that are run all the same are those of the
 /// last look, and are run once.
@@ -299,13 +338,10 @@ pub fn ask(
     let mut makefiles = HostFiles::texts(host, options.profile, input, &env);
     makefiles.define(options.profile, &options.definitions);
     makefiles.define(options.profile, environment);
-    let look = last_look(host, options, environment, &mut makefiles)?;
-    if !look.runs_any() {
-        drop(makefiles);
-        return Ok(look.tell(host, &AlwaysLines::new(host, settings, b"", &env)));
-    }
-    let shell = source.shell(host, environment, &mut makefiles);
+    let found = look_and_shell(host, options, environment, &mut makefiles, &source);
     drop(makefiles);
+    drop(source);
+    let (look, shell) = found?;
     match shell {
         Ok(shell) => Ok(look.tell(host, &AlwaysLines::new(host, settings, &shell, &env))),
         Err(fault) => {

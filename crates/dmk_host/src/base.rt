@@ -2,7 +2,9 @@
 use crate::host_files::HostFiles;
 use bd_lists::Variable;
 use dmk_drive::{FileTexts, Options, base_of};
-use std::alloc::AllocError;
+use mk_eval::Includes;
+use mk_rules::Tree;
+use std::alloc::{AllocError, Global};
 
 /// What -p prints; nothing where it isn't asked for, and where a makefile has a fault, which is told once it is made.
 pub fn base_asked(
@@ -15,16 +17,30 @@ pub fn base_asked(
     if !options.prints_base {
         return Ok(Vec::new(alloc));
     }
-    let profile = options.profile;
-    let definitions = options.definitions.as_slice();
-    let named = &options.makefiles;
-    let mut tree = HostFiles::tree(host);
+    base_over(
+        alloc,
+        options,
+        environment,
+        HostFiles::tree(host),
+        makefiles,
+    )
+}
+
+/// The same over files of any types, which are made concrete once, at the call.
+fn base_over<T: Tree + Drop, I: Includes>(
+    alloc: Global,
+    options: &Options,
+    environment: &[Variable],
+    tree: T,
+    makefiles: &mut I,
+) -> Result<Vec<u8>, AllocError> {
+    let mut tree = tree;
     let found = base_of(
         alloc,
-        profile,
-        definitions,
+        options.profile,
+        options.definitions.as_slice(),
         environment,
-        named,
+        &options.makefiles,
         &mut tree,
         makefiles,
     );

@@ -2,10 +2,12 @@
 use crate::host_files::HostFiles;
 use bd_lists::Variable;
 use dmk_drive::{Fault, FileTexts, Makefiles, Options, first_macros, items_of};
+use mk_eval::Includes;
 use mk_macros::{Dynamic, MacroFault, Macros};
 use mk_plan::RecipeFault;
 use mk_profile::Profile;
 use mk_rule_lines::{RuleFault, TextFault, rule_lines};
+use mk_rules::Tree;
 use std::alloc::{AllocError, Global};
 
 /// What the shell is found by: kept, since a look takes the options.
@@ -62,7 +64,18 @@ impl ShellSource {
         if !self.profile.is_wide() {
             return Ok(Vec::new(alloc));
         }
-        let mut tree = HostFiles::tree(host);
+        self.shell_over(alloc, environment, HostFiles::tree(host), texts)
+    }
+
+    /// The same over files of any types, which are made concrete once, at the call.
+    fn shell_over<T: Tree + Drop, I: Includes>(
+        &self,
+        alloc: Global,
+        environment: &[Variable],
+        tree: T,
+        texts: &mut I,
+    ) -> Result<Vec<u8>, Fault> {
+        let mut tree = tree;
         let items = items_of(
             alloc,
             self.profile,
@@ -75,10 +88,13 @@ impl ShellSource {
         drop(tree);
         let items = items?;
         let mut macros = first_macros(alloc, self.profile, &self.definitions, environment)?;
-        match rule_lines(alloc, items, &mut macros) {
-            Err(RuleFault::OutOfMemory) => Err(Fault::OutOfMemory),
-            // Another fault of a rule line was told by the look.
-            _ => shell_of(alloc, &macros),
+        let read = rule_lines(alloc, items, &mut macros);
+        // Another fault of a rule line was told by the look.
+        let wants_memory = matches!(read, Err(RuleFault::OutOfMemory));
+        drop(read);
+        if wants_memory {
+            return Err(Fault::OutOfMemory);
         }
+        shell_of(alloc, &macros)
     }
 }

@@ -1,7 +1,8 @@
 //! Words of the command line that define a macro by another sign than `=`, in the wide profile: what GNU make has them stand for.
+use crate::sign::{Sign, Signed, by_sign};
 use crate::standard_streams::with_patience;
 use bd_lists::Variable;
-use byte_strings::{ByteString, trim_end};
+use byte_strings::ByteString;
 use dmk_drive::Options;
 use jb_host::DryShell;
 use mk_eval::{doubled_text, macro_refused, output_text};
@@ -43,29 +44,6 @@ impl<T: Drop> From<AllocFailed<T>> for SignFault {
     }
 }
 
-/// What stands between the name and the `=`.
-#[derive(Clone, Copy)]
-enum Sign {
-    /// `:` and `::`: the text is expanded once, and so is what is appended to it.
-    Fixed,
-    /// `:::`: the text is expanded once.
-    Once,
-    /// `+`
-    Appended,
-    /// `?`
-    IfUndefined,
-    /// `!`
-    Output,
-}
-
-/// A definition by a sign.
-#[derive(Clone, Copy)]
-struct Signed<'a> {
-    name: &'a [u8],
-    sign: Sign,
-    text: &'a [u8],
-}
-
 /// What is defined before such a definition: by the words in front of it, and by the environment.
 #[derive(Clone, Copy)]
 struct Before<'a> {
@@ -73,44 +51,6 @@ struct Before<'a> {
     /// Of each word, whether what is appended to it is expanded at once.
     fixed: &'a [bool],
     environment: &'a [Variable],
-}
-
-fn sign_of(last: u8, colons: usize) -> Option<Sign> {
-    match last {
-        b':' if colons > 1 => Some(Sign::Once),
-        b':' => Some(Sign::Fixed),
-        b'+' => Some(Sign::Appended),
-        b'?' => Some(Sign::IfUndefined),
-        b'!' => Some(Sign::Output),
-        _ => None,
-    }
-}
-
-fn without_colons(name: &[u8]) -> &[u8] {
-    let mut front = name;
-    for _ in 0..name.len() {
-        match front.split_last() {
-            Some((b':', before)) => front = before,
-            _ => break,
-        }
-    }
-    front
-}
-
-/// The definition by its sign, where it has one.
-fn by_sign(variable: &Variable) -> Option<Signed<'_>> {
-    let (last, before) = variable.name.as_slice().split_last()?;
-    let front = without_colons(before);
-    let sign = sign_of(*last, before.len().saturating_sub(front.len()))?;
-    let name = match sign {
-        Sign::Fixed | Sign::Once => trim_end(front),
-        _ => trim_end(before),
-    };
-    if name.is_empty() {
-        return None;
-    }
-    let text = variable.value.as_slice();
-    Some(Signed { name, sign, text })
 }
 
 /// The place of the last of these that has the name.
@@ -282,6 +222,66 @@ fn check(variable: &Variable) -> Result<(), SignFault> {
     }
 }
 
+/// What definitions come to, one behind the other.
+#[derive(Drop)]
+struct Defined {
+    words: Vec<Variable>,
+    /// Of each word, whether what is appended to it is expanded at once.
+    fixed: Vec<bool>,
+}
+
+impl Defined {
+    fn push(&mut self, variable: Variable, is_fixed: bool) -> Result<(), AllocError> {
+        self.words.push(variable)?;
+        self.fixed.push(is_fixed)?;
+        Ok(())
+    }
+
+    /// Adds what a definition comes to by its sign, unless its name keeps the text that it has.
+    fn add(
+        &mut self,
+        host: HostRuntime,
+        profile: Profile,
+        environment: &[Variable],
+        variable: Variable,
+    ) -> Result<(), SignFault> {
+        let before = Before {
+            words: &self.words,
+            fixed: &self.fixed,
+            environment,
+        };
+        let is_fixed = fixes(&before, &variable);
+        if let Some(variable) = variable_by(host, profile, &before, variable)? {
+            check(&variable)?;
+            self.push(variable, is_fixed)?;
+        }
+        Ok(())
+    }
+}
+
+/// What these definitions come to by their signs, but for the first ones, so many.
+fn definitions_by_signs(
+    host: HostRuntime,
+    profile: Profile,
+    given: Vec<Variable>,
+    first: usize,
+    environment: &[Variable],
+) -> Result<Vec<Variable>, SignFault> {
+    let mut defined = Defined {
+        words: Vec::new(host.alloc()),
+        fixed: Vec::new(host.alloc()),
+    };
+    for variable in given {
+        if defined.words.len() < first {
+            defined.push(variable, false)?;
+        } else {
+            defined.add(host, profile, environment, variable)?;
+        }
+    }
+    let Defined { words, fixed: _ } = defined;
+    Ok(words)
+}
+
 /// The options with what their definitions come to by their signs, but for the first ones, so many, which are the environment's.
 pub fn with_signs(
     host: HostRuntime,
@@ -294,29 +294,17 @@ pub fn with_signs(
         return Ok(options);
     }
     let mut options = options;
-    let mut words: Vec<Variable> = Vec::new(host.alloc());
-    let mut fixed: Vec<bool> = Vec::new(host.alloc());
     let given = mem::replace(&mut options.definitions, Vec::new(host.alloc()));
-    for variable in given {
-        if words.len() < first {
-            words.push(variable)?;
-            fixed.push(false)?;
-            continue;
+    match definitions_by_signs(host, profile, given, first, environment) {
+        Ok(words) => {
+            options.definitions = words;
+            Ok(options)
         }
-        let before = Before {
-            words: &words,
-            fixed: &fixed,
-            environment,
-        };
-        let is_fixed = fixes(&before, &variable);
-        if let Some(variable) = variable_by(host, profile, &before, variable)? {
-            check(&variable)?;
-            words.push(variable)?;
-            fixed.push(is_fixed)?;
+        Err(fault) => {
+            drop(options);
+            Err(fault)
         }
     }
-    options.definitions = words;
-    Ok(options)
 }
 
 /// Says of each definition of the strict profile, but for the first ones, that has such a sign what its macro is called.
