@@ -3,7 +3,7 @@ ghost use Rattle.std.specs.Prelude.{◌≡◌, ◌<◌, ◌⊎◌, ℕ, ℤ, len
 ghost use Rattle.std.specs.IoError.{error_kind};
 ghost use Rattle.mk_graph.specs.Numbering.{name_at, has_name};
 ghost use Rattle.dmk_drive.specs.Stamps.{names_of, known_stamp, AgreesWith};
-ghost use Rattle.mk_rules.specs.Tree.{IsTreeFault};
+ghost use Rattle.mk_sources.specs.Tree.{IsTreeFault};
 ghost use Rattle.dmk_drive.specs.Files.{IsMissing, nanoseconds_of};
 
 use crate::file_calls::{FileCalls, FileStatus};

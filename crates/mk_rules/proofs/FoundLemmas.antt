@@ -12,12 +12,12 @@ use Rattle.mk_rule_lines.specs.Explicit.{explicit_targets, is_phony}
 use Rattle.mk_rules.specs.Faults.{IsReachedFrom, IsLedToFrom, IsSearchedFrom, IsAskedOf}
 use Rattle.mk_rule_lines.specs.Forms.{forms_of}
 use Rattle.mk_rules.specs.Found.{IsFindingFault}
-use Rattle.mk_rules.specs.Known.{IsAsked, IsLookUpFault}
+use Rattle.mk_sources.specs.Asked.{IsAsked, IsLookUpFault}
 use Rattle.mk_nodes.specs.Prerequisites.{inputs_of, own_recipes, is_target, prerequisites_of}
 use Rattle.mk_rule_lines.specs.Rules.{has, places, targets_by, suffixes_of}
 use Rattle.mk_nodes.specs.Chain.{steps_of}
-use Rattle.mk_rules.specs.Search.{IsLedTo, IsSearched, IsChainedTo}
-use Rattle.mk_rules.specs.Source.{IsReached}
+use Rattle.mk_sources.specs.Search.{IsLedTo, IsSearched, IsChainedTo}
+use Rattle.mk_sources.specs.Source.{IsReached}
 use Rattle.mk_rule_lines.specs.Source.{source_of}
 use Rattle.mk_rule_lines.specs.Table as table
 use Rattle.mk_rule_lines.specs.declared.fault.RuleFault.{RuleFault}
@@ -25,8 +25,8 @@ use Rattle.mk_rule_lines.specs.declared.fault.RuleFault.TheVariants as fault
 use Rattle.mk_rule_lines.specs.declared.form.Form.{Form}
 use Rattle.mk_rule_lines.specs.declared.rule_line.RuleLine.{RuleLine}
 use Rattle.mk_rule_lines.specs.declared.table.TargetTable.{TargetTable}
-use Rattle.mk_rules.proofs.LookupLemmas.{same_there}
-use Rattle.mk_rules.proofs.RuleLemmas.{any_place}
+use Rattle.mk_sources.proofs.LookupLemmas.{same_there}
+use Rattle.mk_sources.proofs.RuleLemmas.{any_place}
 
 module _ (lines : List RuleLine) (targets : TargetTable)
     (named : (name : List ℕ) → (table.named_at targets name).lines ≡ places (λ l. has name (targets_by false (suffixes_of lines) l)) 0 lines) where

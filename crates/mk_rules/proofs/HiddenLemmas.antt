@@ -6,13 +6,13 @@ use Rattle.std.proofs.lemmas.List.{drop-append-le, drop_all, map-append}
 use Rattle.std.proofs.lemmas.List.Folds.{list_any-append}
 use Rattle.mk_graph.specs.Numbering.{has_name, added, all_added}
 use Rattle.mk_rule_lines.specs.Rules.{has}
-use Rattle.mk_rules.specs.Looks.{IsLookFault}
+use Rattle.mk_sources.specs.Looks.{IsLookFault}
 use Rattle.mk_nodes.specs.Hidden.{Takes, HasHidden, IsNamesFault}
 use Rattle.mk_nodes.specs.Prerequisites.{IsTextAmong}
 use Rattle.mk_rule_lines.specs.declared.fault.RuleFault.{RuleFault}
 use Rattle.mk_rule_lines.specs.declared.fault.RuleFault.TheVariants as fault
 use Rattle.mk_rule_lines.proofs.NameLemmas.{bytes_eq-same}
-use Rattle.mk_rules.proofs.SetLemmas.{has_added}
+use Rattle.mk_sources.proofs.SetLemmas.{has_added}
 use Rattle.std.proofs.lemmas.Slice.Eq.{bytes_eq-Decides}
 
 -- what is known where some hidden prerequisites are left
@@ -250,16 +250,6 @@ names_fault refuses names name is _ meets = meets
 text_at : (name : List ℕ) (b : Bool) → is_utf8 name ≡ b → (is_utf8 name ≡ false → false ≡ true) → is_utf8 name ≡ true
 text_at name true e never = e
 text_at name false e never = e ∙ never e
-
-pub has_first : (name : List ℕ) (left : List (List ℕ)) → has name (name ∷ left) ≡ true
-has_first name left = let same : bytes_eq name name ≡ true = (bytes_eq-Decides name name).1 refl in simp same refl
-
-or_later : (b c : Bool) → c ≡ true → (b || c) ≡ true
-or_later true c e = refl
-or_later false c e = e
-
-pub has_later : (n name : List ℕ) (left : List (List ℕ)) → has n left ≡ true → has n (name ∷ left) ≡ true
-has_later n name left e = or_later (bytes_eq n name) (has n left) e
 
 -- where none is recorded, the row stays
 pub none_hidden : (p : List ℕ → Bool) (hard hidden : List (List ℕ)) (among : List Bool) → length hidden ≡ 0 → among ≡ [] →

@@ -1,6 +1,6 @@
 -- How often a tree looks at names.
 use Rattle.std.proofs.Common.{ℕ, Bool, true, List, ◌+◌, ◌≤◌, max, arith}
-use Rattle.mk_rules.specs.Tree.{AskedOnce, LooksOnce}
+use Rattle.mk_sources.specs.Tree.{AskedOnce, LooksOnce}
 
 -- nothing was looked at yet
 pub asked_none : (names : List ℕ → Bool) (asked : List ℕ → ℕ) → AskedOnce asked names asked

@@ -9,7 +9,7 @@ use Rattle.mk_rules.specs.Found.{HasItInItsRow}
 use Rattle.mk_rules.specs.Known.{IsKnown}
 use Rattle.mk_nodes.specs.Prerequisites.{Inputs, prerequisites_of}
 use Rattle.mk_nodes.specs.declared.graph.Node.{Node}
-use Rattle.mk_rules.proofs.HiddenLemmas.{has_first, has_later}
+use Rattle.mk_sources.proofs.AmongLemmas.{has_first, has_later}
 use Rattle.mk_rules.proofs.MadeLemmas.{has_at}
 use Rattle.mk_rules.proofs.RowLaws.{rows_count, row_at}
 

@@ -20,7 +20,7 @@ use Rattle.mk_nodes.specs.Node.{hidden_marks, hidden_by}
 use Rattle.mk_rules.specs.Rows.{EachRow, IsHardRow, IsWaitedRow, IsSoftRow}
 use Rattle.mk_rule_lines.specs.Rules.{has}
 use Rattle.mk_nodes.specs.declared.graph.Node.{Node}
-use Rattle.mk_rules.proofs.HiddenLemmas.{has_first, has_later}
+use Rattle.mk_sources.proofs.AmongLemmas.{has_first, has_later}
 use Rattle.mk_rules.proofs.PartsLaws.{source_is, explicit_is}
 use Rattle.mk_rules.proofs.WaitLemmas.{are_below, has_named}
 use Rattle.mk_nodes.proofs.FreshLemmas.{fresh, fresh-append, added_fresh, front_added, behind_added, has_fresh, has_filtered, filter_fresh}

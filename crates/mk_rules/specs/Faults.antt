@@ -11,7 +11,7 @@ use Rattle.mk_rule_lines.specs.Forms.{forms_of}
 use Rattle.mk_rule_lines.specs.Goals.{goals_of}
 use Rattle.mk_nodes.specs.Chain.{steps_of}
 use Rattle.mk_nodes.specs.Graph.{AreRequired}
-use Rattle.mk_rules.specs.Search.{IsChainedTo}
+use Rattle.mk_sources.specs.Search.{IsChainedTo}
 use Rattle.mk_nodes.specs.Groups.{others_in}
 use Rattle.mk_macros.specs.Ranks.{Defined}
 use Rattle.mk_rule_lines.specs.InForce.{AreLinesInForce}

@@ -1,19 +1,9 @@
 -- What is found of a name while names are numbered.
-use Rattle.std.specs.Prelude.{◌≡◌, ◌⊎◌, ℕ, ℤ, Bool, true, false, List, [], length, map, drop, Option, Some, option_map, unwrap_or}
-use Rattle.st_records.specs.declared.record.Entry.{Entry}
-use Rattle.mk_nodes.specs.Prerequisites.{Inputs, IsTextAmong, inputs_of, own_recipes, found_source, implicit_source, hidden_in, made_from, distinct, recipe_of, hard_of, judged_of, is_node, prerequisites_of, required_of}
-use Rattle.mk_rules.specs.Search.{IsSearched}
-use Rattle.mk_nodes.specs.Groups.{others_in, group_of}
+use Rattle.std.specs.Prelude.{◌≡◌, ℕ, Bool, List, length, map, drop, Option, option_map, unwrap_or}
+use Rattle.mk_nodes.specs.Prerequisites.{Inputs, implicit_source, made_from, distinct, recipe_of, hard_of, judged_of, is_node, required_of}
+use Rattle.mk_nodes.specs.Groups.{group_of}
 use Rattle.mk_nodes.specs.Node.{hidden_marks}
-use Rattle.mk_rule_lines.specs.declared.rule_line.RuleLine.{RuleLine}
 use Rattle.mk_nodes.specs.declared.graph.Node.{Node}
-use Rattle.mk_rule_lines.specs.Explicit.{is_phony}
-use Rattle.mk_rule_lines.specs.Rules.{has}
-use Rattle.mk_rule_lines.specs.declared.form.Form.{Form}
-use Rattle.mk_rule_lines.specs.declared.form.Source.{Source}
-use Rattle.mk_rule_lines.specs.declared.table.TargetTable.{TargetTable}
-use Rattle.mk_rule_lines.specs.declared.fault.RuleFault.{RuleFault}
-use Rattle.mk_rule_lines.specs.declared.fault.RuleFault.TheVariants as fault
 
 -- of the names as they are judged, behind the first so many, which are nodes
 abbrev pub nodes_among : (inputs : Inputs) (hard : ℕ) (judged : List (List ℕ)) → List Bool
@@ -37,67 +27,3 @@ pub record IsKnown (inputs : Inputs) (name : List ℕ) (known : Node) : Type 0 w
   pub hard : known.hard ≡ length (hard_of inputs name)
   pub required : required_by known (hard_of inputs name) ≡ required_of inputs name
   pub hidden : hidden_marks known ≡ nodes_among inputs known.hard (judged_of inputs name)
-
--- where no line has a recipe for a name and it isn't phony, the search for its source reaches n
-abbrev pub IsSourceAsked : TargetTable → (allowed : (List ℕ → Option ℤ) → Type 0) → List Form → (steps : ℕ) → List RuleLine → (name n : List ℕ) → Type 0
-IsSourceAsked targets allowed forms steps lines name n =
-    (is_phony lines name ≡ false) × (own_recipes lines name ≡ []) × IsSearched targets allowed forms steps name n
-
--- the rule that is found for a name makes it by the run for another one, and the search for the source of that one reaches n
-pub record IsLeaderAsked (targets : TargetTable) (allowed : (List ℕ → Option ℤ) → Type 0) (forms : List Form) (steps : ℕ) (lines : List RuleLine)
-    (entries : (name : List ℕ) → Option Entry) (name n : List ℕ) : Type 0 where
-  pub source : Source
-  pub found : (times : List ℕ → Option ℤ) → allowed times → found_source (inputs_of lines entries times) name ≡ Some source
-  pub leader : List ℕ
-  pub leader_is : source.leader ≡ Some leader
-  pub searched : IsSourceAsked targets allowed forms steps lines leader n
-
--- n isn't phony, and is made beside the name
-abbrev pub IsOtherAsked : (allowed : (List ℕ → Option ℤ) → Type 0) → List RuleLine → (entries : (name : List ℕ) → Option Entry) → (name n : List ℕ) → Type 0
-IsOtherAsked allowed lines entries name n =
-    ((times : List ℕ → Option ℤ) → allowed times → has n (others_in (implicit_source (inputs_of lines entries times) name)) ≡ true)
-    × (is_phony lines n ≡ false)
-
--- a name that can't be looked at while another is looked up: a hidden prerequisite that is text, or, where the other isn't phony,
--- that name itself, and where no line has a recipe for it, what the search for its source has reached; or what is asked
--- for since its rule has several targets
-abbrev pub IsAsked : TargetTable → (allowed : (List ℕ → Option ℤ) → Type 0) → List Form → (steps : ℕ) → List RuleLine → (entries : (name : List ℕ) → Option Entry) →
-    (name n : List ℕ) → Type 0
-IsAsked targets allowed forms steps lines entries name n =
-    ((is_phony lines name ≡ false) × (n ≡ name))
-    ⊎ (IsTextAmong (hidden_in (entries name)) n
-    ⊎ (IsSourceAsked targets allowed forms steps lines name n
-    ⊎ (IsLeaderAsked targets allowed forms steps lines entries name n ⊎ IsOtherAsked allowed lines entries name n)))
-
--- the fault of looking up a name
-abbrev pub IsLookUpFault : TargetTable → (allowed : (List ℕ → Option ℤ) → Type 0) → (refuses : List ℕ → Type 0) → List Form → (steps : ℕ) → List RuleLine →
-    (entries : (name : List ℕ) → Option Entry) → (name : List ℕ) → RuleFault → Type 0
-IsLookUpFault targets allowed refuses forms steps lines entries name fault.OutOfMemory = Unit {0}
-IsLookUpFault targets allowed refuses forms steps lines entries name (fault.Tree n) = IsAsked targets allowed forms steps lines entries name n × refuses n
-IsLookUpFault targets allowed refuses forms steps lines entries name _ = ⊥
-
--- the fault of looking for a source of a name
-abbrev pub IsFoundFault : TargetTable → (allowed : (List ℕ → Option ℤ) → Type 0) → (refuses : List ℕ → Type 0) → List Form → (steps : ℕ) → List RuleLine → (name : List ℕ) → RuleFault → Type 0
-IsFoundFault targets allowed refuses forms steps lines name fault.OutOfMemory = Unit {0}
-IsFoundFault targets allowed refuses forms steps lines name (fault.Tree n) = IsSourceAsked targets allowed forms steps lines name n × refuses n
-IsFoundFault targets allowed refuses forms steps lines name _ = ⊥
-
--- the fault of looking for what an implicit rule makes a name from
-abbrev pub IsImplicitFault : TargetTable → (allowed : (List ℕ → Option ℤ) → Type 0) → (refuses : List ℕ → Type 0) → List Form → (steps : ℕ) → List RuleLine →
-    (entries : (name : List ℕ) → Option Entry) → (name : List ℕ) → RuleFault → Type 0
-IsImplicitFault targets allowed refuses forms steps lines entries name fault.OutOfMemory = Unit {0}
-IsImplicitFault targets allowed refuses forms steps lines entries name (fault.Tree n) =
-    (IsSourceAsked targets allowed forms steps lines name n ⊎ IsLeaderAsked targets allowed forms steps lines entries name n) × refuses n
-IsImplicitFault targets allowed refuses forms steps lines entries name _ = ⊥
-
--- the fault of looking at some names, of which phony ones aren't looked at
-abbrev pub IsOthersFault : (refuses : List ℕ → Type 0) → List RuleLine → (names : List (List ℕ)) → RuleFault → Type 0
-IsOthersFault refuses lines names fault.OutOfMemory = Unit {0}
-IsOthersFault refuses lines names (fault.Tree n) = (has n names ≡ true) × (is_phony lines n ≡ false) × refuses n
-IsOthersFault refuses lines names _ = ⊥
-
--- the prerequisites are those that the inputs give, for some times that are still possible
-pub record IsAllowed (allowed : (List ℕ → Option ℤ) → Type 0) (lines : List RuleLine) (entries : (name : List ℕ) → Option Entry) (of : List ℕ → List (List ℕ)) : Type 0 where
-  pub times : List ℕ → Option ℤ
-  pub now : allowed times
-  pub is : of ≡ prerequisites_of (inputs_of lines entries times)

@@ -7,28 +7,27 @@ ghost use Rattle.std.specs.Str.{bytes_eq};
 ghost use Rattle.mk_nodes.specs.Prerequisites.{inputs_of, is_node, hidden_in, prerequisites_of};
 ghost use Rattle.mk_graph.specs.Numbering.{name_at, all_added};
 ghost use Rattle.mk_rule_lines.specs.Explicit.{numbers_of, explicit_of};
-ghost use Rattle.mk_rules.specs.Looks.{Looks, and_this, any_name};
+ghost use Rattle.mk_sources.specs.Looks.{Looks, and_this, any_name};
 ghost use Rattle.mk_nodes.specs.Hidden.{IsNamesFault};
-ghost use Rattle.mk_rules.specs.Known.{IsKnown, IsLookUpFault};
+ghost use Rattle.mk_rules.specs.Known.{IsKnown};
+ghost use Rattle.mk_sources.specs.Asked.{IsLookUpFault};
 ghost use Rattle.mk_nodes.specs.Node.{hidden_marks};
 ghost use Rattle.mk_rules.specs.NodeNotes.{AreKnownNodes};
 ghost use Rattle.mk_rules.specs.Row.{named, IsRow, IsSomeRow};
-ghost use Rattle.mk_rules.specs.Seen.{made_in, order_only_in, rare_in, IsAsSeen, IsNumberedAs};
+ghost use Rattle.mk_sources.specs.Seen.{made_in, order_only_in, rare_in};
+ghost use Rattle.mk_rules.specs.Completed.{IsAsSeen, IsNumberedAs};
 
 use crate::distinct_numbers::DistinctNumbers;
 use crate::explicit::mention_explicit;
 use crate::followers::Followers;
 use crate::hidden_marks::HiddenMarks;
-use crate::known::{Given, Ruled, Seen};
 use crate::mentioned::mention_names;
 use crate::node_notes::NodeNotes;
 use crate::recorded::{add_recorded, entry_of};
-use crate::rules::Rules;
-use crate::seen::seen_of;
-use crate::tree::Tree;
 use mk_graph::{Dependencies, Expected, Names};
 use mk_nodes::{Node, RareParts};
 use mk_rule_lines::RuleFault;
+use mk_sources::{Given, Ruled, Rules, Seen, Tree, seen_of};
 use st_records::PackedEntry;
 use std::alloc::{AllocError, Global};
 use std::boxed::Box;
@@ -253,8 +252,8 @@ pub(crate) struct Finder<'m, 't, T: Tree> {
 impl<'m, 't, T: Tree> Dependencies for Finder<'m, 't, T> {
     ghost use Rattle.std.specs.Prelude.{refl};
     ghost use Rattle.std.proofs.Common.{◌∙◌};
-    ghost use Rattle.mk_rules.specs.Known.{IsAllowed};
-    ghost use Rattle.mk_rules.specs.LooksLaws.{looks_none, looks_on, allowed_by};
+    ghost use Rattle.mk_rules.specs.Allowed.{IsAllowed, allowed_by};
+    ghost use Rattle.mk_sources.specs.LooksLaws.{looks_none, looks_on};
 
     type Fault = RuleFault;
 

@@ -4,19 +4,17 @@ ghost use Rattle.std.specs.FinMap as map;
 ghost use Rattle.mk_graph.specs.Numbering.{name_at, added};
 ghost use Rattle.mk_rule_lines.specs.Rules.{has};
 ghost use Rattle.mk_nodes.specs.Prerequisites.{inputs_of, is_node, hidden_in};
-ghost use Rattle.mk_rules.specs.Looks.{Looks};
+ghost use Rattle.mk_sources.specs.Looks.{Looks};
 ghost use Rattle.mk_rules.specs.NodeNotes.{AreKnownNodes};
 ghost use Rattle.mk_rules.specs.Row.{named, IsRow, IsSomeRow};
 ghost use Rattle.mk_nodes.specs.Hidden.{Takes, HasHidden, IsNamesFault};
 
-use crate::lookup::is_node;
 use crate::mentioned::Mentioned;
 use crate::node_notes::NodeNotes;
-use crate::rules::Rules;
-use crate::tree::Tree;
 use byte_strings::Iter;
 use mk_graph::Names;
 use mk_rule_lines::RuleFault;
+use mk_sources::{Rules, Tree, is_node};
 use std::alloc::Global;
 
 /// The number of a hidden prerequisite that is a node; None where it is gone.

@@ -1,24 +1,14 @@
-//! The graph of a makefile is built: which file an implicit rule makes a name from, and what orders the goals' names.
+//! The graph of a makefile is built: the names that its goals lead to, and what orders them.
 #![tactic(auto)]
 
 mod building;
-mod chain;
-mod distinct_names;
 mod distinct_numbers;
 mod explicit;
 mod finder;
 mod followers;
 mod hidden;
 mod hidden_marks;
-mod known;
-mod laws;
-mod left_over;
 mod limit;
-mod links;
-mod listed;
-mod look;
-mod lookup;
-mod made;
 mod marks;
 mod mentioned;
 mod node_notes;
@@ -27,18 +17,10 @@ mod ordering;
 mod recorded;
 mod required;
 mod rows;
-mod rules;
-mod seen;
-mod several;
 mod soft;
-mod source;
-mod tree;
 mod unmade;
 mod waits;
-mod wanted;
 
 pub use building::build;
-pub use laws::further_targets_follow_the_run;
-pub use limit::{MAX_NODES, MAX_WIDE_NODES, node_limit};
-pub use source::source_of;
-pub use tree::{Tree, TreeFault};
+pub use limit::{MAX_NODES, node_limit};
+pub use mk_sources::{Tree, TreeFault};

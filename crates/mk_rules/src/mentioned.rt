@@ -6,12 +6,12 @@ ghost use Rattle.mk_rules.specs.NodeNotes.{AreKnownNodes};
 ghost use Rattle.mk_rules.specs.Row.{named, IsRow, IsSomeRow};
 ghost use Rattle.mk_nodes.specs.Hidden.{Takes};
 
-use crate::distinct_names::DistinctNames;
 use crate::distinct_numbers::DistinctNumbers;
 use crate::followers::Followers;
 use crate::hidden_marks::HiddenMarks;
 use byte_strings::ByteStrings;
 use mk_graph::Names;
+use mk_sources::DistinctNames;
 use std::alloc::{AllocError, Global};
 
 /// The prerequisites of a name so far.

@@ -3,7 +3,7 @@ ghost use Rattle.std.specs.Prelude.{◌≡◌, ℕ, ℤ, List, Option, IfOk, IfE
 ghost use Rattle.std.specs.FinMap as finmap;
 ghost use Rattle.std.specs.Option.{option_copied};
 ghost use Rattle.mk_nodes.specs.Prerequisites.{inputs_of, is_node, hidden_in};
-ghost use Rattle.mk_rules.specs.Looks.{Looks};
+ghost use Rattle.mk_sources.specs.Looks.{Looks};
 ghost use Rattle.mk_nodes.specs.Hidden.{HasHidden, IsNamesFault};
 ghost use Rattle.mk_rules.specs.NodeNotes.{AreKnownNodes};
 ghost use Rattle.mk_rules.specs.Row.{named, IsRow, IsSomeRow};
@@ -12,11 +12,10 @@ use crate::hidden::add_hidden;
 use crate::hidden_marks::HiddenMarks;
 use crate::mentioned::Mentioned;
 use crate::node_notes::NodeNotes;
-use crate::rules::Rules;
-use crate::tree::Tree;
 use byte_strings::Iter;
 use mk_graph::Names;
 use mk_rule_lines::RuleFault;
+use mk_sources::{Rules, Tree};
 use st_records::PackedEntry;
 use std::alloc::Global;
 

@@ -10,12 +10,12 @@ ghost use Rattle.mk_nodes.specs.Graph.{AreUnmade};
 ghost use Rattle.mk_rules.specs.Known.{IsKnown};
 ghost use Rattle.mk_nodes.specs.Prerequisites.{Inputs, is_target};
 
-use crate::left_over::default_of;
 use byte_strings::ByteString;
 use mk_graph::Numbered;
 use mk_nodes::Node;
 use mk_profile::Profile;
 use mk_rule_lines::{RuleFault, RuleLine, TargetTable, Unmade};
+use mk_sources::default_of;
 use std::alloc::{AllocError, Global};
 
 /// Whether something is known to make a name: a file, an implicit rule, or a line.

@@ -3,9 +3,11 @@ use Rattle.std.specs.FinMap as map
 use Rattle.mk_graph.specs.Numbering.{IsNumbering}
 use Rattle.mk_nodes.specs.declared.graph.Node.{Node}
 use Rattle.mk_rules.specs.Found.{AreFound, IsFindingFault}
-use Rattle.mk_rules.specs.Known.{IsKnown, IsAllowed, IsLookUpFault}
+use Rattle.mk_rules.specs.Known.{IsKnown}
+use Rattle.mk_rules.specs.Allowed.{IsAllowed}
+use Rattle.mk_sources.specs.Asked.{IsLookUpFault}
 use Rattle.mk_nodes.specs.Prerequisites.{Inputs, inputs_of, prerequisites_of}
-use Rattle.mk_rules.specs.declared.rules.Rules.{Rules}
+use Rattle.mk_sources.specs.declared.rules.Rules.{Rules}
 use Rattle.mk_rules.proofs.FoundLemmas.{described_at, finding_fault, too_many, of_source}
 use Rattle.mk_rules.proofs.building.found_names.Goals as goal
 

@@ -3,7 +3,7 @@ use Rattle.std.specs.FinMap as map
 use Rattle.mk_rules.specs.Found.{IsFindingFault}
 use Rattle.mk_rules.proofs.LookLemmas.{looked_once, asked_behind, asked_fewer}
 use Rattle.mk_nodes.specs.Prerequisites.{inputs_of, prerequisites_of}
-use Rattle.mk_rules.specs.Tree.{AskedOnce}
+use Rattle.mk_sources.specs.Tree.{AskedOnce}
 use Rattle.mk_nodes.proofs.OneNumberingLemmas.{distinct_names}
 use Rattle.mk_rule_lines.proofs.ResultLemmas.{if_ok, if_err}
 use Rattle.mk_rules.proofs.building.numbered_names.Goals as goal

@@ -4,13 +4,16 @@ use Rattle.mk_rule_lines.specs.Explicit.{explicit_of}
 use Rattle.mk_rule_lines.proofs.LineLemmas.{handed_on}
 use Rattle.mk_rule_lines.proofs.ResultLemmas.{if_ok, if_err}
 use Rattle.mk_nodes.specs.Hidden.{IsNamesFault}
-use Rattle.mk_rules.specs.Known.{IsKnown, IsLookUpFault}
-use Rattle.mk_rules.specs.Looks.{Looks, and_this}
-use Rattle.mk_rules.specs.LooksLaws.{looks_on}
+use Rattle.mk_rules.specs.Known.{IsKnown}
+use Rattle.mk_sources.specs.Asked.{IsLookUpFault}
+use Rattle.mk_sources.specs.Looks.{Looks, and_this}
+use Rattle.mk_sources.specs.LooksLaws.{looks_on}
 use Rattle.mk_nodes.specs.Prerequisites.{inputs_of, is_node, hidden_in, prerequisites_of}
 use Rattle.mk_rules.specs.Row.{named}
-use Rattle.mk_rules.specs.Seen.{made_in, IsNumberedAs}
-use Rattle.mk_rules.proofs.FinderLemmas.{on_ok, on_ok_if, all_are, known_is, hidden_look}
+use Rattle.mk_sources.specs.Seen.{made_in}
+use Rattle.mk_rules.specs.Completed.{IsNumberedAs}
+use Rattle.mk_rule_lines.proofs.TableLemmas.{on_ok}
+use Rattle.mk_rules.proofs.FinderLemmas.{on_ok_if, all_are, known_is, hidden_look}
 use Rattle.mk_rules.proofs.finder.look_up.Goals as goal
 
 pub seen_of-requires : goal.seen_of-requires

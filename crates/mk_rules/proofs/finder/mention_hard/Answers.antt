@@ -3,7 +3,7 @@ use Rattle.mk_graph.specs.Numbering.{all_added}
 use Rattle.mk_graph.proofs.NameLemmas.{all_added-append}
 use Rattle.mk_rule_lines.specs.Explicit.{explicit_of}
 use Rattle.mk_rules.specs.Row.{named}
-use Rattle.mk_rules.specs.Seen.{made_in}
+use Rattle.mk_sources.specs.Seen.{made_in}
 use Rattle.mk_rules.proofs.finder.mention_hard.Goals as goal
 
 pub mention_explicit-requires : goal.mention_explicit-requires

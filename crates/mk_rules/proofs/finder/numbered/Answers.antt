@@ -5,7 +5,7 @@ use Rattle.mk_graph.specs.Numbering.{all_added}
 use Rattle.mk_rule_lines.specs.Explicit.{explicit_of}
 use Rattle.mk_nodes.specs.Prerequisites.{inputs_of, is_node, hidden_in}
 use Rattle.mk_rules.specs.Row.{named, IsRow}
-use Rattle.mk_rules.specs.Seen.{made_in, order_only_in}
+use Rattle.mk_sources.specs.Seen.{made_in, order_only_in}
 use Rattle.mk_rules.proofs.RowLemmas.{row_start, row_count}
 use Rattle.mk_rules.proofs.finder.numbered.Goals as goal
 

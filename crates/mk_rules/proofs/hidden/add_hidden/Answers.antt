@@ -4,11 +4,12 @@ use Rattle.mk_graph.specs.Numbering.{added}
 use Rattle.mk_rule_lines.specs.Rules.{has}
 use Rattle.mk_rule_lines.proofs.LineLemmas.{handed_on}
 use Rattle.mk_nodes.specs.Hidden.{IsNamesFault}
-use Rattle.mk_rules.specs.LooksLaws.{looks_none, looks_on}
+use Rattle.mk_sources.specs.LooksLaws.{looks_none, looks_on}
 use Rattle.mk_nodes.specs.Prerequisites.{inputs_of, is_node}
 use Rattle.mk_rules.specs.NodeNotes.{AreKnownNodes}
 use Rattle.mk_rules.specs.Row.{named, IsSomeRow}
-use Rattle.mk_rules.proofs.HiddenLemmas.{TakenSoFar, taken_start, taken_step, taken_end, takes_same, has_first, has_later}
+use Rattle.mk_rules.proofs.HiddenLemmas.{TakenSoFar, taken_start, taken_step, taken_end, takes_same}
+use Rattle.mk_sources.proofs.AmongLemmas.{has_first, has_later}
 use Rattle.mk_rules.proofs.RowLemmas.{added_known}
 use Rattle.mk_rules.proofs.hidden.add_hidden.Goals as goal
 

@@ -2,7 +2,7 @@ use Rattle.std.proofs.Common.{◌≡◌, true, List, ℕ, ℤ, Option}
 use Rattle.std.specs.FinMap as map
 use Rattle.mk_nodes.specs.Prerequisites.{inputs_of, is_node}
 use Rattle.mk_rule_lines.specs.Rules.{has}
-use Rattle.mk_rules.specs.Looks.{Looks}
+use Rattle.mk_sources.specs.Looks.{Looks}
 use Rattle.mk_rules.specs.NodeNotes.{AreKnownNodes}
 use Rattle.mk_rules.specs.Row.{named, IsRow}
 use Rattle.mk_rules.proofs.HiddenLemmas.{TakenSoFar}

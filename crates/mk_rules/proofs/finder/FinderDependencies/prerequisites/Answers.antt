@@ -1,5 +1,5 @@
 use Rattle.std.proofs.Common.{refl}
-use Rattle.mk_rules.specs.LooksLaws.{looks_of_any}
+use Rattle.mk_sources.specs.LooksLaws.{looks_of_any}
 use Rattle.mk_rules.proofs.finder.FinderDependencies.prerequisites.Goals as goal
 
 -- what was found of another name stays

@@ -1,6 +1,0 @@
-use Rattle.std.proofs.Common.{◌≡◌, ◌||◌, ℕ, List}
-use Rattle.mk_graph.specs.Numbering.{has_name}
-use Rattle.mk_rules.proofs.distinct_names.set_of.Given as goal
-
-abbrev pub invariant-loop-name : goal.invariant-loop-name
-invariant-loop-name l = (name : List ℕ) → (has_name l.set name || has_name l.name-iterator name) ≡ has_name l.list name

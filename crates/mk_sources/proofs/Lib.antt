@@ -1,0 +1,16 @@
+pub mod AmongLemmas
+pub mod AsciiLemmas
+pub mod AskedLemmas
+pub mod ChainLaws
+pub mod ChainLemmas
+pub mod FewLemmas
+pub mod LeftLemmas
+pub mod LinkLemmas
+pub mod LookupLemmas
+pub mod OrderOnlyLemmas
+pub mod PlaceLemmas
+pub mod RuleLemmas
+pub mod SetLemmas
+pub mod SeveralLemmas
+pub mod SourceLemmas
+pub mod WantedLemmas

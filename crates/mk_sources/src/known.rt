@@ -1,0 +1,31 @@
+//! What is found of a name while names are numbered.
+use byte_strings::ByteStrings;
+use mk_nodes::{RareParts, ShortNumber, Stamp};
+use std::boxed::Box;
+
+/// What few names have: what an implicit rule gives them, and order-only prerequisites.
+#[derive(Drop)]
+pub struct Given {
+    /// What an implicit rule makes it from.
+    pub made: ByteStrings,
+    pub order_only: ByteStrings,
+    pub rare: RareParts,
+}
+
+/// What rules say of a name beside the hard prerequisites of its lines.
+#[derive(Drop)]
+pub struct Ruled {
+    /// The number of the rule line whose recipe makes it.
+    pub recipe: ShortNumber,
+    pub given: Option<Box<Given>>,
+}
+
+/// What is found of a name but its hidden prerequisites.
+#[derive(Drop)]
+pub struct Seen<'r> {
+    /// The numbers of the lines that make it.
+    pub lines: &'r [usize],
+    /// When its file was last changed.
+    pub stamp: Stamp,
+    pub ruled: Ruled,
+}

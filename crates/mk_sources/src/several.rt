@@ -1,0 +1,153 @@
+//! Rules of several targets: their further targets are made by the run for the first.
+ghost use Rattle.std.specs.Prelude.{◌≡◌, ◌&&◌, ◌==◌, ℕ, ℤ, List, Option, Some, is_none, map, option_map, option_to_list, IfOk, IfErr};
+ghost use Rattle.std.specs.FinMap as finmap;
+ghost use Rattle.mk_rule_lines.specs.Explicit.{is_phony};
+ghost use Rattle.mk_nodes.specs.Groups.{earlier, earliest, others_in, group_with};
+ghost use Rattle.mk_sources.specs.Asked.{IsImplicitFault, IsFoundFault, IsOthersFault};
+ghost use Rattle.mk_sources.specs.Looks.{Looks};
+ghost use Rattle.mk_nodes.specs.Prerequisites.{inputs_of, own_recipes, seen_times, implicit_source, is_led, is_run_of, runs_for};
+
+use crate::lookup::{found_source, seen_stamp};
+use crate::rules::Rules;
+use crate::tree::Tree;
+use byte_strings::ByteStrings;
+use mk_nodes::Group;
+use mk_rule_lines::{RuleFault, Source};
+use std::alloc::Global;
+use std::boxed::Box;
+
+/// Whether the rule of this line makes what has the source by a run for it.
+fn is_run_of(rule: usize, source: &Source) -> bool
+    ensures { result ≡ is_run_of rule source.now }
+{
+    source.leader.is_none() && source.rule == rule
+}
+
+/// Whether the rule of this line makes the name by a run for it.
+#[inline(never)]
+fn runs_for<T: Tree>(
+    alloc: Global,
+    rules: &Rules,
+    tree: &mut T,
+    rule: usize,
+    name: &[u8],
+) -> Result<bool, RuleFault>
+    ensures runs { IfOk result (λ runs. (times : List ℕ → Option ℤ) → T.allows tree.new times
+        → runs ≡ runs_for (inputs_of rules.now.lines.now (finmap.get rules.now.state.now) times) rule name.now) }
+    ensures looks { Looks (T.allows tree.old) (T.allows tree.new) (T.refuses tree.old) (T.refuses tree.new) (T.asked tree.old) (T.asked tree.new) (T.firsts tree.old) (T.firsts tree.new) }
+    ensures fault { IfErr result (IsFoundFault rules.now.targets.now (T.allows tree.new) (T.refuses tree.new) rules.now.forms.now rules.now.steps rules.now.lines.now name.now) }
+{
+    let (numbers, own) = rules.named(name);
+    let phony = rules.is_phony(numbers);
+    match found_source(alloc, rules, tree, name, own, phony)? {
+        Some(source) => Ok(is_run_of(rule, &source)),
+        None => Ok(false),
+    }
+}
+
+/// Whether the source is that of a rule's first target, or the rule makes the first one by a run for it.
+fn is_led<T: Tree>(
+    alloc: Global,
+    rules: &Rules,
+    tree: &mut T,
+    source: &Source,
+) -> Result<bool, RuleFault>
+    ensures led { IfOk result (λ led. (times : List ℕ → Option ℤ) → T.allows tree.new times
+        → led ≡ is_led (inputs_of rules.now.lines.now (finmap.get rules.now.state.now) times) source.now) }
+    ensures looks { Looks (T.allows tree.old) (T.allows tree.new) (T.refuses tree.old) (T.refuses tree.new) (T.asked tree.old) (T.asked tree.new) (T.firsts tree.old) (T.firsts tree.new) }
+    ensures fault { IfErr result (λ f. (leader : List ℕ) × ((source.now.leader ≡ Some leader)
+        × IsFoundFault rules.now.targets.now (T.allows tree.new) (T.refuses tree.new) rules.now.forms.now rules.now.steps rules.now.lines.now leader f)) }
+{
+    match &source.leader {
+        Some(leader) => runs_for(alloc, rules, tree, source.rule, leader.as_slice()),
+        None => Ok(true),
+    }
+}
+
+/// What an implicit rule makes the name from, where it isn't phony and no line has a recipe for it: `own` is the number of the
+/// line that has.
+pub(crate) fn implicit_source<T: Tree>(
+    alloc: Global,
+    rules: &Rules,
+    tree: &mut T,
+    name: &[u8],
+    own: Option<usize>,
+    phony: bool,
+) -> Result<Option<Source>, RuleFault>
+    requires own { option_to_list own ≡ own_recipes rules.now.lines.now name.now }
+    requires phony { phony ≡ is_phony rules.now.lines.now name.now }
+    ensures source { IfOk result (λ found. (times : List ℕ → Option ℤ) → T.allows tree.new times
+        → found ≡ implicit_source (inputs_of rules.now.lines.now (finmap.get rules.now.state.now) times) name.now) }
+    ensures looks { Looks (T.allows tree.old) (T.allows tree.new) (T.refuses tree.old) (T.refuses tree.new) (T.asked tree.old) (T.asked tree.new) (T.firsts tree.old) (T.firsts tree.new) }
+    ensures fault { IfErr result (IsImplicitFault rules.now.targets.now (T.allows tree.new) (T.refuses tree.new) rules.now.forms.now rules.now.steps rules.now.lines.now
+        (finmap.get rules.now.state.now) name.now) }
+{
+    let Some(source) = found_source(alloc, rules, tree, name, own, phony)? else {
+        return Ok(None);
+    };
+    if is_led(alloc, rules, tree, &source)? {
+        Ok(Some(source))
+    } else {
+        Ok(None)
+    }
+}
+
+/// The earlier of two times; None where one is missing.
+fn earlier(a: Option<i128>, b: Option<i128>) -> Option<i128>
+    ensures { result ≡ earlier a b }
+{
+    match (a, b) {
+        (Some(a), Some(b)) if b < a => Some(b),
+        (Some(a), Some(_)) => Some(a),
+        _ => None,
+    }
+}
+
+/// The earliest of this time and those of the names.
+#[inline(never)]
+fn earliest<T: Tree>(
+    alloc: Global,
+    rules: &Rules,
+    tree: &mut T,
+    first: Option<i128>,
+    names: &ByteStrings,
+) -> Result<Option<i128>, RuleFault>
+    ensures time { IfOk result (λ time. (times : List ℕ → Option ℤ) → T.allows tree.new times
+        → time ≡ earliest first (map (seen_times rules.now.lines.now times) names.now)) }
+    ensures looks { Looks (T.allows tree.old) (T.allows tree.new) (T.refuses tree.old) (T.refuses tree.new) (T.asked tree.old) (T.asked tree.new) (T.firsts tree.old) (T.firsts tree.new) }
+    ensures fault { IfErr result (IsOthersFault (T.refuses tree.new) rules.now.lines.now names.now) }
+{
+    let mut time = first;
+    for name in names.iter() {
+        let (numbers, _) = rules.named(name);
+        let phony = rules.is_phony(numbers);
+        let seen = seen_stamp(alloc, tree, name, phony)?;
+        time = earlier(time, seen);
+    }
+    Ok(time)
+}
+
+/// What the run for the name of this source makes beside it, where it makes more; `stamp` is the name's own time.
+pub(crate) fn group_of<T: Tree>(
+    alloc: Global,
+    rules: &Rules,
+    tree: &mut T,
+    stamp: Option<i128>,
+    source: &Option<Source>,
+) -> Result<Option<Box<Group>>, RuleFault>
+    ensures group { IfOk result (λ group. (name : List ℕ) (times : List ℕ → Option ℤ) → T.allows tree.new times
+        → stamp ≡ seen_times rules.now.lines.now times name
+        → option_map (λ g. g.value) group ≡ group_with (seen_times rules.now.lines.now times) name (others_in source.now)) }
+    ensures looks { Looks (T.allows tree.old) (T.allows tree.new) (T.refuses tree.old) (T.refuses tree.new) (T.asked tree.old) (T.asked tree.new) (T.firsts tree.old) (T.firsts tree.new) }
+    ensures fault { IfErr result (IsOthersFault (T.refuses tree.new) rules.now.lines.now (others_in source.now)) }
+{
+    let Some(source) = source else {
+        return Ok(None);
+    };
+    if source.others.is_empty() {
+        return Ok(None);
+    }
+    let made = earliest(alloc, rules, tree, stamp, &source.others)?;
+    let others = source.others.copy(alloc)?;
+    Ok(Some(Box::new(alloc, Group { made, others })?))
+}
