@@ -39,7 +39,11 @@ const USUAL_PREREQUISITES: usize = 24;
 fn rare_of(given: Box<Given>) -> RareParts
     ensures { result ≡ given.value.rare }
 {
-    let Given { rare, .. } = Box::into_inner(given);
+    let Given {
+        made: _,
+        order_only: _,
+        rare,
+    } = Box::into_inner(given);
     rare
 }
 
@@ -71,7 +75,11 @@ fn completed(
     ensures hard { IfOk result (λ node. node.hard ≡ hard) }
     ensures node { IfOk result (IsAsSeen seen.entry) }
 {
-    let Seen { stamp, ruled, .. } = seen;
+    let Seen {
+        lines: _,
+        stamp,
+        ruled,
+    } = seen;
     let Ruled { recipe, given } = ruled;
     let (hidden, marks) = hidden.into_parts();
     Ok(Node {

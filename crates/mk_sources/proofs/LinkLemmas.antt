@@ -14,7 +14,7 @@ use Rattle.mk_rule_lines.specs.declared.form.Form.{Form}
 use Rattle.mk_rule_lines.specs.declared.form.Source.{Source}
 use Rattle.mk_nodes.specs.Chain.{makes_any, is_usable, usable, first_that, can_be}
 use Rattle.mk_nodes.specs.Links.{end_of, ends_with, end_alike, may_make, leads_on, AreLinks}
-use Rattle.mk_sources.proofs.ChainLemmas.{unfit_more, passed_more, asked_here}
+use Rattle.mk_sources.proofs.ChainLemmas.{unfit_more, passed_more}
 use Rattle.mk_sources.proofs.SourceLemmas.{from_form, candidates-append, taken}
 
 -- ---- how names end

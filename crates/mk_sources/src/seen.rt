@@ -1,9 +1,9 @@
 //! What is found of a name but its hidden prerequisites.
-ghost use Rattle.std.specs.Prelude.{◌≡◌, ◌++◌, ℕ, ℤ, List, Option, None, option_map, option_to_list, unwrap_or, IfOk, IfErr};
+ghost use Rattle.std.specs.Prelude.{◌≡◌, ◌++◌, ℕ, ℤ, List, Option, None, length, option_map, option_to_list, unwrap_or, IfOk, IfErr};
 ghost use Rattle.std.specs.FinMap as map;
 ghost use Rattle.mk_rule_lines.specs.Explicit.{numbers_of, explicit_of, order_only_of, is_phony};
-ghost use Rattle.mk_nodes.specs.Groups.{others_in};
-ghost use Rattle.mk_nodes.specs.Prerequisites.{inputs_of, own_recipes, seen_times, first_or, rule_or, behind_bar_of, distinct};
+ghost use Rattle.mk_nodes.specs.Groups.{others_in, group_with};
+ghost use Rattle.mk_nodes.specs.Prerequisites.{Inputs, inputs_of, own_recipes, seen_times, first_or, rule_or, behind_bar_of, made_from, distinct};
 ghost use Rattle.mk_graph.specs.Numbering.{all_added};
 ghost use Rattle.mk_sources.specs.Looks.{Looks, and_this};
 ghost use Rattle.mk_sources.specs.Asked.{IsLookUpFault, IsOthersFault};
@@ -19,7 +19,7 @@ use crate::rules::Rules;
 use crate::several::{group_of, implicit_source};
 use crate::tree::Tree;
 use byte_strings::{ByteString, ByteStrings};
-use mk_nodes::{Rare, RareParts, ShortNumber, Stamp};
+use mk_nodes::{Group, Rare, RareParts, ShortNumber, Stamp};
 use mk_rule_lines::{RuleFault, Source};
 use std::alloc::{AllocError, Global};
 use std::boxed::Box;
@@ -93,6 +93,56 @@ fn required_names(
     Ok(Some(Box::new(alloc, names.into_list())?))
 }
 
+/// What few names have of this source, whose run makes this group, and which needs these names.
+fn rare_of(
+    alloc: Global,
+    source: Option<Source>,
+    group: Option<Box<Group>>,
+    required: Option<Box<ByteStrings>>,
+) -> Result<RareParts, AllocError>
+    ensures stem { IfOk result (λ rare. rare.stem ≡ option_map (λ s. s.stem) source) }
+    ensures implied { IfOk result (λ rare. rare.implied ≡ length (distinct (made_from source))) }
+    ensures group { IfOk result (λ rare. rare.group ≡ group) }
+    ensures required { IfOk result (λ rare. rare.required ≡ required) }
+{
+    let implied = implied_count(alloc, &source)?;
+    RareParts::of(
+        alloc,
+        Rare {
+            stem: stem_of(source),
+            implied,
+            group,
+            required,
+            marks: None,
+        },
+    )
+}
+
+/// What rules give a name with this source, whose run makes this group.
+fn given_with(
+    alloc: Global,
+    rules: &Rules,
+    numbers: &[usize],
+    source: Option<Source>,
+    group: Option<Box<Group>>,
+) -> Result<Box<Given>, AllocError>
+    ensures { IfOk result (λ given. (inputs : Inputs) (name : List ℕ) → inputs.lines ≡ rules.now.lines.now
+        → numbers.now ≡ numbers_of rules.now.lines.now name
+        → option_map (λ g. g.value) group ≡ group_with inputs.times name (others_in source)
+        → IsGiven inputs name source given.value.made given.value.order_only given.value.rare) }
+{
+    let made = made_from(alloc, &source)?;
+    let order_only = order_only_of(alloc, rules, numbers, &source)?;
+    let required = required_names(alloc, rules, numbers, &made, &order_only)?;
+    let rare = rare_of(alloc, source, group, required)?;
+    let given = Given {
+        made,
+        order_only,
+        rare,
+    };
+    Ok(Box::new(alloc, given)?)
+}
+
 /// What rules give a name with this source. `stamp` is the name's own time.
 #[inline(never)]
 fn given_by<T: Tree>(
@@ -110,27 +160,8 @@ fn given_by<T: Tree>(
     ensures fault { IfErr result (IsOthersFault (T.refuses tree.new) rules.now.lines.now (others_in source)) }
 {
     let group = group_of(alloc, rules, tree, stamp.get(), &source)?;
-    let implied = implied_count(alloc, &source)?;
-    let made = made_from(alloc, &source)?;
-    let order_only = order_only_of(alloc, rules, numbers, &source)?;
-    let required = required_names(alloc, rules, numbers, &made, &order_only)?;
-    let stem = stem_of(source);
-    let rare = RareParts::of(
-        alloc,
-        Rare {
-            stem,
-            implied,
-            group,
-            required,
-            marks: None,
-        },
-    )?;
-    let given = Given {
-        made,
-        order_only,
-        rare,
-    };
-    Ok(Box::new(alloc, given)?)
+    let given = given_with(alloc, rules, numbers, source, group)?;
+    Ok(given)
 }
 
 /// A name to which rules give nothing: its own line or the other one has its recipe.

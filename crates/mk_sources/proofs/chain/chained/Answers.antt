@@ -8,7 +8,6 @@ use Rattle.mk_rule_lines.specs.Source.{source_at}
 use Rattle.mk_rule_lines.specs.Table.{is_there}
 use Rattle.mk_rule_lines.specs.declared.form.Source.{Source}
 use Rattle.mk_nodes.specs.Chain.{usable, can_be, first_that, has_a_type}
-use Rattle.mk_nodes.specs.Links.{leads_on}
 use Rattle.mk_sources.specs.LooksLaws.{looks_none, looks_on}
 use Rattle.mk_sources.specs.Search.{IsAmong, IsBehind, IsAskedIn, IsLedFault}
 use Rattle.mk_sources.proofs.ChainLemmas.{unfit_more, passed_more, taken_first, candidates_at, led_on}

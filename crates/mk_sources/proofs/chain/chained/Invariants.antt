@@ -1,5 +1,5 @@
-use Rattle.std.proofs.Common.{◌≡◌, take, List, [], ◌∷◌, ℕ, ℤ, Option, None, not}
-use Rattle.mk_nodes.specs.Chain.{can_be, has_a_type, usable, first_that}
+use Rattle.std.proofs.Common.{◌≡◌, take, List, [], ◌∷◌, ℕ, ℤ, Option, None}
+use Rattle.mk_nodes.specs.Chain.{can_be, usable, first_that}
 use Rattle.mk_sources.specs.Looks.{Looks}
 use Rattle.mk_rule_lines.specs.Table.{is_there}
 use Rattle.mk_sources.proofs.chain.chained.Given as goal
