@@ -14,20 +14,20 @@ use Rattle.mk_rules.specs.Found.{AreFound, IsUnmadeFault, IsGraphlessFault}
 use Rattle.mk_rule_lines.specs.Goals.{goals_of, settings_of}
 use Rattle.mk_nodes.specs.Graph.{IsGraph, IsNode, AreUnmade, AreHard, AreRequired, AreSoft, required_in, counting_in}
 use Rattle.mk_rules.specs.Nodes.{IsNamedOf}
-use Rattle.mk_rules.specs.Ordering.{IsCycleFault}
+use Rattle.mk_edges.specs.Ordering.{IsCycleFault}
 use Rattle.mk_nodes.specs.Prerequisites.{Inputs, prerequisites_of, is_made}
-use Rattle.mk_rules.specs.Rows.{EachRow, IsHardRow, IsSoftRow}
+use Rattle.mk_edges.specs.Rows.{EachRow, IsHardRow, IsSoftRow}
 use Rattle.mk_rule_lines.specs.Taken.{AreTaken}
 use Rattle.mk_rule_lines.specs.declared.fault.RuleFault.{RuleFault}
 use Rattle.mk_rule_lines.specs.declared.fault.RuleFault.TheVariants as fault
 use Rattle.mk_nodes.specs.declared.graph.Graph.{Graph}
 use Rattle.mk_nodes.specs.declared.graph.Node.{Node}
 use Rattle.mk_rules.specs.declared.nodes.Named.{Named}
-use Rattle.mk_rules.specs.declared.ordering.Ordered.{Ordered}
+use Rattle.mk_edges.specs.declared.ordering.Ordered.{Ordered}
 use Rattle.mk_rule_lines.specs.declared.rule_line.RuleLine.{RuleLine}
 use Rattle.mk_rules.proofs.MadeLemmas.{has_at}
 use Rattle.mk_rules.proofs.NeededLemmas.{needed_is}
-use Rattle.mk_rules.proofs.RowLaws.{are_hard, nodes_are}
+use Rattle.mk_edges.proofs.RowLaws.{are_hard, nodes_are}
 
 module _ (inputs : Inputs) (named : List (List ℕ)) (lines : List RuleLine) (lines_are : inputs.lines ≡ lines) (n : Numbered Node)
     (found : AreFound inputs (goals_of inputs.lines named) n) (node_count : length n.nodes.items ≡ length n.names) where

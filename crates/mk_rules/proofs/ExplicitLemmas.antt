@@ -4,7 +4,7 @@ use Rattle.std.specs.Prelude.{slice_get}
 use Rattle.std.specs.List.{flat_map}
 use Rattle.std.specs.Option.{option_map_or}
 use Rattle.mk_profile.specs.declared.profile.Profile.{Profile}
-use Rattle.mk_graph.specs.Numbering.{added, all_added}
+use Rattle.mk_graph.specs.Numbering.{all_added}
 use Rattle.mk_graph.proofs.NameLemmas.{all_added-append}
 use Rattle.mk_rule_lines.specs.Explicit.{is_bar, is_wait, before_bar, without_waits, names_in}
 use Rattle.mk_rule_lines.specs.declared.rule_line.RuleLine.{RuleLine}

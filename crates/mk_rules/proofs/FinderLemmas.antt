@@ -12,7 +12,7 @@ use Rattle.mk_rules.specs.Completed.{IsNumberedAs}
 use Rattle.mk_sources.specs.declared.known.Seen.{Seen}
 use Rattle.mk_nodes.specs.declared.group.Group.{Group}
 use Rattle.std.specs.Global.{Box}
-use Rattle.mk_rules.specs.Known.{IsKnown}
+use Rattle.mk_edges.specs.Known.{IsKnown}
 use Rattle.mk_sources.specs.Asked.{IsLookUpFault}
 use Rattle.mk_nodes.specs.Prerequisites.{Inputs, distinct, implicit_source, hard_of, hidden_in, hidden_of, is_node, prerequisites_of, judged_of, order_only_of}
 use Rattle.mk_rule_lines.specs.declared.fault.RuleFault.{RuleFault}

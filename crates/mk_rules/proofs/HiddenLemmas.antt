@@ -1,5 +1,5 @@
 -- The hidden prerequisites of a name, one at a time.
-use Rattle.std.proofs.Common.{arith, ◌≡◌, ◌≤◌, ℕ, Bool, true, false, not, cond, List, [], ◌∷◌, ◌++◌, length, map, drop, filter, Option, refl, sym, ap, ◌∙◌, length-append}
+use Rattle.std.proofs.Common.{arith, ◌≡◌, ◌≤◌, ℕ, Bool, true, false, not, cond, List, [], ◌∷◌, ◌++◌, length, map, drop, filter, refl, sym, ap, ◌∙◌, length-append}
 use Rattle.std.specs.Prelude.{◌||◌, ◌&&◌, bytes_eq}
 use Rattle.std.specs.Str.{is_utf8}
 use Rattle.std.proofs.lemmas.List.{drop-append-le, drop_all, map-append}
@@ -13,7 +13,6 @@ use Rattle.mk_rule_lines.specs.declared.fault.RuleFault.{RuleFault}
 use Rattle.mk_rule_lines.specs.declared.fault.RuleFault.TheVariants as fault
 use Rattle.mk_rule_lines.proofs.NameLemmas.{bytes_eq-same}
 use Rattle.mk_sources.proofs.SetLemmas.{has_added}
-use Rattle.std.proofs.lemmas.Slice.Eq.{bytes_eq-Decides}
 
 -- what is known where some hidden prerequisites are left
 pub record HiddenSoFar (p : List ℕ → Bool) (hard hidden left judged nodes : List (List ℕ)) (among : List Bool) : Type 0 where

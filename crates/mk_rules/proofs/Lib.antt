@@ -11,9 +11,4 @@ pub mod LookLemmas
 pub mod MadeLemmas
 pub mod MarkLemmas
 pub mod NeededLemmas
-pub mod PartsLaws
-pub mod RequiredLemmas
-pub mod RowLaws
 pub mod RowLemmas
-pub mod RowsLemmas
-pub mod WaitLemmas

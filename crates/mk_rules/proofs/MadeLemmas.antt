@@ -4,7 +4,7 @@ use Rattle.std.specs.Prelude.{◌||◌, bytes_eq, is_some, option_map}
 use Rattle.mk_graph.specs.Edges.{has as has_number}
 use Rattle.mk_graph.specs.Numbering.{name_at, has_name}
 use Rattle.mk_graph.proofs.RowLemmas.{has-push}
-use Rattle.mk_rules.specs.Known.{IsKnown}
+use Rattle.mk_edges.specs.Known.{IsKnown}
 use Rattle.mk_nodes.specs.Prerequisites.{Inputs, default_of, is_target, implicit_source, is_made}
 use Rattle.mk_rule_lines.specs.Table.{is_named, named_at}
 use Rattle.mk_rule_lines.specs.declared.form.Source.{Source}

@@ -6,12 +6,12 @@ use Rattle.mk_graph.specs.Numbering.{AreDescribed, name_at, has_name}
 use Rattle.mk_rule_lines.specs.Rules.{has}
 use Rattle.mk_rules.specs.Faults.{IsNeededBy}
 use Rattle.mk_rules.specs.Found.{HasItInItsRow}
-use Rattle.mk_rules.specs.Known.{IsKnown}
+use Rattle.mk_edges.specs.Known.{IsKnown}
 use Rattle.mk_nodes.specs.Prerequisites.{Inputs, prerequisites_of}
 use Rattle.mk_nodes.specs.declared.graph.Node.{Node}
 use Rattle.mk_sources.proofs.AmongLemmas.{has_first, has_later}
 use Rattle.mk_rules.proofs.MadeLemmas.{has_at}
-use Rattle.mk_rules.proofs.RowLaws.{rows_count, row_at}
+use Rattle.mk_edges.proofs.RowLaws.{rows_count, row_at}
 
 -- the name of a number that stands in a row stands among the row's names
 has_mapped : (names : List (List ℕ)) (node : ℕ) (numbers : List ℕ) → has_number numbers node ≡ true → has (name_at names node) (map (name_at names) numbers) ≡ true

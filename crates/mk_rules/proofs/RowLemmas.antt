@@ -1,19 +1,18 @@
 -- A row of numbers, to which one name more comes.
-use Rattle.std.proofs.Common.{◌≡◌, ℕ, ◌<◌, Bool, true, false, cond, ◌||◌, nat_lt, List, [], ◌∷◌, ◌++◌, length, take, map, refl, sym, ap, ◌∙◌, subst, arith, append-nil, append_assoc, lt-ltb, ltb-true, true≢false, length-append}
+use Rattle.std.proofs.Common.{◌≡◌, ℕ, ◌<◌, Bool, true, false, cond, ◌||◌, nat_lt, List, [], ◌∷◌, ◌++◌, length, refl, sym, ap, ◌∙◌, subst, arith, lt-ltb, ltb-true, true≢false}
 use Rattle.std.specs.List.{list_all, IsDistinct}
 use Rattle.std.proofs.lemmas.Bool.{and_parts}
 use Rattle.std.specs.Str.{bytes_eq}
-use Rattle.std.proofs.lemmas.List.{length-map, map-append, get_or_push, get_or_append_left}
+use Rattle.std.proofs.lemmas.List.{length-map, map-append}
 use Rattle.std.proofs.lemmas.List.Folds.{list_all-append}
-use Rattle.std.proofs.Math.Seq.{take-append_seam}
 use Rattle.mk_graph.specs.Edges.{has}
 use Rattle.mk_graph.specs.Numbering.{name_at, has_name, added, all_added}
-use Rattle.mk_graph.proofs.NameLemmas.{Begins, begins_added, length_from_begins, below_from_begins, row_from_begins, name_at-begins, all_added-append, has_name_at, distinct_all_added, distinct_none, new_at}
+use Rattle.mk_graph.proofs.NameLemmas.{Begins, begins_added, length_from_begins, below_from_begins, row_from_begins, name_at-begins, all_added-append, has_name_at, distinct_all_added}
 use Rattle.mk_graph.proofs.RowLemmas.{list_all-has}
 use Rattle.mk_rules.specs.NodeNotes.{AreKnownNodes}
 use Rattle.mk_rules.specs.Row.{named, IsRow, IsSomeRow}
 use Rattle.mk_rule_lines.proofs.NameLemmas.{bytes_eq-same}
-use Rattle.mk_rules.proofs.WaitLemmas.{has_named}
+use Rattle.mk_edges.proofs.WaitLemmas.{has_named}
 
 pub same_name : (a b : List ℕ) → bytes_eq a b ≡ true → a ≡ b
 same_name a b same = bytes_eq-same a b same

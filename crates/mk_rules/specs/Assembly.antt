@@ -4,7 +4,7 @@ use Rattle.mk_rule_lines.specs.Goals.{settings_of}
 use Rattle.st_state.specs.State.{StateMap}
 use Rattle.mk_nodes.specs.declared.graph.Graph.{Graph}
 use Rattle.mk_rules.specs.declared.nodes.Named.{Named}
-use Rattle.mk_rules.specs.declared.ordering.Ordered.{Ordered}
+use Rattle.mk_edges.specs.declared.ordering.Ordered.{Ordered}
 use Rattle.mk_rule_lines.specs.declared.rule_line.RuleLine.{RuleLine}
 
 -- the graph has these lines, names, nodes and edges and this state

@@ -4,7 +4,7 @@ use Rattle.mk_graph.specs.Edges.{row, has as has_number}
 use Rattle.mk_graph.specs.Numbering.{IsNumbering, AreDescribed, name_at, has_name}
 use Rattle.mk_graph.specs.declared.numbering.Numbered.{Numbered}
 use Rattle.mk_rules.specs.Faults.{IsAskedOf, HasUnmade, HasNamedCycle}
-use Rattle.mk_rules.specs.Known.{IsKnown}
+use Rattle.mk_edges.specs.Known.{IsKnown}
 use Rattle.mk_nodes.specs.Prerequisites.{Inputs, prerequisites_of, is_made}
 use Rattle.mk_rule_lines.specs.declared.fault.Unmade.{Unmade}
 use Rattle.mk_rule_lines.specs.declared.fault.RuleFault.{RuleFault}

@@ -4,11 +4,7 @@ pub mod Completed
 pub mod DistinctNumbers
 pub mod Faults
 pub mod Found
-pub mod Known
 pub mod Limit
 pub mod NodeNotes
 pub mod Nodes
-pub mod Ordering
-pub mod Required
 pub mod Row
-pub mod Rows

@@ -9,7 +9,7 @@ ghost use Rattle.mk_graph.specs.Numbering.{name_at, all_added};
 ghost use Rattle.mk_rule_lines.specs.Explicit.{numbers_of, explicit_of};
 ghost use Rattle.mk_sources.specs.Looks.{Looks, and_this, any_name};
 ghost use Rattle.mk_nodes.specs.Hidden.{IsNamesFault};
-ghost use Rattle.mk_rules.specs.Known.{IsKnown};
+ghost use Rattle.mk_edges.specs.Known.{IsKnown};
 ghost use Rattle.mk_sources.specs.Asked.{IsLookUpFault};
 ghost use Rattle.mk_nodes.specs.Node.{hidden_marks};
 ghost use Rattle.mk_rules.specs.NodeNotes.{AreKnownNodes};
@@ -39,11 +39,7 @@ const USUAL_PREREQUISITES: usize = 24;
 fn rare_of(given: Box<Given>) -> RareParts
     ensures { result ≡ given.value.rare }
 {
-    let Given {
-        made: _,
-        order_only: _,
-        rare,
-    } = Box::into_inner(given);
+    let Given { rare, .. } = Box::into_inner(given);
     rare
 }
 
@@ -75,11 +71,7 @@ fn completed(
     ensures hard { IfOk result (λ node. node.hard ≡ hard) }
     ensures node { IfOk result (IsAsSeen seen.entry) }
 {
-    let Seen {
-        lines: _,
-        stamp,
-        ruled,
-    } = seen;
+    let (stamp, ruled) = seen.into_parts();
     let Ruled { recipe, given } = ruled;
     let (hidden, marks) = hidden.into_parts();
     Ok(Node {

@@ -13,13 +13,8 @@ mod marks;
 mod mentioned;
 mod node_notes;
 mod nodes;
-mod ordering;
 mod recorded;
-mod required;
-mod rows;
-mod soft;
 mod unmade;
-mod waits;
 
 pub use building::build;
 pub use limit::{MAX_NODES, node_limit};

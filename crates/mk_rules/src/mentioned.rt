@@ -15,6 +15,7 @@ use mk_sources::DistinctNames;
 use std::alloc::{AllocError, Global};
 
 /// The prerequisites of a name so far.
+#[derive(Drop)]
 pub(crate) struct Mentioned {
     /// The numbers of those that are nodes.
     pub nodes: DistinctNumbers,
@@ -22,16 +23,6 @@ pub(crate) struct Mentioned {
     pub gone: DistinctNames,
     /// Of each hidden one that wasn't mentioned before, whether it is a node.
     pub hidden: HiddenMarks,
-}
-
-impl Drop for Mentioned {
-    fn drop(self) {
-        let Mentioned {
-            nodes: _,
-            gone: _,
-            hidden: _,
-        } = self;
-    }
 }
 
 /// Gives a name its number, and mentions that.

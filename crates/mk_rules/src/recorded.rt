@@ -57,11 +57,7 @@ fn add_all_hidden<T: Tree>(
 {
     let mut mentioned = Mentioned::new(alloc, notes.take_row(alloc));
     add_hidden(alloc, rules, tree, names, notes, &mut mentioned, hidden)?;
-    let Mentioned {
-        nodes,
-        gone: _,
-        hidden,
-    } = mentioned;
+    let Mentioned { nodes, hidden, .. } = mentioned;
     notes.row = nodes;
     Ok(hidden)
 }

@@ -7,7 +7,7 @@ ghost use Rattle.mk_rule_lines.specs.Rules.{recipe_places};
 ghost use Rattle.mk_rule_lines.specs.Table.{is_named, named_at};
 ghost use Rattle.mk_rules.specs.Found.{HasItInItsRow, IsUnmadeFault};
 ghost use Rattle.mk_nodes.specs.Graph.{AreUnmade};
-ghost use Rattle.mk_rules.specs.Known.{IsKnown};
+ghost use Rattle.mk_edges.specs.Known.{IsKnown};
 ghost use Rattle.mk_nodes.specs.Prerequisites.{Inputs, is_target};
 
 use byte_strings::ByteString;

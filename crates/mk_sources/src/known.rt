@@ -1,9 +1,12 @@
 //! What is found of a name while names are numbered.
+ghost use Rattle.std.specs.Prelude.{◌≡◌};
+
 use byte_strings::ByteStrings;
 use mk_nodes::{RareParts, ShortNumber, Stamp};
 use std::boxed::Box;
 
 /// What few names have: what an implicit rule gives them, and order-only prerequisites.
+#[derive(Drop)]
 pub struct Given {
     /// What an implicit rule makes it from.
     pub made: ByteStrings,
@@ -11,30 +14,12 @@ pub struct Given {
     pub rare: RareParts,
 }
 
-impl Drop for Given {
-    fn drop(self) {
-        let Given {
-            made: _,
-            order_only: _,
-            rare: _,
-        } = self;
-    }
-}
-
 /// What rules say of a name beside the hard prerequisites of its lines.
+#[derive(Drop)]
 pub struct Ruled {
     /// The number of the rule line whose recipe makes it.
     pub recipe: ShortNumber,
     pub given: Option<Box<Given>>,
-}
-
-impl Drop for Ruled {
-    fn drop(self) {
-        let Ruled {
-            recipe: _,
-            given: _,
-        } = self;
-    }
 }
 
 /// What is found of a name but its hidden prerequisites.
@@ -53,5 +38,20 @@ impl Drop for Seen<'_> {
             stamp: _,
             ruled: _,
         } = self;
+    }
+}
+
+impl Seen<'_> {
+    /// The time, and what rules say.
+    pub fn into_parts(self) -> (Stamp, Ruled)
+        ensures stamp { result.0 ≡ self.entry.stamp }
+        ensures ruled { result.1 ≡ self.entry.ruled }
+    {
+        let Seen {
+            lines: _,
+            stamp,
+            ruled,
+        } = self;
+        (stamp, ruled)
     }
 }

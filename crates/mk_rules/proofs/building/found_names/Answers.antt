@@ -3,7 +3,7 @@ use Rattle.std.specs.FinMap as map
 use Rattle.mk_graph.specs.Numbering.{IsNumbering}
 use Rattle.mk_nodes.specs.declared.graph.Node.{Node}
 use Rattle.mk_rules.specs.Found.{AreFound, IsFindingFault}
-use Rattle.mk_rules.specs.Known.{IsKnown}
+use Rattle.mk_edges.specs.Known.{IsKnown}
 use Rattle.mk_rules.specs.Allowed.{IsAllowed}
 use Rattle.mk_sources.specs.Asked.{IsLookUpFault}
 use Rattle.mk_nodes.specs.Prerequisites.{Inputs, inputs_of, prerequisites_of}

@@ -4,7 +4,7 @@ use Rattle.mk_graph.specs.Numbering.{AreDescribed}
 use Rattle.mk_graph.specs.declared.numbering.Numbered.{Numbered}
 use Rattle.mk_rules.specs.Found.{AreFound, IsGraphlessFault}
 use Rattle.mk_nodes.specs.Graph.{AreUnmade}
-use Rattle.mk_rules.specs.Known.{IsKnown}
+use Rattle.mk_edges.specs.Known.{IsKnown}
 use Rattle.mk_nodes.specs.declared.graph.Node.{Node}
 use Rattle.mk_rule_lines.specs.Explicit.{explicit_targets}
 use Rattle.mk_rule_lines.specs.Rules.{recipe_places}

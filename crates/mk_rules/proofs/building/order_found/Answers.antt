@@ -11,14 +11,14 @@ use Rattle.mk_graph.specs.declared.numbering.Numbered.{Numbered}
 use Rattle.mk_rule_lines.specs.Goals.{goals_of}
 use Rattle.mk_rules.specs.Found.{AreFound, IsGraphlessFault}
 use Rattle.mk_nodes.specs.Graph.{AreHard, AreRequired, AreSoft}
-use Rattle.mk_rules.specs.Known.{IsKnown}
-use Rattle.mk_rules.specs.Ordering.{IsCycleFault}
+use Rattle.mk_edges.specs.Known.{IsKnown}
+use Rattle.mk_edges.specs.Ordering.{IsCycleFault}
 use Rattle.mk_nodes.specs.Prerequisites.{Inputs, prerequisites_of}
 use Rattle.mk_nodes.specs.declared.graph.Node.{Node}
-use Rattle.mk_rules.specs.Rows.{EachRow, IsHardRow, IsSoftRow}
+use Rattle.mk_edges.specs.Rows.{EachRow, IsHardRow, IsSoftRow}
 use Rattle.mk_rules.proofs.AssemblyLemmas.{assembled, cycle_fault}
-use Rattle.mk_rules.proofs.RowLaws.{are_hard, row_at}
-use Rattle.mk_rules.proofs.RequiredLemmas.{numbers_named}
+use Rattle.mk_edges.proofs.RowLaws.{are_hard, row_at}
+use Rattle.mk_edges.proofs.RequiredLemmas.{numbers_named}
 use Rattle.mk_rule_lines.proofs.LineLemmas.{handed_on}
 use Rattle.mk_rules.proofs.building.order_found.Goals as goal
 

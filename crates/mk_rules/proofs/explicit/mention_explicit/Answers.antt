@@ -9,7 +9,7 @@ use Rattle.mk_rule_lines.specs.Explicit.{explicit_targets, names_in}
 use Rattle.mk_rule_lines.specs.Rules.{has}
 use Rattle.mk_rule_lines.specs.declared.rule_line.RuleLine.{RuleLine}
 use Rattle.mk_rule_lines.proofs.ExplicitLemmas.{names_at, names-places}
-use Rattle.mk_rules.specs.Row.{named, IsSomeRow}
+use Rattle.mk_rules.specs.Row.{named}
 use Rattle.mk_rules.proofs.ExplicitLemmas.{mentioned_line, mentioned_none}
 use Rattle.mk_rules.proofs.explicit.mention_explicit.Goals as goal
 

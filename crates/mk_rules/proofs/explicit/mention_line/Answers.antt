@@ -1,4 +1,4 @@
-use Rattle.std.proofs.Common.{◌≡◌, ℕ, List, [], ◌∷◌, true, false, sym, ap, ◌∙◌}
+use Rattle.std.proofs.Common.{◌≡◌, false, sym, ap, ◌∙◌}
 use Rattle.mk_graph.specs.Numbering.{all_added}
 use Rattle.mk_rule_lines.specs.Explicit.{is_bar, is_wait}
 use Rattle.mk_rules.specs.Row.{named, IsSomeRow}

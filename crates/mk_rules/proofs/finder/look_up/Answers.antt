@@ -4,7 +4,7 @@ use Rattle.mk_rule_lines.specs.Explicit.{explicit_of}
 use Rattle.mk_rule_lines.proofs.LineLemmas.{handed_on}
 use Rattle.mk_rule_lines.proofs.ResultLemmas.{if_ok, if_err}
 use Rattle.mk_nodes.specs.Hidden.{IsNamesFault}
-use Rattle.mk_rules.specs.Known.{IsKnown}
+use Rattle.mk_edges.specs.Known.{IsKnown}
 use Rattle.mk_sources.specs.Asked.{IsLookUpFault}
 use Rattle.mk_sources.specs.Looks.{Looks, and_this}
 use Rattle.mk_sources.specs.LooksLaws.{looks_on}

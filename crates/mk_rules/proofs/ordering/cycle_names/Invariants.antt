@@ -1,6 +1,0 @@
-use Rattle.std.proofs.Common.{◌≡◌, map, take}
-use Rattle.mk_graph.specs.Numbering.{name_at}
-use Rattle.mk_rules.proofs.ordering.cycle_names.Given as goal
-
-abbrev pub invariant-loop-node : goal.invariant-loop-node
-invariant-loop-node l = l.list ≡ map (name_at l.names) (take l.node-index l.cycle)
