@@ -157,6 +157,7 @@ fn first_that<T: Tree>(
         if all_can_be(alloc, makers, tree, steps, &taken, &source.names)? {
             return Ok(Some(source));
         }
+        drop(source);
     }
     Ok(None)
 }
@@ -189,6 +190,7 @@ fn chained<T: Tree>(
         if all_can_be(alloc, makers, tree, steps, &[form.rule], &source.names)? {
             return Ok(Some(source));
         }
+        drop(source);
     }
     Ok(None)
 }

@@ -227,6 +227,7 @@ fn searched<T: Tree>(
 {
     let source = implicit_source(alloc, rules, tree, name, own, phony)?;
     if source.is_none() && !rules.may_have_order_only(numbers) {
+        drop(source);
         return Ok(plain(own, left)?);
     }
     ruled_by(alloc, rules, tree, numbers, own, left, stamp, source)

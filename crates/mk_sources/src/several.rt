@@ -40,7 +40,11 @@ fn runs_for<T: Tree>(
     let (numbers, own) = rules.named(name);
     let phony = rules.is_phony(numbers);
     match found_source(alloc, rules, tree, name, own, phony)? {
-        Some(source) => Ok(is_run_of(rule, &source)),
+        Some(source) => {
+            let runs = is_run_of(rule, &source);
+            drop(source);
+            Ok(runs)
+        }
         None => Ok(false),
     }
 }
@@ -88,6 +92,7 @@ pub(crate) fn implicit_source<T: Tree>(
     if is_led(alloc, rules, tree, &source)? {
         Ok(Some(source))
     } else {
+        drop(source);
         Ok(None)
     }
 }

@@ -13,7 +13,7 @@ returns-in-Some-clause-runs g c = λ times now.
     let said = c.in_ok-source.ensures.source times now in
     let is = c.in-Some.is in
     let found : Some c.in-Some.source ≡ found_source (inputs_of c.args.rules.now.lines.now (map.get c.args.rules.now.state.now) times) c.args.name.now = cc in
-    c.is_run_of.ensures ∙ ap (λ (s : Option Source). option_map_or (is_run_of c.args.rule) s false) found
+    c.is_run_of-runs.ensures ∙ ap (λ (s : Option Source). option_map_or (is_run_of c.args.rule) s false) found
 
 pub returns-in-None-clause-runs : goal.returns-in-None-clause-runs
 returns-in-None-clause-runs g c = λ times now.
