@@ -20,7 +20,6 @@ SIGNATURE = re.compile(r"^(?:pub )?([^\s:(){}]+) : ")
 # Lemmas that go with the next change of their crate, since without them each crate above would be proved anew. One that isn't dead
 # any more has to be taken out here.
 WAITING = {
-    "crates/dmk_drive/proofs/DriveLemmas.antt": {"status_shown"},
     "crates/mk_reader/proofs/SearchLemmas.antt": {"read_further"},
 }
 # Names that a proof file gives because the checker asks for them: the answer to a goal, and a proof that is written whole.

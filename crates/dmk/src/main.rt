@@ -5,11 +5,11 @@ mod making;
 mod state_lock;
 
 use bd_lists::Variable;
-use dmk_drive::{Fault, Message, Mode, Options, value_of};
 use dmk_host::{
     FolderFault, SignFault, ask, enter, held_streams, keep_blocks, needs_usual_makefile,
     print_other_makefile, print_signs, read_input, run_anew, tell, tell_fault, with_signs,
 };
+use dmk_reading::{Fault, Message, Mode, Options, value_of};
 use dmk_words::{
     Asked, Later, Request, macro_variables, processors, read_words, with_environment,
     with_flags_seen,

@@ -1,16 +1,17 @@
 //! A run that makes what is asked for.
 ghost use Rattle.std.specs.Prelude.{codes};
-ghost use Rattle.dmk_drive.specs.Keeping.{value_in};
-ghost use Rattle.dmk_drive.specs.Output.{AsksToRun};
+ghost use Rattle.dmk_reading.specs.Keeping.{value_in};
+ghost use Rattle.dmk_reading.specs.Asked.{AsksToRun};
 
 use crate::state_lock::{LockPlace, StateLock};
 use bd_flusher::Receipt;
 use bd_lists::{Exec, Variable};
-use dmk_drive::{FileTexts, FileTree, Options, value_of};
+use dmk_files::{FileTexts, FileTree};
 use dmk_host::{
     HostFiles, Patient, PoolPath, base_asked, beside_recipes, buffered, needs_usual_makefile,
     print_gnu_makefile, print_notes, print_reasons, reports_path, status_columns, with_patience,
 };
+use dmk_reading::{Options, value_of};
 use dmk_run::{Guard, Looks, Means, Printer, build_targets, followed, trust_files};
 use dmk_words::{Later, handed_on};
 use jb_flags::{Handed, Handing};

@@ -1,9 +1,9 @@
 -- What is asked for, by how the words and MAKEFLAGS are read.
 use Rattle.std.proofs.Common.{◌≡◌, ◌⊎◌, ◌∙◌, inl, inr, ℕ, List, sym, subst}
-use Rattle.dmk_drive.specs.Output.{AsksFor, AsksToLook, AsksToRun}
-use Rattle.dmk_drive.specs.declared.options.Mode.{Mode}
-use Rattle.dmk_drive.specs.declared.options.Mode.TheVariants as mode
-use Rattle.dmk_drive.specs.declared.options.Options.{Options}
+use Rattle.dmk_reading.specs.Asked.{AsksFor, AsksToLook, AsksToRun}
+use Rattle.dmk_reading.specs.declared.options.Mode.{Mode}
+use Rattle.dmk_reading.specs.declared.options.Mode.TheVariants as mode
+use Rattle.dmk_reading.specs.declared.options.Options.{Options}
 
 no_dry_run : mode.DryRun ≡ mode.Run → ⊥
 no_dry_run is = cc

@@ -1,7 +1,8 @@
 //! The lines that are run in a dry run too, between the parts of its listing, and the environment of what is run beside recipes.
 use crate::standard_streams::with_patience;
 use bd_lists::Variable;
-use dmk_drive::{AlwaysRun, Options, value_of};
+use dmk_dry::AlwaysRun;
+use dmk_reading::{Options, value_of};
 use dmk_words::{Later, handed_on};
 use jb_host::DryShell;
 use jb_recipe::{Makeflags, environment};

@@ -1,7 +1,7 @@
 //! What a run would make, listed or asked for, also beside a run that writes the state.
 ghost use Rattle.std.specs.Prelude.{codes};
-ghost use Rattle.dmk_drive.specs.Keeping.{value_in};
-ghost use Rattle.dmk_drive.specs.Output.{AsksToLook};
+ghost use Rattle.dmk_reading.specs.Keeping.{value_in};
+ghost use Rattle.dmk_reading.specs.Asked.{AsksToLook};
 
 use crate::always_run::{AlwaysLines, LineSettings, beside_recipes};
 use crate::base::base_asked;
@@ -11,9 +11,9 @@ use crate::reasons::{needs_usual_makefile, print_gnu_makefile, print_notes, prin
 use crate::shell_asked::ShellSource;
 use crate::standard_streams::with_patience;
 use bd_lists::Variable;
-use dmk_drive::{
-    AlwaysRun, Fault, FileTexts, Message, Mode, Options, drive, print_fault, value_of,
-};
+use dmk_dry::{AlwaysRun, drive};
+use dmk_files::FileTexts;
+use dmk_reading::{Fault, Message, Mode, Options, print_fault, value_of};
 use dmk_words::Later;
 use mk_eval::Includes;
 use mk_rules::Tree;

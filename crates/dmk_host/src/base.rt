@@ -1,7 +1,8 @@
 //! What -p prints, before all else.
 use crate::host_files::HostFiles;
 use bd_lists::Variable;
-use dmk_drive::{FileTexts, Options, base_of};
+use dmk_files::FileTexts;
+use dmk_reading::{Options, base_of};
 use mk_eval::Includes;
 use mk_rules::Tree;
 use std::alloc::{AllocError, Global};

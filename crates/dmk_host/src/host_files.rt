@@ -1,13 +1,13 @@
 //! Files and folders by the system's own calls, and the commands of definitions by its shell.
 ghost use Rattle.std.specs.Prelude.{◌≡◌, ℕ, List, None};
-ghost use Rattle.dmk_drive.specs.Stamps.{known_stamp};
+ghost use Rattle.dmk_files.specs.Stamps.{known_stamp};
 
 use crate::always_run::NONE;
 use crate::looks::Looks;
 use crate::standard_streams::with_patience;
 use bd_lists::Variable;
 use byte_strings::ByteStrings;
-use dmk_drive::{FileCalls, FileStatus, FileTexts, FileTree};
+use dmk_files::{FileCalls, FileStatus, FileTexts, FileTree};
 use dmk_words::INPUT;
 use jb_host::{DryShell, Written};
 use mk_profile::Profile;

@@ -2,7 +2,7 @@
 //! `fs::metadata`, and `statx` of `os`, copy each name into a path of 4,096 bytes that they clear: `dmk -q` of 10,000 targets
 //! took 176 million instructions, and takes 80 by this (27 November 2026).
 use crate::unfilled::unfilled;
-use dmk_drive::FileStatus;
+use dmk_files::FileStatus;
 use libc::types::statx;
 use std::io;
 

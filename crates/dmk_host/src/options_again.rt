@@ -1,7 +1,7 @@
 //! What the words ask for, read once more.
 use crate::signs::{SignFault, with_signs};
 use bd_lists::Variable;
-use dmk_drive::Options;
+use dmk_reading::Options;
 use dmk_words::{Asked, Later, Request, read_words, with_environment};
 use std::alloc::AllocError;
 

@@ -1,7 +1,8 @@
 //! What the system said of the files that a fault is about, behind the fault.
 
 use crate::host_files::HostFiles;
-use dmk_drive::{FileTexts, Options, print_lines};
+use dmk_files::FileTexts;
+use dmk_reading::{Options, print_lines};
 use plain_text::Plain;
 use st_disk::{FailedCallMessage, FileDisk, SystemFolder, Which};
 use std::alloc::Global;

@@ -1,7 +1,8 @@
 //! The shell that runs lines in a dry run.
 use crate::host_files::HostFiles;
 use bd_lists::Variable;
-use dmk_drive::{Fault, FileTexts, Makefiles, Options, first_macros, items_of};
+use dmk_files::FileTexts;
+use dmk_reading::{Fault, Makefiles, Options, first_macros, items_of};
 use mk_eval::Includes;
 use mk_macros::{Dynamic, MacroFault, Macros};
 use mk_plan::RecipeFault;

@@ -3,7 +3,7 @@ use crate::sign::{Sign, Signed, by_sign};
 use crate::standard_streams::with_patience;
 use bd_lists::Variable;
 use byte_strings::ByteString;
-use dmk_drive::Options;
+use dmk_reading::Options;
 use jb_host::DryShell;
 use mk_eval::{doubled_text, macro_refused, output_text};
 use mk_macros::{Dynamic, MacroFault, Macros, Rank};

@@ -1,6 +1,6 @@
 //! The terminal that standard error may be, on which a run shows how far it is.
 use bd_lists::Variable;
-use dmk_drive::value_of;
+use dmk_reading::value_of;
 use jb_runner::{Source, source_of};
 use std::io::IsTerminal;
 use std::process::{Command, Stdio};

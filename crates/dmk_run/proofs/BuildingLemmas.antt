@@ -22,7 +22,7 @@ use Rattle.jb_closing.specs.Report.{ends_well}
 use Rattle.dmk_run.specs.Judged.{IsBorneOut}
 use Rattle.dmk_run.specs.Known.{IsTold}
 use Rattle.dmk_run.specs.Made.{HasEnded, IsMade}
-use Rattle.dmk_drive.specs.Lost.{with_unmade}
+use Rattle.dmk_reading.specs.Lost.{with_unmade}
 use Rattle.dmk_run.specs.Settled.{IsNoneToRun}
 use Rattle.dmk_run.proofs.DriverLemmas.{ended_with}
 

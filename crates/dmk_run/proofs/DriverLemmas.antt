@@ -19,13 +19,13 @@ use Rattle.st_recovery.specs.Stored.{AllRecover}
 use Rattle.st_recovery.proofs.RecoversLemmas.{one_recovery}
 use Rattle.bd_lists.specs.declared.recipe.Variable.{Variable}
 use Rattle.bd_places.specs.declared.end.End.{End}
-use Rattle.dmk_drive.specs.Keeping.{keeps}
-use Rattle.dmk_drive.specs.Planned.{IsGraphOf, IsStateOn, judged_graph}
+use Rattle.dmk_reading.specs.Keeping.{keeps}
+use Rattle.dmk_reading.specs.Planned.{IsGraphOf, IsStateOn, judged_graph}
 use Rattle.dmk_run.specs.InTurn.{IsParted}
 use Rattle.dmk_run.specs.Opened.{RecoversAsBefore}
 use Rattle.dmk_run.specs.Judged.{IsBorneOut}
 use Rattle.dmk_run.specs.Made.{HasEnded, IsMade, MakesItems}
-use Rattle.dmk_drive.specs.Lost.{goes_without, with_unmade}
+use Rattle.dmk_reading.specs.Lost.{goes_without, with_unmade}
 use Rattle.dmk_run.specs.declared.stop.Stop.{Stop}
 
 -- what isn't parted may have left anything

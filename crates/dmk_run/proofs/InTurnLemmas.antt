@@ -9,11 +9,11 @@ use Rattle.mk_profile.specs.declared.profile.Profile.{Profile}
 use Rattle.st_disk.specs.Crash.{Sides}
 use Rattle.st_disk.specs.declared.which.Which.{Which}
 use Rattle.bd_lists.specs.declared.recipe.Variable.{Variable}
-use Rattle.dmk_drive.specs.Definitions.{first_defined}
-use Rattle.dmk_drive.specs.Keeping.{keeps}
-use Rattle.dmk_drive.specs.Planned.{AreItems, IsStateOn}
-use Rattle.dmk_drive.specs.declared.makefiles.Makefiles.{Makefiles}
-use Rattle.dmk_drive.specs.declared.options.Options.{Options}
+use Rattle.dmk_reading.specs.Definitions.{first_defined}
+use Rattle.dmk_reading.specs.Keeping.{keeps}
+use Rattle.dmk_reading.specs.Planned.{AreItems, IsStateOn}
+use Rattle.dmk_reading.specs.declared.makefiles.Makefiles.{Makefiles}
+use Rattle.dmk_reading.specs.declared.options.Options.{Options}
 use Rattle.st_state.specs.State.{StateMap}
 use Rattle.dmk_run.specs.Made.{Makes, MakesItems}
 use Rattle.dmk_run.specs.Opened.{RecoversAsBefore}

@@ -3,7 +3,7 @@ use Rattle.std.proofs.Common.{◌≡◌, Bool, true, false, Option, Some, None, 
 use Rattle.std.specs.Prelude.{unwrap_or}
 use Rattle.mk_nodes.specs.declared.graph.Graph.{Graph}
 use Rattle.st_state.specs.State.{StateMap}
-use Rattle.dmk_drive.specs.Planned.{judged_graph}
+use Rattle.dmk_reading.specs.Planned.{judged_graph}
 
 -- the state that the graph was built by, whether the graph forgets it or not
 pub recorded_so : (all : Bool) (graph judged : Graph) (forgotten : Option StateMap) (state : StateMap) → judged ≡ judged_graph all graph →

@@ -17,7 +17,7 @@ use Rattle.st_records.specs.Limits.{IsGood}
 use Rattle.st_records.specs.declared.version.Version.TheVariants.{Two}
 use Rattle.st_records.specs.declared.record.Record.{Record}
 use Rattle.st_file.specs.Batch.{may_stand}
-use Rattle.dmk_drive.specs.Passing.{no_marks}
+use Rattle.dmk_reading.specs.Passing.{no_marks}
 use Rattle.dmk_run.specs.Taken.{done_of, Takes, is_taken, cannot_be_recorded, is_made, has_nothing_to_run, is_faulty, TakesAll, at_end, behind, AreTaken}
 
 -- the records so far: with those of the nodes that are left they are those of all

@@ -3,7 +3,7 @@ use Rattle.std.proofs.Common.{◌≡◌, ◌≢◌, ◌<◌, ◌⊎◌, inl, inr
 use Rattle.std.proofs.Math.Logic.{∥∥₁_map}
 use Rattle.std.specs.FinMap as map
 use Rattle.bd_lists.specs.declared.recipe.Variable.{Variable}
-use Rattle.dmk_drive.specs.Planned.{IsGraphOf, IsWholeGraphOf}
+use Rattle.dmk_reading.specs.Planned.{IsGraphOf, IsWholeGraphOf}
 use Rattle.mk_profile.specs.declared.profile.Profile.{Profile}
 use Rattle.mk_reader.specs.declared.item.Item.{Item}
 use Rattle.mk_nodes.specs.declared.graph.Graph.{Graph}

@@ -6,10 +6,10 @@ use Rattle.mk_reader.specs.declared.item.Item.{Item}
 use Rattle.st_disk.specs.Crash.{Sides}
 use Rattle.st_disk.specs.declared.which.Which.{Which}
 use Rattle.bd_lists.specs.declared.recipe.Variable.{Variable}
-use Rattle.dmk_drive.specs.Definitions.{first_defined}
-use Rattle.dmk_drive.specs.Keeping.{keeps}
-use Rattle.dmk_drive.specs.Planned.{AreItems}
-use Rattle.dmk_drive.specs.declared.options.Options.{Options}
+use Rattle.dmk_reading.specs.Definitions.{first_defined}
+use Rattle.dmk_reading.specs.Keeping.{keeps}
+use Rattle.dmk_reading.specs.Planned.{AreItems}
+use Rattle.dmk_reading.specs.declared.options.Options.{Options}
 use Rattle.dmk_run.specs.Made.{Makes}
 use Rattle.dmk_run.specs.declared.stop.Stop.{Stop}
 use Rattle.dmk_run.specs.declared.stop.Stop.TheVariants as stops

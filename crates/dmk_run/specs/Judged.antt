@@ -4,7 +4,7 @@ use Rattle.mk_nodes.specs.declared.graph.Graph.{Graph}
 use Rattle.mk_plan.specs.Passing.{PassesUnlisted}
 use Rattle.bd_places.specs.declared.end.End.{End}
 use Rattle.bd_places.specs.declared.end.End.TheVariants as end
-use Rattle.dmk_drive.specs.Passing.{ListsNone}
+use Rattle.dmk_reading.specs.Passing.{ListsNone}
 
 -- whether a node that ended so counts as remade
 abbrev pub counts_as_remade : End → Bool

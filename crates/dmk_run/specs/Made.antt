@@ -15,13 +15,13 @@ use Rattle.bd_flusher.specs.declared.site.receipt.Receipt.{Receipt}
 use Rattle.jb_closing.specs.Agreement.{AreThoseOf}
 use Rattle.jb_closing.specs.Closing.{AreTrueOf}
 use Rattle.jb_closing.specs.Report.{ends_well}
-use Rattle.dmk_drive.specs.Definitions.{first_defined}
-use Rattle.dmk_drive.specs.declared.makefiles.Makefiles.{Makefiles}
-use Rattle.dmk_drive.specs.Planned.{AreItems, IsGraphOf, IsStateOn, judged_graph}
-use Rattle.dmk_drive.specs.Keeping.{keeps}
+use Rattle.dmk_reading.specs.Definitions.{first_defined}
+use Rattle.dmk_reading.specs.declared.makefiles.Makefiles.{Makefiles}
+use Rattle.dmk_reading.specs.Planned.{AreItems, IsGraphOf, IsStateOn, judged_graph}
+use Rattle.dmk_reading.specs.Keeping.{keeps}
 use Rattle.dmk_run.specs.Judged.{IsBorneOut}
 use Rattle.dmk_run.specs.Known.{AreKnownDone}
-use Rattle.dmk_drive.specs.Lost.{goes_without}
+use Rattle.dmk_reading.specs.Lost.{goes_without}
 use Rattle.mk_eval.specs.Output.{World}
 
 -- how the nodes of a graph ended, which is true of what the disk holds: workers gathered the receipts of all that was told, each

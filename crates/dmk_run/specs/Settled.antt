@@ -2,7 +2,7 @@
 use Rattle.std.specs.Prelude.{◌≡◌, Bool, true}
 use Rattle.mk_nodes.specs.declared.graph.Graph.{Graph}
 use Rattle.st_state.specs.State.{StateMap}
-use Rattle.dmk_drive.specs.Passing.{ListsNone}
+use Rattle.dmk_reading.specs.Passing.{ListsNone}
 use Rattle.dmk_run.specs.Known.{AreKnownDone}
 
 -- a dry run lists no recipe of the graph. Where state is kept, it knows each node that has a recipe as done

@@ -16,7 +16,7 @@ use Rattle.st_records.specs.declared.version.Version.TheVariants.{Two}
 use Rattle.st_records.specs.declared.record.Explicit.TheVariants.{Known}
 use Rattle.st_records.specs.declared.record.Record.{Record}
 use Rattle.st_records.specs.declared.record.Record.TheVariants as records
-use Rattle.dmk_drive.specs.Passing.{no_marks}
+use Rattle.dmk_reading.specs.Passing.{no_marks}
 
 -- the record that the recipe of node n was run to its end with these commands: it names the prerequisites that the makefile names
 -- now, and no hidden ones

@@ -11,7 +11,7 @@ ghost use Rattle.dmk_run.specs.InTurn.{IsParted};
 ghost use Rattle.dmk_run.specs.Judged.{AreJudged, IsBorneOut};
 ghost use Rattle.dmk_run.specs.Known.{AreKnownDone, IsTold};
 ghost use Rattle.dmk_run.specs.Made.{IsMade};
-ghost use Rattle.dmk_drive.specs.Lost.{with_unmade};
+ghost use Rattle.dmk_reading.specs.Lost.{with_unmade};
 
 use crate::counting::tell_planned;
 use crate::driver::Means;
@@ -22,7 +22,7 @@ use crate::unmade::with_unmade;
 use bd_flusher::{FlushFault, Receipt, Site};
 use bd_lists::Exec;
 use bd_places::End;
-use dmk_drive::value_of;
+use dmk_reading::value_of;
 use jb_closing::{Report, RunFault};
 use jb_recipe::{Conduct, Place, Say};
 use jb_runner::{Parts, Slotting, run_slotted};

@@ -1,12 +1,12 @@
 //! How a run goes, by the words of the command line and the makefile.
 
 ghost use Rattle.std.specs.Prelude.{◌≡◌, ◌||◌, if◌then◌else◌, IfOk};
-ghost use Rattle.dmk_drive.specs.Lost.{goes_without};
+ghost use Rattle.dmk_reading.specs.Lost.{goes_without};
 ghost use Rattle.jb_recipe.specs.declared.variables.Makeflags.TheVariants as flags;
 
 use bd_lists::Variable;
 use byte_strings::ByteString;
-use dmk_drive::goes_without;
+use dmk_reading::goes_without;
 use jb_recipe::{Conduct, Makeflags};
 use mk_plan::Telling;
 use mk_profile::Profile;

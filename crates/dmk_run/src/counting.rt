@@ -1,6 +1,6 @@
 //! How many recipes a run is to run, for whoever follows it.
 
-use dmk_drive::{is_lost, lost_nodes};
+use dmk_reading::{is_lost, lost_nodes};
 use jb_recipe::{Say, Step};
 use mk_nodes::Graph;
 use mk_plan::{has_text_names, pass_in};

@@ -2,8 +2,8 @@
 ghost use Rattle.std.specs.Prelude.{◌≡◌, ◌≢◌, ◌≤◌, ℕ, ℤ, List, Option, Ok, codes, false, IfOk, IfErr, IsErrAnd, IsOk};
 ghost use Rattle.mk_profile.specs.declared.profile.Profile.TheVariants.{Strict};
 ghost use Rattle.st_disk.specs.Moments.{now};
-ghost use Rattle.dmk_drive.specs.Keeping.{value_in};
-ghost use Rattle.dmk_drive.specs.Output.{AsksToRun};
+ghost use Rattle.dmk_reading.specs.Keeping.{value_in};
+ghost use Rattle.dmk_reading.specs.Asked.{AsksToRun};
 ghost use Rattle.dmk_run.specs.InTurn.{MakesPart, MakesWithLost, MadeInTurn, MadeBehind, IsMadeInTurn, IsParted, LeavesDisk};
 
 use crate::driver::{Means, build_at_once, status_of};
@@ -15,7 +15,7 @@ use crate::stop::Stop;
 use bd_flusher::Receipt;
 use bd_lists::Exec;
 use byte_strings::ByteStrings;
-use dmk_drive::Options;
+use dmk_reading::Options;
 use jb_recipe::Place;
 use jb_slots::Banks;
 use mk_eval::Includes;

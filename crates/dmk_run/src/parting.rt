@@ -2,7 +2,7 @@
 use crate::refusing::ready_recipes;
 use crate::stop::Stop;
 use byte_strings::ByteString;
-use dmk_drive::{is_lost, lost_nodes};
+use dmk_reading::{is_lost, lost_nodes};
 use mk_nodes::Graph;
 use mk_plan::{has_text_names, pass_in};
 use std::alloc::{AllocError, Global};

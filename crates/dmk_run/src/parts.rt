@@ -5,7 +5,7 @@ ghost use Rattle.dmk_run.specs.InTurn.{AreParts, GoesOn, EndsRun, Joined};
 use crate::stop::Stop;
 use bd_lists::Variable;
 use byte_strings::ByteStrings;
-use dmk_drive::{Makefiles, Options};
+use dmk_reading::{Makefiles, Options};
 use std::alloc::{AllocError, Global};
 
 /// The goals in parts: one ends behind each goal whose mark is set, and the last behind the last goal.

@@ -5,10 +5,10 @@ ghost use Rattle.mk_rules.specs.Faults.{IsRuleFault};
 ghost use Rattle.mk_rules.specs.Limit.{node_limit};
 ghost use Rattle.mk_rule_lines.specs.declared.fault.RuleFault.{RuleFault as RulesFault};
 ghost use Rattle.mk_nodes.specs.declared.graph.Graph.{Graph as MadeGraph};
-ghost use Rattle.dmk_drive.specs.Definitions.{first_defined};
-ghost use Rattle.dmk_drive.specs.Planned.{IsGraphOf, judged_graph};
-ghost use Rattle.dmk_drive.specs.declared.fault.Fault.TheVariants as faults;
-ghost use Rattle.dmk_drive.specs.Lost.{goes_without};
+ghost use Rattle.dmk_reading.specs.Definitions.{first_defined};
+ghost use Rattle.dmk_reading.specs.Planned.{IsGraphOf, judged_graph};
+ghost use Rattle.dmk_reading.specs.declared.fault.Fault.TheVariants as faults;
+ghost use Rattle.dmk_reading.specs.Lost.{goes_without};
 ghost use Rattle.dmk_run.specs.Planned.{recorded_in};
 ghost use Rattle.dmk_run.specs.declared.stop.Stop.TheVariants as stops;
 
@@ -19,12 +19,12 @@ use crate::stop::Stop;
 use crate::unmade::tell_unmade;
 use bd_lists::Variable;
 use byte_strings::{ByteString, ByteStrings};
-use dmk_drive::{Fault, first_macros, judged_graph};
+use dmk_reading::judged_graph;
 use jb_recipe::Conduct;
 use mk_nodes::Graph;
 use mk_profile::Profile;
 use mk_reader::Item;
-use mk_rules::{Tree, node_limit};
+use mk_rules::Tree;
 use st_records::HashKey;
 use st_state::State;
 use std::alloc::{AllocError, Global};
@@ -137,20 +137,19 @@ pub(crate) fn graph_of<T: Tree>(
     ensures state { IfOk result (λ graph. graph.state ≡ state) }
     ensures times { (times : List ℕ → Option ℤ) → T.allows tree.new times → T.allows tree.old times }
 {
-    let macros = first_macros(alloc, profile, definitions, environment)?;
-    let limit = node_limit(profile);
-    match mk_rules::build(
+    match dmk_reading::graph_of(
         alloc,
-        items,
-        macros,
+        profile,
+        environment,
+        definitions,
         targets,
         tree,
+        items,
         state,
-        limit,
         goes_without,
     ) {
         Ok(graph) => Ok(graph),
-        Err(fault) => Err(Stop::Before(Fault::Rules(fault))),
+        Err(fault) => Err(Stop::Before(fault)),
     }
 }
 

@@ -6,7 +6,7 @@ use crate::status_line::StatusLine;
 use crate::streams::Streams;
 use crate::trusting::Trusted;
 use bd_lists::Ended;
-use dmk_drive::{Message, print_fault, print_lines, print_note};
+use dmk_reading::{Message, print_fault, print_lines, print_note};
 use jb_closing::RunFault;
 use jb_recipe::{News, Say, Step};
 use mk_eval::Includes;

@@ -2,7 +2,7 @@
 
 use crate::stop::Stop;
 use byte_strings::ByteString;
-use dmk_drive::{Fault, is_lost, lost_nodes};
+use dmk_reading::{Fault, is_lost, lost_nodes};
 use mk_macros::{Dynamic, MacroFault};
 use mk_nodes::Graph;
 use mk_plan::{RecipeFault, has_text_names, pass_in};

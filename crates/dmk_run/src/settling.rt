@@ -6,7 +6,7 @@ ghost use Rattle.dmk_run.specs.Settled.{IsNoneToRun};
 use crate::known::are_known_done;
 use crate::planning::Plan;
 use byte_strings::ByteStrings;
-use dmk_drive::unlisted;
+use dmk_reading::unlisted;
 use jb_recipe::Say;
 use mk_nodes::Graph;
 use mk_plan::{Passed, Telling, told_lines};

@@ -1,9 +1,9 @@
 //! Names that have no file and that nothing makes, where a run goes on without them.
 ghost use Rattle.std.specs.Prelude.{◌≡◌, ◌≤◌};
-ghost use Rattle.dmk_drive.specs.Lost.{with_unmade};
+ghost use Rattle.dmk_reading.specs.Lost.{with_unmade};
 
 use crate::printer::Printer;
-use dmk_drive::unmade_names;
+use dmk_reading::unmade_names;
 use mk_nodes::Graph;
 use std::alloc::{AllocError, Global};
 use std::io::Write;

@@ -1,6 +1,6 @@
 //! The options of the command line, as `clap` reads them and as the help tells them.
 use clap::{Arg, ArgAction, ArgMatches, Command};
-use dmk_drive::MAX_WORKERS;
+use dmk_reading::MAX_WORKERS;
 use std::alloc::{AllocError, Global};
 
 const ABOUT: &str =

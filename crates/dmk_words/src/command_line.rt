@@ -9,7 +9,7 @@ use bd_lists::Variable;
 use byte_strings::{ByteString, ByteStrings};
 use clap::error::ErrorKind;
 use clap::{ArgAction, ArgMatches};
-use dmk_drive::{MAX_WORKERS, Makefiles, Mode, Options, Telling, value_of};
+use dmk_reading::{MAX_WORKERS, Makefiles, Mode, Options, Telling, value_of};
 use jb_auth::posix;
 use jb_flags::{Above, PROFILE, workers_by};
 use mk_profile::Profile;

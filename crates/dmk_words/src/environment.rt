@@ -3,7 +3,7 @@ use crate::flags::handed_on;
 use crate::request::Later;
 use bd_lists::Variable;
 use byte_strings::ByteString;
-use dmk_drive::{Options, usual_state, value_of};
+use dmk_reading::{Options, usual_state, value_of};
 use mk_eval::doubled_text;
 use mk_profile::Profile;
 use std::alloc::{AllocError, Global};

@@ -2,7 +2,7 @@
 
 use crate::request::Later;
 use byte_strings::ByteStrings;
-use dmk_drive::Options;
+use dmk_reading::Options;
 use jb_flags::{Handed, definition_words, has_value, jobs_word, words_of};
 use std::alloc::{AllocError, Global};
 

@@ -1,5 +1,5 @@
 //! The number of a -j: that of the processors, where none stands behind it.
-use dmk_drive::MAX_WORKERS;
+use dmk_reading::MAX_WORKERS;
 use std::alloc::{AllocError, Global};
 use std::thread::{self, Threads};
 

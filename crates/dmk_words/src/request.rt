@@ -3,7 +3,7 @@ ghost use Rattle.std.specs.Prelude.{◌≡◌};
 
 use crate::environment::given_in;
 use bd_lists::Variable;
-use dmk_drive::Options;
+use dmk_reading::Options;
 use mk_profile::Profile;
 use std::alloc::AllocError;
 use std::io;

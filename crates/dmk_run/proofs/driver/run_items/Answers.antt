@@ -2,8 +2,8 @@ use Rattle.std.proofs.Common.{refl, sym, subst, ◌∙◌, ℕ, ℤ, List, Optio
 use Rattle.st_memory.specs.MemDisk.{memory_bytes, memory_moments}
 use Rattle.st_disk.specs.Moments.{now}
 use Rattle.mk_rule_lines.proofs.ResultLemmas.{if_ok}
-use Rattle.dmk_drive.specs.Keeping.{keeps}
-use Rattle.dmk_drive.proofs.AllowedLemmas.{each_ok}
+use Rattle.dmk_reading.specs.Keeping.{keeps}
+use Rattle.dmk_reading.proofs.AllowedLemmas.{each_ok}
 use Rattle.dmk_run.specs.Made.{MakesItems}
 use Rattle.dmk_run.proofs.DriverLemmas.{found_without_state, same_as_before}
 use Rattle.dmk_run.proofs.driver.run_items.Goals as goal

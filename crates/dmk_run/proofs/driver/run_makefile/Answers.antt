@@ -1,8 +1,8 @@
 use Rattle.std.proofs.Common.{subst}
 use Rattle.mk_rule_lines.proofs.ResultLemmas.{if_ok}
-use Rattle.dmk_drive.specs.Definitions.{first_defined}
-use Rattle.dmk_drive.specs.Keeping.{keeps}
-use Rattle.dmk_drive.specs.Planned.{AreItems}
+use Rattle.dmk_reading.specs.Definitions.{first_defined}
+use Rattle.dmk_reading.specs.Keeping.{keeps}
+use Rattle.dmk_reading.specs.Planned.{AreItems}
 use Rattle.dmk_run.proofs.DriverLemmas.{untouched_or}
 use Rattle.dmk_run.proofs.driver.run_makefile.Goals as goal
 

@@ -3,7 +3,7 @@ use Rattle.st_disk.specs.Moments.{now}
 use Rattle.st_state.specs.State.{StateMap}
 use Rattle.st_state.specs.Keepable.{AllCanBeKept}
 use Rattle.st_recovery.specs.Stored.{IsStoredOn}
-use Rattle.dmk_drive.proofs.AllowedLemmas.{each_ok}
+use Rattle.dmk_reading.proofs.AllowedLemmas.{each_ok}
 use Rattle.dmk_run.specs.Made.{MakesItems}
 use Rattle.dmk_run.proofs.DriverLemmas.{made_items, left_as_before}
 use Rattle.dmk_run.proofs.driver.run_over.Goals as goal

@@ -1,6 +1,6 @@
 use Rattle.std.proofs.Common.{Vec, Global, ap, subst, ◌∙◌}
 use Rattle.bd_lists.specs.declared.recipe.Variable.{Variable}
-use Rattle.dmk_drive.specs.Planned.{IsGraphOf}
+use Rattle.dmk_reading.specs.Planned.{IsGraphOf}
 use Rattle.dmk_run.proofs.PlanningLemmas.{recorded_so}
 use Rattle.dmk_run.proofs.planning.planned.Goals as goal
 

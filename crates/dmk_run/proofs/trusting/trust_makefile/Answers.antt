@@ -1,9 +1,9 @@
 use Rattle.std.proofs.Common.{◌≡◌, true, List, sym, subst, ◌∙◌}
 use Rattle.bd_lists.specs.declared.recipe.Variable.{Variable}
 use Rattle.mk_rule_lines.proofs.ResultLemmas.{if_ok}
-use Rattle.dmk_drive.specs.Definitions.{first_defined}
-use Rattle.dmk_drive.specs.Keeping.{keeps}
-use Rattle.dmk_drive.specs.Planned.{AreItems}
+use Rattle.dmk_reading.specs.Definitions.{first_defined}
+use Rattle.dmk_reading.specs.Keeping.{keeps}
+use Rattle.dmk_reading.specs.Planned.{AreItems}
 use Rattle.dmk_run.proofs.trusting.trust_makefile.Goals as goal
 
 pub returns-clause-left : goal.returns-clause-left

@@ -1,6 +1,6 @@
 use Rattle.st_disk.specs.Moments.{now}
 use Rattle.std.specs.FinMap as map
-use Rattle.dmk_drive.specs.Planned.{IsWholeGraphOf}
+use Rattle.dmk_reading.specs.Planned.{IsWholeGraphOf}
 use Rattle.dmk_run.proofs.TrustingLemmas.{leaves, only_opened, then_trusted}
 use Rattle.dmk_run.proofs.trusting.trust_on.Goals as goal
 

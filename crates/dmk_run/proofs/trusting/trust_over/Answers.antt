@@ -3,8 +3,8 @@ use Rattle.std.specs.FinMap as map
 use Rattle.st_disk.specs.Moments.{now}
 use Rattle.st_disk.proofs.MomentLaws.{started}
 use Rattle.st_recovery.proofs.StoredLemmas.{all_recover}
-use Rattle.dmk_drive.specs.Planned.{IsWholeGraphOf}
-use Rattle.dmk_drive.proofs.PassingLemmas.{order_below}
+use Rattle.dmk_reading.specs.Planned.{IsWholeGraphOf}
+use Rattle.dmk_reading.proofs.PassingLemmas.{order_below}
 use Rattle.dmk_run.proofs.TrustingLemmas.{as_whole, of_taken, over_graph, without_calls}
 use Rattle.dmk_run.proofs.trusting.trust_over.Goals as goal
 

@@ -1,5 +1,5 @@
 use Rattle.std.proofs.Common.{codes}
-use Rattle.dmk_drive.specs.Keeping.{value_in}
+use Rattle.dmk_reading.specs.Keeping.{value_in}
 use Rattle.dmk_host.proofs.ModeLemmas.{looks}
 use Rattle.dmk_host.proofs.asking.Look.if_asked.Goals as goal
 

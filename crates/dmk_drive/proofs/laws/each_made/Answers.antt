@@ -1,6 +1,0 @@
-use Rattle.dmk_drive.proofs.PassingLemmas.{each_made}
-use Rattle.dmk_drive.proofs.laws.each_made.Goals as goal
-
-pub returns : goal.returns
-returns g c = λ world times makefiles profile definitions environment targets goes_on seen plan dropped unmade is.
-    each_made world times makefiles profile definitions environment targets goes_on g.D.Disk.honest seen plan dropped unmade is

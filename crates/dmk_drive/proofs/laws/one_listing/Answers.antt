@@ -1,5 +1,0 @@
-use Rattle.dmk_drive.proofs.ListingLemmas.{lists_once}
-use Rattle.dmk_drive.proofs.laws.one_listing.Goals as goal
-
-pub returns : goal.returns
-returns c = λ keeping graph marks order a b h k. lists_once keeping graph order marks a b h k

@@ -1,5 +1,0 @@
-use Rattle.dmk_drive.proofs.KeepingLemmas.{keep_lines}
-use Rattle.dmk_drive.proofs.laws.one_reading_of_the_settings.Goals as goal
-
-pub returns : goal.returns
-returns c = keep_lines

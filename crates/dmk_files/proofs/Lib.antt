@@ -1,0 +1,5 @@
+pub mod CommandLemmas
+pub mod FileLemmas
+pub mod KnownLemmas
+pub mod ListedLemmas
+pub mod StampLemmas

@@ -1,0 +1,10 @@
+pub mod AllowedLemmas
+pub mod BaseLemmas
+pub mod DefinitionLemmas
+pub mod GraphLemmas
+pub mod KeepingLemmas
+pub mod LostLemmas
+pub mod MakefileLemmas
+pub mod OutputLemmas
+pub mod OwnLemmas
+pub mod PassingLemmas

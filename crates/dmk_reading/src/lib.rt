@@ -1,0 +1,37 @@
+//! From the words' options, the environment and makefiles to a graph, and what is said of each way there.
+//!
+//! It reads the makefiles and runs no recipe. Commands of definitions are run.
+#![tactic(auto)]
+
+mod base;
+mod built_in;
+mod definitions;
+mod fault;
+mod graph;
+mod keeping;
+mod laws;
+mod lost;
+mod makefile;
+mod makefiles;
+mod messages;
+mod options;
+mod output;
+mod own_rules;
+mod passing;
+mod state_name;
+
+pub use base::base_of;
+pub use definitions::first_macros;
+pub use fault::Fault;
+pub use graph::{graph_of, judged_graph};
+pub use keeping::{keeps_state, value_of};
+pub use laws::{one_makefile, one_reading_of_the_settings, plan_of_the_graph};
+pub use lost::{goes_without, is_lost, lost_nodes, unmade_names};
+pub use makefile::items_of;
+pub use makefiles::Makefiles;
+pub use messages::Message;
+pub use mk_plan::Telling;
+pub use options::{MAX_WORKERS, Mode, Options};
+pub use output::{print_fault, print_lines, print_note, write_text};
+pub use passing::unlisted;
+pub use state_name::usual_state;
