@@ -1,6 +1,6 @@
 -- Where a text would have a value that GNU make has built in. Own; that GNU make passes over what stands before a line's command is its
 -- manual's, "Recipe Echoing", "Errors in Recipes" and "Instead of Executing Recipes", and make(1S)'s.
-use Rattle.std.specs.Prelude.{ℕ, Bool, not, ◌&&◌, ◌||◌, ◌==◌, List, [], ◌∷◌, Option, Some, None, take, if◌then◌else◌}
+use Rattle.std.specs.Prelude.{ℕ, Bool, not, ◌||◌, ◌==◌, List, [], ◌∷◌, Option, Some, None, take, drop, if◌then◌else◌}
 use Rattle.std.specs.List.{list_any, prefix_len}
 use Rattle.byte_strings.specs.Blanks.{is_blank}
 use Rattle.mk_notes.specs.Names.{is_command, is_of_run}
@@ -15,15 +15,17 @@ abbrev pub behind_prefixes : List ℕ → List ℕ
 behind_prefixes [] = []
 behind_prefixes (b ∷ text) = if is_prefix b || is_blank b then behind_prefixes text else b ∷ text
 
-abbrev pub is_colon : ℕ → Bool
-is_colon b = b == 58
-
 abbrev pub differs : (closing : ℕ) → ℕ → Bool
 differs closing b = not (b == closing)
 
--- a name that is no text to be expanded itself, and isn't changed
-abbrev pub plain : (name : List ℕ) → Option (List ℕ)
-plain name = if list_any is_dollar name || list_any is_colon name then None else Some name
+-- the name of a text in brackets: what stands before its first `:`, where a `=` follows, which changes the words of the value; else all of it
+abbrev pub unchanged : (text : List ℕ) → List ℕ
+unchanged text =
+    if list_any (λ b. b == 61) (drop (prefix_len (differs 58) text) text) then take (prefix_len (differs 58) text) text else text
+
+-- a name that is no text to be expanded itself
+abbrev pub plain : (text : List ℕ) → Option (List ℕ)
+plain text = if list_any is_dollar (unchanged text) then None else Some (unchanged text)
 
 abbrev pub plain_within : (closing : Option ℕ) (inner : List ℕ) → Option (List ℕ)
 plain_within None inner = None

@@ -1,7 +1,7 @@
 //! Where a text would have a value that GNU make has built in.
 ghost use Rattle.std.specs.Prelude.{◌≡◌, ◌≤◌, length, option_map};
 ghost use Rattle.std.specs.List.{prefix_len};
-ghost use Rattle.mk_notes.specs.BuiltIn.{is_prefix, behind_prefixes, differs, plain, name_behind, first_name, command_of, of_run};
+ghost use Rattle.mk_notes.specs.BuiltIn.{is_prefix, behind_prefixes, differs, unchanged, plain, name_behind, first_name, command_of, of_run};
 
 use crate::names::{is_command, is_of_run};
 use crate::notes::Notes;
@@ -43,11 +43,20 @@ fn len_before(bytes: &[u8], closing: u8) -> usize
     count
 }
 
-/// The name, unless it is changed or holds references.
-fn plain(name: &[u8]) -> Option<&[u8]>
-    ensures { option_map (λ name. name.now) result ≡ plain name.now }
+/// The name of a macro whose words are changed, or else the whole text in the brackets.
+pub(crate) fn unchanged(text: &[u8]) -> &[u8]
+    ensures { result.now ≡ unchanged text.now }
 {
-    if name.contains(&b'$') || name.contains(&b':') {
+    let (name, change) = text.split_at(len_before(text, b':'));
+    if change.contains(&b'=') { name } else { text }
+}
+
+/// The name that a text in brackets has, unless it holds references.
+fn plain(text: &[u8]) -> Option<&[u8]>
+    ensures { option_map (λ name. name.now) result ≡ plain text.now }
+{
+    let name = unchanged(text);
+    if name.contains(&b'$') {
         return None;
     }
     Some(name)
@@ -60,8 +69,8 @@ fn name_behind(behind: &[u8]) -> Option<&[u8]>
     let (opening, inner) = behind.split_first()?;
     match closing(*opening) {
         Some(closing) if inner.contains(&closing) => {
-            let (name, _rest) = inner.split_at(len_before(inner, closing));
-            plain(name)
+            let (text, _rest) = inner.split_at(len_before(inner, closing));
+            plain(text)
         }
         _ => None,
     }

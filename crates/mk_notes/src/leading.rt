@@ -1,28 +1,48 @@
 //! Recipe lines that begin with a macro which, where it is empty, leaves a prefix in front.
 ghost use Rattle.std.specs.Prelude.{◌≡◌};
 
-use crate::built_in::{behind_prefixes, is_prefix};
+use crate::built_in::{behind_prefixes, is_prefix, unchanged};
 use crate::note::{Note, Subject};
 use crate::notes::Notes;
+use crate::references::closing;
 use byte_strings::{ByteString, trim_start};
 use mk_profile::Profile;
 use std::alloc::{AllocError, Global};
 
-/// The name in brackets that a text begins with, and what follows them. A name that is changed, or holds references, is none.
-fn bracketed(text: &[u8]) -> Option<(&[u8], &[u8])> {
-    let behind = text.strip_prefix(b"$".as_slice())?;
-    let (opening, inner) = behind.split_first()?;
-    let closing = match *opening {
-        b'(' => b')',
-        b'{' => b'}',
-        _ => return None,
-    };
+/// The name in brackets behind the opening one, and what follows them. One that holds references is none.
+fn bracketed(inner: &[u8], closing: u8) -> Option<(&[u8], &[u8])> {
     let end = inner.iter().position(|byte| *byte == closing)?;
-    let (name, rest) = inner.split_at(end);
-    if name.contains(&b'$') || name.contains(&b':') {
+    let (text, rest) = inner.split_at(end);
+    if text.contains(&b'$') {
         return None;
     }
-    Some((name, rest.get(1..)?))
+    Some((unchanged(text), rest.get(1..)?))
+}
+
+fn goes_on(byte: u8) -> bool {
+    matches!(byte, 0x80..=0xbf)
+}
+
+/// The name of one character that a text begins with, and what follows it.
+fn single(text: &[u8]) -> Option<(&[u8], &[u8])> {
+    let behind = text.get(1..)?;
+    let more = behind
+        .iter()
+        .position(|byte| !goes_on(*byte))
+        .unwrap_or(behind.len());
+    let end = more.saturating_add(1);
+    Some((text.get(..end)?, text.get(end..)?))
+}
+
+/// The name of the macro that a text begins with, and what follows it.
+fn referred(text: &[u8]) -> Option<(&[u8], &[u8])> {
+    let behind = text.strip_prefix(b"$".as_slice())?;
+    let (first, inner) = behind.split_first()?;
+    match closing(*first) {
+        Some(closing) => bracketed(inner, closing),
+        None if *first == b'$' => None,
+        None => single(behind),
+    }
 }
 
 /// Dynamic macros are no macro's names that a makefile defines.
@@ -35,7 +55,7 @@ fn is_dynamic(name: &[u8]) -> bool {
 
 /// The macro that a recipe line begins with, and the prefix behind it.
 fn leading(line: &[u8]) -> Option<(&[u8], u8)> {
-    let (name, rest) = bracketed(behind_prefixes(line))?;
+    let (name, rest) = referred(behind_prefixes(line))?;
     let next = trim_start(rest).first()?;
     if is_dynamic(name) || !is_prefix(*next) {
         return None;
