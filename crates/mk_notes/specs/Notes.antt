@@ -3,13 +3,14 @@ use Rattle.std.specs.Prelude.{ℕ, Bool, true, false, ◌==◌, List, [], ◌∷
 use Rattle.std.specs.List.{list_any}
 use Rattle.mk_notes.specs.declared.note.Note.{Note}
 use Rattle.mk_notes.specs.declared.note.Subject.{Subject}
-use Rattle.mk_notes.specs.declared.note.Subject.TheVariants.{Function, Automatic, SuffixRule, Target}
+use Rattle.mk_notes.specs.declared.note.Subject.TheVariants.{Function, Automatic, SuffixRule, PlainTarget, Target}
 
 -- one note serves for both: all functions are one subject
 abbrev pub is_same : Subject → Subject → Bool
 is_same (Function one) (Function other) = true
 is_same (Automatic one) (Automatic other) = one == other
 is_same (SuffixRule one) (SuffixRule other) = bytes_eq one other
+is_same (PlainTarget one) (PlainTarget other) = bytes_eq one other
 is_same (Target one) (Target other) = bytes_eq one other
 is_same _ _ = false
 

@@ -1,7 +1,7 @@
 -- What the statements of a file give to be noted. Own.
-use Rattle.std.specs.Prelude.{ℕ, Bool, true, false, not, ◌&&◌, ◌||◌, ◌==◌, List, [], ◌∷◌, ◌++◌, map, Option, Some, None, codes, if◌then◌else◌}
+use Rattle.std.specs.Prelude.{ℕ, Bool, true, false, not, ◌&&◌, ◌||◌, ◌==◌, List, [], ◌∷◌, ◌++◌, map, Option, Some, None, codes, bytes_eq, if◌then◌else◌}
 use Rattle.std.specs.List.{list_any}
-use Rattle.byte_strings.specs.Blanks.{is_blank}
+use Rattle.byte_strings.specs.Blanks.{is_blank, first_word}
 use Rattle.mk_profile.specs.Profile.{is_wide}
 use Rattle.mk_profile.specs.declared.profile.Profile.{Profile}
 use Rattle.mk_reader.specs.Text.{is_empty, ends_with}
@@ -15,7 +15,7 @@ use Rattle.mk_reader.specs.declared.special.SpecialName.{SpecialName}
 use Rattle.mk_reader.specs.declared.special.SpecialName.TheVariants.{Suffixes}
 use Rattle.mk_notes.specs.Names.{is_target, is_macro, is_asking, is_suffix_name, is_named_by}
 use Rattle.mk_notes.specs.Notes.{all_noted}
-use Rattle.mk_notes.specs.References.{listed, subjects_in, is_automatic}
+use Rattle.mk_notes.specs.References.{listed, subjects_in, is_automatic, is_dollar}
 use Rattle.mk_notes.specs.declared.note.Note.{Note}
 use Rattle.mk_notes.specs.declared.note.Subject.{Subject}
 use Rattle.mk_notes.specs.declared.note.Subject.TheVariants as subject
@@ -50,13 +50,24 @@ texts_noted profile file ((line, text) ∷ more) notes =
 abbrev pub is_suffix_rule : Rule → Bool
 is_suffix_rule rule = if is_empty rule.recipe then false else (is_empty rule.prerequisites && is_suffix_name rule.targets)
 
+-- the first word of a text is a prerequisite, whatever references come to
+abbrev pub begins_with_prerequisite : (text : List ℕ) → Bool
+begins_with_prerequisite text =
+    not (is_empty (first_word text)) && (not (list_any is_dollar (first_word text)) && not (bytes_eq (first_word text) (codes "|")))
+
+-- a rule of such a name with prerequisites (POSIX make, "Inference Rules": there should be none; GNU make 4.3 passes them over)
+abbrev pub is_plain_target : Rule → Bool
+is_plain_target rule =
+    if is_empty rule.recipe then false else (begins_with_prerequisite rule.prerequisites && is_suffix_name rule.targets)
+
 -- what the target of a rule is noted as: a name with a meaning elsewhere, or in the strict profile a `&` that groups no targets, or, since
--- it knows no suffixes by itself, a suffix rule
+-- it knows no suffixes by itself, a suffix rule; in the wide profile one that would be a suffix rule without its prerequisites
 abbrev pub target_of : Profile → Rule → Option Subject
 target_of profile rule =
     if is_target rule.targets then Some (subject.Target rule.targets)
     else (if not (is_wide profile) && ends_with 38 rule.targets then Some (subject.Target (codes "&"))
-    else (if not (is_wide profile) && is_suffix_rule rule then Some (subject.SuffixRule rule.targets) else None))
+    else (if not (is_wide profile) && is_suffix_rule rule then Some (subject.SuffixRule rule.targets)
+    else (if is_wide profile && is_plain_target rule then Some (subject.PlainTarget rule.targets) else None)))
 
 -- what a macro's name is noted as that a definition has: one that asks GNU make for something, and in the strict profile one with a
 -- meaning elsewhere
@@ -134,6 +145,7 @@ abbrev pub counts : (suffixes defined : List ℕ) → Subject → Bool
 counts suffixes defined (subject.Function word) = not (has_mark 32 defined)
 counts suffixes defined (subject.Automatic b) = not (has_mark b defined)
 counts suffixes defined (subject.SuffixRule name) = not (is_named_by suffixes name)
+counts suffixes defined (subject.PlainTarget name) = true
 counts suffixes defined (subject.Target name) = true
 counts suffixes defined (subject.Leading name prefix) = true
 counts suffixes defined (subject.BuiltIn name) = true

@@ -11,6 +11,8 @@ pub enum Subject {
     Automatic(u8),
     /// A suffix rule whose suffixes don't count.
     SuffixRule(ByteString),
+    /// A target that has the name of a suffix rule, and prerequisites.
+    PlainTarget(ByteString),
     /// A target or a macro that another make has a meaning for.
     Target(ByteString),
     /// A macro that a recipe line begins with, and the prefix that the next byte would be if the macro is empty.
@@ -31,6 +33,12 @@ impl fmt::Display for Subject {
                 write!(
                     f,
                     "{name} is no suffix rule here, since .SUFFIXES doesn't name its suffixes"
+                )
+            }
+            Subject::PlainTarget(name) => {
+                write!(
+                    f,
+                    "{name} has prerequisites, so it is a plain target here and no suffix rule"
                 )
             }
             Subject::Target(name) => write!(f, "{name} means nothing here"),

@@ -31,6 +31,9 @@ fn is_same(one: &Subject, other: &Subject) -> bool
         (Subject::Automatic(one), Subject::Automatic(other)) => *one == *other,
         (Subject::SuffixRule(one), Subject::SuffixRule(other)) => one.as_slice()
             == other.as_slice(),
+        (Subject::PlainTarget(one), Subject::PlainTarget(other)) => {
+            one.as_slice() == other.as_slice()
+        }
         (Subject::Target(one), Subject::Target(other)) => one.as_slice() == other.as_slice(),
         _ => false,
     }

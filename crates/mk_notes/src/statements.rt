@@ -4,13 +4,13 @@ ghost use Rattle.std.specs.List.{flat_map, list_any};
 ghost use Rattle.byte_strings.specs.Blanks.{is_blank};
 ghost use Rattle.mk_notes.specs.Notes.{all_noted};
 ghost use Rattle.mk_notes.specs.References.{listed};
-ghost use Rattle.mk_notes.specs.Statements.{recipe_texts, rule_texts, item_texts, texts_noted, is_suffix_rule, target_of, macro_of, target_noted, statement_noted, statements_noted, special_suffixes, suffixes_of, statement_suffixes, automatic_in, mark_of, marks, marks_of, statement_marks, counts};
+ghost use Rattle.mk_notes.specs.Statements.{recipe_texts, rule_texts, item_texts, texts_noted, is_suffix_rule, begins_with_prerequisite, is_plain_target, target_of, macro_of, target_noted, statement_noted, statements_noted, special_suffixes, suffixes_of, statement_suffixes, automatic_in, mark_of, marks, marks_of, statement_marks, counts};
 
 use crate::names::{is_asking, is_macro, is_named_by, is_suffix_name, is_target};
 use crate::note::{Note, Subject};
 use crate::notes::Notes;
 use crate::references::is_automatic;
-use byte_strings::{ByteString, is_blank};
+use byte_strings::{ByteString, first_word, is_blank};
 use mk_profile::Profile;
 use mk_reader::{Definition, Item, RecipeLine, Rule, Special, SpecialName, Statement, ends_with};
 use std::alloc::{AllocError, Global};
@@ -23,6 +23,25 @@ fn is_suffix_rule(rule: &Rule) -> bool
         return false;
     }
     rule.prerequisites.as_slice().is_empty() && is_suffix_name(rule.targets.as_slice())
+}
+
+/// Whether the first word of a text is a prerequisite, whatever references come to.
+fn begins_with_prerequisite(text: &[u8]) -> bool
+    ensures { result ≡ begins_with_prerequisite text.now }
+{
+    let word = first_word(text);
+    !word.is_empty() && !word.contains(&b'$') && word != b"|".as_slice()
+}
+
+/// A rule that would be written as a suffix rule, if it had no prerequisites.
+fn is_plain_target(rule: &Rule) -> bool
+    ensures { result ≡ is_plain_target rule.now }
+{
+    if rule.recipe.lines().is_empty() {
+        return false;
+    }
+    begins_with_prerequisite(rule.prerequisites.as_slice())
+        && is_suffix_name(rule.targets.as_slice())
 }
 
 /// What the target of a rule is noted as.
@@ -38,6 +57,9 @@ fn target_of(alloc: Global, profile: Profile, rule: &Rule) -> Result<Option<Subj
     }
     if !profile.is_wide() && is_suffix_rule(rule) {
         return Ok(Some(Subject::SuffixRule(ByteString::from_slice(alloc, name)?)));
+    }
+    if profile.is_wide() && is_plain_target(rule) {
+        return Ok(Some(Subject::PlainTarget(ByteString::from_slice(alloc, name)?)));
     }
     Ok(None)
 }
@@ -291,7 +313,10 @@ impl Notes {
             Subject::Function(_) => !self.defined.contains(&b' '),
             Subject::Automatic(byte) => !self.defined.contains(byte),
             Subject::SuffixRule(name) => !is_named_by(&self.suffixes, name.as_slice()),
-            Subject::Target(_) | Subject::Leading(_, _) | Subject::BuiltIn(_) => true,
+            Subject::PlainTarget(_)
+            | Subject::Target(_)
+            | Subject::Leading(_, _)
+            | Subject::BuiltIn(_) => true,
         }
     }
 }
