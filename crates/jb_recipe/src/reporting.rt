@@ -114,9 +114,23 @@ fn taken_away<P: Place>(
     found
 }
 
-// Whether a command has a word that is one of these options.
+// Whether a word has one of these options, by itself or among those that gcc hands to its preprocessor.
+fn is_elsewhere(word: &[u8]) -> bool {
+    match word.strip_prefix(b"-Wp,".as_slice()) {
+        Some(handed) => handed
+            .split(|byte| *byte == b',')
+            .any(|option| is_option(option)),
+        None => is_option(word),
+    }
+}
+
+fn is_option(word: &[u8]) -> bool {
+    ELSEWHERE.iter().any(|option| *option == word)
+}
+
+// Whether a command has such a word.
 fn tells_elsewhere(command: &[u8]) -> bool {
-    Words::new(command).any(|word| ELSEWHERE.iter().any(|option| *option == word))
+    Words::new(command).any(|word| is_elsewhere(word))
 }
 
 /// The hidden names of a report, None where there is none, or why it can't be taken.
