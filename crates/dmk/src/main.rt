@@ -7,7 +7,7 @@ mod state_lock;
 use bd_lists::Variable;
 use dmk_host::{
     FolderFault, SignFault, ask, enter, held_streams, keep_blocks, needs_usual_makefile,
-    print_other_makefile, print_signs, read_input, run_anew, tell, tell_fault, with_signs,
+    print_other_makefile, print_word_notes, read_input, run_anew, tell, tell_fault, with_signs,
 };
 use dmk_reading::{Fault, Message, Mode, Options, value_of};
 use dmk_words::{
@@ -124,7 +124,7 @@ fn run_in<R: Threads + Wait + Sync>(
     let environment = macro_variables(host, &options, program)?;
     let options = with_environment(host.alloc(), later, options, &environment)?;
     let before = later.definitions_before(options.profile, &environment);
-    print_signs(host, &options, before);
+    print_word_notes(host, &options, before);
     let is_usual = needs_usual_makefile(&options);
     print_other_makefile(host, &mut host.stderr(), is_usual);
     let options = match with_signs(host, options, before, &environment) {

@@ -20,6 +20,7 @@ mod signs;
 mod standard_streams;
 mod terminal;
 mod unfilled;
+mod word_notes;
 
 pub use always_run::beside_recipes;
 pub use asking::ask;
@@ -34,6 +35,7 @@ pub use reasons::{
     needs_usual_makefile, print_gnu_makefile, print_notes, print_other_makefile, print_reasons,
 };
 pub use run_name::{is_open_above, is_over};
-pub use signs::{SignFault, print_signs, with_signs};
+pub use signs::{SignFault, with_signs};
 pub use standard_streams::{Patient, buffered, held_streams, tell_fault, with_patience};
 pub use terminal::status_columns;
+pub use word_notes::print_word_notes;

@@ -1,6 +1,5 @@
 //! Words of the command line that define a macro by another sign than `=`, in the wide profile: what GNU make has them stand for.
 use crate::sign::{Sign, Signed, by_sign};
-use crate::standard_streams::with_patience;
 use bd_lists::Variable;
 use byte_strings::ByteString;
 use dmk_reading::Options;
@@ -9,9 +8,7 @@ use mk_eval::{doubled_text, macro_refused, output_text};
 use mk_macros::{Dynamic, MacroFault, Macros, Rank};
 use mk_profile::Profile;
 use mk_reader::Feature;
-use plain_text::Plain;
 use std::alloc::{AllocError, AllocFailed, Global};
-use std::io::Write;
 use std::mem;
 use thiserror::Error;
 
@@ -54,7 +51,7 @@ struct Before<'a> {
 }
 
 /// The place of the last of these that has the name.
-fn last_of(variables: &[Variable], name: &[u8]) -> Option<usize> {
+pub(crate) fn last_of(variables: &[Variable], name: &[u8]) -> Option<usize> {
     let mut found = None;
     for (place, variable) in variables.iter().enumerate() {
         if variable.name.as_slice() == name {
@@ -303,23 +300,6 @@ pub fn with_signs(
         Err(fault) => {
             drop(options);
             Err(fault)
-        }
-    }
-}
-
-/// Says of each definition of the strict profile, but for the first ones, that has such a sign what its macro is called.
-pub fn print_signs(host: HostRuntime, options: &Options, first: usize) {
-    if options.profile.is_wide() {
-        return;
-    }
-    let mut err = with_patience(host, host.stderr());
-    for variable in options.definitions.iter().skip(first) {
-        if by_sign(variable).is_some() {
-            let name = &variable.name;
-            let _ = writeln!(
-                Plain::over(&mut err),
-                "dmk: note: the macro is called {name}"
-            );
         }
     }
 }

@@ -9,5 +9,6 @@ mod notes;
 mod references;
 mod statements;
 
+pub use names::is_macro_elsewhere;
 pub use note::{Note, Subject};
 pub use notes::Notes;

@@ -129,8 +129,8 @@ pub(crate) fn is_target(name: &[u8]) -> bool
     has(&TARGETS, name)
 }
 
-/// Whether the macro has a meaning elsewhere.
-pub(crate) fn is_macro(name: &[u8]) -> bool
+/// Whether the macro has a meaning with other makes, and none in the strict profile.
+pub fn is_macro_elsewhere(name: &[u8]) -> bool
     ensures { result ≡ is_macro name.now }
 {
     has(&MACROS, name)
