@@ -8,10 +8,11 @@ use Rattle.mk_verdict.specs.declared.verdict.Reason.TheVariants.{CommandsChanged
 use Rattle.mk_plan.specs.Passage.{Passage, to_make, finished}
 use Rattle.mk_plan.specs.declared.telling.Telling.{Telling}
 use Rattle.mk_plan.specs.declared.telling.Telling.TheVariants.{Nothing, Reasons, All, AllMade}
+use Rattle.plain_text.specs.Plain.{plain}
 
--- a line about a target
+-- a line about a target, without control characters
 abbrev pub about : (target text : List ℕ) → List ℕ
-about target text = codes "dmk: " ++ target ++ codes ": " ++ text
+about target text = plain (codes "dmk: " ++ target ++ codes ": " ++ text)
 
 -- such a line with this label, where there is a text
 abbrev pub line_about : (target label : List ℕ) → (text : Option (List ℕ)) → List (List ℕ)

@@ -13,6 +13,7 @@ use crate::why::Why;
 use byte_strings::{ByteStrings, Iter};
 use mk_nodes::Graph;
 use mk_recipe::{Line, Reason, recorded};
+use plain_text::to_plain;
 use std::alloc::{AllocError, Global};
 
 /// How much is told of targets with a recipe.
@@ -42,7 +43,8 @@ fn push_about(
     line.extend_from_slice(b": ")?;
     line.extend_from_slice(label)?;
     line.extend_from_slice(text)?;
-    told.push(&line)
+    let shown = to_plain(alloc, &line)?;
+    told.push(&shown)
 }
 
 fn push_if_any(

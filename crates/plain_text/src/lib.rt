@@ -4,4 +4,4 @@
 mod control;
 mod plain;
 
-pub use plain::{Plain, write_plain};
+pub use plain::{Plain, to_plain, write_plain};

@@ -1,37 +1,48 @@
-//! Writers of text without control characters: a blank stands for each, but for the newline.
-ghost use Rattle.std.specs.Prelude.{◌≤◌, length};
+//! Text without control characters: a blank stands for each, but for the newline.
+ghost use Rattle.std.specs.Prelude.{◌≡◌, IfOk};
+ghost use Rattle.plain_text.specs.Plain.{plain};
 
-use crate::control::{character_len, control_len};
+use crate::control::{missing_behind, shown};
+use std::alloc::{AllocError, Global};
 use std::io::{self, Write};
 
-/// How many bytes of a text stand before its first control character.
-fn plain_len(text: &[u8]) -> usize
-    ensures { result ≤ length text.now }
+/// The text with a blank for each control character but the newline.
+pub fn to_plain(alloc: Global, text: &[u8]) -> Result<Vec<u8>, AllocError>
+    ensures { IfOk result (λ plain_text. plain_text.items ≡ plain text.now) }
 {
-    let mut behind = text;
-    for _ in 0..text.len() {
-        if behind.is_empty() || control_len(behind) > 0 {
-            break;
+    let mut out = Vec::with_capacity(alloc, text.len())?;
+    let mut missing = 0;
+    let mut rest = text;
+    while let Some((byte, after)) = rest.split_first() {
+        if let Some(one) = shown(missing, *byte, after) {
+            out.push(one)?;
         }
-        behind = behind.split_at(character_len(behind)).1;
+        missing = missing_behind(missing, *byte, after);
+        rest = after;
     }
-    text.len().saturating_sub(behind.len())
+    Ok(out)
 }
 
-/// Writes a text, with a blank for each control character but the newline.
+/// Writes a text as `to_plain` makes it.
 pub fn write_plain<W: Write>(out: &mut W, text: &[u8]) -> io::Result<()> {
-    let mut left = text;
-    for _ in 0..=text.len() {
-        let (plain, behind) = left.split_at(plain_len(left));
-        out.write_all(plain)?;
-        let control = control_len(behind);
-        if control == 0 {
-            break;
+    let mut missing = 0;
+    let mut begin = 0;
+    let mut rest = text;
+    while let Some((byte, after)) = rest.split_first() {
+        let one = shown(missing, *byte, after);
+        missing = missing_behind(missing, *byte, after);
+        let at = text.len() - rest.len();
+        rest = after;
+        if one == Some(*byte) {
+            continue;
         }
-        out.write_all(b" ")?;
-        left = behind.split_at(control).1;
+        out.write_all(&text[begin..at])?;
+        begin = at + 1;
+        if let Some(blank) = one {
+            out.write_all(&[blank])?;
+        }
     }
-    Ok(())
+    out.write_all(&text[begin..])
 }
 
 /// What is written through it goes out by `write_plain`. Each piece is whole characters.

@@ -12,7 +12,7 @@ returns c =
     ≡ c.args.told.now ++ change_lines target (commands_of c.args.graph.now c.args.node) (recorded_texts c.args.lines.now)))
     c.name_of-target.ensures
     (on_ok_weaker c.push_if_any-2.result
-    (changed c.args.told.now c.push_if_any.new.told c.push_if_any-2.new.told _ _ c.args.lines.now _ _ _ c.in_ok-commands.ensures
+    (changed c.args.told.now c.push_if_any.new.told c.push_if_any-2.new.told c.name_of-target.result.now _ c.args.lines.now _ _ _ c.in_ok-commands.ensures
     (c.difference.ensures ∙ ap (λ ts. difference c.known_commands.result ts) c.iter.ensures
     ∙ ap (λ ts. difference ts c.in_ok-commands.commands) c.known_commands.ensures) c.in_ok-push_if_any.ensures)
     c.push_if_any-2.ensures)
