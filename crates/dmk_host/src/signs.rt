@@ -270,6 +270,7 @@ fn definitions_by_signs(
     };
     for variable in given {
         if defined.words.len() < first {
+            check(&variable)?;
             defined.push(variable, false)?;
         } else {
             defined.add(host, profile, environment, variable)?;
