@@ -2,6 +2,7 @@
 #![tactic(auto)]
 
 mod conduct;
+mod elsewhere;
 mod not_done;
 mod noting;
 mod place;

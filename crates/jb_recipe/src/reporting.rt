@@ -8,10 +8,11 @@ ghost use Rattle.mk_recipe.specs.declared.line_status.Outcome.TheVariants.{Done}
 ghost use Rattle.bd_lists.specs.Running.{FailsInRange};
 ghost use Rattle.jb_recipe.specs.Noting.{IsEndOf};
 
+use crate::elsewhere::tells_elsewhere;
 use crate::noting::{Plan, writable};
 use crate::{NotDone, Place, PlaceFault};
 use bd_lists::Recipe;
-use byte_strings::{ByteString, ByteStrings, Words};
+use byte_strings::{ByteString, ByteStrings};
 use mk_profile::Profile;
 use mk_recipe::{Outcome, read_report};
 use st_records::{Explicit, HashKey, Record};
@@ -23,9 +24,6 @@ const NOT_TAKEN: u32 = 256;
 
 /// The status of a recipe a line of which was stopped or not started.
 const STOPPED: u32 = 256;
-
-/// The options that have gcc write what it read into a file of its own: then it writes no report.
-const ELSEWHERE: [&[u8]; 2] = [b"-MD", b"-MMD"];
 
 /// What the record of a recipe's end says, but for what came of the recipe.
 #[derive(Drop)]
@@ -112,25 +110,6 @@ fn taken_away<P: Place>(
         let _ = place.remove(path);
     }
     found
-}
-
-// Whether a word has one of these options, by itself or among those that gcc hands to its preprocessor.
-fn is_elsewhere(word: &[u8]) -> bool {
-    match word.strip_prefix(b"-Wp,".as_slice()) {
-        Some(handed) => handed
-            .split(|byte| *byte == b',')
-            .any(|option| is_option(option)),
-        None => is_option(word),
-    }
-}
-
-fn is_option(word: &[u8]) -> bool {
-    ELSEWHERE.iter().any(|option| *option == word)
-}
-
-// Whether a command has such a word.
-fn tells_elsewhere(command: &[u8]) -> bool {
-    Words::new(command).any(|word| is_elsewhere(word))
 }
 
 /// The hidden names of a report, None where there is none, or why it can't be taken.
