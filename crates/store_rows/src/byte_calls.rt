@@ -10,8 +10,35 @@ use byte_strings::{ByteString, ByteStrings};
 use row_files::{RowFault, Words, bytes};
 use st_disk::Which;
 use st_file::{Extent, OpenFault, read_side, side_of};
-use st_records::{DecodeFault, Entry, Explicit, Phase, Record, Version, decode};
+use st_records::{DecodeFault, Entry, Explicit, PackedRecord, Phase, Record, Version, decode};
 use std::alloc::{AllocError, Global};
+
+/// How many strings a list has, and how many bytes each of them.
+#[derive(Clone, Copy)]
+struct ListSize {
+    count: usize,
+    len: usize,
+}
+
+/// The bytes of a record's target, and the strings of its entry.
+#[derive(Clone, Copy)]
+struct RecordSize {
+    target: usize,
+    commands: ListSize,
+    hidden: ListSize,
+    explicit: ListSize,
+}
+
+/// A record that was read, let go by one call.
+struct Decoded {
+    note: Record,
+}
+
+impl Drop for Decoded {
+    fn drop(self) {
+        let Decoded { note: _ } = self;
+    }
+}
 
 /// What some bytes are read as.
 #[derive(Clone, Copy)]
@@ -79,6 +106,17 @@ fn each(alloc: Global, said: &mut String, words: &mut Words<'_>) -> Result<(), R
     let to = words.number()?;
     let form = form_of(words.next(), words)?;
     let bytes = bytes::read(alloc, words.next())?;
+    say_beginnings(alloc, said, form, &bytes, from, to)
+}
+
+fn say_beginnings(
+    alloc: Global,
+    said: &mut String,
+    form: Form,
+    bytes: &[u8],
+    from: usize,
+    to: usize,
+) -> Result<(), RowFault> {
     for len in from..to {
         say_beginning(alloc, said, form, bytes.get(..len))?;
     }
@@ -115,12 +153,19 @@ fn say_record(
     bytes: &[u8],
 ) -> Result<(), AllocError> {
     match decode(alloc, version, bytes) {
-        Ok((record, len)) => {
-            let record = record.unpack(alloc)?;
-            write!(said, "{len}: {record:?}")
-        }
+        Ok((record, len)) => say_unpacked(alloc, said, &record, len),
         Err(fault) => write!(said, "{fault:?}"),
     }
+}
+
+fn say_unpacked(
+    alloc: Global,
+    said: &mut String,
+    record: &PackedRecord,
+    len: usize,
+) -> Result<(), AllocError> {
+    let record = record.unpack(alloc)?;
+    write!(said, "{len}: {record:?}")
 }
 
 /// How many bytes a record has.
@@ -142,16 +187,19 @@ fn say_length(
 }
 
 /// The record in bytes of version 2.
-fn good_of(alloc: Global, bytes: &[u8]) -> Result<Record, DecodeFault>
-    ensures { IfOk result (λ r. IsGood versions.Two r) }
+fn good_of(alloc: Global, bytes: &[u8]) -> Result<Decoded, DecodeFault>
+    ensures { IfOk result (λ d. IsGood versions.Two d.note) }
 {
-    let (record, _len) = decode(alloc, Version::Two, bytes)?;
-    Ok(record.unpack(alloc)?)
+    let (packed, _len) = decode(alloc, Version::Two, bytes)?;
+    let note = packed.unpack(alloc)?;
+    Ok(Decoded { note })
 }
 
 fn encoded(alloc: Global, bytes: &[u8]) -> Result<Vec<u8>, DecodeFault> {
-    let record = good_of(alloc, bytes)?;
-    Ok(record.encode(alloc)?)
+    let decoded = good_of(alloc, bytes)?;
+    let encoded = decoded.note.encode(alloc);
+    drop(decoded);
+    Ok(encoded?)
 }
 
 fn say_written(alloc: Global, said: &mut String, bytes: &[u8]) -> Result<(), AllocError> {
@@ -164,8 +212,10 @@ fn say_written(alloc: Global, said: &mut String, bytes: &[u8]) -> Result<(), All
 /// What a side is, and how many records it has, or its fault.
 fn extent_of(alloc: Global, bytes: &[u8]) -> Result<(Option<Extent>, usize), OpenFault> {
     let mut records: Vec<Record> = Vec::new(alloc);
-    let extent = read_side(alloc, Which::A, bytes, &mut records)?;
-    Ok((extent, records.len()))
+    let extent = read_side(alloc, Which::A, bytes, &mut records);
+    let count = records.len();
+    drop(records);
+    Ok((extent?, count))
 }
 
 fn say_extent(alloc: Global, said: &mut String, bytes: &[u8]) -> Result<(), AllocError> {
@@ -182,10 +232,10 @@ fn repeated(alloc: Global, count: usize) -> Result<ByteString, AllocError> {
 }
 
 /// So many strings of so many bytes `x`.
-fn strings(alloc: Global, count: usize, len: usize) -> Result<ByteStrings, AllocError> {
-    let string = repeated(alloc, len)?;
+fn strings(alloc: Global, size: ListSize) -> Result<ByteStrings, AllocError> {
+    let string = repeated(alloc, size.len)?;
     let mut strings = ByteStrings::empty(alloc);
-    push_times(&mut strings, string.as_slice(), count)?;
+    push_times(&mut strings, string.as_slice(), size.count)?;
     Ok(strings)
 }
 
@@ -196,22 +246,41 @@ fn push_times(strings: &mut ByteStrings, string: &[u8], count: usize) -> Result<
     Ok(())
 }
 
-/// How many commands, hidden and explicit names there are, each with how many bytes.
-fn entry(alloc: Global, counts: &[usize; 6]) -> Result<Entry, AllocError> {
-    Ok(Entry {
-        phase: Phase::Done,
-        commands: strings(alloc, counts[0], counts[1])?,
-        hidden: strings(alloc, counts[2], counts[3])?,
-        explicit: Explicit::Known(strings(alloc, counts[4], counts[5])?),
+fn list_size(words: &mut Words<'_>) -> Result<ListSize, RowFault> {
+    let count = words.number()?;
+    let len = words.number()?;
+    Ok(ListSize { count, len })
+}
+
+fn record_size(words: &mut Words<'_>) -> Result<RecordSize, RowFault> {
+    let target = words.number()?;
+    let commands = list_size(words)?;
+    let hidden = list_size(words)?;
+    let explicit = list_size(words)?;
+    Ok(RecordSize {
+        target,
+        commands,
+        hidden,
+        explicit,
     })
 }
 
-fn counts(words: &mut Words<'_>) -> Result<[usize; 6], RowFault> {
-    let mut counts = [0; 6];
-    for count in &mut counts {
-        *count = words.number()?;
-    }
-    Ok(counts)
+fn entry(alloc: Global, size: RecordSize) -> Result<Entry, AllocError> {
+    let commands = strings(alloc, size.commands)?;
+    let hidden = strings(alloc, size.hidden)?;
+    let explicit = Explicit::Known(strings(alloc, size.explicit)?);
+    Ok(Entry {
+        phase: Phase::Done,
+        commands,
+        hidden,
+        explicit,
+    })
+}
+
+fn measured(alloc: Global, is_kept: bool, size: RecordSize) -> Result<Record, AllocError> {
+    let target = repeated(alloc, size.target)?;
+    let entry = entry(alloc, size)?;
+    Ok(record(is_kept, target, entry))
 }
 
 fn is_kept(word: &str) -> Result<bool, RowFault> {
@@ -226,19 +295,18 @@ fn is_kept(word: &str) -> Result<bool, RowFault> {
 /// bytes, its target first; and `check kept ..`.
 fn checked(alloc: Global, said: &mut String, words: &mut Words<'_>) -> Result<(), RowFault> {
     let is_kept = is_kept(words.next())?;
-    let len = words.number()?;
-    let counts = counts(words)?;
-    Ok(say_checked(alloc, said, is_kept, len, &counts)?)
+    let size = record_size(words)?;
+    Ok(say_checked(alloc, said, is_kept, size)?)
 }
 
 fn say_checked(
     alloc: Global,
     said: &mut String,
     is_kept: bool,
-    len: usize,
-    counts: &[usize; 6],
+    size: RecordSize,
 ) -> Result<(), AllocError> {
-    let entry = entry(alloc, counts)?;
-    let record = record(is_kept, repeated(alloc, len)?, entry);
-    write!(said, "{:?}", record.check())
+    let record = measured(alloc, is_kept, size)?;
+    let checked = record.check();
+    drop(record);
+    write!(said, "{checked:?}")
 }

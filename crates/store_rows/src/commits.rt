@@ -54,7 +54,8 @@ fn commit_to<D: Disk + Drop>(
     store: &mut Store<D>,
     target: ByteString,
 ) -> anyhow::Result<()> {
-    let batch = [begun(target)?];
-    held::commit_good(alloc, store, &batch)?;
-    Ok(())
+    let record = begun(target)?;
+    let committed = held::commit_one(alloc, store, &record);
+    drop(record);
+    Ok(committed?)
 }

@@ -11,14 +11,22 @@ use std::alloc::{AllocError, Global};
 const COUNTED: u64 = 100;
 
 /// What the shortest and the longest cut leave, with `?` in each open place, and the longest with `123` in them.
-const CUTS: [Cut; 3] = [
+static CUTS: [Cut; 3] = [
     Cut::Shortest(b"?"),
     Cut::Longest(b"?"),
     Cut::Longest(b"123"),
 ];
 
 /// What the longest cut leaves without a filling.
-const UNFILLED: [Cut; 1] = [Cut::Longest(b"")];
+static UNFILLED: [Cut; 1] = [Cut::Longest(b"")];
+
+fn all_cuts() -> &'static [Cut] {
+    &CUTS
+}
+
+fn unfilled() -> &'static [Cut] {
+    &UNFILLED
+}
 
 /// Answers a call: its kind, its numbers, what the disk holds at first (`-`: nothing), and a script.
 pub(crate) fn call_disk(
@@ -27,11 +35,11 @@ pub(crate) fn call_disk(
     words: &mut Words<'_>,
 ) -> Result<(), RowFault> {
     match words.next() {
-        "stop" => planned(alloc, said, stops(words.number()?), words),
-        "fail" => planned(alloc, said, fails_one(words.number()?), words),
+        "stop" => stopped(alloc, said, words),
+        "fail" => failing(alloc, said, words),
         "memory" => left(alloc, said, words, &[]),
         "cuts" => cuts(alloc, said, words),
-        "unfilled" => left(alloc, said, words, &UNFILLED),
+        "unfilled" => left(alloc, said, words, unfilled()),
         "reserve" => reserve(alloc, said, words),
         _ => Err(RowFault::Word),
     }
@@ -53,6 +61,16 @@ pub(crate) fn fails_one(passing: usize) -> FailsOne {
 fn counting(alloc: Global, held: &str) -> Result<Fuse<MemDisk>, AllocError> {
     let disk = MemDisk::holding(alloc, held.as_bytes(), b"")?;
     Ok(Fuse::new(disk, COUNTED))
+}
+
+fn stopped(alloc: Global, said: &mut String, words: &mut Words<'_>) -> Result<(), RowFault> {
+    let plan = stops(words.number()?);
+    planned(alloc, said, plan, words)
+}
+
+fn failing(alloc: Global, said: &mut String, words: &mut Words<'_>) -> Result<(), RowFault> {
+    let plan = fails_one(words.number()?);
+    planned(alloc, said, plan, words)
 }
 
 fn planned<P: Plan + Drop>(
@@ -123,16 +141,39 @@ fn left(
     cuts: &[Cut],
 ) -> Result<(), RowFault> {
     let mut disk = holding(alloc, words)?;
-    answers(said, &mut disk, words.rest)?;
-    say_left(alloc, said, &disk, cuts)
+    let answered = answer_and_cut(alloc, said, &mut disk, words.rest, cuts);
+    drop(disk);
+    answered
+}
+
+fn answer_and_cut(
+    alloc: Global,
+    said: &mut String,
+    disk: &mut MemDisk,
+    script: &str,
+    cuts: &[Cut],
+) -> Result<(), RowFault> {
+    answers(said, disk, script)?;
+    say_left(alloc, said, disk, cuts)
 }
 
 /// The answers, what reads then give of side A, and what cuts leave of it.
 fn cuts(alloc: Global, said: &mut String, words: &mut Words<'_>) -> Result<(), RowFault> {
     let mut disk = holding(alloc, words)?;
-    answers(said, &mut disk, words.rest)?;
-    say_side(said, &disk)?;
-    say_left(alloc, said, &disk, &CUTS)
+    let answered = answer_and_read(alloc, said, &mut disk, words.rest);
+    drop(disk);
+    answered
+}
+
+fn answer_and_read(
+    alloc: Global,
+    said: &mut String,
+    disk: &mut MemDisk,
+    script: &str,
+) -> Result<(), RowFault> {
+    answers(said, disk, script)?;
+    say_side(said, disk)?;
+    say_left(alloc, said, disk, all_cuts())
 }
 
 /// The answers of a disk that has room for so many calls and bytes, or `refused`.
@@ -140,8 +181,20 @@ fn reserve(alloc: Global, said: &mut String, words: &mut Words<'_>) -> Result<()
     let calls = words.number()?;
     let bytes = words.number()?;
     let mut disk = MemDisk::new(alloc);
+    let answered = reserve_and_answer(said, &mut disk, calls, bytes, words.rest);
+    drop(disk);
+    answered
+}
+
+fn reserve_and_answer(
+    said: &mut String,
+    disk: &mut MemDisk,
+    calls: usize,
+    bytes: usize,
+    script: &str,
+) -> Result<(), RowFault> {
     if disk.reserve(calls, bytes).is_err() {
         return Ok(said.push_str("refused")?);
     }
-    answers(said, &mut disk, words.rest)
+    answers(said, disk, script)
 }

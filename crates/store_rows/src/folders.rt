@@ -9,9 +9,29 @@ use row_files::{RowFault, Words, bytes};
 use st_disk::{FileDisk, Folder, Which};
 use st_doubles::{FailsOne, FaultyFolder, MemFolder};
 use st_memory::MemDisk;
-use std::alloc::Global;
+use std::alloc::{AllocError, Global};
 
 type Tried<F> = FileDisk<FaultyFolder<F, FailsOne>>;
+
+/// A folder of which something is said once the calls are made.
+trait Shown {
+    fn say(&self, said: &mut String) -> Result<(), AllocError>;
+}
+
+/// The calls that it passed.
+impl Shown for Twin {
+    fn say(&self, said: &mut String) -> Result<(), AllocError> {
+        said.push_str(self.log.as_str())
+    }
+}
+
+/// What its first file holds.
+impl Shown for MemFolder<MemDisk> {
+    fn say(&self, said: &mut String) -> Result<(), AllocError> {
+        said.push(' ')?;
+        bytes::say_all(said, self.disk.bytes(Which::A))
+    }
+}
 
 /// Answers a call: which files the folder has, how many calls of it pass before one fails, and a script.
 pub(crate) fn call_folder(
@@ -38,6 +58,31 @@ fn over<F: Folder + Drop>(inner: F, passing: usize, is_short: bool) -> Tried<F>
     })
 }
 
+/// The answers, and what is said of the folder then.
+fn say_tried<F: Folder + Drop + Shown>(
+    said: &mut String,
+    disk: &mut Tried<F>,
+    script: &str,
+) -> Result<(), RowFault> {
+    answers(said, disk, script)?;
+    Ok(disk.folder.inner.say(said)?)
+}
+
+fn tried<F: Folder + Drop + Shown>(
+    said: &mut String,
+    inner: F,
+    passing: usize,
+    is_short: bool,
+    script: &str,
+) -> Result<(), RowFault>
+    requires { F.honest → (F.sound inner A ≡ true) × (F.sound inner B ≡ true) }
+{
+    let mut disk = over(inner, passing, is_short);
+    let answered = say_tried(said, &mut disk, script);
+    drop(disk);
+    answered
+}
+
 fn twin(
     alloc: Global,
     said: &mut String,
@@ -45,33 +90,15 @@ fn twin(
     words: &mut Words<'_>,
 ) -> Result<(), RowFault> {
     let passing = words.number()?;
-    let mut disk = over(Twin::new(alloc, len), passing, false);
-    say_twin(said, &mut disk, words.rest)
-}
-
-/// The answers, and the calls that the folder passed.
-fn say_twin(said: &mut String, disk: &mut Tried<Twin>, script: &str) -> Result<(), RowFault> {
-    answers(said, disk, script)?;
-    Ok(said.push_str(disk.folder.inner.log.as_str())?)
+    tried(said, Twin::new(alloc, len), passing, false, words.rest)
 }
 
 fn without_files(alloc: Global) -> MemFolder<MemDisk> {
     MemFolder::without_files(MemDisk::new(alloc))
 }
 
+/// Over two missing files in memory.
 fn memory(alloc: Global, said: &mut String, words: &mut Words<'_>) -> Result<(), RowFault> {
     let passing = words.number()?;
-    let mut disk = over(without_files(alloc), passing, true);
-    say_memory(said, &mut disk, words.rest)
-}
-
-/// The answers over two missing files in memory, and what the first one then holds.
-fn say_memory(
-    said: &mut String,
-    disk: &mut Tried<MemFolder<MemDisk>>,
-    script: &str,
-) -> Result<(), RowFault> {
-    answers(said, disk, script)?;
-    said.push(' ')?;
-    Ok(bytes::say_all(said, disk.folder.inner.disk.bytes(Which::A))?)
+    tried(said, without_files(alloc), passing, true, words.rest)
 }

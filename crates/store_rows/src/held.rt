@@ -17,12 +17,38 @@ use st_memory::MemDisk;
 use st_records::{Explicit, HashKey, Record};
 use st_recovery::{Store, open};
 use std::alloc::Global;
+use std::slice;
 
 /// More calls of a disk than any row makes.
 pub(crate) const MANY: u64 = 1_000_000;
 
 /// A disk that may fail one call, and may stop.
 pub(crate) type Device = FailOnce<Fuse<MemDisk>>;
+
+/// A disk over memory that may fail calls.
+pub(crate) trait OverMemory {
+    fn memory(&self) -> &MemDisk;
+
+    /// How many calls pass before one fails.
+    fn calls_left(&self) -> u64;
+
+    /// How many calls were refused.
+    fn refused(&self) -> u64;
+}
+
+impl OverMemory for Device {
+    fn memory(&self) -> &MemDisk {
+        &self.inner.inner
+    }
+
+    fn calls_left(&self) -> u64 {
+        self.plan.calls_left
+    }
+
+    fn refused(&self) -> u64 {
+        self.refused.saturating_add(self.inner.refused)
+    }
+}
 
 /// What is open over a disk of this type.
 pub(crate) enum Held<D: Disk + Drop> {
@@ -68,10 +94,18 @@ impl<D: Disk + Drop> Held<D> {
 }
 
 /// `commit RECORDS`, or `compact`.
-#[derive(Drop)]
 pub(crate) enum Change {
     Commit(Vec<Record>),
     Compact,
+}
+
+impl Drop for Change {
+    fn drop(self) {
+        match self {
+            Change::Commit(records) => drop(records),
+            Change::Compact => {}
+        }
+    }
 }
 
 impl Change {
@@ -135,6 +169,18 @@ pub(crate) fn commit_good<D: Disk + Drop>(
     requires later { AllByRecursion (λ r. may_stand false r ≡ true) records.now }
 {
     store.commit(alloc, records)
+}
+
+/// Commits one record that a later batch may hold.
+pub(crate) fn commit_one<D: Disk + Drop>(
+    alloc: Global,
+    store: &mut Store<D>,
+    note: &Record,
+) -> Result<(), CommitFault>
+    requires good { IsGood versions.Two note.now }
+    requires later { may_stand false note.now ≡ true }
+{
+    commit_good(alloc, store, slice::from_ref(note))
 }
 
 pub(crate) fn compacted<D: Disk + Drop>(

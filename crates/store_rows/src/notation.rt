@@ -5,7 +5,7 @@
 use byte_strings::{ByteString, ByteStrings};
 use row_files::{RowFault, Words, bytes};
 use st_records::{Entry, Explicit, Phase, Record};
-use std::alloc::Global;
+use std::alloc::{AllocError, Global};
 
 fn push_marked(
     alloc: Global,
@@ -54,11 +54,14 @@ fn phase_of(kind: &str, text: &str) -> Result<Phase, RowFault> {
 }
 
 fn entry_of(alloc: Global, phase: Phase, text: &str) -> Result<Entry, RowFault> {
+    let commands = marked(alloc, text, '$')?;
+    let hidden = marked(alloc, text, '<')?;
+    let explicit = explicit(text.contains(" :"), marked(alloc, text, ':')?);
     Ok(Entry {
         phase,
-        commands: marked(alloc, text, '$')?,
-        hidden: marked(alloc, text, '<')?,
-        explicit: explicit(text.contains(" :"), marked(alloc, text, ':')?),
+        commands,
+        hidden,
+        explicit,
     })
 }
 
@@ -96,17 +99,24 @@ fn record_of(alloc: Global, text: &str) -> Result<Record, RowFault> {
         rest: kept.unwrap_or(text),
     };
     let kind = words.next();
-    let phase = phase_of(kind, words.rest)?;
-    let entry = entry_of(alloc, phase, words.rest)?;
-    let target = bytes::read(alloc, words.next())?;
-    Ok(record(kept.is_some(), ByteString::new(target), entry))
+    let text = words.rest;
+    let phase = phase_of(kind, text)?;
+    let target = ByteString::new(bytes::read(alloc, words.next())?);
+    let entry = entry_of(alloc, phase, text)?;
+    Ok(record(kept.is_some(), target, entry))
+}
+
+// A list grows here over any type, where what isn't taken is let go by one call.
+fn add<T: Drop>(list: &mut Vec<T>, item: T) -> Result<(), AllocError> {
+    list.push(item)?;
+    Ok(())
 }
 
 fn push_records(alloc: Global, records: &mut Vec<Record>, text: &str) -> Result<(), RowFault> {
     for part in text.split(';') {
         let part = part.trim();
         if !part.is_empty() {
-            records.push(record_of(alloc, part)?)?;
+            add(records, record_of(alloc, part)?)?;
         }
     }
     Ok(())

@@ -13,7 +13,7 @@ pub(crate) enum Cut {
     Longest(&'static [u8]),
 }
 
-const CUTS: [Cut; 6] = [
+static CUTS: [Cut; 6] = [
     Cut::Shortest(b"\x00"),
     Cut::Longest(b"\x00"),
     Cut::Shortest(b"\x01"),
@@ -21,6 +21,10 @@ const CUTS: [Cut; 6] = [
     Cut::Shortest(b"\xff"),
     Cut::Longest(b"\xff"),
 ];
+
+fn cuts() -> &'static [Cut] {
+    &CUTS
+}
 
 /// What a cut leaves.
 pub(crate) fn after(alloc: Global, disk: &MemDisk, cut: Cut) -> Result<MemDisk, RowFault> {
@@ -61,8 +65,8 @@ pub(crate) fn say_cuts(
     front: &str,
     disk: &MemDisk,
 ) -> Result<(), RowFault> {
-    for cut in CUTS {
-        say_cut(alloc, said, front, after(alloc, disk, cut)?)?;
+    for cut in cuts() {
+        say_cut(alloc, said, front, after(alloc, disk, *cut)?)?;
     }
     Ok(())
 }

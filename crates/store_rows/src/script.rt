@@ -42,21 +42,17 @@ pub(crate) fn make_call<D: Disk>(
     disk: &mut D,
     word: &str,
 ) -> Result<(), RowFault> {
-    match word.as_bytes() {
-        [b'A', call @ ..] => make(said, disk, Which::A, call_of(call)?),
-        [b'B', call @ ..] => make(said, disk, Which::B, call_of(call)?),
-        _ => Err(RowFault::Word),
-    }
-}
-
-fn make<D: Disk>(
-    said: &mut String,
-    disk: &mut D,
-    side: Which,
-    call: Call<'_>,
-) -> Result<(), RowFault> {
+    let (side, call) = word_parts(word)?;
     let answer = made(disk, side, call);
     Ok(say(said, answer)?)
+}
+
+fn word_parts(word: &str) -> Result<(Which, Call<'_>), RowFault> {
+    match word.as_bytes() {
+        [b'A', call @ ..] => Ok((Which::A, call_of(call)?)),
+        [b'B', call @ ..] => Ok((Which::B, call_of(call)?)),
+        _ => Err(RowFault::Word),
+    }
 }
 
 fn say(said: &mut String, answer: Result<Answer, DeviceFault>) -> Result<(), AllocError> {

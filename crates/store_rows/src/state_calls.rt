@@ -51,19 +51,33 @@ fn say_staged(alloc: Global, said: &mut String, records: &[Record]) -> Result<()
 /// `replay RECORDS`: the state that they leave: one by one, copied, as one batch, and taken over.
 pub(crate) fn replay(alloc: Global, said: &mut String, text: &str) -> Result<(), RowFault> {
     let records = records_of(alloc, text)?;
-    say_applied(alloc, said, records.as_slice())?;
-    say_staged(alloc, said, records.as_slice())?;
-    let state = taken_over(alloc, records.as_slice())?;
-    Ok(say_unlike(alloc, said, &state)?)
+    let answered = say_replayed(alloc, said, records.as_slice());
+    drop(records);
+    Ok(answered?)
+}
+
+fn say_replayed(alloc: Global, said: &mut String, records: &[Record]) -> Result<(), AllocError> {
+    say_applied(alloc, said, records)?;
+    say_staged(alloc, said, records)?;
+    let state = taken_over(alloc, records)?;
+    say_unlike(alloc, said, &state)
+}
+
+fn state_of(alloc: Global, text: &str) -> Result<State, RowFault> {
+    let records = records_of(alloc, text)?;
+    let state = applied(alloc, records.as_slice());
+    drop(records);
+    Ok(state?)
 }
 
 /// The state of the records before a `/`, with those behind it staged.
 fn batch_over(alloc: Global, text: &str) -> Result<Staged, RowFault> {
     let (before, batch) = text.split_once('/').ok_or(RowFault::Word)?;
-    let before = records_of(alloc, before)?;
+    let state = state_of(alloc, before)?;
     let batch = records_of(alloc, batch)?;
-    let state = applied(alloc, before.as_slice())?;
-    Ok(staged(alloc, state, batch.as_slice())?)
+    let staged = staged(alloc, state, batch.as_slice());
+    drop(batch);
+    Ok(staged?)
 }
 
 /// `finish BEFORE / BATCH`, or `discard BEFORE / BATCH`: the state with a batch that is taken in, or beside one that is
@@ -83,10 +97,24 @@ pub(crate) fn batch(
     Ok(say_state(alloc, said, &state)?)
 }
 
-fn begin(alloc: Global, state: &mut State, name: &str) -> Result<(), RowFault> {
+fn begun(alloc: Global, name: &str) -> Result<PackedRecord, RowFault> {
     let target = ByteString::new(bytes::read(alloc, name)?);
     let begun = Record::Begun { target };
-    Ok(state.apply_owned(alloc, PackedRecord::of(alloc, &begun)?)?)
+    let packed = PackedRecord::of(alloc, &begun);
+    drop(begun);
+    Ok(packed?)
+}
+
+fn begin(alloc: Global, state: &mut State, name: &str) -> Result<(), RowFault> {
+    let begun = begun(alloc, name)?;
+    Ok(state.apply_owned(alloc, begun)?)
+}
+
+fn begin_all(alloc: Global, state: &mut State, names: &str) -> Result<(), RowFault> {
+    for name in names.split(' ') {
+        begin(alloc, state, name)?;
+    }
+    Ok(())
 }
 
 fn say_names(alloc: Global, said: &mut String, state: &State) -> Result<(), AllocError> {
@@ -104,8 +132,6 @@ fn say_names(alloc: Global, said: &mut String, state: &State) -> Result<(), Allo
 /// `order NAME ..`: the order in which a state lists names that it has seen in this order.
 pub(crate) fn order(alloc: Global, said: &mut String, names: &str) -> Result<(), RowFault> {
     let mut state = State::new(alloc);
-    for name in names.split(' ') {
-        begin(alloc, &mut state, name)?;
-    }
+    begin_all(alloc, &mut state, names)?;
     Ok(say_names(alloc, said, &state)?)
 }

@@ -1,5 +1,5 @@
 //! Calls of two sides and of the store that is open over them.
-use crate::held::{Change, Device, Held, changed, opened};
+use crate::held::{Change, Held, OverMemory, changed, opened};
 use crate::power_cuts::say_cuts;
 use crate::shown::say_state;
 use crate::sides::{Sides, side_named};
@@ -23,13 +23,25 @@ pub(crate) fn call_store(
         "recover" => Ok(say_recovered(alloc, said, &sides.a, &sides.b)?),
         "chosen" => Ok(say_chosen(alloc, said, &sides.a, &sides.b)?),
         "open" => open(alloc, said, sides),
-        "reopen" => reopen(alloc, said, &mut sides.held),
         "sweep" => sweep(alloc, said, sides, words),
-        "calls" => counted(alloc, said, &mut sides.held, words),
-        "bytes" => say_bytes(said, &sides.held, words),
-        "cuts" => say_cuts(alloc, said, "", &sides.held.device()?.inner.inner),
-        "refused" => say_refused(said, &sides.held),
-        name => change_or_ask(alloc, said, &mut sides.held, name, words.rest),
+        name => call_held(alloc, said, &mut sides.held, name, words),
+    }
+}
+
+fn call_held<D: Disk + Drop + OverMemory>(
+    alloc: Global,
+    said: &mut String,
+    held: &mut Held<D>,
+    name: &str,
+    words: &mut Words<'_>,
+) -> Result<(), RowFault> {
+    match name {
+        "reopen" => reopen(alloc, said, held),
+        "calls" => counted(alloc, said, held.store()?, words),
+        "bytes" => say_bytes(said, held.device()?, words),
+        "cuts" => say_cuts(alloc, said, "", held.device()?.memory()),
+        "refused" => Ok(say_refused(said, held.device()?)?),
+        _ => change_or_ask(alloc, said, held.store()?, name, words.rest),
     }
 }
 
@@ -84,16 +96,15 @@ fn open_disk<D: Disk + Drop>(
 }
 
 /// `calls CALL`: what the call says, and how many calls of the disk it makes.
-fn counted(
+fn counted<D: Disk + Drop + OverMemory>(
     alloc: Global,
     said: &mut String,
-    held: &mut Held<Device>,
+    store: &mut Store<D>,
     words: &mut Words<'_>,
 ) -> Result<(), RowFault> {
-    let store = held.store()?;
-    let before = store.log.disk.plan.calls_left;
+    let before = store.log.disk.calls_left();
     change(alloc, said, store, words.next(), words.rest)?;
-    let calls = before.saturating_sub(store.log.disk.plan.calls_left);
+    let calls = before.saturating_sub(store.log.disk.calls_left());
     Ok(write!(said, ", {calls} calls")?)
 }
 
@@ -121,18 +132,31 @@ fn say_change(said: &mut String, answer: Result<(), CommitFault>) -> Result<(), 
 fn change_or_ask<D: Disk + Drop>(
     alloc: Global,
     said: &mut String,
-    held: &mut Held<D>,
+    store: &mut Store<D>,
     name: &str,
     rest: &str,
 ) -> Result<(), RowFault> {
-    let store = held.store()?;
-    match name {
-        "state" => Ok(say_state(alloc, said, store.state())?),
-        "log" => Ok(say_log(said, store)?),
-        "names" => Ok(write!(said, "{}", store.state().len())?),
-        "dead" => Ok(write!(said, "{}", store.is_dead())?),
-        _ => change(alloc, said, store, name, rest),
+    if is_asked(alloc, said, store, name)? {
+        return Ok(());
     }
+    change(alloc, said, store, name, rest)
+}
+
+/// Answers a question. Whether it is one.
+fn is_asked<D: Disk + Drop>(
+    alloc: Global,
+    said: &mut String,
+    store: &Store<D>,
+    name: &str,
+) -> Result<bool, AllocError> {
+    match name {
+        "state" => say_state(alloc, said, store.state())?,
+        "log" => say_log(said, store)?,
+        "names" => write!(said, "{}", store.state().len())?,
+        "dead" => write!(said, "{}", store.is_dead())?,
+        _ => return Ok(false),
+    }
+    Ok(true)
 }
 
 /// The open side, and what it has beside its records.
@@ -146,18 +170,16 @@ fn say_log<D: Disk + Drop>(said: &mut String, store: &Store<D>) -> Result<(), Al
 }
 
 /// `bytes SIDE`: what a side holds.
-fn say_bytes(
+fn say_bytes<D: OverMemory>(
     said: &mut String,
-    held: &Held<Device>,
+    disk: &D,
     words: &mut Words<'_>,
 ) -> Result<(), RowFault> {
     let side = side_named(words.next())?;
-    Ok(bytes::say_all(said, held.device()?.inner.inner.bytes(side))?)
+    Ok(bytes::say_all(said, disk.memory().bytes(side))?)
 }
 
 /// How many calls the disk has refused.
-fn say_refused(said: &mut String, held: &Held<Device>) -> Result<(), RowFault> {
-    let disk = held.device()?;
-    let refused = disk.refused.saturating_add(disk.inner.refused);
-    Ok(write!(said, "{refused}")?)
+fn say_refused<D: OverMemory>(said: &mut String, disk: &D) -> Result<(), AllocError> {
+    write!(said, "{}", disk.refused())
 }

@@ -1,5 +1,5 @@
 //! A commit or a compaction that fails at each call of the disk in turn, and what power cuts then leave.
-use crate::held::{Change, Device, MANY, changed, opened};
+use crate::held::{Change, Device, MANY, OverMemory, changed, opened};
 use crate::power_cuts::say_cuts;
 use crate::sides::Sides;
 use row_files::{RowFault, Words};
@@ -49,14 +49,14 @@ fn device_at(alloc: Global, sides: &Sides, how: &str, calls: u64) -> Result<Devi
     }
 }
 
-fn is_done(
+fn is_done<D: Disk + Drop + OverMemory>(
     alloc: Global,
     said: &mut String,
-    disk: Device,
+    disk: D,
     change: &Change,
 ) -> Result<bool, RowFault> {
     let (front, disk) = left(alloc, disk, change)?;
-    let answered = say_cuts(alloc, said, front, &disk.inner.inner);
+    let answered = say_cuts(alloc, said, front, disk.memory());
     drop(disk);
     answered?;
     Ok(front == DONE)

@@ -33,15 +33,15 @@ fn say_calls(
 }
 
 fn say_call(said: &mut String, files: &mut SystemFolder, word: &str) -> Result<(), RowFault> {
-    match word {
-        "find" => say_found(said, files.find(Which::A))?,
-        "make" => say_made(said, files)?,
-        "len" => say_len(said, len(files))?,
-        "name" => say_done(said, sync_name(files))?,
-        "sync" => say_done(said, sync(files))?,
+    let answered = match word {
+        "find" => say_found(said, files.find(Which::A)),
+        "make" => say_made(said, files),
+        "len" => say_len(said, len(files)),
+        "name" => say_done(said, sync_name(files)),
+        "sync" => say_done(said, sync(files)),
         _ => return Err(RowFault::Word),
-    }
-    Ok(())
+    };
+    Ok(answered?)
 }
 
 fn say_found(said: &mut String, found: io::Result<Option<SystemFile>>) -> Result<(), AllocError> {

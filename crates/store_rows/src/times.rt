@@ -1,13 +1,12 @@
 //! How long a commit of one record takes, and a compaction of a whole state, in nanoseconds: opening isn't counted.
 
 ghost use Rattle.std.specs.Prelude.{◌≡◌, true, false};
-ghost use Rattle.std.specs.List.{AllByRecursion};
 ghost use Rattle.st_records.specs.declared.version.Version.TheVariants as versions;
 ghost use Rattle.st_records.specs.Limits.{IsGood};
 ghost use Rattle.st_file.specs.Batch.{may_stand};
 
 use crate::commits::{begun, disk_over, opened};
-use crate::held::{commit_good, compacted};
+use crate::held::{commit_one, compacted};
 use st_disk::Disk;
 use st_memory::MemDisk;
 use st_records::{ByteString, Record};
@@ -47,20 +46,22 @@ fn times_of_commits<D: Disk + Drop>(
 
 fn time_of_commit<D: Disk + Drop>(rt: HostRuntime, store: &mut Store<D>) -> anyhow::Result<u128> {
     let target = ByteString::from_slice(rt.alloc(), b"obj/changed.o")?;
-    let batch = [begun(target)?];
-    time_of(rt, store, &batch)
+    let note = begun(target)?;
+    let time = time_of(rt, store, &note);
+    drop(note);
+    time
 }
 
 fn time_of<D: Disk + Drop>(
     rt: HostRuntime,
     store: &mut Store<D>,
-    batch: &[Record],
+    note: &Record,
 ) -> anyhow::Result<u128>
-    requires good { AllByRecursion (IsGood versions.Two) batch.now }
-    requires later { AllByRecursion (λ r. may_stand false r ≡ true) batch.now }
+    requires good { IsGood versions.Two note.now }
+    requires later { may_stand false note.now ≡ true }
 {
     let start = Instant::now(&rt)?;
-    commit_good(rt.alloc(), store, batch)?;
+    commit_one(rt.alloc(), store, note)?;
     Ok(start.elapsed(&rt)?.as_nanos())
 }
 
