@@ -2,6 +2,7 @@
 ghost use Rattle.st_records.specs.Limits.{IsGood};
 ghost use Rattle.st_records.specs.declared.version.Version.TheVariants.{Two};
 
+use crate::adding::add;
 use crate::ends::{read_end, write_stand};
 use crate::nodes::Nodes;
 use crate::records::{write_record, write_records};
@@ -152,10 +153,10 @@ impl<T: Told + Drop> Desk<'_, T> {
     }
 
     fn keep_run(&mut self, node: Node, run: Option<Spent<T>>) -> Result<(), AllocError> {
-        if let Some(spent) = run {
-            self.runs.push(Run { node, spent })?;
+        match run {
+            Some(spent) => add(&mut self.runs, Run { node, spent }),
+            None => Ok(()),
         }
-        Ok(())
     }
 
     fn drain(&mut self, alloc: Global, out: &mut String) -> Answered {
@@ -208,8 +209,12 @@ impl<T: Told + Drop> Desk<'_, T> {
         for number in 0..count.saturating_add(2) {
             self.write_node(Node::new(number), number < count, out)?;
         }
+        Ok(self.write_waiting(out)?)
+    }
+
+    fn write_waiting(&self, out: &mut String) -> Result<(), AllocError> {
         write!(out, "{} unflushed", self.board.unflushed())?;
-        Ok(out.push_str(if self.board.waits() { ", waits" } else { "" })?)
+        out.push_str(if self.board.waits() { ", waits" } else { "" })
     }
 
     /// Where a node stands, unless it is nowhere and isn't expected to be anywhere.

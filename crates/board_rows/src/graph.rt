@@ -1,4 +1,5 @@
 //! The graph of a row, and its board.
+use crate::adding::add;
 use crate::distinct::are_distinct;
 use crate::nodes::Nodes;
 use crate::sets::are_sets;
@@ -44,18 +45,16 @@ impl Graph {
     }
 
     fn push(&mut self, alloc: Global, hard: Vec<u32>) -> Result<(), AllocError> {
-        self.hard.push(hard)?;
-        self.soft.push(Vec::new(alloc))?;
-        Ok(())
+        add(&mut self.hard, hard)?;
+        add(&mut self.soft, Vec::new(alloc))
     }
 
     /// Adds a node of a line `NAME: HARD .. | SOFT ..`, once all nodes have their labels.
     pub(crate) fn add(&mut self, alloc: Global, nodes: &Nodes<'_>, line: &str) -> Answered {
         let (_name, edges) = line.split_once(':').ok_or(RowFault::Word)?;
         let (hard, soft) = edges.split_once('|').unwrap_or((edges, ""));
-        self.hard.push(row(alloc, nodes, hard)?)?;
-        self.soft.push(row(alloc, nodes, soft)?)?;
-        Ok(())
+        add(&mut self.hard, row(alloc, nodes, hard)?)?;
+        Ok(add(&mut self.soft, row(alloc, nodes, soft)?)?)
     }
 
     /// A chain of so many nodes: each waits for the next one.
@@ -125,10 +124,8 @@ fn board<T: Told>(
     hard: Edges,
     targets: Vec<ByteString>,
 ) -> Result<Board<T>, RowFault> {
-    if counted.len() != hard.len() || targets.len() != hard.len() || hard.len() > 1_000_000 {
-        return Err(RowFault::Word);
-    }
-    if !are_sets(&counted) {
+    let len = hard.len();
+    if counted.len() != len || targets.len() != len || len > 1_000_000 || !are_sets(&counted) {
         return Err(RowFault::Word);
     }
     if !are_distinct(alloc, &targets)? {

@@ -3,6 +3,7 @@
 //! cases/board/README.md has the language of rows.
 #![tactic(auto)]
 
+mod adding;
 mod cleared;
 mod desk;
 mod distinct;

@@ -1,8 +1,10 @@
 //! A board alone, whose receipts a row makes up.
 ghost use Rattle.std.specs.Prelude.{◌≡◌, IfSome};
 
+use crate::adding::add;
 use crate::cleared::Cleared;
 use crate::desk::Desk;
+use crate::nodes::Nodes;
 use crate::note::Note;
 use crate::records::read_good;
 use crate::script::lines;
@@ -20,6 +22,19 @@ pub(crate) struct Lists<'a> {
     pub(crate) clearances: Vec<Cleared>,
 }
 
+/// `NODE TICKET [as TARGET]`.
+fn read_named(
+    alloc: Global,
+    nodes: &Nodes<'_>,
+    words: &mut Words<'_>,
+) -> Result<(Node, Ticket, ByteString), RowFault> {
+    let node = nodes.next(words)?;
+    let ticket = Ticket::new(words.number()?);
+    let named = nodes.other(words, "as ", node)?;
+    let target = nodes.target(alloc, named)?;
+    Ok((node, ticket, target))
+}
+
 impl World for Lists<'_> {
     fn call(&mut self, alloc: Global, words: &mut Words<'_>, out: &mut String) -> Answered {
         match words.next() {
@@ -34,17 +49,24 @@ impl World for Lists<'_> {
 impl Lists<'_> {
     /// `advance NODE TICKET [as TARGET] RECORD`: with the receipt of that record at that ticket.
     fn advance(&mut self, alloc: Global, words: &mut Words<'_>, out: &mut String) -> Answered {
-        let node = self.desk.nodes.next(words)?;
-        let ticket = Ticket::new(words.number()?);
-        let named = self.desk.nodes.other(words, "as ", node)?;
-        let target = self.desk.nodes.target(alloc, named)?;
-        let answer = if words.rest == "begun" {
-            self.clear(alloc, node, ticket, target)?
-        } else {
-            let noted = read_good(alloc, target, words)?;
-            self.finish(node, Note { ticket, noted })
-        };
+        let (node, ticket, target) = read_named(alloc, &self.desk.nodes, words)?;
+        let answer = self.answer(alloc, node, ticket, target, words)?;
         Ok(out.push_str(answer)?)
+    }
+
+    fn answer(
+        &mut self,
+        alloc: Global,
+        node: Node,
+        ticket: Ticket,
+        target: ByteString,
+        words: &mut Words<'_>,
+    ) -> Result<&'static str, RowFault> {
+        if words.rest == "begun" {
+            return Ok(self.clear(alloc, node, ticket, target)?);
+        }
+        let noted = read_good(alloc, target, words)?;
+        Ok(self.finish(node, Note { ticket, noted }))
     }
 
     /// Advances a node with the receipt of a 'begun'.
@@ -108,8 +130,7 @@ impl Lists<'_> {
         let ignore = words.skip("ignore ");
         let lines = lines(alloc, words.rest)?;
         let run = self.take(node)?.run(alloc, lines, ignore, out)?;
-        self.desk.runs.push(run)?;
-        Ok(())
+        Ok(add(&mut self.desk.runs, run)?)
     }
 
     fn give_up(&mut self, words: &mut Words<'_>, out: &mut String) -> Answered {

@@ -3,10 +3,18 @@ use bd_ledger::Ticket;
 use bd_lists::Told;
 use st_records::Record;
 
-#[derive(Debug, Drop)]
 pub(crate) struct Note {
     pub(crate) ticket: Ticket,
     pub(crate) noted: Record,
+}
+
+impl Drop for Note {
+    fn drop(self) {
+        let Note {
+            ticket: _,
+            noted: _,
+        } = self;
+    }
 }
 
 impl Told for Note {

@@ -1,25 +1,31 @@
 //! A board with the site that is told its records.
+ghost use Rattle.std.specs.Prelude.{IfOk};
+ghost use Rattle.st_records.specs.Limits.{IsGood};
+ghost use Rattle.st_records.specs.declared.version.Version.TheVariants.{Two};
+
 use crate::desk::Desk;
+use crate::nodes::Nodes;
 use crate::records::read_good;
 use crate::site_calls::{flushed, looked, taken_in, tidied};
-use crate::store::{Tried, known_after_cuts, recovered, site, write_recovered, write_state};
+use crate::store::{OverMemory, known_after_cuts, recovered, site, write_recovered, write_state};
 use bd_flusher::{FlushFault, Receipt, Site};
 use bd_ledger::Ticket;
+use bd_links::Node;
 use row_files::{Answered, RowFault, Words, World};
-use st_disk::Which;
+use st_disk::{Disk, Which};
 use st_memory::MemDisk;
 use st_records::Record;
 use std::alloc::{AllocError, Global};
 
 #[derive(Drop)]
-pub(crate) struct Pair<'a> {
+pub(crate) struct Pair<'a, D: Disk + Drop> {
     pub(crate) desk: Desk<'a, Receipt>,
-    pub(crate) site: Site<Tried>,
+    pub(crate) site: Site<D>,
     /// After how many calls the disk stops.
     pub(crate) stop: u64,
 }
 
-impl World for Pair<'_> {
+impl<D: Disk + Drop + OverMemory> World for Pair<'_, D> {
     fn call(&mut self, alloc: Global, words: &mut Words<'_>, out: &mut String) -> Answered {
         match words.next() {
             "begin" => self.begin(alloc, words, out),
@@ -34,7 +40,7 @@ impl World for Pair<'_> {
     }
 }
 
-impl Pair<'_> {
+impl<D: Disk + Drop + OverMemory> Pair<'_, D> {
     /// Answers a call that only reads, or one of the board.
     fn ask(
         &mut self,
@@ -57,7 +63,7 @@ impl Pair<'_> {
     }
 
     fn memory(&self) -> &MemDisk {
-        &self.site.store().log.disk.inner.inner
+        self.site.store().log.disk.memory()
     }
 
     fn write_told(&self, out: &mut String) -> Answered {
@@ -92,21 +98,14 @@ impl Pair<'_> {
         let Some(node) = self.desk.claimed() else {
             return Ok(out.push_str("none")?);
         };
-        let target = self.desk.nodes.target(alloc, node)?;
-        let note = read_good(alloc, target, &mut Words { rest: "begun" })?;
+        let note = begun(alloc, &self.desk.nodes, node)?;
         Ok(self.desk.hand_in(node, note, node, out)?)
     }
 
     /// `look NODE TICKET RECORD`: the batch of the record, where it was told at the ticket.
     fn look(&mut self, alloc: Global, words: &mut Words<'_>, out: &mut String) -> Answered {
-        let node = self.desk.nodes.next(words)?;
-        let ticket = Ticket::new(words.number()?);
-        let target = self.desk.nodes.target(alloc, node)?;
-        let note = read_good(alloc, target, words)?;
-        match self.batch(ticket, note) {
-            Some(batch) => Ok(write!(out, "batch {batch}")?),
-            None => Ok(out.push_str("none")?),
-        }
+        let (ticket, note) = read_told(alloc, &self.desk.nodes, words)?;
+        Ok(write_batch(self.batch(ticket, note), out)?)
     }
 
     fn batch(&self, ticket: Ticket, note: Record) -> Option<usize> {
@@ -141,10 +140,7 @@ impl Pair<'_> {
             "b" => Which::B,
             _ => return Err(RowFault::Word),
         };
-        for byte in self.memory().bytes(side) {
-            write!(out, "{byte:02x}")?;
-        }
-        Ok(())
+        Ok(write_hex(self.memory().bytes(side), out)?)
     }
 
     /// The open side, its version and its generation.
@@ -156,15 +152,48 @@ impl Pair<'_> {
     /// How many calls of the disk there were up to its stop, and how many were refused.
     fn calls(&self, out: &mut String) -> Answered {
         let disk = &self.site.store().log.disk;
-        let refused = disk.refused.saturating_add(disk.inner.refused);
-        let made = self.stop.saturating_sub(disk.plan.calls_left);
-        Ok(write!(out, "{made}, {refused} refused")?)
+        let made = self.stop.saturating_sub(disk.calls_left());
+        Ok(write!(out, "{made}, {} refused", disk.refused())?)
     }
 
     fn cut(&self, alloc: Global, out: &mut String) -> Answered {
         let (least, most) = known_after_cuts(alloc, self.memory())?;
         Ok(write!(out, "{least} to {most}")?)
     }
+}
+
+fn begun(alloc: Global, nodes: &Nodes<'_>, node: Node) -> Result<Record, RowFault>
+    ensures { IfOk result (IsGood Two) }
+{
+    let target = nodes.target(alloc, node)?;
+    read_good(alloc, target, &mut Words { rest: "begun" })
+}
+
+/// `NODE TICKET RECORD`.
+fn read_told(
+    alloc: Global,
+    nodes: &Nodes<'_>,
+    words: &mut Words<'_>,
+) -> Result<(Ticket, Record), RowFault> {
+    let node = nodes.next(words)?;
+    let ticket = Ticket::new(words.number()?);
+    let target = nodes.target(alloc, node)?;
+    let note = read_good(alloc, target, words)?;
+    Ok((ticket, note))
+}
+
+fn write_batch(batch: Option<usize>, out: &mut String) -> Result<(), AllocError> {
+    match batch {
+        Some(batch) => write!(out, "batch {batch}"),
+        None => out.push_str("none"),
+    }
+}
+
+fn write_hex(bytes: &[u8], out: &mut String) -> Result<(), AllocError> {
+    for byte in bytes {
+        write!(out, "{byte:02x}")?;
+    }
+    Ok(())
 }
 
 fn write_answer(answer: Result<(), FlushFault>, out: &mut String) -> Answered {

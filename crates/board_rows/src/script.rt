@@ -1,4 +1,5 @@
 //! Recipes that run nothing.
+use crate::adding::add;
 use bd_lists::{Clearance, Ended, Exec, ExecFault, Variable};
 use byte_strings::ByteString;
 use mk_recipe::Line;
@@ -81,9 +82,14 @@ fn line(alloc: Global, text: &str) -> Result<Line, AllocError> {
 pub(crate) fn lines(alloc: Global, text: &str) -> Result<Vec<Line>, AllocError> {
     let mut lines = Vec::new(alloc);
     if let Some(text) = text.strip_prefix("$ ") {
-        for text in text.split(" $ ") {
-            lines.push(line(alloc, text)?)?;
-        }
+        push_lines(alloc, &mut lines, text)?;
     }
     Ok(lines)
+}
+
+fn push_lines(alloc: Global, lines: &mut Vec<Line>, text: &str) -> Result<(), AllocError> {
+    for text in text.split(" $ ") {
+        add(lines, line(alloc, text)?)?;
+    }
+    Ok(())
 }

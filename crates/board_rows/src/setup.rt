@@ -163,7 +163,7 @@ impl<'a> BoardSetup<'a> {
     }
 
     /// The board with a site over a disk.
-    fn pair(&self, alloc: Global) -> Result<Pair<'a>, RowFault> {
+    fn pair(&self, alloc: Global) -> Result<Pair<'a, Tried>, RowFault> {
         let desk = self.desk(alloc)?;
         match self.site(alloc) {
             Ok(site) => Ok(Pair {

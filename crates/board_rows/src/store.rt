@@ -7,14 +7,43 @@ use st_doubles::{FailOnce, Fuse};
 use st_memory::MemDisk;
 use st_records::{HashKey, Phase};
 use st_recovery::{Store, open};
-use st_state::State;
+use st_state::{Listed, State};
 use std::alloc::{AllocError, Global};
 
 /// A disk over memory that may stop, or fail one call.
 pub(crate) type Tried = Fuse<FailOnce<MemDisk>>;
 
+/// A disk over memory.
+pub(crate) trait OverMemory {
+    fn memory(&self) -> &MemDisk;
+
+    /// How many calls it has left before it stops.
+    fn calls_left(&self) -> u64;
+
+    /// How many calls were refused.
+    fn refused(&self) -> u64;
+}
+
+impl OverMemory for Tried {
+    fn memory(&self) -> &MemDisk {
+        &self.inner.inner
+    }
+
+    fn calls_left(&self) -> u64 {
+        self.plan.calls_left
+    }
+
+    fn refused(&self) -> u64 {
+        self.refused.saturating_add(self.inner.refused)
+    }
+}
+
 // What the places that a power cut leaves open are filled with.
-const FILLS: [&[u8]; 3] = [b"\x00", b"\x01", b"\xff"];
+static FILLS: [&[u8]; 3] = [b"\x00", b"\x01", b"\xff"];
+
+fn fills() -> &'static [&'static [u8]] {
+    &FILLS
+}
 
 pub(crate) fn opened<D: Disk + Drop>(alloc: Global, disk: D) -> Result<Store<D>, RowFault> {
     match open(alloc, HashKey::fixed(), disk) {
@@ -60,7 +89,7 @@ fn cut(alloc: Global, disk: &MemDisk, longest: bool, fill: &[u8]) -> Result<MemD
 pub(crate) fn known_after_cuts(alloc: Global, disk: &MemDisk) -> Result<(usize, usize), RowFault> {
     let mut least = usize::MAX;
     let mut most = 0;
-    for fill in &FILLS {
+    for fill in fills() {
         let short = known(alloc, cut(alloc, disk, false, fill)?)?;
         let long = known(alloc, cut(alloc, disk, true, fill)?)?;
         least = least.min(short).min(long);
@@ -76,12 +105,18 @@ pub(crate) fn write_state(
     out: &mut String,
 ) -> Result<(), AllocError> {
     let named = state.in_byte_order(alloc)?;
+    let written = write_entries(alloc, &named, out);
+    drop(named);
+    written
+}
+
+fn write_entries(alloc: Global, named: &Listed<'_>, out: &mut String) -> Result<(), AllocError> {
+    let mut between = "";
     for place in 0..named.len() {
-        if place > 0 {
-            out.push_str(", ")?;
-        }
+        out.push_str(between)?;
         let (name, entry) = named.at(place);
         write_entry(alloc, name, entry.phase(), out)?;
+        between = ", ";
     }
     Ok(())
 }
