@@ -10,7 +10,7 @@ use bd_ledger::Ticket;
 use bd_places::End;
 use jb_closing::{Closed, Report, RunFault};
 use mk_nodes::Graph;
-use st_memory::MemDisk;
+use st_disk::Disk;
 use std::alloc::{AllocError, Global};
 use std::process::Abort;
 use std::test::Fail;
@@ -80,16 +80,16 @@ static ROWS: [Row; 8] = [
     },
 ];
 
-fn receipt(alloc: Global, site: &Site<MemDisk>, ticket: usize) -> Result<Receipt, Fail> {
+fn receipt<D: Disk + Drop>(alloc: Global, site: &Site<D>, ticket: usize) -> Result<Receipt, Fail> {
     let Some(note) = site.told().get(ticket) else {
         return Err("nothing was told there".into());
     };
     look(site, Ticket::new(ticket), note.copy(alloc)?)
 }
 
-fn push_receipts(
+fn push_receipts<D: Disk + Drop>(
     alloc: Global,
-    site: &Site<MemDisk>,
+    site: &Site<D>,
     tickets: &[usize],
     receipts: &mut Vec<Receipt>,
 ) -> Result<(), Fail> {
@@ -107,10 +107,10 @@ fn report_of(alloc: Global, ends: &[End]) -> Result<Report, AllocError> {
 }
 
 /// Why a report isn't passed.
-fn fault_of(
+fn fault_of<D: Disk + Drop>(
     alloc: Global,
     graph: &Graph,
-    closed: &Closed<MemDisk>,
+    closed: &Closed<D>,
     report: Report,
     receipts: &[Receipt],
 ) -> Option<RunFault> {
@@ -120,10 +120,10 @@ fn fault_of(
     }
 }
 
-fn refusal(
+fn refusal<D: Disk + Drop>(
     alloc: Global,
     graph: &Graph,
-    closed: &Closed<MemDisk>,
+    closed: &Closed<D>,
     row: &Row,
     receipts: &[Receipt],
 ) -> Result<Option<RunFault>, AllocError> {
@@ -135,23 +135,28 @@ fn unknown(ticket: usize) -> RunFault {
     RunFault::Flush(FlushFault::Unknown(Ticket::new(ticket)))
 }
 
-fn expect_row(
+fn expect_refusal(rt: &impl Abort, row: &Row, refusal: Option<RunFault>) {
+    assert_eq!(rt; refusal, row.refused_at.map(unknown), "{}", row.name);
+}
+
+fn expect_row<D: Disk + Drop>(
     rt: &(impl Abort + AllocGlobal),
     graph: &Graph,
-    closed: &Closed<MemDisk>,
+    closed: &Closed<D>,
     row: &Row,
 ) -> Result<(), Fail> {
     let mut receipts = Vec::new(rt.alloc());
     push_receipts(rt.alloc(), &closed.site, row.tickets, &mut receipts)?;
-    let refusal = refusal(rt.alloc(), graph, closed, row, &receipts)?;
-    assert_eq!(rt; refusal, row.refused_at.map(unknown), "{}", row.name);
+    let refusal = refusal(rt.alloc(), graph, closed, row, &receipts);
+    drop(receipts);
+    expect_refusal(rt, row, refusal?);
     Ok(())
 }
 
-fn expect_rows(
+fn expect_rows<D: Disk + Drop>(
     rt: &(impl Abort + AllocGlobal),
     graph: &Graph,
-    closed: &Closed<MemDisk>,
+    closed: &Closed<D>,
 ) -> Result<(), Fail> {
     for row in &ROWS {
         expect_row(rt, graph, closed, row)?;
@@ -159,7 +164,10 @@ fn expect_rows(
     Ok(())
 }
 
-fn expect_closed(rt: &(impl Abort + AllocGlobal), closed: &Closed<MemDisk>) -> Result<(), Fail> {
+fn expect_closed<D: Disk + Drop>(
+    rt: &(impl Abort + AllocGlobal),
+    closed: &Closed<D>,
+) -> Result<(), Fail> {
     let graph = graph(rt.alloc(), &TWO, closed.site.store().state())?;
     expect_rows(rt, &graph, closed)
 }

@@ -9,7 +9,6 @@ use std::sync::{Mutex, Wait};
 use std::time::Clock;
 
 /// What came of the calls so far.
-#[derive(Drop)]
 pub struct Notes {
     /// What was printed. A line on standard error has a `!` in front, a call about a file a `~`.
     pub said: Vec<u8>,
@@ -28,6 +27,19 @@ pub struct Notes {
 // The lines that are run take no memory up to this size.
 const ROOM: usize = 4000;
 
+impl Drop for Notes {
+    fn drop(self) {
+        let Notes {
+            said: _,
+            ran: _,
+            tokens: _,
+            reads: _,
+            are_mixed: _,
+            begun: _,
+        } = self;
+    }
+}
+
 impl Notes {
     /// One more that others wait for has begun.
     pub fn begin(&mut self) {
@@ -38,13 +50,24 @@ impl Notes {
 /// A worker's end of the pool.
 pub type TokenEnd<'f, R> = End<Tap<'f, R>>;
 
-#[derive(Drop)]
 pub struct Fake<R: Wait + Clock + Copy> {
     pub rt: R,
     pub alloc: Global,
     pub sync: Result<(), PlaceFault>,
     pub is_broken: bool,
     pub notes: Mutex<Notes>,
+}
+
+impl<R: Wait + Clock + Copy> Drop for Fake<R> {
+    fn drop(self) {
+        let Fake {
+            rt: _,
+            alloc: _,
+            sync: _,
+            is_broken: _,
+            notes: _,
+        } = self;
+    }
 }
 
 impl<R: Wait + Clock + Copy> Fake<R> {

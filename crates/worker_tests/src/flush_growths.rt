@@ -7,10 +7,10 @@ use crate::states::{opened, site_of};
 use bd_flusher::{FlushFault, Flusher, Receipt, Site};
 use bd_ledger::Ticket;
 use bd_lists::Board;
+use st_disk::Disk;
 use st_doubles::Fuse;
 use st_memory::MemDisk;
-use st_recovery::Store;
-use std::alloc::Global;
+use std::alloc::{AllocError, Global};
 use std::sync::{Mutex, Wait};
 use std::test::Fail;
 
@@ -22,22 +22,37 @@ const TWO: Asked = Asked {
     files: &[],
 };
 
-/// A store whose disk has room for all that a test notes.
-fn roomy(alloc: Global) -> Result<Store<Fuse<MemDisk>>, Fail> {
+/// A disk that knows how many calls it has left.
+trait Counted {
+    fn calls_left(&self) -> u64;
+}
+
+impl<D: Disk + Drop> Counted for Fuse<D> {
+    fn calls_left(&self) -> u64 {
+        self.plan.calls_left
+    }
+}
+
+/// A disk that has room for all that a test notes.
+fn roomy(alloc: Global) -> Result<Fuse<MemDisk>, AllocError> {
     let mut disk = MemDisk::new(alloc);
     disk.reserve(100, 10_000)?;
-    Ok(opened(alloc, Fuse::new(disk, MANY))?)
+    Ok(Fuse::new(disk, MANY))
 }
 
 /// A site, and a board of two targets.
-fn pair(alloc: Global) -> Result<(Site<Fuse<MemDisk>>, Board<Receipt>), Fail> {
-    let store = roomy(alloc)?;
+fn pair<D: Disk + Drop>(alloc: Global, disk: D) -> Result<(Site<D>, Board<Receipt>), Fail> {
+    let store = opened(alloc, disk)?;
     let board = board(alloc, &TWO, store.state())?;
     Ok((site_of(alloc, store)?, board))
 }
 
 /// Takes in, and once more where memory was refused: then nothing had changed.
-fn takes_in_all(alloc: Global, site: &mut Site<Fuse<MemDisk>>, board: &mut Board<Receipt>) -> bool {
+fn takes_in_all<D: Disk + Drop>(
+    alloc: Global,
+    site: &mut Site<D>,
+    board: &mut Board<Receipt>,
+) -> bool {
     let waiting = board.unflushed();
     let first = take_in(alloc, site, board);
     if first != Err(FlushFault::OutOfMemory) {
@@ -47,12 +62,12 @@ fn takes_in_all(alloc: Global, site: &mut Site<Fuse<MemDisk>>, board: &mut Board
 }
 
 /// How many calls the disk has left, and how many records are told.
-fn counts(site: &Site<Fuse<MemDisk>>) -> (u64, usize) {
-    (site.store().log.disk.plan.calls_left, site.told().len())
+fn counts<D: Disk + Drop + Counted>(site: &Site<D>) -> (u64, usize) {
+    (site.store().log.disk.calls_left(), site.told().len())
 }
 
 /// Flushes, and once more where memory was refused: then no call was made, and what was held is written.
-fn flushes_all(alloc: Global, site: &mut Site<Fuse<MemDisk>>) -> bool {
+fn flushes_all<D: Disk + Drop + Counted>(alloc: Global, site: &mut Site<D>) -> bool {
     let before = counts(site);
     let first = flush(alloc, site);
     if first != Err(FlushFault::OutOfMemory) {
@@ -62,9 +77,9 @@ fn flushes_all(alloc: Global, site: &mut Site<Fuse<MemDisk>>) -> bool {
 }
 
 /// Submits two records and writes them as one batch. How many are told then.
-fn written(
+fn written<D: Disk + Drop + Counted>(
     alloc: Global,
-    site: &mut Site<Fuse<MemDisk>>,
+    site: &mut Site<D>,
     board: &mut Board<Receipt>,
 ) -> Result<usize, Fail> {
     submitted(alloc, board, b"a").ok_or("nothing was submitted")?;
@@ -75,36 +90,43 @@ fn written(
     Ok(0)
 }
 
-fn written_by_a_pair(alloc: Global) -> Result<usize, Fail> {
-    let (mut site, mut board) = pair(alloc)?;
+fn written_by_a_pair<D: Disk + Drop + Counted>(alloc: Global, disk: D) -> Result<usize, Fail> {
+    let (mut site, mut board) = pair(alloc, disk)?;
     written(alloc, &mut site, &mut board)
 }
 
 #[test]
 fn a_batch_that_wanted_memory_is_written_again(rt: HostRuntime) -> Result<(), Fail> {
-    let told = written_by_a_pair(rt.alloc())?;
+    let disk = roomy(rt.alloc())?;
+    let told = written_by_a_pair(rt.alloc(), disk)?;
     assert_eq!(rt; told, 2);
     Ok(())
 }
 
-fn flusher(alloc: Global) -> Result<Flusher<Fuse<MemDisk>>, Fail> {
-    let (site, board) = pair(alloc)?;
+fn flusher<D: Disk + Drop>(alloc: Global, disk: D) -> Result<Flusher<D>, Fail> {
+    let (site, board) = pair(alloc, disk)?;
     Ok(Flusher {
         site: Mutex::new(site),
         board: Mutex::new(board),
     })
 }
 
-/// The ticket of a flusher's first record.
-fn submitted_to<R: Wait + AllocGlobal>(rt: &R, flusher: &Flusher<Fuse<MemDisk>>) -> Option<Ticket> {
-    let (_node, ticket) = submitted(rt.alloc(), &mut flusher.board.lock(rt), b"a")?;
-    Some(ticket)
+/// The ticket of a flusher's next record.
+fn submitted_to<R: Wait + AllocGlobal, D: Disk + Drop>(
+    rt: &R,
+    flusher: &Flusher<D>,
+    target: &[u8],
+) -> Result<Ticket, Fail> {
+    match submitted(rt.alloc(), &mut flusher.board.lock(rt), target) {
+        Some((_node, ticket)) => Ok(ticket),
+        None => Err("nothing was submitted".into()),
+    }
 }
 
 /// The batch of the first record, asked for once more where memory was refused.
-fn acknowledged_twice<R: Wait + AllocGlobal>(
+fn acknowledged_twice<R: Wait + AllocGlobal, D: Disk + Drop>(
     rt: &R,
-    flusher: &Flusher<Fuse<MemDisk>>,
+    flusher: &Flusher<D>,
     ticket: Ticket,
 ) -> Result<usize, FlushFault> {
     match acknowledged(rt, rt.alloc(), flusher, b"a", ticket) {
@@ -114,53 +136,85 @@ fn acknowledged_twice<R: Wait + AllocGlobal>(
 }
 
 /// The first record's number and batch.
-fn first_record<R: Wait + AllocGlobal>(rt: &R) -> Result<(usize, Result<usize, FlushFault>), Fail> {
-    let flusher = flusher(rt.alloc())?;
-    let ticket = submitted_to(rt, &flusher).ok_or("nothing was submitted")?;
-    Ok((ticket.number(), acknowledged_twice(rt, &flusher, ticket)))
+fn first_record<R: Wait + AllocGlobal, D: Disk + Drop>(
+    rt: &R,
+    disk: D,
+) -> Result<(usize, Result<usize, FlushFault>), Fail> {
+    let flusher = flusher(rt.alloc(), disk)?;
+    first_record_of(rt, &flusher)
+}
+
+fn first_record_of<R: Wait + AllocGlobal, D: Disk + Drop>(
+    rt: &R,
+    flusher: &Flusher<D>,
+) -> Result<(usize, Result<usize, FlushFault>), Fail> {
+    let ticket = submitted_to(rt, flusher, b"a")?;
+    Ok((ticket.number(), acknowledged_twice(rt, flusher, ticket)))
 }
 
 #[test]
 fn an_acknowledgement_that_wanted_memory_comes_again(rt: HostRuntime) -> Result<(), Fail> {
-    let first = first_record(&rt)?;
+    let disk = roomy(rt.alloc())?;
+    let first = first_record(&rt, disk)?;
     assert_eq!(rt; first, (0, Ok(0)));
     Ok(())
 }
 
+/// A ticket, and what is told of two records at it.
+type TicketAndTold = (Ticket, Result<usize, FlushFault>, Result<usize, FlushFault>);
+
 /// The first record's ticket, what is told of it, and what at the same ticket of a record that was not submitted.
-fn own_and_other<R: Wait + AllocGlobal>(
+fn own_and_other<R: Wait + AllocGlobal, D: Disk + Drop>(
     rt: &R,
-) -> Result<(Ticket, Result<usize, FlushFault>, Result<usize, FlushFault>), Fail> {
-    let flusher = flusher(rt.alloc())?;
-    let ticket = submitted_to(rt, &flusher).ok_or("nothing was submitted")?;
-    let own = acknowledged(rt, rt.alloc(), &flusher, b"a", ticket);
-    let other = acknowledged(rt, rt.alloc(), &flusher, b"b", ticket);
+    disk: D,
+) -> Result<TicketAndTold, Fail> {
+    let flusher = flusher(rt.alloc(), disk)?;
+    own_and_other_of(rt, &flusher)
+}
+
+fn own_and_other_of<R: Wait + AllocGlobal, D: Disk + Drop>(
+    rt: &R,
+    flusher: &Flusher<D>,
+) -> Result<TicketAndTold, Fail> {
+    let ticket = submitted_to(rt, flusher, b"a")?;
+    let own = acknowledged(rt, rt.alloc(), flusher, b"a", ticket);
+    let other = acknowledged(rt, rt.alloc(), flusher, b"b", ticket);
     Ok((ticket, own, other))
 }
 
 #[test]
 fn a_record_that_was_not_submitted_is_unknown(rt: HostRuntime) -> Result<(), Fail> {
-    let (ticket, own, other) = own_and_other(&rt)?;
+    let disk = roomy(rt.alloc())?;
+    let (ticket, own, other) = own_and_other(&rt, disk)?;
     assert_eq!(rt; (own, other), (Ok(0), Err(FlushFault::Unknown(ticket))));
     Ok(())
 }
 
+/// What is told of a record at first and again, and how many wait then.
+type ToldAgain = (Result<usize, FlushFault>, Result<usize, FlushFault>, usize);
+
 /// What is told of the first record, what once more while another one waits, and how many wait then.
-fn told_again<R: Wait + AllocGlobal>(
+fn told_again<R: Wait + AllocGlobal, D: Disk + Drop>(rt: &R, disk: D) -> Result<ToldAgain, Fail> {
+    let flusher = flusher(rt.alloc(), disk)?;
+    told_again_of(rt, &flusher)
+}
+
+fn told_again_of<R: Wait + AllocGlobal, D: Disk + Drop>(
     rt: &R,
-) -> Result<(Result<usize, FlushFault>, Result<usize, FlushFault>, usize), Fail> {
-    let flusher = flusher(rt.alloc())?;
-    let ticket = submitted_to(rt, &flusher).ok_or("nothing was submitted")?;
-    let first = acknowledged(rt, rt.alloc(), &flusher, b"a", ticket);
-    submitted(rt.alloc(), &mut flusher.board.lock(rt), b"b").ok_or("nothing was submitted")?;
-    let again = acknowledged(rt, rt.alloc(), &flusher, b"a", ticket);
+    flusher: &Flusher<D>,
+) -> Result<ToldAgain, Fail> {
+    let ticket = submitted_to(rt, flusher, b"a")?;
+    let first = acknowledged(rt, rt.alloc(), flusher, b"a", ticket);
+    submitted_to(rt, flusher, b"b")?;
+    let again = acknowledged(rt, rt.alloc(), flusher, b"a", ticket);
     let waiting = flusher.board.lock(rt).unflushed();
     Ok((first, again, waiting))
 }
 
 #[test]
 fn a_record_that_is_told_writes_no_other(rt: HostRuntime) -> Result<(), Fail> {
-    let told = told_again(&rt)?;
+    let disk = roomy(rt.alloc())?;
+    let told = told_again(&rt, disk)?;
     assert_eq!(rt; told, (Ok(0), Ok(0), 1));
     Ok(())
 }

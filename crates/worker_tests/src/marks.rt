@@ -2,6 +2,7 @@
 
 use st_marks::{Mark, Marks, Stamp, marks_of, read_marks, write_marks};
 use std::alloc::{AllocError, Global};
+use std::process::Abort;
 use std::test::Fail;
 
 const SOURCE: &[u8] = b"s.c";
@@ -46,12 +47,56 @@ static NO_TEXTS: [(&str, &[u8]); 9] = [
     ),
 ];
 
+static FOUR_UNKNOWN: [Mark; 4] = [Mark::Unknown; 4];
+
+static TWO_UNKNOWN: [Mark; 2] = [Mark::Unknown; 2];
+
+// A table that is named in a function is written out at each of its steps, so each is named once.
+fn marks() -> &'static [Mark] {
+    &MARKS
+}
+
+fn text() -> &'static [u8] {
+    &TEXT
+}
+
+fn four_unknown() -> &'static [Mark] {
+    &FOUR_UNKNOWN
+}
+
+fn two_unknown() -> &'static [Mark] {
+    &TWO_UNKNOWN
+}
+
+fn no_texts() -> &'static [(&'static str, &'static [u8])] {
+    &NO_TEXTS
+}
+
 fn listed(alloc: Global, left: Marks<'_>) -> Result<Vec<Mark>, Fail> {
     let mut marks = Vec::new(alloc);
     for mark in left {
         marks.push(mark)?;
     }
     Ok(marks)
+}
+
+fn expect_marks(
+    rt: &(impl Abort + AllocGlobal),
+    name: &str,
+    left: Marks<'_>,
+    wanted: &[Mark],
+) -> Result<(), Fail> {
+    let marks = listed(rt.alloc(), left)?;
+    assert_eq!(rt; marks.as_slice(), wanted, "{name}");
+    Ok(())
+}
+
+fn expect_bytes(rt: &impl Abort, given: &[u8], wanted: &[u8]) {
+    assert_eq!(rt; given, wanted);
+}
+
+fn expect_mark(rt: &impl Abort, given: Mark, wanted: Mark) {
+    assert_eq!(rt; given, wanted);
 }
 
 /// The text, once more where memory was refused.
@@ -64,43 +109,41 @@ fn written(alloc: Global) -> Result<Vec<u8>, AllocError> {
 
 #[test]
 fn a_mark_of_each_kind_is_written(rt: HostRuntime) -> Result<(), Fail> {
-    let text = written(rt.alloc())?;
-    assert_eq!(rt; text.as_slice(), TEXT.as_slice());
+    let written = written(rt.alloc())?;
+    expect_bytes(&rt, written.as_slice(), text());
     Ok(())
 }
 
 #[test]
 fn no_source_and_no_marks_are_five_bytes(rt: HostRuntime) -> Result<(), Fail> {
     let text = write_marks(rt.alloc(), None, &[])?;
-    assert_eq!(rt; text.as_slice(), [0, 0, 0, 0, 0].as_slice());
+    expect_bytes(&rt, text.as_slice(), b"\0\0\0\0\0");
     Ok(())
 }
 
 #[test]
 fn what_was_written_is_read(rt: HostRuntime) -> Result<(), Fail> {
-    let said = read_marks(&TEXT).ok_or("it is no text")?;
-    assert_eq!(rt; said.source.ok_or("it has no source")?, SOURCE);
+    let said = read_marks(text()).ok_or("it is no text")?;
+    expect_bytes(&rt, said.source.ok_or("it has no source")?, SOURCE);
     assert_eq!(rt; said.marks.len(), 5);
-    let marks = listed(rt.alloc(), said.marks)?;
-    assert_eq!(rt; marks.as_slice(), MARKS.as_slice());
-    Ok(())
+    expect_marks(&rt, "the text", said.marks, marks())
 }
 
 #[test]
 fn marks_are_those_of_the_text_where_so_many_are_wanted(rt: HostRuntime) -> Result<(), Fail> {
-    let marks = listed(rt.alloc(), marks_of(&TEXT, 5))?;
-    assert_eq!(rt; marks.as_slice(), MARKS.as_slice());
-    let marks = listed(rt.alloc(), marks_of(&TEXT, 4))?;
-    assert_eq!(rt; marks.as_slice(), [Mark::Unknown; 4].as_slice());
-    Ok(())
+    expect_marks(&rt, "as many", marks_of(text(), 5), marks())?;
+    expect_marks(&rt, "one less", marks_of(text(), 4), four_unknown())
+}
+
+fn expect_no_text(rt: &(impl Abort + AllocGlobal), name: &str, bytes: &[u8]) -> Result<(), Fail> {
+    assert!(rt; read_marks(bytes).is_none(), "{name}");
+    expect_marks(rt, name, marks_of(bytes, 2), two_unknown())
 }
 
 #[test]
 fn bytes_that_are_no_text_are_unknown_marks(rt: HostRuntime) -> Result<(), Fail> {
-    for (name, bytes) in &NO_TEXTS {
-        assert!(rt; read_marks(bytes).is_none(), "{name}");
-        let marks = listed(rt.alloc(), marks_of(bytes, 2))?;
-        assert_eq!(rt; marks.as_slice(), [Mark::Unknown; 2].as_slice(), "{name}");
+    for (name, bytes) in no_texts() {
+        expect_no_text(&rt, name, bytes)?;
     }
     Ok(())
 }
@@ -112,9 +155,9 @@ fn a_time_is_near_and_a_size_is_modulo_2_to_the_32(rt: HostRuntime) -> Result<()
         size: 7,
     };
     let first = i128::from(i64::MIN);
-    assert_eq!(rt; Mark::file(first, 0x3_0000_0007), Mark::File(stamp));
-    assert_eq!(rt; Mark::own(first, 7), Mark::Own(stamp));
-    assert_eq!(rt; Mark::file(first - 1, 7), Mark::Unknown);
-    assert_eq!(rt; Mark::own(i128::from(i64::MAX) + 1, 7), Mark::Unknown);
+    expect_mark(&rt, Mark::file(first, 0x3_0000_0007), Mark::File(stamp));
+    expect_mark(&rt, Mark::own(first, 7), Mark::Own(stamp));
+    expect_mark(&rt, Mark::file(first - 1, 7), Mark::Unknown);
+    expect_mark(&rt, Mark::own(i128::from(i64::MAX) + 1, 7), Mark::Unknown);
     Ok(())
 }

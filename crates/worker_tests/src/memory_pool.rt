@@ -1,5 +1,6 @@
 //! A pool in memory: which byte a take finds, and what is refused.
 use jb_slots::{Bank, MemoryBank, MemoryPool, Taken};
+use std::alloc::{AllocError, Global};
 use std::sync::Wait;
 use std::test::Fail;
 
@@ -36,6 +37,10 @@ static STEPS: [Step; 16] = [
     Step::Takes(1, Taken::End),
 ];
 
+fn steps() -> &'static [Step] {
+    &STEPS
+}
+
 fn is_so<R: Wait>(ends: &mut [MemoryBank<'_, R>], step: Step) -> bool {
     let (Step::Takes(number, _) | Step::Gives(number, _) | Step::IsRefused(number, _)) = step;
     let Some(end) = ends.get_mut(number) else {
@@ -51,7 +56,7 @@ fn is_so<R: Wait>(ends: &mut [MemoryBank<'_, R>], step: Step) -> bool {
 // How many steps were answered as they say, before the first that wasn't.
 fn steps_that_are_so<R: Wait>(ends: &mut [MemoryBank<'_, R>]) -> usize {
     let mut count = 0usize;
-    for step in &STEPS {
+    for step in steps() {
         if !is_so(ends, *step) {
             return count;
         }
@@ -60,13 +65,39 @@ fn steps_that_are_so<R: Wait>(ends: &mut [MemoryBank<'_, R>]) -> usize {
     count
 }
 
+fn add_end<'a, R: Wait>(
+    rt: &'a R,
+    alloc: Global,
+    pool: &'a MemoryPool,
+    ends: &mut Vec<MemoryBank<'a, R>>,
+    room: usize,
+) -> Result<(), AllocError> {
+    let end = pool.end(rt, alloc, room)?;
+    ends.push(end)?;
+    Ok(())
+}
+
+fn add_ends<'a, R: Wait>(
+    rt: &'a R,
+    alloc: Global,
+    pool: &'a MemoryPool,
+    ends: &mut Vec<MemoryBank<'a, R>>,
+) -> Result<(), AllocError> {
+    add_end(rt, alloc, pool, ends, 4)?;
+    add_end(rt, alloc, pool, ends, 4)?;
+    add_end(rt, alloc, pool, ends, 1)
+}
+
+fn steps_of_a_pool<R: Wait>(rt: &R, alloc: Global) -> Result<usize, AllocError> {
+    let pool = MemoryPool::new(alloc, b"ab")?;
+    let mut ends = Vec::new(alloc);
+    add_ends(rt, alloc, &pool, &mut ends)?;
+    Ok(steps_that_are_so(ends.as_mut_slice()))
+}
+
 #[test]
 fn each_step_is_answered_as_it_says(rt: HostRuntime) -> Result<(), Fail> {
-    let pool = MemoryPool::new(rt.alloc(), b"ab")?;
-    let mut ends = Vec::with_capacity(rt.alloc(), 3)?;
-    for room in [4, 4, 1] {
-        ends.push(pool.end(&rt, rt.alloc(), room)?)?;
-    }
-    assert_eq!(rt; steps_that_are_so(ends.as_mut_slice()), STEPS.len());
+    let count = steps_of_a_pool(&rt, rt.alloc())?;
+    assert_eq!(rt; count, steps().len());
     Ok(())
 }

@@ -5,7 +5,7 @@ ghost use Rattle.std.specs.Prelude.{◌≡◌, IfOk, IfErr};
 ghost use Rattle.st_records.specs.declared.record.Record.TheVariants as records;
 
 use crate::boards::{begun, board, flush, look, submitted, take_in};
-use crate::fake::{Fake, TokenEnd};
+use crate::fake::{Fake, Notes, TokenEnd};
 use crate::makefiles::Asked;
 use crate::states::{new_store, site_of};
 use crate::way::ALONE;
@@ -17,7 +17,8 @@ use jb_recipe::{Ran, run_recipe};
 use jb_slots::{Slot, Slots};
 use mk_profile::Profile;
 use mk_recipe::split_line;
-use st_memory::MemDisk;
+use st_disk::Disk;
+use st_recovery::Store;
 use std::alloc::Global;
 use std::process::Abort;
 use std::sync::Wait;
@@ -45,21 +46,21 @@ fn advanced(
     }
 }
 
-fn written(
+fn written<D: Disk + Drop>(
     alloc: Global,
     board: &mut Board<Receipt>,
-    site: &mut Site<MemDisk>,
+    site: &mut Site<D>,
 ) -> Result<(), Fail> {
     take_in(alloc, site, board)?;
     flush(alloc, site)?;
     Ok(())
 }
 
-fn cleared_by(
+fn cleared_by<D: Disk + Drop>(
     alloc: Global,
     target: &[u8],
     board: &mut Board<Receipt>,
-    site: &mut Site<MemDisk>,
+    site: &mut Site<D>,
 ) -> Result<Clearance<Receipt>, Fail>
     ensures { IfOk result (λ c. c.told.noted ≡ records.Begun target.now) }
 {
@@ -74,7 +75,16 @@ fn cleared_by(
 fn cleared(alloc: Global, target: &[u8]) -> Result<Clearance<Receipt>, Fail>
     ensures { IfOk result (λ c. c.told.noted ≡ records.Begun target.now) }
 {
-    let store = new_store(alloc)?;
+    cleared_over(alloc, target, new_store(alloc)?)
+}
+
+fn cleared_over<D: Disk + Drop>(
+    alloc: Global,
+    target: &[u8],
+    store: Store<D>,
+) -> Result<Clearance<Receipt>, Fail>
+    ensures { IfOk result (λ c. c.told.noted ≡ records.Begun target.now) }
+{
     let mut board = board(alloc, &ONE, store.state())?;
     let mut site = site_of(alloc, store)?;
     cleared_by(alloc, target, &mut board, &mut site)
@@ -187,17 +197,17 @@ fn refusals_of<R: Wait + Clock + Copy>(
     Ok(refusals_in_a_slot(rt, alloc, clearance, first, second, &mut end, fake))
 }
 
-/// How often a recipe's memory was refused before it was run, and the lines that were run.
-fn run_at_last<R: Wait + Clock + Copy>(rt: &R, alloc: Global) -> Result<(u8, Vec<u8>), Fail> {
+/// How often a recipe's memory was refused before it was run, and what came of the calls.
+fn run_at_last<R: Wait + Clock + Copy>(rt: &R, alloc: Global) -> Result<(u8, Notes), Fail> {
     let fake = Fake::new(*rt, alloc, &ALONE)?;
     let refusals = refusals_of(rt, alloc, TARGET, &fake)?;
-    Ok((refusals, fake.into_notes().ran))
+    Ok((refusals, fake.into_notes()))
 }
 
 #[test]
 fn a_recipe_that_wanted_memory_is_run_the_next_time(rt: HostRuntime) -> Result<(), Fail> {
-    let (refusals, ran) = run_at_last(&rt, rt.alloc())?;
+    let (refusals, notes) = run_at_last(&rt, rt.alloc())?;
     assert!(rt; refusals <= 1);
-    assert_eq!(rt; ran.as_slice(), b"echo x\n".as_slice());
+    assert_eq!(rt; notes.ran.as_slice(), b"echo x\n".as_slice());
     Ok(())
 }

@@ -7,6 +7,7 @@ use crate::makefiles::Asked;
 use crate::runs::{Came, made};
 use crate::states::new_store;
 use crate::way::{ALONE_WITH_K, Way};
+use st_disk::Disk;
 use st_memory::MemDisk;
 use st_records::Phase;
 use std::process::Abort;
@@ -26,7 +27,7 @@ const PAIR: Way = Way {
 };
 
 /// Whether the state knows a target whose recipe was run: as begun or failed where memory was refused, else as done.
-fn knows(came: &Came<MemDisk>, target: &[u8]) -> bool {
+fn knows<D: Disk + Drop>(came: &Came<D>, target: &[u8]) -> bool {
     match came.state().get(target) {
         Some(entry) => came.status() != 0 || entry.phase() == Phase::Done,
         None => false,
@@ -39,7 +40,7 @@ fn was_run(ran: &[u8], line: &[u8]) -> bool {
 }
 
 /// What holds of each run, whatever was refused.
-fn is_in_order(came: &Came<MemDisk>) -> bool {
+fn is_in_order<D: Disk + Drop>(came: &Came<D>) -> bool {
     let notes = &came.notes;
     let ran = notes.ran.as_slice();
     notes.tokens.as_slice() == b"+".as_slice()
@@ -57,7 +58,7 @@ fn run_of<R: Threads + Wait + Clock + Sync + Copy + AllocGlobal>(
 }
 
 // The one worker finds the implicit slot free for each recipe, so it reads no token.
-fn expect_of_one(rt: &impl Abort, came: &Came<MemDisk>) {
+fn expect_of_one<D: Disk + Drop>(rt: &impl Abort, came: &Came<D>) {
     assert!(rt; is_in_order(came));
     assert_eq!(rt; came.notes.reads, 0);
     match came.status() {
@@ -67,7 +68,7 @@ fn expect_of_one(rt: &impl Abort, came: &Came<MemDisk>) {
     }
 }
 
-fn expect_of_two(rt: &impl Abort, came: &Came<MemDisk>) {
+fn expect_of_two<D: Disk + Drop>(rt: &impl Abort, came: &Came<D>) {
     assert!(rt; is_in_order(came));
     assert!(rt; came.status() != 0 || came.notes.ran.len() == 14);
 }

@@ -23,11 +23,20 @@ use std::thread::Threads;
 use std::time::Clock;
 
 /// What came of a run.
-#[derive(Drop)]
 pub struct Came<D: Disk + Drop> {
     pub report: Result<Report, RunFault>,
     pub notes: Notes,
     pub closed: Closed<D>,
+}
+
+impl<D: Disk + Drop> Drop for Came<D> {
+    fn drop(self) {
+        let Came {
+            report: _,
+            notes: _,
+            closed: _,
+        } = self;
+    }
 }
 
 impl<D: Disk + Drop> Came<D> {

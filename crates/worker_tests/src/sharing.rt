@@ -31,6 +31,12 @@ struct Gate {
     gave_up: bool,
 }
 
+impl Gate {
+    fn note_submitted(&mut self) {
+        self.submitted = self.submitted.saturating_add(1);
+    }
+}
+
 /// A disk whose next sync waits, once it is armed, until three more records were submitted.
 #[derive(Drop)]
 struct Holding<'a, D: Disk + Drop, R: Wait + Clock> {
@@ -99,6 +105,30 @@ fn wait_for_sync<R: Wait + Clock>(rt: &R, gate: &Mutex<Gate>) {
     gate.lock(rt).gave_up = true;
 }
 
+/// Submits one more record.
+fn submit_one<R: Wait + Clock, D: Disk + Drop>(
+    rt: &R,
+    alloc: Global,
+    flusher: &Flusher<D>,
+    gate: &Mutex<Gate>,
+    target: &[u8],
+) -> Option<()> {
+    submitted(alloc, &mut flusher.board.lock(rt), target)?;
+    gate.lock(rt).note_submitted();
+    Some(())
+}
+
+/// The batch of a record, once it was written.
+fn batch_of<R: Wait + Clock, D: Disk + Drop>(
+    rt: &R,
+    alloc: Global,
+    flusher: &Flusher<D>,
+    target: &[u8],
+    ticket: usize,
+) -> Option<usize> {
+    acknowledged(rt, alloc, flusher, target, Ticket::new(ticket)).ok()
+}
+
 /// Submits three records once the first sync has begun. The batches of the three, once they were written.
 fn three_more<R: Wait + Clock, D: Disk + Drop>(
     rt: &R,
@@ -107,13 +137,12 @@ fn three_more<R: Wait + Clock, D: Disk + Drop>(
     gate: &Mutex<Gate>,
 ) -> Option<[usize; 3]> {
     wait_for_sync(rt, gate);
-    for (count, target) in [(1, b"b"), (2, b"c"), (3, b"d")] {
-        submitted(alloc, &mut flusher.board.lock(rt), target)?;
-        gate.lock(rt).submitted = count;
-    }
-    let first = acknowledged(rt, alloc, flusher, b"b", Ticket::new(1)).ok()?;
-    let second = acknowledged(rt, alloc, flusher, b"c", Ticket::new(2)).ok()?;
-    let third = acknowledged(rt, alloc, flusher, b"d", Ticket::new(3)).ok()?;
+    submit_one(rt, alloc, flusher, gate, b"b")?;
+    submit_one(rt, alloc, flusher, gate, b"c")?;
+    submit_one(rt, alloc, flusher, gate, b"d")?;
+    let first = batch_of(rt, alloc, flusher, b"b", 1)?;
+    let second = batch_of(rt, alloc, flusher, b"c", 2)?;
+    let third = batch_of(rt, alloc, flusher, b"d", 3)?;
     Some([first, second, third])
 }
 

@@ -5,9 +5,9 @@ use byte_strings::{ByteString, Iter};
 use st_disk::Disk;
 use st_file::OpenFault;
 use st_memory::MemDisk;
-use st_records::{HashKey, Phase};
+use st_records::{HashKey, PackedEntry, Phase};
 use st_recovery::{Store, open};
-use st_state::State;
+use st_state::{Listed, State};
 use std::alloc::{AllocError, Global};
 use std::test::Fail;
 
@@ -51,23 +51,46 @@ fn push_lines(
     strings: Iter<'_>,
 ) -> Result<(), AllocError> {
     for string in strings {
-        let string = ByteString::from_slice(alloc, string)?;
-        let line = format!(in alloc; "    {sign} {string}\n")?;
-        text.push_str(line.as_str())?;
+        push_line(alloc, text, sign, string)?;
+    }
+    Ok(())
+}
+
+fn push_line(
+    alloc: Global,
+    text: &mut String,
+    sign: char,
+    string: &[u8],
+) -> Result<(), AllocError> {
+    let string = ByteString::from_slice(alloc, string)?;
+    writeln!(text, "    {sign} {string}")
+}
+
+fn push_entry(
+    alloc: Global,
+    text: &mut String,
+    name: &[u8],
+    entry: &PackedEntry,
+) -> Result<(), AllocError> {
+    let line = phase_line(alloc, name, entry.phase())?;
+    text.push_str(line.as_str())?;
+    push_lines(alloc, text, '$', entry.commands())?;
+    push_lines(alloc, text, '<', entry.hidden())?;
+    push_lines(alloc, text, ':', entry.names())
+}
+
+fn push_entries(alloc: Global, text: &mut String, named: &Listed<'_>) -> Result<(), AllocError> {
+    for place in 0..named.len() {
+        let (name, entry) = named.at(place);
+        push_entry(alloc, text, name, entry)?;
     }
     Ok(())
 }
 
 /// The state as a text: each name in byte order behind its phase, then its commands, its hidden and its explicit names.
 pub fn listing(alloc: Global, state: &State) -> Result<String, AllocError> {
-    let mut text = String::new(alloc);
     let named = state.in_byte_order(alloc)?;
-    for place in 0..named.len() {
-        let (name, entry) = named.at(place);
-        text.push_str(phase_line(alloc, name, entry.phase())?.as_str())?;
-        push_lines(alloc, &mut text, '$', entry.commands())?;
-        push_lines(alloc, &mut text, '<', entry.hidden())?;
-        push_lines(alloc, &mut text, ':', entry.names())?;
-    }
+    let mut text = String::new(alloc);
+    push_entries(alloc, &mut text, &named)?;
     Ok(text)
 }

@@ -5,6 +5,7 @@ use crate::makefiles::{Asked, lists_any};
 use crate::runs::{Came, made};
 use crate::states::{new_store, opened};
 use crate::way::{ALONE, SIDE_BY_SIDE, Way};
+use st_disk::Disk;
 use st_doubles::Fuse;
 use st_memory::MemDisk;
 use st_state::State;
@@ -61,17 +62,16 @@ fn left<R: Threads + Wait + Clock + Sync + Copy>(
     Ok(made(rt, alloc, asked, &ALONE, store)?.into_disk())
 }
 
-/// What a later run came to whose disk makes so many calls, if it could be opened.
-fn stopped_after<R: Threads + Wait + Clock + Sync + Copy>(
+/// What a later run over a disk came to, if it could be opened.
+fn later<R: Threads + Wait + Clock + Sync + Copy, D: Disk + Drop + Send>(
     rt: &R,
     alloc: Global,
-    pair: &Pair,
+    asked: &Asked,
     way: &Way,
-    calls: u64,
-) -> Result<Option<Came<Fuse<MemDisk>>>, Fail> {
-    let disk: Fuse<MemDisk> = Fuse::new(left(rt, alloc, &pair.earlier)?, calls);
+    disk: D,
+) -> Result<Option<Came<D>>, Fail> {
     match opened(alloc, disk) {
-        Ok(store) => Ok(Some(made(rt, alloc, &pair.later, way, store)?)),
+        Ok(store) => Ok(Some(made(rt, alloc, asked, way, store)?)),
         Err(_) => Ok(None),
     }
 }
@@ -87,7 +87,7 @@ enum Stop {
     Nowhere,
 }
 
-fn stop_of(came: &Came<Fuse<MemDisk>>) -> Stop {
+fn stop_of<D: Disk + Drop>(came: &Came<D>) -> Stop {
     if came.status() == 0 {
         return Stop::Nowhere;
     }
@@ -114,22 +114,27 @@ fn known(alloc: Global, pair: &Pair, stop: Stop, state: &State) -> Result<Option
     Ok(if knows { Some(by_later) } else { None })
 }
 
-fn is_listed(alloc: Global, pair: &Pair, stop: Stop, disk: MemDisk) -> Result<Option<bool>, Fail> {
+fn is_listed<D: Disk + Drop>(
+    alloc: Global,
+    pair: &Pair,
+    stop: Stop,
+    disk: D,
+) -> Result<Option<bool>, Fail> {
     match opened(alloc, disk) {
         Ok(store) => known(alloc, pair, stop, store.state()),
         Err(_) => Ok(None),
     }
 }
 
-/// Where a later run stopped whose disk makes so many calls, and whether its recipes are to be run again.
-fn stop_after<R: Threads + Wait + Clock + Sync + Copy>(
+/// Where a later run over a disk stopped, and whether its recipes are to be run again.
+fn stop_over<R: Threads + Wait + Clock + Sync + Copy, D: Disk + Drop + Send>(
     rt: &R,
     alloc: Global,
     pair: &Pair,
     way: &Way,
-    calls: u64,
+    disk: Fuse<D>,
 ) -> Result<(Stop, bool), Fail> {
-    let Some(came) = stopped_after(rt, alloc, pair, way, calls)? else {
+    let Some(came) = later(rt, alloc, &pair.later, way, disk)? else {
         return Ok((Stop::BeforeTheFirst, true));
     };
     let stop = stop_of(&came);
@@ -137,6 +142,18 @@ fn stop_after<R: Threads + Wait + Clock + Sync + Copy>(
         Some(is_listed) => Ok((stop, is_listed)),
         None => Err("what the run left says something else".into()),
     }
+}
+
+/// The same of a disk that makes so many calls over what an earlier run left.
+fn stop_after<R: Threads + Wait + Clock + Sync + Copy>(
+    rt: &R,
+    alloc: Global,
+    pair: &Pair,
+    way: &Way,
+    calls: u64,
+) -> Result<(Stop, bool), Fail> {
+    let disk = Fuse::new(left(rt, alloc, &pair.earlier)?, calls);
+    stop_over(rt, alloc, pair, way, disk)
 }
 
 /// Stops the device after each number of calls. Whether the last recipe was then listed again, and whether all was made at last.
@@ -158,11 +175,28 @@ fn stopped_everywhere<R: Threads + Wait + Clock + Sync + Copy>(
     Ok((is_listed_again, is_nowhere))
 }
 
+fn chain() -> &'static Pair {
+    &CHAIN
+}
+
+fn apart() -> &'static Pair {
+    &APART
+}
+
+fn expect_stops<R: Threads + Wait + Clock + Sync + Copy + Abort>(
+    rt: &R,
+    alloc: Global,
+    pair: &Pair,
+    way: &Way,
+) -> Result<(), Fail> {
+    let came = stopped_everywhere(rt, alloc, pair, way)?;
+    assert_eq!(rt; came, (true, true));
+    Ok(())
+}
+
 #[test]
 fn a_recipe_that_was_run_is_listed_wherever_the_device_stops(rt: HostRuntime) -> Result<(), Fail> {
-    for (pair, way) in [(&CHAIN, ALONE), (&CHAIN, SIDE_BY_SIDE), (&APART, ALONE)] {
-        let came = stopped_everywhere(&rt, rt.alloc(), pair, &way)?;
-        assert_eq!(rt; came, (true, true));
-    }
-    Ok(())
+    expect_stops(&rt, rt.alloc(), chain(), &ALONE)?;
+    expect_stops(&rt, rt.alloc(), chain(), &SIDE_BY_SIDE)?;
+    expect_stops(&rt, rt.alloc(), apart(), &ALONE)
 }

@@ -167,11 +167,7 @@ fn is_so<'a, R: Threads + Wait + Sync>(
         && pool_holds(holder, row.left)
 }
 
-fn expect_row<R: Threads + Wait + Abort + Sync>(
-    rt: &R,
-    alloc: Global,
-    row: &Row,
-) -> Result<(), Fail> {
+fn row_is_so<R: Threads + Wait + Sync>(rt: &R, alloc: Global, row: &Row) -> Result<bool, Fail> {
     let pool = MemoryPool::new(alloc, row.tokens)?;
     let watch = Watch::new();
     let pipe = PlannedPipe {
@@ -183,11 +179,16 @@ fn expect_row<R: Threads + Wait + Abort + Sync>(
     };
     let mut worker = End::new(alloc, pipe, 8)?;
     let mut holder = pool.end(rt, alloc, 4)?;
-    assert!(rt;
-        is_so(rt, row, &mut worker, &mut holder, &watch),
-        "{}",
-        row.name
-    );
+    Ok(is_so(rt, row, &mut worker, &mut holder, &watch))
+}
+
+fn expect_row<R: Threads + Wait + Abort + Sync>(
+    rt: &R,
+    alloc: Global,
+    row: &Row,
+) -> Result<(), Fail> {
+    let is_so = row_is_so(rt, alloc, row)?;
+    assert!(rt; is_so, "{}", row.name);
     Ok(())
 }
 

@@ -8,7 +8,7 @@ use crate::states::{listing, new_store};
 use crate::way::{ALONE, SIDE_BY_SIDE, Way};
 use byte_strings::ByteString;
 use jb_recipe::PlaceFault;
-use st_memory::MemDisk;
+use st_disk::Disk;
 use std::alloc::{AllocError, Global};
 use std::process::Abort;
 use std::sync::Wait;
@@ -80,14 +80,14 @@ done a\n    $ meet 3\ndone b\n    $ meet 3\ndone c\n    $ meet 3\n",
 ];
 
 /// The status of a run and how each node ended, 9 for a fault.
-fn ended(alloc: Global, came: &Came<MemDisk>) -> Result<String, AllocError> {
+fn ended<D: Disk + Drop>(alloc: Global, came: &Came<D>) -> Result<String, AllocError> {
     match &came.report {
         Ok(report) => format!(in alloc; "{} {:?}", report.status, report.ends),
         Err(_) => String::from_str(alloc, "9"),
     }
 }
 
-fn told(alloc: Global, came: &Came<MemDisk>) -> Result<String, AllocError> {
+fn told<D: Disk + Drop>(alloc: Global, came: &Came<D>) -> Result<String, AllocError> {
     let ran = ByteString::from_slice(alloc, came.notes.ran.as_slice())?;
     let ended = ended(alloc, came)?;
     let listing = listing(alloc, came.state())?;
@@ -115,7 +115,7 @@ fn expect_notes(rt: &impl Abort, row: &Row, notes: &Notes) {
     }
 }
 
-fn expect_told(alloc: Global, row: &Row, came: &Came<MemDisk>) -> Result<(), Fail> {
+fn expect_told<D: Disk + Drop>(alloc: Global, row: &Row, came: &Came<D>) -> Result<(), Fail> {
     let told = told(alloc, came)?;
     expect(alloc, row.name, told.as_str(), row.told)
 }
@@ -131,8 +131,17 @@ fn expect_row<R: Threads + Wait + Clock + Sync + Copy + AllocGlobal + Abort>(
         files: &[],
     };
     let came = made(rt, alloc, &asked, &row.way, store)?;
+    expect_came(rt, alloc, row, &came)
+}
+
+fn expect_came<D: Disk + Drop>(
+    rt: &impl Abort,
+    alloc: Global,
+    row: &Row,
+    came: &Came<D>,
+) -> Result<(), Fail> {
     expect_notes(rt, row, &came.notes);
-    expect_told(alloc, row, &came)
+    expect_told(alloc, row, came)
 }
 
 #[test]
