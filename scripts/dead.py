@@ -1,9 +1,10 @@
 #!/usr/bin/env python3
 """Lists what nothing needs: dead.py [--lines]
 
-Lemmas of proofs/ that nothing but dead lemmas and themselves names, and libraries in crates.txt that no file of the crate
-names. Those that wait for the next change of their crate are told apart. `--lines` shows the lines of each lemma, FILE FIRST
-LAST. Prints a finding a line, and in its last line 'N passed, M failed': how many are needed, and how many aren't.
+Lemmas of proofs/ that nothing but dead lemmas and themselves names, libraries in crates.txt that no file of the crate names, and
+what a crate exports that no other one names and docs/TRUST.md doesn't cite (laws aside, which are there to be read). Those that
+wait for the next change of their crate are told apart. `--lines` shows the lines of each lemma, FILE FIRST LAST. Prints a finding
+a line, and in its last line 'N passed, M failed': how many are needed, and how many aren't.
 """
 import collections
 import pathlib
@@ -17,11 +18,29 @@ BETWEEN = re.compile(r"[\s(){},;.:\[\]\"`]+")
 # What ends a term that stands over several lines.
 CLOSING = tuple("})]")
 SIGNATURE = re.compile(r"^(?:pub )?([^\s:(){}]+) : ")
-# Lemmas that go with the next change of their crate, since without them each crate above would be proved anew. One that isn't dead
-# any more has to be taken out here.
+# What goes with the next change of its crate, since without it each crate above would be proved anew: lemmas by their file, exports
+# by their crate. What isn't dead any more has to be taken out here.
 WAITING = {
     "crates/mk_reader/proofs/SearchLemmas.antt": {"read_further"},
 }
+WAITING_EXPORTS = {
+    "jb_flags": {"Jobs", "jobs_of", "push_quoted"},
+    "jb_slots": {"Fifo", "FifoBank", "dry"},
+    "mk_eval": {"MAX_INCLUDE_DEPTH"},
+    "mk_graph": {"distinct_names", "order_nodes", "whole_plan"},
+    "mk_macros": {"FUNCTIONS"},
+    "mk_recipe": {"LineStatus", "Told", "Verdict", "outcome"},
+    "mk_wildcards": {"Brackets", "Element", "elements", "fits_name"},
+    "row_files": {"hex_digit"},
+    "st_disk": {"Call"},
+    "st_file": {"MAX_SIDE_BYTES", "RecordSink", "Side", "every_side_has_a_reading", "read_log"},
+    "st_marks": {"Marked", "append_marks"},
+    "st_records": {"MAX_COMMANDS", "MAX_EXPLICIT_NAMES", "MAX_NAME_BYTES_IN_ONE", "MAX_RECORD_BYTES_IN_ONE"},
+    "st_recovery": {"Chosen", "choose_from"},
+}
+EXPORT = re.compile(r"^pub use ((?:\w+::)+)(\{[^}]*\}|\w+);", re.MULTILINE)
+USE = re.compile(r"\b(\w+)::(\{[^}]*\}|\w+)")
+CITED = re.compile(r"`(?:\w+::)?(\w+)`")
 # Names that a proof file gives because the checker asks for them: the answer to a goal, and a proof that is written whole.
 ASKED = re.compile(r"^(?:pub )?[^\s:(){}]+ : (.*\bgoal\.|\{M : Type 1\} → statement M$)")
 
@@ -124,6 +143,42 @@ def idle_libraries():
     return found, looked
 
 
+def names_used():
+    """Returns which crates name an item of another one, by that crate and the item."""
+    users = collections.defaultdict(set)
+    for file in CRATES.glob("*/src/**/*.rt"):
+        for crate, items in USE.findall(file.read_text(encoding="utf-8")):
+            for item in re.findall(r"\w+", items):
+                users[crate, item].add(file.relative_to(CRATES).parts[0])
+    return users
+
+
+def idle_exports():
+    """Returns what crates export and nobody else names, by crate and item, and how many exports there are."""
+    users, cited = names_used(), set(CITED.findall((TOP / "docs/TRUST.md").read_text(encoding="utf-8")))
+    idle, looked = set(), 0
+    for root in CRATES.glob("*/src/lib.rt"):
+        crate = root.relative_to(CRATES).parts[0]
+        for module, items in EXPORT.findall(root.read_text(encoding="utf-8")):
+            for item in re.findall(r"\w+", items):
+                looked += 1
+                if module != "laws::" and item not in cited and not users[crate, item] - {crate}:
+                    idle.add((crate, item))
+    return idle, looked
+
+
+def told(idle, waiting, text):
+    """Prints what is idle and waits; returns a line for each that doesn't wait, and for each that waits and isn't idle."""
+    for place, name in sorted(idle & waiting):
+        print(f"{place}: {name} goes with the next change of its crate")
+    return [f"{place}: {text} {name}" for place, name in sorted(idle - waiting)] \
+        + [f"{place}: {name} waits to be taken out, and isn't idle" for place, name in sorted(waiting - idle)]
+
+
+def pairs_of(waiting):
+    return {(place, name) for place, names in waiting.items() for name in names}
+
+
 def main():
     dead, lemmas = dead_lemmas()
     if "--lines" in sys.argv[1:]:
@@ -131,16 +186,12 @@ def main():
             print(lemma.file, lemma.first + 1, lemma.last + 1)
         return 0
     libraries, entries = idle_libraries()
-    waiting = {(file, name) for file, names in WAITING.items() for name in names}
-    there = {(str(lemma.file.relative_to(TOP)), lemma.name) for lemma in dead}
-    found = [f"{lemma.place()}: nothing names {lemma.name}" for lemma in dead
-             if (str(lemma.file.relative_to(TOP)), lemma.name) not in waiting]
-    found += [f"{file}: {name} waits to be taken out, and isn't dead" for file, name in sorted(waiting - there)] + libraries
-    for file, name in sorted(waiting & there):
-        print(f"{file}: {name} goes with the next change of its crate")
+    exports, looked = idle_exports()
+    found = told({(str(lemma.file.relative_to(TOP)), lemma.name) for lemma in dead}, pairs_of(WAITING), "nothing names")
+    found += told(exports, pairs_of(WAITING_EXPORTS), "no other crate names") + libraries
     for line in found:
         print(line)
-    print(f"{lemmas + entries - len(found)} passed, {len(found)} failed")
+    print(f"{lemmas + entries + looked - len(found)} passed, {len(found)} failed")
     return 1 if found else 0
 
 

@@ -12,5 +12,5 @@ mod planning;
 mod recovered;
 
 pub use always_run::AlwaysRun;
-pub use driver::{Reply, drive};
+pub use driver::drive;
 pub use laws::{each_made, one_listing, one_plan};

@@ -14,5 +14,5 @@ mod texts;
 mod told;
 
 pub use file_calls::{FileCalls, FileStatus};
-pub use file_texts::{FileTexts, Unread};
+pub use file_texts::FileTexts;
 pub use file_tree::FileTree;

@@ -3,7 +3,7 @@ use crate::sign::by_sign;
 use crate::signs::last_of;
 use crate::standard_streams::with_patience;
 use byte_strings::ByteString;
-use dmk_drive::Options;
+use dmk_reading::Options;
 use mk_notes::{Subject, is_macro_elsewhere};
 use plain_text::Plain;
 use std::alloc::Global;

@@ -13,4 +13,4 @@ pub use command_line::read_words;
 pub use environment::{macro_variables, with_environment, with_flags_seen};
 pub use flags::handed_on;
 pub use job_words::processors;
-pub use request::{Asked, INPUT, Later, Request, WordsFault};
+pub use request::{Asked, INPUT, Later, Request};

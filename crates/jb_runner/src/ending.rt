@@ -6,11 +6,11 @@ ghost use Rattle.st_records.specs.declared.record.Record.TheVariants as records;
 ghost use Rattle.bd_lists.specs.Running.{FailsInRange};
 ghost use Rattle.jb_runner.specs.Making.{IsClearedFor};
 
-use crate::Shift;
 use crate::bench::{Bench, complain};
 use crate::desk::Clerk;
 use crate::making::say_lines;
 use crate::pending::Pending;
+use crate::shift::Shift;
 use bd_flusher::{FlushFault, Receipt};
 use bd_ledger::Ticket;
 use bd_links::Node;

@@ -22,8 +22,5 @@ mod worker;
 
 pub use boards::board_of;
 pub use pool::run;
-pub use serving::{Source, is_one_word, served_flags, source_of};
-pub use shift::Shift;
-pub use shop::Shop;
+pub use serving::{Source, source_of};
 pub use slotted::{Parts, Slotting, run_slotted};
-pub use worker::work;

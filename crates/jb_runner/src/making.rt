@@ -3,8 +3,8 @@ ghost use Rattle.std.specs.Prelude.{◌≡◌, ◌<◌, ◌≤◌, length, true,
 ghost use Rattle.mk_graph.specs.Edges.{has};
 ghost use Rattle.jb_runner.specs.Making.{is_remade};
 
-use crate::Shift;
 use crate::bench::Bench;
+use crate::shift::Shift;
 use bd_flusher::Receipt;
 use bd_links::Node;
 use bd_lists::{Board, Exec};

@@ -1,8 +1,8 @@
 //! The end of a recipe between its submission and its receipt: while a node is ready, that one's 'begun' is submitted behind it,
 //! and one batch has both.
 
-use crate::Shift;
 use crate::desk::Clerk;
+use crate::shift::Shift;
 use bd_ledger::Ticket;
 use bd_links::Node;
 use jb_closing::RunFault;

@@ -13,8 +13,9 @@ ghost use Rattle.jb_closing.specs.Report.{ends_well, ComesTo};
 
 use crate::boards::board_for;
 use crate::gate::{Gate, staying};
-use crate::shift::let_go;
-use crate::{Shift, Shop, work};
+use crate::shift::{Shift, let_go};
+use crate::shop::Shop;
+use crate::worker::work;
 use bd_flusher::{Flusher, Receipt, Site};
 use bd_links::Node;
 use bd_lists::{Board, Exec};

@@ -41,14 +41,18 @@ fn has_blank(path: &[u8]) -> bool
 }
 
 /// Whether a path can be one word of MAKEFLAGS. A pool under another one isn't served.
-pub fn is_one_word(path: &[u8]) -> bool
+pub(crate) fn is_one_word(path: &[u8]) -> bool
     ensures { result ≡ is_one_word path.now }
 {
     !has_blank(path)
 }
 
 /// MAKEFLAGS for children, where dmk serves the pool of this path.
-pub fn served_flags(alloc: Global, workers: usize, path: &[u8]) -> Result<ByteString, AllocError>
+pub(crate) fn served_flags(
+    alloc: Global,
+    workers: usize,
+    path: &[u8],
+) -> Result<ByteString, AllocError>
     ensures { IfOk result (λ flags. flags ≡ served_flags workers path.now) }
 {
     let front = format!(in alloc; " -j{workers} --jobserver-auth=fifo:")?;

@@ -9,7 +9,7 @@ use std::alloc::Global;
 /// What one worker, or all of them, came to: the receipts that were gathered, the greatest status of the nodes, and the
 /// fault with which the first worker that met one ended.
 #[derive(Drop)]
-pub struct Shift {
+pub(crate) struct Shift {
     pub receipts: Vec<Receipt>,
     /// 2 where a recipe couldn't be expanded or the jobserver failed, else 1 where a target failed or couldn't be recorded.
     pub status: u8,

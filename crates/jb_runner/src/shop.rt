@@ -14,7 +14,7 @@ use std::sync::Mutex;
 /// What the workers of a run share. Two locks stand in `flusher`, that of the site and that of the board; the site's may be
 /// held while the board's is taken, never the other way round. While a recipe runs, while a slot is waited for and while
 /// something is printed, a worker holds neither.
-pub struct Shop<'a, D: Disk + Drop, E, S, P> {
+pub(crate) struct Shop<'a, D: Disk + Drop, E, S, P> {
     pub graph: &'a Graph,
     pub conduct: &'a Conduct,
     pub exec: &'a E,

@@ -2,8 +2,8 @@
 ghost use Rattle.st_records.specs.Limits.{IsGood};
 ghost use Rattle.st_records.specs.declared.version.Version.TheVariants.{Two};
 
-use crate::Shift;
 use crate::desk::Desk;
+use crate::shift::Shift;
 use bd_flusher::Receipt;
 use bd_ledger::Ticket;
 use bd_links::Node;

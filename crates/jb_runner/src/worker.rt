@@ -1,7 +1,8 @@
 //! One worker.
 
 use crate::bench::Bench;
-use crate::{Shift, Shop};
+use crate::shift::Shift;
+use crate::shop::Shop;
 use bd_flusher::Receipt;
 use bd_lists::Exec;
 use jb_closing::RunFault;
@@ -13,7 +14,7 @@ use std::sync::Wait;
 
 /// Makes one node after the other until none waits, or until a fault ends the run. A worker that meets one abandons its node
 /// and all that waits.
-pub fn work<R: Wait, D: Disk + Drop, E: Exec<Receipt>, S: Say, P: Place, B: Bank + Drop>(
+pub(crate) fn work<R: Wait, D: Disk + Drop, E: Exec<Receipt>, S: Say, P: Place, B: Bank + Drop>(
     rt: &R,
     alloc: Global,
     shop: &Shop<'_, D, E, S, P>,

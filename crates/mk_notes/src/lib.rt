@@ -10,5 +10,5 @@ mod references;
 mod statements;
 
 pub use names::is_macro_elsewhere;
-pub use note::{Note, Subject};
+pub use note::Subject;
 pub use notes::Notes;

@@ -152,7 +152,7 @@ fn any_is_taking(lines: &[RuleLine]) -> bool
 
 /// The lines that count in this profile.
 #[tactic(auto, using(crate::proofs::InForceLemmas::all_left))]
-pub fn in_force(
+pub(crate) fn in_force(
     alloc: Global,
     profile: Profile,
     lines: Vec<RuleLine>,

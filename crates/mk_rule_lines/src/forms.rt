@@ -291,7 +291,7 @@ fn listed_forms(
 ///
 /// Made once, so that pairs of suffixes and the lengths of stems cost nothing for each name; a name takes memory only for the forms
 /// that fit it.
-pub fn forms_of(
+pub(crate) fn forms_of(
     alloc: Global,
     lines: &[RuleLine],
     suffixes: &ByteStrings,

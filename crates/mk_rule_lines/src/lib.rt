@@ -21,15 +21,13 @@ mod suffixes;
 mod supported;
 mod table;
 
-pub use counting::in_force;
 pub use doubles::{double_lines, first_double};
 pub use explicit::{
     explicit_of, is_bar, is_default_at, is_phony, is_wait, may_have_bar, names_in, order_only_of,
     words_by,
 };
-pub use fault::{CycleNames, RuleFault, TextFault, TextPlace, Unmade, Unsupported};
+pub use fault::{CycleNames, RuleFault, TextFault, TextPlace, Unmade};
 pub use form::{Form, Source};
-pub use forms::forms_of;
 pub use goals::goals_of;
 pub use laws::{
     goals_are_named_or_first, implicit_rules_in_order, longer_stems_by_less_beside_them,
@@ -38,9 +36,6 @@ pub use laws::{
 pub use line_words::LineWords;
 pub use lines::rule_lines;
 pub use makefile::Makefile;
-pub use marked::{Mark, Marked};
 pub use rule_line::{RuleLine, is_default_rule};
 pub use settings::Settings;
-pub use suffixes::suffixes_of;
-pub use supported::check_lines;
 pub use table::TargetTable;

@@ -12,7 +12,7 @@ use mk_profile::Profile;
 use mk_reader::{FileName, Recipe, SpecialName};
 use std::alloc::{AllocError, Global};
 
-/// The name that `dmk_drive` reads the rules under which are built in.
+/// The name that the rules which are built in are read under.
 const BUILT_IN: &[u8] = b"(built-in)";
 
 /// A rule line, or the line of a special rule. That of `.PHONY` has the names that it lists as its targets.

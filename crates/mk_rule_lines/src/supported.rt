@@ -191,7 +191,7 @@ fn refusal(line: &RuleLine) -> Option<Unsupported>
 }
 
 /// Refuses lines that hold what isn't supported.
-pub fn check_lines(lines: &[RuleLine]) -> Result<(), RuleFault>
+pub(crate) fn check_lines(lines: &[RuleLine]) -> Result<(), RuleFault>
     ensures supported { OnOk result (AreSupported lines.now) }
     ensures fault { IfErr result (IsRefusal lines.now) }
 {
