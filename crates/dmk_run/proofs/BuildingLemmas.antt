@@ -1,6 +1,7 @@
 -- What a run leaves, by what its report says of the closed store.
-use Rattle.std.proofs.Common.{◌≡◌, ◌⊎◌, ℕ, zero, suc, Bool, true, false, List, [], ◌∷◌, length, map, Result, Ok, Err, IfOk, IsOk, IsTrue, refl, sym, ap, subst, ◌∙◌, inl, inr, arith}
-use Rattle.std.specs.List.{list_all}
+use Rattle.std.proofs.Common.{◌≡◌, ◌⊎◌, ℕ, zero, suc, Bool, true, false, List, [], ◌∷◌, map, Result, Ok, Err, IfOk, IsOk, IsTrue, refl, sym, subst, inl, inr, arith}
+use Rattle.std.specs.List.{All, list_all}
+use Rattle.std.proofs.lemmas.List.Elements.{All-nil}
 use Rattle.std.proofs.lemmas.List.{length-map}
 use Rattle.std.proofs.lemmas.Result.{IfOk-at_ok}
 use Rattle.st_disk.specs.Crash.{Sides}
@@ -21,10 +22,10 @@ use Rattle.jb_closing.specs.Closing.{IsBuilt, IsTrueOf, AreTrueOf}
 use Rattle.jb_closing.specs.Report.{ends_well}
 use Rattle.dmk_run.specs.Judged.{IsBorneOut}
 use Rattle.dmk_run.specs.Known.{IsTold}
-use Rattle.dmk_run.specs.Made.{HasEnded, IsMade}
+use Rattle.dmk_run.specs.Made.{HasMade, IsBuiltWithoutFile, IsMade}
 use Rattle.dmk_reading.specs.Lost.{with_unmade}
 use Rattle.dmk_run.specs.Settled.{IsNoneToRun}
-use Rattle.dmk_run.proofs.DriverLemmas.{ended_with}
+use Rattle.dmk_run.proofs.DriverLemmas.{made_with}
 
 true_of : {told : List Record} {receipts : List Receipt} {wide narrow : Type 0} {sides : Sides} {name : List ℕ} → (narrow → wide) → IsTrueOf told receipts wide sides name → IsTrueOf told receipts narrow sides name
 true_of implies is = record {
@@ -98,10 +99,12 @@ none_built (n ∷ nodes) zero built = cc
 none_built (n ∷ nodes) (suc node) built = none_built nodes node built
 
 -- nothing was told, and no node ended as built
-pub none_ended : (counting keeping : Bool) (graph : Graph) (m : StateMap) (honest : Type 0) (sides : Sides) → IsNoneToRun counting keeping graph m → (honest → AllRecover m sides)
-    → (status : ℕ) → status ≡ with_unmade graph.unmade.items 0 → HasEnded graph counting keeping honest sides status
-none_ended counting keeping graph m honest sides is recovers status comes =
-    ended_with graph counting keeping honest sides 0 status comes (up_to_date graph.nodes.items) (length-map graph.nodes.items _)
+pub none_made : (counting keeping : Bool) (graph : Graph) (m : StateMap) (honest : Type 0) (sides : Sides) → IsNoneToRun counting keeping graph m → (honest → AllRecover m sides)
+    → (status : ℕ) → status ≡ with_unmade graph.unmade.items 0 → (names : List (List ℕ)) → names ≡ [] → HasMade graph counting keeping honest sides status names
+none_made counting keeping graph m honest sides is recovers status comes names nothing =
+    made_with graph counting keeping honest sides names 0 status comes (up_to_date graph.nodes.items)
+    (subst (All (IsBuiltWithoutFile graph (up_to_date graph.nodes.items))) (sym nothing) (All-nil (IsBuiltWithoutFile graph (up_to_date graph.nodes.items))))
+    (length-map graph.nodes.items _)
     (λ none. up_to_date_well graph.nodes.items) (λ none. inl is.listing)
     (λ kept. record {
       told = [];

@@ -3,7 +3,7 @@ use Rattle.std.proofs.Common.{◌≡◌, ◌≢◌, ◌⊎◌, ◌||◌, inl, in
 use Rattle.std.specs.FinMap as map
 use Rattle.std.specs.Coded.{Coded-set}
 use Rattle.std.proofs.Math.Logic.{∥∥₁_elim}
-use Rattle.std.specs.List.{list_all}
+use Rattle.std.specs.List.{All, list_all}
 use Rattle.mk_profile.specs.declared.profile.Profile.{Profile}
 use Rattle.mk_reader.specs.declared.item.Item.{Item}
 use Rattle.mk_nodes.specs.declared.graph.Graph.{Graph}
@@ -19,12 +19,12 @@ use Rattle.st_recovery.specs.Stored.{AllRecover}
 use Rattle.st_recovery.proofs.RecoversLemmas.{one_recovery}
 use Rattle.bd_lists.specs.declared.recipe.Variable.{Variable}
 use Rattle.bd_places.specs.declared.end.End.{End}
-use Rattle.dmk_reading.specs.Keeping.{keeps}
 use Rattle.dmk_reading.specs.Planned.{IsGraphOf, IsStateOn, judged_graph}
 use Rattle.dmk_run.specs.InTurn.{IsParted}
 use Rattle.dmk_run.specs.Opened.{RecoversAsBefore}
 use Rattle.dmk_run.specs.Judged.{IsBorneOut}
-use Rattle.dmk_run.specs.Made.{HasEnded, IsMade, MakesItems}
+use Rattle.dmk_run.specs.Behind.{IsJudgedBehind}
+use Rattle.dmk_run.specs.Made.{HasMade, IsBuiltWithoutFile, IsMade, MakesItems}
 use Rattle.dmk_reading.specs.Lost.{goes_without, with_unmade}
 use Rattle.dmk_run.specs.declared.stop.Stop.{Stop}
 
@@ -108,80 +108,90 @@ made_at graph sound sides ends before after implies is = record {
   known = λ none. is.known (implies none);
 }
 
--- so a run has ended that came to another status for names that nothing makes
-pub ended_with : (graph : Graph) (counting keeping : Bool) (sound : Type 0) (sides : Sides) (before after : ℕ) → after ≡ with_unmade graph.unmade.items before →
-    (ends : List End) → length ends ≡ length graph.nodes.items → (before ≡ 0 → IsTrue (list_all ends_well ends)) → (before ≡ 0 → IsBorneOut counting graph ends) →
-    (keeping ≡ true → IsMade graph sound sides before ends) → HasEnded graph counting keeping sound sides after
-ended_with graph counting keeping sound sides before after is ends all well borne made =
+-- so a run has made what it did that came to another status for names that nothing makes
+pub made_with : (graph : Graph) (counting keeping : Bool) (sound : Type 0) (sides : Sides) (names : List (List ℕ)) (before after : ℕ) → after ≡ with_unmade graph.unmade.items before →
+    (ends : List End) → All (IsBuiltWithoutFile graph ends) names → length ends ≡ length graph.nodes.items → (before ≡ 0 → IsTrue (list_all ends_well ends)) →
+    (before ≡ 0 → IsBorneOut counting graph ends) → (keeping ≡ true → IsMade graph sound sides before ends) → HasMade graph counting keeping sound sides after names
+made_with graph counting keeping sound sides names before after is ends built all well borne made =
     let implies : after ≡ 0 → before ≡ 0 = λ none. zero_with graph.unmade.items before (sym is ∙ none) in
     record {
-      ends = ends;
-      all = all;
-      unmade = λ other. none_with graph.unmade.items before (subst (λ s. s ≢ 2) is other);
-      well = λ none. well (implies none);
-      borne_out = λ none. borne (implies none);
-      made = λ kept. made_at graph sound sides ends before after implies (made kept);
+      ended = record {
+        ends = ends;
+        all = all;
+        unmade = λ other. none_with graph.unmade.items before (subst (λ s. s ≢ 2) is other);
+        well = λ none. well (implies none);
+        borne_out = λ none. borne (implies none);
+        made = λ kept. made_at graph sound sides ends before after implies (made kept);
+      };
+      are_built = built;
     }
 
--- the status of a report is that of a graph that has ended
-pub has_ended : (graph : Graph) (counting keeping : Bool) (sound : Type 0) (sides : Sides) (found : Result Report RunFault) (got : Result ℕ Stop)
-    → IfOk got (λ s. (r : Report) × (found ≡ Ok r) × (s ≡ with_unmade graph.unmade.items r.status))
+-- the status of a report is that of a graph that has ended, with what was built by its ends
+pub has_made : (graph : Graph) (counting keeping : Bool) (sound : Type 0) (sides : Sides) (names : List (List ℕ)) (found : Result Report RunFault) (got : Result ℕ Stop)
+    → IfOk got (λ s. (r : Report) × (found ≡ Ok r) × (s ≡ with_unmade graph.unmade.items r.status) × All (IsBuiltWithoutFile graph r.ends.items) names)
     → IfOk found (λ r. length r.ends.items ≡ length graph.nodes.items)
     → IfOk found (λ r. r.status ≡ 0 → IsTrue (list_all ends_well r.ends.items)) → IfOk found (λ r. r.status ≡ 0 → IsBorneOut counting graph r.ends.items)
-    → IfOk found (λ r. keeping ≡ true → IsMade graph sound sides r.status r.ends.items) → IfOk got (HasEnded graph counting keeping sound sides)
-has_ended graph counting keeping sound sides found (Ok s) (r, is, same) all well borne made =
-    ended_with graph counting keeping sound sides r.status s same r.ends.items
+    → IfOk found (λ r. keeping ≡ true → IsMade graph sound sides r.status r.ends.items) → IfOk got (λ s. HasMade graph counting keeping sound sides s names)
+has_made graph counting keeping sound sides names found (Ok s) (r, is, same, built) all well borne made =
+    made_with graph counting keeping sound sides names r.status s same r.ends.items built
     (at_ok (λ r. length r.ends.items ≡ length graph.nodes.items) found r is all)
     (at_ok (λ r. r.status ≡ 0 → IsTrue (list_all ends_well r.ends.items)) found r is well)
     (at_ok (λ r. r.status ≡ 0 → IsBorneOut counting graph r.ends.items) found r is borne)
     (at_ok (λ r. keeping ≡ true → IsMade graph sound sides r.status r.ends.items) found r is made)
-has_ended graph counting keeping sound sides found (Err stop) is all well borne made = tt
+has_made graph counting keeping sound sides names found (Err stop) is all well borne made = tt
 
-module _ (profile : Profile) (definitions environment : List Variable) (targets : List (List ℕ)) (all goes_on : Bool) (times : List ℕ → Option ℤ) where
+module _ (profile : Profile) (definitions environment : List Variable) (targets : List (List ℕ)) (all goes_on : Bool) (before : List (List ℕ)) (times : List ℕ → Option ℤ) (built : List (List ℕ)) where
   -- so a graph of these items has
   pub made_items : (items : List Item) (stored keeping : Bool) (disk_honest : Type 0) (seen : Which → List ℕ) (sides : Sides) (state : StateMap)
       (graph judged : Graph) (counted kept : Bool) → IsStateOn stored disk_honest seen state →
-      IsGraphOf profile definitions environment targets times items state graph → (goes_without profile goes_on ≡ false → graph.unmade.items ≡ []) → judged ≡ judged_graph all graph → counted ≡ all || keeping →
-      kept ≡ keeping → (got : Result ℕ Stop) → IfOk got (HasEnded judged counted kept disk_honest sides) →
-      IfOk got (λ s. MakesItems profile definitions environment targets all goes_on times items stored keeping disk_honest seen s sides)
-  made_items items stored keeping disk_honest seen sides state graph judged counted kept is_state is_graph all_made is_judged counts same (Ok s) ended = record {
+      IsGraphOf profile definitions environment targets times items state graph → (goes_without profile goes_on ≡ false → graph.unmade.items ≡ []) →
+      IsJudgedBehind before (judged_graph all graph) judged → counted ≡ all || keeping → kept ≡ keeping → (got : Result ℕ Stop) →
+      IfOk got (λ s. HasMade judged counted kept disk_honest sides s built) →
+      IfOk got (λ s. MakesItems profile definitions environment targets all goes_on before times items stored keeping disk_honest seen s sides built)
+  made_items items stored keeping disk_honest seen sides state graph judged counted kept is_state is_graph all_made is_judged counts same (Ok s) made = record {
     state = state;
     is_state = is_state;
     graph = graph;
     is_graph = is_graph;
     all_made = all_made;
-    ended = subst (λ g. HasEnded g (all || keeping) keeping disk_honest sides s) is_judged
-        (subst (λ n. HasEnded judged n keeping disk_honest sides s) counts (subst (λ k. HasEnded judged counted k disk_honest sides s) same ended));
+    judged = judged;
+    is_judged = is_judged;
+    made = subst (λ n. HasMade judged n keeping disk_honest sides s built) counts (subst (λ k. HasMade judged counted k disk_honest sides s built) same made);
   }
-  made_items items stored keeping disk_honest seen sides state graph judged counted kept is_state is_graph all_made is_judged counts same (Err stop) ended = tt
+  made_items items stored keeping disk_honest seen sides state graph judged counted kept is_state is_graph all_made is_judged counts same (Err stop) made = tt
 
   -- over a disk in memory that was empty nothing of a state is known
   module _ (items : List Item) (memory_honest : Type 0) (memory : Which → List ℕ) (works : memory_honest)
       (a : memory which.A ≡ []) (b : memory which.B ≡ []) (memory_sides : Sides) (disk_honest : Type 0) (seen : Which → List ℕ) (sides : Sides) where
     pub without_state : (status : ℕ) →
-        MakesItems profile definitions environment targets all goes_on times items true false memory_honest memory status memory_sides →
-        MakesItems profile definitions environment targets all goes_on times items false false disk_honest seen status sides
+        MakesItems profile definitions environment targets all goes_on before times items true false memory_honest memory status memory_sides built →
+        MakesItems profile definitions environment targets all goes_on before times items false false disk_honest seen status sides built
     without_state status run = record {
       state = run.state;
       is_state = empty_state (memory which.A) (memory which.B) run.state a b (run.is_state works);
       graph = run.graph;
       is_graph = run.is_graph;
       all_made = run.all_made;
-      ended = record {
-        ends = run.ended.ends;
-        all = run.ended.all;
-        unmade = run.ended.unmade;
-        well = run.ended.well;
-        borne_out = run.ended.borne_out;
-        made = λ keeping. absurd (no_value keeping);
+      judged = run.judged;
+      is_judged = run.is_judged;
+      made = record {
+        ended = record {
+          ends = run.made.ended.ends;
+          all = run.made.ended.all;
+          unmade = run.made.ended.unmade;
+          well = run.made.ended.well;
+          borne_out = run.made.ended.borne_out;
+          made = λ keeping. absurd (no_value keeping);
+        };
+        are_built = run.made.are_built;
       };
     }
 
     pub found_without_state : (keeping : Bool) → false ≡ keeping → (got : Result ℕ Stop) →
-        IfOk got (λ s. MakesItems profile definitions environment targets all goes_on times items true false memory_honest memory s memory_sides) →
-        IfOk got (λ s. MakesItems profile definitions environment targets all goes_on times items keeping keeping disk_honest seen s sides)
+        IfOk got (λ s. MakesItems profile definitions environment targets all goes_on before times items true false memory_honest memory s memory_sides built) →
+        IfOk got (λ s. MakesItems profile definitions environment targets all goes_on before times items keeping keeping disk_honest seen s sides built)
     found_without_state keeping is (Ok status) run =
-        subst (λ k. MakesItems profile definitions environment targets all goes_on times items k k disk_honest seen status sides) is
+        subst (λ k. MakesItems profile definitions environment targets all goes_on before times items k k disk_honest seen status sides built) is
         (without_state status run)
     found_without_state keeping is (Err stop) run = tt
 

@@ -3,11 +3,14 @@ use Rattle.std.proofs.Math.Nat.{max-zero}
 use Rattle.std.proofs.Math.Seq.{take-suc, take-length}
 use Rattle.std.proofs.lemmas.List.{take-append-drop}
 use Rattle.std.proofs.Common.{◌≡◌, ◌≢◌, ◌⊎◌, inl, inr, ◌∙◌, ℕ, zero, suc, ◌+◌, ◌<◌, ◌≤◌, ℤ, max, Bool, true, false, List, [], ◌∷◌, ◌++◌, Option, Result, Ok, Err, IfOk, IfErr, IsErrAnd, refl, sym, ap, subst, length, take, drop, get_or, add-one, arith}
+use Rattle.std.specs.List.{All}
 use Rattle.mk_eval.specs.Output.{World}
 use Rattle.mk_reader.specs.declared.item.Item.{Item}
 use Rattle.mk_profile.specs.declared.profile.Profile.{Profile}
 use Rattle.st_disk.specs.Crash.{Sides}
 use Rattle.st_disk.specs.declared.which.Which.{Which}
+use Rattle.mk_nodes.specs.declared.graph.Graph.{Graph}
+use Rattle.bd_places.specs.declared.end.End.{End}
 use Rattle.bd_lists.specs.declared.recipe.Variable.{Variable}
 use Rattle.dmk_reading.specs.Definitions.{first_defined}
 use Rattle.dmk_reading.specs.Keeping.{keeps}
@@ -15,9 +18,9 @@ use Rattle.dmk_reading.specs.Planned.{AreItems, IsStateOn}
 use Rattle.dmk_reading.specs.declared.makefiles.Makefiles.{Makefiles}
 use Rattle.dmk_reading.specs.declared.options.Options.{Options}
 use Rattle.st_state.specs.State.{StateMap}
-use Rattle.dmk_run.specs.Made.{Makes, MakesItems}
+use Rattle.dmk_run.specs.Made.{Makes, MakesItems, IsBuiltWithoutFile}
 use Rattle.dmk_run.specs.Opened.{RecoversAsBefore}
-use Rattle.dmk_run.specs.InTurn.{MakesPart, LeavesDisk, IsParted, AreParts, at_once, in_turn, GoesOn, EndsRun, Joined, MadeInTurn, none_left, first_made, run_ended, MadeBehind, no_more, once_more, MakesWithLost, IsMadeInTurn}
+use Rattle.dmk_run.specs.InTurn.{Between, MakesPart, LeavesDisk, IsParted, AreParts, at_once, in_turn, GoesOn, EndsRun, Joined, MadeInTurn, none_left, first_made, run_ended, MadeBehind, no_more, once_more, MakesWithLost, IsMadeInTurn}
 use Rattle.dmk_run.specs.declared.stop.Stop.{Stop}
 use Rattle.dmk_run.proofs.DriverLemmas.{at_ok}
 
@@ -43,9 +46,9 @@ one_longer parts index part below is =
 larger_of_three : (a b c : ℕ) → max a (max b c) ≡ max b (max a c)
 larger_of_three a b c = omega arith
 
-module _ {Disk : Type 0} (MakesOne : (targets : List (List ℕ)) → (found left : Disk) → (status : ℕ) → Type 0) where
+module _ {State : Type 0} (MakesOne : (targets : List (List ℕ)) → (found left : State) → (status : ℕ) → Type 0) where
   -- one part alone
-  pub one : (goes_on : Bool) (targets : List (List ℕ)) (found left : Disk) (own : ℕ) → MakesOne targets found left own →
+  pub one : (goes_on : Bool) (targets : List (List ℕ)) (found left : State) (own : ℕ) → MakesOne targets found left own →
       MadeInTurn MakesOne goes_on (targets ∷ []) found left own
   one true targets found left own is =
       subst (MadeInTurn MakesOne true (targets ∷ []) found left) (max-zero own) (first_made targets found own is (inr refl) (none_left left))
@@ -55,40 +58,40 @@ module _ {Disk : Type 0} (MakesOne : (targets : List (List ℕ)) → (found left
       run_ended targets [] found left (suc own) is ((λ none. omega (arith, none)), refl)
 
   -- behind parts that are made a further one is
-  pub then_made : {goes_on : Bool} {parts : List (List (List ℕ))} {found between left : Disk} {status own : ℕ} {targets : List (List ℕ)} →
+  pub then_made : {goes_on : Bool} {parts : List (List (List ℕ))} {found between left : State} {status own : ℕ} {targets : List (List ℕ)} →
       MadeInTurn MakesOne goes_on parts found between status → GoesOn goes_on status → MakesOne targets between left own →
       MadeInTurn MakesOne goes_on (parts ++ targets ∷ []) found left (max own status)
-  then_made {goes_on} {left = left} {own = own} {targets = targets} (none_left disk) goes is =
-      subst (MadeInTurn MakesOne goes_on (targets ∷ []) disk left) (sym (max-zero own)) (one goes_on targets disk left own is)
+  then_made {goes_on} {left = left} {own = own} {targets = targets} (none_left state) goes is =
+      subst (MadeInTurn MakesOne goes_on (targets ∷ []) state left) (sym (max-zero own)) (one goes_on targets state left own is)
   then_made {goes_on} {left = left} {own = own} {targets = targets} (first_made {parts = parts} {status = second} first found before made goes_first rest) goes is =
       subst (MadeInTurn MakesOne goes_on (first ∷ (parts ++ targets ∷ [])) found left) (larger_of_three before own second)
       (first_made first found before made goes_first (then_made rest (goes_behind goes_on before second goes) is))
   then_made {goes_on} (run_ended first parts found between before made ends) goes is = absurd (not_both goes_on before ends goes)
 
   -- where the run ends behind some parts those behind them aren't made
-  pub ends_there : {goes_on : Bool} {parts : List (List (List ℕ))} {found left : Disk} {status : ℕ} (more : List (List (List ℕ))) →
+  pub ends_there : {goes_on : Bool} {parts : List (List (List ℕ))} {found left : State} {status : ℕ} (more : List (List (List ℕ))) →
       MadeInTurn MakesOne goes_on parts found left status → EndsRun goes_on status → MadeInTurn MakesOne goes_on (parts ++ more) found left status
-  ends_there more (none_left disk) (fails, stays) = absurd (fails refl)
+  ends_there more (none_left state) (fails, stays) = absurd (fails refl)
   ends_there more (first_made {status = second} first found own made (inl none) rest) (fails, stays) =
       first_made first found own made (inl none) (ends_there more rest (fails_behind own second none fails, stays))
   ends_there more (first_made first found own made (inr goes) rest) (fails, stays) = absurd cc
   ends_there more (run_ended first parts found left own made ends) fails = run_ended first (parts ++ more) found left own made ends
 
   -- what is made first over one disk is made over another that is as good
-  module _ (found opened : Disk) (alike : (targets : List (List ℕ)) (left : Disk) (own : ℕ) → MakesOne targets opened left own → MakesOne targets found left own) where
-    made_over : {goes_on : Bool} {first : List (List ℕ)} {others : List (List (List ℕ))} {left : Disk} {status : ℕ} →
+  module _ (found opened : State) (alike : (targets : List (List ℕ)) (left : State) (own : ℕ) → MakesOne targets opened left own → MakesOne targets found left own) where
+    made_over : {goes_on : Bool} {first : List (List ℕ)} {others : List (List (List ℕ))} {left : State} {status : ℕ} →
         MadeInTurn MakesOne goes_on (first ∷ others) opened left status → MadeInTurn MakesOne goes_on (first ∷ others) found left status
     made_over (first_made {between = between} first opened own made goes rest) = first_made first found own (alike first between own made) goes rest
     made_over (run_ended first others opened left own made ends) = run_ended first others found left own (alike first left own made) ends
 
-    pub parts_over : {goes_on : Bool} {goals : List (List ℕ)} {parts : List (List (List ℕ))} {left : Disk} {status : ℕ} → AreParts goals parts →
+    pub parts_over : {goes_on : Bool} {goals : List (List ℕ)} {parts : List (List (List ℕ))} {left : State} {status : ℕ} → AreParts goals parts →
         MadeInTurn MakesOne goes_on parts opened left status → MadeInTurn MakesOne goes_on parts found left status
     parts_over (at_once goals) made = made_over made
     parts_over (in_turn first behind parts some more are) made = made_over made
 
   module _ {Fault : Type 0} (goes_on : Bool) where
     -- behind parts that came to a status the next one is made
-    pub next_made : (parts : List (List (List ℕ))) (index : ℕ) (targets : List (List ℕ)) (found between left : Disk) (before behind got : Result ℕ Fault) →
+    pub next_made : (parts : List (List (List ℕ))) (index : ℕ) (targets : List (List ℕ)) (found between left : State) (before behind got : Result ℕ Fault) →
         index < length parts → targets ≡ get_or parts index targets → IfOk got (Joined before behind) →
         IfOk before (MadeInTurn MakesOne goes_on (take index parts) found between) → IfOk before (GoesOn goes_on) →
         IfOk behind (MakesOne targets between left) → IfOk got (MadeInTurn MakesOne goes_on (take (index + 1) parts) found left)
@@ -101,14 +104,14 @@ module _ {Disk : Type 0} (MakesOne : (targets : List (List ℕ)) → (found left
     next_made parts index targets found between left before behind (Err fault) below is joined made goes own = tt
 
     -- all of them are made
-    pub none_left_of : (parts : List (List (List ℕ))) (index : ℕ) (found left : Disk) (got : Result ℕ Fault) → length parts ≤ index → index ≤ length parts →
+    pub none_left_of : (parts : List (List (List ℕ))) (index : ℕ) (found left : State) (got : Result ℕ Fault) → length parts ≤ index → index ≤ length parts →
         IfOk got (MadeInTurn MakesOne goes_on (take index parts) found left) → IfOk got (MadeInTurn MakesOne goes_on parts found left)
     none_left_of parts index found left got above below made =
         let end : index ≡ length parts = omega (arith, above, below) in
         subst (λ p. IfOk got (MadeInTurn MakesOne goes_on p found left)) (ap (λ n. take n parts) end ∙ take-length parts) made
 
     -- or one of them ends the run
-    pub ended : (parts : List (List (List ℕ))) (index : ℕ) (found left : Disk) (got : Result ℕ Fault) →
+    pub ended : (parts : List (List (List ℕ))) (index : ℕ) (found left : State) (got : Result ℕ Fault) →
         IfOk got (MadeInTurn MakesOne goes_on (take index parts) found left) → IfOk got (EndsRun goes_on) →
         IfOk got (MadeInTurn MakesOne goes_on parts found left)
     ended parts index found left (Ok status) made ends =
@@ -116,12 +119,12 @@ module _ {Disk : Type 0} (MakesOne : (targets : List (List ℕ)) → (found left
     ended parts index found left (Err fault) made ends = tt
 
     -- nothing more is made
-    pub as_it_is : (disk : Disk) (got : Result ℕ Fault) → IfOk got (λ s. (before : ℕ) × (got ≡ Ok before) × MadeBehind MakesOne goes_on before disk disk s)
-    as_it_is disk (Ok status) = (status, refl, no_more refl refl)
-    as_it_is disk (Err fault) = tt
+    pub as_it_is : (state : State) (got : Result ℕ Fault) → IfOk got (λ s. (before : ℕ) × (got ≡ Ok before) × MadeBehind MakesOne goes_on before state state s)
+    as_it_is state (Ok status) = (status, refl, no_more refl refl)
+    as_it_is state (Err fault) = tt
 
     -- some targets are made once more
-    pub made_behind : (targets : List (List ℕ)) (found left : Disk) (before behind got : Result ℕ Fault) → targets ≢ [] →
+    pub made_behind : (targets : List (List ℕ)) (found left : State) (before behind got : Result ℕ Fault) → targets ≢ [] →
         IfOk got (Joined before behind) → IfOk before (GoesOn goes_on) → IfOk behind (MakesOne targets found left) →
         IfOk got (λ s. (first : ℕ) × (before ≡ Ok first) × MadeBehind MakesOne goes_on first found left s)
     made_behind targets found left before behind (Ok status) some joined goes own = (
@@ -133,16 +136,16 @@ module _ {Disk : Type 0} (MakesOne : (targets : List (List ℕ)) → (found left
     made_behind targets found left before behind (Err fault) some joined goes own = tt
 
     -- a part is made with what is lost behind it
-    pub with_lost : (targets : List (List ℕ)) (found between left : Disk) (ran got : Result ℕ Fault) → IfOk ran (MakesOne targets found between) →
+    pub with_lost : (targets : List (List ℕ)) (found between left : State) (ran got : Result ℕ Fault) → IfOk ran (MakesOne targets found between) →
         IfOk got (λ s. (before : ℕ) × (ran ≡ Ok before) × MadeBehind MakesOne goes_on before between left s) →
         IfOk got (MakesWithLost MakesOne goes_on targets found left)
     with_lost targets found between left ran (Ok status) made (before, was, more) =
         record { between = between; before = before; made = at_ok (MakesOne targets found between) ran before was made; behind = more }
     with_lost targets found between left ran (Err fault) made more = tt
 
-module _ {Disk Fault : Type 0} (MakesOne : (targets : List (List ℕ)) → (found left : Disk) → (status : ℕ) → Type 0) (goes_on : Bool) where
+module _ {State Fault : Type 0} (MakesOne : (targets : List (List ℕ)) → (found left : State) → (status : ℕ) → Type 0) (goes_on : Bool) where
   -- goals that are made at once are in turn
-  pub alone : (goals : List (List ℕ)) (found left : Disk) (got : Result ℕ Fault) → IfOk got (MakesWithLost MakesOne goes_on goals found left) →
+  pub alone : (goals : List (List ℕ)) (found left : State) (got : Result ℕ Fault) → IfOk got (MakesWithLost MakesOne goes_on goals found left) →
       IfOk got (IsMadeInTurn MakesOne goes_on goals found left)
   alone goals found left (Ok status) is = record {
     parts = goals ∷ [];
@@ -151,17 +154,26 @@ module _ {Disk Fault : Type 0} (MakesOne : (targets : List (List ℕ)) → (foun
   }
   alone goals found left (Err fault) is = tt
 
-  -- and so are parts, the first of which was made over a disk that is as good
-  pub in_parts_over : (goals : List (List ℕ)) (parts : List (List (List ℕ))) (found opened left : Disk) (got : Result ℕ Fault) → AreParts goals parts →
-      ((targets : List (List ℕ)) (left : Disk) (own : ℕ) → MakesOne targets opened left own → MakesOne targets found left own) →
-      IfOk got (MadeInTurn (MakesWithLost MakesOne goes_on) goes_on parts opened left) → IfOk got (IsMadeInTurn MakesOne goes_on goals found left)
-  in_parts_over goals parts found opened left (Ok status) are alike made = record {
-    parts = parts;
-    are_parts = are;
-    in_turn = parts_over (MakesWithLost MakesOne goes_on) found opened
-        (λ targets left own is. record { between = is.between; before = is.before; made = alike targets is.between is.before is.made; behind = is.behind }) are made;
-  }
+  -- and so are parts, the first of which was made from what is as good
+  pub in_parts_over : {Names : Type 0} (goals : List (List ℕ)) (parts : List (List (List ℕ))) (found opened : State) (left : Names → State) (got : Result ℕ Fault) → AreParts goals parts →
+      ((targets : List (List ℕ)) (left : State) (own : ℕ) → MakesOne targets opened left own → MakesOne targets found left own) →
+      IfOk got (λ s. (names : Names) × MadeInTurn (MakesWithLost MakesOne goes_on) goes_on parts opened (left names) s) →
+      IfOk got (λ s. (names : Names) × IsMadeInTurn MakesOne goes_on goals found (left names) s)
+  in_parts_over goals parts found opened left (Ok status) are alike (names, made) = (
+    names,
+    record {
+      parts = parts;
+      are_parts = are;
+      in_turn = parts_over (MakesWithLost MakesOne goes_on) found opened
+          (λ targets left own is. record { between = is.between; before = is.before; made = alike targets is.between is.before is.made; behind = is.behind }) are made;
+    },
+  )
   in_parts_over goals parts found opened left (Err fault) are alike made = tt
+
+-- before the first part nothing is made
+pub none_yet : {Disk : Type 0} (MakesOne : (targets : List (List ℕ)) → (found left : Between Disk) → (status : ℕ) → Type 0) (goes_on : Bool) (disk : Disk)
+    (names : List (List ℕ)) → names ≡ [] → MadeInTurn MakesOne goes_on [] (disk, []) (disk, names) 0
+none_yet MakesOne goes_on disk names none = subst (λ n. MadeInTurn MakesOne goes_on [] (disk, []) (disk, n) 0) (sym none) (none_left (disk, []))
 
 -- what is so where goals are parted is so of goals that were
 pub before_of : (Before : Type 0) (got : Result ℕ Stop) → IfErr got (λ stop. IsParted stop → Before) → IsErrAnd got IsParted → Before
@@ -173,6 +185,27 @@ pub passed_on : {Fault Disk : Type 0} (M : Disk → ℕ → Type 0) (found got :
     IfOk got (λ s. found ≡ Ok s) → IfOk found (M disk) → IfOk got (M left)
 passed_on M found (Ok status) disk left there same so = subst (λ d. M d status) (sym there) (at_ok (M disk) found status same so)
 passed_on M found (Err fault) disk left there same so = tt
+
+-- where some names are built so are some of them
+makes_fewer : {world : World} {times : List ℕ → Option ℤ} {makefiles : Makefiles} {profile : Profile} {definitions environment : List Variable} {targets : List (List ℕ)}
+    {all goes_on : Bool} {before : List (List ℕ)} {disk_honest : Type 0} {seen : Which → List ℕ} {status : ℕ} {sides : Sides} (built fewer : List (List ℕ)) →
+    ((graph : Graph) (ends : List End) → All (IsBuiltWithoutFile graph ends) built → All (IsBuiltWithoutFile graph ends) fewer) →
+    Makes world times makefiles profile definitions environment targets all goes_on before disk_honest seen status sides built →
+    Makes world times makefiles profile definitions environment targets all goes_on before disk_honest seen status sides fewer
+makes_fewer built fewer are is = record {
+  items = is.items;
+  are_items = is.are_items;
+  made = record {
+    state = is.made.state;
+    is_state = is.made.is_state;
+    graph = is.made.graph;
+    is_graph = is.made.is_graph;
+    all_made = is.made.all_made;
+    judged = is.made.judged;
+    is_judged = is.made.is_judged;
+    made = record { ended = is.made.made.ended; are_built = are is.made.judged is.made.made.ended.ends is.made.made.are_built };
+  };
+}
 
 module _ {Source Tree Disk : Type 0} (Reads : Source → World → Type 0) (Allows : Tree → (List ℕ → Option ℤ) → Type 0) (environment : List Variable) where
   -- a disk that is left twice is left so
@@ -204,29 +237,35 @@ module _ {Source Tree Disk : Type 0} (Reads : Source → World → Type 0) (Allo
     )
 
     module _ (disk_honest : Type 0) (seen : Disk → Which → List ℕ) (sides : Disk → Sides) (targets : List (List ℕ)) (asked : part.targets ≡ targets)
-        (all : part.makes_all ≡ whole.makes_all) (goes_on : part.goes_on ≡ whole.goes_on) where
-      makes_alike : (world : World) (times : List ℕ → Option ℤ) (found left : Disk) (status : ℕ) →
-          Makes world times part.makefiles part.profile part.definitions.items environment part.targets part.makes_all part.goes_on disk_honest (seen found) status (sides left) →
-          Makes world times whole.makefiles whole.profile whole.definitions.items environment targets whole.makes_all whole.goes_on disk_honest (seen found) status (sides left)
-      makes_alike world times found left status is =
-          subst (λ g. Makes world times whole.makefiles whole.profile whole.definitions.items environment targets whole.makes_all g disk_honest (seen found) status (sides left)) goes_on
-          (subst (λ a. Makes world times whole.makefiles whole.profile whole.definitions.items environment targets a part.goes_on disk_honest (seen found) status (sides left)) all
-          (subst (λ t. Makes world times whole.makefiles whole.profile whole.definitions.items environment t part.makes_all part.goes_on disk_honest (seen found) status (sides left)) asked
-          (subst (λ d. Makes world times whole.makefiles whole.profile d environment part.targets part.makes_all part.goes_on disk_honest (seen found) status (sides left)) definitions
-          (subst (λ p. Makes world times whole.makefiles p part.definitions.items environment part.targets part.makes_all part.goes_on disk_honest (seen found) status (sides left)) profile
-          (subst (λ m. Makes world times m part.profile part.definitions.items environment part.targets part.makes_all part.goes_on disk_honest (seen found) status (sides left)) makefiles is)))))
+        (all : part.makes_all ≡ whole.makes_all) (goes_on : part.goes_on ≡ whole.goes_on) (before : List (List ℕ)) where
+      makes_alike : (world : World) (times : List ℕ → Option ℤ) (found left : Disk) (built : List (List ℕ)) (status : ℕ) →
+          Makes world times part.makefiles part.profile part.definitions.items environment part.targets part.makes_all part.goes_on before disk_honest (seen found) status (sides left) built →
+          Makes world times whole.makefiles whole.profile whole.definitions.items environment targets whole.makes_all whole.goes_on before disk_honest (seen found) status (sides left) built
+      makes_alike world times found left built status is =
+          subst (λ g. Makes world times whole.makefiles whole.profile whole.definitions.items environment targets whole.makes_all g before disk_honest (seen found) status (sides left) built) goes_on
+          (subst (λ a. Makes world times whole.makefiles whole.profile whole.definitions.items environment targets a part.goes_on before disk_honest (seen found) status (sides left) built) all
+          (subst (λ t. Makes world times whole.makefiles whole.profile whole.definitions.items environment t part.makes_all part.goes_on before disk_honest (seen found) status (sides left) built) asked
+          (subst (λ d. Makes world times whole.makefiles whole.profile d environment part.targets part.makes_all part.goes_on before disk_honest (seen found) status (sides left) built) definitions
+          (subst (λ p. Makes world times whole.makefiles p part.definitions.items environment part.targets part.makes_all part.goes_on before disk_honest (seen found) status (sides left) built) profile
+          (subst (λ m. Makes world times m part.profile part.definitions.items environment part.targets part.makes_all part.goes_on before disk_honest (seen found) status (sides left) built) makefiles is)))))
 
-      -- and what it makes is made
-      pub part_makes : {Fault : Type 0} (source : Source) (tree : Tree) (found left : Disk) (got : Result ℕ Fault) →
+      -- and what it makes is made, behind these names, to which others are added
+      pub part_makes : {Fault : Type 0} (source : Source) (tree : Tree) (found left : Disk) (names built added after : List (List ℕ)) (got : Result ℕ Fault) →
+          before ≡ names → after ≡ names ++ added →
+          ((graph : Graph) (ends : List End) → All (IsBuiltWithoutFile graph ends) built → All (IsBuiltWithoutFile graph ends) added) →
           IfOk got (λ s. (world : World) (times : List ℕ → Option ℤ) → Reads source world → Allows tree times →
-          Makes world times part.makefiles part.profile part.definitions.items environment part.targets part.makes_all part.goes_on disk_honest (seen found) s (sides left)) →
-          IfOk got (MakesPart Reads Allows whole environment disk_honest seen sides targets found left)
-      part_makes source tree found left (Ok status) is = record {
-        source = source;
-        tree = tree;
-        made = λ world times text may. makes_alike world times found left status (is world times text may);
-      }
-      part_makes source tree found left (Err fault) is = tt
+          Makes world times part.makefiles part.profile part.definitions.items environment part.targets part.makes_all part.goes_on before disk_honest (seen found) s (sides left) built) →
+          IfOk got (MakesPart Reads Allows whole environment disk_honest seen sides targets (found, names) (left, after))
+      part_makes source tree found left names built added after (Ok status) same adds fewer is =
+          subst (λ n. MakesPart Reads Allows whole environment disk_honest seen sides targets (found, n) (left, after) status) same
+          (record {
+            source = source;
+            tree = tree;
+            built = added;
+            adds = adds ∙ ap (λ n. n ++ added) (sym same);
+            made = λ world times text may. makes_fewer built added fewer (makes_alike world times found left built status (is world times text may));
+          })
+      part_makes source tree found left names built added after (Err fault) same adds fewer is = tt
 
   -- a part that is made over a disk is made over one of which it recovers no other state
   module _ (options : Options) (disk_honest : Type 0) (seen : Disk → Which → List ℕ) (sides : Disk → Sides) (found opened : Disk)
@@ -235,29 +274,33 @@ module _ {Source Tree Disk : Type 0} (Reads : Source → World → Type 0) (Allo
     state_before true m is = λ honest. before honest m (is honest)
     state_before false m is = is
 
-    items_before : (targets : List (List ℕ)) (times : List ℕ → Option ℤ) (items : List Item) (stored keeping : Bool) (left : Sides) (own : ℕ) →
-        MakesItems options.profile options.definitions.items environment targets options.makes_all options.goes_on times items stored keeping disk_honest (seen opened) own left →
-        MakesItems options.profile options.definitions.items environment targets options.makes_all options.goes_on times items stored keeping disk_honest (seen found) own left
-    items_before targets times items stored keeping left own run = record {
+    items_before : (targets : List (List ℕ)) (times : List ℕ → Option ℤ) (items : List Item) (stored keeping : Bool) (left : Sides) (names built : List (List ℕ)) (own : ℕ) →
+        MakesItems options.profile options.definitions.items environment targets options.makes_all options.goes_on names times items stored keeping disk_honest (seen opened) own left built →
+        MakesItems options.profile options.definitions.items environment targets options.makes_all options.goes_on names times items stored keeping disk_honest (seen found) own left built
+    items_before targets times items stored keeping left names built own run = record {
       state = run.state;
       is_state = state_before stored run.state run.is_state;
       graph = run.graph;
       is_graph = run.is_graph;
       all_made = run.all_made;
-      ended = run.ended;
+      judged = run.judged;
+      is_judged = run.is_judged;
+      made = run.made;
     }
 
-    pub made_before : (targets : List (List ℕ)) (left : Disk) (own : ℕ) →
-        MakesPart Reads Allows options environment disk_honest seen sides targets opened left own →
-        MakesPart Reads Allows options environment disk_honest seen sides targets found left own
-    made_before targets left own is = record {
+    pub made_before : (names targets : List (List ℕ)) (left : Between Disk) (own : ℕ) →
+        MakesPart Reads Allows options environment disk_honest seen sides targets (opened, names) left own →
+        MakesPart Reads Allows options environment disk_honest seen sides targets (found, names) left own
+    made_before names targets left own is = record {
       source = is.source;
       tree = is.tree;
+      built = is.built;
+      adds = is.adds;
       made = λ world times text may.
           let run = is.made world times text may in
           record {
             items = run.items;
             are_items = run.are_items;
-            made = items_before targets times run.items (keeps environment run.items) (keeps environment run.items) (sides left) own run.made;
+            made = items_before targets times run.items (keeps environment run.items) (keeps environment run.items) (sides left.0) names is.built own run.made;
           };
     }

@@ -1,6 +1,7 @@
 mod OpeningLemmas
 mod JudgingLemmas
 mod BuildingLemmas
+mod BehindLemmas
 mod DriverLemmas
 mod TakingLemmas
 mod TrustingLemmas

@@ -16,16 +16,22 @@ use Rattle.dmk_run.specs.declared.stop.Stop.TheVariants as stops
 
 -- ---- One part
 
--- a part is made: these goals are, as the options say, over the disk that was found, by what makefiles were read from and by looks at
--- files of its own
+-- what stands between two parts: the disk, and the names that parts so far built and that had no file
+abbrev pub Between : (Disk : Type 0) → Type 0
+Between Disk = Disk × List (List ℕ)
+
+-- a part is made: these goals are, as the options say, over the disk that was found and behind what was built before, by what makefiles were
+-- read from and by looks at files of its own. Of the names that it adds each was built
 pub record MakesPart {Source Tree Disk : Type 0} (Reads : Source → World → Type 0) (Allows : Tree → (List ℕ → Option ℤ) → Type 0)
     (options : Options) (environment : List Variable) (disk_honest : Type 0) (seen : Disk → Which → List ℕ) (sides : Disk → Sides)
-    (targets : List (List ℕ)) (found left : Disk) (status : ℕ) : Type 0 where
+    (targets : List (List ℕ)) (found left : Between Disk) (status : ℕ) : Type 0 where
   pub source : Source
   pub tree : Tree
+  pub built : List (List ℕ)
+  pub adds : left.1 ≡ found.1 ++ built
   pub made : (world : World) (times : List ℕ → Option ℤ) → Reads source world → Allows tree times →
-      Makes world times options.makefiles options.profile options.definitions.items environment targets options.makes_all options.goes_on disk_honest
-      (seen found) status (sides left)
+      Makes world times options.makefiles options.profile options.definitions.items environment targets options.makes_all options.goes_on found.1 disk_honest
+      (seen found.0) status (sides left.0) built
 
 -- the disk is left as it was found, or what makefiles were read from and looks at files say that a makefile keeps state
 abbrev pub LeavesDisk : {Source Tree Disk : Type 0} (Reads : Source → World → Type 0) (Allows : Tree → (List ℕ → Option ℤ) → Type 0)
@@ -67,35 +73,35 @@ pub record Joined {Fault : Type 0} (before behind : Result ℕ Fault) (status : 
   pub is_second : behind ≡ Ok second
   pub larger : status ≡ max second first
 
--- these parts are made in turn, the first over the disk that was found and each other one over what the one before it left. The status is
+-- these parts are made in turn, the first from what was found and each other one from what the one before it left. The status is
 -- the largest of theirs. One that ends the run is the last that is made
-pub data MadeInTurn {Disk : Type 0} (MakesOne : (targets : List (List ℕ)) → (found left : Disk) → (status : ℕ) → Type 0) (goes_on : Bool) :
-    (parts : List (List (List ℕ))) → (found left : Disk) → (status : ℕ) → Type 0 where
-  none_left : (disk : Disk) → MadeInTurn MakesOne goes_on [] disk disk 0
-  first_made : {parts : List (List (List ℕ))} {between left : Disk} {status : ℕ} (targets : List (List ℕ)) (found : Disk) (own : ℕ) →
+pub data MadeInTurn {State : Type 0} (MakesOne : (targets : List (List ℕ)) → (found left : State) → (status : ℕ) → Type 0) (goes_on : Bool) :
+    (parts : List (List (List ℕ))) → (found left : State) → (status : ℕ) → Type 0 where
+  none_left : (state : State) → MadeInTurn MakesOne goes_on [] state state 0
+  first_made : {parts : List (List (List ℕ))} {between left : State} {status : ℕ} (targets : List (List ℕ)) (found : State) (own : ℕ) →
       MakesOne targets found between own → GoesOn goes_on own → MadeInTurn MakesOne goes_on parts between left status →
       MadeInTurn MakesOne goes_on (targets ∷ parts) found left (max own status)
-  run_ended : (targets : List (List ℕ)) (parts : List (List (List ℕ))) (found left : Disk) (own : ℕ) →
+  run_ended : (targets : List (List ℕ)) (parts : List (List (List ℕ))) (found left : State) (own : ℕ) →
       MakesOne targets found left own → EndsRun goes_on own → MadeInTurn MakesOne goes_on (targets ∷ parts) found left own
 
 -- behind what has a status nothing more is made or, where the run goes on, some targets are. The status is the larger one
-pub data MadeBehind {Disk : Type 0} (MakesOne : (targets : List (List ℕ)) → (found left : Disk) → (status : ℕ) → Type 0) (goes_on : Bool)
-    (before : ℕ) (found left : Disk) (status : ℕ) : Type 0 where
+pub data MadeBehind {State : Type 0} (MakesOne : (targets : List (List ℕ)) → (found left : State) → (status : ℕ) → Type 0) (goes_on : Bool)
+    (before : ℕ) (found left : State) (status : ℕ) : Type 0 where
   no_more : left ≡ found → status ≡ before → MadeBehind MakesOne goes_on before found left status
   once_more : (targets : List (List ℕ)) (own : ℕ) → targets ≢ [] → GoesOn goes_on before → MakesOne targets found left own →
       status ≡ max own before → MadeBehind MakesOne goes_on before found left status
 
 -- a part is made, and behind it targets that are lost since they were judged up to date
-pub record MakesWithLost {Disk : Type 0} (MakesOne : (targets : List (List ℕ)) → (found left : Disk) → (status : ℕ) → Type 0) (goes_on : Bool)
-    (targets : List (List ℕ)) (found left : Disk) (status : ℕ) : Type 0 where
-  pub between : Disk
+pub record MakesWithLost {State : Type 0} (MakesOne : (targets : List (List ℕ)) → (found left : State) → (status : ℕ) → Type 0) (goes_on : Bool)
+    (targets : List (List ℕ)) (found left : State) (status : ℕ) : Type 0 where
+  pub between : State
   pub before : ℕ
   pub made : MakesOne targets found between before
   pub behind : MadeBehind MakesOne goes_on before between left status
 
 -- the goals are made in parts, in turn, each with what is lost behind it
-pub record IsMadeInTurn {Disk : Type 0} (MakesOne : (targets : List (List ℕ)) → (found left : Disk) → (status : ℕ) → Type 0) (goes_on : Bool)
-    (goals : List (List ℕ)) (found left : Disk) (status : ℕ) : Type 0 where
+pub record IsMadeInTurn {State : Type 0} (MakesOne : (targets : List (List ℕ)) → (found left : State) → (status : ℕ) → Type 0) (goes_on : Bool)
+    (goals : List (List ℕ)) (found left : State) (status : ℕ) : Type 0 where
   pub parts : List (List (List ℕ))
   pub are_parts : AreParts goals parts
   pub in_turn : MadeInTurn (MakesWithLost MakesOne goes_on) goes_on parts found left status

@@ -2,6 +2,8 @@
 pub mod Known
 -- Judged: what bears out that a run answers 0.
 pub mod Judged
+-- Behind: what a part makes behind others.
+pub mod Behind
 -- Made: what a run leaves on its disk.
 pub mod Made
 -- Opened: what a power cut may leave while a store is opened.

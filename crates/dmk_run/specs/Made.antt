@@ -1,15 +1,18 @@
 -- What a run leaves on its disk, where it ends with a report.
-use Rattle.std.specs.Prelude.{◌≡◌, ◌≢◌, ◌||◌, ℕ, ℤ, Bool, true, false, List, [], Option, length, IsTrue}
-use Rattle.std.specs.List.{list_all}
+use Rattle.std.specs.Prelude.{◌≡◌, ◌≢◌, ◌||◌, ◌++◌, ℕ, ℤ, Bool, true, false, List, [], map, Option, Some, None, length, slice_get, IsTrue}
+use Rattle.std.specs.List.{All, list_all}
 use Rattle.mk_profile.specs.declared.profile.Profile.{Profile}
 use Rattle.mk_reader.specs.declared.item.Item.{Item}
+use Rattle.mk_graph.specs.Numbering.{name_at}
 use Rattle.mk_nodes.specs.declared.graph.Graph.{Graph}
+use Rattle.mk_nodes.specs.declared.graph.Node.{Node}
 use Rattle.st_disk.specs.Crash.{Sides}
 use Rattle.st_disk.specs.declared.which.Which.{Which}
 use Rattle.st_records.specs.declared.record.Record.{Record}
 use Rattle.st_state.specs.State.{StateMap}
 use Rattle.st_recovery.specs.Stored.{AllRecover}
 use Rattle.bd_places.specs.declared.end.End.{End}
+use Rattle.bd_places.specs.declared.end.End.TheVariants.{Built}
 use Rattle.bd_lists.specs.declared.recipe.Variable.{Variable}
 use Rattle.bd_flusher.specs.declared.site.receipt.Receipt.{Receipt}
 use Rattle.jb_closing.specs.Agreement.{AreThoseOf}
@@ -19,8 +22,11 @@ use Rattle.dmk_reading.specs.Definitions.{first_defined}
 use Rattle.dmk_reading.specs.declared.makefiles.Makefiles.{Makefiles}
 use Rattle.dmk_reading.specs.Planned.{AreItems, IsGraphOf, IsStateOn, judged_graph}
 use Rattle.dmk_reading.specs.Keeping.{keeps}
+use Rattle.dmk_run.specs.Behind.{IsJudgedBehind}
 use Rattle.dmk_run.specs.Judged.{IsBorneOut}
 use Rattle.dmk_run.specs.Known.{AreKnownDone}
+use Rattle.dmk_run.specs.declared.left.Left.{Left}
+use Rattle.dmk_run.specs.declared.made.Made.{Made}
 use Rattle.dmk_reading.specs.Lost.{goes_without}
 use Rattle.mk_eval.specs.Output.{World}
 
@@ -48,22 +54,50 @@ pub record HasEnded (graph : Graph) (counting keeping : Bool) (sound : Type 0) (
   pub borne_out : status ≡ 0 → IsBorneOut counting graph ends
   pub made : keeping ≡ true → IsMade graph sound sides status ends
 
--- so the graph of these items has, for the targets that are named, by the state that the disk recovers, if it is stored there. A run that
--- doesn't go on without names has none that lacks a file and that nothing makes
-pub record MakesItems (profile : Profile) (definitions environment : List Variable) (targets : List (List ℕ)) (all goes_on : Bool) (times : List ℕ → Option ℤ)
+-- a name that had no file: its recipe was run to its end
+pub record IsBuiltWithoutFile (graph : Graph) (ends : List End) (name : List ℕ) : Type 0 where
+  pub node : ℕ
+  pub it : Node
+  pub is_node : slice_get graph.nodes.items node ≡ Some it
+  pub named : name_at graph.names node ≡ name
+  pub no_file : it.stamp ≡ None
+  pub built : slice_get ends node ≡ Some Built
+
+-- to some names others are added, each of which was built where all of these were
+pub record AddsSome (made : List Made) (before now : List (List ℕ)) : Type 0 where
+  pub added : List (List ℕ)
+  pub adds : now ≡ before ++ added
+  pub are_built : (graph : Graph) (ends : List End) → All (λ m. IsBuiltWithoutFile graph ends m.name) made → All (IsBuiltWithoutFile graph ends) added
+
+-- the names that are left to parts behind as built without a file
+abbrev pub names_built : Left → List (List ℕ)
+names_built left = map (λ m. m.name) left.made.items
+
+-- so a graph has ended, and each of these names is one that was built and had no file
+pub record HasMade (graph : Graph) (counting keeping : Bool) (sound : Type 0) (sides : Sides) (status : ℕ) (built : List (List ℕ)) : Type 0 where
+  pub ended : HasEnded graph counting keeping sound sides status
+  pub are_built : All (IsBuiltWithoutFile graph ended.ends) built
+
+-- so the graph of these items has, for the targets that are named, by the state that the disk recovers, if it is stored there, behind parts
+-- of the run that made some names. A run that doesn't go on without names has none that lacks a file and that nothing makes
+pub record MakesItems (profile : Profile) (definitions environment : List Variable) (targets : List (List ℕ)) (all goes_on : Bool)
+    (before : List (List ℕ)) (times : List ℕ → Option ℤ)
     (items : List Item) (stored keeping : Bool) (disk_honest : Type 0) (seen : Which → List ℕ)
-    (status : ℕ) (sides : Sides) : Type 0 where
+    (status : ℕ) (sides : Sides) (built : List (List ℕ)) : Type 0 where
   pub state : StateMap
   pub is_state : IsStateOn stored disk_honest seen state
   pub graph : Graph
   pub is_graph : IsGraphOf profile definitions environment targets times items state graph
   pub all_made : goes_without profile goes_on ≡ false → graph.unmade.items ≡ []
-  pub ended : HasEnded (judged_graph all graph) (all || keeping) keeping disk_honest sides status
+  pub judged : Graph
+  pub is_judged : IsJudgedBehind before (judged_graph all graph) judged
+  pub made : HasMade judged (all || keeping) keeping disk_honest sides status built
 
 -- so it is for the items of the makefile that is found by these files and times
 pub record Makes (world : World) (times : List ℕ → Option ℤ) (makefiles : Makefiles)
-    (profile : Profile) (definitions environment : List Variable) (targets : List (List ℕ)) (all goes_on : Bool) (disk_honest : Type 0) (seen : Which → List ℕ) (status : ℕ) (sides : Sides) : Type 0 where
+    (profile : Profile) (definitions environment : List Variable) (targets : List (List ℕ)) (all goes_on : Bool) (before : List (List ℕ))
+    (disk_honest : Type 0) (seen : Which → List ℕ) (status : ℕ) (sides : Sides) (built : List (List ℕ)) : Type 0 where
   pub items : List Item
   pub are_items : AreItems world times makefiles (first_defined profile definitions environment) items
-  pub made : MakesItems profile definitions environment targets all goes_on times items (keeps environment items) (keeps environment items)
-      disk_honest seen status sides
+  pub made : MakesItems profile definitions environment targets all goes_on before times items (keeps environment items) (keeps environment items)
+      disk_honest seen status sides built

@@ -1,5 +1,5 @@
 //! The program over handed-in parts, where recipes are run.
-ghost use Rattle.std.specs.Prelude.{◌≡◌, ◌≢◌, ◌⊎◌, ◌≤◌, ℕ, ℤ, true, false, List, Option, Ok, codes, IfOk, IfErr};
+ghost use Rattle.std.specs.Prelude.{◌≡◌, ◌≢◌, ◌⊎◌, ◌≤◌, ℕ, ℤ, true, false, List, [], Option, Ok, codes, unwrap_or, IfOk, IfErr};
 ghost use Rattle.mk_reader.specs.declared.item.Item.{Item as MakefileItem};
 ghost use Rattle.st_disk.specs.Moments.{now};
 ghost use Rattle.dmk_reading.specs.Keeping.{keeps, value_in};
@@ -7,21 +7,21 @@ ghost use Rattle.dmk_reading.specs.Asked.{AsksToRun};
 ghost use Rattle.dmk_reading.specs.Definitions.{first_defined};
 ghost use Rattle.dmk_reading.specs.Planned.{AreItems};
 ghost use Rattle.dmk_run.specs.InTurn.{IsParted};
-ghost use Rattle.dmk_run.specs.Made.{Makes, MakesItems};
+ghost use Rattle.dmk_run.specs.Made.{Makes, MakesItems, names_built};
 ghost use Rattle.dmk_run.specs.Opened.{RecoversAsBefore};
 ghost use Rattle.mk_eval.specs.Output.{World};
 
 use crate::conducting::Wishes;
 use crate::guard::{Guard, hold_state};
+use crate::left::Left;
 use crate::making::make;
 use crate::opening::{disk_of, open_store};
 use crate::planning::{Goals, planned};
 use crate::printer::Printer;
-use crate::standing::Standing;
 use crate::stop::Stop;
 use bd_flusher::Receipt;
 use bd_lists::{Exec, Variable};
-use byte_strings::ByteString;
+use byte_strings::{ByteString, ByteStrings};
 use dmk_reading::{Fault, Makefiles, Message, Options, items_of, keeps_state};
 use jb_recipe::Place;
 use jb_slots::Banks;
@@ -65,7 +65,7 @@ fn run_over<R, T, E, O, W, P, K, D>(
     banks: &mut K,
     items: Vec<Item>,
     disk: D,
-) -> (Result<u8, Stop>, D, Vec<Standing>)
+) -> (Result<u8, Stop>, D, Left)
 where
     R: Threads + Wait + Sync,
     T: Tree,
@@ -78,8 +78,8 @@ where
     D: Disk + Drop + Send,
     ensures status { IfOk result.0 (λ s. s ≤ 2) }
     ensures makes { IfOk result.0 (λ s. (times : List ℕ → Option ℤ) → T.allows tree.new times
-        → MakesItems goals.profile goals.definitions.items means.now.environment.now goals.targets wishes.now.makes_all wishes.now.goes_on times items.items true keeping
-        D.honest (D.seen disk) s (now (D.moments result.1))) }
+        → MakesItems goals.profile goals.definitions.items means.now.environment.now goals.targets wishes.now.makes_all wishes.now.goes_on
+        (unwrap_or goals.behind []) times items.items true keeping D.honest (D.seen disk) s (now (D.moments result.1)) (names_built result.2)) }
     ensures times { (times : List ℕ → Option ℤ) → T.allows tree.new times → T.allows tree.old times }
     ensures parted { IfErr result.0 (λ stop. IsParted stop → RecoversAsBefore D.honest (D.seen disk) (D.seen result.1)) }
     ensures let_go { K.serves banks.old ≡ false → K.serves banks.new ≡ false }
@@ -89,10 +89,11 @@ where
         Err((stop, disk)) => {
             drop(goals);
             drop(items);
-            return (Err(stop), disk, Vec::new(alloc));
+            return (Err(stop), disk, Left::nothing(alloc));
         }
     };
     let environment = means.environment;
+    let is_part = goals.behind.is_some();
     match planned(
         alloc,
         means.key,
@@ -106,8 +107,8 @@ where
         items,
         state,
     ) {
-        Ok(plan) => make(rt, alloc, means, wishes, plan, banks, log),
-        Err(stop) => (Err(stop), disk_of(log), Vec::new(alloc)),
+        Ok(plan) => make(rt, alloc, means, wishes, is_part, plan, banks, log),
+        Err(stop) => (Err(stop), disk_of(log), Left::nothing(alloc)),
     }
 }
 
@@ -123,7 +124,7 @@ fn run_items<R, T, E, O, W, P, G, K, D>(
     banks: &mut K,
     items: Vec<Item>,
     disk: D,
-) -> (Result<u8, Stop>, D, Vec<Standing>)
+) -> (Result<u8, Stop>, D, Left)
 where
     R: Threads + Wait + Sync,
     T: Tree,
@@ -137,9 +138,9 @@ where
     D: Disk + Drop + Send,
     ensures status { IfOk result.0 (λ s. s ≤ 2) }
     ensures makes { IfOk result.0 (λ s. (times : List ℕ → Option ℤ) → T.allows tree.new times
-        → MakesItems goals.profile goals.definitions.items means.now.environment.now goals.targets wishes.now.makes_all wishes.now.goes_on times items.items
-        (keeps means.now.environment.now items.items) (keeps means.now.environment.now items.items)
-        D.honest (D.seen disk) s (now (D.moments result.1))) }
+        → MakesItems goals.profile goals.definitions.items means.now.environment.now goals.targets wishes.now.makes_all wishes.now.goes_on
+        (unwrap_or goals.behind []) times items.items (keeps means.now.environment.now items.items) (keeps means.now.environment.now items.items)
+        D.honest (D.seen disk) s (now (D.moments result.1)) (names_built result.2)) }
     ensures times { (times : List ℕ → Option ℤ) → T.allows tree.new times → T.allows tree.old times }
     ensures untouched { keeps means.now.environment.now items.items ≡ false → result.1 ≡ disk }
     ensures parted { IfErr result.0 (λ stop. IsParted stop → RecoversAsBefore D.honest (D.seen disk) (D.seen result.1)) }
@@ -149,7 +150,7 @@ where
         if let Err(stop) = hold_state(guard, means.say, wishes.state.as_str()) {
             drop(goals);
             drop(items);
-            return (Err(stop), disk, Vec::new(alloc));
+            return (Err(stop), disk, Left::nothing(alloc));
         }
         return run_over(
             rt, alloc, means, wishes, true, goals, tree, banks, items, disk,
@@ -176,7 +177,7 @@ fn run_makefile<R, T, I, E, O, W, P, G, K, D>(
     includes: &mut I,
     banks: &mut K,
     disk: D,
-) -> (Result<u8, Stop>, D, Vec<Standing>)
+) -> (Result<u8, Stop>, D, Left)
 where
     R: Threads + Wait + Sync,
     T: Tree,
@@ -192,7 +193,7 @@ where
     ensures status { IfOk result.0 (λ s. s ≤ 2) }
     ensures makes { IfOk result.0 (λ s. (world : World) (times : List ℕ → Option ℤ) → I.allows includes.new world → T.allows tree.new times
         → Makes world times makefiles.now goals.profile goals.definitions.items means.now.environment.now goals.targets wishes.now.makes_all wishes.now.goes_on
-        D.honest (D.seen disk) s (now (D.moments result.1))) }
+        (unwrap_or goals.behind []) D.honest (D.seen disk) s (now (D.moments result.1)) (names_built result.2)) }
     ensures untouched { (result.1 ≡ disk) ⊎ ((world : World) (times : List ℕ → Option ℤ) → I.allows includes.new world → T.allows tree.new times
         → (items : List MakefileItem) × AreItems world times makefiles.now (first_defined goals.profile goals.definitions.items means.now.environment.now) items
         × (keeps means.now.environment.now items ≡ true)) }
@@ -209,14 +210,14 @@ where
         includes,
     ) {
         Ok(items) => {
-            means.say.notes_of(alloc, goals.is_part, includes);
+            means.say.notes_of(alloc, goals.behind.is_some(), includes);
             run_items(
                 rt, alloc, means, guard, wishes, goals, tree, banks, items, disk,
             )
         }
         Err(fault) => {
             drop(goals);
-            (Err(Stop::Before(fault)), disk, Vec::new(alloc))
+            (Err(Stop::Before(fault)), disk, Left::nothing(alloc))
         }
     }
 }
@@ -279,7 +280,8 @@ pub(crate) fn status_of<R: Wait, O: Write + Drop, W: Write + Drop>(
 }
 
 /// Makes goals by one look at files: the targets that the options name, or the first of the makefile, and what they need. What came
-/// of it, the state's disk, and which of the goals were judged up to date where a recipe was run.
+/// of it, the state's disk, and what it leaves to the parts behind it. `behind` has what parts before built and left without a file;
+/// None where there is one part.
 ///
 /// The makefile's faults come first, then, where state is kept, that the run which called this one has it, those of the state and
 /// of its compaction, then the rules'. Any of them ends the run before a recipe is run, and so does it that the goals are to be made in
@@ -290,12 +292,12 @@ pub fn build_at_once<R, T, I, E, O, W, P, G, K, D>(
     means: &Means<'_, E, Printer<'_, R, O, W>, P>,
     guard: &mut G,
     options: Options,
-    is_part: bool,
+    behind: Option<ByteStrings>,
     tree: &mut T,
     includes: &mut I,
     banks: &mut K,
     disk: D,
-) -> (Result<u8, Stop>, D, Vec<Standing>)
+) -> (Result<u8, Stop>, D, Left)
 where
     R: Threads + Wait + Sync,
     T: Tree,
@@ -317,7 +319,7 @@ where
     // gathered: so for all texts and times that agree with what was answered.
     ensures makes { IfOk result.0 (λ s. (world : World) (times : List ℕ → Option ℤ) → I.allows includes.new world → T.allows tree.new times
         → Makes world times options.makefiles options.profile options.definitions.items means.now.environment.now options.targets options.makes_all options.goes_on
-        D.honest (D.seen disk) s (now (D.moments result.1))) }
+        (unwrap_or behind []) D.honest (D.seen disk) s (now (D.moments result.1)) (names_built result.2)) }
     // Unless a makefile that was read keeps state, the disk is handed back as it came.
     ensures untouched { (result.1 ≡ disk) ⊎ ((world : World) (times : List ℕ → Option ℤ) → I.allows includes.new world → T.allows tree.new times
         → (items : List MakefileItem) × AreItems world times options.makefiles (first_defined options.profile options.definitions.items means.now.environment.now) items
@@ -355,7 +357,7 @@ where
         profile,
         definitions,
         targets,
-        is_part,
+        behind,
     };
     run_makefile(
         rt, alloc, means, guard, &wishes, &makefiles, goals, tree, includes, banks, disk,

@@ -4,18 +4,18 @@ ghost use Rattle.st_disk.specs.Moments.{now};
 ghost use Rattle.st_state.specs.Keepable.{AllCanBeKept};
 ghost use Rattle.st_recovery.specs.Stored.{IsStoredOn};
 ghost use Rattle.dmk_run.specs.InTurn.{IsParted};
-ghost use Rattle.dmk_run.specs.Made.{HasEnded};
+ghost use Rattle.dmk_run.specs.Made.{HasMade, names_built};
 ghost use Rattle.dmk_run.specs.Planned.{recorded_in};
 
-use crate::building::{Built, build, reported};
+use crate::building::{Built, build};
 use crate::conducting::Wishes;
 use crate::driver::Means;
+use crate::left::{Left, came_to};
 use crate::opening::disk_of;
 use crate::planning::{Plan, recorded_apart};
 use crate::printer::Printer;
 use crate::refusing::ready_recipes;
 use crate::settling::is_none_to_run;
-use crate::standing::{Standing, standing_in};
 use crate::stop::Stop;
 use crate::unmade::with_unmade;
 use bd_flusher::Receipt;
@@ -41,10 +41,11 @@ fn make_listed<R, O, W, E, P, K, D>(
     alloc: Global,
     means: &Means<'_, E, Printer<'_, R, O, W>, P>,
     wishes: &Wishes<'_>,
+    is_part: bool,
     plan: Plan,
     banks: &mut K,
     log: Log<D>,
-) -> (Result<u8, Stop>, D, Vec<Standing>)
+) -> (Result<u8, Stop>, D, Left)
 where
     R: Threads + Wait + Sync,
     E: Exec<Receipt> + Sync,
@@ -58,7 +59,8 @@ where
         log.version log.generation log.end (recorded_in plan) }
     requires keepable { AllCanBeKept (recorded_in plan) }
     ensures status { IfOk result.0 (λ s. s ≤ 2) }
-    ensures ended { IfOk result.0 (HasEnded plan.graph plan.conduct.counts_records plan.conduct.keeps_state D.honest (now (D.moments result.1))) }
+    ensures made { IfOk result.0 (λ s. HasMade plan.graph plan.conduct.counts_records plan.conduct.keeps_state D.honest (now (D.moments result.1)) s
+        (names_built result.2)) }
     ensures parted { IfErr result.0 (λ stop. IsParted stop → result.1 ≡ log.disk) }
     ensures let_go { K.serves banks.old ≡ false → K.serves banks.new ≡ false }
 {
@@ -72,19 +74,17 @@ where
         Err(error) => {
             drop(graph);
             drop(conduct);
-            return (Err(Stop::from(error)), disk_of(log), Vec::new(alloc));
+            return (Err(Stop::from(error)), disk_of(log), Left::nothing(alloc));
         }
     };
     let workers = wishes.workers(&graph.settings);
     let store = Store { log, state };
     let Built { found, store } = build(rt, alloc, means, &graph, conduct, workers, banks, store);
     let Store { log, state } = store;
-    let standing = standing_in(alloc, &graph, &found);
-    let came_to = reported(&graph, found);
+    let (came_to, left) = came_to(alloc, is_part, &graph, found);
     mem::forget(graph);
     mem::forget(state);
-    let disk = disk_of(log);
-    (came_to, disk, standing)
+    (came_to, disk_of(log), left)
 }
 
 /// Makes what was planned over an opened store's log. The disk comes back.
@@ -93,10 +93,11 @@ pub(crate) fn make<R, O, W, E, P, K, D>(
     alloc: Global,
     means: &Means<'_, E, Printer<'_, R, O, W>, P>,
     wishes: &Wishes<'_>,
+    is_part: bool,
     plan: Plan,
     banks: &mut K,
     log: Log<D>,
-) -> (Result<u8, Stop>, D, Vec<Standing>)
+) -> (Result<u8, Stop>, D, Left)
 where
     R: Threads + Wait + Sync,
     E: Exec<Receipt> + Sync,
@@ -111,7 +112,8 @@ where
         log.version log.generation log.end (recorded_in plan) }
     requires keepable { AllCanBeKept (recorded_in plan) }
     ensures status { IfOk result.0 (λ s. s ≤ 2) }
-    ensures ended { IfOk result.0 (HasEnded plan.graph plan.conduct.counts_records plan.conduct.keeps_state D.honest (now (D.moments result.1))) }
+    ensures made { IfOk result.0 (λ s. HasMade plan.graph plan.conduct.counts_records plan.conduct.keeps_state D.honest (now (D.moments result.1)) s
+        (names_built result.2)) }
     ensures parted { IfErr result.0 (λ stop. IsParted stop → result.1 ≡ log.disk) }
     ensures let_go { K.serves banks.old ≡ false → K.serves banks.new ≡ false }
 {
@@ -123,12 +125,12 @@ where
             means.shell,
         ) {
             mem::forget(plan);
-            return (Err(stop), disk_of(log), Vec::new(alloc));
+            return (Err(stop), disk_of(log), Left::nothing(alloc));
         }
-        return make_listed(rt, alloc, means, wishes, plan, banks, log);
+        return make_listed(rt, alloc, means, wishes, is_part, plan, banks, log);
     }
     let status = with_unmade(&plan.graph, 0);
     // It is millions of small pieces of memory. The run ends here, and the system takes all of them back at once.
     mem::forget(plan);
-    (Ok(status), disk_of(log), Vec::new(alloc))
+    (Ok(status), disk_of(log), Left::nothing(alloc))
 }

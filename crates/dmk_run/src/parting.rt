@@ -1,12 +1,25 @@
 //! Where the goals of a run are parted, to be made one behind the other.
+use crate::conducting::Wishes;
+use crate::made::is_phony_name;
 use crate::refusing::ready_recipes;
 use crate::stop::Stop;
 use byte_strings::ByteString;
 use dmk_reading::{is_lost, lost_nodes};
 use mk_nodes::Graph;
-use mk_plan::{has_text_names, pass_in};
+use mk_plan::{has_text_names, name_of, pass_in};
 use std::alloc::{AllocError, Global};
 use std::sync::OnceLock;
+
+/// Whether nothing makes a file of the node: it is phony, or it has neither file nor recipe.
+fn never_has_file(graph: &Graph, node: usize) -> bool {
+    match graph.nodes.get(node) {
+        Some(known) => {
+            !known.stamp.is_some()
+                && (known.recipe.get().is_none() || is_phony_name(graph, name_of(graph, node)))
+        }
+        None => false,
+    }
+}
 
 /// Whether the recipe of a node is run whatever it does: the node is phony, or has no file.
 fn is_always_made(graph: &Graph, node: usize) -> bool {
@@ -14,6 +27,29 @@ fn is_always_made(graph: &Graph, node: usize) -> bool {
         Some(known) => known.recipe.get().is_some() && !known.stamp.is_some(),
         None => false,
     }
+}
+
+/// Whether a file would be made in each part that needs it: it stands on what never has a file, which counts as made in each part, or all
+/// are to be made.
+fn is_file_made_in_each(wishes: &Wishes<'_>, graph: &Graph, node: usize) -> bool {
+    if is_phony_name(graph, name_of(graph, node)) {
+        return false;
+    }
+    if wishes.makes_all {
+        return true;
+    }
+    let required = graph.required_edges();
+    node < required.len()
+        && required
+            .row(node)
+            .iter()
+            .any(|needed| never_has_file(graph, *needed as usize))
+}
+
+/// Whether what is to be made might be made in each part that needs it. Where the run goes on behind a failure, what failed would be tried
+/// again.
+fn is_made_in_each(wishes: &Wishes<'_>, graph: &Graph, node: usize) -> bool {
+    wishes.goes_on && is_always_made(graph, node) || is_file_made_in_each(wishes, graph, node)
 }
 
 /// Whether a node has a file. A phony one has none, whatever there is.
@@ -144,10 +180,13 @@ fn place_in(places: &[Option<usize>], node: usize) -> Option<usize> {
     }
 }
 
-/// What is made in each part that needs it has a recipe that is run whatever it does. A file is up to date behind the part that made it,
-/// unless nothing that is recorded counts, as with `-B`.
-fn spans_of(alloc: Global, counting: bool, graph: &Graph) -> Result<Spans, AllocError> {
-    let forgets = counting && graph.state.len() == 0;
+/// What a part made is up to date behind it, or has no file and isn't made again, but for some files.
+fn spans_of(
+    alloc: Global,
+    wishes: &Wishes<'_>,
+    counting: bool,
+    graph: &Graph,
+) -> Result<Spans, AllocError> {
     let made = to_make(alloc, counting, graph)?;
     let first = places_of(alloc, graph, false)?;
     let last = places_of(alloc, graph, true)?;
@@ -157,12 +196,8 @@ fn spans_of(alloc: Global, counting: bool, graph: &Graph) -> Result<Spans, Alloc
     };
     for (node, is_made) in made.iter().enumerate() {
         if *is_made {
-            let is_made_in_each = forgets || is_always_made(graph, node);
-            spans.add(
-                place_in(&first, node),
-                place_in(&last, node),
-                is_made_in_each,
-            );
+            let (first, last) = (place_in(&first, node), place_in(&last, node));
+            spans.add(first, last, is_made_in_each(wishes, graph, node));
         }
     }
     Ok(spans)
@@ -170,8 +205,13 @@ fn spans_of(alloc: Global, counting: bool, graph: &Graph) -> Result<Spans, Alloc
 
 /// A mark for each goal, which is set where a part ends behind it: it has no file, a recipe is run for it or for a goal before it, and
 /// nothing would be made twice.
-fn ends_of(alloc: Global, counting: bool, graph: &Graph) -> Result<Vec<bool>, AllocError> {
-    let Spans { is_run, farthest } = spans_of(alloc, counting, graph)?;
+fn ends_of(
+    alloc: Global,
+    wishes: &Wishes<'_>,
+    counting: bool,
+    graph: &Graph,
+) -> Result<Vec<bool>, AllocError> {
+    let Spans { is_run, farthest } = spans_of(alloc, wishes, counting, graph)?;
     let mut ends = Vec::new(alloc);
     let mut runs = false;
     let mut needed = 0;
@@ -190,6 +230,7 @@ fn ends_of(alloc: Global, counting: bool, graph: &Graph) -> Result<Vec<bool>, Al
 /// run once the part before it is made.
 pub(crate) fn at_once(
     alloc: Global,
+    wishes: &Wishes<'_>,
     counting: bool,
     graph: &Graph,
     shell: &OnceLock<ByteString>,
@@ -197,7 +238,7 @@ pub(crate) fn at_once(
     if !may_be_parted(graph) {
         return Ok(());
     }
-    let ends = ends_of(alloc, counting, graph)?;
+    let ends = ends_of(alloc, wishes, counting, graph)?;
     if !ends.iter().any(|is_end| *is_end) {
         return Ok(());
     }

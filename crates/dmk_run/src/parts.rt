@@ -86,6 +86,28 @@ pub(crate) fn part_of(
     })
 }
 
+/// What the options ask for, of these goals alone, and a copy of the names that parts before built without a file.
+pub(crate) fn part_behind(
+    alloc: Global,
+    options: &Options,
+    targets: &ByteStrings,
+    names: &ByteStrings,
+) -> Result<(Options, ByteStrings), AllocError>
+    ensures asks { IfOk result (λ made. made.0.asks ≡ options.now.asks) }
+    ensures dry { IfOk result (λ made. made.0.is_dry ≡ options.now.is_dry) }
+    ensures makefiles { IfOk result (λ made. made.0.makefiles ≡ options.now.makefiles) }
+    ensures profile { IfOk result (λ made. made.0.profile ≡ options.now.profile) }
+    ensures definitions { IfOk result (λ made. made.0.definitions.items ≡ options.now.definitions.items) }
+    ensures all { IfOk result (λ made. made.0.makes_all ≡ options.now.makes_all) }
+    ensures goes_on { IfOk result (λ made. made.0.goes_on ≡ options.now.goes_on) }
+    ensures targets { IfOk result (λ made. made.0.targets ≡ targets.now) }
+    ensures names { IfOk result (λ made. made.1 ≡ names.now) }
+{
+    let names = names.copy(alloc)?;
+    let part = part_of(alloc, options, targets)?;
+    Ok((part, names))
+}
+
 /// Whether more is made behind what came to this.
 pub(crate) fn goes_on(options: &Options, found: &Result<u8, Stop>) -> bool
     ensures yes { result ≡ true → IfOk found.now (GoesOn options.now.goes_on) }

@@ -9,10 +9,12 @@ ghost use Rattle.dmk_reading.specs.Definitions.{first_defined};
 ghost use Rattle.dmk_reading.specs.Planned.{IsGraphOf, judged_graph};
 ghost use Rattle.dmk_reading.specs.declared.fault.Fault.TheVariants as faults;
 ghost use Rattle.dmk_reading.specs.Lost.{goes_without};
+ghost use Rattle.dmk_run.specs.Behind.{IsJudgedBehind};
 ghost use Rattle.dmk_run.specs.Planned.{recorded_in};
 ghost use Rattle.dmk_run.specs.declared.stop.Stop.TheVariants as stops;
 
 use crate::conducting::Wishes;
+use crate::made::graph_behind;
 use crate::parting::at_once;
 use crate::printer::Printer;
 use crate::stop::Stop;
@@ -38,8 +40,9 @@ pub struct Goals {
     pub profile: Profile,
     pub definitions: Vec<Variable>,
     pub targets: ByteStrings,
-    /// They are a part of what the words ask for: they are made at once, and what there was to say of the makefiles is said.
-    pub is_part: bool,
+    /// What parts before built and left without a file; None where they are all that the words ask for. A part is made at once, and
+    /// what there was to say of the makefiles is said.
+    pub behind: Option<ByteStrings>,
 }
 
 /// The graph of what is to be made, by which it is judged, and how the run over it goes.
@@ -153,6 +156,48 @@ pub(crate) fn graph_of<T: Tree>(
     }
 }
 
+/// Whether goals that are all that the words ask for are made at once, before which it is said where soft edges are dropped.
+fn whole_at_once<R: Wait, O: Write + Drop, W: Write + Drop>(
+    alloc: Global,
+    printer: &Printer<'_, R, O, W>,
+    shell: &OnceLock<ByteString>,
+    wishes: &Wishes<'_>,
+    counting: bool,
+    graph: &Graph,
+) -> Result<(), Stop> {
+    if graph.soft_dropped {
+        printer.soft_edges_dropped();
+    }
+    at_once(alloc, wishes, counting, graph, shell)
+}
+
+/// The graph by which goals are made that are all that the words ask for, or a part of that behind others. What there is to say of it
+/// is said.
+fn ready<R: Wait, O: Write + Drop, W: Write + Drop>(
+    alloc: Global,
+    printer: &Printer<'_, R, O, W>,
+    shell: &OnceLock<ByteString>,
+    wishes: &Wishes<'_>,
+    counting: bool,
+    behind: Option<ByteStrings>,
+    graph: Graph,
+) -> Result<Graph, Stop>
+    ensures { IfOk result (IsJudgedBehind (unwrap_or behind []) graph) }
+{
+    let graph = match behind {
+        Some(made) => graph_behind(alloc, graph, &made)?,
+        None => {
+            if let Err(stop) = whole_at_once(alloc, printer, shell, wishes, counting, &graph) {
+                drop(graph);
+                return Err(stop);
+            }
+            graph
+        }
+    };
+    tell_unmade(alloc, printer, &graph)?;
+    Ok(graph)
+}
+
 /// Plans the goals by a state, and says where soft edges are dropped, and which names there are that have no file and that nothing makes.
 /// Where the goals are to be made in parts, each part says that of its own.
 pub(crate) fn planned<R: Wait, T: Tree, O: Write + Drop, W: Write + Drop>(
@@ -171,7 +216,7 @@ pub(crate) fn planned<R: Wait, T: Tree, O: Write + Drop, W: Write + Drop>(
     ensures graph { IfOk result (λ plan. (times : List ℕ → Option ℤ) → T.allows tree.new times
         → (graph : MadeGraph) × IsGraphOf goals.profile goals.definitions.items environment.now goals.targets times items.items state graph
         × (goes_without goals.profile wishes.now.goes_on ≡ false → graph.unmade.items ≡ [])
-        × (plan.graph ≡ judged_graph wishes.now.makes_all graph)) }
+        × IsJudgedBehind (unwrap_or goals.behind []) (judged_graph wishes.now.makes_all graph) plan.graph) }
     ensures times { (times : List ℕ → Option ℤ) → T.allows tree.new times → T.allows tree.old times }
     ensures state { IfOk result (λ plan. recorded_in plan ≡ state) }
     ensures keeping { IfOk result (λ plan. plan.conduct.keeps_state ≡ keeping) }
@@ -181,7 +226,7 @@ pub(crate) fn planned<R: Wait, T: Tree, O: Write + Drop, W: Write + Drop>(
         profile,
         definitions,
         targets,
-        is_part,
+        behind,
     } = goals;
     let (forgotten, conduct) = match prepared(alloc, wishes, keeping, definitions, &state) {
         Ok(made) => made,
@@ -210,27 +255,25 @@ pub(crate) fn planned<R: Wait, T: Tree, O: Write + Drop, W: Write + Drop>(
             return Err(stop);
         }
     };
-    if graph.soft_dropped && !is_part {
-        printer.soft_edges_dropped();
-    }
     let graph = judged_graph(alloc, key, wishes.makes_all, graph);
-    if !is_part {
-        if let Err(stop) = at_once(alloc, conduct.counts_records, &graph, shell) {
-            drop(graph);
+    match ready(
+        alloc,
+        printer,
+        shell,
+        wishes,
+        conduct.counts_records,
+        behind,
+        graph,
+    ) {
+        Ok(graph) => Ok(Plan {
+            graph,
+            forgotten,
+            conduct,
+        }),
+        Err(stop) => {
             drop(forgotten);
             drop(conduct);
-            return Err(stop);
+            Err(stop)
         }
     }
-    if let Err(error) = tell_unmade(alloc, printer, &graph) {
-        drop(graph);
-        drop(forgotten);
-        drop(conduct);
-        return Err(Stop::from(error));
-    }
-    Ok(Plan {
-        graph,
-        forgotten,
-        conduct,
-    })
 }

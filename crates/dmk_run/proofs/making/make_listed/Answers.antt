@@ -3,17 +3,21 @@ use Rattle.st_disk.specs.Moments.{now}
 use Rattle.st_state.specs.State.{StateMap}
 use Rattle.st_state.specs.Keepable.{AllCanBeKept}
 use Rattle.st_recovery.specs.Stored.{IsStoredOn}
-use Rattle.dmk_run.proofs.DriverLemmas.{has_ended, status_of_report, never_parted}
+use Rattle.mk_rule_lines.proofs.ResultLemmas.{if_ok}
+use Rattle.dmk_run.specs.Made.{names_built}
+use Rattle.dmk_run.proofs.DriverLemmas.{has_made, status_of_report, never_parted}
 use Rattle.dmk_run.proofs.making.make_listed.Goals as goal
 
-pub returns-clause-ended : goal.returns-clause-ended
-returns-clause-ended g c =
-    rw c.disk_of-disk.ensures
-    (has_ended c.args.plan.graph c.args.plan.conduct.counts_records c.args.plan.conduct.keeps_state g.D.Disk.honest (now (g.D.Disk.moments c.build-found.result.store.log.disk)) c.build-found.result.found
-    c.reported-came_to.result c.reported-came_to.ensures.status c.build-found.ensures.ends c.build-found.ensures.well c.build-found.ensures.borne_out c.build-found.ensures.made)
+pub returns-clause-made : goal.returns-clause-made
+returns-clause-made g c =
+    rw c.disk_of-2.ensures
+    (has_made c.args.plan.graph c.args.plan.conduct.counts_records c.args.plan.conduct.keeps_state g.D.Disk.honest (now (g.D.Disk.moments c.build-found.result.store.log.disk))
+    (names_built c.came_to-came_to.result.1) c.build-found.result.found c.came_to-came_to.result.0 c.came_to-came_to.ensures.status c.build-found.ensures.ends
+    c.build-found.ensures.well c.build-found.ensures.borne_out c.build-found.ensures.made)
 
 pub returns-clause-status : goal.returns-clause-status
-returns-clause-status g c = status_of_report c.args.plan.graph.unmade.items c.build-found.result.found c.reported-came_to.result c.reported-came_to.ensures.status c.build-found.ensures.status
+returns-clause-status g c = status_of_report c.args.plan.graph.unmade.items c.build-found.result.found c.came_to-came_to.result.0
+    (if_ok c.came_to-came_to.result.0 _ _ (λ s told. (told.0, told.1, told.2)) c.came_to-came_to.ensures.status) c.build-found.ensures.status
 
 -- the store is put together again, with an equal state
 pub invariant_of-store-clause-stored : goal.invariant_of-store-clause-stored
@@ -26,4 +30,4 @@ pub invariant_of-store-clause-keepable : goal.invariant_of-store-clause-keepable
 invariant_of-store-clause-keepable g c = subst AllCanBeKept (sym c.in-Ok.ensures) c.requires.keepable
 
 pub returns-clause-parted : goal.returns-clause-parted
-returns-clause-parted g c = never_parted c.reported-came_to.result _ c.reported-came_to.ensures.begun
+returns-clause-parted g c = never_parted c.came_to-came_to.result.0 _ c.came_to-came_to.ensures.begun

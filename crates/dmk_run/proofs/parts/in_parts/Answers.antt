@@ -1,4 +1,4 @@
-use Rattle.std.proofs.Common.{◌≡◌, ◌≢◌, ◌⊎◌, inl, inr, sym, subst, List, [], ℕ, arith, rules}
+use Rattle.std.proofs.Common.{◌≡◌, ◌≢◌, ◌⊎◌, inl, inr, sym, subst, [], arith, rules}
 use Rattle.std.proofs.lemmas.Grind.{common_steps}
 use Rattle.dmk_run.specs.InTurn.{AreParts}
 use Rattle.dmk_run.proofs.PartLemmas.{AreCut, no_items, part_ended, last_cut}
