@@ -18,6 +18,7 @@ fn is_explicit(explicit: &Explicit, other: &Explicit) -> bool
     match explicit {
         Explicit::Unknown => is_unknown(other),
         Explicit::Known(names) => is_known(other, names),
+        Explicit::Marked(names, marks) => is_marked(other, names, marks),
     }
 }
 
@@ -33,6 +34,17 @@ fn is_known(explicit: &Explicit, names: &ByteStrings) -> bool
     match explicit {
         Explicit::Unknown => false,
         Explicit::Known(known) => are_same(known, names),
+        Explicit::Marked(_known, _marks) => false,
+    }
+}
+
+fn is_marked(explicit: &Explicit, names: &ByteStrings, marks: &ByteString) -> bool
+    ensures { IsTrue result ↔ (explicit.now ≡ explicit_is.Marked names.now marks.now) }
+{
+    match explicit {
+        Explicit::Unknown => false,
+        Explicit::Known(_known) => false,
+        Explicit::Marked(known, of_these) => are_same(known, names) && of_these == marks,
     }
 }
 

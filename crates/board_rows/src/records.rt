@@ -18,7 +18,10 @@ fn has_listed_parts(note: &Record) -> bool
         Record::Begun { .. } => true,
         Record::Done { explicit, .. } => matches!(explicit, Explicit::Known(_)),
         Record::Failed { status, .. } => *status <= 256,
-        Record::Kept { entry, .. } => matches!(entry.phase, Phase::Done),
+        Record::Kept { entry, .. } => {
+            matches!(entry.phase, Phase::Done)
+                && matches!(entry.explicit, Explicit::Unknown | Explicit::Known(_))
+        }
     }
 }
 

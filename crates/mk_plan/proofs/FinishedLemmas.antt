@@ -37,8 +37,7 @@ use Rattle.mk_plan.specs.TextNames.{HasTextNames}
 use Rattle.mk_plan.specs.Target.{Seen, shown, seen_at, seen_hard, seen_of}
 use Rattle.mk_plan.proofs.MarkLemmas.{has_no_marks}
 use Rattle.st_records.specs.declared.record.Entry.{Entry}
-use Rattle.st_records.specs.declared.record.Explicit.{Explicit}
-use Rattle.st_records.specs.declared.record.Explicit.TheVariants.{Unknown, Known}
+use Rattle.st_records.specs.Parts.{names_recorded}
 use Rattle.st_records.specs.declared.record.Phase.{Phase}
 use Rattle.st_records.specs.declared.record.Phase.TheVariants as phase
 
@@ -163,9 +162,9 @@ too_few graph nodes i left names within none so_far =
     sym here ∙ ap (λ ns. are_names_of graph ns []) (sym (drop-cons nodes i 0 within))
     ∙ ap (λ rest. are_names_of graph (drop i nodes) rest) (sym none) ∙ so_far
 
-same_explicit : (graph : Graph) (n : ℕ) (explicit : Explicit) (names : List (List ℕ)) → explicit ≡ Known names → is_explicit graph n explicit ≡ true → names ≡ explicit_of graph n
-same_explicit graph n Unknown names known is = absurd cc
-same_explicit graph n (Known kept) names known is =
+same_explicit : (graph : Graph) (n : ℕ) (explicit : Option (List (List ℕ))) (names : List (List ℕ)) → explicit ≡ Some names → is_explicit graph n explicit ≡ true → names ≡ explicit_of graph n
+same_explicit graph n None names known is = absurd cc
+same_explicit graph n (Some kept) names known is =
     let same : kept ≡ names = cc in sym same ∙ same_names graph (explicit_in (node_at graph n) (row graph.hard n)) kept is
 
 done_is : (ph : Phase) → is_done ph ≡ true → ph ≡ phase.Done
@@ -255,7 +254,7 @@ module _ (keeping : Bool) (graph : Graph) (marks : List Bool) (n : ℕ) where
         all_pass hard hidden texts
 
     is_over : entry.phase ≡ phase.Done
-    is_over = done_is entry.phase (both (is_done entry.phase) (is_explicit graph n entry.explicit) kept).0
+    is_over = done_is entry.phase (both (is_done entry.phase) (is_explicit graph n (names_recorded entry.explicit)) kept).0
 
     by_time : (reason : Reason) → Holds keeping (entry_of graph n) (target_of entry.commands) reason →
         HoldsByTimes keeping (entry_of graph n) (target_of entry.commands) reason
@@ -268,7 +267,7 @@ module _ (keeping : Bool) (graph : Graph) (marks : List Bool) (n : ℕ) where
     no_reason CommandsChanged (k, h) = of_entry (λ e. e.commands ≢ entry.commands) h refl
     no_reason PrerequisitesChanged (k, h) =
         let (names, known, others) = of_entry (NamesOthers (explicit_of graph n)) h in
-        others (same_explicit graph n entry.explicit names known (both (is_done entry.phase) (is_explicit graph n entry.explicit) kept).1)
+        others (same_explicit graph n (names_recorded entry.explicit) names known (both (is_done entry.phase) (is_explicit graph n (names_recorded entry.explicit)) kept).1)
     no_reason Absent none = none_some (made_of graph n) has_files none
     no_reason TargetChanged h = by_time TargetChanged h
     no_reason (Newer i) h =

@@ -16,8 +16,7 @@ use Rattle.mk_verdict.specs.Tests.{is_later}
 use Rattle.mk_plan.specs.Nodes.{node_at, stamp_of, made_of, hidden_of, is_marked}
 use Rattle.mk_plan.specs.Recipe.{IsExpandedLine, AreExpanded, AreLinesIn}
 use Rattle.st_records.specs.declared.record.Entry.{Entry}
-use Rattle.st_records.specs.declared.record.Explicit.{Explicit}
-use Rattle.st_records.specs.declared.record.Explicit.TheVariants.{Unknown, Known}
+use Rattle.st_records.specs.Parts.{names_recorded}
 use Rattle.st_records.specs.declared.record.Phase.{Phase}
 use Rattle.st_records.specs.declared.record.Phase.TheVariants as phase
 
@@ -52,9 +51,9 @@ are_names_of graph (m ∷ nodes) [] = false
 are_names_of graph (m ∷ nodes) (name ∷ names) = bytes_eq name (name_at graph.names m) && are_names_of graph nodes names
 
 -- where the explicit prerequisites of node n are recorded, they are these
-abbrev pub is_explicit : Graph → (n : ℕ) → Explicit → Bool
-is_explicit graph n Unknown = true
-is_explicit graph n (Known names) = are_names_of graph (explicit_in (node_at graph n) (row graph.hard n)) names
+abbrev pub is_explicit : Graph → (n : ℕ) → Option (List (List ℕ)) → Bool
+is_explicit graph n None = true
+is_explicit graph n (Some names) = are_names_of graph (explicit_in (node_at graph n) (row graph.hard n)) names
 
 abbrev pub is_done : Phase → Bool
 is_done phase.Begun = false
@@ -63,7 +62,7 @@ is_done (phase.Failed status) = false
 
 -- the entry is that of a recipe that was run to its end, with the explicit prerequisites of node n
 abbrev pub is_kept : Graph → (n : ℕ) → Entry → Bool
-is_kept graph n entry = is_done entry.phase && is_explicit graph n entry.explicit
+is_kept graph n entry = is_done entry.phase && is_explicit graph n (names_recorded entry.explicit)
 
 -- the line gives what stands first among these commands, and then those are left; or nothing, and all are
 pub record GivesFirst (meanings : Meanings) (raw : RecipeLine) (commands left : List (List ℕ)) : Type 0 where

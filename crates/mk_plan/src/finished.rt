@@ -9,7 +9,6 @@ ghost use Rattle.mk_plan.specs.Passage.{finished};
 ghost use Rattle.mk_plan.specs.Parts.{recipe_line};
 ghost use Rattle.mk_plan.specs.Passing.{Passes};
 ghost use Rattle.mk_plan.specs.TextNames.{HasTextNames};
-ghost use Rattle.st_records.specs.Packed.{explicit_from};
 
 use crate::kept::is_kept_so;
 use crate::nodes::{entry_of, is_later, is_marked, made_of, name_of, stamp_of};
@@ -144,7 +143,7 @@ fn are_names_of(graph: &Graph, nodes: &[u32], names: Iter<'_>) -> bool
 /// Whether the explicit prerequisites of a node are those that are recorded, where they are.
 fn is_explicit(graph: &Graph, node: usize, explicit: Option<Iter<'_>>) -> bool
     requires { node < length graph.now.nodes.items }
-    ensures { result ≡ is_explicit graph.now node (explicit_from explicit.entry) }
+    ensures { result ≡ is_explicit graph.now node explicit.entry }
 {
     match explicit {
         None => true,

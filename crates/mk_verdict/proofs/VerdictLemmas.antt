@@ -4,8 +4,7 @@ use Rattle.std.specs.Prelude.{is_none, IsTrue, IsSomeAnd, slice_get, option_map,
 use Rattle.st_records.specs.declared.record.Entry.{Entry}
 use Rattle.st_records.specs.declared.record.Phase.{Phase}
 use Rattle.st_records.specs.declared.record.Phase.TheVariants as phase
-use Rattle.st_records.specs.declared.record.Explicit.{Explicit}
-use Rattle.st_records.specs.declared.record.Explicit.TheVariants.{Unknown, Known}
+use Rattle.st_records.specs.Parts.{names_recorded}
 use Rattle.mk_verdict.specs.declared.verdict.Target.{Target}
 use Rattle.mk_verdict.specs.declared.verdict.Reason.{Reason}
 use Rattle.mk_verdict.specs.declared.verdict.Reason.TheVariants.{NoEntry, WasBegun, WasFailed, CommandsChanged, PrerequisitesChanged, Absent, TargetChanged, Newer, Changed, HiddenGone, Remade}
@@ -120,13 +119,13 @@ timed_is keeping target newer changed gone remade h c k l = rw (h, c, k, l) refl
 abbrev Kept : Entry → Target → Reason → Type 0
 Kept entry target = Holds true (Some entry) target
 
-unknown_known : (names : List (List ℕ)) → Unknown ≡ Known names → ⊥
-unknown_known names e = cc
+none_some : (names : List (List ℕ)) → None ≡ Some names → ⊥
+none_some names e = cc
 
-known_is : (a b : List (List ℕ)) → Known a ≡ Known b → a ≡ b
+known_is : (a b : List (List ℕ)) → Some a ≡ Some b → a ≡ b
 known_is a b e = cc
 
-known_step : (entry : Entry) (target : Target) (names : List (List ℕ)) (same : Bool) → entry.explicit ≡ Known names → same_strings names target.explicit.now ≡ same
+known_step : (entry : Entry) (target : Target) (names : List (List ℕ)) (same : Bool) → names_recorded entry.explicit ≡ Some names → same_strings names target.explicit.now ≡ same
     → From (Kept entry target) 5 → (rest : Option Reason) → (From (Kept entry target) 6 → IsAnswer (Kept entry target) rest)
     → IsAnswer (Kept entry target) (or_else (cond same None (Some PrerequisitesChanged)) rest)
 known_step entry target names true known e from rest more =
@@ -137,19 +136,19 @@ known_step entry target names false known e from rest more =
     (refl, (names, known, λ h. apart (same_strings names target.explicit.now) ((strings_decide names target.explicit.now).1 h) e))
     (λ i h. zero_least i)
 
-explicit_step : (entry : Entry) (target : Target) (x : Explicit) → entry.explicit ≡ x
+explicit_step : (entry : Entry) (target : Target) (x : Option (List (List ℕ))) → names_recorded entry.explicit ≡ x
     → From (Kept entry target) 5 → (rest : Option Reason) → (From (Kept entry target) 6 → IsAnswer (Kept entry target) rest)
     → IsAnswer (Kept entry target) (or_else (explicit_reason x target.explicit.now) rest)
-explicit_step entry target Unknown known from rest more =
-    more (from_next (Kept entry target) 5 from (λ i (kept, (others, is, differ)). unknown_known others (sym known ∙ is)))
-explicit_step entry target (Known names) known from rest more =
+explicit_step entry target None known from rest more =
+    more (from_next (Kept entry target) 5 from (λ i (kept, (others, is, differ)). none_some others (sym known ∙ is)))
+explicit_step entry target (Some names) known from rest more =
     known_step entry target names (same_strings names target.explicit.now) known refl from rest more
 
 commands_step : (entry : Entry) (target : Target) (same : Bool) → same_strings entry.commands target.commands.now ≡ same
     → From (Kept entry target) 4 → (rest : Option Reason) → (From (Kept entry target) 6 → IsAnswer (Kept entry target) rest)
-    → IsAnswer (Kept entry target) (or_else (cond same (explicit_reason entry.explicit target.explicit.now) (Some CommandsChanged)) rest)
+    → IsAnswer (Kept entry target) (or_else (cond same (explicit_reason (names_recorded entry.explicit) target.explicit.now) (Some CommandsChanged)) rest)
 commands_step entry target true e from rest more =
-    explicit_step entry target entry.explicit refl
+    explicit_step entry target (names_recorded entry.explicit) refl
     (from_next (Kept entry target) 4 from (λ i h. h.1 ((strings_decide entry.commands target.commands.now).0 e))) rest more
 commands_step entry target false e from rest more =
     found_at (Kept entry target) 4 CommandsChanged from refl

@@ -6,8 +6,7 @@ use Rattle.std.specs.Cmp.Lexicographic.{pointwise}
 use Rattle.st_records.specs.declared.record.Entry.{Entry}
 use Rattle.st_records.specs.declared.record.Phase.{Phase}
 use Rattle.st_records.specs.declared.record.Phase.TheVariants as phase
-use Rattle.st_records.specs.declared.record.Explicit.{Explicit}
-use Rattle.st_records.specs.declared.record.Explicit.TheVariants.{Unknown, Known}
+use Rattle.st_records.specs.Parts.{names_recorded}
 use Rattle.mk_verdict.specs.declared.mark.Look.{Look}
 use Rattle.mk_verdict.specs.declared.mark.Look.TheVariants.{NoFile, Other, File}
 use Rattle.mk_verdict.specs.declared.mark.Mark.{Mark}
@@ -67,13 +66,13 @@ phase_reason phase.Done = None
 phase_reason (phase.Failed status) = Some WasFailed
 
 -- the known list of explicit prerequisites is another one
-abbrev pub explicit_reason : Explicit → List (List ℕ) → Option Reason
-explicit_reason Unknown explicit = None
-explicit_reason (Known names) explicit = if same_strings names explicit then None else Some PrerequisitesChanged
+abbrev pub explicit_reason : Option (List (List ℕ)) → List (List ℕ) → Option Reason
+explicit_reason None explicit = None
+explicit_reason (Some names) explicit = if same_strings names explicit then None else Some PrerequisitesChanged
 
 abbrev pub changed_reason : Entry → Target → Option Reason
 changed_reason entry target =
-    if same_strings entry.commands target.commands.now then explicit_reason entry.explicit target.explicit.now
+    if same_strings entry.commands target.commands.now then explicit_reason (names_recorded entry.explicit) target.explicit.now
     else Some CommandsChanged
 
 -- the first of two answers that there is

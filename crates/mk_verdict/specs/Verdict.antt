@@ -4,7 +4,7 @@ use Rattle.std.specs.Prelude.{◌≡◌, ◌≢◌, ◌⊎◌, ℕ, ◌<◌, ◌
 use Rattle.std.specs.Str.{is_utf8}
 use Rattle.st_records.specs.declared.record.Entry.{Entry}
 use Rattle.st_records.specs.declared.record.Phase.TheVariants as phase
-use Rattle.st_records.specs.declared.record.Explicit.TheVariants.{Known}
+use Rattle.st_records.specs.Parts.{names_recorded}
 use Rattle.mk_verdict.specs.declared.verdict.Prerequisite.{Prerequisite}
 use Rattle.mk_verdict.specs.declared.verdict.Target.{Target}
 use Rattle.mk_verdict.specs.declared.verdict.Reason.{Reason}
@@ -19,7 +19,7 @@ HasFailed entry = (status : ℕ) × (entry.phase ≡ phase.Failed status)
 
 -- the list of explicit prerequisites is known, and it is not this one
 abbrev pub NamesOthers : List (List ℕ) → Entry → Type 0
-NamesOthers explicit entry = (names : List (List ℕ)) × (entry.explicit ≡ Known names) × (names ≢ explicit)
+NamesOthers explicit entry = (names : List (List ℕ)) × (names_recorded entry.explicit ≡ Some names) × (names ≢ explicit)
 
 -- both have files, and that of the prerequisite is later
 abbrev pub IsLater : (prerequisite target : Option ℤ) → Type 0

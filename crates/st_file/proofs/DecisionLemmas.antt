@@ -8,6 +8,7 @@ use Rattle.st_records.specs.declared.record.Record.{Record}
 use Rattle.st_records.specs.declared.decoder.DecodeFault.{DecodeFault}
 use Rattle.st_records.specs.Encoding.{encoding, number}
 use Rattle.st_records.specs.Limits.{IsGood}
+use Rattle.st_records.specs.Forms.{form_of}
 use Rattle.st_records.specs.Reading.{good_at}
 use Rattle.st_records.proofs.Fields.{IsBytes, IsBytes-take, IsBytes-drop}
 use Rattle.st_records.proofs.Records.{good_reads}
@@ -28,17 +29,17 @@ record HasFront (v : Version) (bytes : List ℕ) : Type 0 where
 abbrev LacksFront : Version → List ℕ → Type 0
 LacksFront v bytes = (r : Record) (rest : List ℕ) → IsGood v r → bytes ≢ encoding v r ++ rest
 
-front_by : (v : Version) (bytes : List ℕ) (read : Result (Record × List ℕ) DecodeFault) → IsBytes bytes → good_at v bytes ≡ read → HasFront v bytes ⊎ LacksFront v bytes
+front_by : (v : Version) (bytes : List ℕ) (read : Result (Record × List ℕ) DecodeFault) → IsBytes bytes → good_at (form_of v) bytes ≡ read → HasFront v bytes ⊎ LacksFront v bytes
 front_by v bytes (Ok x) fits e =
-    let t = (good_reads v).takes bytes x fits e in
+    let t = (good_reads (form_of v)).takes bytes x fits e in
     inl (record { next = x.0; good = t.1; rest = x.1; text = t.0.parts; fits = t.0.rest_fits })
 front_by v bytes (Err f) fits e =
     inr (λ r rest good is.
-    let wrong : Err f ≡ Ok (r, rest) = sym e ∙ ap (good_at v) is ∙ (good_reads v).again r rest good in
+    let wrong : Err f ≡ Ok (r, rest) = sym e ∙ ap (good_at (form_of v)) is ∙ (good_reads (form_of v)).again r rest good in
     cc)
 
 decide_front : (v : Version) (bytes : List ℕ) → IsBytes bytes → HasFront v bytes ⊎ LacksFront v bytes
-decide_front v bytes fits = front_by v bytes (good_at v bytes) fits refl
+decide_front v bytes fits = front_by v bytes (good_at (form_of v) bytes) fits refl
 
 -- ---- a body
 

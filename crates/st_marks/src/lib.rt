@@ -10,6 +10,6 @@ mod marks;
 
 pub use decoder::{Marked, marks_of, read_marks};
 pub use encoder::{append_marks, write_marks};
-pub use laws::one_text;
+pub use laws::{one_done, one_text};
 pub use mark::{Mark, Stamp};
 pub use marks::Marks;

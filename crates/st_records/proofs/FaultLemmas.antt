@@ -3,7 +3,8 @@ use Rattle.std.proofs.Common.{take, drop, length, ◌≡◌, ◌-◌, ◌<◌, �
 use Rattle.std.specs.List.{All}
 use Rattle.std.proofs.lemmas.Bool.{cases_lt}
 use Rattle.std.proofs.lemmas.List.{get_or_past}
-use Rattle.st_records.specs.declared.version.Version.{Version}
+use Rattle.st_records.specs.declared.version.Form.{Form}
+use Rattle.st_records.specs.declared.version.Form.TheVariants as forms
 use Rattle.st_records.specs.declared.limits.RecordFault.{RecordFault}
 use Rattle.st_records.specs.declared.decoder.DecodeFault.{DecodeFault}
 use Rattle.st_records.specs.declared.decoder.DecodeFault.TheVariants.{OutOfMemory, Short, BadKind, Check}
@@ -14,15 +15,15 @@ use Rattle.st_records.specs.declared.record.Entry.{Entry}
 use Rattle.st_records.specs.declared.record.Record.{Record}
 use Rattle.st_records.specs.declared.record.Record.TheVariants as records
 use Rattle.st_records.specs.Encoding.{string, phase_fields, FitsString, FitsPhase}
-use Rattle.st_records.specs.Limits.{Encodes}
+use Rattle.st_records.specs.Limits.{EncodesIn}
 use Rattle.st_records.specs.Tests.{fault_of}
 use Rattle.st_records.specs.Reading.{Reader, Fails, target_at, then_at, made_at, string_at, status_at, no_status_at, phase_at, done_explicit_at, kept_explicit_at, lists_at, entry_at, record_at, judged, good_at}
-use Rattle.st_records.specs.Faults.{After, InPair, EndsInNumber, EndsInString, EndsInPhase, EndsInDoneExplicit, EndsInKeptExplicit, EndsInLists, EndsInEntry, EndsInRecord, HasUnlistedStatus, HasNeedlessStatus, HasUnlistedPhase, HasUnlistedKnown, HasUnlistedEntry, HasUnlisted, HasFault, HasWholeTarget}
+use Rattle.st_records.specs.Faults.{After, InPair, EndsInNumber, EndsInString, EndsInPhase, EndsInDoneExplicit, EndsInKeptExplicit, EndsInLists, EndsInEntry, EndsInRecord, HasUnlistedStatus, HasNeedlessStatus, HasUnlistedPhase, HasUnlistedMarked, HasUnlistedKnown, AfterLists, HasUnlistedDone, HasUnlistedEntry, HasUnlisted, HasFaultIn, HasWholeTarget}
 use Rattle.st_records.proofs.Fields.{IsBytes, IsBytes-rest, string_reads}
 use Rattle.st_records.proofs.TestLemmas.{first_from, some_from}
 use Rattle.st_records.proofs.Decoding.{is_read, read_is}
 use Rattle.st_records.proofs.Records.{phase_reads, record_reads}
-use Rattle.st_records.proofs.Stops.{Stops, Never, Either, bind_err, bind_at_ok, bind_at_err, ok_is_not_err, joined_stops, made_stops, restated, second_alone, AfterLists, status_stops, no_status_stops, string_stops, lists_stops, done_explicit_stops, kept_explicit_stops}
+use Rattle.st_records.proofs.Stops.{Stops, Never, Either, bind_err, bind_at_ok, bind_at_err, ok_is_not_err, joined_stops, made_stops, restated, second_alone, status_stops, no_status_stops, string_stops, lists_stops, unnamed_stops, named_stops, done_marked_stops, kept_explicit_stops}
 
 -- ---- phases and entries
 
@@ -83,31 +84,31 @@ phase_unlisted_again (suc (suc (suc (suc b))) ∷ rest) h = refl
 phase_stops : Stops EndsInPhase HasUnlistedPhase phase_at
 phase_stops = record { short = phase_short; unlisted = phase_unlisted; only = phase_only; short_again = phase_short_again; unlisted_again = phase_unlisted_again }
 
-abbrev entry_lists_at : Version → Reader (List (List ℕ) × (List (List ℕ) × Explicit))
-entry_lists_at version = lists_at (kept_explicit_at version)
+abbrev entry_lists_at : Form → Reader (List (List ℕ) × (List (List ℕ) × Explicit))
+entry_lists_at form = lists_at (kept_explicit_at form)
 
-parts_stops : (version : Version) → Stops (EndsInEntry version) (HasUnlistedEntry version) (then_at phase_at (entry_lists_at version))
-parts_stops version =
-    joined_stops (λ x y. (x, y)) phase_fields FitsPhase phase_at (entry_lists_at version) EndsInPhase HasUnlistedPhase (EndsInLists (EndsInKeptExplicit version)) (AfterLists (HasUnlistedKnown version)) phase_reads phase_stops
-    (lists_stops (kept_explicit_at version) (EndsInKeptExplicit version) (HasUnlistedKnown version) (kept_explicit_stops version))
+parts_stops : (form : Form) → Stops (EndsInEntry form) (HasUnlistedEntry form) (then_at phase_at (entry_lists_at form))
+parts_stops form =
+    joined_stops (λ x y. (x, y)) phase_fields FitsPhase phase_at (entry_lists_at form) EndsInPhase HasUnlistedPhase (EndsInLists (EndsInKeptExplicit form)) (AfterLists (HasUnlistedKnown form)) phase_reads phase_stops
+    (lists_stops (kept_explicit_at form) (EndsInKeptExplicit form) (HasUnlistedKnown form) (kept_explicit_stops form))
 
 abbrev entry_of : Phase × (List (List ℕ) × (List (List ℕ) × Explicit)) → Entry
 entry_of x = record { phase = x.0; commands = x.1.0; hidden = x.1.1.0; explicit = x.1.1.1 }
 
-entry_stops : (version : Version) → Stops (EndsInEntry version) (HasUnlistedEntry version) (entry_at version)
+entry_stops : (form : Form) → Stops (EndsInEntry form) (HasUnlistedEntry form) (entry_at form)
 unfolding entry_at
-entry_stops version = made_stops entry_of (then_at phase_at (entry_lists_at version)) (EndsInEntry version) (HasUnlistedEntry version) (parts_stops version)
+entry_stops form = made_stops entry_of (then_at phase_at (entry_lists_at form)) (EndsInEntry form) (HasUnlistedEntry form) (parts_stops form)
 
 -- ---- records
 
 begun_record_stops : Stops EndsInString Never (made_at records.Begun string_at)
 begun_record_stops = made_stops records.Begun string_at EndsInString Never string_stops
 
-abbrev EndsInDone : Version → List ℕ → Type 0
-EndsInDone version bytes = InPair EndsInString string FitsString (EndsInLists (EndsInDoneExplicit version)) bytes
+abbrev EndsInDone : Form → List ℕ → Type 0
+EndsInDone form bytes = InPair EndsInString string FitsString (EndsInLists (EndsInDoneExplicit form)) bytes
 
-abbrev done_at : Version → Reader (List ℕ × (List (List ℕ) × (List (List ℕ) × Explicit)))
-done_at version = then_at string_at (lists_at (done_explicit_at version))
+abbrev done_at : Form → Reader (List ℕ × (List (List ℕ) × (List (List ℕ) × Explicit)))
+done_at form = then_at string_at (lists_at (done_explicit_at form))
 
 abbrev done_of : List ℕ × (List (List ℕ) × (List (List ℕ) × Explicit)) → Record
 done_of x = records.Done x.0 x.1.0 x.1.1.0 x.1.1.1
@@ -116,12 +117,26 @@ none_of_lists : (bytes : List ℕ) → Either Never string FitsString (AfterList
 none_of_lists bytes (inl h) = h
 none_of_lists bytes (inr h) = h.holds.holds.holds
 
-done_record_stops : (version : Version) → Stops (EndsInDone version) Never (made_at done_of (done_at version))
-done_record_stops version =
-    made_stops done_of (done_at version) (EndsInDone version) Never
-    (restated (done_at version) (EndsInDone version) (Either Never string FitsString (AfterLists Never)) Never none_of_lists (λ bytes h. absurd h)
-    (joined_stops (λ x y. (x, y)) string FitsString string_at (lists_at (done_explicit_at version)) EndsInString Never (EndsInLists (EndsInDoneExplicit version)) (AfterLists Never) string_reads string_stops
-    (lists_stops (done_explicit_at version) (EndsInDoneExplicit version) Never (done_explicit_stops version))))
+-- where its last field has no other faults than these two
+done_fields_stop : (form : Form) (U : List ℕ → Type 0) → Stops (EndsInDoneExplicit form) U (done_explicit_at form) → Stops (EndsInDone form) (Either Never string FitsString (AfterLists U)) (done_at form)
+done_fields_stop form U last =
+    joined_stops (λ x y. (x, y)) string FitsString string_at (lists_at (done_explicit_at form)) EndsInString Never (EndsInLists (EndsInDoneExplicit form)) (AfterLists U) string_reads string_stops
+    (lists_stops (done_explicit_at form) (EndsInDoneExplicit form) U last)
+
+done_record_stops : (form : Form) → Stops (EndsInDone form) (HasUnlistedDone form) (made_at done_of (done_at form))
+done_record_stops forms.Old =
+    made_stops done_of (done_at forms.Old) (EndsInDone forms.Old) Never
+    (restated (done_at forms.Old) (EndsInDone forms.Old) (Either Never string FitsString (AfterLists Never)) Never none_of_lists (λ bytes h. absurd h)
+    (done_fields_stop forms.Old Never unnamed_stops))
+done_record_stops forms.Plain =
+    made_stops done_of (done_at forms.Plain) (EndsInDone forms.Plain) Never
+    (restated (done_at forms.Plain) (EndsInDone forms.Plain) (Either Never string FitsString (AfterLists Never)) Never none_of_lists (λ bytes h. absurd h)
+    (done_fields_stop forms.Plain Never named_stops))
+done_record_stops forms.Marked =
+    made_stops done_of (done_at forms.Marked) (EndsInDone forms.Marked) (HasUnlistedDone forms.Marked)
+    (restated (done_at forms.Marked) (EndsInDone forms.Marked) (Either Never string FitsString (AfterLists HasUnlistedMarked)) (HasUnlistedDone forms.Marked)
+    (second_alone string FitsString (AfterLists HasUnlistedMarked)) (λ bytes h. inr h)
+    (done_fields_stop forms.Marked HasUnlistedMarked done_marked_stops))
 
 abbrev EndsInFailed : List ℕ → Type 0
 EndsInFailed bytes = InPair EndsInString string FitsString EndsInNumber bytes
@@ -135,70 +150,70 @@ failed_record_stops =
     (restated (then_at string_at status_at) EndsInFailed (Either Never string FitsString HasUnlistedStatus) HasUnlistedFailed (second_alone string FitsString HasUnlistedStatus) (λ bytes h. inr h)
     (joined_stops (λ x y. (x, y)) string FitsString string_at status_at EndsInString Never EndsInNumber HasUnlistedStatus string_reads string_stops status_stops))
 
-abbrev EndsInKept : Version → List ℕ → Type 0
-EndsInKept version bytes = InPair EndsInString string FitsString (EndsInEntry version) bytes
+abbrev EndsInKept : Form → List ℕ → Type 0
+EndsInKept form bytes = InPair EndsInString string FitsString (EndsInEntry form) bytes
 
-abbrev HasUnlistedKept : Version → List ℕ → Type 0
-HasUnlistedKept version bytes = After string FitsString (λ _. HasUnlistedEntry version) bytes
+abbrev HasUnlistedKept : Form → List ℕ → Type 0
+HasUnlistedKept form bytes = After string FitsString (λ _. HasUnlistedEntry form) bytes
 
 abbrev kept_of : List ℕ × Entry → Record
 kept_of x = records.Kept x.0 x.1
 
-kept_record_stops : (version : Version) → Stops (EndsInKept version) (HasUnlistedKept version) (made_at kept_of (then_at string_at (entry_at version)))
-kept_record_stops version =
-    made_stops kept_of (then_at string_at (entry_at version)) (EndsInKept version) (HasUnlistedKept version)
-    (restated (then_at string_at (entry_at version)) (EndsInKept version) (Either Never string FitsString (HasUnlistedEntry version)) (HasUnlistedKept version) (second_alone string FitsString (HasUnlistedEntry version)) (λ bytes h. inr h)
-    (joined_stops (λ x y. (x, y)) string FitsString string_at (entry_at version) EndsInString Never (EndsInEntry version) (HasUnlistedEntry version) string_reads string_stops (entry_stops version)))
+kept_record_stops : (form : Form) → Stops (EndsInKept form) (HasUnlistedKept form) (made_at kept_of (then_at string_at (entry_at form)))
+kept_record_stops form =
+    made_stops kept_of (then_at string_at (entry_at form)) (EndsInKept form) (HasUnlistedKept form)
+    (restated (then_at string_at (entry_at form)) (EndsInKept form) (Either Never string FitsString (HasUnlistedEntry form)) (HasUnlistedKept form) (second_alone string FitsString (HasUnlistedEntry form)) (λ bytes h. inr h)
+    (joined_stops (λ x y. (x, y)) string FitsString string_at (entry_at form) EndsInString Never (EndsInEntry form) (HasUnlistedEntry form) string_reads string_stops (entry_stops form)))
 
-record_short : (version : Version) (bytes : List ℕ) → IsBytes bytes → record_at version bytes ≡ Err Short → EndsInRecord version bytes
+record_short : (form : Form) (bytes : List ℕ) → IsBytes bytes → record_at form bytes ≡ Err Short → EndsInRecord form bytes
 unfolding record_at
-record_short version [] fits e = tt
-record_short version (zero ∷ rest) fits e = absurd cc
-record_short version (suc zero ∷ rest) fits e = (begun_record_stops).short rest (IsBytes-rest 1 rest fits) e
-record_short version (suc (suc zero) ∷ rest) fits e = (done_record_stops version).short rest (IsBytes-rest 2 rest fits) e
-record_short version (suc (suc (suc zero)) ∷ rest) fits e = (failed_record_stops).short rest (IsBytes-rest 3 rest fits) e
-record_short version (suc (suc (suc (suc zero))) ∷ rest) fits e = (kept_record_stops version).short rest (IsBytes-rest 4 rest fits) e
-record_short version (suc (suc (suc (suc (suc b)))) ∷ rest) fits e = absurd cc
+record_short form [] fits e = tt
+record_short form (zero ∷ rest) fits e = absurd cc
+record_short form (suc zero ∷ rest) fits e = (begun_record_stops).short rest (IsBytes-rest 1 rest fits) e
+record_short form (suc (suc zero) ∷ rest) fits e = (done_record_stops form).short rest (IsBytes-rest 2 rest fits) e
+record_short form (suc (suc (suc zero)) ∷ rest) fits e = (failed_record_stops).short rest (IsBytes-rest 3 rest fits) e
+record_short form (suc (suc (suc (suc zero))) ∷ rest) fits e = (kept_record_stops form).short rest (IsBytes-rest 4 rest fits) e
+record_short form (suc (suc (suc (suc (suc b)))) ∷ rest) fits e = absurd cc
 
-record_unlisted : (version : Version) (bytes : List ℕ) → IsBytes bytes → record_at version bytes ≡ Err BadKind → HasUnlisted version bytes
+record_unlisted : (form : Form) (bytes : List ℕ) → IsBytes bytes → record_at form bytes ≡ Err BadKind → HasUnlisted form bytes
 unfolding record_at
-record_unlisted version [] fits e = absurd cc
-record_unlisted version (zero ∷ rest) fits e = tt
-record_unlisted version (suc zero ∷ rest) fits e = (begun_record_stops).unlisted rest (IsBytes-rest 1 rest fits) e
-record_unlisted version (suc (suc zero) ∷ rest) fits e = (done_record_stops version).unlisted rest (IsBytes-rest 2 rest fits) e
-record_unlisted version (suc (suc (suc zero)) ∷ rest) fits e = (failed_record_stops).unlisted rest (IsBytes-rest 3 rest fits) e
-record_unlisted version (suc (suc (suc (suc zero))) ∷ rest) fits e = (kept_record_stops version).unlisted rest (IsBytes-rest 4 rest fits) e
-record_unlisted version (suc (suc (suc (suc (suc b)))) ∷ rest) fits e = tt
+record_unlisted form [] fits e = absurd cc
+record_unlisted form (zero ∷ rest) fits e = tt
+record_unlisted form (suc zero ∷ rest) fits e = (begun_record_stops).unlisted rest (IsBytes-rest 1 rest fits) e
+record_unlisted form (suc (suc zero) ∷ rest) fits e = (done_record_stops form).unlisted rest (IsBytes-rest 2 rest fits) e
+record_unlisted form (suc (suc (suc zero)) ∷ rest) fits e = (failed_record_stops).unlisted rest (IsBytes-rest 3 rest fits) e
+record_unlisted form (suc (suc (suc (suc zero))) ∷ rest) fits e = (kept_record_stops form).unlisted rest (IsBytes-rest 4 rest fits) e
+record_unlisted form (suc (suc (suc (suc (suc b)))) ∷ rest) fits e = tt
 
-record_only : (version : Version) (bytes : List ℕ) (d : DecodeFault) → record_at version bytes ≡ Err d → (d ≡ Short) ⊎ (d ≡ BadKind)
+record_only : (form : Form) (bytes : List ℕ) (d : DecodeFault) → record_at form bytes ≡ Err d → (d ≡ Short) ⊎ (d ≡ BadKind)
 unfolding record_at
-record_only version [] d e = inl cc
-record_only version (zero ∷ rest) d e = inr cc
-record_only version (suc zero ∷ rest) d e = (begun_record_stops).only rest d e
-record_only version (suc (suc zero) ∷ rest) d e = (done_record_stops version).only rest d e
-record_only version (suc (suc (suc zero)) ∷ rest) d e = (failed_record_stops).only rest d e
-record_only version (suc (suc (suc (suc zero))) ∷ rest) d e = (kept_record_stops version).only rest d e
-record_only version (suc (suc (suc (suc (suc b)))) ∷ rest) d e = inr cc
+record_only form [] d e = inl cc
+record_only form (zero ∷ rest) d e = inr cc
+record_only form (suc zero ∷ rest) d e = (begun_record_stops).only rest d e
+record_only form (suc (suc zero) ∷ rest) d e = (done_record_stops form).only rest d e
+record_only form (suc (suc (suc zero)) ∷ rest) d e = (failed_record_stops).only rest d e
+record_only form (suc (suc (suc (suc zero))) ∷ rest) d e = (kept_record_stops form).only rest d e
+record_only form (suc (suc (suc (suc (suc b)))) ∷ rest) d e = inr cc
 
-record_short_again : (version : Version) (bytes : List ℕ) → EndsInRecord version bytes → record_at version bytes ≡ Err Short
+record_short_again : (form : Form) (bytes : List ℕ) → EndsInRecord form bytes → record_at form bytes ≡ Err Short
 unfolding record_at
-record_short_again version [] h = refl
-record_short_again version (zero ∷ rest) h = absurd h
-record_short_again version (suc zero ∷ rest) h = (begun_record_stops).short_again rest h
-record_short_again version (suc (suc zero) ∷ rest) h = (done_record_stops version).short_again rest h
-record_short_again version (suc (suc (suc zero)) ∷ rest) h = (failed_record_stops).short_again rest h
-record_short_again version (suc (suc (suc (suc zero))) ∷ rest) h = (kept_record_stops version).short_again rest h
-record_short_again version (suc (suc (suc (suc (suc b)))) ∷ rest) h = absurd h
+record_short_again form [] h = refl
+record_short_again form (zero ∷ rest) h = absurd h
+record_short_again form (suc zero ∷ rest) h = (begun_record_stops).short_again rest h
+record_short_again form (suc (suc zero) ∷ rest) h = (done_record_stops form).short_again rest h
+record_short_again form (suc (suc (suc zero)) ∷ rest) h = (failed_record_stops).short_again rest h
+record_short_again form (suc (suc (suc (suc zero))) ∷ rest) h = (kept_record_stops form).short_again rest h
+record_short_again form (suc (suc (suc (suc (suc b)))) ∷ rest) h = absurd h
 
-record_unlisted_again : (version : Version) (bytes : List ℕ) → HasUnlisted version bytes → record_at version bytes ≡ Err BadKind
+record_unlisted_again : (form : Form) (bytes : List ℕ) → HasUnlisted form bytes → record_at form bytes ≡ Err BadKind
 unfolding record_at
-record_unlisted_again version [] h = absurd h
-record_unlisted_again version (zero ∷ rest) h = refl
-record_unlisted_again version (suc zero ∷ rest) h = (begun_record_stops).unlisted_again rest h
-record_unlisted_again version (suc (suc zero) ∷ rest) h = (done_record_stops version).unlisted_again rest h
-record_unlisted_again version (suc (suc (suc zero)) ∷ rest) h = (failed_record_stops).unlisted_again rest h
-record_unlisted_again version (suc (suc (suc (suc zero))) ∷ rest) h = (kept_record_stops version).unlisted_again rest h
-record_unlisted_again version (suc (suc (suc (suc (suc b)))) ∷ rest) h = refl
+record_unlisted_again form [] h = absurd h
+record_unlisted_again form (zero ∷ rest) h = refl
+record_unlisted_again form (suc zero ∷ rest) h = (begun_record_stops).unlisted_again rest h
+record_unlisted_again form (suc (suc zero) ∷ rest) h = (done_record_stops form).unlisted_again rest h
+record_unlisted_again form (suc (suc (suc zero)) ∷ rest) h = (failed_record_stops).unlisted_again rest h
+record_unlisted_again form (suc (suc (suc (suc zero))) ∷ rest) h = (kept_record_stops form).unlisted_again rest h
+record_unlisted_again form (suc (suc (suc (suc (suc b)))) ∷ rest) h = refl
 
 -- ---- good records
 
@@ -243,81 +258,81 @@ check_is_not_bad g e = cc
 one_fault : (f g : RecordFault) → Check f ≡ Check g → f ≡ g
 one_fault f g e = cc
 
-abbrev check_of : Version → Record × List ℕ → Result (Record × List ℕ) DecodeFault
-check_of version x = judged (fault_of version x.0) x
+abbrev check_of : Form → Record × List ℕ → Result (Record × List ℕ) DecodeFault
+check_of form x = judged (fault_of form x.0) x
 
 -- the fault that reading meets is in the bytes
-fault_is : (version : Version) (bytes : List ℕ) (d : DecodeFault) → IsBytes bytes → good_at version bytes ≡ Err d → HasFault version d bytes
+fault_is : (form : Form) (bytes : List ℕ) (d : DecodeFault) → IsBytes bytes → good_at form bytes ≡ Err d → HasFaultIn form d bytes
 unfolding good_at
-fault_is version bytes OutOfMemory fits e =
-    elim (bind_err (record_at version bytes) (check_of version) OutOfMemory e) [
-      | inl p ↦ elim (record_only version bytes OutOfMemory p) [ inl h ↦ absurd cc | inr h ↦ absurd cc ]
-      | inr p ↦ (let j = judged_err (fault_of version p.0.0) p.0 OutOfMemory p.2 in absurd (memory_is_no_check j.0 j.2))
+fault_is form bytes OutOfMemory fits e =
+    elim (bind_err (record_at form bytes) (check_of form) OutOfMemory e) [
+      | inl p ↦ elim (record_only form bytes OutOfMemory p) [ inl h ↦ absurd cc | inr h ↦ absurd cc ]
+      | inr p ↦ (let j = judged_err (fault_of form p.0.0) p.0 OutOfMemory p.2 in absurd (memory_is_no_check j.0 j.2))
     ]
-fault_is version bytes Short fits e =
-    elim (bind_err (record_at version bytes) (check_of version) Short e) [
-      | inl p ↦ record_short version bytes fits p
-      | inr p ↦ (let j = judged_err (fault_of version p.0.0) p.0 Short p.2 in absurd (check_is_not_short j.0 j.2))
+fault_is form bytes Short fits e =
+    elim (bind_err (record_at form bytes) (check_of form) Short e) [
+      | inl p ↦ record_short form bytes fits p
+      | inr p ↦ (let j = judged_err (fault_of form p.0.0) p.0 Short p.2 in absurd (check_is_not_short j.0 j.2))
     ]
-fault_is version bytes BadKind fits e =
-    elim (bind_err (record_at version bytes) (check_of version) BadKind e) [
-      | inl p ↦ record_unlisted version bytes fits p
-      | inr p ↦ (let j = judged_err (fault_of version p.0.0) p.0 BadKind p.2 in absurd (check_is_not_bad j.0 j.2))
+fault_is form bytes BadKind fits e =
+    elim (bind_err (record_at form bytes) (check_of form) BadKind e) [
+      | inl p ↦ record_unlisted form bytes fits p
+      | inr p ↦ (let j = judged_err (fault_of form p.0.0) p.0 BadKind p.2 in absurd (check_is_not_bad j.0 j.2))
     ]
-fault_is version bytes (Check g) fits e =
-    elim (bind_err (record_at version bytes) (check_of version) (Check g) e) [
-      | inl p ↦ elim (record_only version bytes (Check g) p) [ inl h ↦ absurd (check_is_not_short g (sym h)) | inr h ↦ absurd (check_is_not_bad g (sym h)) ]
+fault_is form bytes (Check g) fits e =
+    elim (bind_err (record_at form bytes) (check_of form) (Check g) e) [
+      | inl p ↦ elim (record_only form bytes (Check g) p) [ inl h ↦ absurd (check_is_not_short g (sym h)) | inr h ↦ absurd (check_is_not_bad g (sym h)) ]
       | inr p ↦
-          let j = judged_err (fault_of version p.0.0) p.0 (Check g) p.2 in
-          let t = (record_reads version).takes bytes p.0 fits p.1 in
-          let same : fault_of version p.0.0 ≡ Some g = j.1 ∙ ap (λ (h : RecordFault). Some h) (one_fault j.0 g (sym j.2)) in
-          record { value = p.0.0; rest = p.0.1; fits = t.1; bytes_are = t.0.parts; holds = first_from version p.0.0 g same }
+          let j = judged_err (fault_of form p.0.0) p.0 (Check g) p.2 in
+          let t = (record_reads form).takes bytes p.0 fits p.1 in
+          let same : fault_of form p.0.0 ≡ Some g = j.1 ∙ ap (λ (h : RecordFault). Some h) (one_fault j.0 g (sym j.2)) in
+          record { value = p.0.0; rest = p.0.1; fits = t.1; bytes_are = t.0.parts; holds = first_from form p.0.0 g same }
     ]
 
 -- a fault that is in the bytes is met
-is_fault : (version : Version) (bytes : List ℕ) (d : DecodeFault) → HasFault version d bytes → good_at version bytes ≡ Err d
+is_fault : (form : Form) (bytes : List ℕ) (d : DecodeFault) → HasFaultIn form d bytes → good_at form bytes ≡ Err d
 unfolding good_at
-is_fault version bytes OutOfMemory h = absurd h
-is_fault version bytes Short h = bind_at_err (record_at version bytes) (check_of version) Short (record_short_again version bytes h)
-is_fault version bytes BadKind h = bind_at_err (record_at version bytes) (check_of version) BadKind (record_unlisted_again version bytes h)
-is_fault version bytes (Check g) h =
-    bind_at_ok (record_at version bytes) (check_of version) (h.value, h.rest) (ap (record_at version) h.bytes_are ∙ (record_reads version).again h.value h.rest h.fits)
-    ∙ judged_again (fault_of version h.value) (h.value, h.rest) g (some_from version h.value g h.holds)
+is_fault form bytes OutOfMemory h = absurd h
+is_fault form bytes Short h = bind_at_err (record_at form bytes) (check_of form) Short (record_short_again form bytes h)
+is_fault form bytes BadKind h = bind_at_err (record_at form bytes) (check_of form) BadKind (record_unlisted_again form bytes h)
+is_fault form bytes (Check g) h =
+    bind_at_ok (record_at form bytes) (check_of form) (h.value, h.rest) (ap (record_at form) h.bytes_are ∙ (record_reads form).again h.value h.rest h.fits)
+    ∙ judged_again (fault_of form h.value) (h.value, h.rest) g (some_from form h.value g h.holds)
 
 -- a call that failed as reading does, or for want of memory
-pub cause_is : (version : Version) (bytes : List ℕ) (d : DecodeFault) → IsBytes bytes → Fails d (good_at version bytes) → (d ≡ OutOfMemory) ⊎ HasFault version d bytes
-cause_is version bytes OutOfMemory fits h = inl refl
-cause_is version bytes Short fits h = inr (fault_is version bytes Short fits h)
-cause_is version bytes BadKind fits h = inr (fault_is version bytes BadKind fits h)
-cause_is version bytes (Check g) fits h = inr (fault_is version bytes (Check g) fits h)
+pub cause_is : (form : Form) (bytes : List ℕ) (d : DecodeFault) → IsBytes bytes → Fails d (good_at form bytes) → (d ≡ OutOfMemory) ⊎ HasFaultIn form d bytes
+cause_is form bytes OutOfMemory fits h = inl refl
+cause_is form bytes Short fits h = inr (fault_is form bytes Short fits h)
+cause_is form bytes BadKind fits h = inr (fault_is form bytes BadKind fits h)
+cause_is form bytes (Check g) fits h = inr (fault_is form bytes (Check g) fits h)
 
 -- where the bytes have a fault, the call fails so, or for want of memory
-pub fails_so : (version : Version) (bytes : List ℕ) (d e : DecodeFault) → HasFault version d bytes → Fails e (good_at version bytes) → Fails {Y = Record × ℕ} e (Err d)
-fails_so version bytes d OutOfMemory h failing = tt
-fails_so version bytes d Short h failing = pair_failed d Short (sym (is_fault version bytes d h) ∙ failing)
-fails_so version bytes d BadKind h failing = pair_failed d BadKind (sym (is_fault version bytes d h) ∙ failing)
-fails_so version bytes d (Check g) h failing = pair_failed d (Check g) (sym (is_fault version bytes d h) ∙ failing)
+pub fails_so : (form : Form) (bytes : List ℕ) (d e : DecodeFault) → HasFaultIn form d bytes → Fails e (good_at form bytes) → Fails {Y = Record × ℕ} e (Err d)
+fails_so form bytes d OutOfMemory h failing = tt
+fails_so form bytes d Short h failing = pair_failed d Short (sym (is_fault form bytes d h) ∙ failing)
+fails_so form bytes d BadKind h failing = pair_failed d BadKind (sym (is_fault form bytes d h) ∙ failing)
+fails_so form bytes d (Check g) h failing = pair_failed d (Check g) (sym (is_fault form bytes d h) ∙ failing)
 
-pub never_reads : (version : Version) (bytes : List ℕ) (d : DecodeFault) (x : Record × List ℕ) → HasFault version d bytes → good_at version bytes ≡ Ok x → ⊥
-never_reads version bytes d x h e = ok_is_not_err (good_at version bytes) x d e (is_fault version bytes d h)
+pub never_reads : (form : Form) (bytes : List ℕ) (d : DecodeFault) (x : Record × List ℕ) → HasFaultIn form d bytes → good_at form bytes ≡ Ok x → ⊥
+never_reads form bytes d x h e = ok_is_not_err (good_at form bytes) x d e (is_fault form bytes d h)
 
 -- bytes have one fault at most
-pub one_fault_lem : (version : Version) (bytes : List ℕ) (f g : DecodeFault) → HasFault version f bytes → HasFault version g bytes → f ≡ g
-one_fault_lem version bytes f g h k = record_err f g (sym (is_fault version bytes g k) ∙ is_fault version bytes f h)
+pub one_fault_lem : (form : Form) (bytes : List ℕ) (f g : DecodeFault) → HasFaultIn form f bytes → HasFaultIn form g bytes → f ≡ g
+one_fault_lem form bytes f g h k = record_err f g (sym (is_fault form bytes g k) ∙ is_fault form bytes f h)
 
 -- and none where a good record stands at their front
-pub no_fault_lem : (version : Version) (bytes : List ℕ) (f : DecodeFault) (r : Record) (n : ℕ) → HasFault version f bytes → Encodes version r (take n bytes) → ⊥
-no_fault_lem version bytes f r n h stands = never_reads version bytes f (r, drop n bytes) h (is_read version bytes r n stands)
+pub no_fault_lem : (form : Form) (bytes : List ℕ) (f : DecodeFault) (r : Record) (n : ℕ) → HasFaultIn form f bytes → EncodesIn form r (take n bytes) → ⊥
+no_fault_lem form bytes f r n h stands = never_reads form bytes f (r, drop n bytes) h (is_read form bytes r n stands)
 
 -- what some bytes answer
-abbrev pub Answer : Version → List ℕ → Type 0
-Answer version bytes = ((r : Record) × (n : ℕ) × (n ≤ length bytes) × Encodes version r (take n bytes)) ⊎ ((f : DecodeFault) × HasFault version f bytes)
+abbrev pub Answer : Form → List ℕ → Type 0
+Answer form bytes = ((r : Record) × (n : ℕ) × (n ≤ length bytes) × EncodesIn form r (take n bytes)) ⊎ ((f : DecodeFault) × HasFaultIn form f bytes)
 
-answer_from : (version : Version) (bytes : List ℕ) → IsBytes bytes → (read : Result (Record × List ℕ) DecodeFault) → good_at version bytes ≡ read → Answer version bytes
-answer_from version bytes fits (Ok x) e =
-    let is = read_is version bytes x.1 x.0 fits e in
+answer_from : (form : Form) (bytes : List ℕ) → IsBytes bytes → (read : Result (Record × List ℕ) DecodeFault) → good_at form bytes ≡ read → Answer form bytes
+answer_from form bytes fits (Ok x) e =
+    let is = read_is form bytes x.1 x.0 fits e in
     inl (x.0, length bytes - length x.1, is.within, is.front)
-answer_from version bytes fits (Err f) e = inr (f, fault_is version bytes f fits e)
+answer_from form bytes fits (Err f) e = inr (f, fault_is form bytes f fits e)
 
 all_bytes : (bytes : List ℕ) → All (λ byte. byte < 256) bytes → IsBytes bytes
 all_bytes bytes h i =
@@ -326,8 +341,8 @@ all_bytes bytes h i =
       | inr le ↦ rw (get_or_past bytes i 0 le) (omega arith)
     ]
 
-pub answer_lem : (version : Version) (bytes : List ℕ) → All (λ byte. byte < 256) bytes → Answer version bytes
-answer_lem version bytes h = answer_from version bytes (all_bytes bytes h) (good_at version bytes) refl
+pub answer_lem : (form : Form) (bytes : List ℕ) → All (λ byte. byte < 256) bytes → Answer form bytes
+answer_lem form bytes h = answer_from form bytes (all_bytes bytes h) (good_at form bytes) refl
 
 -- ---- where memory may run out
 

@@ -1,15 +1,15 @@
 -- Where a reader meets a fault, and which.
 use Rattle.std.proofs.Common.{◌≡◌, ℕ, zero, suc, ◌<◌, ◌⊎◌, Bool, true, false, cond, ltb, eqb, List, [], ◌∷◌, length, Result, Ok, Err, refl, sym, ap, ◌∙◌, inl, inr, arith}
 use Rattle.std.proofs.lemmas.Bool.{ltb-false, le-ltb, eqb-false, ne_eqb}
-use Rattle.st_records.specs.declared.version.Version.{Version}
-use Rattle.st_records.specs.declared.version.Version.TheVariants.{One, Two}
+use Rattle.st_records.specs.declared.version.Form.{Form}
+use Rattle.st_records.specs.declared.version.Form.TheVariants as forms
 use Rattle.st_records.specs.declared.record.Explicit.{Explicit}
-use Rattle.st_records.specs.declared.record.Explicit.TheVariants.{Unknown, Known}
+use Rattle.st_records.specs.declared.record.Explicit.TheVariants.{Unknown, Known, Marked}
 use Rattle.st_records.specs.declared.decoder.DecodeFault.{DecodeFault}
 use Rattle.st_records.specs.declared.decoder.DecodeFault.TheVariants.{Short, BadKind}
 use Rattle.st_records.specs.Encoding.{string, strings, FitsString, FitsStrings}
-use Rattle.st_records.specs.Reading.{◌>>=◌, Reader, then_at, made_at, tested_at, number_at, bytes_at, string_at, items_at, strings_at, status_at, no_status_at, done_explicit_at, kept_explicit_at, lists_at}
-use Rattle.st_records.specs.Faults.{After, AfterNumber, EndsInNumber, EndsInString, EndsInItems, EndsInStrings, EndsInDoneExplicit, EndsInKeptExplicit, EndsInLists, HasUnlistedStatus, HasNeedlessStatus, HasUnlistedKnown}
+use Rattle.st_records.specs.Reading.{◌>>=◌, Reader, then_at, made_at, tested_at, number_at, bytes_at, string_at, items_at, strings_at, status_at, no_status_at, marked_at, done_explicit_at, kept_explicit_at, lists_at}
+use Rattle.st_records.specs.Faults.{After, AfterNumber, EndsInNumber, EndsInString, EndsInItems, EndsInStrings, EndsInMarked, EndsInDoneExplicit, EndsInKeptExplicit, EndsInLists, AfterLists, HasUnlistedStatus, HasNeedlessStatus, HasUnlistedMarked, HasUnlistedKnown}
 use Rattle.st_records.proofs.Fields.{IsBytes, IsBytes-rest, Reads, number_reads, string_reads, strings_reads}
 use Rattle.st_records.proofs.Unfinished.{number_cases, bytes_cases}
 
@@ -299,9 +299,6 @@ strings_stops = record {
 }
 
 -- commands, hidden names, and a last field
-abbrev pub AfterLists : (List ℕ → Type 0) → List ℕ → Type 0
-AfterLists U bytes = After strings FitsStrings (λ _. After strings FitsStrings (λ _. U)) bytes
-
 after_strings_stops : {A : Type 0} (b : Reader A) (G V : List ℕ → Type 0) → Stops G V b → Stops (Either EndsInStrings strings FitsStrings G) (After strings FitsStrings (λ _. V)) (then_at strings_at b)
 after_strings_stops b G V sb =
     restated (then_at strings_at b) (Either EndsInStrings strings FitsStrings G) (Either Never strings FitsStrings V) (After strings FitsStrings (λ _. V)) (second_alone strings FitsStrings V) (λ bytes h. inr h)
@@ -325,50 +322,127 @@ none_stops = record {
 names_stops : Stops EndsInStrings Never (made_at Known strings_at)
 names_stops = made_stops Known strings_at EndsInStrings Never strings_stops
 
-pub done_explicit_stops : (version : Version) → Stops (EndsInDoneExplicit version) Never (done_explicit_at version)
+marked_stops : Stops EndsInMarked Never marked_at
+marked_stops =
+    made_stops (λ x. Marked x.0 x.1) (then_at strings_at string_at) EndsInMarked Never
+    (restated (then_at strings_at string_at) EndsInMarked (Either Never strings FitsStrings Never) Never (never_two strings FitsStrings) (λ bytes h. absurd h)
+    (joined_stops (λ x y. (x, y)) strings FitsStrings strings_at string_at EndsInStrings Never EndsInString Never strings_reads strings_stops string_stops))
+
+pub named_stops : Stops (EndsInDoneExplicit forms.Plain) Never (done_explicit_at forms.Plain)
 unfolding done_explicit_at
-done_explicit_stops One = none_stops
-done_explicit_stops Two = names_stops
+named_stops = names_stops
 
-kept_short : (version : Version) (bytes : List ℕ) → IsBytes bytes → kept_explicit_at version bytes ≡ Err Short → EndsInKeptExplicit version bytes
+pub unnamed_stops : Stops (EndsInDoneExplicit forms.Old) Never (done_explicit_at forms.Old)
+unfolding done_explicit_at
+unnamed_stops = none_stops
+
+done_short : (bytes : List ℕ) → IsBytes bytes → done_explicit_at forms.Marked bytes ≡ Err Short → EndsInDoneExplicit forms.Marked bytes
+unfolding done_explicit_at
+done_short [] fits e = tt
+done_short (zero ∷ rest) fits e = absurd cc
+done_short (suc zero ∷ rest) fits e = absurd cc
+done_short (suc (suc zero) ∷ rest) fits e = (marked_stops).short rest (IsBytes-rest 2 rest fits) e
+done_short (suc (suc (suc b)) ∷ rest) fits e = absurd cc
+
+done_unlisted : (bytes : List ℕ) → IsBytes bytes → done_explicit_at forms.Marked bytes ≡ Err BadKind → HasUnlistedMarked bytes
+unfolding done_explicit_at
+done_unlisted [] fits e = absurd cc
+done_unlisted (zero ∷ rest) fits e = tt
+done_unlisted (suc zero ∷ rest) fits e = tt
+done_unlisted (suc (suc zero) ∷ rest) fits e = (marked_stops).unlisted rest (IsBytes-rest 2 rest fits) e
+done_unlisted (suc (suc (suc b)) ∷ rest) fits e = tt
+
+done_only : (bytes : List ℕ) (d : DecodeFault) → done_explicit_at forms.Marked bytes ≡ Err d → (d ≡ Short) ⊎ (d ≡ BadKind)
+unfolding done_explicit_at
+done_only [] d e = inl cc
+done_only (zero ∷ rest) d e = inr cc
+done_only (suc zero ∷ rest) d e = inr cc
+done_only (suc (suc zero) ∷ rest) d e = (marked_stops).only rest d e
+done_only (suc (suc (suc b)) ∷ rest) d e = inr cc
+
+done_short_again : (bytes : List ℕ) → EndsInDoneExplicit forms.Marked bytes → done_explicit_at forms.Marked bytes ≡ Err Short
+unfolding done_explicit_at
+done_short_again [] h = refl
+done_short_again (zero ∷ rest) h = absurd h
+done_short_again (suc zero ∷ rest) h = absurd h
+done_short_again (suc (suc zero) ∷ rest) h = (marked_stops).short_again rest h
+done_short_again (suc (suc (suc b)) ∷ rest) h = absurd h
+
+done_unlisted_again : (bytes : List ℕ) → HasUnlistedMarked bytes → done_explicit_at forms.Marked bytes ≡ Err BadKind
+unfolding done_explicit_at
+done_unlisted_again [] h = absurd h
+done_unlisted_again (zero ∷ rest) h = refl
+done_unlisted_again (suc zero ∷ rest) h = refl
+done_unlisted_again (suc (suc zero) ∷ rest) h = absurd h
+done_unlisted_again (suc (suc (suc b)) ∷ rest) h = refl
+
+pub done_marked_stops : Stops (EndsInDoneExplicit forms.Marked) HasUnlistedMarked (done_explicit_at forms.Marked)
+done_marked_stops = record { short = done_short; unlisted = done_unlisted; only = done_only; short_again = done_short_again; unlisted_again = done_unlisted_again }
+
+kept_short : (form : Form) (bytes : List ℕ) → IsBytes bytes → kept_explicit_at form bytes ≡ Err Short → EndsInKeptExplicit form bytes
 unfolding kept_explicit_at
-kept_short One bytes fits e = (none_stops).short bytes fits e
-kept_short Two [] fits e = tt
-kept_short Two (zero ∷ rest) fits e = absurd cc
-kept_short Two (suc zero ∷ rest) fits e = (names_stops).short rest (IsBytes-rest 1 rest fits) e
-kept_short Two (suc (suc b) ∷ rest) fits e = absurd cc
+kept_short forms.Old bytes fits e = (none_stops).short bytes fits e
+kept_short forms.Plain [] fits e = tt
+kept_short forms.Plain (zero ∷ rest) fits e = absurd cc
+kept_short forms.Plain (suc zero ∷ rest) fits e = (names_stops).short rest (IsBytes-rest 1 rest fits) e
+kept_short forms.Plain (suc (suc b) ∷ rest) fits e = absurd cc
+kept_short forms.Marked [] fits e = tt
+kept_short forms.Marked (zero ∷ rest) fits e = absurd cc
+kept_short forms.Marked (suc zero ∷ rest) fits e = (names_stops).short rest (IsBytes-rest 1 rest fits) e
+kept_short forms.Marked (suc (suc zero) ∷ rest) fits e = (marked_stops).short rest (IsBytes-rest 2 rest fits) e
+kept_short forms.Marked (suc (suc (suc b)) ∷ rest) fits e = absurd cc
 
-kept_unlisted : (version : Version) (bytes : List ℕ) → IsBytes bytes → kept_explicit_at version bytes ≡ Err BadKind → HasUnlistedKnown version bytes
+kept_unlisted : (form : Form) (bytes : List ℕ) → IsBytes bytes → kept_explicit_at form bytes ≡ Err BadKind → HasUnlistedKnown form bytes
 unfolding kept_explicit_at
-kept_unlisted One bytes fits e = (none_stops).unlisted bytes fits e
-kept_unlisted Two [] fits e = absurd cc
-kept_unlisted Two (zero ∷ rest) fits e = absurd cc
-kept_unlisted Two (suc zero ∷ rest) fits e = (names_stops).unlisted rest (IsBytes-rest 1 rest fits) e
-kept_unlisted Two (suc (suc b) ∷ rest) fits e = tt
+kept_unlisted forms.Old bytes fits e = (none_stops).unlisted bytes fits e
+kept_unlisted forms.Plain [] fits e = absurd cc
+kept_unlisted forms.Plain (zero ∷ rest) fits e = absurd cc
+kept_unlisted forms.Plain (suc zero ∷ rest) fits e = (names_stops).unlisted rest (IsBytes-rest 1 rest fits) e
+kept_unlisted forms.Plain (suc (suc b) ∷ rest) fits e = tt
+kept_unlisted forms.Marked [] fits e = absurd cc
+kept_unlisted forms.Marked (zero ∷ rest) fits e = absurd cc
+kept_unlisted forms.Marked (suc zero ∷ rest) fits e = (names_stops).unlisted rest (IsBytes-rest 1 rest fits) e
+kept_unlisted forms.Marked (suc (suc zero) ∷ rest) fits e = (marked_stops).unlisted rest (IsBytes-rest 2 rest fits) e
+kept_unlisted forms.Marked (suc (suc (suc b)) ∷ rest) fits e = tt
 
-kept_only : (version : Version) (bytes : List ℕ) (d : DecodeFault) → kept_explicit_at version bytes ≡ Err d → (d ≡ Short) ⊎ (d ≡ BadKind)
+kept_only : (form : Form) (bytes : List ℕ) (d : DecodeFault) → kept_explicit_at form bytes ≡ Err d → (d ≡ Short) ⊎ (d ≡ BadKind)
 unfolding kept_explicit_at
-kept_only One bytes d e = (none_stops).only bytes d e
-kept_only Two [] d e = inl cc
-kept_only Two (zero ∷ rest) d e = absurd cc
-kept_only Two (suc zero ∷ rest) d e = (names_stops).only rest d e
-kept_only Two (suc (suc b) ∷ rest) d e = inr cc
+kept_only forms.Old bytes d e = (none_stops).only bytes d e
+kept_only forms.Plain [] d e = inl cc
+kept_only forms.Plain (zero ∷ rest) d e = absurd cc
+kept_only forms.Plain (suc zero ∷ rest) d e = (names_stops).only rest d e
+kept_only forms.Plain (suc (suc b) ∷ rest) d e = inr cc
+kept_only forms.Marked [] d e = inl cc
+kept_only forms.Marked (zero ∷ rest) d e = absurd cc
+kept_only forms.Marked (suc zero ∷ rest) d e = (names_stops).only rest d e
+kept_only forms.Marked (suc (suc zero) ∷ rest) d e = (marked_stops).only rest d e
+kept_only forms.Marked (suc (suc (suc b)) ∷ rest) d e = inr cc
 
-kept_short_again : (version : Version) (bytes : List ℕ) → EndsInKeptExplicit version bytes → kept_explicit_at version bytes ≡ Err Short
+kept_short_again : (form : Form) (bytes : List ℕ) → EndsInKeptExplicit form bytes → kept_explicit_at form bytes ≡ Err Short
 unfolding kept_explicit_at
-kept_short_again One bytes h = absurd h
-kept_short_again Two [] h = refl
-kept_short_again Two (zero ∷ rest) h = absurd h
-kept_short_again Two (suc zero ∷ rest) h = (names_stops).short_again rest h
-kept_short_again Two (suc (suc b) ∷ rest) h = absurd h
+kept_short_again forms.Old bytes h = absurd h
+kept_short_again forms.Plain [] h = refl
+kept_short_again forms.Plain (zero ∷ rest) h = absurd h
+kept_short_again forms.Plain (suc zero ∷ rest) h = (names_stops).short_again rest h
+kept_short_again forms.Plain (suc (suc b) ∷ rest) h = absurd h
+kept_short_again forms.Marked [] h = refl
+kept_short_again forms.Marked (zero ∷ rest) h = absurd h
+kept_short_again forms.Marked (suc zero ∷ rest) h = (names_stops).short_again rest h
+kept_short_again forms.Marked (suc (suc zero) ∷ rest) h = (marked_stops).short_again rest h
+kept_short_again forms.Marked (suc (suc (suc b)) ∷ rest) h = absurd h
 
-kept_unlisted_again : (version : Version) (bytes : List ℕ) → HasUnlistedKnown version bytes → kept_explicit_at version bytes ≡ Err BadKind
+kept_unlisted_again : (form : Form) (bytes : List ℕ) → HasUnlistedKnown form bytes → kept_explicit_at form bytes ≡ Err BadKind
 unfolding kept_explicit_at
-kept_unlisted_again One bytes h = absurd h
-kept_unlisted_again Two [] h = absurd h
-kept_unlisted_again Two (zero ∷ rest) h = absurd h
-kept_unlisted_again Two (suc zero ∷ rest) h = absurd h
-kept_unlisted_again Two (suc (suc b) ∷ rest) h = refl
+kept_unlisted_again forms.Old bytes h = absurd h
+kept_unlisted_again forms.Plain [] h = absurd h
+kept_unlisted_again forms.Plain (zero ∷ rest) h = absurd h
+kept_unlisted_again forms.Plain (suc zero ∷ rest) h = absurd h
+kept_unlisted_again forms.Plain (suc (suc b) ∷ rest) h = refl
+kept_unlisted_again forms.Marked [] h = absurd h
+kept_unlisted_again forms.Marked (zero ∷ rest) h = absurd h
+kept_unlisted_again forms.Marked (suc zero ∷ rest) h = absurd h
+kept_unlisted_again forms.Marked (suc (suc zero) ∷ rest) h = absurd h
+kept_unlisted_again forms.Marked (suc (suc (suc b)) ∷ rest) h = refl
 
-pub kept_explicit_stops : (version : Version) → Stops (EndsInKeptExplicit version) (HasUnlistedKnown version) (kept_explicit_at version)
-kept_explicit_stops version = record { short = kept_short version; unlisted = kept_unlisted version; only = kept_only version; short_again = kept_short_again version; unlisted_again = kept_unlisted_again version }
+pub kept_explicit_stops : (form : Form) → Stops (EndsInKeptExplicit form) (HasUnlistedKnown form) (kept_explicit_at form)
+kept_explicit_stops form = record { short = kept_short form; unlisted = kept_unlisted form; only = kept_only form; short_again = kept_short_again form; unlisted_again = kept_unlisted_again form }

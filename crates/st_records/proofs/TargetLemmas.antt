@@ -1,6 +1,6 @@
 -- Where a record is read, its target is.
 use Rattle.std.proofs.Common.{◌≡◌, ℕ, zero, suc, List, [], ◌∷◌, Ok, IsOk, Result, refl, sym, subst}
-use Rattle.st_records.specs.declared.version.Version.{Version}
+use Rattle.st_records.specs.declared.version.Form.{Form}
 use Rattle.st_records.specs.declared.decoder.DecodeFault.{DecodeFault}
 use Rattle.st_records.specs.declared.record.Record.{Record}
 use Rattle.st_records.specs.declared.record.Record.TheVariants as records
@@ -21,12 +21,12 @@ then_ok f b rest x e =
     let first = bind_ok (string_at rest) (λ y. (b y.1 >>= λ z. Ok ((y.0, z.0), z.1))) both.0 both.1 in
     is_ok (string_at rest) first.0 first.1
 
-pub target_read : (version : Version) (bytes : List ℕ) (x : Record × List ℕ) → record_at version bytes ≡ Ok x → IsOk (target_at bytes)
+pub target_read : (form : Form) (bytes : List ℕ) (x : Record × List ℕ) → record_at form bytes ≡ Ok x → IsOk (target_at bytes)
 unfolding record_at target_at
-target_read version [] x e = absurd cc
-target_read version (zero ∷ rest) x e = absurd cc
-target_read version (suc zero ∷ rest) x e = one_ok records.Begun rest x e
-target_read version (suc (suc zero) ∷ rest) x e = then_ok (λ y. records.Done y.0 y.1.0 y.1.1.0 y.1.1.1) (lists_at (done_explicit_at version)) rest x e
-target_read version (suc (suc (suc zero)) ∷ rest) x e = then_ok (λ y. records.Failed y.0 y.1) status_at rest x e
-target_read version (suc (suc (suc (suc zero))) ∷ rest) x e = then_ok (λ y. records.Kept y.0 y.1) (entry_at version) rest x e
-target_read version (suc (suc (suc (suc (suc b)))) ∷ rest) x e = absurd cc
+target_read form [] x e = absurd cc
+target_read form (zero ∷ rest) x e = absurd cc
+target_read form (suc zero ∷ rest) x e = one_ok records.Begun rest x e
+target_read form (suc (suc zero) ∷ rest) x e = then_ok (λ y. records.Done y.0 y.1.0 y.1.1.0 y.1.1.1) (lists_at (done_explicit_at form)) rest x e
+target_read form (suc (suc (suc zero)) ∷ rest) x e = then_ok (λ y. records.Failed y.0 y.1) status_at rest x e
+target_read form (suc (suc (suc (suc zero))) ∷ rest) x e = then_ok (λ y. records.Kept y.0 y.1) (entry_at form) rest x e
+target_read form (suc (suc (suc (suc (suc b)))) ∷ rest) x e = absurd cc

@@ -4,12 +4,14 @@ use Rattle.std.specs.List.{list_any, Any, Contains}
 use Rattle.std.proofs.lemmas.Bool.{ltb-true, lt-ltb, eqb-true, eq-eqb, or_cases}
 use Rattle.std.proofs.lemmas.List.Folds.{Any-from_list_any, list_any-from_Any, list_any-append}
 use Rattle.st_records.specs.declared.version.Version.{Version}
+use Rattle.st_records.specs.declared.version.Form.{Form}
 use Rattle.st_records.specs.declared.limits.RecordFault.{RecordFault}
 use Rattle.st_records.specs.declared.limits.RecordFault.TheVariants.{EmptyName, BadByte, TooLong, TooMany}
 use Rattle.st_records.specs.declared.limits.TheConstants.{MAX_COMMAND_BYTES, MAX_COMMANDS, MAX_HIDDEN_NAMES, MAX_EXPLICIT_NAMES}
 use Rattle.st_records.specs.declared.record.Record.{Record}
 use Rattle.st_records.specs.Parts.{names_of, target_of, names_known, commands_of, hidden_of, explicit_of}
-use Rattle.st_records.specs.Limits.{max_name_bytes, max_record_bytes, counted_length, Breaks, rank, IsWithin, IsFirstFault}
+use Rattle.st_records.specs.Forms.{form_of}
+use Rattle.st_records.specs.Limits.{max_name_bytes_in, max_record_bytes_in, counted_length_in, Breaks, rank, IsWithin, IsWithinIn, IsFirstFaultIn}
 use Rattle.st_records.specs.Tests.{any_name, has_byte, is_empty_name, is_bad_name, is_long_name, has_bad_command, has_long_command, is_overlong, has_too_many, fault_of}
 
 -- a test gives true just where this holds
@@ -71,24 +73,24 @@ tells_names p P each r =
     subst (λ (b : Bool). Tells b (Any P (names_of r))) same (tells_any p P each (names_of r))
 
 -- the test of each limit
-abbrev breaks : Version → Record → RecordFault → Bool
-breaks version r EmptyName = any_name is_empty_name r
-breaks version r BadByte = any_name is_bad_name r || has_bad_command r
-breaks version r TooLong = any_name (is_long_name version) r || (has_long_command r || is_overlong version r)
-breaks version r TooMany = has_too_many r
+abbrev breaks : Form → Record → RecordFault → Bool
+breaks form r EmptyName = any_name is_empty_name r
+breaks form r BadByte = any_name is_bad_name r || has_bad_command r
+breaks form r TooLong = any_name (is_long_name form) r || (has_long_command r || is_overlong form r)
+breaks form r TooMany = has_too_many r
 
-tells : (version : Version) (r : Record) (fault : RecordFault) → Tells (breaks version r fault) (Breaks version r fault)
-tells version r EmptyName = tells_names is_empty_name (λ name. name ≡ []) tells_empty r
-tells version r BadByte =
+tells : (form : Form) (r : Record) (fault : RecordFault) → Tells (breaks form r fault) (Breaks form r fault)
+tells form r EmptyName = tells_names is_empty_name (λ name. name ≡ []) tells_empty r
+tells form r BadByte =
     tells_or (any_name is_bad_name r) (has_bad_command r) (tells_names is_bad_name (λ name. Contains name 0 ⊎ Contains name 10) tells_bad r)
     (tells_any (has_byte 0) (λ command. Contains command 0) (tells_byte 0) (commands_of r))
-tells version r TooLong =
-    tells_or (any_name (is_long_name version) r) (has_long_command r || is_overlong version r)
-    (tells_names (is_long_name version) (λ name. max_name_bytes version < length name) (λ name. tells_lt (max_name_bytes version) (length name)) r)
-    (tells_or (has_long_command r) (is_overlong version r)
+tells form r TooLong =
+    tells_or (any_name (is_long_name form) r) (has_long_command r || is_overlong form r)
+    (tells_names (is_long_name form) (λ name. max_name_bytes_in form < length name) (λ name. tells_lt (max_name_bytes_in form) (length name)) r)
+    (tells_or (has_long_command r) (is_overlong form r)
     (tells_any (λ command. ltb MAX_COMMAND_BYTES (length command)) (λ command. MAX_COMMAND_BYTES < length command) (λ command. tells_lt MAX_COMMAND_BYTES (length command)) (commands_of r))
-    (tells_lt (max_record_bytes version) (counted_length version r)))
-tells version r TooMany =
+    (tells_lt (max_record_bytes_in form) (counted_length_in form r)))
+tells form r TooMany =
     tells_or (ltb MAX_COMMANDS (length (commands_of r))) (ltb MAX_HIDDEN_NAMES (length (hidden_of r)) || ltb MAX_EXPLICIT_NAMES (length (names_known (explicit_of r))))
     (tells_lt MAX_COMMANDS (length (commands_of r)))
     (tells_or (ltb MAX_HIDDEN_NAMES (length (hidden_of r))) (ltb MAX_EXPLICIT_NAMES (length (names_known (explicit_of r))))
@@ -177,32 +179,35 @@ none_again false false false false never = refl
 
 -- ---- a record's first fault
 
-abbrev at_tests : Version → Record → RecordFault → Bool
-at_tests version r fault = at_fault fault (breaks version r EmptyName) (breaks version r BadByte) (breaks version r TooLong) (breaks version r TooMany)
+abbrev at_tests : Form → Record → RecordFault → Bool
+at_tests form r fault = at_fault fault (breaks form r EmptyName) (breaks form r BadByte) (breaks form r TooLong) (breaks form r TooMany)
 
-same_test : (version : Version) (r : Record) (fault : RecordFault) → at_tests version r fault ≡ breaks version r fault
-same_test version r EmptyName = refl
-same_test version r BadByte = refl
-same_test version r TooLong = refl
-same_test version r TooMany = refl
+same_test : (form : Form) (r : Record) (fault : RecordFault) → at_tests form r fault ≡ breaks form r fault
+same_test form r EmptyName = refl
+same_test form r BadByte = refl
+same_test form r TooLong = refl
+same_test form r TooMany = refl
 
-told : (version : Version) (r : Record) (fault : RecordFault) → at_tests version r fault ≡ true → Breaks version r fault
-told version r fault e = (tells version r fault).yes (sym (same_test version r fault) ∙ e)
+told : (form : Form) (r : Record) (fault : RecordFault) → at_tests form r fault ≡ true → Breaks form r fault
+told form r fault e = (tells form r fault).yes (sym (same_test form r fault) ∙ e)
 
-tested : (version : Version) (r : Record) (fault : RecordFault) → Breaks version r fault → at_tests version r fault ≡ true
-tested version r fault h = same_test version r fault ∙ (tells version r fault).no h
+tested : (form : Form) (r : Record) (fault : RecordFault) → Breaks form r fault → at_tests form r fault ≡ true
+tested form r fault h = same_test form r fault ∙ (tells form r fault).no h
 
-pub within_from : (version : Version) (r : Record) → fault_of version r ≡ None → IsWithin version r
-within_from version r e = λ fault h. none_first _ _ _ _ fault e (tested version r fault h)
+pub within_in : (form : Form) (r : Record) → fault_of form r ≡ None → IsWithinIn form r
+within_in form r e = λ fault h. none_first _ _ _ _ fault e (tested form r fault h)
 
-pub none_from : (version : Version) (r : Record) → IsWithin version r → fault_of version r ≡ None
-none_from version r within = none_again _ _ _ _ (λ fault e. within fault (told version r fault e))
+pub within_from : (version : Version) (r : Record) → fault_of (form_of version) r ≡ None → IsWithin version r
+within_from version = within_in (form_of version)
 
-pub first_from : (version : Version) (r : Record) (fault : RecordFault) → fault_of version r ≡ Some fault → IsFirstFault version r fault
-first_from version r fault e =
+pub none_from : (form : Form) (r : Record) → IsWithinIn form r → fault_of form r ≡ None
+none_from form r within = none_again _ _ _ _ (λ fault e. within fault (told form r fault e))
+
+pub first_from : (form : Form) (r : Record) (fault : RecordFault) → fault_of form r ≡ Some fault → IsFirstFaultIn form r fault
+first_from form r fault e =
     let h = chain_first _ _ _ _ fault e in
-    record { broken = told version r fault h.0; least = λ other b. h.1 other (tested version r other b) }
+    record { broken = told form r fault h.0; least = λ other b. h.1 other (tested form r other b) }
 
-pub some_from : (version : Version) (r : Record) (fault : RecordFault) → IsFirstFault version r fault → fault_of version r ≡ Some fault
-some_from version r fault first =
-    chain_again _ _ _ _ fault (tested version r fault first.broken, λ other e. first.least other (told version r other e))
+pub some_from : (form : Form) (r : Record) (fault : RecordFault) → IsFirstFaultIn form r fault → fault_of form r ≡ Some fault
+some_from form r fault first =
+    chain_again _ _ _ _ fault (tested form r fault first.broken, λ other e. first.least other (told form r other e))

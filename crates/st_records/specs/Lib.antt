@@ -1,9 +1,11 @@
 -- The model, to be read aloud:
 -- what a record holds, whatever its kind
 pub mod Parts
--- a record's bytes in each version, and the fields that can be written
+-- which form the records of a version have
+pub mod Forms
+-- a record's bytes in each form, and the fields that can be written
 pub mod Encoding
--- the limits of each version, the faults of a record, and which records are good
+-- the limits of each form, the faults of a record, and which records are good
 pub mod Limits
 -- what bytes have that begin with no good record
 pub mod Faults

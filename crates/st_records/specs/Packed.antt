@@ -1,19 +1,22 @@
 -- Lists of strings that lie one behind the other in one text: where each of them lies, and which still count.
-use Rattle.std.specs.Prelude.{ℕ, zero, suc, ◌+◌, ◌≤◌, List, [], Option, None, Some, length, take, drop}
+use Rattle.std.specs.Prelude.{ℕ, zero, suc, ◌+◌, ◌≤◌, List, [], ◌∷◌, length, take, drop}
 use Rattle.byte_strings.specs.Texts.{AreTexts, size_of, behind_first}
 use Rattle.st_records.specs.declared.record.Explicit.{Explicit}
-use Rattle.st_records.specs.declared.record.Explicit.TheVariants.{Unknown, Known}
+use Rattle.st_records.specs.declared.record.Explicit.TheVariants as explicits
+use Rattle.st_records.specs.declared.record.Named.{Named}
+use Rattle.st_records.specs.declared.record.Named.TheVariants as named
 use Rattle.st_records.specs.declared.record.Phase.{Phase}
 use Rattle.st_records.specs.declared.record.Phase.TheVariants as phases
 use Rattle.st_records.specs.declared.packed.Counted.{Counted}
-use Rattle.st_records.specs.declared.packed.Counted.TheVariants.{All, Unnamed, HiddenAlone}
+use Rattle.st_records.specs.declared.packed.Counted.TheVariants.{All, Marked, Unnamed, HiddenAlone}
 use Rattle.st_records.specs.declared.packed.Standing.{Standing}
 use Rattle.st_records.specs.declared.packed.Standing.TheVariants as standings
 
--- explicit names from strings or none
-abbrev pub explicit_from : Option (List (List ℕ)) → Explicit
-explicit_from None = Unknown
-explicit_from (Some names) = Known names
+-- what is said of explicit names, where it is lent
+abbrev pub explicit_from : Named → Explicit
+explicit_from named.Unknown = explicits.Unknown
+explicit_from (named.Known names) = explicits.Known names
+explicit_from (named.Marked names marks) = explicits.Marked names marks.now
 
 -- the phase, and which lists count
 abbrev pub phase_in : Standing → Phase
@@ -31,17 +34,24 @@ abbrev pub texts_size : (count : ℕ) (bytes : List ℕ) → ℕ
 texts_size zero bytes = 0
 texts_size (suc count) bytes = 4 + (size_of bytes + texts_size count (behind_first bytes))
 
+-- the text of marks, which stands in front of the commands
+abbrev pub marks_in : List (List ℕ) → List ℕ
+marks_in [] = []
+marks_in (marks ∷ commands) = marks
+
 -- the commands that count
-abbrev pub commands_in : Counted → List (List ℕ) → List (List ℕ)
-commands_in All commands = commands
-commands_in Unnamed commands = commands
-commands_in HiddenAlone commands = []
+abbrev pub commands_in : Counted → (front : List (List ℕ)) → List (List ℕ)
+commands_in All front = front
+commands_in Marked front = drop 1 front
+commands_in Unnamed front = front
+commands_in HiddenAlone front = []
 
 -- what is said of the explicit names
-abbrev pub explicit_in : Counted → List (List ℕ) → Explicit
-explicit_in All names = Known names
-explicit_in Unnamed names = Unknown
-explicit_in HiddenAlone names = Unknown
+abbrev pub explicit_in : Counted → (front names : List (List ℕ)) → Explicit
+explicit_in All front names = explicits.Known names
+explicit_in Marked front names = explicits.Marked names (marks_in front)
+explicit_in Unnamed front names = explicits.Unknown
+explicit_in HiddenAlone front names = explicits.Unknown
 
 -- so many commands have the first bytes, so many hidden names the next ones, and so many explicit names the last
 pub record AreLists (commands hidden explicit command_bytes hidden_bytes : ℕ) (bytes : List ℕ) : Type 0 where

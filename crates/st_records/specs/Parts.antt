@@ -1,9 +1,9 @@
 -- The parts of a record, whatever its kind.
-use Rattle.std.specs.Prelude.{ℕ, Bool, true, false, List, [], ◌∷◌, ◌++◌}
+use Rattle.std.specs.Prelude.{ℕ, Bool, true, false, List, [], ◌∷◌, ◌++◌, Option, None, Some}
 use Rattle.st_records.specs.declared.record.Phase.{Phase}
 use Rattle.st_records.specs.declared.record.Phase.TheVariants as phases
 use Rattle.st_records.specs.declared.record.Explicit.{Explicit}
-use Rattle.st_records.specs.declared.record.Explicit.TheVariants.{Unknown, Known}
+use Rattle.st_records.specs.declared.record.Explicit.TheVariants.{Unknown, Known, Marked}
 use Rattle.st_records.specs.declared.record.Record.{Record}
 use Rattle.st_records.specs.declared.record.Record.TheVariants as records
 
@@ -39,6 +39,37 @@ explicit_of (records.Kept target entry) = entry.explicit
 abbrev pub names_known : Explicit → List (List ℕ)
 names_known Unknown = []
 names_known (Known names) = names
+names_known (Marked names marks) = names
+
+-- the same, where they are known
+abbrev pub names_recorded : Explicit → Option (List (List ℕ))
+names_recorded Unknown = None
+names_recorded (Known names) = Some names
+names_recorded (Marked names marks) = Some names
+
+-- the text of the marks, empty where there are none
+abbrev pub marks_known : Explicit → List ℕ
+marks_known Unknown = []
+marks_known (Known names) = []
+marks_known (Marked names marks) = marks
+
+-- the names are known, and their marks aren't
+abbrev pub IsNamed : Explicit → Type 0
+IsNamed Unknown = ⊥
+IsNamed (Known names) = Unit {0}
+IsNamed (Marked names marks) = ⊥
+
+-- both are known
+abbrev pub IsMarked : Explicit → Type 0
+IsMarked Unknown = ⊥
+IsMarked (Known names) = ⊥
+IsMarked (Marked names marks) = Unit {0}
+
+-- marks aren't known
+abbrev pub IsUnmarked : Explicit → Type 0
+IsUnmarked Unknown = Unit {0}
+IsUnmarked (Known names) = Unit {0}
+IsUnmarked (Marked names marks) = ⊥
 
 -- the names in a record: its target, its hidden names, and its explicit ones
 abbrev pub names_of : Record → List (List ℕ)

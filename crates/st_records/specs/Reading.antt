@@ -10,10 +10,10 @@ use Rattle.st_records.specs.declared.record.Phase.TheVariants as phases
 use Rattle.st_records.specs.declared.record.Entry.{Entry}
 use Rattle.st_records.specs.declared.record.Record.{Record}
 use Rattle.st_records.specs.declared.record.Record.TheVariants as records
-use Rattle.st_records.specs.declared.version.Version.{Version}
-use Rattle.st_records.specs.declared.version.Version.TheVariants.{One, Two}
+use Rattle.st_records.specs.declared.version.Form.{Form}
+use Rattle.st_records.specs.declared.version.Form.TheVariants as forms
 use Rattle.st_records.specs.declared.record.Explicit.{Explicit}
-use Rattle.st_records.specs.declared.record.Explicit.TheVariants.{Unknown, Known}
+use Rattle.st_records.specs.declared.record.Explicit.TheVariants.{Unknown, Known, Marked}
 use Rattle.st_records.specs.Tests.{fault_of}
 
 infixl 10 ◌>>=◌
@@ -91,39 +91,53 @@ phase_at (suc (suc zero) ∷ rest) = made_at (λ _. phases.Done) no_status_at re
 phase_at (suc (suc (suc zero)) ∷ rest) = made_at phases.Failed status_at rest
 phase_at (suc (suc (suc (suc b))) ∷ rest) = Err BadKind
 
--- the explicit names of a done record
-unfoldable pub done_explicit_at : Version → Reader Explicit
-done_explicit_at One bytes = Ok (Unknown, bytes)
-done_explicit_at Two bytes = made_at Known strings_at bytes
+-- explicit names and their marks
+abbrev pub marked_at : Reader Explicit
+marked_at = made_at (λ x. Marked x.0 x.1) (then_at strings_at string_at)
 
--- the explicit names of a kept record
-unfoldable pub kept_explicit_at : Version → Reader Explicit
-kept_explicit_at One bytes = Ok (Unknown, bytes)
-kept_explicit_at Two [] = Err Short
-kept_explicit_at Two (zero ∷ rest) = Ok (Unknown, rest)
-kept_explicit_at Two (suc zero ∷ rest) = made_at Known strings_at rest
-kept_explicit_at Two (suc (suc b) ∷ rest) = Err BadKind
+-- what a done record says of its explicit names
+unfoldable pub done_explicit_at : Form → Reader Explicit
+done_explicit_at forms.Old bytes = Ok (Unknown, bytes)
+done_explicit_at forms.Plain bytes = made_at Known strings_at bytes
+done_explicit_at forms.Marked [] = Err Short
+done_explicit_at forms.Marked (zero ∷ rest) = Err BadKind
+done_explicit_at forms.Marked (suc zero ∷ rest) = Err BadKind
+done_explicit_at forms.Marked (suc (suc zero) ∷ rest) = marked_at rest
+done_explicit_at forms.Marked (suc (suc (suc b)) ∷ rest) = Err BadKind
+
+-- what a kept record says of them
+unfoldable pub kept_explicit_at : Form → Reader Explicit
+kept_explicit_at forms.Old bytes = Ok (Unknown, bytes)
+kept_explicit_at forms.Plain [] = Err Short
+kept_explicit_at forms.Plain (zero ∷ rest) = Ok (Unknown, rest)
+kept_explicit_at forms.Plain (suc zero ∷ rest) = made_at Known strings_at rest
+kept_explicit_at forms.Plain (suc (suc b) ∷ rest) = Err BadKind
+kept_explicit_at forms.Marked [] = Err Short
+kept_explicit_at forms.Marked (zero ∷ rest) = Ok (Unknown, rest)
+kept_explicit_at forms.Marked (suc zero ∷ rest) = made_at Known strings_at rest
+kept_explicit_at forms.Marked (suc (suc zero) ∷ rest) = marked_at rest
+kept_explicit_at forms.Marked (suc (suc (suc b)) ∷ rest) = Err BadKind
 
 -- commands, hidden names, and what comes after them
 abbrev pub lists_at : Reader Explicit → Reader (List (List ℕ) × (List (List ℕ) × Explicit))
 lists_at last = then_at strings_at (then_at strings_at last)
 
 -- what the state knows of a target
-unfoldable pub entry_at : Version → Reader Entry
-entry_at version =
+unfoldable pub entry_at : Form → Reader Entry
+entry_at form =
     made_at (λ x. record { phase = x.0; commands = x.1.0; hidden = x.1.1.0; explicit = x.1.1.1 })
-    (then_at phase_at (lists_at (kept_explicit_at version)))
+    (then_at phase_at (lists_at (kept_explicit_at form)))
 
 -- a record, whether good or not
-unfoldable pub record_at : Version → Reader Record
-record_at version [] = Err Short
-record_at version (zero ∷ rest) = Err BadKind
-record_at version (suc zero ∷ rest) = made_at records.Begun string_at rest
-record_at version (suc (suc zero) ∷ rest) =
-    made_at (λ x. records.Done x.0 x.1.0 x.1.1.0 x.1.1.1) (then_at string_at (lists_at (done_explicit_at version))) rest
-record_at version (suc (suc (suc zero)) ∷ rest) = made_at (λ x. records.Failed x.0 x.1) (then_at string_at status_at) rest
-record_at version (suc (suc (suc (suc zero))) ∷ rest) = made_at (λ x. records.Kept x.0 x.1) (then_at string_at (entry_at version)) rest
-record_at version (suc (suc (suc (suc (suc b)))) ∷ rest) = Err BadKind
+unfoldable pub record_at : Form → Reader Record
+record_at form [] = Err Short
+record_at form (zero ∷ rest) = Err BadKind
+record_at form (suc zero ∷ rest) = made_at records.Begun string_at rest
+record_at form (suc (suc zero) ∷ rest) =
+    made_at (λ x. records.Done x.0 x.1.0 x.1.1.0 x.1.1.1) (then_at string_at (lists_at (done_explicit_at form))) rest
+record_at form (suc (suc (suc zero)) ∷ rest) = made_at (λ x. records.Failed x.0 x.1) (then_at string_at status_at) rest
+record_at form (suc (suc (suc (suc zero))) ∷ rest) = made_at (λ x. records.Kept x.0 x.1) (then_at string_at (entry_at form)) rest
+record_at form (suc (suc (suc (suc (suc b)))) ∷ rest) = Err BadKind
 
 -- the target of a record of a listed kind
 unfoldable pub target_at : Reader (List ℕ)
@@ -141,5 +155,5 @@ judged None x = Ok x
 judged (Some fault) x = Err (Check fault)
 
 -- a good record: the check comes last
-unfoldable pub good_at : Version → Reader Record
-good_at version bytes = record_at version bytes >>= λ x. judged (fault_of version x.0) x
+unfoldable pub good_at : Form → Reader Record
+good_at form bytes = record_at form bytes >>= λ x. judged (fault_of form x.0) x

@@ -5,18 +5,19 @@ ghost use Rattle.st_records.specs.declared.decoder.DecodeFault.{DecodeFault};
 ghost use Rattle.st_records.specs.declared.decoder.DecodeFault.TheVariants as faults;
 ghost use Rattle.st_records.specs.declared.record.Record.{Record};
 ghost use Rattle.st_records.specs.declared.record.Record.TheVariants as records;
-ghost use Rattle.st_records.specs.Limits.{Encodes};
-ghost use Rattle.st_records.specs.Faults.{HasFault, HasWholeTarget};
+ghost use Rattle.st_records.specs.declared.record.Explicit.TheVariants as explicits;
+ghost use Rattle.st_records.specs.Limits.{Encodes, EncodesIn};
+ghost use Rattle.st_records.specs.Faults.{HasFault, HasFaultIn, HasWholeTarget};
 ghost use Rattle.st_records.specs.Clean.{is_unclean, AreClean, IsCleanEntry, IsClean};
 ghost use Rattle.st_records.specs.Parts.{names_known};
 ghost use Rattle.st_records.specs.Packed.{explicit_from};
-ghost use Rattle.st_records.specs.Reading.{Gives, Fails, made_at, then_at, lists_at, target_at, number_at, string_at, items_at, strings_at, no_status_at, status_at, phase_at, done_explicit_at, kept_explicit_at, entry_at, record_at, good_at};
+ghost use Rattle.st_records.specs.Reading.{Gives, Fails, made_at, then_at, lists_at, target_at, number_at, string_at, items_at, strings_at, no_status_at, status_at, phase_at, marked_at, done_explicit_at, kept_explicit_at, entry_at, record_at, good_at};
 
 use crate::limits::RecordFault;
 use crate::packed::PackedEntry;
 use crate::packed_record::{Event, PackedRecord};
-use crate::record::Phase;
-use crate::version::Version;
+use crate::record::{Named, Phase};
+use crate::version::{Form, Version};
 use crate::within::still_clean;
 use byte_strings::{ByteString, Iter};
 use std::alloc::{AllocError, Global};
@@ -30,7 +31,7 @@ pub enum DecodeFault {
     /// The bytes end before the fields do.
     #[error("the bytes end inside a record")]
     Short,
-    /// A kind, a phase or a status that is not listed, or a byte other than 0 and 1 for whether explicit names are known.
+    /// A kind, a phase or a status that is not listed, or a byte for what is known of explicit names that is not listed.
     #[error("a byte that no record has there")]
     BadKind,
     /// The fields are whole, but such a record may not stand in a state file.
@@ -65,22 +66,33 @@ pub fn decode(
     // Memory may run out only where the first text is whole.
     ensures memory { IsErrOf result faults.OutOfMemory → HasWholeTarget bytes.now }
 {
-    let (record, rest) = good_of(alloc, version, bytes)?;
+    decode_in(alloc, version.form(), bytes)
+}
+
+/// The same of the bytes of a file whose records have this form.
+pub fn decode_in(
+    alloc: Global,
+    form: Form,
+    bytes: &[u8],
+) -> Result<(PackedRecord, usize), DecodeFault>
+    ensures found { IfOk result (λ x. (x.1 ≤ length bytes.now) × EncodesIn form x.0 (take x.1 bytes.now)) }
+    ensures only { (r : Record) (n : ℕ) → n ≤ length bytes.now → EncodesIn form r (take n bytes.now) → Gives (λ x. x) result (Ok (r, n)) }
+    ensures cause { IfErr result (λ f. (f ≡ faults.OutOfMemory) ⊎ HasFaultIn form f bytes.now) }
+    ensures refused { (f : DecodeFault) → HasFaultIn form f bytes.now → Gives (λ x. x) result (Err f) }
+    ensures memory { IsErrOf result faults.OutOfMemory → HasWholeTarget bytes.now }
+{
+    let (record, rest) = good_of(alloc, form, bytes)?;
     Ok((record, bytes.len() - rest.len()))
 }
 
 #[tactic(auto, unfolding(crate::specs::Reading::good_at))]
-fn good_of(
-    alloc: Global,
-    version: Version,
-    bytes: &[u8],
-) -> Result<(PackedRecord, &[u8]), DecodeFault>
-    ensures gives { Gives (λ x. (x.0, x.1.now)) result (good_at version bytes.now) }
+fn good_of(alloc: Global, form: Form, bytes: &[u8]) -> Result<(PackedRecord, &[u8]), DecodeFault>
+    ensures gives { Gives (λ x. (x.0, x.1.now)) result (good_at form bytes.now) }
     ensures memory { IsErrOf result faults.OutOfMemory → IsOk (target_at bytes.now) }
 {
     let mut clean = true;
-    let (record, rest) = record_of(alloc, version, &mut clean, bytes)?;
-    match record.fault_within(alloc, version, clean, bytes.len() - rest.len())? {
+    let (record, rest) = record_of(alloc, form, &mut clean, bytes)?;
+    match record.fault_within(alloc, form, clean, bytes.len() - rest.len())? {
         None => Ok((record, rest)),
         Some(fault) => Err(DecodeFault::Check(fault)),
     }
@@ -89,143 +101,176 @@ fn good_of(
 #[tactic(auto, unfolding(crate::specs::Reading::record_at, crate::specs::Reading::target_at))]
 fn record_of<'a>(
     alloc: Global,
-    version: Version,
+    form: Form,
     clean: &mut bool,
     bytes: &'a [u8],
 ) -> Result<(PackedRecord, &'a [u8]), DecodeFault>
-    ensures gives { Gives (λ x. (x.0, x.1.now)) result (record_at version bytes.now) }
-    ensures clean { IfOk result (λ x. IsTrue clean.new → IsTrue clean.old × IsClean version x.0) }
+    ensures gives { Gives (λ x. (x.0, x.1.now)) result (record_at form bytes.now) }
+    ensures clean { IfOk result (λ x. IsTrue clean.new → IsTrue clean.old × IsClean form x.0) }
     ensures memory { IsErrOf result faults.OutOfMemory → IsOk (target_at bytes.now) }
 {
     match bytes {
         [] => Err(DecodeFault::Short),
-        [1, rest @ ..] => begun_of(alloc, version, clean, rest),
-        [2, rest @ ..] => done_of(alloc, version, clean, rest),
-        [3, rest @ ..] => failed_of(alloc, version, clean, rest),
-        [4, rest @ ..] => kept_of(alloc, version, clean, rest),
+        [1, rest @ ..] => begun_of(alloc, form, clean, rest),
+        [2, rest @ ..] => done_of(alloc, form, clean, rest),
+        [3, rest @ ..] => failed_of(alloc, form, clean, rest),
+        [4, rest @ ..] => kept_of(alloc, form, clean, rest),
         [_, ..] => Err(DecodeFault::BadKind),
     }
 }
 
 fn begun_of<'a>(
     alloc: Global,
-    version: Version,
+    form: Form,
     clean: &mut bool,
     bytes: &'a [u8],
 ) -> Result<(PackedRecord, &'a [u8]), DecodeFault>
     ensures gives { Gives (λ x. (x.0, x.1.now)) result (made_at records.Begun string_at bytes.now) }
-    ensures clean { IfOk result (λ x. IsTrue clean.new → IsTrue clean.old × IsClean version x.0) }
+    ensures clean { IfOk result (λ x. IsTrue clean.new → IsTrue clean.old × IsClean form x.0) }
     ensures memory { IsErrOf result faults.OutOfMemory → IsOk (string_at bytes.now) }
 {
-    let (target, rest) = string_of(alloc, version, clean, bytes)?;
+    let (target, rest) = string_of(alloc, form, clean, bytes)?;
     Ok((PackedRecord::new(target, Event::Begun), rest))
 }
 
 fn done_of<'a>(
     alloc: Global,
-    version: Version,
+    form: Form,
     clean: &mut bool,
     bytes: &'a [u8],
 ) -> Result<(PackedRecord, &'a [u8]), DecodeFault>
-    ensures gives { Gives (λ x. (x.0, x.1.now)) result (made_at (λ x. records.Done x.0 x.1.0 x.1.1.0 x.1.1.1) (then_at string_at (lists_at (done_explicit_at version))) bytes.now) }
-    ensures clean { IfOk result (λ x. IsTrue clean.new → IsTrue clean.old × IsClean version x.0) }
+    ensures gives { Gives (λ x. (x.0, x.1.now)) result (made_at (λ x. records.Done x.0 x.1.0 x.1.1.0 x.1.1.1) (then_at string_at (lists_at (done_explicit_at form))) bytes.now) }
+    ensures clean { IfOk result (λ x. IsTrue clean.new → IsTrue clean.old × IsClean form x.0) }
     ensures memory { IsErrOf result faults.OutOfMemory → IsOk (string_at bytes.now) }
 {
-    let (target, rest) = string_of(alloc, version, clean, bytes)?;
-    let (commands, rest) = strings_of(version, clean, rest)?;
-    let (hidden, rest) = strings_of(version, clean, rest)?;
-    let (explicit, rest) = done_explicit_of(version, clean, rest)?;
+    let (target, rest) = string_of(alloc, form, clean, bytes)?;
+    let (commands, rest) = strings_of(form, clean, rest)?;
+    let (hidden, rest) = strings_of(form, clean, rest)?;
+    let (explicit, rest) = done_explicit_of(form, clean, rest)?;
     let entry = PackedEntry::pack(alloc, Phase::Done, commands, hidden, explicit)?;
     Ok((PackedRecord::new(target, Event::Done(entry)), rest))
 }
 
 fn failed_of<'a>(
     alloc: Global,
-    version: Version,
+    form: Form,
     clean: &mut bool,
     bytes: &'a [u8],
 ) -> Result<(PackedRecord, &'a [u8]), DecodeFault>
     ensures gives { Gives (λ x. (x.0, x.1.now)) result (made_at (λ x. records.Failed x.0 x.1) (then_at string_at status_at) bytes.now) }
-    ensures clean { IfOk result (λ x. IsTrue clean.new → IsTrue clean.old × IsClean version x.0) }
+    ensures clean { IfOk result (λ x. IsTrue clean.new → IsTrue clean.old × IsClean form x.0) }
     ensures memory { IsErrOf result faults.OutOfMemory → IsOk (string_at bytes.now) }
 {
-    let (target, rest) = string_of(alloc, version, clean, bytes)?;
+    let (target, rest) = string_of(alloc, form, clean, bytes)?;
     let (status, rest) = status_of(rest)?;
     Ok((PackedRecord::new(target, Event::Failed(status)), rest))
 }
 
 fn kept_of<'a>(
     alloc: Global,
-    version: Version,
+    form: Form,
     clean: &mut bool,
     bytes: &'a [u8],
 ) -> Result<(PackedRecord, &'a [u8]), DecodeFault>
-    ensures gives { Gives (λ x. (x.0, x.1.now)) result (made_at (λ x. records.Kept x.0 x.1) (then_at string_at (entry_at version)) bytes.now) }
-    ensures clean { IfOk result (λ x. IsTrue clean.new → IsTrue clean.old × IsClean version x.0) }
+    ensures gives { Gives (λ x. (x.0, x.1.now)) result (made_at (λ x. records.Kept x.0 x.1) (then_at string_at (entry_at form)) bytes.now) }
+    ensures clean { IfOk result (λ x. IsTrue clean.new → IsTrue clean.old × IsClean form x.0) }
     ensures memory { IsErrOf result faults.OutOfMemory → IsOk (string_at bytes.now) }
 {
-    let (target, rest) = string_of(alloc, version, clean, bytes)?;
-    let (entry, rest) = entry_of(alloc, version, clean, rest)?;
+    let (target, rest) = string_of(alloc, form, clean, bytes)?;
+    let (entry, rest) = entry_of(alloc, form, clean, rest)?;
     Ok((PackedRecord::new(target, Event::Kept(entry)), rest))
 }
 
 #[tactic(auto, unfolding(crate::specs::Reading::entry_at))]
 fn entry_of<'a>(
     alloc: Global,
-    version: Version,
+    form: Form,
     clean: &mut bool,
     bytes: &'a [u8],
 ) -> Result<(PackedEntry, &'a [u8]), DecodeFault>
-    ensures gives { Gives (λ x. (x.0, x.1.now)) result (entry_at version bytes.now) }
-    ensures clean { IfOk result (λ x. IsTrue clean.new → IsTrue clean.old × IsCleanEntry version x.0) }
+    ensures gives { Gives (λ x. (x.0, x.1.now)) result (entry_at form bytes.now) }
+    ensures clean { IfOk result (λ x. IsTrue clean.new → IsTrue clean.old × IsCleanEntry form x.0) }
 {
     let (phase, rest) = phase_of(bytes)?;
-    let (commands, rest) = strings_of(version, clean, rest)?;
-    let (hidden, rest) = strings_of(version, clean, rest)?;
-    let (explicit, rest) = kept_explicit_of(version, clean, rest)?;
+    let (commands, rest) = strings_of(form, clean, rest)?;
+    let (hidden, rest) = strings_of(form, clean, rest)?;
+    let (explicit, rest) = kept_explicit_of(form, clean, rest)?;
     let entry = PackedEntry::pack(alloc, phase, commands, hidden, explicit)?;
     Ok((entry, rest))
 }
 
 #[tactic(auto, unfolding(crate::specs::Reading::done_explicit_at))]
 fn done_explicit_of<'a>(
-    version: Version,
+    form: Form,
     clean: &mut bool,
     bytes: &'a [u8],
-) -> Result<(Option<Iter<'a>>, &'a [u8]), DecodeFault>
-    ensures gives { Gives (λ x. (explicit_from x.0, x.1.now)) result (done_explicit_at version bytes.now) }
-    ensures clean { IfOk result (λ x. IsTrue clean.new → IsTrue clean.old × AreClean version (names_known (explicit_from x.0))) }
+) -> Result<(Named<'a>, &'a [u8]), DecodeFault>
+    ensures gives { Gives (λ x. (explicit_from x.0, x.1.now)) result (done_explicit_at form bytes.now) }
+    ensures clean { IfOk result (λ x. IsTrue clean.new → IsTrue clean.old × AreClean form (names_known (explicit_from x.0))) }
 {
-    match version {
-        Version::One => Ok((None, bytes)),
-        Version::Two => {
-            let (names, rest) = strings_of(version, clean, bytes)?;
-            Ok((Some(names), rest))
-        }
+    match form {
+        Form::Old => Ok((Named::Unknown, bytes)),
+        Form::Plain => known_of(form, clean, bytes),
+        Form::Marked => match bytes {
+            [] => Err(DecodeFault::Short),
+            [2, rest @ ..] => marked_of(form, clean, rest),
+            [_, ..] => Err(DecodeFault::BadKind),
+        },
     }
 }
 
 #[tactic(auto, unfolding(crate::specs::Reading::kept_explicit_at))]
 fn kept_explicit_of<'a>(
-    version: Version,
+    form: Form,
     clean: &mut bool,
     bytes: &'a [u8],
-) -> Result<(Option<Iter<'a>>, &'a [u8]), DecodeFault>
-    ensures gives { Gives (λ x. (explicit_from x.0, x.1.now)) result (kept_explicit_at version bytes.now) }
-    ensures clean { IfOk result (λ x. IsTrue clean.new → IsTrue clean.old × AreClean version (names_known (explicit_from x.0))) }
+) -> Result<(Named<'a>, &'a [u8]), DecodeFault>
+    ensures gives { Gives (λ x. (explicit_from x.0, x.1.now)) result (kept_explicit_at form bytes.now) }
+    ensures clean { IfOk result (λ x. IsTrue clean.new → IsTrue clean.old × AreClean form (names_known (explicit_from x.0))) }
 {
-    match version {
-        Version::One => Ok((None, bytes)),
-        Version::Two => match bytes {
+    match form {
+        Form::Old => Ok((Named::Unknown, bytes)),
+        Form::Plain => match bytes {
             [] => Err(DecodeFault::Short),
-            [0, rest @ ..] => Ok((None, rest)),
-            [1, rest @ ..] => {
-                let (names, rest) = strings_of(version, clean, rest)?;
-                Ok((Some(names), rest))
-            }
+            [0, rest @ ..] => Ok((Named::Unknown, rest)),
+            [1, rest @ ..] => known_of(form, clean, rest),
+            [_, ..] => Err(DecodeFault::BadKind),
+        },
+        Form::Marked => match bytes {
+            [] => Err(DecodeFault::Short),
+            [0, rest @ ..] => Ok((Named::Unknown, rest)),
+            [1, rest @ ..] => known_of(form, clean, rest),
+            [2, rest @ ..] => marked_of(form, clean, rest),
             [_, ..] => Err(DecodeFault::BadKind),
         },
     }
+}
+
+/// Explicit names.
+fn known_of<'a>(
+    form: Form,
+    clean: &mut bool,
+    bytes: &'a [u8],
+) -> Result<(Named<'a>, &'a [u8]), DecodeFault>
+    ensures gives { Gives (λ x. (explicit_from x.0, x.1.now)) result (made_at explicits.Known strings_at bytes.now) }
+    ensures clean { IfOk result (λ x. IsTrue clean.new → IsTrue clean.old × AreClean form (names_known (explicit_from x.0))) }
+{
+    let (names, rest) = strings_of(form, clean, bytes)?;
+    Ok((Named::Known(names), rest))
+}
+
+/// Explicit names and the text of their marks. Its low bytes say nothing of whether all else is clean.
+fn marked_of<'a>(
+    form: Form,
+    clean: &mut bool,
+    bytes: &'a [u8],
+) -> Result<(Named<'a>, &'a [u8]), DecodeFault>
+    ensures gives { Gives (λ x. (explicit_from x.0, x.1.now)) result (marked_at bytes.now) }
+    ensures clean { IfOk result (λ x. IsTrue clean.new → IsTrue clean.old × AreClean form (names_known (explicit_from x.0))) }
+{
+    let (names, rest) = strings_of(form, clean, bytes)?;
+    let (marks, rest) = text_of(rest)?;
+    Ok((Named::Marked(names, marks), rest))
 }
 
 #[tactic(auto, unfolding(crate::specs::Reading::phase_at))]
@@ -269,31 +314,31 @@ fn status_of(bytes: &[u8]) -> Result<(u32, &[u8]), DecodeFault>
 
 #[tactic(auto, unfolding(crate::specs::Reading::strings_at, crate::specs::Reading::items_at))]
 fn strings_of<'a>(
-    version: Version,
+    form: Form,
     clean: &mut bool,
     bytes: &'a [u8],
 ) -> Result<(Iter<'a>, &'a [u8]), DecodeFault>
     ensures gives { Gives (λ x. (x.0, x.1.now)) result (strings_at bytes.now) }
-    ensures clean { IfOk result (λ x. IsTrue clean.new → IsTrue clean.old × AreClean version x.0) }
+    ensures clean { IfOk result (λ x. IsTrue clean.new → IsTrue clean.old × AreClean form x.0) }
 {
     let (count, rest) = number_of(bytes)?;
     if count == 0 {
         return Ok((Iter::empty(), rest));
     }
-    items_of(version, clean, count, rest)
+    items_of(form, clean, count, rest)
 }
 
 /// So many strings, as they lie in the bytes.
 fn items_of<'a>(
-    version: Version,
+    form: Form,
     clean: &mut bool,
     count: u32,
     bytes: &'a [u8],
 ) -> Result<(Iter<'a>, &'a [u8]), DecodeFault>
     ensures gives { Gives (λ x. (x.0, x.1.now)) result (items_at count bytes.now) }
-    ensures clean { IfOk result (λ x. IsTrue clean.new → IsTrue clean.old × AreClean version x.0) }
+    ensures clean { IfOk result (λ x. IsTrue clean.new → IsTrue clean.old × AreClean form x.0) }
 {
-    let (found, behind) = behind_items(version, *clean, count, bytes)?;
+    let (found, behind) = behind_items(form, *clean, count, bytes)?;
     let (items, rest) = bytes.split_at(bytes.len() - behind.len());
     *clean = found;
     Ok((Iter::of_texts(count as usize, items), rest))
@@ -301,20 +346,20 @@ fn items_of<'a>(
 
 /// The bytes behind so many strings, and whether all is clean with them.
 fn behind_items(
-    version: Version,
+    form: Form,
     clean: bool,
     count: u32,
     bytes: &[u8],
 ) -> Result<(bool, &[u8]), DecodeFault>
     ensures items { IfOk result (λ x. (items : List (List ℕ)) × (items_at count bytes.now ≡ Ok (items, x.1.now))
-        × (IsTrue x.0 → IsTrue clean × AreClean version items)) }
+        × (IsTrue x.0 → IsTrue clean × AreClean form items)) }
     ensures fault { IfErr result (λ fault. Fails fault (items_at count bytes.now)) }
 {
     let mut found = clean;
     let mut rest = bytes;
     for _ in 0..count {
         let (item, after) = text_of(rest)?;
-        found = still_clean(found, version, item);
+        found = still_clean(found, form, item);
         rest = after;
     }
     Ok((found, rest))
@@ -323,16 +368,16 @@ fn behind_items(
 #[tactic(auto, unfolding(crate::specs::Reading::string_at))]
 fn string_of<'a>(
     alloc: Global,
-    version: Version,
+    form: Form,
     clean: &mut bool,
     bytes: &'a [u8],
 ) -> Result<(ByteString, &'a [u8]), DecodeFault>
     ensures gives { Gives (λ x. (x.0, x.1.now)) result (string_at bytes.now) }
-    ensures clean { IfOk result (λ x. IsTrue clean.new → IsTrue clean.old × (is_unclean version x.0 ≡ false)) }
+    ensures clean { IfOk result (λ x. IsTrue clean.new → IsTrue clean.old × (is_unclean form x.0 ≡ false)) }
     ensures memory { IsErrOf result faults.OutOfMemory → IsOk (string_at bytes.now) }
 {
     let (text, rest) = text_of(bytes)?;
-    *clean = still_clean(*clean, version, text);
+    *clean = still_clean(*clean, form, text);
     Ok((ByteString::from_slice(alloc, text)?, rest))
 }
 

@@ -2,12 +2,14 @@
 
 ghost use Rattle.std.specs.Prelude.{◌≡◌, ◌+◌, ◌<◌, ◌≤◌, ◌++◌, ◌∷◌, length, take, IfOk, OnOk, OnErr, vec_len, vec_capacity};
 ghost use Rattle.st_records.specs.declared.version.Version.TheVariants as versions;
-ghost use Rattle.st_records.specs.Parts.{names_known};
+ghost use Rattle.st_records.specs.declared.version.Form.TheVariants as forms;
+ghost use Rattle.st_records.specs.Parts.{names_known, marks_known};
 ghost use Rattle.st_records.specs.Packed.{explicit_from};
-ghost use Rattle.st_records.specs.Encoding.{number, string, strings, lists, phase_fields, kept_explicit, entry_fields, encoding, FitsString, FitsStrings, FitsEntry, FitsRecord};
-ghost use Rattle.st_records.specs.Limits.{IsGood};
+ghost use Rattle.st_records.specs.Encoding.{number, string, strings, marked_fields, phase_fields, done_explicit_in, kept_explicit_in, entry_fields_in, encoding, encoding_in, FitsString, FitsStrings, FitsDoneExplicit, FitsKeptExplicit, FitsEntry, FitsRecord};
+ghost use Rattle.st_records.specs.Limits.{IsGood, IsGoodIn};
 
-use crate::record::{Phase, Record};
+use crate::record::{Explicit, Named, Phase, Record};
+use crate::version::Form;
 use byte_strings::Iter;
 use byteorder::{ByteOrder, LittleEndian};
 use std::alloc::{AllocError, Global};
@@ -18,8 +20,16 @@ impl Record {
         requires { IsGood versions.Two self.now }
         ensures { IfOk result (λ bytes. bytes.items ≡ encoding versions.Two self.now) }
     {
+        self.encode_in(alloc, Form::Plain)
+    }
+
+    /// The bytes of a record that is good in this form.
+    pub fn encode_in(&self, alloc: Global, form: Form) -> Result<Vec<u8>, AllocError>
+        requires { IsGoodIn form self.now }
+        ensures { IfOk result (λ bytes. bytes.items ≡ encoding_in form self.now) }
+    {
         let mut out = Vec::new(alloc);
-        self.append_to(&mut out)?;
+        self.append_in(&mut out, form)?;
         Ok(out)
     }
 
@@ -36,16 +46,27 @@ impl Record {
         ensures front { take (vec_len out.old) out.new.items ≡ out.old.items }
         ensures room { vec_capacity out.old ≤ vec_capacity out.new }
     {
-        put_record(out, self)
+        self.append_in(out, Form::Plain)
+    }
+
+    /// The same of a record that is good in this form.
+    pub fn append_in(&self, out: &mut Vec<u8>, form: Form) -> Result<(), AllocError>
+        requires { IsGoodIn form self.now }
+        ensures ok { OnOk result (out.new.items ≡ out.old.items ++ encoding_in form self.now) }
+        ensures full { OnErr result (vec_capacity out.old < vec_len out.old + length (encoding_in form self.now)) }
+        ensures front { take (vec_len out.old) out.new.items ≡ out.old.items }
+        ensures room { vec_capacity out.old ≤ vec_capacity out.new }
+    {
+        put_record(out, form, self)
     }
 }
 
-fn put_record(out: &mut Vec<u8>, of: &Record) -> Result<(), AllocError>
-    requires { FitsRecord versions.Two of.now }
-    ensures ok { OnOk result (out.new.items ≡ out.old.items ++ encoding versions.Two of.now) }
+fn put_record(out: &mut Vec<u8>, form: Form, of: &Record) -> Result<(), AllocError>
+    requires { FitsRecord form of.now }
+    ensures ok { OnOk result (out.new.items ≡ out.old.items ++ encoding_in form of.now) }
     ensures room { vec_capacity out.old ≤ vec_capacity out.new }
     ensures front { take (vec_len out.old) out.new.items ≡ out.old.items }
-    ensures full { OnErr result (vec_capacity out.old < vec_len out.old + length (encoding versions.Two of.now)) }
+    ensures full { OnErr result (vec_capacity out.old < vec_len out.old + length (encoding_in form of.now)) }
 {
     match of {
         Record::Begun { target } => put_front(out, 1, target.as_slice()),
@@ -56,7 +77,7 @@ fn put_record(out: &mut Vec<u8>, of: &Record) -> Result<(), AllocError>
             explicit,
         } => {
             put_front(out, 2, target.as_slice())?;
-            put_lists(out, commands.iter(), hidden.iter(), explicit.names())
+            put_lists(out, form, commands.iter(), hidden.iter(), explicit)
         }
         Record::Failed { target, status } => {
             put_front(out, 3, target.as_slice())?;
@@ -66,10 +87,11 @@ fn put_record(out: &mut Vec<u8>, of: &Record) -> Result<(), AllocError>
             put_front(out, 4, target.as_slice())?;
             put_entry(
                 out,
+                form,
                 entry.phase,
                 entry.commands.iter(),
                 entry.hidden.iter(),
-                entry.explicit.known(),
+                entry.explicit.lend(),
             )
         }
     }
@@ -88,40 +110,91 @@ pub(crate) fn put_front(out: &mut Vec<u8>, kind: u8, target: &[u8]) -> Result<()
     put_string(out, target)
 }
 
-/// What a kept record has of the entry behind its target; None stands for explicit names that aren't known.
+/// What a kept record has of the entry behind its target.
 pub(crate) fn put_entry(
     out: &mut Vec<u8>,
+    form: Form,
     phase: Phase,
     commands: Iter<'_>,
     hidden: Iter<'_>,
-    explicit: Option<Iter<'_>>,
+    explicit: Named<'_>,
 ) -> Result<(), AllocError>
-    requires { FitsEntry versions.Two (record { phase = phase; commands = commands; hidden = hidden; explicit = explicit_from explicit }) }
-    ensures ok { OnOk result (out.new.items ≡ out.old.items ++ entry_fields versions.Two (record { phase = phase; commands = commands.entry; hidden = hidden.entry; explicit = explicit_from explicit.entry })) }
+    requires { FitsEntry form (record { phase = phase; commands = commands; hidden = hidden; explicit = explicit_from explicit }) }
+    ensures ok { OnOk result (out.new.items ≡ out.old.items ++ entry_fields_in form (record { phase = phase; commands = commands.entry; hidden = hidden.entry; explicit = explicit_from explicit.entry })) }
     ensures room { vec_capacity out.old ≤ vec_capacity out.new }
     ensures front { take (vec_len out.old) out.new.items ≡ out.old.items }
-    ensures full { OnErr result (vec_capacity out.old < vec_len out.old + length (entry_fields versions.Two (record { phase = phase; commands = commands.entry; hidden = hidden.entry; explicit = explicit_from explicit.entry }))) }
+    ensures full { OnErr result (vec_capacity out.old < vec_len out.old + length (entry_fields_in form (record { phase = phase; commands = commands.entry; hidden = hidden.entry; explicit = explicit_from explicit.entry }))) }
 {
     put_phase(out, phase)?;
     put_strings(out, commands)?;
     put_strings(out, hidden)?;
-    put_kept_explicit(out, explicit)
+    put_kept_explicit(out, form, explicit)
 }
 
-fn put_kept_explicit(out: &mut Vec<u8>, of: Option<Iter<'_>>) -> Result<(), AllocError>
-    requires { FitsStrings (names_known (explicit_from of)) }
-    ensures ok { OnOk result (out.new.items ≡ out.old.items ++ kept_explicit versions.Two (explicit_from of.entry)) }
+fn put_kept_explicit(out: &mut Vec<u8>, form: Form, of: Named<'_>) -> Result<(), AllocError>
+    requires { FitsKeptExplicit form (explicit_from of) }
+    ensures ok { OnOk result (out.new.items ≡ out.old.items ++ kept_explicit_in form (explicit_from of.entry)) }
     ensures room { vec_capacity out.old ≤ vec_capacity out.new }
     ensures front { take (vec_len out.old) out.new.items ≡ out.old.items }
-    ensures full { OnErr result (vec_capacity out.old < vec_len out.old + length (kept_explicit versions.Two (explicit_from of.entry))) }
+    ensures full { OnErr result (vec_capacity out.old < vec_len out.old + length (kept_explicit_in form (explicit_from of.entry))) }
+{
+    match form {
+        Form::Old => Ok(()),
+        Form::Plain => put_kept_names(out, of),
+        Form::Marked => put_kept_marked(out, of),
+    }
+}
+
+/// Of marks nothing.
+fn put_kept_names(out: &mut Vec<u8>, of: Named<'_>) -> Result<(), AllocError>
+    requires { FitsStrings (names_known (explicit_from of)) }
+    ensures ok { OnOk result (out.new.items ≡ out.old.items ++ kept_explicit_in forms.Plain (explicit_from of.entry)) }
+    ensures room { vec_capacity out.old ≤ vec_capacity out.new }
+    ensures front { take (vec_len out.old) out.new.items ≡ out.old.items }
+    ensures full { OnErr result (vec_capacity out.old < vec_len out.old + length (kept_explicit_in forms.Plain (explicit_from of.entry))) }
 {
     match of {
-        None => Ok(out.push(0)?),
-        Some(names) => {
+        Named::Unknown => Ok(out.push(0)?),
+        Named::Known(names) => {
+            out.push(1)?;
+            put_strings(out, names)
+        }
+        Named::Marked(names, _marks) => {
             out.push(1)?;
             put_strings(out, names)
         }
     }
+}
+
+fn put_kept_marked(out: &mut Vec<u8>, of: Named<'_>) -> Result<(), AllocError>
+    requires { FitsKeptExplicit forms.Marked (explicit_from of) }
+    ensures ok { OnOk result (out.new.items ≡ out.old.items ++ kept_explicit_in forms.Marked (explicit_from of.entry)) }
+    ensures room { vec_capacity out.old ≤ vec_capacity out.new }
+    ensures front { take (vec_len out.old) out.new.items ≡ out.old.items }
+    ensures full { OnErr result (vec_capacity out.old < vec_len out.old + length (kept_explicit_in forms.Marked (explicit_from of.entry))) }
+{
+    match of {
+        Named::Unknown => Ok(out.push(0)?),
+        Named::Known(names) => {
+            out.push(1)?;
+            put_strings(out, names)
+        }
+        Named::Marked(names, marks) => {
+            out.push(2)?;
+            put_marked(out, names, marks)
+        }
+    }
+}
+
+fn put_marked(out: &mut Vec<u8>, names: Iter<'_>, marks: &[u8]) -> Result<(), AllocError>
+    requires { FitsStrings names × FitsString marks.now }
+    ensures ok { OnOk result (out.new.items ≡ out.old.items ++ marked_fields names.entry marks.now) }
+    ensures room { vec_capacity out.old ≤ vec_capacity out.new }
+    ensures front { take (vec_len out.old) out.new.items ≡ out.old.items }
+    ensures full { OnErr result (vec_capacity out.old < vec_len out.old + length (marked_fields names.entry marks.now)) }
+{
+    put_strings(out, names)?;
+    put_string(out, marks)
 }
 
 fn put_phase(out: &mut Vec<u8>, of: Phase) -> Result<(), AllocError>
@@ -142,19 +215,37 @@ fn put_phase(out: &mut Vec<u8>, of: Phase) -> Result<(), AllocError>
 
 fn put_lists(
     out: &mut Vec<u8>,
+    form: Form,
     commands: Iter<'_>,
     hidden: Iter<'_>,
-    explicit: Iter<'_>,
+    explicit: &Explicit,
 ) -> Result<(), AllocError>
-    requires { FitsStrings commands × (FitsStrings hidden × FitsStrings explicit) }
-    ensures ok { OnOk result (out.new.items ≡ out.old.items ++ lists commands.entry hidden.entry explicit.entry) }
+    requires { FitsStrings commands × (FitsStrings hidden × FitsDoneExplicit form explicit.now) }
+    ensures ok { OnOk result (out.new.items ≡ out.old.items ++ (strings commands.entry ++ (strings hidden.entry ++ done_explicit_in form explicit.now))) }
     ensures room { vec_capacity out.old ≤ vec_capacity out.new }
     ensures front { take (vec_len out.old) out.new.items ≡ out.old.items }
-    ensures full { OnErr result (vec_capacity out.old < vec_len out.old + length (lists commands.entry hidden.entry explicit.entry)) }
+    ensures full { OnErr result (vec_capacity out.old < vec_len out.old + length (strings commands.entry ++ (strings hidden.entry ++ done_explicit_in form explicit.now))) }
 {
     put_strings(out, commands)?;
     put_strings(out, hidden)?;
-    put_strings(out, explicit)
+    put_done_explicit(out, form, explicit)
+}
+
+fn put_done_explicit(out: &mut Vec<u8>, form: Form, of: &Explicit) -> Result<(), AllocError>
+    requires { FitsDoneExplicit form of.now }
+    ensures ok { OnOk result (out.new.items ≡ out.old.items ++ done_explicit_in form of.now) }
+    ensures room { vec_capacity out.old ≤ vec_capacity out.new }
+    ensures front { take (vec_len out.old) out.new.items ≡ out.old.items }
+    ensures full { OnErr result (vec_capacity out.old < vec_len out.old + length (done_explicit_in form of.now)) }
+{
+    match form {
+        Form::Old => Ok(()),
+        Form::Plain => put_strings(out, of.names()),
+        Form::Marked => {
+            out.push(2)?;
+            put_marked(out, of.names(), of.marks())
+        }
+    }
 }
 
 fn put_strings(out: &mut Vec<u8>, items: Iter<'_>) -> Result<(), AllocError>

@@ -15,10 +15,13 @@ mod version;
 mod within;
 
 pub use byte_strings::{ByteString, ByteStrings, Iter};
-pub use decoder::{DecodeFault, decode};
+pub use decoder::{DecodeFault, decode, decode_in};
 pub use hash_key::HashKey;
-pub use kept::{append_kept, room_after_kept};
-pub use laws::{each_answered, limits_in_numbers, one_encoding, one_fault};
+pub use kept::{append_kept, append_kept_in, room_after_kept, room_after_kept_in};
+pub use laws::{
+    each_answered, each_answered_in, limits_in_numbers, one_encoding, one_encoding_in, one_fault,
+    one_fault_in,
+};
 pub use limits::{
     MAX_COMMAND_BYTES, MAX_COMMANDS, MAX_EXPLICIT_NAMES, MAX_HIDDEN_NAMES, MAX_NAME_BYTES,
     MAX_NAME_BYTES_IN_ONE, MAX_RECORD_BYTES, MAX_RECORD_BYTES_IN_ONE, RecordFault,
@@ -26,4 +29,4 @@ pub use limits::{
 pub use packed::PackedEntry;
 pub use packed_record::{Event, PackedRecord};
 pub use record::{Entry, Explicit, Phase, Record};
-pub use version::Version;
+pub use version::{Form, Version};

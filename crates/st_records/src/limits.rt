@@ -4,12 +4,13 @@
 ghost use Rattle.std.specs.Prelude.{◌≡◌, ◌+◌, ◌<◌, nat_lt, length, MatchOption, MatchResult};
 ghost use Rattle.std.specs.List.{list_any, flat_map};
 ghost use Rattle.st_records.specs.declared.version.Version.TheVariants as versions;
+ghost use Rattle.st_records.specs.declared.version.Form.TheVariants as forms;
 ghost use Rattle.st_records.specs.Encoding.{string};
-ghost use Rattle.st_records.specs.Limits.{max_name_bytes, max_record_bytes, IsWithin, IsFirstFault};
-ghost use Rattle.st_records.specs.Tests.{any_name, has_byte, is_empty_name, is_bad_name, is_long_name, has_bad_command, has_long_command, is_overlong, fixed_length, strings_length, has_too_many, fault_of};
+ghost use Rattle.st_records.specs.Limits.{max_name_bytes_in, max_record_bytes_in, IsWithin, IsFirstFault, IsWithinIn, IsFirstFaultIn};
+ghost use Rattle.st_records.specs.Tests.{any_name, has_byte, is_empty_name, is_bad_name, is_long_name, has_bad_command, has_long_command, is_overlong, fixed_length, known_length, strings_length, has_too_many, fault_of};
 
 use crate::record::{Explicit, Record};
-use crate::version::Version;
+use crate::version::Form;
 use byte_strings::Iter;
 use thiserror::Error;
 
@@ -19,8 +20,8 @@ pub const MAX_NAME_BYTES: usize = 65_535;
 pub const MAX_NAME_BYTES_IN_ONE: usize = 4096;
 /// The bytes of a command.
 pub const MAX_COMMAND_BYTES: usize = 65_535;
-/// The bytes of a record in the file; a kept record's phase and status do not count, nor the byte that says whether its
-/// explicit names are known.
+/// The bytes of a record in the file; a kept record's phase and status do not count, nor the byte that says which of its
+/// explicit names and marks are known.
 pub const MAX_RECORD_BYTES: usize = 16_777_216;
 /// The bytes of a record in a file of version 1.
 pub const MAX_RECORD_BYTES_IN_ONE: usize = 1_048_576;
@@ -31,22 +32,22 @@ pub const MAX_HIDDEN_NAMES: usize = 4096;
 /// The explicit names of a record.
 pub const MAX_EXPLICIT_NAMES: usize = 65_536;
 
-impl Version {
+impl Form {
     pub(crate) fn max_name_bytes(self) -> usize
-        ensures { result ≡ max_name_bytes self }
+        ensures { result ≡ max_name_bytes_in self }
     {
         match self {
-            Version::One => MAX_NAME_BYTES_IN_ONE,
-            Version::Two => MAX_NAME_BYTES,
+            Form::Old => MAX_NAME_BYTES_IN_ONE,
+            Form::Plain | Form::Marked => MAX_NAME_BYTES,
         }
     }
 
     pub(crate) fn max_record_bytes(self) -> usize
-        ensures { result ≡ max_record_bytes self }
+        ensures { result ≡ max_record_bytes_in self }
     {
         match self {
-            Version::One => MAX_RECORD_BYTES_IN_ONE,
-            Version::Two => MAX_RECORD_BYTES,
+            Form::Old => MAX_RECORD_BYTES_IN_ONE,
+            Form::Plain | Form::Marked => MAX_RECORD_BYTES,
         }
     }
 }
@@ -72,25 +73,32 @@ impl Record {
     pub fn check(&self) -> Result<(), RecordFault>
         ensures { MatchResult result (λ _. IsWithin versions.Two self.now) (λ fault. IsFirstFault versions.Two self.now fault) }
     {
-        match self.fault(Version::Two) {
+        self.check_in(Form::Plain)
+    }
+
+    /// The same by the limits of a form.
+    pub fn check_in(&self, form: Form) -> Result<(), RecordFault>
+        ensures { MatchResult result (λ _. IsWithinIn form self.now) (λ fault. IsFirstFaultIn form self.now fault) }
+    {
+        match self.fault(form) {
             None => Ok(()),
             Some(fault) => Err(fault),
         }
     }
 
-    /// The first fault by the limits of a version.
-    pub(crate) fn fault(&self, version: Version) -> Option<RecordFault>
-        ensures { result ≡ fault_of version self.now }
+    /// The first fault by the limits of a form.
+    pub(crate) fn fault(&self, form: Form) -> Option<RecordFault>
+        ensures { result ≡ fault_of form self.now }
     {
-        if self.is_seen_within(version) {
+        if self.is_seen_within(form) {
             return None;
         }
-        self.fault_in_order(version)
+        self.fault_in_order(form)
     }
 
     // One test after the other, each over all strings.
-    fn fault_in_order(&self, version: Version) -> Option<RecordFault>
-        ensures { result ≡ fault_of version self.now }
+    fn fault_in_order(&self, form: Form) -> Option<RecordFault>
+        ensures { result ≡ fault_of form self.now }
     {
         if self.has_empty_name() {
             return Some(RecordFault::EmptyName);
@@ -98,7 +106,7 @@ impl Record {
         if self.has_bad_name() || self.has_bad_command() {
             return Some(RecordFault::BadByte);
         }
-        if self.has_long_name(version) || self.has_long_command() || self.is_overlong(version) {
+        if self.has_long_name(form) || self.has_long_command() || self.is_overlong(form) {
             return Some(RecordFault::TooLong);
         }
         if self.has_too_many() {
@@ -129,10 +137,10 @@ impl Record {
         any_bad_command(self.commands())
     }
 
-    fn has_long_name(&self, version: Version) -> bool
-        ensures { result ≡ any_name (is_long_name version) self.now }
+    fn has_long_name(&self, form: Form) -> bool
+        ensures { result ≡ any_name (is_long_name form) self.now }
     {
-        let limit = version.max_name_bytes();
+        let limit = form.max_name_bytes();
         self.target().as_slice().len() > limit
             || any_longer(self.hidden(), limit)
             || any_longer(self.explicit(), limit)
@@ -152,47 +160,61 @@ impl Record {
             || self.explicit().len() > MAX_EXPLICIT_NAMES
     }
 
-    /// More than the bytes that a record may have in a file of this version.
-    fn is_overlong(&self, version: Version) -> bool
-        ensures { result ≡ is_overlong version self.now }
+    /// More than the bytes that a record may have in this form.
+    fn is_overlong(&self, form: Form) -> bool
+        ensures { result ≡ is_overlong form self.now }
     {
-        let room = version.max_record_bytes() - self.fixed_len(version);
-        self.room_after_strings(version, room).is_none()
+        let room = form.max_record_bytes() - self.fixed_len(form);
+        self.room_after_strings(form, room).is_none()
     }
 
-    /// What is left of `room` after the names and commands as a file of this version has them; none where they do not
-    /// fit.
-    pub(crate) fn room_after_strings(&self, version: Version, room: usize) -> Option<usize>
-        ensures { MatchOption result (room < strings_length version self.now) (λ left. left + strings_length version self.now ≡ room) }
+    /// What is left of `room` after the names and commands, and the marks, as this form has them; none where they do not fit.
+    pub(crate) fn room_after_strings(&self, form: Form, room: usize) -> Option<usize>
+        ensures { MatchOption result (room < strings_length form self.now) (λ left. left + strings_length form self.now ≡ room) }
     {
         let room = room.checked_sub(self.target().as_slice().len())?;
         let room = room_after(self.commands(), room)?;
         let room = room_after(self.hidden(), room)?;
-        match version {
-            Version::One => Some(room),
-            Version::Two => room_after(self.explicit(), room),
+        match form {
+            Form::Old => Some(room),
+            Form::Plain => room_after(self.explicit(), room),
+            Form::Marked => room_after(self.explicit(), room)?.checked_sub(self.marks().len()),
         }
     }
 
     /// The bytes that count and are there whatever a record's names and commands hold.
-    pub(crate) fn fixed_len(&self, version: Version) -> usize
-        ensures { result ≡ fixed_length version self.now }
+    pub(crate) fn fixed_len(&self, form: Form) -> usize
+        ensures { result ≡ fixed_length form self.now }
     {
         match self {
             Record::Begun { .. } => 5,
-            Record::Done { .. } => match version {
-                Version::One => 13,
-                Version::Two => 17,
+            Record::Done { .. } => match form {
+                Form::Old => 13,
+                Form::Plain => 17,
+                Form::Marked => 22,
             },
             Record::Failed { .. } => 9,
-            Record::Kept { entry, .. } => match version {
-                Version::One => 13,
-                Version::Two => match &entry.explicit {
-                    Explicit::Unknown => 13,
-                    Explicit::Known(_) => 17,
-                },
-            },
+            Record::Kept { entry, .. } => known_len(form, &entry.explicit),
         }
+    }
+}
+
+/// The same of a kept record with these explicit names.
+fn known_len(form: Form, explicit: &Explicit) -> usize
+    ensures { result ≡ known_length form explicit.now }
+{
+    match form {
+        Form::Old => 13,
+        Form::Plain => match explicit {
+            Explicit::Unknown => 13,
+            Explicit::Known(_) => 17,
+            Explicit::Marked(_, _) => 17,
+        },
+        Form::Marked => match explicit {
+            Explicit::Unknown => 13,
+            Explicit::Known(_) => 17,
+            Explicit::Marked(_, _) => 21,
+        },
     }
 }
 

@@ -1,15 +1,15 @@
 //! An entry whose strings stand in one piece of memory: what the state keeps of each target.
 
-ghost use Rattle.std.specs.Prelude.{◌≡◌, ◌≤◌, ◌||◌, ◌++◌, [], IfOk, nat_lt, length, take, drop};
+ghost use Rattle.std.specs.Prelude.{◌≡◌, ◌≤◌, ◌||◌, ◌++◌, ◌∷◌, [], IfOk, nat_lt, length, take, drop};
 ghost use Rattle.byte_strings.specs.Texts.{AreTexts, size_of, behind_first};
 ghost use Rattle.st_records.specs.declared.record.Explicit.TheVariants as explicits;
 ghost use Rattle.st_records.specs.declared.record.Phase.TheVariants as phases;
-ghost use Rattle.st_records.specs.Parts.{names_known};
-ghost use Rattle.st_records.specs.Packed.{explicit_from, phase_in, counted_in, commands_in, explicit_in, texts_size};
+ghost use Rattle.st_records.specs.Parts.{names_known, names_recorded, marks_known};
+ghost use Rattle.st_records.specs.Packed.{explicit_from, phase_in, counted_in, marks_in, commands_in, explicit_in, texts_size};
 
 use crate::limits::{MAX_COMMANDS, MAX_EXPLICIT_NAMES, MAX_HIDDEN_NAMES};
-use crate::record::{Entry, Explicit, Phase};
-use byte_strings::{ByteStrings, Iter};
+use crate::record::{Entry, Explicit, Named, Phase};
+use byte_strings::{ByteString, ByteStrings, Iter};
 use std::alloc::{AllocError, Global};
 use std::marker::Model;
 
@@ -20,6 +20,8 @@ const LENGTH_BYTES: usize = 4;
 #[derive(Clone, Copy, Debug, PartialEq, Eq)]
 enum Counted {
     All,
+    /// All, and the text of the marks, which stands in front of the commands and counts as one of them.
+    Marked,
     /// Not the explicit names, which aren't known.
     Unnamed,
     /// Neither commands nor explicit names: the recipe began again, or failed.
@@ -70,7 +72,8 @@ impl Standing {
 /// What the state knows of a target. Contracts see it as the entry.
 ///
 /// Commands, hidden names and explicit ones stand one behind the other in one allocation, each string behind its length. An
-/// entry without strings has none. Where the commands end is told by their lengths: most entries have one.
+/// entry without strings has none. Where the commands end is told by their lengths: most entries have one. The text of marks
+/// stands in front of them, so that it takes no field more.
 /// It takes 48 bytes in the table; a list each took 112, and an allocation each. Ranges of the file's bytes would keep all of
 /// a long log as long as the state, though most of it is superseded.
 #[derive(Debug)]
@@ -96,7 +99,7 @@ impl Model for PackedEntry {
       phase = phase_in e.standing;
       commands = commands_in (counted_in e.standing) (texts e.commands (take (texts_size e.commands e.bytes.items) e.bytes.items));
       hidden = texts e.hidden (take e.hidden_bytes (drop (texts_size e.commands e.bytes.items) e.bytes.items));
-      explicit = explicit_in (counted_in e.standing) (texts e.explicit (drop e.hidden_bytes (drop (texts_size e.commands e.bytes.items) e.bytes.items)));
+      explicit = explicit_in (counted_in e.standing) (texts e.commands (take (texts_size e.commands e.bytes.items) e.bytes.items)) (texts e.explicit (drop e.hidden_bytes (drop (texts_size e.commands e.bytes.items) e.bytes.items)));
     } };
 
     ghost invariant = { λ e. AreLists e.commands e.hidden e.explicit (texts_size e.commands e.bytes.items) e.hidden_bytes e.bytes.items };
@@ -130,23 +133,27 @@ impl PackedEntry {
         }
     }
 
-    /// An entry of these strings, which are copied as they lie; None stands for explicit names that aren't known.
+    /// An entry of these strings, which are copied as they lie.
     pub(crate) fn pack(
         alloc: Global,
         phase: Phase,
         commands: Iter<'_>,
         hidden: Iter<'_>,
-        explicit: Option<Iter<'_>>,
+        explicit: Named<'_>,
     ) -> Result<PackedEntry, AllocError>
         ensures { IfOk result (λ e. e ≡ record { phase = phase; commands = commands.entry; hidden = hidden.entry; explicit = explicit_from explicit.entry }) }
     {
         match explicit {
-            None => {
+            Named::Unknown => {
                 let none = Iter::empty();
                 PackedEntry::of_lists(alloc, phase, Counted::Unnamed, commands, hidden, none)
             }
-            Some(names) => {
+            Named::Known(names) => {
                 PackedEntry::of_lists(alloc, phase, Counted::All, commands, hidden, names)
+            }
+            Named::Marked(names, marks) => {
+                let front = in_front(alloc, marks, commands)?;
+                PackedEntry::of_lists(alloc, phase, Counted::Marked, front.iter(), hidden, names)
             }
         }
     }
@@ -159,7 +166,7 @@ impl PackedEntry {
         hidden: Iter<'_>,
         explicit: Iter<'_>,
     ) -> Result<PackedEntry, AllocError>
-        ensures { IfOk result (λ e. e ≡ record { phase = phase; commands = commands_in counted commands.entry; hidden = hidden.entry; explicit = explicit_in counted explicit.entry }) }
+        ensures { IfOk result (λ e. e ≡ record { phase = phase; commands = commands_in counted commands.entry; hidden = hidden.entry; explicit = explicit_in counted commands.entry explicit.entry }) }
     {
         let (commands, command_texts) = commands.texts();
         let (hidden, hidden_texts) = hidden.texts();
@@ -200,7 +207,7 @@ impl PackedEntry {
             phase,
             commands.iter(),
             hidden.iter(),
-            explicit.known(),
+            explicit.lend(),
         )
     }
 
@@ -229,6 +236,10 @@ impl PackedEntry {
     {
         match self.standing.counted() {
             Counted::HiddenAlone => Iter::empty(),
+            Counted::Marked => {
+                let (front, _behind) = parted(self.commands, self.bytes.as_slice());
+                behind_marks(Iter::of_texts(self.commands as usize, front))
+            }
             _ => {
                 let (commands, _behind) = parted(self.commands, self.bytes.as_slice());
                 Iter::of_texts(self.commands as usize, commands)
@@ -245,18 +256,49 @@ impl PackedEntry {
         Iter::of_texts(self.hidden as usize, hidden)
     }
 
-    /// The prerequisites that the makefile named, in order; None where they aren't known.
-    pub fn explicit(&self) -> Option<Iter<'_>>
+    /// What is said of the prerequisites that the makefile named.
+    pub(crate) fn lend(&self) -> Named<'_>
         ensures { explicit_from result ≡ self.now.explicit }
     {
         match self.standing.counted() {
-            Counted::HiddenAlone => None,
-            Counted::Unnamed => None,
+            Counted::HiddenAlone => Named::Unknown,
+            Counted::Unnamed => Named::Unknown,
             Counted::All => {
                 let (_commands, behind) = parted(self.commands, self.bytes.as_slice());
                 let (_hidden, explicit) = behind.split_at(self.hidden_bytes as usize);
-                Some(Iter::of_texts(self.explicit as usize, explicit))
+                Named::Known(Iter::of_texts(self.explicit as usize, explicit))
             }
+            Counted::Marked => {
+                let (front, behind) = parted(self.commands, self.bytes.as_slice());
+                let (_hidden, explicit) = behind.split_at(self.hidden_bytes as usize);
+                let names = Iter::of_texts(self.explicit as usize, explicit);
+                Named::Marked(
+                    names,
+                    marks_in(Iter::of_texts(self.commands as usize, front)),
+                )
+            }
+        }
+    }
+
+    /// The prerequisites that the makefile named, in order; None where they aren't known.
+    pub fn explicit(&self) -> Option<Iter<'_>>
+        ensures { result ≡ names_recorded self.now.explicit }
+    {
+        match self.lend() {
+            Named::Unknown => None,
+            Named::Known(names) => Some(names),
+            Named::Marked(names, _marks) => Some(names),
+        }
+    }
+
+    /// The text of the marks, empty where there are none.
+    pub(crate) fn marks(&self) -> &[u8]
+        ensures { result.now ≡ marks_known self.now.explicit }
+    {
+        match self.lend() {
+            Named::Unknown => &[],
+            Named::Known(_names) => &[],
+            Named::Marked(_names, marks) => marks,
         }
     }
 
@@ -274,9 +316,10 @@ impl PackedEntry {
     pub fn names(&self) -> Iter<'_>
         ensures { result ≡ names_known self.now.explicit }
     {
-        match self.explicit() {
-            None => Iter::empty(),
-            Some(names) => names,
+        match self.lend() {
+            Named::Unknown => Iter::empty(),
+            Named::Known(names) => names,
+            Named::Marked(names, _marks) => names,
         }
     }
 
@@ -317,12 +360,54 @@ impl PackedEntry {
             phase: self.phase(),
             commands: self.commands().copy(alloc)?,
             hidden: self.hidden().copy(alloc)?,
-            explicit: match self.explicit() {
-                None => Explicit::Unknown,
-                Some(names) => Explicit::Known(names.copy(alloc)?),
-            },
+            explicit: unpacked(alloc, self.lend())?,
         })
     }
+}
+
+fn unpacked(alloc: Global, explicit: Named<'_>) -> Result<Explicit, AllocError>
+    ensures { IfOk result (λ e. e ≡ explicit_from explicit.entry) }
+{
+    match explicit {
+        Named::Unknown => Ok(Explicit::Unknown),
+        Named::Known(names) => Ok(Explicit::Known(names.copy(alloc)?)),
+        Named::Marked(names, marks) => Ok(Explicit::Marked(
+            names.copy(alloc)?,
+            ByteString::from_slice(alloc, marks)?,
+        )),
+    }
+}
+
+/// The text of marks, and the commands behind it.
+fn in_front(alloc: Global, marks: &[u8], commands: Iter<'_>) -> Result<ByteStrings, AllocError>
+    ensures { IfOk result (λ front. front ≡ marks.now ∷ commands.entry) }
+{
+    let mut front = ByteStrings::empty(alloc);
+    front.push(marks)?;
+    for command in commands {
+        front.push(command)?;
+    }
+    Ok(front)
+}
+
+/// The text of marks in front of the commands.
+fn marks_in(front: Iter<'_>) -> &[u8]
+    ensures { result.now ≡ marks_in front.entry }
+{
+    let mut left = front;
+    match left.next() {
+        None => &[],
+        Some(marks) => marks,
+    }
+}
+
+/// The commands behind it.
+fn behind_marks(front: Iter<'_>) -> Iter<'_>
+    ensures { result ≡ drop 1 front.entry }
+{
+    let mut left = front;
+    let _marks = left.next();
+    left
 }
 
 /// The string that stands first, behind its length, is passed over.

@@ -2,7 +2,7 @@
 
 ghost use Rattle.std.specs.Prelude.{◌≡◌, ◌≤◌, IfOk, IsTrue, length};
 ghost use Rattle.st_records.specs.Parts.{is_kept};
-ghost use Rattle.st_records.specs.Encoding.{encoding};
+ghost use Rattle.st_records.specs.Encoding.{encoding_in};
 ghost use Rattle.st_records.specs.Clean.{IsClean};
 ghost use Rattle.st_records.specs.Tests.{has_too_many, fault_of};
 ghost use Rattle.st_records.specs.Event.{record_from};
@@ -10,7 +10,7 @@ ghost use Rattle.st_records.specs.Event.{record_from};
 use crate::limits::RecordFault;
 use crate::packed::PackedEntry;
 use crate::record::{Phase, Record};
-use crate::version::Version;
+use crate::version::Form;
 use byte_strings::ByteString;
 use std::alloc::{AllocError, Global};
 use std::marker::Model;
@@ -125,18 +125,18 @@ impl PackedRecord {
     pub(crate) fn fault_within(
         &self,
         alloc: Global,
-        version: Version,
+        form: Form,
         clean: bool,
         len: usize,
     ) -> Result<Option<RecordFault>, AllocError>
-        requires clean { IsTrue clean → IsClean version self.now }
-        requires length { length (encoding version self.now) ≤ len }
-        ensures { IfOk result (λ fault. fault ≡ fault_of version self.now) }
+        requires clean { IsTrue clean → IsClean form self.now }
+        requires length { length (encoding_in form self.now) ≤ len }
+        ensures { IfOk result (λ fault. fault ≡ fault_of form self.now) }
     {
-        if clean && len <= version.max_record_bytes() && !self.has_too_many() {
+        if clean && len <= form.max_record_bytes() && !self.has_too_many() {
             return Ok(None);
         }
-        Ok(self.unpack(alloc)?.fault(version))
+        Ok(self.unpack(alloc)?.fault(form))
     }
 
     fn has_too_many(&self) -> bool

@@ -3,7 +3,7 @@
 ghost use Rattle.std.specs.Prelude.{◌≡◌, IfOk};
 ghost use Rattle.st_records.specs.declared.record.Record.TheVariants as records;
 ghost use Rattle.st_records.specs.Packed.{explicit_from};
-ghost use Rattle.st_records.specs.Parts.{names_known, target_of, commands_of, hidden_of, explicit_of};
+ghost use Rattle.st_records.specs.Parts.{names_known, marks_known, target_of, commands_of, hidden_of, explicit_of};
 
 use byte_strings::{ByteString, ByteStrings, Iter};
 use std::alloc::{AllocError, Global};
@@ -23,6 +23,16 @@ pub enum Explicit {
     /// No record says them: the last one is of version 1, or the recipe was not run to its end.
     Unknown,
     Known(ByteStrings),
+    /// And which files the target and all that went into it were, as the text that `st_marks` reads and writes.
+    Marked(ByteStrings, ByteString),
+}
+
+/// What is said of explicit names, where it is lent.
+#[derive(Drop)]
+pub(crate) enum Named<'a> {
+    Unknown,
+    Known(Iter<'a>),
+    Marked(Iter<'a>, &'a [u8]),
 }
 
 impl Explicit {
@@ -33,16 +43,28 @@ impl Explicit {
         match self {
             Explicit::Unknown => Iter::empty(),
             Explicit::Known(names) => names.iter(),
+            Explicit::Marked(names, _marks) => names.iter(),
         }
     }
 
-    /// The names in order; None where they are unknown.
-    pub(crate) fn known(&self) -> Option<Iter<'_>>
+    /// The text of the marks, empty where there are none.
+    pub(crate) fn marks(&self) -> &[u8]
+        ensures { result.now ≡ marks_known self.now }
+    {
+        match self {
+            Explicit::Unknown => &[],
+            Explicit::Known(_names) => &[],
+            Explicit::Marked(_names, marks) => marks.as_slice(),
+        }
+    }
+
+    pub(crate) fn lend(&self) -> Named<'_>
         ensures { explicit_from result ≡ self.now }
     {
         match self {
-            Explicit::Unknown => None,
-            Explicit::Known(names) => Some(names.iter()),
+            Explicit::Unknown => Named::Unknown,
+            Explicit::Known(names) => Named::Known(names.iter()),
+            Explicit::Marked(names, marks) => Named::Marked(names.iter(), marks.as_slice()),
         }
     }
 
@@ -52,6 +74,9 @@ impl Explicit {
         match self {
             Explicit::Unknown => Ok(Explicit::Unknown),
             Explicit::Known(names) => Ok(Explicit::Known(names.copy(alloc)?)),
+            Explicit::Marked(names, marks) => {
+                Ok(Explicit::Marked(names.copy(alloc)?, marks.copy(alloc)?))
+            }
         }
     }
 }
@@ -92,7 +117,7 @@ pub enum Record {
         target: ByteString,
         commands: ByteStrings,
         hidden: ByteStrings,
-        /// Known in version 2, and unknown in version 1.
+        /// Known in version 2, and unknown in version 1; marked in version 4.
         explicit: Explicit,
     },
     /// Its recipe failed with this status.
@@ -150,6 +175,17 @@ impl Record {
             Record::Kept { entry, .. } => entry.explicit.names(),
             Record::Begun { .. } => Iter::empty(),
             Record::Failed { .. } => Iter::empty(),
+        }
+    }
+
+    pub(crate) fn marks(&self) -> &[u8]
+        ensures { result.now ≡ marks_known (explicit_of self.now) }
+    {
+        match self {
+            Record::Done { explicit, .. } => explicit.marks(),
+            Record::Kept { entry, .. } => entry.explicit.marks(),
+            Record::Begun { .. } => &[],
+            Record::Failed { .. } => &[],
         }
     }
 

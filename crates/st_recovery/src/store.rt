@@ -15,6 +15,7 @@ ghost use Rattle.st_file.specs.Side.{HoldsUpTo};
 ghost use Rattle.st_file.specs.Grown.{IsFull};
 ghost use Rattle.st_file.specs.declared.commit_fault.CommitFault.TheVariants as faults;
 ghost use Rattle.st_recovery.specs.Stored.{IsStoredOn, AllRecover, AllRecoverEither};
+ghost use Rattle.st_state.proofs.OneProofLemmas.{AllCanBeKept-prop};
 
 use st_disk::Disk;
 use st_file::{CommitFault, Log};
@@ -33,7 +34,7 @@ pub struct Store<D: Disk + Drop> {
     pub ghost stored: { D.honest → log.dead ≡ false → IsStoredOn (D.seen log.disk) (now (D.moments log.disk)) log.side
         log.version log.generation log.end state },
     /// Each entry of the state can be written as a kept record.
-    pub ghost keepable: { AllCanBeKept state },
+    pub ghost keepable: { AllCanBeKept state } by { AllCanBeKept-prop state },
 }
 
 impl<D: Disk + Drop> Store<D> {

@@ -15,11 +15,11 @@ use Rattle.st_records.specs.declared.limits.RecordFault.TheVariants.{EmptyName, 
 use Rattle.st_records.specs.declared.record.Phase.{Phase}
 use Rattle.st_records.specs.declared.record.Phase.TheVariants as phases
 use Rattle.st_records.specs.declared.record.Explicit.{Explicit}
-use Rattle.st_records.specs.declared.record.Explicit.TheVariants.{Unknown, Known}
+use Rattle.st_records.specs.declared.record.Explicit.TheVariants.{Unknown, Known, Marked}
 use Rattle.st_records.specs.declared.record.Entry.{Entry}
 use Rattle.st_records.specs.declared.record.Record.{Record}
 use Rattle.st_records.specs.declared.record.Record.TheVariants as records
-use Rattle.st_records.specs.Parts.{names_of, names_known, commands_of, phase_status}
+use Rattle.st_records.specs.Parts.{names_of, names_known, commands_of, phase_status, IsUnmarked}
 use Rattle.st_records.specs.Encoding.{string, strings, phase_fields, kept_explicit, entry_fields}
 use Rattle.st_records.specs.Limits.{max_name_bytes, max_record_bytes, counted_length, HasTooMany, SaysExplicit, IsWithin, IsGood}
 use Rattle.st_state.specs.State.{StateMap, hidden_in, unfinished, apply_record, replay}
@@ -44,6 +44,7 @@ any_none P h = absurd (omega (arith, h.2))
 abbrev explicit_length : Explicit → ℕ
 explicit_length Unknown = 0
 explicit_length (Known names) = 4 + length (flat_map string names)
+explicit_length (Marked names marks) = 4 + length (flat_map string names)
 
 -- the bytes that count of a record with a target and lists
 abbrev list_bytes : List ℕ → (commands hidden : List (List ℕ)) → Explicit → ℕ
@@ -58,6 +59,7 @@ length-phase_fields (phases.Failed status) = refl
 length-kept_explicit : (e : Explicit) → length (kept_explicit Two e) ≡ 1 + explicit_length e
 length-kept_explicit Unknown = refl
 length-kept_explicit (Known names) = omega arith
+length-kept_explicit (Marked names marks) = omega arith
 
 length-lists : (commands hidden : List (List ℕ)) (last : List ℕ) → length (strings commands ++ (strings hidden ++ last)) ≡ 8 + length (flat_map string commands) + length (flat_map string hidden) + length last
 length-lists commands hidden last =
@@ -87,6 +89,14 @@ counted-done Two target commands hidden Unknown says = absurd says
 counted-done Two target commands hidden (Known names) says =
     let after_target = length-append target (strings commands ++ (strings hidden ++ strings names)) in
     omega (arith, after_target, length-lists commands hidden (strings names))
+counted-done Two target commands hidden (Marked names marks) says = absurd says
+
+-- what a done record can say a kept one can
+unmarked : (version : Version) (target : List ℕ) (commands hidden : List (List ℕ)) (explicit : Explicit) → SaysExplicit version (records.Done target commands hidden explicit) → IsUnmarked explicit
+unmarked One target commands hidden explicit says = subst IsUnmarked (sym says) tt
+unmarked Two target commands hidden Unknown says = tt
+unmarked Two target commands hidden (Known names) says = tt
+unmarked Two target commands hidden (Marked names marks) says = absurd says
 
 -- ---- limits
 
@@ -134,7 +144,7 @@ kept_from_done version target commands hidden explicit good =
     record {
       within = within_by version r (records.Kept target entry) good.within (λ P h. h) (λ P h. h) short (λ h. h);
       status = omega arith;
-      explicit = tt;
+      explicit = unmarked version target commands hidden explicit good.explicit;
     }
 
 kept_from_kept : (version : Version) (target : List ℕ) (e : Entry) → IsGood version (records.Kept target e) → CanBeKept target e
@@ -142,7 +152,7 @@ kept_from_kept One target e good =
     let r = records.Kept target e in
     let short : counted_length Two r ≤ max_record_bytes Two =
     omega (arith, counted-kept target e, counted-kept_in_one target e good.explicit, counted_within One r good.within) in
-    record { within = within_by One r r good.within (λ P h. h) (λ P h. h) short (λ h. h); status = good.status; explicit = tt }
+    record { within = within_by One r r good.within (λ P h. h) (λ P h. h) short (λ h. h); status = good.status; explicit = subst IsUnmarked (sym good.explicit) tt }
 kept_from_kept Two target e good = good
 
 -- a target whose recipe is not done, with the hidden names that were known of it

@@ -1,3 +1,4 @@
+pub mod OneProofLemmas
 pub mod StateLemmas
 pub mod KeepableLemmas
 pub mod KeptLemmas

@@ -8,7 +8,7 @@ use Rattle.std.proofs.lemmas.Map.Lookups.{map_keys}
 use Rattle.st_records.specs.declared.record.Phase.{Phase}
 use Rattle.st_records.specs.declared.record.Phase.TheVariants as phases
 use Rattle.st_records.specs.declared.record.Explicit.{Explicit}
-use Rattle.st_records.specs.declared.record.Explicit.TheVariants.{Unknown, Known}
+use Rattle.st_records.specs.declared.record.Explicit.TheVariants.{Unknown, Known, Marked}
 use Rattle.st_records.specs.declared.record.Entry.{Entry}
 use Rattle.st_records.specs.declared.record.Record.{Record}
 use Rattle.st_records.specs.declared.record.Record.TheVariants as records
@@ -68,23 +68,26 @@ numbered_phase-phase_number phases.Begun = refl
 numbered_phase-phase_number phases.Done = refl
 numbered_phase-phase_number (phases.Failed status) = refl
 
--- explicit names as strings or none
-abbrev pub known_names : Explicit → Option (List (List ℕ))
+-- explicit names, and their marks, as strings or none
+abbrev pub known_names : Explicit → Option (List (List ℕ) × Option (List ℕ))
 known_names Unknown = None
-known_names (Known names) = Some names
+known_names (Known names) = Some (names, None)
+known_names (Marked names marks) = Some (names, Some marks)
 
-abbrev pub named_explicit : Option (List (List ℕ)) → Explicit
+abbrev pub named_explicit : Option (List (List ℕ) × Option (List ℕ)) → Explicit
 named_explicit None = Unknown
-named_explicit (Some names) = Known names
+named_explicit (Some (names, None)) = Known names
+named_explicit (Some (names, Some marks)) = Marked names marks
 
 pub named_explicit-known_names : (e : Explicit) → named_explicit (known_names e) ≡ e
 named_explicit-known_names Unknown = refl
 named_explicit-known_names (Known names) = refl
+named_explicit-known_names (Marked names marks) = refl
 
 abbrev pub entry_code : Coded Entry
 entry_code =
-    code_by (Option (Option ℕ) × (List (List ℕ) × (List (List ℕ) × Option (List (List ℕ)))))
-    (coded× (coded_option (coded_option coded_ℕ)) (coded× (coded_list (coded_list coded_ℕ)) (coded× (coded_list (coded_list coded_ℕ)) (coded_option (coded_list (coded_list coded_ℕ))))))
+    code_by (Option (Option ℕ) × (List (List ℕ) × (List (List ℕ) × Option (List (List ℕ) × Option (List ℕ)))))
+    (coded× (coded_option (coded_option coded_ℕ)) (coded× (coded_list (coded_list coded_ℕ)) (coded× (coded_list (coded_list coded_ℕ)) (coded_option (coded× (coded_list (coded_list coded_ℕ)) (coded_option (coded_list coded_ℕ)))))))
     (λ e. (phase_number e.phase, (e.commands, (e.hidden, known_names e.explicit))))
     (λ p. record { phase = numbered_phase p.0; commands = (p.1).0; hidden = ((p.1).1).0; explicit = named_explicit ((p.1).1).1 })
     (λ e i. record { phase = numbered_phase-phase_number e.phase i; commands = e.commands; hidden = e.hidden; explicit = named_explicit-known_names e.explicit i })

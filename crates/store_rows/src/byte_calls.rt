@@ -1,7 +1,7 @@
 //! Calls of the bytes of records and of sides.
 ghost use Rattle.std.specs.Prelude.{IfOk};
-ghost use Rattle.st_records.specs.declared.version.Version.TheVariants as versions;
-ghost use Rattle.st_records.specs.Limits.{IsGood};
+ghost use Rattle.st_records.specs.declared.record.Record.TheVariants as records;
+ghost use Rattle.st_records.specs.Limits.{IsGoodIn};
 
 use crate::notation::record;
 use crate::shown::say_once;
@@ -10,7 +10,10 @@ use byte_strings::{ByteString, ByteStrings};
 use row_files::{RowFault, Words, bytes};
 use st_disk::Which;
 use st_file::{Extent, OpenFault, read_side, side_of};
-use st_records::{DecodeFault, Entry, Explicit, PackedRecord, Phase, Record, Version, decode};
+use st_records::{
+    DecodeFault, Entry, Event, Explicit, Form, PackedEntry, PackedRecord, Phase, Record,
+    append_kept_in, decode_in, room_after_kept_in,
+};
 use std::alloc::{AllocError, Global};
 
 /// How many strings a list has, and how many bytes each of them.
@@ -42,13 +45,15 @@ impl Drop for Decoded {
 
 /// What some bytes are read as.
 #[derive(Clone, Copy)]
-enum Form {
+enum Reading {
     /// A record of a version, and how many bytes it has.
-    Record(Version),
+    Record(Form),
     /// How many bytes a record of a version has.
-    Length(Version),
-    /// A record of version 2, which is written again.
-    Written,
+    Length(Form),
+    /// A record of a version, which is written again.
+    Written(Form),
+    /// A kept record of a version, which is written again from its entry.
+    Kept(Form),
     Side(Which),
     /// How many records side A has, and where they end.
     Extent,
@@ -68,22 +73,24 @@ pub(crate) fn call_bytes(
     }
 }
 
-/// `decode VERSION`, `length VERSION`, `encode`, `side SIDE` or `extent`.
-fn form_of(name: &str, words: &mut Words<'_>) -> Result<Form, RowFault> {
+/// `decode VERSION`, `length VERSION`, `encode VERSION`, `keep VERSION`, `side SIDE` or `extent`.
+fn reading_of(name: &str, words: &mut Words<'_>) -> Result<Reading, RowFault> {
     match name {
-        "decode" => Ok(Form::Record(version(words)?)),
-        "length" => Ok(Form::Length(version(words)?)),
-        "encode" => Ok(Form::Written),
-        "side" => Ok(Form::Side(side_named(words.next())?)),
-        "extent" => Ok(Form::Extent),
+        "decode" => Ok(Reading::Record(version(words)?)),
+        "length" => Ok(Reading::Length(version(words)?)),
+        "encode" => Ok(Reading::Written(version(words)?)),
+        "keep" => Ok(Reading::Kept(version(words)?)),
+        "side" => Ok(Reading::Side(side_named(words.next())?)),
+        "extent" => Ok(Reading::Extent),
         _ => Err(RowFault::Word),
     }
 }
 
-fn version(words: &mut Words<'_>) -> Result<Version, RowFault> {
+fn version(words: &mut Words<'_>) -> Result<Form, RowFault> {
     match words.next() {
-        "1" => Ok(Version::One),
-        "2" => Ok(Version::Two),
+        "1" => Ok(Form::Old),
+        "2" => Ok(Form::Plain),
+        "4" => Ok(Form::Marked),
         _ => Err(RowFault::Word),
     }
 }
@@ -94,9 +101,9 @@ fn whole(
     name: &str,
     words: &mut Words<'_>,
 ) -> Result<(), RowFault> {
-    let form = form_of(name, words)?;
+    let reading = reading_of(name, words)?;
     let bytes = bytes::read(alloc, words.next())?;
-    Ok(say_read(alloc, said, form, bytes.as_slice())?)
+    Ok(say_read(alloc, said, reading, bytes.as_slice())?)
 }
 
 /// `each FROM TO CALL`: what is read of each beginning of the bytes, from one length up to but not including the other.
@@ -104,21 +111,21 @@ fn whole(
 fn each(alloc: Global, said: &mut String, words: &mut Words<'_>) -> Result<(), RowFault> {
     let from = words.number()?;
     let to = words.number()?;
-    let form = form_of(words.next(), words)?;
+    let reading = reading_of(words.next(), words)?;
     let bytes = bytes::read(alloc, words.next())?;
-    say_beginnings(alloc, said, form, &bytes, from, to)
+    say_beginnings(alloc, said, reading, &bytes, from, to)
 }
 
 fn say_beginnings(
     alloc: Global,
     said: &mut String,
-    form: Form,
+    reading: Reading,
     bytes: &[u8],
     from: usize,
     to: usize,
 ) -> Result<(), RowFault> {
     for len in from..to {
-        say_beginning(alloc, said, form, bytes.get(..len))?;
+        say_beginning(alloc, said, reading, bytes.get(..len))?;
     }
     Ok(())
 }
@@ -126,33 +133,39 @@ fn say_beginnings(
 fn say_beginning(
     alloc: Global,
     said: &mut String,
-    form: Form,
+    reading: Reading,
     beginning: Option<&[u8]>,
 ) -> Result<(), RowFault> {
     let beginning = beginning.ok_or(RowFault::Word)?;
     let mut text = String::new(alloc);
-    say_read(alloc, &mut text, form, beginning)?;
+    say_read(alloc, &mut text, reading, beginning)?;
     Ok(say_once(said, text.as_str())?)
 }
 
 /// Says what bytes hold, or the fault.
-fn say_read(alloc: Global, said: &mut String, form: Form, bytes: &[u8]) -> Result<(), AllocError> {
-    match form {
-        Form::Record(version) => say_record(alloc, said, version, bytes),
-        Form::Length(version) => say_length(alloc, said, version, bytes),
-        Form::Written => say_written(alloc, said, bytes),
-        Form::Side(side) => write!(said, "{:?}", side_of(alloc, side, bytes)),
-        Form::Extent => say_extent(alloc, said, bytes),
+fn say_read(
+    alloc: Global,
+    said: &mut String,
+    reading: Reading,
+    bytes: &[u8],
+) -> Result<(), AllocError> {
+    match reading {
+        Reading::Record(form) => say_record(alloc, said, form, bytes),
+        Reading::Length(form) => say_length(alloc, said, form, bytes),
+        Reading::Written(form) => say_written(alloc, said, form, bytes),
+        Reading::Kept(form) => say_kept(alloc, said, form, bytes),
+        Reading::Side(side) => write!(said, "{:?}", side_of(alloc, side, bytes)),
+        Reading::Extent => say_extent(alloc, said, bytes),
     }
 }
 
 fn say_record(
     alloc: Global,
     said: &mut String,
-    version: Version,
+    form: Form,
     bytes: &[u8],
 ) -> Result<(), AllocError> {
-    match decode(alloc, version, bytes) {
+    match decode_in(alloc, form, bytes) {
         Ok((record, len)) => say_unpacked(alloc, said, &record, len),
         Err(fault) => write!(said, "{fault:?}"),
     }
@@ -169,42 +182,84 @@ fn say_unpacked(
 }
 
 /// How many bytes a record has.
-fn length(alloc: Global, version: Version, bytes: &[u8]) -> Result<usize, DecodeFault> {
-    let (_record, len) = decode(alloc, version, bytes)?;
+fn length(alloc: Global, form: Form, bytes: &[u8]) -> Result<usize, DecodeFault> {
+    let (_record, len) = decode_in(alloc, form, bytes)?;
     Ok(len)
 }
 
 fn say_length(
     alloc: Global,
     said: &mut String,
-    version: Version,
+    form: Form,
     bytes: &[u8],
 ) -> Result<(), AllocError> {
-    match length(alloc, version, bytes) {
+    match length(alloc, form, bytes) {
         Ok(len) => write!(said, "{len} bytes"),
         Err(fault) => write!(said, "{fault:?}"),
     }
 }
 
-/// The record in bytes of version 2.
-fn good_of(alloc: Global, bytes: &[u8]) -> Result<Decoded, DecodeFault>
-    ensures { IfOk result (λ d. IsGood versions.Two d.note) }
+/// The record in bytes of this form.
+fn good_of(alloc: Global, form: Form, bytes: &[u8]) -> Result<Decoded, DecodeFault>
+    ensures { IfOk result (λ d. IsGoodIn form d.note) }
 {
-    let (packed, _len) = decode(alloc, Version::Two, bytes)?;
+    let (packed, _len) = decode_in(alloc, form, bytes)?;
     let note = packed.unpack(alloc)?;
     Ok(Decoded { note })
 }
 
-fn encoded(alloc: Global, bytes: &[u8]) -> Result<Vec<u8>, DecodeFault> {
-    let decoded = good_of(alloc, bytes)?;
-    let encoded = decoded.note.encode(alloc);
+fn encoded(alloc: Global, form: Form, bytes: &[u8]) -> Result<Vec<u8>, DecodeFault> {
+    let decoded = good_of(alloc, form, bytes)?;
+    let encoded = decoded.note.encode_in(alloc, form);
     drop(decoded);
     Ok(encoded?)
 }
 
-fn say_written(alloc: Global, said: &mut String, bytes: &[u8]) -> Result<(), AllocError> {
-    match encoded(alloc, bytes) {
+fn say_written(
+    alloc: Global,
+    said: &mut String,
+    form: Form,
+    bytes: &[u8],
+) -> Result<(), AllocError> {
+    match encoded(alloc, form, bytes) {
         Ok(written) => bytes::say_all(said, written.as_slice()),
+        Err(fault) => write!(said, "{fault:?}"),
+    }
+}
+
+/// The kept record of an entry, and what it leaves of 100 bytes.
+fn kept_bytes(
+    alloc: Global,
+    form: Form,
+    name: &[u8],
+    entry: &PackedEntry,
+) -> Result<(Vec<u8>, Option<usize>), AllocError>
+    requires { IsGoodIn form (records.Kept name.now entry.now) }
+{
+    let mut out = Vec::new(alloc);
+    append_kept_in(&mut out, form, name, entry)?;
+    Ok((out, room_after_kept_in(form, name, entry, 100)))
+}
+
+fn kept_again(
+    alloc: Global,
+    form: Form,
+    bytes: &[u8],
+) -> Result<(Vec<u8>, Option<usize>), DecodeFault> {
+    let (record, _len) = decode_in(alloc, form, bytes)?;
+    let (target, event) = record.into_parts();
+    match event {
+        Event::Kept(entry) => Ok(kept_bytes(alloc, form, target.as_slice(), &entry)?),
+        _ => Ok((Vec::new(alloc), None)),
+    }
+}
+
+fn say_kept(alloc: Global, said: &mut String, form: Form, bytes: &[u8]) -> Result<(), AllocError> {
+    match kept_again(alloc, form, bytes) {
+        Ok((written, left)) => {
+            bytes::say_all(said, written.as_slice())?;
+            write!(said, " {left:?} of 100")
+        }
         Err(fault) => write!(said, "{fault:?}"),
     }
 }

@@ -17,7 +17,7 @@ loop-preserved c = (
   λ found.
       let one = c.still_clean-found.ensures found in
       let before = c.loop.invariant.2 one.0 in
-      (before.0, more_clean c.args.version c.loop.invariant.0 c.in_ok-item.item.now before.1 one.1),
+      (before.0, more_clean c.args.form c.loop.invariant.0 c.in_ok-item.item.now before.1 one.1),
 )
 
 pub returns-clause-items : goal.returns-clause-items

@@ -8,4 +8,4 @@ use Rattle.st_records.proofs.decoder.behind_items.Given as goal
 abbrev pub invariant-loop : goal.invariant-loop
 invariant-loop l = (front : List (List ℕ))
     × (with_front front (items_at (l.count - l.counter) l.rest) ≡ items_at l.count l.bytes)
-    × (IsTrue l.found → IsTrue l.clean × AreClean l.version front)
+    × (IsTrue l.found → IsTrue l.clean × AreClean l.form front)

@@ -35,4 +35,4 @@ returns-clause-clean c =
     let cut : length c.args.bytes.now - length c.in_ok-found.behind.now ≡ read.0 = omega (arith, read.1) in
     let front : c.split_at.result.0.now ≡ take read.0 c.args.bytes.now = c.split_at.ensures.front ∙ ap (λ (n : ℕ). take n c.args.bytes.now) cut in
     let items : has.0 ≡ c.of_texts.result = read.3 ∙ ap (texts c.args.count) (sym front) ∙ sym c.of_texts.ensures in
-    λ found. (let before = has.2 found in (before.0, subst (AreClean c.args.version) items before.1))
+    λ found. (let before = has.2 found in (before.0, subst (AreClean c.args.form) items before.1))

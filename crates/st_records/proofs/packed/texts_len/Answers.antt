@@ -1,7 +1,5 @@
-use Rattle.std.proofs.Common.{◌∙◌, ◌≡◌, ◌+◌, ◌-◌, length, sym, subst, ap, arith}
-use Rattle.byte_strings.specs.Texts.{behind_first}
-use Rattle.st_records.specs.Packed.{texts_size}
-use Rattle.st_records.proofs.PackedLemmas.{LieInFront, first_whole, first_passed}
+use Rattle.std.proofs.Common.{arith}
+use Rattle.st_records.proofs.PackedLemmas.{first_whole, first_passed}
 use Rattle.st_records.proofs.packed.texts_len.Goals as goal
 
 pub behind_first-rest-requires-clause-string : goal.behind_first-rest-requires-clause-string

@@ -11,5 +11,5 @@ invariant-loop-name l = record {
   room : l.left + length (flat_map string l.fn.names) ≡ l.fn.room + length (flat_map string l.name-iterator);
   empty : list_any is_empty_name l.fn.names ≡ list_any is_empty_name l.name-iterator;
   bad : list_any is_bad_name l.fn.names ≡ list_any is_bad_name l.name-iterator;
-  long : list_any (is_long_name l.fn.version) l.fn.names ≡ list_any (is_long_name l.fn.version) l.name-iterator;
+  long : list_any (is_long_name l.fn.form) l.fn.names ≡ list_any (is_long_name l.fn.form) l.name-iterator;
 }

@@ -1,7 +1,7 @@
 use Rattle.std.proofs.Common.{rules, sym, subst}
 use Rattle.byte_strings.specs.Texts.{AreTexts}
 use Rattle.byte_strings.proofs.TextLemmas.{AreTexts-few}
-use Rattle.st_records.proofs.PackedLemmas.{IsParted, joined_parts}
+use Rattle.st_records.proofs.PackedLemmas.{joined_parts}
 use Rattle.st_records.proofs.packed.PackedEntry.of_lists.Goals as goal
 
 pub overflow_cast-result : goal.overflow_cast-result
