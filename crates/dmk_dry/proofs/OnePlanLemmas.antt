@@ -26,7 +26,7 @@ use Rattle.mk_profile.specs.declared.profile.Profile.{Profile}
 use Rattle.dmk_reading.specs.Definitions.{first_defined}
 use Rattle.dmk_reading.specs.Keeping.{keeps}
 use Rattle.dmk_reading.specs.declared.makefiles.Makefiles.{Makefiles}
-use Rattle.dmk_reading.specs.Lost.{IsLost, unmade, stands_on}
+use Rattle.dmk_reading.specs.Lost.{IsLost, is_one, stands_on}
 use Rattle.dmk_reading.specs.Passing.{Lists, at_end, behind, without, no_marks, IsListing}
 use Rattle.dmk_reading.specs.Planned.{IsStateOn, IsGraphOf, judged_graph}
 use Rattle.dmk_dry.specs.Planned.{IsPlanned, Plans}
@@ -37,7 +37,7 @@ use Rattle.mk_eval.specs.Output.{World}
 -- ---- the same nodes are lost
 
 lost_in : (a b : Graph) → required_in a ≡ required_in b → ((n : ℕ) → has a.unmade.items n ≡ has b.unmade.items n) → (n : ℕ) → IsLost a n → IsLost b n
-lost_in a b required named _ (unmade {n = n} there) = unmade (sym (named n) ∙ there)
+lost_in a b required named _ (is_one {n = n} there) = is_one (sym (named n) ∙ there)
 lost_in a b required named _ (stands_on {n = n} {m = m} needs lost) =
     stands_on {m = m} (ap (λ g. has (row g n) m) (sym required) ∙ needs) (lost_in a b required named m lost)
 

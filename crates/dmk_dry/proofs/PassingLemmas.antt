@@ -26,7 +26,7 @@ use Rattle.dmk_dry.specs.Planned.{Plans}
 use Rattle.dmk_reading.specs.Planned.{judged_graph}
 use Rattle.dmk_reading.specs.declared.makefiles.Makefiles.{Makefiles}
 use Rattle.dmk_reading.specs.Lost.{IsLost}
-use Rattle.dmk_reading.specs.Passing.{Lists, at_end, behind, without, no_marks, PassesEach}
+use Rattle.dmk_reading.specs.Passing.{Lists, at_end, behind, without, no_marks}
 use Rattle.dmk_dry.specs.Listing.{ListsFault, here, later, beyond, IsListingFault, printed, text_of, recipe_in, passage_text, listing_text}
 use Rattle.mk_profile.specs.declared.profile.Profile.{Profile}
 use Rattle.mk_eval.specs.Output.{World}
@@ -110,11 +110,6 @@ order_within graph i n next below =
     let parted : order ≡ take i order ++ n ∷ drop (i + 1) order = sym (take-append-drop i order) ∙ ap (λ ns. take i order ++ ns) next in
     let both = sym (list_all-append is_below (take i order) (n ∷ drop (i + 1) order)) ∙ ap (list_all is_below) (sym parted) ∙ below in
     ltb-true n (length graph.nodes.items) (and_parts (is_below n) _ (and_parts (list_all is_below (take i order)) _ both).1).0
-
--- that graph is passed as the one that it is made of
-pub passes_judged : (all : Bool) (graph judged : Graph) → judged ≡ judged_graph all graph → PassesEach graph → PassesEach judged
-passes_judged true graph judged is passes = subst PassesEach (sym is) (record { order = passes.order; once = passes.once })
-passes_judged false graph judged is passes = subst PassesEach (sym is) passes
 
 -- ---- where all targets are to be made
 

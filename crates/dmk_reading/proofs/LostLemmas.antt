@@ -1,4 +1,4 @@
--- What is marked while the lost nodes of a graph are looked for.
+-- What is marked while the nodes of a graph that stand on some are looked for.
 use Rattle.std.proofs.Common.{◌≡◌, ◌∙◌, inl, inr, ℕ, ◌+◌, ◌<◌, ◌≤◌, Bool, true, false, ◌&&◌, ◌||◌, nat_eq, nat_lt, List, [], ◌∷◌, ◌++◌, length, take, drop, get_or, append_assoc, append-nil, refl, sym, ap, subst, arith, eq-eqb, eqb-true, lt-ltb, true≢false}
 use Rattle.std.specs.Prelude.{◌↔◌, replicate, if◌then◌else◌}
 use Rattle.std.specs.List.{list_any, list_all}
@@ -14,12 +14,12 @@ use Rattle.mk_graph.proofs.RowLemmas.{list_all-has, has-push, times_without_has}
 use Rattle.mk_nodes.specs.Graph.{required_in, counting_in}
 use Rattle.mk_nodes.specs.declared.graph.Graph.{Graph}
 use Rattle.mk_plan.specs.Nodes.{is_marked}
-use Rattle.dmk_reading.specs.Lost.{IsLost, unmade, stands_on}
+use Rattle.dmk_reading.specs.Lost.{IsLost, StandsOn, is_one, stands_on}
 use Rattle.dmk_reading.specs.Passing.{PassesEach}
 
 -- where something makes each name, none is lost
 pub none_lost : (graph : Graph) → graph.unmade.items ≡ [] → (n : ℕ) → IsLost graph n → ⊥
-none_lost graph none _ (unmade {n = n} in_it) = true≢false (sym in_it ∙ ap (λ us. has us n) none)
+none_lost graph none _ (is_one {n = n} in_it) = true≢false (sym in_it ∙ ap (λ us. has us n) none)
 none_lost graph none _ (stands_on {m = m} needs lost) = none_lost graph none m lost
 
 pub nothing_in : {A : Type 0} (xs : List A) → length xs ≡ 0 → xs ≡ []
@@ -52,6 +52,16 @@ needed_before graph passes i n next m there =
     let parted : order ≡ take i order ++ n ∷ drop (i + 1) order = sym (take-append-drop i order) ∙ ap (λ ns. take i order ++ ns) next in
     passed_before (counting_in graph) [] (take i order) n (drop (i + 1) order) (subst (IsPlanAfter (counting_in graph) []) parted passes.order) m
     (wider (required_in graph) graph.soft graph.soft_dropped (graph.soft_rows ∙ sym graph.required_rows) n m there)
+
+needed_inside : (graph : Graph) (n m : ℕ) → has (row (required_in graph) n) m ≡ true → m < length graph.nodes.items
+needed_inside graph n m there = subst (λ l. m < l) graph.required_rows (below_from_closed (required_in graph) graph.required_closed n m there)
+
+-- what stands on some nodes of the graph stands on others, where all of these are among them
+pub stands_on_others : (graph : Graph) (These Others : ℕ → Type 0) → ((m : ℕ) → m < length graph.nodes.items → These m → Others m) →
+    (n : ℕ) → n < length graph.nodes.items → StandsOn graph These n → StandsOn graph Others n
+stands_on_others graph These Others among _ inside (is_one {n = n} these) = is_one (among n inside these)
+stands_on_others graph These Others among _ inside (stands_on {n = n} {m = m} needs on) =
+    stands_on {m = m} needs (stands_on_others graph These Others among m (needed_inside graph n m needs) on)
 
 one_not_none : (count : ℕ) → count ≡ 1 → count ≡ 0 → ⊥
 one_not_none count one none = omega (arith, one, none)
@@ -102,39 +112,43 @@ more_marked nodes first marks i n within count so_far =
     ∙ ap (λ t. is_marked first n || (t && nat_lt n (length first)))
     (sym (has-push (take i nodes) (get_or nodes i 0) n) ∙ ap (λ ns. has ns n) (sym (take_more nodes i 0 within)))
 
--- what is marked behind so many nodes of the order
-pub record LostSoFar (graph : Graph) (marks : List Bool) (i : ℕ) : Type 0 where
-  pub count : length marks ≡ length graph.nodes.items
-  pub sound : (n : ℕ) → is_marked marks n ≡ true → IsLost graph n
-  pub named : (n : ℕ) → n < length graph.nodes.items → has graph.unmade.items n ≡ true → is_marked marks n ≡ true
-  pub passed : PassesEach graph → (n : ℕ) → n < length graph.nodes.items → has (take i graph.order.items) n ≡ true → IsLost graph n → is_marked marks n ≡ true
+-- the numbers of a list
+abbrev pub AreIn : List ℕ → (n : ℕ) → Type 0
+AreIn first n = has first n ≡ true
 
-pub lost_start : (graph : Graph) (marks : List Bool) → length marks ≡ length graph.nodes.items →
-    ((n : ℕ) → is_marked marks n ≡ (has graph.unmade.items n && nat_lt n (length graph.nodes.items))) → LostSoFar graph marks 0
-lost_start graph marks count are = record {
+-- what is marked behind so many nodes of the order
+pub record StandSoFar (graph : Graph) (first : List ℕ) (marks : List Bool) (i : ℕ) : Type 0 where
+  pub count : length marks ≡ length graph.nodes.items
+  pub sound : (n : ℕ) → is_marked marks n ≡ true → StandsOn graph (AreIn first) n
+  pub named : (n : ℕ) → n < length graph.nodes.items → has first n ≡ true → is_marked marks n ≡ true
+  pub passed : PassesEach graph → (n : ℕ) → n < length graph.nodes.items → has (take i graph.order.items) n ≡ true → StandsOn graph (AreIn first) n → is_marked marks n ≡ true
+
+pub stand_start : (graph : Graph) (first : List ℕ) (marks : List Bool) → length marks ≡ length graph.nodes.items →
+    ((n : ℕ) → is_marked marks n ≡ (has first n && nat_lt n (length graph.nodes.items))) → StandSoFar graph first marks 0
+stand_start graph first marks count are = record {
   count = count;
-  sound = λ n marked. unmade (and_parts (has graph.unmade.items n) (nat_lt n (length graph.nodes.items)) (sym (are n) ∙ marked)).0;
+  sound = λ n marked. is_one (and_parts (has first n) (nat_lt n (length graph.nodes.items)) (sym (are n) ∙ marked)).0;
   named = λ n within there.
-      are n ∙ and_from (has graph.unmade.items n) (nat_lt n (length graph.nodes.items)) there (lt-ltb n (length graph.nodes.items) within);
+      are n ∙ and_from (has first n) (nat_lt n (length graph.nodes.items)) there (lt-ltb n (length graph.nodes.items) within);
   passed = λ passes n within none lost. absurd (true≢false (sym none));
 }
 
-module _ (graph : Graph) (marks new : List Bool) (i n : ℕ) (within : i < length graph.order.items)
-    (next : drop i graph.order.items ≡ n ∷ drop (i + 1) graph.order.items) (so_far : LostSoFar graph marks i) (count : length new ≡ length marks)
+module _ (graph : Graph) (first : List ℕ) (marks new : List Bool) (i n : ℕ) (within : i < length graph.order.items)
+    (next : drop i graph.order.items ≡ n ∷ drop (i + 1) graph.order.items) (so_far : StandSoFar graph first marks i) (count : length new ≡ length marks)
     (are : (q : ℕ) → is_marked new q
     ≡ (is_marked marks q || ((nat_eq q n && nat_lt q (length marks)) && list_any (is_marked marks) (row (required_in graph) n)))) where
   still : (q : ℕ) → is_marked marks q ≡ true → is_marked new q ≡ true
   still q marked = are q ∙ or_left (is_marked marks q) _ marked
 
   -- a node that is marked now has a marked one in its row
-  marked_now : (q : ℕ) → is_marked new q ≡ true → IsLost graph q
+  marked_now : (q : ℕ) → is_marked new q ≡ true → StandsOn graph (AreIn first) q
   marked_now q marked = elim (or_cases (is_marked marks q) _ (sym (are q) ∙ marked)) [
     | inl before ↦ so_far.sound q before
     | inr now ↦
         let parts = and_parts (nat_eq q n && nat_lt q (length marks)) (list_any (is_marked marks) (row (required_in graph) n)) now in
         let same : q ≡ n = eqb-true q n (and_parts (nat_eq q n) (nat_lt q (length marks)) parts.0).0 in
         let (m, there, is) = some_in (is_marked marks) (row (required_in graph) n) parts.1 in
-        subst (IsLost graph) (sym same) (stands_on {m = m} there (so_far.sound m is))
+        subst (StandsOn graph (AreIn first)) (sym same) (stands_on {m = m} there (so_far.sound m is))
   ]
 
   mark_this : n < length graph.nodes.items → list_any (is_marked marks) (row (required_in graph) n) ≡ true → is_marked new n ≡ true
@@ -143,25 +157,22 @@ module _ (graph : Graph) (marks new : List Bool) (i n : ℕ) (within : i < lengt
       ∙ or_right (is_marked marks n) _ (and_from (nat_eq n n && nat_lt n (length marks)) _
       (and_from (nat_eq n n) (nat_lt n (length marks)) (eq-eqb n n refl) (lt-ltb n (length marks) (subst (λ l. n < l) (sym so_far.count) inside))) any)
 
-  needed_inside : (m : ℕ) → has (row (required_in graph) n) m ≡ true → m < length graph.nodes.items
-  needed_inside m there = subst (λ l. m < l) graph.required_rows (below_from_closed (required_in graph) graph.required_closed n m there)
-
-  -- the lost node that is passed now is marked: it is unmade, or the one that it isn't made without was passed before it
-  this_one : PassesEach graph → n < length graph.nodes.items → (q : ℕ) → q ≡ n → IsLost graph q → is_marked new n ≡ true
-  this_one passes inside _ same (unmade {n = q} there) = still n (so_far.named n inside (ap (λ x. has graph.unmade.items x) (sym same) ∙ there))
+  -- the node that is passed now is marked where it stands on them: it is one of them, or the one that it isn't made without was passed before it
+  this_one : PassesEach graph → n < length graph.nodes.items → (q : ℕ) → q ≡ n → StandsOn graph (AreIn first) q → is_marked new n ≡ true
+  this_one passes inside _ same (is_one {n = q} there) = still n (so_far.named n inside (ap (λ x. has first x) (sym same) ∙ there))
   this_one passes inside _ same (stands_on {n = q} {m = m} needs lost) =
       let there : has (row (required_in graph) n) m ≡ true = ap (λ x. has (row (required_in graph) x) m) (sym same) ∙ needs in
       mark_this inside
       (any_from (is_marked marks) (row (required_in graph) n) m there
-      (so_far.passed passes m (needed_inside m there) (needed_before graph passes i n next m there) lost))
+      (so_far.passed passes m (needed_inside graph n m there) (needed_before graph passes i n next m there) lost))
 
   more_passed : take (i + 1) graph.order.items ≡ take i graph.order.items ++ n ∷ []
   more_passed =
       take_more graph.order.items i 0 within
       ∙ ap (λ x. take i graph.order.items ++ x ∷ []) (ap (λ ns. get_or ns 0 0) (sym (drop-cons graph.order.items i 0 within) ∙ next))
 
-  pub lost_more : LostSoFar graph new (i + 1)
-  lost_more = record {
+  pub stand_more : StandSoFar graph first new (i + 1)
+  stand_more = record {
     count = count ∙ so_far.count;
     sound = marked_now;
     named = λ q inside there. still q (so_far.named q inside there);
@@ -176,9 +187,9 @@ module _ (graph : Graph) (marks new : List Bool) (i n : ℕ) (within : i < lengt
   }
 
 -- all nodes were passed
-pub lost_all : (graph : Graph) (marks : List Bool) (i : ℕ) → length graph.order.items ≤ i → LostSoFar graph marks i → PassesEach graph →
-    (n : ℕ) → n < length graph.nodes.items → (is_marked marks n ≡ true) ↔ IsLost graph n
-lost_all graph marks i over so_far passes n inside =
+pub stand_all : (graph : Graph) (first : List ℕ) (marks : List Bool) (i : ℕ) → length graph.order.items ≤ i → StandSoFar graph first marks i → PassesEach graph →
+    (n : ℕ) → n < length graph.nodes.items → (is_marked marks n ≡ true) ↔ StandsOn graph (AreIn first) n
+stand_all graph first marks i over so_far passes n inside =
     let order = graph.order.items in
     let once : times n order ≡ 1 = passes.once n ∙ ap (λ b. if b then 1 else 0) (lt-ltb n (length graph.nodes.items) inside) in
     let there : has order n ≡ true = true_from_ne_false (has order n) (λ out. one_not_none (times n order) once (times_without_has n order out)) in

@@ -16,6 +16,7 @@ use Rattle.mk_plan.specs.Passage.{Passage, is_listed}
 use Rattle.mk_plan.specs.Passing.{Passes}
 use Rattle.dmk_reading.specs.Lost.{IsLost}
 use Rattle.dmk_reading.specs.Passing.{Lists, at_end, behind, IsListing, lists_any, PassesEach}
+use Rattle.dmk_reading.specs.Planned.{judged_graph}
 
 -- what was listed so far: with what is listed of the nodes that are left it is what all list
 abbrev pub ListedSoFar : (keeping : Bool) (graph : Graph) (marks : List Bool) (i : ℕ) (listed : List Passage) → Type 0
@@ -79,3 +80,8 @@ passes_each inputs named graph is = record {
       (closed_counting (required_in graph) graph.soft graph.soft_dropped (graph.soft_rows ∙ sym graph.required_rows) graph.required_closed graph.soft_closed)
       (uncycled (required_in graph) graph.soft graph.soft_dropped is.dropped is.acyclic) is.order n);
 }
+
+-- the graph by which targets are judged is passed as the one that it is made of
+pub passes_judged : (all : Bool) (graph judged : Graph) → judged ≡ judged_graph all graph → PassesEach graph → PassesEach judged
+passes_judged true graph judged is passes = subst PassesEach (sym is) (record { order = passes.order; once = passes.once })
+passes_judged false graph judged is passes = subst PassesEach (sym is) passes

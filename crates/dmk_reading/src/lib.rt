@@ -26,7 +26,7 @@ pub use fault::Fault;
 pub use graph::{graph_of, judged_graph};
 pub use keeping::{keeps_state, value_of};
 pub use laws::{one_makefile, one_reading_of_the_settings, plan_of_the_graph};
-pub use lost::{goes_without, is_lost, lost_nodes, unmade_names};
+pub use lost::{goes_without, is_lost, lost_nodes, nodes_on, unmade_names};
 pub use makefile::items_of;
 pub use makefiles::Makefiles;
 pub use messages::Message;

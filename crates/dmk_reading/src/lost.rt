@@ -4,7 +4,7 @@ ghost use Rattle.std.specs.List.{list_any};
 ghost use Rattle.mk_graph.specs.Edges.{row, has};
 ghost use Rattle.mk_graph.specs.Numbering.{name_at};
 ghost use Rattle.mk_plan.specs.Nodes.{is_marked};
-ghost use Rattle.dmk_reading.specs.Lost.{goes_without, IsLost};
+ghost use Rattle.dmk_reading.specs.Lost.{goes_without, IsLost, StandsOn};
 ghost use Rattle.dmk_reading.specs.Passing.{PassesEach};
 
 use byte_strings::ByteString;
@@ -132,6 +132,21 @@ fn mark_user(lost: &mut Vec<bool>, rows: &Edges, node: usize)
     }
 }
 
+/// Which nodes stand on some, by their numbers: these, and again and again what isn't made without one of them.
+pub fn nodes_on(alloc: Global, graph: &Graph, nodes: &[usize]) -> Result<Vec<bool>, AllocError>
+    ensures count { IfOk result (λ marks. length marks.items ≡ length graph.now.nodes.items) }
+    ensures marks { PassesEach graph.now → IfOk result (λ marks. (n : ℕ) → n < length graph.now.nodes.items
+        → (is_marked marks.items n ≡ true) ↔ StandsOn graph.now (λ m. has nodes.now m ≡ true) n) }
+{
+    let mut lost = vec![in alloc; false; graph.len()]?;
+    mark_all(&mut lost, nodes);
+    let rows = graph.required_edges();
+    for node in graph.order.as_slice() {
+        mark_user(&mut lost, rows, *node);
+    }
+    Ok(lost)
+}
+
 /// Which nodes are lost, by their numbers. Where nothing makes none of the names there are no marks.
 pub fn lost_nodes(alloc: Global, graph: &Graph) -> Result<Vec<bool>, AllocError>
     ensures { PassesEach graph.now → IfOk result (λ lost. (n : ℕ) → n < length graph.now.nodes.items
@@ -140,11 +155,5 @@ pub fn lost_nodes(alloc: Global, graph: &Graph) -> Result<Vec<bool>, AllocError>
     if graph.unmade.is_empty() {
         return Ok(Vec::new(alloc));
     }
-    let mut lost = vec![in alloc; false; graph.len()]?;
-    mark_all(&mut lost, &graph.unmade);
-    let rows = graph.required_edges();
-    for node in graph.order.as_slice() {
-        mark_user(&mut lost, rows, *node);
-    }
-    Ok(lost)
+    nodes_on(alloc, graph, &graph.unmade)
 }

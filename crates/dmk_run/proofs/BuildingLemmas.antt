@@ -1,6 +1,6 @@
 -- What a run leaves, by what its report says of the closed store.
-use Rattle.std.proofs.Common.{◌≡◌, ◌⊎◌, ℕ, zero, suc, Bool, true, false, List, [], ◌∷◌, map, Result, Ok, Err, IfOk, IsOk, IsTrue, refl, sym, subst, inl, inr, arith}
-use Rattle.std.specs.List.{All, list_all}
+use Rattle.std.proofs.Common.{◌≡◌, ◌⊎◌, ℕ, zero, suc, Bool, true, false, List, [], ◌∷◌, map, Result, Ok, Err, IfOk, IsOk, IsTrue, Some, slice_get, true≢false, refl, sym, subst, inl, inr, arith}
+use Rattle.std.specs.List.{list_all}
 use Rattle.std.proofs.lemmas.List.Elements.{All-nil}
 use Rattle.std.proofs.lemmas.List.{length-map}
 use Rattle.std.proofs.lemmas.Result.{IfOk-at_ok}
@@ -22,7 +22,9 @@ use Rattle.jb_closing.specs.Closing.{IsBuilt, IsTrueOf, AreTrueOf}
 use Rattle.jb_closing.specs.Report.{ends_well}
 use Rattle.dmk_run.specs.Judged.{IsBorneOut}
 use Rattle.dmk_run.specs.Known.{IsTold}
-use Rattle.dmk_run.specs.Made.{HasMade, IsBuiltWithoutFile, IsMade}
+use Rattle.dmk_run.specs.Behind.{none_tried}
+use Rattle.dmk_run.specs.Made.{HasMade, AreTried, IsBuiltWithoutFile, IsMade}
+use Rattle.dmk_run.specs.declared.tried.Tried.{Tried}
 use Rattle.dmk_reading.specs.Lost.{with_unmade}
 use Rattle.dmk_run.specs.Settled.{IsNoneToRun}
 use Rattle.dmk_run.proofs.DriverLemmas.{made_with}
@@ -98,12 +100,26 @@ none_built [] node built = cc
 none_built (n ∷ nodes) zero built = cc
 none_built (n ∷ nodes) (suc node) built = none_built nodes node built
 
--- nothing was told, and no node ended as built
+none_failed : (nodes : List Node) (node status : ℕ) → slice_get (up_to_date nodes) node ≡ Some (end.Failed status) → ⊥
+none_failed [] node status failed = cc
+none_failed (n ∷ nodes) zero status failed = cc
+none_failed (n ∷ nodes) (suc node) status failed = none_failed nodes node status failed
+
+nothing_tried : (graph : Graph) → AreTried graph (up_to_date graph.nodes.items) none_tried
+nothing_tried graph = record {
+  are_built = All-nil (IsBuiltWithoutFile graph (up_to_date graph.nodes.items));
+  are_failed = λ name. (
+    λ there. absurd (true≢false (sym there)),
+    λ is. absurd (none_failed graph.nodes.items is.node is.status is.failed),
+  );
+}
+
+-- nothing was told, and no node ended as built or failed
 pub none_made : (counting keeping : Bool) (graph : Graph) (m : StateMap) (honest : Type 0) (sides : Sides) → IsNoneToRun counting keeping graph m → (honest → AllRecover m sides)
-    → (status : ℕ) → status ≡ with_unmade graph.unmade.items 0 → (names : List (List ℕ)) → names ≡ [] → HasMade graph counting keeping honest sides status names
-none_made counting keeping graph m honest sides is recovers status comes names nothing =
-    made_with graph counting keeping honest sides names 0 status comes (up_to_date graph.nodes.items)
-    (subst (All (IsBuiltWithoutFile graph (up_to_date graph.nodes.items))) (sym nothing) (All-nil (IsBuiltWithoutFile graph (up_to_date graph.nodes.items))))
+    → (status : ℕ) → status ≡ with_unmade graph.unmade.items 0 → (tried : Tried) → tried ≡ none_tried → HasMade graph counting keeping honest sides status tried
+none_made counting keeping graph m honest sides is recovers status comes tried nothing =
+    made_with graph counting keeping honest sides tried 0 status comes (up_to_date graph.nodes.items)
+    (subst (AreTried graph (up_to_date graph.nodes.items)) (sym nothing) (nothing_tried graph))
     (length-map graph.nodes.items _)
     (λ none. up_to_date_well graph.nodes.items) (λ none. inl is.listing)
     (λ kept. record {

@@ -3,7 +3,7 @@ use Rattle.std.proofs.Common.{◌≡◌, ◌≢◌, ◌⊎◌, ◌||◌, inl, in
 use Rattle.std.specs.FinMap as map
 use Rattle.std.specs.Coded.{Coded-set}
 use Rattle.std.proofs.Math.Logic.{∥∥₁_elim}
-use Rattle.std.specs.List.{All, list_all}
+use Rattle.std.specs.List.{list_all}
 use Rattle.mk_profile.specs.declared.profile.Profile.{Profile}
 use Rattle.mk_reader.specs.declared.item.Item.{Item}
 use Rattle.mk_nodes.specs.declared.graph.Graph.{Graph}
@@ -24,9 +24,10 @@ use Rattle.dmk_run.specs.InTurn.{IsParted}
 use Rattle.dmk_run.specs.Opened.{RecoversAsBefore}
 use Rattle.dmk_run.specs.Judged.{IsBorneOut}
 use Rattle.dmk_run.specs.Behind.{IsJudgedBehind}
-use Rattle.dmk_run.specs.Made.{HasMade, IsBuiltWithoutFile, IsMade, MakesItems}
+use Rattle.dmk_run.specs.Made.{HasMade, AreTried, IsMade, MakesItems}
 use Rattle.dmk_reading.specs.Lost.{goes_without, with_unmade}
 use Rattle.dmk_run.specs.declared.stop.Stop.{Stop}
+use Rattle.dmk_run.specs.declared.tried.Tried.{Tried}
 
 -- what isn't parted may have left anything
 pub never_parted : (got : Result ℕ Stop) (Left : Type 0) → IfErr got (λ stop. IsParted stop → ⊥) → IfErr got (λ stop. IsParted stop → Left)
@@ -109,10 +110,10 @@ made_at graph sound sides ends before after implies is = record {
 }
 
 -- so a run has made what it did that came to another status for names that nothing makes
-pub made_with : (graph : Graph) (counting keeping : Bool) (sound : Type 0) (sides : Sides) (names : List (List ℕ)) (before after : ℕ) → after ≡ with_unmade graph.unmade.items before →
-    (ends : List End) → All (IsBuiltWithoutFile graph ends) names → length ends ≡ length graph.nodes.items → (before ≡ 0 → IsTrue (list_all ends_well ends)) →
-    (before ≡ 0 → IsBorneOut counting graph ends) → (keeping ≡ true → IsMade graph sound sides before ends) → HasMade graph counting keeping sound sides after names
-made_with graph counting keeping sound sides names before after is ends built all well borne made =
+pub made_with : (graph : Graph) (counting keeping : Bool) (sound : Type 0) (sides : Sides) (tried : Tried) (before after : ℕ) → after ≡ with_unmade graph.unmade.items before →
+    (ends : List End) → AreTried graph ends tried → length ends ≡ length graph.nodes.items → (before ≡ 0 → IsTrue (list_all ends_well ends)) →
+    (before ≡ 0 → IsBorneOut counting graph ends) → (keeping ≡ true → IsMade graph sound sides before ends) → HasMade graph counting keeping sound sides after tried
+made_with graph counting keeping sound sides tried before after is ends are all well borne made =
     let implies : after ≡ 0 → before ≡ 0 = λ none. zero_with graph.unmade.items before (sym is ∙ none) in
     record {
       ended = record {
@@ -123,31 +124,31 @@ made_with graph counting keeping sound sides names before after is ends built al
         borne_out = λ none. borne (implies none);
         made = λ kept. made_at graph sound sides ends before after implies (made kept);
       };
-      are_built = built;
+      are_tried = are;
     }
 
--- the status of a report is that of a graph that has ended, with what was built by its ends
-pub has_made : (graph : Graph) (counting keeping : Bool) (sound : Type 0) (sides : Sides) (names : List (List ℕ)) (found : Result Report RunFault) (got : Result ℕ Stop)
-    → IfOk got (λ s. (r : Report) × (found ≡ Ok r) × (s ≡ with_unmade graph.unmade.items r.status) × All (IsBuiltWithoutFile graph r.ends.items) names)
+-- the status of a report is that of a graph that has ended, with what was tried by its ends
+pub has_made : (graph : Graph) (counting keeping : Bool) (sound : Type 0) (sides : Sides) (tried : Tried) (found : Result Report RunFault) (got : Result ℕ Stop)
+    → IfOk got (λ s. (r : Report) × (found ≡ Ok r) × (s ≡ with_unmade graph.unmade.items r.status) × AreTried graph r.ends.items tried)
     → IfOk found (λ r. length r.ends.items ≡ length graph.nodes.items)
     → IfOk found (λ r. r.status ≡ 0 → IsTrue (list_all ends_well r.ends.items)) → IfOk found (λ r. r.status ≡ 0 → IsBorneOut counting graph r.ends.items)
-    → IfOk found (λ r. keeping ≡ true → IsMade graph sound sides r.status r.ends.items) → IfOk got (λ s. HasMade graph counting keeping sound sides s names)
-has_made graph counting keeping sound sides names found (Ok s) (r, is, same, built) all well borne made =
-    made_with graph counting keeping sound sides names r.status s same r.ends.items built
+    → IfOk found (λ r. keeping ≡ true → IsMade graph sound sides r.status r.ends.items) → IfOk got (λ s. HasMade graph counting keeping sound sides s tried)
+has_made graph counting keeping sound sides tried found (Ok s) (r, is, same, are) all well borne made =
+    made_with graph counting keeping sound sides tried r.status s same r.ends.items are
     (at_ok (λ r. length r.ends.items ≡ length graph.nodes.items) found r is all)
     (at_ok (λ r. r.status ≡ 0 → IsTrue (list_all ends_well r.ends.items)) found r is well)
     (at_ok (λ r. r.status ≡ 0 → IsBorneOut counting graph r.ends.items) found r is borne)
     (at_ok (λ r. keeping ≡ true → IsMade graph sound sides r.status r.ends.items) found r is made)
-has_made graph counting keeping sound sides names found (Err stop) is all well borne made = tt
+has_made graph counting keeping sound sides tried found (Err stop) is all well borne made = tt
 
-module _ (profile : Profile) (definitions environment : List Variable) (targets : List (List ℕ)) (all goes_on : Bool) (before : List (List ℕ)) (times : List ℕ → Option ℤ) (built : List (List ℕ)) where
+module _ (profile : Profile) (definitions environment : List Variable) (targets : List (List ℕ)) (all goes_on : Bool) (before : Tried) (times : List ℕ → Option ℤ) (tried : Tried) where
   -- so a graph of these items has
   pub made_items : (items : List Item) (stored keeping : Bool) (disk_honest : Type 0) (seen : Which → List ℕ) (sides : Sides) (state : StateMap)
       (graph judged : Graph) (counted kept : Bool) → IsStateOn stored disk_honest seen state →
       IsGraphOf profile definitions environment targets times items state graph → (goes_without profile goes_on ≡ false → graph.unmade.items ≡ []) →
       IsJudgedBehind before (judged_graph all graph) judged → counted ≡ all || keeping → kept ≡ keeping → (got : Result ℕ Stop) →
-      IfOk got (λ s. HasMade judged counted kept disk_honest sides s built) →
-      IfOk got (λ s. MakesItems profile definitions environment targets all goes_on before times items stored keeping disk_honest seen s sides built)
+      IfOk got (λ s. HasMade judged counted kept disk_honest sides s tried) →
+      IfOk got (λ s. MakesItems profile definitions environment targets all goes_on before times items stored keeping disk_honest seen s sides tried)
   made_items items stored keeping disk_honest seen sides state graph judged counted kept is_state is_graph all_made is_judged counts same (Ok s) made = record {
     state = state;
     is_state = is_state;
@@ -156,7 +157,7 @@ module _ (profile : Profile) (definitions environment : List Variable) (targets 
     all_made = all_made;
     judged = judged;
     is_judged = is_judged;
-    made = subst (λ n. HasMade judged n keeping disk_honest sides s built) counts (subst (λ k. HasMade judged counted k disk_honest sides s built) same made);
+    made = subst (λ n. HasMade judged n keeping disk_honest sides s tried) counts (subst (λ k. HasMade judged counted k disk_honest sides s tried) same made);
   }
   made_items items stored keeping disk_honest seen sides state graph judged counted kept is_state is_graph all_made is_judged counts same (Err stop) made = tt
 
@@ -164,8 +165,8 @@ module _ (profile : Profile) (definitions environment : List Variable) (targets 
   module _ (items : List Item) (memory_honest : Type 0) (memory : Which → List ℕ) (works : memory_honest)
       (a : memory which.A ≡ []) (b : memory which.B ≡ []) (memory_sides : Sides) (disk_honest : Type 0) (seen : Which → List ℕ) (sides : Sides) where
     pub without_state : (status : ℕ) →
-        MakesItems profile definitions environment targets all goes_on before times items true false memory_honest memory status memory_sides built →
-        MakesItems profile definitions environment targets all goes_on before times items false false disk_honest seen status sides built
+        MakesItems profile definitions environment targets all goes_on before times items true false memory_honest memory status memory_sides tried →
+        MakesItems profile definitions environment targets all goes_on before times items false false disk_honest seen status sides tried
     without_state status run = record {
       state = run.state;
       is_state = empty_state (memory which.A) (memory which.B) run.state a b (run.is_state works);
@@ -183,15 +184,15 @@ module _ (profile : Profile) (definitions environment : List Variable) (targets 
           borne_out = run.made.ended.borne_out;
           made = λ keeping. absurd (no_value keeping);
         };
-        are_built = run.made.are_built;
+        are_tried = run.made.are_tried;
       };
     }
 
     pub found_without_state : (keeping : Bool) → false ≡ keeping → (got : Result ℕ Stop) →
-        IfOk got (λ s. MakesItems profile definitions environment targets all goes_on before times items true false memory_honest memory s memory_sides built) →
-        IfOk got (λ s. MakesItems profile definitions environment targets all goes_on before times items keeping keeping disk_honest seen s sides built)
+        IfOk got (λ s. MakesItems profile definitions environment targets all goes_on before times items true false memory_honest memory s memory_sides tried) →
+        IfOk got (λ s. MakesItems profile definitions environment targets all goes_on before times items keeping keeping disk_honest seen s sides tried)
     found_without_state keeping is (Ok status) run =
-        subst (λ k. MakesItems profile definitions environment targets all goes_on before times items k k disk_honest seen status sides built) is
+        subst (λ k. MakesItems profile definitions environment targets all goes_on before times items k k disk_honest seen status sides tried) is
         (without_state status run)
     found_without_state keeping is (Err stop) run = tt
 

@@ -4,6 +4,7 @@ use Rattle.std.proofs.Math.Seq.{take-suc, take-length}
 use Rattle.std.proofs.lemmas.List.{take-append-drop}
 use Rattle.std.proofs.Common.{◌≡◌, ◌≢◌, ◌⊎◌, inl, inr, ◌∙◌, ℕ, zero, suc, ◌+◌, ◌<◌, ◌≤◌, ℤ, max, Bool, true, false, List, [], ◌∷◌, ◌++◌, Option, Result, Ok, Err, IfOk, IfErr, IsErrAnd, refl, sym, ap, subst, length, take, drop, get_or, add-one, arith}
 use Rattle.std.specs.List.{All}
+use Rattle.std.proofs.lemmas.List.Elements.{All-nil}
 use Rattle.mk_eval.specs.Output.{World}
 use Rattle.mk_reader.specs.declared.item.Item.{Item}
 use Rattle.mk_profile.specs.declared.profile.Profile.{Profile}
@@ -18,10 +19,12 @@ use Rattle.dmk_reading.specs.Planned.{AreItems, IsStateOn}
 use Rattle.dmk_reading.specs.declared.makefiles.Makefiles.{Makefiles}
 use Rattle.dmk_reading.specs.declared.options.Options.{Options}
 use Rattle.st_state.specs.State.{StateMap}
-use Rattle.dmk_run.specs.Made.{Makes, MakesItems, IsBuiltWithoutFile}
+use Rattle.dmk_run.specs.Behind.{none_tried, both_tried}
+use Rattle.dmk_run.specs.Made.{Makes, MakesItems, IsBuiltWithoutFile, AreFailed, AreTried}
 use Rattle.dmk_run.specs.Opened.{RecoversAsBefore}
 use Rattle.dmk_run.specs.InTurn.{Between, MakesPart, LeavesDisk, IsParted, AreParts, at_once, in_turn, GoesOn, EndsRun, Joined, MadeInTurn, none_left, first_made, run_ended, MadeBehind, no_more, once_more, MakesWithLost, IsMadeInTurn}
 use Rattle.dmk_run.specs.declared.stop.Stop.{Stop}
+use Rattle.dmk_run.specs.declared.tried.Tried.{Tried}
 use Rattle.dmk_run.proofs.DriverLemmas.{at_ok}
 
 -- what goes on doesn't end
@@ -172,8 +175,9 @@ module _ {State Fault : Type 0} (MakesOne : (targets : List (List ℕ)) → (fou
 
 -- before the first part nothing is made
 pub none_yet : {Disk : Type 0} (MakesOne : (targets : List (List ℕ)) → (found left : Between Disk) → (status : ℕ) → Type 0) (goes_on : Bool) (disk : Disk)
-    (names : List (List ℕ)) → names ≡ [] → MadeInTurn MakesOne goes_on [] (disk, []) (disk, names) 0
-none_yet MakesOne goes_on disk names none = subst (λ n. MadeInTurn MakesOne goes_on [] (disk, []) (disk, n) 0) (sym none) (none_left (disk, []))
+    (tried : Tried) → tried ≡ none_tried → MadeInTurn MakesOne goes_on [] (disk, none_tried) (disk, tried) 0
+none_yet MakesOne goes_on disk tried none =
+    subst (λ t. MadeInTurn MakesOne goes_on [] (disk, none_tried) (disk, t) 0) (sym none) (none_left (disk, none_tried))
 
 -- what is so where goals are parted is so of goals that were
 pub before_of : (Before : Type 0) (got : Result ℕ Stop) → IfErr got (λ stop. IsParted stop → Before) → IsErrAnd got IsParted → Before
@@ -186,13 +190,13 @@ pub passed_on : {Fault Disk : Type 0} (M : Disk → ℕ → Type 0) (found got :
 passed_on M found (Ok status) disk left there same so = subst (λ d. M d status) (sym there) (at_ok (M disk) found status same so)
 passed_on M found (Err fault) disk left there same so = tt
 
--- where some names are built so are some of them
-makes_fewer : {world : World} {times : List ℕ → Option ℤ} {makefiles : Makefiles} {profile : Profile} {definitions environment : List Variable} {targets : List (List ℕ)}
-    {all goes_on : Bool} {before : List (List ℕ)} {disk_honest : Type 0} {seen : Which → List ℕ} {status : ℕ} {sides : Sides} (built fewer : List (List ℕ)) →
-    ((graph : Graph) (ends : List End) → All (IsBuiltWithoutFile graph ends) built → All (IsBuiltWithoutFile graph ends) fewer) →
-    Makes world times makefiles profile definitions environment targets all goes_on before disk_honest seen status sides built →
-    Makes world times makefiles profile definitions environment targets all goes_on before disk_honest seen status sides fewer
-makes_fewer built fewer are is = record {
+-- where some names were tried so were others that follow from them
+makes_others : {world : World} {times : List ℕ → Option ℤ} {makefiles : Makefiles} {profile : Profile} {definitions environment : List Variable} {targets : List (List ℕ)}
+    {all goes_on : Bool} {before : Tried} {disk_honest : Type 0} {seen : Which → List ℕ} {status : ℕ} {sides : Sides} (tried others : Tried) →
+    ((graph : Graph) (ends : List End) → AreTried graph ends tried → AreTried graph ends others) →
+    Makes world times makefiles profile definitions environment targets all goes_on before disk_honest seen status sides tried →
+    Makes world times makefiles profile definitions environment targets all goes_on before disk_honest seen status sides others
+makes_others tried others are is = record {
   items = is.items;
   are_items = is.are_items;
   made = record {
@@ -203,7 +207,7 @@ makes_fewer built fewer are is = record {
     all_made = is.made.all_made;
     judged = is.made.judged;
     is_judged = is.made.is_judged;
-    made = record { ended = is.made.made.ended; are_built = are is.made.judged is.made.made.ended.ends is.made.made.are_built };
+    made = record { ended = is.made.made.ended; are_tried = are is.made.judged is.made.made.ended.ends is.made.made.are_tried };
   };
 }
 
@@ -237,35 +241,49 @@ module _ {Source Tree Disk : Type 0} (Reads : Source → World → Type 0) (Allo
     )
 
     module _ (disk_honest : Type 0) (seen : Disk → Which → List ℕ) (sides : Disk → Sides) (targets : List (List ℕ)) (asked : part.targets ≡ targets)
-        (all : part.makes_all ≡ whole.makes_all) (goes_on : part.goes_on ≡ whole.goes_on) (before : List (List ℕ)) where
-      makes_alike : (world : World) (times : List ℕ → Option ℤ) (found left : Disk) (built : List (List ℕ)) (status : ℕ) →
-          Makes world times part.makefiles part.profile part.definitions.items environment part.targets part.makes_all part.goes_on before disk_honest (seen found) status (sides left) built →
-          Makes world times whole.makefiles whole.profile whole.definitions.items environment targets whole.makes_all whole.goes_on before disk_honest (seen found) status (sides left) built
-      makes_alike world times found left built status is =
-          subst (λ g. Makes world times whole.makefiles whole.profile whole.definitions.items environment targets whole.makes_all g before disk_honest (seen found) status (sides left) built) goes_on
-          (subst (λ a. Makes world times whole.makefiles whole.profile whole.definitions.items environment targets a part.goes_on before disk_honest (seen found) status (sides left) built) all
-          (subst (λ t. Makes world times whole.makefiles whole.profile whole.definitions.items environment t part.makes_all part.goes_on before disk_honest (seen found) status (sides left) built) asked
-          (subst (λ d. Makes world times whole.makefiles whole.profile d environment part.targets part.makes_all part.goes_on before disk_honest (seen found) status (sides left) built) definitions
-          (subst (λ p. Makes world times whole.makefiles p part.definitions.items environment part.targets part.makes_all part.goes_on before disk_honest (seen found) status (sides left) built) profile
-          (subst (λ m. Makes world times m part.profile part.definitions.items environment part.targets part.makes_all part.goes_on before disk_honest (seen found) status (sides left) built) makefiles is)))))
+        (all : part.makes_all ≡ whole.makes_all) (goes_on : part.goes_on ≡ whole.goes_on) (before : Tried) where
+      makes_alike : (world : World) (times : List ℕ → Option ℤ) (found left : Disk) (tried : Tried) (status : ℕ) →
+          Makes world times part.makefiles part.profile part.definitions.items environment part.targets part.makes_all part.goes_on before disk_honest (seen found) status (sides left) tried →
+          Makes world times whole.makefiles whole.profile whole.definitions.items environment targets whole.makes_all whole.goes_on before disk_honest (seen found) status (sides left) tried
+      makes_alike world times found left tried status is =
+          subst (λ g. Makes world times whole.makefiles whole.profile whole.definitions.items environment targets whole.makes_all g before disk_honest (seen found) status (sides left) tried) goes_on
+          (subst (λ a. Makes world times whole.makefiles whole.profile whole.definitions.items environment targets a part.goes_on before disk_honest (seen found) status (sides left) tried) all
+          (subst (λ t. Makes world times whole.makefiles whole.profile whole.definitions.items environment t part.makes_all part.goes_on before disk_honest (seen found) status (sides left) tried) asked
+          (subst (λ d. Makes world times whole.makefiles whole.profile d environment part.targets part.makes_all part.goes_on before disk_honest (seen found) status (sides left) tried) definitions
+          (subst (λ p. Makes world times whole.makefiles p part.definitions.items environment part.targets part.makes_all part.goes_on before disk_honest (seen found) status (sides left) tried) profile
+          (subst (λ m. Makes world times m part.profile part.definitions.items environment part.targets part.makes_all part.goes_on before disk_honest (seen found) status (sides left) tried) makefiles is)))))
 
       -- and what it makes is made, behind these names, to which others are added
-      pub part_makes : {Fault : Type 0} (source : Source) (tree : Tree) (found left : Disk) (names built added after : List (List ℕ)) (got : Result ℕ Fault) →
-          before ≡ names → after ≡ names ++ added →
-          ((graph : Graph) (ends : List End) → All (IsBuiltWithoutFile graph ends) built → All (IsBuiltWithoutFile graph ends) added) →
+      pub part_makes : {Fault : Type 0} (source : Source) (tree : Tree) (found left : Disk) (names tried added after : Tried) (got : Result ℕ Fault) →
+          before ≡ names → after ≡ both_tried names added →
+          ((graph : Graph) (ends : List End) → AreTried graph ends tried → AreTried graph ends added) →
           IfOk got (λ s. (world : World) (times : List ℕ → Option ℤ) → Reads source world → Allows tree times →
-          Makes world times part.makefiles part.profile part.definitions.items environment part.targets part.makes_all part.goes_on before disk_honest (seen found) s (sides left) built) →
+          Makes world times part.makefiles part.profile part.definitions.items environment part.targets part.makes_all part.goes_on before disk_honest (seen found) s (sides left) tried) →
           IfOk got (MakesPart Reads Allows whole environment disk_honest seen sides targets (found, names) (left, after))
-      part_makes source tree found left names built added after (Ok status) same adds fewer is =
+      part_makes source tree found left names tried added after (Ok status) same adds follow is =
           subst (λ n. MakesPart Reads Allows whole environment disk_honest seen sides targets (found, n) (left, after) status) same
           (record {
             source = source;
             tree = tree;
-            built = added;
-            adds = adds ∙ ap (λ n. n ++ added) (sym same);
-            made = λ world times text may. makes_fewer built added fewer (makes_alike world times found left built status (is world times text may));
+            tried = added;
+            adds = adds ∙ ap (λ n. both_tried n added) (sym same);
+            made = λ world times text may. makes_others tried added follow (makes_alike world times found left tried status (is world times text may));
           })
-      part_makes source tree found left names built added after (Err fault) same adds fewer is = tt
+      part_makes source tree found left names tried added after (Err fault) same adds follow is = tt
+
+      -- and where it is the first one, behind which all that is known is what failed
+      pub first_makes : {Fault : Type 0} (source : Source) (tree : Tree) (found left : Disk) (tried after : Tried) (got : Result ℕ Fault) →
+          before ≡ none_tried → after.built ≡ [] → after.failed ≡ tried.failed →
+          IfOk got (λ s. (world : World) (times : List ℕ → Option ℤ) → Reads source world → Allows tree times →
+          Makes world times part.makefiles part.profile part.definitions.items environment part.targets part.makes_all part.goes_on before disk_honest (seen found) s (sides left) tried) →
+          IfOk got (MakesPart Reads Allows whole environment disk_honest seen sides targets (found, none_tried) (left, after))
+      first_makes source tree found left tried after got same built failed is =
+          part_makes source tree found left none_tried tried after after got same refl
+          (λ graph ends are. record {
+            are_built = subst (All (IsBuiltWithoutFile graph ends)) (sym built) (All-nil (IsBuiltWithoutFile graph ends));
+            are_failed = subst (AreFailed graph ends) (sym failed) are.are_failed;
+          })
+          is
 
   -- a part that is made over a disk is made over one of which it recovers no other state
   module _ (options : Options) (disk_honest : Type 0) (seen : Disk → Which → List ℕ) (sides : Disk → Sides) (found opened : Disk)
@@ -274,10 +292,10 @@ module _ {Source Tree Disk : Type 0} (Reads : Source → World → Type 0) (Allo
     state_before true m is = λ honest. before honest m (is honest)
     state_before false m is = is
 
-    items_before : (targets : List (List ℕ)) (times : List ℕ → Option ℤ) (items : List Item) (stored keeping : Bool) (left : Sides) (names built : List (List ℕ)) (own : ℕ) →
-        MakesItems options.profile options.definitions.items environment targets options.makes_all options.goes_on names times items stored keeping disk_honest (seen opened) own left built →
-        MakesItems options.profile options.definitions.items environment targets options.makes_all options.goes_on names times items stored keeping disk_honest (seen found) own left built
-    items_before targets times items stored keeping left names built own run = record {
+    items_before : (targets : List (List ℕ)) (times : List ℕ → Option ℤ) (items : List Item) (stored keeping : Bool) (left : Sides) (names tried : Tried) (own : ℕ) →
+        MakesItems options.profile options.definitions.items environment targets options.makes_all options.goes_on names times items stored keeping disk_honest (seen opened) own left tried →
+        MakesItems options.profile options.definitions.items environment targets options.makes_all options.goes_on names times items stored keeping disk_honest (seen found) own left tried
+    items_before targets times items stored keeping left names tried own run = record {
       state = run.state;
       is_state = state_before stored run.state run.is_state;
       graph = run.graph;
@@ -288,19 +306,19 @@ module _ {Source Tree Disk : Type 0} (Reads : Source → World → Type 0) (Allo
       made = run.made;
     }
 
-    pub made_before : (names targets : List (List ℕ)) (left : Between Disk) (own : ℕ) →
+    pub made_before : (names : Tried) (targets : List (List ℕ)) (left : Between Disk) (own : ℕ) →
         MakesPart Reads Allows options environment disk_honest seen sides targets (opened, names) left own →
         MakesPart Reads Allows options environment disk_honest seen sides targets (found, names) left own
     made_before names targets left own is = record {
       source = is.source;
       tree = is.tree;
-      built = is.built;
+      tried = is.tried;
       adds = is.adds;
       made = λ world times text may.
           let run = is.made world times text may in
           record {
             items = run.items;
             are_items = run.are_items;
-            made = items_before targets times run.items (keeps environment run.items) (keeps environment run.items) (sides left.0) names is.built own run.made;
+            made = items_before targets times run.items (keeps environment run.items) (keeps environment run.items) (sides left.0) names is.tried own run.made;
           };
     }

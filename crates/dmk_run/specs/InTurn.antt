@@ -10,28 +10,30 @@ use Rattle.dmk_reading.specs.Definitions.{first_defined}
 use Rattle.dmk_reading.specs.Keeping.{keeps}
 use Rattle.dmk_reading.specs.Planned.{AreItems}
 use Rattle.dmk_reading.specs.declared.options.Options.{Options}
+use Rattle.dmk_run.specs.Behind.{both_tried}
 use Rattle.dmk_run.specs.Made.{Makes}
 use Rattle.dmk_run.specs.declared.stop.Stop.{Stop}
 use Rattle.dmk_run.specs.declared.stop.Stop.TheVariants as stops
+use Rattle.dmk_run.specs.declared.tried.Tried.{Tried}
 
 -- ---- One part
 
--- what stands between two parts: the disk, and the names that parts so far built and that had no file
+-- what stands between two parts: the disk, and the names that parts so far tried
 abbrev pub Between : (Disk : Type 0) → Type 0
-Between Disk = Disk × List (List ℕ)
+Between Disk = Disk × Tried
 
--- a part is made: these goals are, as the options say, over the disk that was found and behind what was built before, by what makefiles were
--- read from and by looks at files of its own. Of the names that it adds each was built
+-- a part is made: these goals are, as the options say, over the disk that was found and behind what was tried before, by what makefiles were
+-- read from and by looks at files of its own. It adds names that it built without a file, and all that failed in it
 pub record MakesPart {Source Tree Disk : Type 0} (Reads : Source → World → Type 0) (Allows : Tree → (List ℕ → Option ℤ) → Type 0)
     (options : Options) (environment : List Variable) (disk_honest : Type 0) (seen : Disk → Which → List ℕ) (sides : Disk → Sides)
     (targets : List (List ℕ)) (found left : Between Disk) (status : ℕ) : Type 0 where
   pub source : Source
   pub tree : Tree
-  pub built : List (List ℕ)
-  pub adds : left.1 ≡ found.1 ++ built
+  pub tried : Tried
+  pub adds : left.1 ≡ both_tried found.1 tried
   pub made : (world : World) (times : List ℕ → Option ℤ) → Reads source world → Allows tree times →
       Makes world times options.makefiles options.profile options.definitions.items environment targets options.makes_all options.goes_on found.1 disk_honest
-      (seen found.0) status (sides left.0) built
+      (seen found.0) status (sides left.0) tried
 
 -- the disk is left as it was found, or what makefiles were read from and looks at files say that a makefile keeps state
 abbrev pub LeavesDisk : {Source Tree Disk : Type 0} (Reads : Source → World → Type 0) (Allows : Tree → (List ℕ → Option ℤ) → Type 0)

@@ -1,9 +1,9 @@
 -- What a run leaves on its disk, where it ends with a report.
-use Rattle.std.specs.Prelude.{◌≡◌, ◌≢◌, ◌||◌, ◌++◌, ℕ, ℤ, Bool, true, false, List, [], map, Option, Some, None, length, slice_get, IsTrue}
+use Rattle.std.specs.Prelude.{◌≡◌, ◌≢◌, ◌↔◌, ◌||◌, ◌++◌, ◌<◌, ℕ, ℤ, Bool, true, false, List, [], map, Option, Some, None, length, slice_get, IsTrue}
 use Rattle.std.specs.List.{All, list_all}
 use Rattle.mk_profile.specs.declared.profile.Profile.{Profile}
 use Rattle.mk_reader.specs.declared.item.Item.{Item}
-use Rattle.mk_graph.specs.Numbering.{name_at}
+use Rattle.mk_graph.specs.Numbering.{name_at, has_name}
 use Rattle.mk_nodes.specs.declared.graph.Graph.{Graph}
 use Rattle.mk_nodes.specs.declared.graph.Node.{Node}
 use Rattle.st_disk.specs.Crash.{Sides}
@@ -12,7 +12,7 @@ use Rattle.st_records.specs.declared.record.Record.{Record}
 use Rattle.st_state.specs.State.{StateMap}
 use Rattle.st_recovery.specs.Stored.{AllRecover}
 use Rattle.bd_places.specs.declared.end.End.{End}
-use Rattle.bd_places.specs.declared.end.End.TheVariants.{Built}
+use Rattle.bd_places.specs.declared.end.End.TheVariants.{Built, Failed}
 use Rattle.bd_lists.specs.declared.recipe.Variable.{Variable}
 use Rattle.bd_flusher.specs.declared.site.receipt.Receipt.{Receipt}
 use Rattle.jb_closing.specs.Agreement.{AreThoseOf}
@@ -27,6 +27,7 @@ use Rattle.dmk_run.specs.Judged.{IsBorneOut}
 use Rattle.dmk_run.specs.Known.{AreKnownDone}
 use Rattle.dmk_run.specs.declared.left.Left.{Left}
 use Rattle.dmk_run.specs.declared.made.Made.{Made}
+use Rattle.dmk_run.specs.declared.tried.Tried.{Tried}
 use Rattle.dmk_reading.specs.Lost.{goes_without}
 use Rattle.mk_eval.specs.Output.{World}
 
@@ -69,21 +70,38 @@ pub record AddsSome (made : List Made) (before now : List (List ℕ)) : Type 0 w
   pub adds : now ≡ before ++ added
   pub are_built : (graph : Graph) (ends : List End) → All (λ m. IsBuiltWithoutFile graph ends m.name) made → All (IsBuiltWithoutFile graph ends) added
 
--- the names that are left to parts behind as built without a file
-abbrev pub names_built : Left → List (List ℕ)
-names_built left = map (λ m. m.name) left.made.items
+-- a name that failed: its recipe did
+pub record HasFailed (graph : Graph) (ends : List End) (name : List ℕ) : Type 0 where
+  pub node : ℕ
+  pub status : ℕ
+  pub within : node < length graph.nodes.items
+  pub named : name_at graph.names node ≡ name
+  pub failed : slice_get ends node ≡ Some (Failed status)
 
--- so a graph has ended, and each of these names is one that was built and had no file
-pub record HasMade (graph : Graph) (counting keeping : Bool) (sound : Type 0) (sides : Sides) (status : ℕ) (built : List (List ℕ)) : Type 0 where
+-- these names are all that failed, and no others
+abbrev pub AreFailed : (graph : Graph) → (ends : List End) → (failed : List (List ℕ)) → Type 0
+AreFailed graph ends failed = (name : List ℕ) → (has_name failed name ≡ true) ↔ HasFailed graph ends name
+
+-- of a graph that ended so each of these was built and had no file, and these are all that failed
+pub record AreTried (graph : Graph) (ends : List End) (tried : Tried) : Type 0 where
+  pub are_built : All (IsBuiltWithoutFile graph ends) tried.built
+  pub are_failed : AreFailed graph ends tried.failed
+
+-- the names that are left to parts behind: what was built without a file, and what failed
+abbrev pub tried_in : Left → Tried
+tried_in left = record { built = map (λ m. m.name) left.made.items; failed = left.failed }
+
+-- so a graph has ended, where these names were tried
+pub record HasMade (graph : Graph) (counting keeping : Bool) (sound : Type 0) (sides : Sides) (status : ℕ) (tried : Tried) : Type 0 where
   pub ended : HasEnded graph counting keeping sound sides status
-  pub are_built : All (IsBuiltWithoutFile graph ended.ends) built
+  pub are_tried : AreTried graph ended.ends tried
 
 -- so the graph of these items has, for the targets that are named, by the state that the disk recovers, if it is stored there, behind parts
--- of the run that made some names. A run that doesn't go on without names has none that lacks a file and that nothing makes
+-- of the run that tried some names. A run that doesn't go on without names has none that lacks a file and that nothing makes
 pub record MakesItems (profile : Profile) (definitions environment : List Variable) (targets : List (List ℕ)) (all goes_on : Bool)
-    (before : List (List ℕ)) (times : List ℕ → Option ℤ)
+    (before : Tried) (times : List ℕ → Option ℤ)
     (items : List Item) (stored keeping : Bool) (disk_honest : Type 0) (seen : Which → List ℕ)
-    (status : ℕ) (sides : Sides) (built : List (List ℕ)) : Type 0 where
+    (status : ℕ) (sides : Sides) (tried : Tried) : Type 0 where
   pub state : StateMap
   pub is_state : IsStateOn stored disk_honest seen state
   pub graph : Graph
@@ -91,13 +109,13 @@ pub record MakesItems (profile : Profile) (definitions environment : List Variab
   pub all_made : goes_without profile goes_on ≡ false → graph.unmade.items ≡ []
   pub judged : Graph
   pub is_judged : IsJudgedBehind before (judged_graph all graph) judged
-  pub made : HasMade judged (all || keeping) keeping disk_honest sides status built
+  pub made : HasMade judged (all || keeping) keeping disk_honest sides status tried
 
 -- so it is for the items of the makefile that is found by these files and times
 pub record Makes (world : World) (times : List ℕ → Option ℤ) (makefiles : Makefiles)
-    (profile : Profile) (definitions environment : List Variable) (targets : List (List ℕ)) (all goes_on : Bool) (before : List (List ℕ))
-    (disk_honest : Type 0) (seen : Which → List ℕ) (status : ℕ) (sides : Sides) (built : List (List ℕ)) : Type 0 where
+    (profile : Profile) (definitions environment : List Variable) (targets : List (List ℕ)) (all goes_on : Bool) (before : Tried)
+    (disk_honest : Type 0) (seen : Which → List ℕ) (status : ℕ) (sides : Sides) (tried : Tried) : Type 0 where
   pub items : List Item
   pub are_items : AreItems world times makefiles (first_defined profile definitions environment) items
   pub made : MakesItems profile definitions environment targets all goes_on before times items (keeps environment items) (keeps environment items)
-      disk_honest seen status sides built
+      disk_honest seen status sides tried

@@ -1,13 +1,14 @@
 //! The program over handed-in parts, where recipes are run.
-ghost use Rattle.std.specs.Prelude.{◌≡◌, ◌≢◌, ◌⊎◌, ◌≤◌, ℕ, ℤ, true, false, List, [], Option, Ok, codes, unwrap_or, IfOk, IfErr};
+ghost use Rattle.std.specs.Prelude.{◌≡◌, ◌≢◌, ◌⊎◌, ◌≤◌, ℕ, ℤ, true, false, List, Option, Ok, codes, unwrap_or, IfOk, IfErr};
 ghost use Rattle.mk_reader.specs.declared.item.Item.{Item as MakefileItem};
 ghost use Rattle.st_disk.specs.Moments.{now};
 ghost use Rattle.dmk_reading.specs.Keeping.{keeps, value_in};
 ghost use Rattle.dmk_reading.specs.Asked.{AsksToRun};
 ghost use Rattle.dmk_reading.specs.Definitions.{first_defined};
 ghost use Rattle.dmk_reading.specs.Planned.{AreItems};
+ghost use Rattle.dmk_run.specs.Behind.{none_tried};
 ghost use Rattle.dmk_run.specs.InTurn.{IsParted};
-ghost use Rattle.dmk_run.specs.Made.{Makes, MakesItems, names_built};
+ghost use Rattle.dmk_run.specs.Made.{Makes, MakesItems, tried_in};
 ghost use Rattle.dmk_run.specs.Opened.{RecoversAsBefore};
 ghost use Rattle.mk_eval.specs.Output.{World};
 
@@ -19,9 +20,10 @@ use crate::opening::{disk_of, open_store};
 use crate::planning::{Goals, planned};
 use crate::printer::Printer;
 use crate::stop::Stop;
+use crate::tried::Tried;
 use bd_flusher::Receipt;
 use bd_lists::{Exec, Variable};
-use byte_strings::{ByteString, ByteStrings};
+use byte_strings::ByteString;
 use dmk_reading::{Fault, Makefiles, Message, Options, items_of, keeps_state};
 use jb_recipe::Place;
 use jb_slots::Banks;
@@ -79,7 +81,7 @@ where
     ensures status { IfOk result.0 (λ s. s ≤ 2) }
     ensures makes { IfOk result.0 (λ s. (times : List ℕ → Option ℤ) → T.allows tree.new times
         → MakesItems goals.profile goals.definitions.items means.now.environment.now goals.targets wishes.now.makes_all wishes.now.goes_on
-        (unwrap_or goals.behind []) times items.items true keeping D.honest (D.seen disk) s (now (D.moments result.1)) (names_built result.2)) }
+        (unwrap_or goals.behind none_tried) times items.items true keeping D.honest (D.seen disk) s (now (D.moments result.1)) (tried_in result.2)) }
     ensures times { (times : List ℕ → Option ℤ) → T.allows tree.new times → T.allows tree.old times }
     ensures parted { IfErr result.0 (λ stop. IsParted stop → RecoversAsBefore D.honest (D.seen disk) (D.seen result.1)) }
     ensures let_go { K.serves banks.old ≡ false → K.serves banks.new ≡ false }
@@ -139,8 +141,8 @@ where
     ensures status { IfOk result.0 (λ s. s ≤ 2) }
     ensures makes { IfOk result.0 (λ s. (times : List ℕ → Option ℤ) → T.allows tree.new times
         → MakesItems goals.profile goals.definitions.items means.now.environment.now goals.targets wishes.now.makes_all wishes.now.goes_on
-        (unwrap_or goals.behind []) times items.items (keeps means.now.environment.now items.items) (keeps means.now.environment.now items.items)
-        D.honest (D.seen disk) s (now (D.moments result.1)) (names_built result.2)) }
+        (unwrap_or goals.behind none_tried) times items.items (keeps means.now.environment.now items.items) (keeps means.now.environment.now items.items)
+        D.honest (D.seen disk) s (now (D.moments result.1)) (tried_in result.2)) }
     ensures times { (times : List ℕ → Option ℤ) → T.allows tree.new times → T.allows tree.old times }
     ensures untouched { keeps means.now.environment.now items.items ≡ false → result.1 ≡ disk }
     ensures parted { IfErr result.0 (λ stop. IsParted stop → RecoversAsBefore D.honest (D.seen disk) (D.seen result.1)) }
@@ -193,7 +195,7 @@ where
     ensures status { IfOk result.0 (λ s. s ≤ 2) }
     ensures makes { IfOk result.0 (λ s. (world : World) (times : List ℕ → Option ℤ) → I.allows includes.new world → T.allows tree.new times
         → Makes world times makefiles.now goals.profile goals.definitions.items means.now.environment.now goals.targets wishes.now.makes_all wishes.now.goes_on
-        (unwrap_or goals.behind []) D.honest (D.seen disk) s (now (D.moments result.1)) (names_built result.2)) }
+        (unwrap_or goals.behind none_tried) D.honest (D.seen disk) s (now (D.moments result.1)) (tried_in result.2)) }
     ensures untouched { (result.1 ≡ disk) ⊎ ((world : World) (times : List ℕ → Option ℤ) → I.allows includes.new world → T.allows tree.new times
         → (items : List MakefileItem) × AreItems world times makefiles.now (first_defined goals.profile goals.definitions.items means.now.environment.now) items
         × (keeps means.now.environment.now items ≡ true)) }
@@ -280,8 +282,8 @@ pub(crate) fn status_of<R: Wait, O: Write + Drop, W: Write + Drop>(
 }
 
 /// Makes goals by one look at files: the targets that the options name, or the first of the makefile, and what they need. What came
-/// of it, the state's disk, and what it leaves to the parts behind it. `behind` has what parts before built and left without a file;
-/// None where there is one part.
+/// of it, the state's disk, and what it leaves to the parts behind it. `behind` has what parts before tried; None where there is one
+/// part.
 ///
 /// The makefile's faults come first, then, where state is kept, that the run which called this one has it, those of the state and
 /// of its compaction, then the rules'. Any of them ends the run before a recipe is run, and so does it that the goals are to be made in
@@ -292,7 +294,7 @@ pub fn build_at_once<R, T, I, E, O, W, P, G, K, D>(
     means: &Means<'_, E, Printer<'_, R, O, W>, P>,
     guard: &mut G,
     options: Options,
-    behind: Option<ByteStrings>,
+    behind: Option<Tried>,
     tree: &mut T,
     includes: &mut I,
     banks: &mut K,
@@ -319,7 +321,7 @@ where
     // gathered: so for all texts and times that agree with what was answered.
     ensures makes { IfOk result.0 (λ s. (world : World) (times : List ℕ → Option ℤ) → I.allows includes.new world → T.allows tree.new times
         → Makes world times options.makefiles options.profile options.definitions.items means.now.environment.now options.targets options.makes_all options.goes_on
-        (unwrap_or behind []) D.honest (D.seen disk) s (now (D.moments result.1)) (names_built result.2)) }
+        (unwrap_or behind none_tried) D.honest (D.seen disk) s (now (D.moments result.1)) (tried_in result.2)) }
     // Unless a makefile that was read keeps state, the disk is handed back as it came.
     ensures untouched { (result.1 ≡ disk) ⊎ ((world : World) (times : List ℕ → Option ℤ) → I.allows includes.new world → T.allows tree.new times
         → (items : List MakefileItem) × AreItems world times options.makefiles (first_defined options.profile options.definitions.items means.now.environment.now) items

@@ -1,19 +1,21 @@
 //! The parts of a run, made one behind the other: each over files that are looked at anew.
-ghost use Rattle.std.specs.Prelude.{◌≡◌, ◌≢◌, ◌≤◌, ℕ, ℤ, List, [], Option, Ok, codes, false, IfOk, IfErr, IsErrAnd, IsOk};
+ghost use Rattle.std.specs.Prelude.{◌≡◌, ◌≢◌, ◌≤◌, ℕ, ℤ, List, Option, Ok, codes, false, IfOk, IfErr, IsErrAnd, IsOk};
 ghost use Rattle.mk_profile.specs.declared.profile.Profile.TheVariants.{Strict};
 ghost use Rattle.st_disk.specs.Moments.{now};
 ghost use Rattle.dmk_reading.specs.Keeping.{value_in};
 ghost use Rattle.dmk_reading.specs.Asked.{AsksToRun};
+ghost use Rattle.dmk_run.specs.Behind.{none_tried};
 ghost use Rattle.dmk_run.specs.InTurn.{MakesPart, MakesWithLost, MadeInTurn, MadeBehind, IsMadeInTurn, IsParted, LeavesDisk};
+ghost use Rattle.dmk_run.specs.declared.tried.Tried.{Tried as TriedNames};
 
 use crate::driver::{Means, build_at_once, status_of};
 use crate::guard::Guard;
 use crate::left::Left;
-use crate::made::add_without_file;
 use crate::parts::{goes_on, in_parts, joined, part_behind, part_of};
 use crate::printer::Printer;
 use crate::standing::{Standing, lost_targets};
 use crate::stop::Stop;
+use crate::tried::Tried;
 use bd_flusher::Receipt;
 use bd_lists::Exec;
 use byte_strings::ByteStrings;
@@ -35,7 +37,7 @@ pub trait Looks<T: Tree> {
         ensures { (times : List ℕ → Option ℤ) → T.allows result times };
 }
 
-/// Makes a part of what the options ask for, over files that are looked at anew, behind parts that built these names without a file.
+/// Makes a part of what the options ask for, over files that are looked at anew, behind parts that tried these names.
 /// Its own are added.
 fn made_part<R, T, L, I, E, O, W, P, G, K, D>(
     rt: &R,
@@ -44,7 +46,7 @@ fn made_part<R, T, L, I, E, O, W, P, G, K, D>(
     guard: &mut G,
     options: &Options,
     targets: &ByteStrings,
-    names: &mut ByteStrings,
+    tried: &mut Tried,
     looks: &L,
     includes: &mut I,
     banks: &mut K,
@@ -67,12 +69,12 @@ where
     ensures status { IfOk result.0 (λ s. s ≤ 2) }
     ensures part { IfOk result.0 (MakesPart (λ source world. I.allows source world) (λ tree times. T.allows tree times) options.now
         means.now.environment.now D.honest (λ d. D.seen d) (λ d. now (D.moments d)) targets.now
-        (disk, names.old) (result.1, names.new)) }
+        (disk, tried.old) (result.1, tried.new)) }
     ensures untouched { LeavesDisk (λ source world. I.allows source world) (λ tree times. T.allows tree times) options.now
         means.now.environment.now disk result.1 }
     ensures let_go { K.serves banks.old ≡ false → K.serves banks.new ≡ false }
 {
-    let (part, behind) = match part_behind(alloc, options, targets, names) {
+    let (part, behind) = match part_behind(alloc, options, targets, tried) {
         Ok(part) => part,
         Err(error) => return (Err(Stop::from(error)), disk, Vec::new(alloc)),
     };
@@ -90,9 +92,13 @@ where
         disk,
     );
     drop(files);
-    let Left { standing, made } = left;
+    let Left {
+        standing,
+        made,
+        failed,
+    } = left;
     let mut since = looks.anew();
-    match add_without_file(alloc, &mut since, &made, names) {
+    match tried.add(alloc, &mut since, &made, &failed) {
         Ok(()) => (found, disk, standing),
         Err(error) => {
             drop(found);
@@ -109,7 +115,7 @@ fn lost_made<R, T, L, I, E, O, W, P, G, K, D>(
     means: &Means<'_, E, Printer<'_, R, O, W>, P>,
     guard: &mut G,
     options: &Options,
-    names: &mut ByteStrings,
+    tried: &mut Tried,
     looks: &L,
     includes: &mut I,
     banks: &mut K,
@@ -133,8 +139,8 @@ where
     ensures status { IfOk result.0 (λ s. s ≤ 2) }
     ensures behind { IfOk result.0 (λ s. (before : ℕ) × (ran.0 ≡ Ok before) × MadeBehind (MakesPart (λ source world. I.allows source world) (λ tree times. T.allows tree times) options.now
         means.now.environment.now D.honest (λ d. D.seen d) (λ d. now (D.moments d)))
-        options.now.goes_on before (ran.1, names.old) (result.1, names.new) s) }
-    ensures strict { options.now.profile ≡ Strict → (result.1 ≡ ran.1) × (names.new ≡ names.old) × IfOk result.0 (λ s. ran.0 ≡ Ok s) }
+        options.now.goes_on before (ran.1, tried.old) (result.1, tried.new) s) }
+    ensures strict { options.now.profile ≡ Strict → (result.1 ≡ ran.1) × (tried.new ≡ tried.old) × IfOk result.0 (λ s. ran.0 ≡ Ok s) }
     ensures untouched { LeavesDisk (λ source world. I.allows source world) (λ tree times. T.allows tree times) options.now
         means.now.environment.now ran.1 result.1 }
     ensures let_go { K.serves banks.old ≡ false → K.serves banks.new ≡ false }
@@ -151,7 +157,7 @@ where
         return (found, disk);
     }
     let (again, disk, more) = made_part(
-        rt, alloc, means, guard, options, &lost, names, looks, includes, banks, disk,
+        rt, alloc, means, guard, options, &lost, tried, looks, includes, banks, disk,
     );
     drop(more);
     (joined(found, again), disk)
@@ -185,25 +191,25 @@ where
     D: Disk + Drop + Send,
     requires { AsksToRun options.now (value_in means.now.environment.now (codes "MAKEFLAGS")) }
     ensures status { IfOk result.0 (λ s. s ≤ 2) }
-    ensures in_turn { IfOk result.0 (λ s. (names : List (List ℕ)) × MadeInTurn (MakesWithLost (MakesPart (λ source world. I.allows source world) (λ tree times. T.allows tree times) options.now
+    ensures in_turn { IfOk result.0 (λ s. (tried : TriedNames) × MadeInTurn (MakesWithLost (MakesPart (λ source world. I.allows source world) (λ tree times. T.allows tree times) options.now
         means.now.environment.now D.honest (λ d. D.seen d) (λ d. now (D.moments d))) options.now.goes_on)
-        options.now.goes_on parts.now (disk, []) (result.1, names) s) }
+        options.now.goes_on parts.now (disk, none_tried) (result.1, tried) s) }
     ensures untouched { LeavesDisk (λ source world. I.allows source world) (λ tree times. T.allows tree times) options.now
         means.now.environment.now disk result.1 }
     ensures let_go { K.serves banks.old ≡ false → K.serves banks.new ≡ false }
 {
     let mut disk = disk;
-    let mut names = ByteStrings::empty(alloc);
+    let mut tried = Tried::nothing(alloc);
     let mut found = Ok(0);
     for targets in parts {
         if !goes_on(options, &found) {
             break;
         }
         let ran = made_part(
-            rt, alloc, means, guard, options, targets, &mut names, looks, includes, banks, disk,
+            rt, alloc, means, guard, options, targets, &mut tried, looks, includes, banks, disk,
         );
         let (behind, left) = lost_made(
-            rt, alloc, means, guard, options, &mut names, looks, includes, banks, ran,
+            rt, alloc, means, guard, options, &mut tried, looks, includes, banks, ran,
         );
         disk = left;
         found = joined(found, behind);
@@ -253,12 +259,12 @@ where
     D: Disk + Drop + Send,
     requires { AsksToRun options.now (value_in means.now.environment.now (codes "MAKEFLAGS")) }
     ensures status { IfOk result.0 (λ s. s ≤ 2) }
-    ensures in_turn { IfOk result.0 (λ s. (names : List (List ℕ)) × IsMadeInTurn (MakesPart (λ source world. I.allows source world) (λ tree times. T.allows tree times) options.now
+    ensures in_turn { IfOk result.0 (λ s. (tried : TriedNames) × IsMadeInTurn (MakesPart (λ source world. I.allows source world) (λ tree times. T.allows tree times) options.now
         means.now.environment.now D.honest (λ d. D.seen d) (λ d. now (D.moments d)))
-        options.now.goes_on options.now.targets (disk, []) (result.1, names) s) }
-    ensures strict { options.now.profile ≡ Strict → IfOk result.0 (MakesPart (λ source world. I.allows source world) (λ tree times. T.allows tree times) options.now
+        options.now.goes_on options.now.targets (disk, none_tried) (result.1, tried) s) }
+    ensures strict { options.now.profile ≡ Strict → IfOk result.0 (λ s. (tried : TriedNames) × MakesPart (λ source world. I.allows source world) (λ tree times. T.allows tree times) options.now
         means.now.environment.now D.honest (λ d. D.seen d) (λ d. now (D.moments d)) options.now.targets
-        (disk, []) (result.1, [])) }
+        (disk, none_tried) (result.1, tried) s) }
     ensures untouched { LeavesDisk (λ source world. I.allows source world) (λ tree times. T.allows tree times) options.now
         means.now.environment.now disk result.1 }
     ensures let_go { K.serves banks.old ≡ false → K.serves banks.new ≡ false }
@@ -272,18 +278,23 @@ where
         rt, alloc, means, guard, whole, None, &mut tree, includes, banks, disk,
     );
     drop(tree);
-    let Left { standing, made: _ } = left;
+    let Left {
+        standing,
+        made: _,
+        failed,
+    } = left;
     let ends = match made_or_ends(options, found) {
         Ok(found) => {
             let ran = (found, disk, standing);
-            let mut names = ByteStrings::empty(alloc);
+            let mut tried = Tried::of_failed(alloc, failed);
             return lost_made(
-                rt, alloc, means, guard, options, &mut names, looks, includes, banks, ran,
+                rt, alloc, means, guard, options, &mut tried, looks, includes, banks, ran,
             );
         }
         Err(ends) => ends,
     };
     drop(standing);
+    drop(failed);
     match in_parts(alloc, &options.targets, &ends) {
         Ok(parts) => made_in_turn(
             rt, alloc, means, guard, options, &parts, looks, includes, banks, disk,
@@ -295,8 +306,8 @@ where
 /// Makes the targets that the words name, or the first of the makefile, and what they need. The status, and the state's disk.
 ///
 /// Goals of the wide profile may be made in parts, one behind the other: of each what `build_at_once` says holds, over the disk that
-/// the one before it left, and behind what those before it built without a file, which is not made again. So it is of targets that are
-/// lost since they were judged up to date, which are made behind it.
+/// the one before it left, and behind what those before it tried: neither what they built without a file is made again, nor what failed in them, or
+/// stands on that. So it is of targets that are lost since they were judged up to date, which are made behind it.
 pub fn build_targets<R, T, L, I, E, O, W, P, G, K, D>(
     rt: &R,
     alloc: Global,
@@ -326,12 +337,12 @@ where
     ensures status { result.0 ≤ 2 }
     // At another status than 2 the goals were made over the disk, in parts one behind the other, and behind a part maybe some targets that
     // were lost. Of each of these `build_at_once` tells what is so.
-    ensures in_turn { result.0 ≢ 2 → (names : List (List ℕ)) × IsMadeInTurn (MakesPart (λ source world. I.allows source world) (λ tree times. T.allows tree times) options
+    ensures in_turn { result.0 ≢ 2 → (tried : TriedNames) × IsMadeInTurn (MakesPart (λ source world. I.allows source world) (λ tree times. T.allows tree times) options
         means.now.environment.now D.honest (λ d. D.seen d) (λ d. now (D.moments d)))
-        options.goes_on options.targets (disk, []) (result.1, names) result.0 }
+        options.goes_on options.targets (disk, none_tried) (result.1, tried) result.0 }
     // In the strict profile there is one part.
-    ensures strict { result.0 ≢ 2 → options.profile ≡ Strict → MakesPart (λ source world. I.allows source world) (λ tree times. T.allows tree times) options
-        means.now.environment.now D.honest (λ d. D.seen d) (λ d. now (D.moments d)) options.targets (disk, []) (result.1, []) result.0 }
+    ensures strict { result.0 ≢ 2 → options.profile ≡ Strict → (tried : TriedNames) × MakesPart (λ source world. I.allows source world) (λ tree times. T.allows tree times) options
+        means.now.environment.now D.honest (λ d. D.seen d) (λ d. now (D.moments d)) options.targets (disk, none_tried) (result.1, tried) result.0 }
     // Unless a makefile that was read keeps state, the disk is handed back as it came.
     ensures untouched { LeavesDisk (λ source world. I.allows source world) (λ tree times. T.allows tree times) options
         means.now.environment.now disk result.1 }

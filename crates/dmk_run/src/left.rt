@@ -1,15 +1,17 @@
 //! What a part of a run leaves to those behind it.
-ghost use Rattle.std.specs.Prelude.{◌≡◌, [], Ok, IfOk, IfErr};
+ghost use Rattle.std.specs.Prelude.{◌≡◌, Ok, IfOk, IfErr};
 ghost use Rattle.std.specs.List.{All};
 ghost use Rattle.jb_closing.specs.declared.report.Report.{Report as RunReport};
 ghost use Rattle.dmk_reading.specs.Lost.{with_unmade};
 ghost use Rattle.dmk_run.specs.InTurn.{IsParted};
-ghost use Rattle.dmk_run.specs.Made.{IsBuiltWithoutFile, names_built};
+ghost use Rattle.dmk_run.specs.Behind.{none_tried};
+ghost use Rattle.dmk_run.specs.Made.{IsBuiltWithoutFile, AreFailed, AreTried, tried_in};
 
 use crate::building::reported;
-use crate::made::{Made, made_in};
+use crate::made::{Made, failed_in, made_in};
 use crate::standing::{Standing, standing_in};
 use crate::stop::Stop;
+use byte_strings::ByteStrings;
 use jb_closing::{Report, RunFault};
 use mk_nodes::Graph;
 use std::alloc::{AllocError, Global};
@@ -21,15 +23,18 @@ pub struct Left {
     pub(crate) standing: Vec<Standing>,
     /// What was built and had no file; none where there is one part.
     pub(crate) made: Vec<Made>,
+    /// The names of what failed.
+    pub(crate) failed: ByteStrings,
 }
 
 impl Left {
     pub(crate) fn nothing(alloc: Global) -> Left
-        ensures { result.made.items ≡ [] }
+        ensures { tried_in result ≡ none_tried }
     {
         Left {
             standing: Vec::new(alloc),
             made: Vec::new(alloc),
+            failed: ByteStrings::empty(alloc),
         }
     }
 }
@@ -49,6 +54,35 @@ fn made_for(
     }
 }
 
+/// What failed.
+fn failed_for(
+    alloc: Global,
+    graph: &Graph,
+    found: &Result<Report, RunFault>,
+) -> Result<ByteStrings, AllocError>
+    ensures { IfOk result (λ failed. IfOk found.now (λ r. AreFailed graph.now r.ends.items failed)) }
+{
+    match found {
+        Ok(report) => failed_in(alloc, graph, &report.ends),
+        Err(_) => Ok(ByteStrings::empty(alloc)),
+    }
+}
+
+/// What was built without a file, where parts may come behind, and what failed.
+fn tried_for(
+    alloc: Global,
+    is_part: bool,
+    graph: &Graph,
+    found: &Result<Report, RunFault>,
+) -> Result<(Vec<Made>, ByteStrings), AllocError>
+    ensures built { IfOk result (λ t. IfOk found.now (λ r. All (λ m. IsBuiltWithoutFile graph.now r.ends.items m.name) t.0.items)) }
+    ensures failed { IfOk result (λ t. IfOk found.now (λ r. AreFailed graph.now r.ends.items t.1)) }
+{
+    let made = made_for(alloc, is_part, graph, found)?;
+    let failed = failed_for(alloc, graph, found)?;
+    Ok((made, failed))
+}
+
 /// What a run over the graph comes to, and what it leaves to parts behind it.
 pub(crate) fn came_to(
     alloc: Global,
@@ -57,12 +91,19 @@ pub(crate) fn came_to(
     found: Result<Report, RunFault>,
 ) -> (Result<u8, Stop>, Left)
     ensures status { IfOk result.0 (λ s. (r : RunReport) × (found ≡ Ok r) × (s ≡ with_unmade graph.now.unmade.items r.status)
-        × All (IsBuiltWithoutFile graph.now r.ends.items) (names_built result.1)) }
+        × AreTried graph.now r.ends.items (tried_in result.1)) }
     ensures begun { IfErr result.0 (λ stop. IsParted stop → ⊥) }
 {
     let standing = standing_in(alloc, graph, &found);
-    match made_for(alloc, is_part, graph, &found) {
-        Ok(made) => (reported(graph, found), Left { standing, made }),
+    match tried_for(alloc, is_part, graph, &found) {
+        Ok((made, failed)) => {
+            let left = Left {
+                standing,
+                made,
+                failed,
+            };
+            (reported(graph, found), left)
+        }
         Err(error) => {
             drop(found);
             drop(standing);

@@ -2,6 +2,7 @@
 #![tactic(auto)]
 
 mod building;
+mod clearing;
 mod conducting;
 mod counting;
 mod driver;
@@ -26,6 +27,7 @@ mod status_line;
 mod stop;
 mod streams;
 mod taking;
+mod tried;
 mod trusting;
 mod unmade;
 

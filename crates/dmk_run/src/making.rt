@@ -4,7 +4,7 @@ ghost use Rattle.st_disk.specs.Moments.{now};
 ghost use Rattle.st_state.specs.Keepable.{AllCanBeKept};
 ghost use Rattle.st_recovery.specs.Stored.{IsStoredOn};
 ghost use Rattle.dmk_run.specs.InTurn.{IsParted};
-ghost use Rattle.dmk_run.specs.Made.{HasMade, names_built};
+ghost use Rattle.dmk_run.specs.Made.{HasMade, tried_in};
 ghost use Rattle.dmk_run.specs.Planned.{recorded_in};
 
 use crate::building::{Built, build};
@@ -60,7 +60,7 @@ where
     requires keepable { AllCanBeKept (recorded_in plan) }
     ensures status { IfOk result.0 (λ s. s ≤ 2) }
     ensures made { IfOk result.0 (λ s. HasMade plan.graph plan.conduct.counts_records plan.conduct.keeps_state D.honest (now (D.moments result.1)) s
-        (names_built result.2)) }
+        (tried_in result.2)) }
     ensures parted { IfErr result.0 (λ stop. IsParted stop → result.1 ≡ log.disk) }
     ensures let_go { K.serves banks.old ≡ false → K.serves banks.new ≡ false }
 {
@@ -113,7 +113,7 @@ where
     requires keepable { AllCanBeKept (recorded_in plan) }
     ensures status { IfOk result.0 (λ s. s ≤ 2) }
     ensures made { IfOk result.0 (λ s. HasMade plan.graph plan.conduct.counts_records plan.conduct.keeps_state D.honest (now (D.moments result.1)) s
-        (names_built result.2)) }
+        (tried_in result.2)) }
     ensures parted { IfErr result.0 (λ stop. IsParted stop → result.1 ≡ log.disk) }
     ensures let_go { K.serves banks.old ≡ false → K.serves banks.new ≡ false }
 {

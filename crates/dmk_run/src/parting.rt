@@ -1,5 +1,4 @@
 //! Where the goals of a run are parted, to be made one behind the other.
-use crate::conducting::Wishes;
 use crate::made::is_phony_name;
 use crate::refusing::ready_recipes;
 use crate::stop::Stop;
@@ -21,21 +20,13 @@ fn never_has_file(graph: &Graph, node: usize) -> bool {
     }
 }
 
-/// Whether the recipe of a node is run whatever it does: the node is phony, or has no file.
-fn is_always_made(graph: &Graph, node: usize) -> bool {
-    match graph.nodes.get(node) {
-        Some(known) => known.recipe.get().is_some() && !known.stamp.is_some(),
-        None => false,
-    }
-}
-
 /// Whether a file would be made in each part that needs it: it stands on what never has a file, which counts as made in each part, or all
 /// are to be made.
-fn is_file_made_in_each(wishes: &Wishes<'_>, graph: &Graph, node: usize) -> bool {
+fn is_made_in_each(makes_all: bool, graph: &Graph, node: usize) -> bool {
     if is_phony_name(graph, name_of(graph, node)) {
         return false;
     }
-    if wishes.makes_all {
+    if makes_all {
         return true;
     }
     let required = graph.required_edges();
@@ -44,12 +35,6 @@ fn is_file_made_in_each(wishes: &Wishes<'_>, graph: &Graph, node: usize) -> bool
             .row(node)
             .iter()
             .any(|needed| never_has_file(graph, *needed as usize))
-}
-
-/// Whether what is to be made might be made in each part that needs it. Where the run goes on behind a failure, what failed would be tried
-/// again.
-fn is_made_in_each(wishes: &Wishes<'_>, graph: &Graph, node: usize) -> bool {
-    wishes.goes_on && is_always_made(graph, node) || is_file_made_in_each(wishes, graph, node)
 }
 
 /// Whether a node has a file. A phony one has none, whatever there is.
@@ -183,7 +168,7 @@ fn place_in(places: &[Option<usize>], node: usize) -> Option<usize> {
 /// What a part made is up to date behind it, or has no file and isn't made again, but for some files.
 fn spans_of(
     alloc: Global,
-    wishes: &Wishes<'_>,
+    makes_all: bool,
     counting: bool,
     graph: &Graph,
 ) -> Result<Spans, AllocError> {
@@ -197,7 +182,7 @@ fn spans_of(
     for (node, is_made) in made.iter().enumerate() {
         if *is_made {
             let (first, last) = (place_in(&first, node), place_in(&last, node));
-            spans.add(first, last, is_made_in_each(wishes, graph, node));
+            spans.add(first, last, is_made_in_each(makes_all, graph, node));
         }
     }
     Ok(spans)
@@ -207,11 +192,11 @@ fn spans_of(
 /// nothing would be made twice.
 fn ends_of(
     alloc: Global,
-    wishes: &Wishes<'_>,
+    makes_all: bool,
     counting: bool,
     graph: &Graph,
 ) -> Result<Vec<bool>, AllocError> {
-    let Spans { is_run, farthest } = spans_of(alloc, wishes, counting, graph)?;
+    let Spans { is_run, farthest } = spans_of(alloc, makes_all, counting, graph)?;
     let mut ends = Vec::new(alloc);
     let mut runs = false;
     let mut needed = 0;
@@ -230,7 +215,7 @@ fn ends_of(
 /// run once the part before it is made.
 pub(crate) fn at_once(
     alloc: Global,
-    wishes: &Wishes<'_>,
+    makes_all: bool,
     counting: bool,
     graph: &Graph,
     shell: &OnceLock<ByteString>,
@@ -238,7 +223,7 @@ pub(crate) fn at_once(
     if !may_be_parted(graph) {
         return Ok(());
     }
-    let ends = ends_of(alloc, wishes, counting, graph)?;
+    let ends = ends_of(alloc, makes_all, counting, graph)?;
     if !ends.iter().any(|is_end| *is_end) {
         return Ok(());
     }

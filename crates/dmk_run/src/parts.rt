@@ -3,6 +3,7 @@ ghost use Rattle.std.specs.Prelude.{◌≡◌, ◌≤◌, true, false, IfOk};
 ghost use Rattle.dmk_run.specs.InTurn.{AreParts, GoesOn, EndsRun, Joined};
 
 use crate::stop::Stop;
+use crate::tried::Tried;
 use bd_lists::Variable;
 use byte_strings::ByteStrings;
 use dmk_reading::{Makefiles, Options};
@@ -86,13 +87,13 @@ pub(crate) fn part_of(
     })
 }
 
-/// What the options ask for, of these goals alone, and a copy of the names that parts before built without a file.
+/// What the options ask for, of these goals alone, and a copy of the names that parts before tried.
 pub(crate) fn part_behind(
     alloc: Global,
     options: &Options,
     targets: &ByteStrings,
-    names: &ByteStrings,
-) -> Result<(Options, ByteStrings), AllocError>
+    tried: &Tried,
+) -> Result<(Options, Tried), AllocError>
     ensures asks { IfOk result (λ made. made.0.asks ≡ options.now.asks) }
     ensures dry { IfOk result (λ made. made.0.is_dry ≡ options.now.is_dry) }
     ensures makefiles { IfOk result (λ made. made.0.makefiles ≡ options.now.makefiles) }
@@ -101,11 +102,11 @@ pub(crate) fn part_behind(
     ensures all { IfOk result (λ made. made.0.makes_all ≡ options.now.makes_all) }
     ensures goes_on { IfOk result (λ made. made.0.goes_on ≡ options.now.goes_on) }
     ensures targets { IfOk result (λ made. made.0.targets ≡ targets.now) }
-    ensures names { IfOk result (λ made. made.1 ≡ names.now) }
+    ensures tried { IfOk result (λ made. made.1 ≡ tried.now) }
 {
-    let names = names.copy(alloc)?;
+    let tried = tried.copy(alloc)?;
     let part = part_of(alloc, options, targets)?;
-    Ok((part, names))
+    Ok((part, tried))
 }
 
 /// Whether more is made behind what came to this.

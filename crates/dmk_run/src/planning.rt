@@ -9,15 +9,17 @@ ghost use Rattle.dmk_reading.specs.Definitions.{first_defined};
 ghost use Rattle.dmk_reading.specs.Planned.{IsGraphOf, judged_graph};
 ghost use Rattle.dmk_reading.specs.declared.fault.Fault.TheVariants as faults;
 ghost use Rattle.dmk_reading.specs.Lost.{goes_without};
-ghost use Rattle.dmk_run.specs.Behind.{IsJudgedBehind};
+ghost use Rattle.dmk_reading.specs.Passing.{PassesEach};
+ghost use Rattle.dmk_run.specs.Behind.{IsJudgedBehind, none_tried};
 ghost use Rattle.dmk_run.specs.Planned.{recorded_in};
 ghost use Rattle.dmk_run.specs.declared.stop.Stop.TheVariants as stops;
 
+use crate::clearing::graph_behind;
 use crate::conducting::Wishes;
-use crate::made::graph_behind;
 use crate::parting::at_once;
 use crate::printer::Printer;
 use crate::stop::Stop;
+use crate::tried::Tried;
 use crate::unmade::tell_unmade;
 use bd_lists::Variable;
 use byte_strings::{ByteString, ByteStrings};
@@ -40,9 +42,9 @@ pub struct Goals {
     pub profile: Profile,
     pub definitions: Vec<Variable>,
     pub targets: ByteStrings,
-    /// What parts before built and left without a file; None where they are all that the words ask for. A part is made at once, and
-    /// what there was to say of the makefiles is said.
-    pub behind: Option<ByteStrings>,
+    /// What parts before tried; None where they are all that the words ask for. A part is made at once, and what there was to say of the
+    /// makefiles is said.
+    pub behind: Option<Tried>,
 }
 
 /// The graph of what is to be made, by which it is judged, and how the run over it goes.
@@ -161,39 +163,53 @@ fn whole_at_once<R: Wait, O: Write + Drop, W: Write + Drop>(
     alloc: Global,
     printer: &Printer<'_, R, O, W>,
     shell: &OnceLock<ByteString>,
-    wishes: &Wishes<'_>,
+    makes_all: bool,
     counting: bool,
     graph: &Graph,
 ) -> Result<(), Stop> {
     if graph.soft_dropped {
         printer.soft_edges_dropped();
     }
-    at_once(alloc, wishes, counting, graph, shell)
+    at_once(alloc, makes_all, counting, graph, shell)
 }
 
-/// The graph by which goals are made that are all that the words ask for, or a part of that behind others. What there is to say of it
-/// is said.
+/// The graph by which goals are made that are all that the words ask for, or a part of that behind others.
+fn behind_or_whole<R: Wait, O: Write + Drop, W: Write + Drop>(
+    alloc: Global,
+    printer: &Printer<'_, R, O, W>,
+    shell: &OnceLock<ByteString>,
+    makes_all: bool,
+    counting: bool,
+    behind: Option<Tried>,
+    graph: Graph,
+) -> Result<Graph, Stop>
+    ensures judged { PassesEach graph → IfOk result (IsJudgedBehind (unwrap_or behind none_tried) graph) }
+    ensures state { IfOk result (λ judged. judged.state ≡ graph.state) }
+{
+    if let Some(before) = behind {
+        return Ok(graph_behind(alloc, graph, &before)?);
+    }
+    if let Err(stop) = whole_at_once(alloc, printer, shell, makes_all, counting, &graph) {
+        drop(graph);
+        return Err(stop);
+    }
+    Ok(graph)
+}
+
+/// So it is, and what there is to say of it is said.
 fn ready<R: Wait, O: Write + Drop, W: Write + Drop>(
     alloc: Global,
     printer: &Printer<'_, R, O, W>,
     shell: &OnceLock<ByteString>,
-    wishes: &Wishes<'_>,
+    makes_all: bool,
     counting: bool,
-    behind: Option<ByteStrings>,
+    behind: Option<Tried>,
     graph: Graph,
 ) -> Result<Graph, Stop>
-    ensures { IfOk result (IsJudgedBehind (unwrap_or behind []) graph) }
+    ensures judged { PassesEach graph → IfOk result (IsJudgedBehind (unwrap_or behind none_tried) graph) }
+    ensures state { IfOk result (λ judged. judged.state ≡ graph.state) }
 {
-    let graph = match behind {
-        Some(made) => graph_behind(alloc, graph, &made)?,
-        None => {
-            if let Err(stop) = whole_at_once(alloc, printer, shell, wishes, counting, &graph) {
-                drop(graph);
-                return Err(stop);
-            }
-            graph
-        }
-    };
+    let graph = behind_or_whole(alloc, printer, shell, makes_all, counting, behind, graph)?;
     tell_unmade(alloc, printer, &graph)?;
     Ok(graph)
 }
@@ -216,7 +232,7 @@ pub(crate) fn planned<R: Wait, T: Tree, O: Write + Drop, W: Write + Drop>(
     ensures graph { IfOk result (λ plan. (times : List ℕ → Option ℤ) → T.allows tree.new times
         → (graph : MadeGraph) × IsGraphOf goals.profile goals.definitions.items environment.now goals.targets times items.items state graph
         × (goes_without goals.profile wishes.now.goes_on ≡ false → graph.unmade.items ≡ [])
-        × IsJudgedBehind (unwrap_or goals.behind []) (judged_graph wishes.now.makes_all graph) plan.graph) }
+        × IsJudgedBehind (unwrap_or goals.behind none_tried) (judged_graph wishes.now.makes_all graph) plan.graph) }
     ensures times { (times : List ℕ → Option ℤ) → T.allows tree.new times → T.allows tree.old times }
     ensures state { IfOk result (λ plan. recorded_in plan ≡ state) }
     ensures keeping { IfOk result (λ plan. plan.conduct.keeps_state ≡ keeping) }
@@ -260,7 +276,7 @@ pub(crate) fn planned<R: Wait, T: Tree, O: Write + Drop, W: Write + Drop>(
         alloc,
         printer,
         shell,
-        wishes,
+        wishes.makes_all,
         conduct.counts_records,
         behind,
         graph,

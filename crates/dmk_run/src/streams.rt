@@ -26,8 +26,9 @@ pub(crate) struct Streams<O: Write + Drop, E: Write + Drop> {
     pub(crate) status: Option<StatusLine>,
     /// The run is over.
     pub(crate) is_over: bool,
-    /// It was told that a recipe wrote no report.
+    /// It was told that a recipe wrote no report, and that job slots aren't used.
     told_unreported: bool,
+    told_unused: bool,
     /// The names of which it was told that nothing makes them.
     unmade: Names,
 }
@@ -45,6 +46,7 @@ impl<O: Write + Drop, E: Write + Drop> Drop for Streams<O, E> {
             status: _,
             is_over: _,
             told_unreported: _,
+            told_unused: _,
             unmade: _,
         } = self;
     }
@@ -101,6 +103,7 @@ impl<O: Write + Drop, E: Write + Drop> Streams<O, E> {
             status,
             is_over: false,
             told_unreported: false,
+            told_unused: false,
             unmade: Names::new(alloc),
         }
     }
@@ -118,6 +121,7 @@ impl<O: Write + Drop, E: Write + Drop> Streams<O, E> {
             status: _,
             is_over: _,
             told_unreported: _,
+            told_unused: _,
             unmade: _,
         } = self;
         (out, err)
@@ -209,12 +213,21 @@ impl<O: Write + Drop, E: Write + Drop> Streams<O, E> {
         self.has_more = self.has_more || !self.failures.is_empty();
     }
 
-    /// Whether these news were told of another target, and are told once.
+    /// Whether these news were told of another target or part, and are told once.
     fn was_told(&mut self, news: News<'_>) -> bool {
-        let told = self.told_unreported;
-        let is_unreported = matches!(news, News::Unreported { .. });
-        self.told_unreported = told || is_unreported;
-        told && is_unreported
+        match news {
+            News::Unreported { .. } => {
+                let told = self.told_unreported;
+                self.told_unreported = true;
+                told
+            }
+            News::SlotsUnused => {
+                let told = self.told_unused;
+                self.told_unused = true;
+                told
+            }
+            _ => false,
+        }
     }
 
     /// Tells news. That a target failed is kept for the end of the run, as far as there is memory.

@@ -3,8 +3,8 @@ use Rattle.dmk_dry.specs.Faults.{IsPlanFault}
 use Rattle.dmk_reading.specs.Keeping.{keeps}
 use Rattle.dmk_dry.specs.Planned.{Tells}
 use Rattle.dmk_reading.proofs.AllowedLemmas.{each_ok, each_err}
-use Rattle.dmk_reading.proofs.PassingLemmas.{order_below, passes_each}
-use Rattle.dmk_dry.proofs.PassingLemmas.{order_judged, passes_judged}
+use Rattle.dmk_reading.proofs.PassingLemmas.{order_below, passes_each, passes_judged}
+use Rattle.dmk_dry.proofs.PassingLemmas.{order_judged}
 use Rattle.dmk_dry.proofs.PlanLemmas.{recipes_result, told_result}
 use Rattle.dmk_dry.proofs.planning.plan_items.Goals as goal
 

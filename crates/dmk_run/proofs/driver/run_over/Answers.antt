@@ -1,11 +1,12 @@
-use Rattle.std.proofs.Common.{true, [], Err, sym, subst}
+use Rattle.std.proofs.Common.{true, Err, sym, subst}
 use Rattle.std.specs.Prelude.{unwrap_or}
 use Rattle.st_disk.specs.Moments.{now}
 use Rattle.st_state.specs.State.{StateMap}
 use Rattle.st_state.specs.Keepable.{AllCanBeKept}
 use Rattle.st_recovery.specs.Stored.{IsStoredOn}
 use Rattle.dmk_reading.proofs.AllowedLemmas.{each_ok}
-use Rattle.dmk_run.specs.Made.{MakesItems, names_built}
+use Rattle.dmk_run.specs.Behind.{none_tried}
+use Rattle.dmk_run.specs.Made.{MakesItems, tried_in}
 use Rattle.dmk_run.proofs.DriverLemmas.{made_items, left_as_before}
 use Rattle.dmk_run.proofs.driver.run_over.Goals as goal
 
@@ -17,14 +18,14 @@ returns-in-Ok-planned-clause-makes g c =
     let environment = c.args.means.now.environment.now in
     let targets = c.args.goals.targets in
     let items = c.args.items.items in
-    let before = unwrap_or c.args.goals.behind [] in
+    let before = unwrap_or c.args.goals.behind none_tried in
     let seen = g.D.Disk.seen c.args.disk in
     let sides = now (g.D.Disk.moments c.make.result.1) in
     each_ok c.make.result.0 (g.T.Tree.allows c.planned.new.tree)
-    (λ times s. MakesItems profile definitions environment targets c.args.wishes.now.makes_all c.args.wishes.now.goes_on before times items true c.args.keeping g.D.Disk.honest seen s sides (names_built c.make.result.2))
+    (λ times s. MakesItems profile definitions environment targets c.args.wishes.now.makes_all c.args.wishes.now.goes_on before times items true c.args.keeping g.D.Disk.honest seen s sides (tried_in c.make.result.2))
     (λ times may.
     let (graph, is_graph, all_made, is_judged) = c.in-Ok-planned.ensures.graph times may in
-    made_items profile definitions environment targets c.args.wishes.now.makes_all c.args.wishes.now.goes_on before times (names_built c.make.result.2) items true c.args.keeping g.D.Disk.honest seen sides c.in-Ok.store.state
+    made_items profile definitions environment targets c.args.wishes.now.makes_all c.args.wishes.now.goes_on before times (tried_in c.make.result.2) items true c.args.keeping g.D.Disk.honest seen sides c.in-Ok.store.state
     graph plan.graph plan.conduct.counts_records plan.conduct.keeps_state c.in-Ok.ensures.found is_graph all_made is_judged c.in-Ok-planned.ensures.records c.in-Ok-planned.ensures.keeping c.make.result.0 c.make.ensures.made)
 
 -- what is recorded by the plan is the state of the store that was opened

@@ -1,44 +1,45 @@
-use Rattle.std.proofs.Common.{[], refl, sym, subst, IfOk}
-use Rattle.std.proofs.lemmas.List.Elements.{All-nil}
+use Rattle.std.proofs.Common.{refl, sym, subst, IfOk}
 use Rattle.mk_rule_lines.proofs.ResultLemmas.{if_ok}
 use Rattle.st_disk.specs.Moments.{now}
+use Rattle.dmk_run.specs.Behind.{none_tried}
 use Rattle.dmk_run.specs.InTurn.{MakesPart, AreParts}
-use Rattle.dmk_run.specs.Made.{IsBuiltWithoutFile, names_built}
-use Rattle.dmk_run.proofs.InTurnLemmas.{alone, with_lost, in_parts_over, made_before, before_of, leaves_both, passed_on, part_leaves, part_makes}
+use Rattle.dmk_run.specs.Made.{tried_in}
+use Rattle.dmk_run.proofs.InTurnLemmas.{alone, with_lost, in_parts_over, made_before, before_of, leaves_both, passed_on, part_leaves, first_makes}
 use Rattle.dmk_run.proofs.in_turn.made_whole.Goals as goal
 
 -- all goals are one part
 pub returns-in-Ok-made_or_ends-clause-in_turn : goal.returns-in-Ok-made_or_ends-clause-in_turn
 returns-in-Ok-made_or_ends-clause-in_turn g c =
+    let tried = c.of_failed-tried.result in
     let M = MakesPart (λ source world. g.I.Includes.allows source world) (λ tree times. g.T.Tree.allows tree times) c.args.options.now c.args.means.now.environment.now
-    g.D.Disk.honest (λ d. g.D.Disk.seen d) (λ d. now (g.D.Disk.moments d)) c.args.options.now.targets (c.args.disk, []) (c.build_at_once-found.result.1, []) in
+    g.D.Disk.honest (λ d. g.D.Disk.seen d) (λ d. now (g.D.Disk.moments d)) c.args.options.now.targets (c.args.disk, none_tried) (c.build_at_once-found.result.1, tried) in
     let made : IfOk c.in-Ok-made_or_ends.found M =
     subst (λ r. IfOk r M) (sym c.in-Ok-made_or_ends.ensures.found)
-    (part_makes (λ source world. g.I.Includes.allows source world) (λ tree times. g.T.Tree.allows tree times) c.args.means.now.environment.now c.in-Ok.whole c.args.options.now
+    (first_makes (λ source world. g.I.Includes.allows source world) (λ tree times. g.T.Tree.allows tree times) c.args.means.now.environment.now c.in-Ok.whole c.args.options.now
     c.in-Ok.ensures.makefiles c.in-Ok.ensures.profile c.in-Ok.ensures.definitions g.D.Disk.honest (λ d. g.D.Disk.seen d) (λ d. now (g.D.Disk.moments d))
-    c.args.options.now.targets c.in-Ok.ensures.targets c.in-Ok.ensures.all c.in-Ok.ensures.goes_on [] c.build_at_once-found.new.includes c.build_at_once-found.new.tree
-    c.args.disk c.build_at_once-found.result.1 [] (names_built c.build_at_once-found.result.2) [] [] c.build_at_once-found.result.0 refl refl
-    (λ graph ends all. All-nil (IsBuiltWithoutFile graph ends)) c.build_at_once-found.ensures.makes) in
-    if_ok c.lost_made.result.0 _ _ (λ s is. (c.lost_made.new.names, is))
-    (alone _ c.args.options.now.goes_on c.args.options.now.targets (c.args.disk, []) (c.lost_made.result.1, c.lost_made.new.names) c.lost_made.result.0
-    (with_lost _ c.args.options.now.goes_on c.args.options.now.targets (c.args.disk, []) (c.build_at_once-found.result.1, c.empty-names.result)
-    (c.lost_made.result.1, c.lost_made.new.names) c.in-Ok-made_or_ends.found c.lost_made.result.0
-    (subst (λ names. IfOk c.in-Ok-made_or_ends.found (MakesPart (λ source world. g.I.Includes.allows source world) (λ tree times. g.T.Tree.allows tree times) c.args.options.now c.args.means.now.environment.now
-    g.D.Disk.honest (λ d. g.D.Disk.seen d) (λ d. now (g.D.Disk.moments d)) c.args.options.now.targets (c.args.disk, []) (c.build_at_once-found.result.1, names))) (sym c.empty-names.ensures) made) c.lost_made.ensures.behind))
+    c.args.options.now.targets c.in-Ok.ensures.targets c.in-Ok.ensures.all c.in-Ok.ensures.goes_on none_tried c.build_at_once-found.new.includes c.build_at_once-found.new.tree
+    c.args.disk c.build_at_once-found.result.1 (tried_in c.build_at_once-found.result.2) tried c.build_at_once-found.result.0 refl
+    c.of_failed-tried.ensures.built c.of_failed-tried.ensures.failed c.build_at_once-found.ensures.makes) in
+    if_ok c.lost_made.result.0 _ _ (λ s is. (c.lost_made.new.tried, is))
+    (alone _ c.args.options.now.goes_on c.args.options.now.targets (c.args.disk, none_tried) (c.lost_made.result.1, c.lost_made.new.tried) c.lost_made.result.0
+    (with_lost _ c.args.options.now.goes_on c.args.options.now.targets (c.args.disk, none_tried) (c.build_at_once-found.result.1, tried)
+    (c.lost_made.result.1, c.lost_made.new.tried) c.in-Ok-made_or_ends.found c.lost_made.result.0 made c.lost_made.ensures.behind))
 
 pub returns-in-Ok-made_or_ends-clause-strict : goal.returns-in-Ok-made_or_ends-clause-strict
 returns-in-Ok-made_or_ends-clause-strict g c = λ strict.
+    let tried = c.of_failed-tried.result in
     let (same, names, status) = c.lost_made.ensures.strict strict in
-    passed_on (λ disk. MakesPart (λ source world. g.I.Includes.allows source world) (λ tree times. g.T.Tree.allows tree times) c.args.options.now c.args.means.now.environment.now
-    g.D.Disk.honest (λ d. g.D.Disk.seen d) (λ d. now (g.D.Disk.moments d)) c.args.options.now.targets (c.args.disk, []) (disk, []))
+    if_ok c.lost_made.result.0 _ _ (λ s is. (tried, is))
+    (passed_on (λ disk. MakesPart (λ source world. g.I.Includes.allows source world) (λ tree times. g.T.Tree.allows tree times) c.args.options.now c.args.means.now.environment.now
+    g.D.Disk.honest (λ d. g.D.Disk.seen d) (λ d. now (g.D.Disk.moments d)) c.args.options.now.targets (c.args.disk, none_tried) (disk, tried))
     c.in-Ok-made_or_ends.found c.lost_made.result.0 c.build_at_once-found.result.1 c.lost_made.result.1 same status
     (subst (λ r. IfOk r (MakesPart (λ source world. g.I.Includes.allows source world) (λ tree times. g.T.Tree.allows tree times) c.args.options.now c.args.means.now.environment.now
-    g.D.Disk.honest (λ d. g.D.Disk.seen d) (λ d. now (g.D.Disk.moments d)) c.args.options.now.targets (c.args.disk, []) (c.build_at_once-found.result.1, []))) (sym c.in-Ok-made_or_ends.ensures.found)
-    (part_makes (λ source world. g.I.Includes.allows source world) (λ tree times. g.T.Tree.allows tree times) c.args.means.now.environment.now c.in-Ok.whole c.args.options.now
+    g.D.Disk.honest (λ d. g.D.Disk.seen d) (λ d. now (g.D.Disk.moments d)) c.args.options.now.targets (c.args.disk, none_tried) (c.build_at_once-found.result.1, tried))) (sym c.in-Ok-made_or_ends.ensures.found)
+    (first_makes (λ source world. g.I.Includes.allows source world) (λ tree times. g.T.Tree.allows tree times) c.args.means.now.environment.now c.in-Ok.whole c.args.options.now
     c.in-Ok.ensures.makefiles c.in-Ok.ensures.profile c.in-Ok.ensures.definitions g.D.Disk.honest (λ d. g.D.Disk.seen d) (λ d. now (g.D.Disk.moments d))
-    c.args.options.now.targets c.in-Ok.ensures.targets c.in-Ok.ensures.all c.in-Ok.ensures.goes_on [] c.build_at_once-found.new.includes c.build_at_once-found.new.tree
-    c.args.disk c.build_at_once-found.result.1 [] (names_built c.build_at_once-found.result.2) [] [] c.build_at_once-found.result.0 refl refl
-    (λ graph ends all. All-nil (IsBuiltWithoutFile graph ends)) c.build_at_once-found.ensures.makes))
+    c.args.options.now.targets c.in-Ok.ensures.targets c.in-Ok.ensures.all c.in-Ok.ensures.goes_on none_tried c.build_at_once-found.new.includes c.build_at_once-found.new.tree
+    c.args.disk c.build_at_once-found.result.1 (tried_in c.build_at_once-found.result.2) tried c.build_at_once-found.result.0 refl
+    c.of_failed-tried.ensures.built c.of_failed-tried.ensures.failed c.build_at_once-found.ensures.makes)))
 
 pub returns-in-Ok-made_or_ends-clause-untouched : goal.returns-in-Ok-made_or_ends-clause-untouched
 returns-in-Ok-made_or_ends-clause-untouched g c =
@@ -52,11 +53,11 @@ returns-in-Ok-made_or_ends-clause-untouched g c =
 -- they are made in parts, the first over a disk that recovers what was found
 pub returns-in-Ok-in_parts-clause-in_turn : goal.returns-in-Ok-in_parts-clause-in_turn
 returns-in-Ok-in_parts-clause-in_turn g c =
-    in_parts_over _ c.args.options.now.goes_on c.args.options.now.targets c.deref-in-Ok-in_parts.result.now (c.args.disk, []) (c.build_at_once-found.result.1, [])
+    in_parts_over _ c.args.options.now.goes_on c.args.options.now.targets c.deref-in-Ok-in_parts.result.now (c.args.disk, none_tried) (c.build_at_once-found.result.1, none_tried)
     (λ names. (c.made_in_turn.result.1, names)) c.made_in_turn.result.0 (subst (AreParts c.args.options.now.targets) (sym c.deref-in-Ok-in_parts.ensures.value) c.in-Ok-in_parts.ensures)
     (made_before (λ source world. g.I.Includes.allows source world) (λ tree times. g.T.Tree.allows tree times) c.args.means.now.environment.now c.args.options.now
     g.D.Disk.honest (λ d. g.D.Disk.seen d) (λ d. now (g.D.Disk.moments d)) c.args.disk c.build_at_once-found.result.1
-    (before_of _ c.build_at_once-found.result.0 c.build_at_once-found.ensures.parted c.in-Err-made_or_ends.ensures.parted) [])
+    (before_of _ c.build_at_once-found.result.0 c.build_at_once-found.ensures.parted c.in-Err-made_or_ends.ensures.parted) none_tried)
     c.made_in_turn.ensures.in_turn
 
 pub returns-in-Ok-in_parts-clause-untouched : goal.returns-in-Ok-in_parts-clause-untouched

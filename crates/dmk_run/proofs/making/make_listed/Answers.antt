@@ -4,7 +4,7 @@ use Rattle.st_state.specs.State.{StateMap}
 use Rattle.st_state.specs.Keepable.{AllCanBeKept}
 use Rattle.st_recovery.specs.Stored.{IsStoredOn}
 use Rattle.mk_rule_lines.proofs.ResultLemmas.{if_ok}
-use Rattle.dmk_run.specs.Made.{names_built}
+use Rattle.dmk_run.specs.Made.{tried_in}
 use Rattle.dmk_run.proofs.DriverLemmas.{has_made, status_of_report, never_parted}
 use Rattle.dmk_run.proofs.making.make_listed.Goals as goal
 
@@ -12,7 +12,7 @@ pub returns-clause-made : goal.returns-clause-made
 returns-clause-made g c =
     rw c.disk_of-2.ensures
     (has_made c.args.plan.graph c.args.plan.conduct.counts_records c.args.plan.conduct.keeps_state g.D.Disk.honest (now (g.D.Disk.moments c.build-found.result.store.log.disk))
-    (names_built c.came_to-came_to.result.1) c.build-found.result.found c.came_to-came_to.result.0 c.came_to-came_to.ensures.status c.build-found.ensures.ends
+    (tried_in c.came_to-came_to.result.1) c.build-found.result.found c.came_to-came_to.result.0 c.came_to-came_to.ensures.status c.build-found.ensures.ends
     c.build-found.ensures.well c.build-found.ensures.borne_out c.build-found.ensures.made)
 
 pub returns-clause-status : goal.returns-clause-status

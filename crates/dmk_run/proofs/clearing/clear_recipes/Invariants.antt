@@ -1,7 +1,7 @@
 use Rattle.std.proofs.Common.{◌≡◌, ◌<◌, ◌≤◌, ℕ, Bool, Some, length, slice_get}
 use Rattle.std.specs.Prelude.{option_map}
 use Rattle.dmk_run.specs.Behind.{cleared_where}
-use Rattle.dmk_run.proofs.made.clear_recipes.Given as goal
+use Rattle.dmk_run.proofs.clearing.clear_recipes.Given as goal
 
 -- those so far are cleared where they are marked, the others are as they were
 abbrev pub invariant-loop-number : goal.invariant-loop-number

@@ -1,6 +1,6 @@
 use Rattle.std.proofs.Common.{sym, subst}
 use Rattle.dmk_run.proofs.BehindLemmas.{AreKnownSoFar, known_more}
-use Rattle.dmk_run.proofs.made.known_names.Goals as goal
+use Rattle.dmk_run.proofs.clearing.known_names.Goals as goal
 
 pub loop-name-preserved : goal.loop-name-preserved
 loop-name-preserved c =

@@ -1,0 +1,79 @@
+//! Names that parts of a run tried, for which none behind them runs a recipe again.
+ghost use Rattle.std.specs.Prelude.{◌≡◌, ◌↔◌, ◌++◌, [], IsTrue, IfOk, OnOk};
+ghost use Rattle.dmk_run.specs.Behind.{none_tried};
+ghost use Rattle.dmk_run.specs.Made.{AddsSome};
+
+use crate::made::{Made, add_without_file};
+use byte_strings::ByteStrings;
+use mk_rules::Tree;
+use std::alloc::{AllocError, Global};
+
+/// Names that parts of a run tried.
+#[derive(Drop)]
+pub struct Tried {
+    /// They were built, and have no file.
+    pub(crate) built: ByteStrings,
+    /// Their recipes failed.
+    pub(crate) failed: ByteStrings,
+}
+
+/// Adds names at the end.
+fn add_all(names: &mut ByteStrings, more: &ByteStrings) -> Result<(), AllocError>
+    ensures { OnOk result (names.new ≡ names.old ++ more.now) }
+{
+    for name in more {
+        names.push(name)?;
+    }
+    Ok(())
+}
+
+impl Tried {
+    pub(crate) fn nothing(alloc: Global) -> Tried
+        ensures { result ≡ none_tried }
+    {
+        Tried {
+            built: ByteStrings::empty(alloc),
+            failed: ByteStrings::empty(alloc),
+        }
+    }
+
+    /// What failed, where what was built isn't known.
+    pub(crate) fn of_failed(alloc: Global, failed: ByteStrings) -> Tried
+        ensures built { result.built ≡ [] }
+        ensures failed { result.failed ≡ failed }
+    {
+        Tried {
+            built: ByteStrings::empty(alloc),
+            failed,
+        }
+    }
+
+    pub(crate) fn is_nothing(&self) -> bool
+        ensures { IsTrue result ↔ (self.now ≡ none_tried) }
+    {
+        self.built.is_empty() && self.failed.is_empty()
+    }
+
+    pub(crate) fn copy(&self, alloc: Global) -> Result<Tried, AllocError>
+        ensures { IfOk result (λ tried. tried ≡ self.now) }
+    {
+        let built = self.built.copy(alloc)?;
+        let failed = self.failed.copy(alloc)?;
+        Ok(Tried { built, failed })
+    }
+
+    /// Adds what a part built and what still has no file, by new looks, and what failed in it.
+    pub(crate) fn add<T: Tree>(
+        &mut self,
+        alloc: Global,
+        tree: &mut T,
+        made: &[Made],
+        failed: &ByteStrings,
+    ) -> Result<(), AllocError>
+        ensures built { AddsSome made.now self.old.built self.new.built }
+        ensures failed { OnOk result (self.new.failed ≡ self.old.failed ++ failed.now) }
+    {
+        add_without_file(alloc, tree, made, &mut self.built)?;
+        add_all(&mut self.failed, failed)
+    }
+}
