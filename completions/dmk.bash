@@ -2,12 +2,15 @@
 _dmk() {
     local word=${COMP_WORDS[COMP_CWORD]} before=${COMP_WORDS[COMP_CWORD - 1]}
     COMPREPLY=()
+    # bash parts words at a `=`.
+    [ "$before" != = ] || before=${COMP_WORDS[COMP_CWORD - 2]}
+    [ "$word" != = ] || word=
     case $before in
-        -C) mapfile -t COMPREPLY < <(compgen -d -- "$word"); return ;;
-        -f | -K) mapfile -t COMPREPLY < <(compgen -f -- "$word"); return ;;
+        -C | --directory) mapfile -t COMPREPLY < <(compgen -d -- "$word"); return ;;
+        -f | --file | --makefile | -K) mapfile -t COMPREPLY < <(compgen -f -- "$word"); return ;;
     esac
     case $word in
-        -*) mapfile -t COMPREPLY < <(compgen -W '-C -e -f -K -r --posix -B -i -j -k -S --trust-files -n -q -d -p -s -w --no-print-directory -h --help -V --version' -- "$word") ;;
+        -*) mapfile -t COMPREPLY < <(compgen -W '-C --directory -e --environment-overrides -f --file --makefile -K -r --no-builtin-rules --posix -B --always-make -i --ignore-errors -j --jobs -k --keep-going -S --no-keep-going --stop --trust-files -n --dry-run --just-print --recon -q --question -d --trace -p --print-data-base -s --silent --quiet -w --print-directory --no-print-directory -h --help -V --version' -- "$word") ;;
         *) mapfile -t COMPREPLY < <(compgen -W "$(_dmk_targets)" -- "$word"; compgen -f -- "$word") ;;
     esac
 }

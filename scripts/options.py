@@ -1,5 +1,5 @@
 """Whether the help of dmk, its man page, docs/USING.md and the completions for bash and zsh have the same options, and whether
-USING.md has each message of the programs.
+USING.md has each option that is refused by name and each message of the programs.
 
 `python3 scripts/options.py [DMK]` runs the built program's --help; DMK is the path of another one. Help and man page group
 them alike: the groups of the one are the headings of the other. Messages are taken from the crates' sources: texts of errors, and
@@ -48,8 +48,10 @@ def groups_of_help(program):
     for line in text.splitlines():
         if found := re.fullmatch(r"(\w[\w ]*):", line):
             heading = found[1]
-        elif found := re.match(r"  +(-.*?)(?:  .*)?$", line):
-            groups.setdefault(heading, set()).update(re.findall(OPTION, found[1]))
+        else:
+            tag, aliases = re.match(r"  +(-.*?)(?:  .*)?$", line), re.search(r"\[alias(?:es)?: (.*)\]$", line)
+            for options in filter(None, (tag, aliases)):
+                groups.setdefault(heading, set()).update(re.findall(OPTION, options[1]))
     return groups
 
 
@@ -86,10 +88,21 @@ def options_of_zsh():
     options = set()
     for word in re.findall(r"^ {4}['\"](.*)$", arguments, re.M):
         if braces := re.search(r"\{(-[^}]*)\}", word):
-            options.update(braces[1].split(","))
+            options.update(option.rstrip("=") for option in braces[1].split(","))
         else:
             options.update(re.findall(r"^\*?(--?[A-Za-z][\w-]*)\[", word))
     return options
+
+
+def refused_options():
+    """The options of other makes that are refused, as the program names them."""
+    rows = text_of("crates/dmk_words/src/option_table.rt").split("    Row {")[1:]
+    return {re.search("id: " + STRING, row)[1] for row in rows if "Role::Refused(" in row}
+
+
+def refused_of_using():
+    """Those that USING.md has with the message."""
+    return set(re.findall(r"`(-[^`]*)`", re.search(r"`OPTION isn't supported: WHY`([^;]*);", section_of_using("When it goes wrong"))[1]))
 
 
 def texts_of(source):
@@ -136,7 +149,8 @@ def main():
     rows += [("the options under '%s' in help and man page" % name, helped[name], paged.get(name, set())) for name in helped]
     rows += [("the options of help and USING.md", everything, options_of_using()),
              ("the options of help and bash", everything, options_of_bash()),
-             ("the options of help and zsh", everything, options_of_zsh())]
+             ("the options of help and zsh", everything, options_of_zsh()),
+             ("the options that are refused and USING.md", refused_options(), refused_of_using())]
     told = section_of_using("When it goes wrong") + section_of_using("What is printed")
     wanted = words_of_messages(messages())
     rows += [("the messages of the programs and USING.md", wanted, {words for words in wanted if words in told})]

@@ -1,8 +1,9 @@
 //! The words of the command line, read by `clap`.
-use crate::arguments::find;
+use crate::arguments::{find, refusal};
 use crate::environment::read_environment;
 use crate::flags::taken_words;
 use crate::job_words::with_numbers;
+use crate::mistake::write_mistake;
 use crate::program::started_by;
 use crate::request::{Asked, INPUT, Later, Request, WordsFault};
 use bd_lists::Variable;
@@ -17,7 +18,6 @@ use mk_short_names::name_in;
 use plain_text::Plain;
 use std::alloc::{AllocError, Global};
 use std::env;
-use std::io::Write;
 
 /// How many recipes may run at once in the strict profile where the words don't say it.
 const STRICT: Above = Above {
@@ -62,7 +62,13 @@ pub fn read_words(rt: HostRuntime, processors: u16) -> Result<Request, WordsFaul
     };
     let above = workers_by(alloc, makeflags, processors, MAX_WORKERS)?;
     let found = find(alloc, count.as_str(), ArgAction::Append, &words);
-    checked(run_by(program, answered(rt, found, above)), makeflags)
+    match answered(rt, found, above) {
+        Ok(asked) => checked(Ok(run_by(program, asked)), makeflags),
+        Err(fault) => {
+            drop(program);
+            Err(fault)
+        }
+    }
 }
 
 /// What MAKE is, by the first of the words.
@@ -79,17 +85,17 @@ fn program_of(
 }
 
 /// What is asked for, of this program.
-fn run_by(
-    program: Option<Vec<u8>>,
-    asked: Result<Request, WordsFault>,
-) -> Result<Request, WordsFault> {
+fn run_by(program: Option<Vec<u8>>, asked: Request) -> Request {
     match asked {
-        Ok(Request::Make(asked)) => {
+        Request::Make(asked) => {
             let mut asked = asked;
             asked.program = program;
-            Ok(Request::Make(asked))
+            Request::Make(asked)
         }
-        other => other,
+        Request::Leave(status) => {
+            drop(program);
+            Request::Leave(status)
+        }
     }
 }
 
@@ -132,7 +138,7 @@ fn is_wide(found: &Result<ArgMatches<'_>, clap::Error>, environment: &[Variable]
     let (name, wide) = PROFILE;
     match found {
         Ok(found) => {
-            found.get_count("posix") > 0
+            found.contains_id("posix")
                 || value_of(environment, name) == wide
                 || posix(value_of(environment, b"MAKEFLAGS"))
         }
@@ -181,11 +187,8 @@ fn with_flags(
 
 // What the words that were found ask for, unless it is refused by name.
 fn request_of(alloc: Global, found: &ArgMatches<'_>, above: Above) -> Result<Request, WordsFault> {
-    if found.get_count("touches") > 0 {
-        return Err(WordsFault::Touch);
-    }
-    if found.contains_id("load") {
-        return Err(WordsFault::Load);
+    if let Some(fault) = refusal(found) {
+        return Err(fault);
     }
     let asked = asked_of(alloc, found, above)?;
     if asked.options.state.as_str() == "-" {
@@ -221,7 +224,8 @@ fn say(rt: HostRuntime, answer: clap::Error) -> Result<Request, WordsFault> {
         return Err(WordsFault::OutOfMemory);
     }
     if answer.use_stderr() {
-        let _ = write!(Plain::over(&mut rt.stderr()), "{answer}");
+        let text = format!(in rt.alloc(); "{answer}")?;
+        let _ = write_mistake(&mut Plain::over(&mut rt.stderr()), text.as_str());
         return Ok(Request::Leave(2));
     }
     match answer.print(&rt) {
@@ -254,13 +258,13 @@ fn makefiles_of(alloc: Global, found: &ArgMatches<'_>) -> Result<Makefiles, Allo
     }
     Ok(Makefiles {
         named,
-        without_rules: found.get_count("no_rules") > 0,
+        without_rules: found.contains_id("no_rules"),
     })
 }
 
 /// The language of the makefile.
 fn profile_of(found: &ArgMatches<'_>) -> Profile {
-    if found.get_count("posix") > 0 {
+    if found.contains_id("posix") {
         Profile::Posix
     } else {
         Profile::Strict
@@ -269,17 +273,17 @@ fn profile_of(found: &ArgMatches<'_>) -> Profile {
 
 /// How much -d tells, by how often it stands. With -B there is one reason for all.
 fn telling_of(found: &ArgMatches<'_>) -> Telling {
-    match found.get_count("tells") {
-        0 => Telling::Nothing,
-        _ if makes_all(found) => Telling::AllMade,
-        1 => Telling::Reasons,
-        _ => Telling::All,
+    match found.get_strs("tells") {
+        None => Telling::Nothing,
+        Some(_) if makes_all(found) => Telling::AllMade,
+        Some([_]) => Telling::Reasons,
+        Some(_) => Telling::All,
     }
 }
 
 /// Whether all targets are to be made.
 fn makes_all(found: &ArgMatches<'_>) -> bool {
-    found.get_count("makes_all") > 0
+    found.contains_id("makes_all")
 }
 
 /// How many recipes may run at once by the words: the last -j counts.
@@ -294,14 +298,14 @@ fn options_of(alloc: Global, found: &ArgMatches<'_>, workers: u16) -> Result<Opt
         profile: profile_of(found),
         state: String::from_str(alloc, found.get_str("state").unwrap_or(""))?,
         workers,
-        goes_on: found.get_count("goes_on") > 0,
-        is_dry: found.get_count("dry") > 0,
-        is_silent: found.get_count("silent") > 0,
-        ignores_statuses: found.get_count("ignore") > 0,
-        asks: found.get_count("asks") > 0,
+        goes_on: found.contains_id("goes_on"),
+        is_dry: found.contains_id("dry"),
+        is_silent: found.contains_id("silent"),
+        ignores_statuses: found.contains_id("ignore"),
+        asks: found.contains_id("asks"),
         makes_all: makes_all(found),
         telling: telling_of(found),
-        prints_base: found.get_count("base") > 0,
+        prints_base: found.contains_id("base"),
         definitions: Vec::new(alloc),
         targets: ByteStrings::empty(alloc),
     })
@@ -318,11 +322,10 @@ fn folders_of(alloc: Global, found: &ArgMatches<'_>) -> Result<Vec<String>, Allo
 
 /// Whether the folder is told: -w asks for it, and so does -C, but for -s and where it is told not to. A question prints nothing.
 fn tells_folder(found: &ArgMatches<'_>) -> bool {
-    if found.get_count("asks") > 0 || found.get_count("untold") > 0 {
+    if found.contains_id("asks") || found.contains_id("untold") {
         return false;
     }
-    found.get_count("told") > 0
-        || found.get_strs("folders").is_some() && found.get_count("silent") == 0
+    found.contains_id("told") || found.contains_id("folders") && !found.contains_id("silent")
 }
 
 fn asked_of(alloc: Global, found: &ArgMatches<'_>, above: Above) -> Result<Asked, AllocError> {
@@ -336,10 +339,11 @@ fn asked_of(alloc: Global, found: &ArgMatches<'_>, above: Above) -> Result<Asked
         tells_folder: tells_folder(found),
         program: None,
         later: Later {
-            environment_counts: found.get_count("environment") > 0,
+            environment_counts: found.contains_id("environment"),
             names_state: found.contains_id("state"),
-            trusts_files: found.get_count("trusts_files") > 0,
+            trusts_files: found.contains_id("trusts_files"),
             has_jobs: named.is_some() || above.is_said,
+            hides_folder: found.contains_id("untold"),
         },
         options,
     })

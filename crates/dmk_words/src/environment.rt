@@ -1,10 +1,9 @@
 //! The variables of the environment, as bytes.
-use crate::flags::handed_on;
+use crate::flags::flags_seen;
 use crate::request::Later;
 use bd_lists::Variable;
 use byte_strings::ByteString;
 use dmk_reading::{Options, usual_state, value_of};
-use mk_eval::doubled_text;
 use mk_profile::Profile;
 use std::alloc::{AllocError, Global};
 use std::env::{self, FillError};
@@ -136,20 +135,8 @@ pub fn macro_variables(
     with_own(rt, language, program, environment)
 }
 
-/// The letters of a word of options, without its hyphen and without those by which nothing is run: a recipe that holds them is judged as
-/// in a run.
-fn letters_of(alloc: Global, word: &[u8]) -> Result<Vec<u8>, AllocError> {
-    let mut letters = Vec::new(alloc);
-    for byte in word {
-        if *byte != b'-' && *byte != b'n' && *byte != b'q' {
-            letters.push(*byte)?;
-        }
-    }
-    Ok(letters)
-}
-
-/// The variables with MAKEFLAGS as macros see it in the wide profile, behind the one that came: the letters of the options, and the
-/// definitions, as they are handed on (GNU make). What else is asked of MAKEFLAGS is asked of the first one.
+/// The variables with MAKEFLAGS as macros see it in the wide profile, behind the one that came. What else is asked of MAKEFLAGS is asked
+/// of the first one.
 pub fn with_flags_seen(
     alloc: Global,
     options: &Options,
@@ -157,12 +144,9 @@ pub fn with_flags_seen(
     environment: Vec<Variable>,
 ) -> Result<Vec<Variable>, AllocError> {
     let before = later.definitions_before(options.profile, &environment);
-    let Some(handed) = handed_on(alloc, options, later, before, b"")? else {
+    let Some(text) = flags_seen(alloc, options, later, before)? else {
         return Ok(environment);
     };
-    let mut text = letters_of(alloc, &handed.options)?;
-    text.extend_from_slice(&handed.definitions)?;
-    let text = doubled_text(alloc, &text)?;
     let mut variables = environment;
     push(alloc, &mut variables, b"MAKEFLAGS", &text)?;
     Ok(variables)

@@ -1,13 +1,18 @@
 //! What MAKEFLAGS says of options and definitions, and what makes below are told of them. Only in the wide profile.
 
 use crate::request::Later;
+use bd_lists::Variable;
 use byte_strings::ByteStrings;
 use dmk_reading::Options;
 use jb_flags::{Handed, definition_words, has_value, jobs_word, words_of};
+use mk_eval::doubled_text;
 use std::alloc::{AllocError, Global};
 
 /// The options that are taken: those of POSIX make but -f and -p, and what GNU make shares with dmk.
 const TAKEN: &[u8] = b"BSeiknqrstw";
+
+/// The long option that is taken, and handed on.
+const HIDES_FOLDER: &[u8] = b"--no-print-directory";
 
 /// Appends the options of a word that are taken, as a word of the command line.
 fn push_options(alloc: Global, taken: &mut ByteStrings, letters: &[u8]) -> Result<(), AllocError> {
@@ -35,6 +40,7 @@ pub fn taken_words(alloc: Global, makeflags: &[u8]) -> Result<ByteStrings, Alloc
     for word in &words_of(alloc, makeflags)? {
         match word.strip_prefix(b"-") {
             Some(b"-") => has_options = false,
+            Some([b'-', ..]) if has_options && word == HIDES_FOLDER => taken.push(word)?,
             Some([b'-', ..]) => {}
             Some(letters) if has_options => push_options(alloc, &mut taken, letters)?,
             None if word.contains(&b'=') => taken.push(word)?,
@@ -46,7 +52,7 @@ pub fn taken_words(alloc: Global, makeflags: &[u8]) -> Result<ByteStrings, Alloc
     Ok(taken)
 }
 
-/// The options that makes below are told.
+/// The letters of options that makes below are told.
 fn option_word(
     alloc: Global,
     options: &Options,
@@ -71,6 +77,16 @@ fn option_word(
         }
     }
     Ok(word)
+}
+
+/// The options that makes below are told: a word of letters, and a long one behind it (GNU make).
+fn option_words(alloc: Global, options: &Options, later: Later) -> Result<Vec<u8>, AllocError> {
+    let mut words = option_word(alloc, options, later.environment_counts)?;
+    if later.hides_folder {
+        words.push(b' ')?;
+        words.extend_from_slice(HIDES_FOLDER)?;
+    }
+    Ok(words)
 }
 
 /// The words of MAKEFLAGS that tell of a jobserver, as they stand there before the definitions.
@@ -105,6 +121,11 @@ fn own_slot(alloc: Global, has_jobs: bool) -> Result<Vec<u8>, AllocError> {
     Ok(Vec::new(alloc))
 }
 
+/// The definitions of the command line, which stand behind so many others.
+fn definitions_behind(options: &Options, before: usize) -> &[Variable] {
+    options.definitions.get(before..).unwrap_or(&[])
+}
+
 /// What makes below are told of the options, and of the definitions of the command line, which stand behind so many others.
 pub fn handed_on(
     alloc: Global,
@@ -116,11 +137,41 @@ pub fn handed_on(
     if !options.profile.is_wide() {
         return Ok(None);
     }
-    let definitions = options.definitions.get(before..).unwrap_or(&[]);
+    let definitions = definitions_behind(options, before);
     Ok(Some(Handed {
-        options: option_word(alloc, options, later.environment_counts)?,
+        options: option_words(alloc, options, later)?,
         slots: shared_slots(alloc, options.workers, makeflags)?,
         alone: own_slot(alloc, later.has_jobs)?,
         definitions: definition_words(alloc, definitions)?,
     }))
+}
+
+/// Options as macros see them: the word of letters that they begin with without its hyphen, and without those by which nothing is run: a
+/// recipe that holds them is judged as in a run.
+fn letters_of(alloc: Global, words: &[u8]) -> Result<Vec<u8>, AllocError> {
+    let mut letters = Vec::new(alloc);
+    let mut are_letters = true;
+    for byte in words {
+        are_letters = are_letters && *byte != b' ';
+        if !are_letters || !b"-nq".contains(byte) {
+            letters.push(*byte)?;
+        }
+    }
+    Ok(letters)
+}
+
+/// MAKEFLAGS as macros see it in the wide profile: the options, and the definitions of the command line, as they are handed on (GNU make);
+/// None in the strict one.
+pub fn flags_seen(
+    alloc: Global,
+    options: &Options,
+    later: Later,
+    before: usize,
+) -> Result<Option<Vec<u8>>, AllocError> {
+    if !options.profile.is_wide() {
+        return Ok(None);
+    }
+    let mut text = letters_of(alloc, &option_words(alloc, options, later)?)?;
+    text.extend_from_slice(&definition_words(alloc, definitions_behind(options, before))?)?;
+    Ok(Some(doubled_text(alloc, &text)?))
 }

@@ -1,4 +1,5 @@
-//! The number of a -j: that of the processors, where none stands behind it.
+//! Options whose value may be left out, where another word stands behind them: the number of a -j is that of the processors.
+use crate::option_table::HELD;
 use dmk_reading::MAX_WORKERS;
 use std::alloc::{AllocError, Global};
 use std::thread::{self, Threads};
@@ -14,16 +15,24 @@ pub fn processors<R: Threads>(rt: &R) -> u16 {
     }
 }
 
-/// What can't stand before -j in one word of letters: those that take a value, and the dash of a long option.
-const NO_FLAGS: &str = "CfKjl-";
+/// What can't stand before the last letter in one word of letters: those that take a value, and the dash of a long option.
+const NO_FLAGS: &str = "CEIKOWfjlo-";
 
-// Whether a word ends in a -j without a number.
-fn ends_in_jobs(word: &str) -> bool {
+// Whether a word ends in this letter of an option, without a value.
+fn ends_in(word: &str, letter: char) -> bool {
     let Some(letters) = word.strip_prefix('-') else {
         return false;
     };
-    match letters.strip_suffix('j') {
-        Some(flags) => !flags.chars().any(|letter| NO_FLAGS.contains(letter)),
+    match letters.strip_suffix(letter) {
+        Some(flags) => !flags.chars().any(|flag| NO_FLAGS.contains(flag)),
+        None => false,
+    }
+}
+
+// Whether a word is this long option, perhaps cut short, without a value.
+fn is_long(word: &str, name: &str) -> bool {
+    match word.strip_prefix("--") {
+        Some(front) => !front.is_empty() && name.starts_with(front),
         None => false,
     }
 }
@@ -36,7 +45,23 @@ fn is_number_of_jobs(word: &str) -> bool {
     }
 }
 
-/// The words, each -j before a word that is no number of its with one: the word is a target, or an option.
+// What is to be written behind a word that leaves its value out, so that the next word isn't taken for it.
+fn left_out<'a>(word: &str, next: &str, processors: &'a str) -> (&'static str, &'a str) {
+    if is_long(word, "jobs") && !is_number_of_jobs(next) {
+        ("=", processors)
+    } else if ends_in(word, 'j') && !is_number_of_jobs(next) {
+        ("", processors)
+    } else if is_long(word, "output-sync") {
+        ("=", HELD)
+    } else if ends_in(word, 'O') {
+        ("", HELD)
+    } else {
+        ("", "")
+    }
+}
+
+/// The words, each -j before a word that is no number of its with one, and each -O with its word: what stands behind is a target, or an
+/// option.
 pub fn with_numbers(
     alloc: Global,
     words: Vec<String>,
@@ -46,14 +71,13 @@ pub fn with_numbers(
     let mut are_options = true;
     for (place, word) in words.iter().enumerate() {
         are_options = are_options && word.as_str() != "--";
-        let is_bare = match words.get(place.saturating_add(1)) {
-            Some(next) => are_options && !is_number_of_jobs(next.as_str()),
-            None => false,
+        let (sign, value) = match words.get(place.saturating_add(1)) {
+            Some(next) if are_options => left_out(word.as_str(), next.as_str(), processors),
+            _ => ("", ""),
         };
         let mut whole = word.clone()?;
-        if is_bare && ends_in_jobs(word.as_str()) {
-            whole.push_str(processors)?;
-        }
+        whole.push_str(sign)?;
+        whole.push_str(value)?;
         all.push(whole)?;
     }
     Ok(all)

@@ -6,6 +6,8 @@ mod command_line;
 mod environment;
 mod flags;
 mod job_words;
+mod mistake;
+mod option_table;
 mod program;
 mod request;
 

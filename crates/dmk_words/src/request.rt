@@ -36,6 +36,8 @@ pub struct Later {
     pub trusts_files: bool,
     /// The words or MAKEFLAGS say how many recipes may run at once.
     pub has_jobs: bool,
+    /// The words or MAKEFLAGS say that no folder is told.
+    pub hides_folder: bool,
 }
 
 /// What the words ask for.
@@ -63,10 +65,11 @@ pub enum WordsFault {
     StateInput,
     #[error("-f - stands twice: standard input can be read once")]
     InputTwice,
-    #[error("-t isn't supported: it would call targets made that aren't")]
-    Touch,
-    #[error("-l isn't supported: how busy the machine is isn't looked at")]
-    Load,
+    /// An option of GNU make, and why it isn't followed.
+    #[error("{0} isn't supported: {1}")]
+    Unsupported(&'static str, &'static str),
+    #[error("-O isn't supported but for -Otarget: what a recipe writes is held until it ends")]
+    OtherSync,
     #[error("--trust-files needs --posix")]
     TrustInStrict,
     #[error("--trust-files doesn't go with -n or -q, which record nothing")]
