@@ -30,8 +30,9 @@ const MAX_LOOKS: usize = 100;
 /// How many milliseconds a run has, between two looks, to end the step that the first one met.
 const PAUSE_MILLISECONDS: u64 = 2;
 
-/// Room for the fault of wanted memory, which has to be told where no more is to be had.
-const FAULT_BYTES: usize = 64;
+/// Room for the fault of wanted memory, which has to be told where no more is to be had. Behind a fault of the disk stands which call on
+/// the state failed, with the state's name.
+const FAULT_BYTES: usize = 128;
 
 /// What one look came to.
 struct Look {
@@ -73,7 +74,7 @@ impl Room {
     ) -> Result<Room, AllocError> {
         let alloc = host.alloc();
         let folder = SystemFolder::new(host, alloc, options.state.as_str())?;
-        let err = Vec::with_capacity(alloc, FAULT_BYTES)?;
+        let err = Vec::with_capacity(alloc, FAULT_BYTES.saturating_add(options.state.len()))?;
         let out = base_asked(host, options, environment, makefiles)?;
         let look = Look {
             status: 0,
