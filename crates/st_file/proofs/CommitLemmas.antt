@@ -7,51 +7,50 @@ use Rattle.st_disk.specs.Moments.{Moments, now, Throughout}
 use Rattle.st_disk.proofs.CrashLaws.{side_map}
 use Rattle.st_disk.proofs.MomentLaws.{throughout_map}
 use Rattle.st_disk.proofs.DeviceCalls.{at_first, settled_seen}
-use Rattle.st_records.specs.declared.version.Version.{Version}
-use Rattle.st_records.specs.declared.version.Version.TheVariants as versions
+use Rattle.st_records.specs.declared.version.Form.{Form}
 use Rattle.st_records.specs.declared.record.Record.{Record}
-use Rattle.st_file.specs.Batch.{framed, FillBatch}
-use Rattle.st_file.specs.Side.{HoldsUpTo}
+use Rattle.st_file.specs.Batch.{framed_in, FillBatchIn}
+use Rattle.st_file.specs.Side.{HoldsUpToIn}
 use Rattle.st_file.specs.Gated.{IsReady, IsClosedOrOpen, IsOpened, EndsClosed}
-use Rattle.st_file.specs.Grown.{HoldsWithOrWithout}
+use Rattle.st_file.specs.Grown.{HoldsWithOrWithoutIn}
 use Rattle.st_file.proofs.LogLemmas.{holds_closed, holds_open}
 
 -- the text of a batch ends in a closed gate
-pub ends_closed : (text : List ℕ) (rs : List Record) → text ≡ framed versions.Two rs ++ 0 ∷ [] → EndsClosed text
-ends_closed text rs is = record { front = framed versions.Two rs; ends = is }
+pub ends_closed : (form : Form) (text : List ℕ) (rs : List Record) → text ≡ framed_in form rs ++ 0 ∷ [] → EndsClosed text
+ends_closed form text rs is = record { front = framed_in form rs; ends = is }
 
 -- where the gate is closed or open before a batch's text, the side holds the records before or the batch's too
-pub holds_either : {s text : List ℕ} {v : Version} {generation end : ℕ} {held rs : List Record} → HoldsUpTo s v generation held end → v ≡ versions.Two → FillBatch versions.Two false rs → text ≡ framed versions.Two rs ++ 0 ∷ []
-    → (x : List ℕ) → IsClosedOrOpen (take end s) text x → HoldsWithOrWithout v generation held rs x
-holds_either {s} {text} {v} {generation} {end} {held} {rs} holds two fills is x (inl closed) = inl (end, holds_closed s x v generation end held holds closed)
-holds_either {s} {text} {v} {generation} {end} {held} {rs} holds two fills is x (inr opened) =
-    let fills_v = subst (λ (w : Version). FillBatch w false rs) (sym two) fills in
-    let is_v : text ≡ framed v rs ++ 0 ∷ [] = is ∙ ap (λ (w : Version). framed w rs ++ 0 ∷ []) (sym two) in
-    inr (end + length text, holds_open s x text v generation end held rs holds fills_v is_v opened)
+pub holds_either : {s text : List ℕ} {form written : Form} {generation end : ℕ} {held rs : List Record} → HoldsUpToIn s form generation held end → form ≡ written → FillBatchIn written false rs → text ≡ framed_in written rs ++ 0 ∷ []
+    → (x : List ℕ) → IsClosedOrOpen (take end s) text x → HoldsWithOrWithoutIn form generation held rs x
+holds_either {s} {text} {form} {written} {generation} {end} {held} {rs} holds same fills is x (inl closed) = inl (end, holds_closed s x form generation end held holds closed)
+holds_either {s} {text} {form} {written} {generation} {end} {held} {rs} holds same fills is x (inr opened) =
+    let own_fills = subst (λ (f : Form). FillBatchIn f false rs) (sym same) fills in
+    let own_text : text ≡ framed_in form rs ++ 0 ∷ [] = is ∙ ap (λ (f : Form). framed_in f rs ++ 0 ∷ []) (sym same) in
+    inr (end + length text, holds_open s x text form generation end held rs holds own_fills own_text opened)
 
-pub grown_by : {side : Which} {away : UnsyncedWrites} {m0 m1 : Moments} {s text : List ℕ} {v : Version} {generation end : ℕ} {held rs : List Record} → HoldsUpTo s v generation held end → v ≡ versions.Two → FillBatch versions.Two false rs
-    → text ≡ framed versions.Two rs ++ 0 ∷ [] → Throughout m0 m1 (SideHas side away (IsClosedOrOpen (take end s) text)) → Throughout m0 m1 (SideHas side away (HoldsWithOrWithout v generation held rs))
-grown_by holds two fills is gated = throughout_map gated (λ sides has. side_map sides (holds_either holds two fills is) has)
+pub grown_by : {side : Which} {away : UnsyncedWrites} {m0 m1 : Moments} {s text : List ℕ} {form written : Form} {generation end : ℕ} {held rs : List Record} → HoldsUpToIn s form generation held end → form ≡ written → FillBatchIn written false rs
+    → text ≡ framed_in written rs ++ 0 ∷ [] → Throughout m0 m1 (SideHas side away (IsClosedOrOpen (take end s) text)) → Throughout m0 m1 (SideHas side away (HoldsWithOrWithoutIn form generation held rs))
+grown_by holds same fills is gated = throughout_map gated (λ sides has. side_map sides (holds_either holds same fills is) has)
 
 -- before the first call the side holds the records before
-pub not_grown : {side : Which} {m0 : Moments} {s : List ℕ} {v : Version} {generation end : ℕ} {held : List Record} (rs : List Record) → IsReady s (writes_of side (now m0)) end → HoldsUpTo s v generation held end
-    → Throughout m0 m0 (SideHas side (writes_of (other side) (now m0)) (HoldsWithOrWithout v generation held rs))
-not_grown {side} {m0} {s} {v} {generation} {end} {held} rs ready holds =
-    at_first m0 (λ x image. inl (end, subst (λ (y : List ℕ). HoldsUpTo y v generation held end) (sym (settled_seen ready.on_disk image)) holds))
+pub not_grown : {side : Which} {m0 : Moments} {s : List ℕ} {form : Form} {generation end : ℕ} {held : List Record} (rs : List Record) → IsReady s (writes_of side (now m0)) end → HoldsUpToIn s form generation held end
+    → Throughout m0 m0 (SideHas side (writes_of (other side) (now m0)) (HoldsWithOrWithoutIn form generation held rs))
+not_grown {side} {m0} {s} {form} {generation} {end} {held} rs ready holds =
+    at_first m0 (λ x image. inl (end, subst (λ (y : List ℕ). HoldsUpToIn y form generation held end) (sym (settled_seen ready.on_disk image)) holds))
 
 -- after the last one it holds the batch's too
-pub grown : {s text seen : List ℕ} {writes : UnsyncedWrites} {v : Version} {generation end later : ℕ} {held rs : List Record} → HoldsUpTo s v generation held end → v ≡ versions.Two → FillBatch versions.Two false rs
-    → text ≡ framed versions.Two rs ++ 0 ∷ [] → IsOpened (take end s) text seen writes → later ≡ end + length text → HoldsUpTo seen v generation (held ++ rs) later
-grown {s} {text} {seen} {writes} {v} {generation} {end} {later} {held} {rs} holds two fills is opened place =
-    let fills_v = subst (λ (w : Version). FillBatch w false rs) (sym two) fills in
-    let is_v : text ≡ framed v rs ++ 0 ∷ [] = is ∙ ap (λ (w : Version). framed w rs ++ 0 ∷ []) (sym two) in
-    subst (λ (n : ℕ). HoldsUpTo seen v generation (held ++ rs) n) (sym place) (holds_open s seen text v generation end held rs holds fills_v is_v opened.opened)
+pub grown : {s text seen : List ℕ} {writes : UnsyncedWrites} {form written : Form} {generation end later : ℕ} {held rs : List Record} → HoldsUpToIn s form generation held end → form ≡ written → FillBatchIn written false rs
+    → text ≡ framed_in written rs ++ 0 ∷ [] → IsOpened (take end s) text seen writes → later ≡ end + length text → HoldsUpToIn seen form generation (held ++ rs) later
+grown {s} {text} {seen} {writes} {form} {written} {generation} {end} {later} {held} {rs} holds same fills is opened place =
+    let own_fills = subst (λ (f : Form). FillBatchIn f false rs) (sym same) fills in
+    let own_text : text ≡ framed_in form rs ++ 0 ∷ [] = is ∙ ap (λ (f : Form). framed_in f rs ++ 0 ∷ []) (sym same) in
+    subst (λ (n : ℕ). HoldsUpToIn seen form generation (held ++ rs) n) (sym place) (holds_open s seen text form generation end held rs holds own_fills own_text opened.opened)
 
 -- no records add nothing
-pub grown_by_none : {s : List ℕ} {v : Version} {generation end : ℕ} {held : List Record} (rs : List Record) → length rs ≡ 0 → HoldsUpTo s v generation held end → HoldsUpTo s v generation (held ++ rs) end
-grown_by_none {s} {v} {generation} {end} {held} rs none holds =
+pub grown_by_none : {s : List ℕ} {form : Form} {generation end : ℕ} {held : List Record} (rs : List Record) → length rs ≡ 0 → HoldsUpToIn s form generation held end → HoldsUpToIn s form generation (held ++ rs) end
+grown_by_none {s} {form} {generation} {end} {held} rs none holds =
     let same : held ≡ held ++ rs = sym (append-nil held) ∙ ap (λ (y : List Record). held ++ y) (sym (nil_from_length rs none)) in
-    subst (λ (h : List Record). HoldsUpTo s v generation h end) same holds
+    subst (λ (h : List Record). HoldsUpToIn s form generation h end) same holds
 
 -- a refusal passed on, in an answer of another type
 pub same_refusal : {S T E P : Type 0} (f g : E) → (IsErrOf {T = S} (Err f) g ↔ P) → IsErrOf {T = T} (Err f) g ↔ P

@@ -3,90 +3,90 @@ use Rattle.std.proofs.Common.{◌≡◌, ◌≢◌, ◌⊎◌, ℕ, zero, suc, �
 use Rattle.std.proofs.lemmas.Bool.{cases_lt}
 use Rattle.std.proofs.lemmas.List.{take-append-drop, length-append, length-take}
 use Rattle.std.specs.Int.{Width, w32, byte_len, to_le_bytes, from_le_bytes}
-use Rattle.st_records.specs.declared.version.Version.{Version}
+use Rattle.st_records.specs.declared.version.Form.{Form}
 use Rattle.st_records.specs.declared.record.Record.{Record}
 use Rattle.st_records.specs.declared.decoder.DecodeFault.{DecodeFault}
-use Rattle.st_records.specs.Encoding.{encoding, number}
-use Rattle.st_records.specs.Limits.{IsGood}
+use Rattle.st_records.specs.Encoding.{encoding_in, number}
+use Rattle.st_records.specs.Limits.{IsGoodIn}
 use Rattle.st_records.specs.Forms.{form_of}
 use Rattle.st_records.specs.Reading.{good_at}
 use Rattle.st_records.proofs.Fields.{IsBytes, IsBytes-take, IsBytes-drop}
 use Rattle.st_records.proofs.Records.{good_reads}
-use Rattle.st_records.proofs.Decoding.{one_encoding_lem}
-use Rattle.st_file.specs.Batch.{body, framed, may_stand, FillBatch, IsBody}
+use Rattle.st_records.proofs.Decoding.{one_encoding_in_lem}
+use Rattle.st_file.specs.Batch.{body_in, framed_in, may_stand, FillBatchIn, IsBodyIn}
 use Rattle.st_file.proofs.BatchLemmas.{HasRead, no_more, no_body_by_none, no_body_by_kept}
 use Rattle.st_file.proofs.FrameLemmas.{IsWide, wide32, same_number, no_batch_by_body, no_batch_by_count}
 
 -- ---- a record
 
-record HasFront (v : Version) (bytes : List ℕ) : Type 0 where
+record HasFront (form : Form) (bytes : List ℕ) : Type 0 where
   next : Record
-  good : IsGood v next
+  good : IsGoodIn form next
   rest : List ℕ
-  text : bytes ≡ encoding v next ++ rest
+  text : bytes ≡ encoding_in form next ++ rest
   fits : IsBytes rest
 
-abbrev LacksFront : Version → List ℕ → Type 0
-LacksFront v bytes = (r : Record) (rest : List ℕ) → IsGood v r → bytes ≢ encoding v r ++ rest
+abbrev LacksFront : Form → List ℕ → Type 0
+LacksFront form bytes = (r : Record) (rest : List ℕ) → IsGoodIn form r → bytes ≢ encoding_in form r ++ rest
 
-front_by : (v : Version) (bytes : List ℕ) (read : Result (Record × List ℕ) DecodeFault) → IsBytes bytes → good_at (form_of v) bytes ≡ read → HasFront v bytes ⊎ LacksFront v bytes
-front_by v bytes (Ok x) fits e =
-    let t = (good_reads (form_of v)).takes bytes x fits e in
+front_by : (form : Form) (bytes : List ℕ) (read : Result (Record × List ℕ) DecodeFault) → IsBytes bytes → good_at form bytes ≡ read → HasFront form bytes ⊎ LacksFront form bytes
+front_by form bytes (Ok x) fits e =
+    let t = (good_reads form).takes bytes x fits e in
     inl (record { next = x.0; good = t.1; rest = x.1; text = t.0.parts; fits = t.0.rest_fits })
-front_by v bytes (Err f) fits e =
+front_by form bytes (Err f) fits e =
     inr (λ r rest good is.
-    let wrong : Err f ≡ Ok (r, rest) = sym e ∙ ap (good_at (form_of v)) is ∙ (good_reads (form_of v)).again r rest good in
+    let wrong : Err f ≡ Ok (r, rest) = sym e ∙ ap (good_at form) is ∙ (good_reads form).again r rest good in
     cc)
 
-decide_front : (v : Version) (bytes : List ℕ) → IsBytes bytes → HasFront v bytes ⊎ LacksFront v bytes
-decide_front v bytes fits = front_by v bytes (good_at (form_of v) bytes) fits refl
+decide_front : (form : Form) (bytes : List ℕ) → IsBytes bytes → HasFront form bytes ⊎ LacksFront form bytes
+decide_front form bytes fits = front_by form bytes (good_at form bytes) fits refl
 
 -- ---- a body
 
-record HasBody (v : Version) (first : Bool) (count : ℕ) (bytes : List ℕ) : Type 0 where
+record HasBody (form : Form) (first : Bool) (count : ℕ) (bytes : List ℕ) : Type 0 where
   all : List Record
-  is : IsBody v first count all bytes
+  is : IsBodyIn form first count all bytes
 
-abbrev LacksBody : Version → Bool → ℕ → List ℕ → Type 0
-LacksBody v first count bytes = (rs : List Record) → IsBody v first count rs bytes → ⊥
+abbrev LacksBody : Form → Bool → ℕ → List ℕ → Type 0
+LacksBody form first count bytes = (rs : List Record) → IsBodyIn form first count rs bytes → ⊥
 
-nothing_read : (v : Version) (first : Bool) (bytes : List ℕ) → HasRead v first bytes [] 0 bytes
-nothing_read v first bytes = record { good = tt; allowed = tt; counted = refl; text = refl }
+nothing_read : (form : Form) (first : Bool) (bytes : List ℕ) → HasRead form first bytes [] 0 bytes
+nothing_read form first bytes = record { good = tt; allowed = tt; counted = refl; text = refl }
 
-none_later : (v : Version) (first : Bool) (n : ℕ) (bytes : List ℕ) (front : HasFront v bytes) → LacksBody v first n front.rest → LacksBody v first (suc n) bytes
-none_later v first n bytes front none [] is = absurd (omega (arith, is.counted))
-none_later v first n bytes front none (r ∷ rs) is =
-    let one = one_encoding_lem v r front.next (body v rs) front.rest is.good.0 front.good (sym is.text ∙ front.text) in
+none_later : (form : Form) (first : Bool) (n : ℕ) (bytes : List ℕ) (front : HasFront form bytes) → LacksBody form first n front.rest → LacksBody form first (suc n) bytes
+none_later form first n bytes front none [] is = absurd (omega (arith, is.counted))
+none_later form first n bytes front none (r ∷ rs) is =
+    let one = one_encoding_in_lem form r front.next (body_in form rs) front.rest is.good.0 front.good (sym is.text ∙ front.text) in
     none rs (record { good = is.good.1; allowed = is.allowed.1; counted = omega (arith, is.counted); text = sym one.1 })
 
-body_more : (v : Version) (first : Bool) (n : ℕ) (bytes : List ℕ) (front : HasFront v bytes) (may : Bool) → may_stand first front.next ≡ may → HasBody v first n front.rest ⊎ LacksBody v first n front.rest
-    → HasBody v first (suc n) bytes ⊎ LacksBody v first (suc n) bytes
-body_more v first n bytes front false e later =
-    inr (no_body_by_kept v first bytes [] 0 (suc n) bytes front.next front.rest (nothing_read v first bytes) (omega arith) front.good front.text e)
-body_more v first n bytes front true e (inl has) =
+body_more : (form : Form) (first : Bool) (n : ℕ) (bytes : List ℕ) (front : HasFront form bytes) (may : Bool) → may_stand first front.next ≡ may → HasBody form first n front.rest ⊎ LacksBody form first n front.rest
+    → HasBody form first (suc n) bytes ⊎ LacksBody form first (suc n) bytes
+body_more form first n bytes front false e later =
+    inr (no_body_by_kept form first bytes [] 0 (suc n) bytes front.next front.rest (nothing_read form first bytes) (omega arith) front.good front.text e)
+body_more form first n bytes front true e (inl has) =
     inl (record {
       all = front.next ∷ has.all;
       is = record {
         good = (front.good, has.is.good);
         allowed = (e, has.is.allowed);
         counted = ap suc has.is.counted;
-        text = front.text ∙ ap (λ (y : List ℕ). encoding v front.next ++ y) has.is.text;
+        text = front.text ∙ ap (λ (y : List ℕ). encoding_in form front.next ++ y) has.is.text;
       };
     })
-body_more v first n bytes front true e (inr none) = inr (none_later v first n bytes front none)
+body_more form first n bytes front true e (inr none) = inr (none_later form first n bytes front none)
 
-body_next : (v : Version) (first : Bool) (n : ℕ) (bytes : List ℕ) → HasFront v bytes ⊎ LacksFront v bytes → ((front : HasFront v bytes) → HasBody v first n front.rest ⊎ LacksBody v first n front.rest)
-    → HasBody v first (suc n) bytes ⊎ LacksBody v first (suc n) bytes
-body_next v first n bytes (inl front) later = body_more v first n bytes front (may_stand first front.next) refl (later front)
-body_next v first n bytes (inr none) later =
-    inr (no_body_by_none v first bytes [] 0 (suc n) bytes (nothing_read v first bytes) (omega arith) none)
+body_next : (form : Form) (first : Bool) (n : ℕ) (bytes : List ℕ) → HasFront form bytes ⊎ LacksFront form bytes → ((front : HasFront form bytes) → HasBody form first n front.rest ⊎ LacksBody form first n front.rest)
+    → HasBody form first (suc n) bytes ⊎ LacksBody form first (suc n) bytes
+body_next form first n bytes (inl front) later = body_more form first n bytes front (may_stand first front.next) refl (later front)
+body_next form first n bytes (inr none) later =
+    inr (no_body_by_none form first bytes [] 0 (suc n) bytes (nothing_read form first bytes) (omega arith) none)
 
-decide_body : (v : Version) (first : Bool) (count : ℕ) (bytes : List ℕ) → IsBytes bytes → HasBody v first count bytes ⊎ LacksBody v first count bytes
-decide_body v first zero [] fits =
+decide_body : (form : Form) (first : Bool) (count : ℕ) (bytes : List ℕ) → IsBytes bytes → HasBody form first count bytes ⊎ LacksBody form first count bytes
+decide_body form first zero [] fits =
     inl (record { all = []; is = record { good = tt; allowed = tt; counted = refl; text = refl } })
-decide_body v first zero (b ∷ bytes) fits = inr (λ rs is. no_more v b bytes rs is.text is.counted)
-decide_body v first (suc n) bytes fits =
-    body_next v first n bytes (decide_front v bytes fits) (λ front. decide_body v first n front.rest front.fits)
+decide_body form first zero (b ∷ bytes) fits = inr (λ rs is. no_more form b bytes rs is.text is.counted)
+decide_body form first (suc n) bytes fits =
+    body_next form first n bytes (decide_front form bytes fits) (λ front. decide_body form first n front.rest front.fits)
 
 -- ---- a number
 
@@ -171,23 +171,23 @@ decide_frame bytes fits =
 -- ---- a batch
 
 -- behind a gate a batch of this version stands
-pub record HasBatch (v : Version) (first : Bool) (bytes : List ℕ) : Type 0 where
+pub record HasBatch (form : Form) (first : Bool) (bytes : List ℕ) : Type 0 where
   pub all : List Record
-  pub filled : FillBatch v first all
+  pub filled : FillBatchIn form first all
   pub rest : List ℕ
-  pub text : bytes ≡ framed v all ++ rest
+  pub text : bytes ≡ framed_in form all ++ rest
   pub fits : IsBytes rest
 
 -- behind a gate no such batch stands
-abbrev pub LacksBatch : Version → Bool → List ℕ → Type 0
-LacksBatch v first bytes = (rs : List Record) (rest : List ℕ) → FillBatch v first rs → bytes ≢ framed v rs ++ rest
+abbrev pub LacksBatch : Form → Bool → List ℕ → Type 0
+LacksBatch form first bytes = (rs : List Record) (rest : List ℕ) → FillBatchIn form first rs → bytes ≢ framed_in form rs ++ rest
 
-batch_of_frame : (v : Version) (first : Bool) (bytes : List ℕ) (f : HasFrame bytes) → (0 < f.count) ⊎ (f.count ≤ 0) → HasBody v first f.count f.text ⊎ LacksBody v first f.count f.text → HasBatch v first bytes ⊎ LacksBatch v first bytes
-batch_of_frame v first bytes f (inr none) b =
-    inr (no_batch_by_count v first f.count f.text f.rest bytes (omega arith) f.short f.parts)
-batch_of_frame v first bytes f (inl some) (inr none) =
-    inr (no_batch_by_body v first f.count f.text f.rest bytes f.few f.short f.parts none)
-batch_of_frame v first bytes f (inl some) (inl has) =
+batch_of_frame : (form : Form) (first : Bool) (bytes : List ℕ) (f : HasFrame bytes) → (0 < f.count) ⊎ (f.count ≤ 0) → HasBody form first f.count f.text ⊎ LacksBody form first f.count f.text → HasBatch form first bytes ⊎ LacksBatch form first bytes
+batch_of_frame form first bytes f (inr none) b =
+    inr (no_batch_by_count form first f.count f.text f.rest bytes (omega arith) f.short f.parts)
+batch_of_frame form first bytes f (inl some) (inr none) =
+    inr (no_batch_by_body form first f.count f.text f.rest bytes f.few f.short f.parts none)
+batch_of_frame form first bytes f (inl some) (inl has) =
     inl (record {
       all = has.all;
       filled = record {
@@ -199,14 +199,14 @@ batch_of_frame v first bytes f (inl some) (inl has) =
       rest = f.rest;
       text = f.parts
           ∙ ap (λ (t : List ℕ). number (length t) ++ (number f.count ++ (t ++ f.rest))) has.is.text
-          ∙ ap (λ (k : ℕ). number (length (body v has.all)) ++ (number k ++ (body v has.all ++ f.rest))) (sym has.is.counted);
+          ∙ ap (λ (k : ℕ). number (length (body_in form has.all)) ++ (number k ++ (body_in form has.all ++ f.rest))) (sym has.is.counted);
       fits = f.fits;
     })
 
 -- it does or it doesn't
-pub decide_batch : (v : Version) (first : Bool) (bytes : List ℕ) → IsBytes bytes → HasBatch v first bytes ⊎ LacksBatch v first bytes
-decide_batch v first bytes fits =
+pub decide_batch : (form : Form) (first : Bool) (bytes : List ℕ) → IsBytes bytes → HasBatch form first bytes ⊎ LacksBatch form first bytes
+decide_batch form first bytes fits =
     elim (decide_frame bytes fits) [
-      | inl f ↦ batch_of_frame v first bytes f (cases_lt 0 f.count) (decide_body v first f.count f.text f.text_fits)
-      | inr none ↦ inr (λ rs rest filled e. none (length rs) (body v rs) rest filled.short e)
+      | inl f ↦ batch_of_frame form first bytes f (cases_lt 0 f.count) (decide_body form first f.count f.text f.text_fits)
+      | inr none ↦ inr (λ rs rest filled e. none (length rs) (body_in form rs) rest filled.short e)
     ]

@@ -5,17 +5,17 @@ use Rattle.std.proofs.lemmas.List.{append-nil, length-append, length-drop, nil_f
 use Rattle.std.proofs.lemmas.List.Folds.{drop_split}
 use Rattle.std.specs.Int.{w16, to_le_bytes}
 use Rattle.st_disk.specs.declared.which.Which.{Which}
-use Rattle.st_records.specs.declared.version.Version.{Version}
+use Rattle.st_records.specs.declared.version.Form.{Form}
 use Rattle.st_records.specs.declared.record.Record.{Record}
 use Rattle.std.specs.List.{AllByRecursion}
-use Rattle.st_records.specs.Limits.{IsGood}
+use Rattle.st_records.specs.Limits.{IsGoodIn}
 use Rattle.st_file.specs.declared.fault.OpenFault.{OpenFault}
 use Rattle.st_file.specs.declared.fault.OpenFault.TheVariants as faults
 use Rattle.st_file.specs.declared.window.Window.{Window}
-use Rattle.st_file.specs.Layout.{version_number, IsNamed, magic}
-use Rattle.st_file.specs.Batch.{framed, FillBatch, records_of}
-use Rattle.st_file.specs.Side.{IsVoid, HoldsUpTo, LacksHeader, LacksVersion, LacksGeneration, IsForeign, IsRefused, IsDamagedAt, IsBroken, Reaches}
-use Rattle.st_file.specs.Sink.{AddsRecords, HasTakenGood}
+use Rattle.st_file.specs.Layout.{version_number_in, IsReadIn, IsNamed, magic}
+use Rattle.st_file.specs.Batch.{framed_in, FillBatchIn, records_of}
+use Rattle.st_file.specs.Side.{IsVoid, HoldsUpToIn, LacksHeaderIn, LacksVersion, LacksNumbersIn, IsForeign, IsRefusedIn, IsDamagedAtIn, IsBrokenIn, ReachesIn}
+use Rattle.st_file.specs.Sink.{AddsRecords, HasTakenGoodIn}
 use Rattle.st_file.specs.Window.{ahead, Shows, ShowsHeader, ShowsBatch, IsEnough}
 use Rattle.st_file.proofs.SideLemmas.{HasWalked, walked_more, broken_here}
 
@@ -80,27 +80,27 @@ frame_or_all x w left shows left_is few =
 pub ShowsBatch-of : (x : List ℕ) (w v : Window) (left n : ℕ) → Shows x w → Shows x v → v.place ≡ w.place → w.place + left ≡ w.len → min 9 left ≤ length (ahead w) → IsEnough (ahead w) left n → n ≤ length (ahead v) → ShowsBatch x v
 ShowsBatch-of x w v left n shows later same left_is few enough reached = record {
   shows = later;
-  whole = λ version rs gate rest short begins.
-      let here : ahead w ++ shows.behind ≡ gate ∷ (framed version rs ++ rest) = sym shows.parts ∙ ap (λ (k : ℕ). drop k x) (sym same) ∙ begins in
+  whole = λ form rs gate rest short begins.
+      let here : ahead w ++ shows.behind ≡ gate ∷ (framed_in form rs ++ rest) = sym shows.parts ∙ ap (λ (k : ℕ). drop k x) (sym same) ∙ begins in
       let all : length (ahead w) + length shows.behind ≡ left = omega (arith, left_is, shows.len_is, length_shown x w shows) in
-      let fits = enough.holds version rs gate shows.behind rest short all (frame_or_all x w left shows left_is few) here in
+      let fits = enough.holds form rs gate shows.behind rest short all (frame_or_all x w left shows left_is few) here in
       omega (arith, fits, reached);
 }
 
 -- ---- the header
 
-refused_damaged : (x : List ℕ) (place : ℕ) → ((place ≡ 9) × LacksVersion x) ⊎ ((place ≡ 11) × LacksGeneration x) → IsDamagedAt x place
-refused_damaged x place (inl version) = inl version
-refused_damaged x place (inr generation) = inr (inl generation)
+refused_damaged : (newest : Form) (x : List ℕ) (place : ℕ) → LacksNumbersIn newest x place → IsDamagedAtIn newest x place
+refused_damaged newest x place (inl version) = inl version
+refused_damaged newest x place (inr generation) = inr (inl generation)
 
 -- a side without a header is refused
-pub refused_of : (side : Which) (x : List ℕ) (fault : OpenFault) → LacksHeader side x fault → IsRefused side x fault
-refused_of side x (faults.NotState s) lacks = lacks
-refused_of side x (faults.UnknownVersion s version) lacks = lacks
-refused_of side x (faults.Damaged s place) lacks = (lacks.0, refused_damaged x place lacks.1)
-refused_of side x faults.Device lacks = lacks
-refused_of side x faults.OutOfMemory lacks = lacks
-refused_of side x faults.SameGeneration lacks = lacks
+pub refused_of : (newest : Form) (side : Which) (x : List ℕ) (fault : OpenFault) → LacksHeaderIn newest side x fault → IsRefusedIn newest side x fault
+refused_of newest side x (faults.NotState s) lacks = lacks
+refused_of newest side x (faults.UnknownVersion s version) lacks = lacks
+refused_of newest side x (faults.Damaged s place) lacks = (lacks.0, refused_damaged newest x place lacks.1)
+refused_of newest side x faults.Device lacks = lacks
+refused_of newest side x faults.OutOfMemory lacks = lacks
+refused_of newest side x faults.SameGeneration lacks = lacks
 
 -- whether a side is void is seen at its front
 front_void : (x front behind : List ℕ) → x ≡ front ++ behind → (19 ≤ length front) ⊎ (behind ≡ []) → IsVoid x → IsVoid front
@@ -127,21 +127,21 @@ foreign_front x front behind e long foreign = record {
       foreign.unnamed (drop 9 front) (record { gate = named.gate; is_open = named.is_open; text = prefix_of front behind p rest begins (omega (arith, long)) });
 }
 
-damaged_long : (x front behind : List ℕ) (place : ℕ) → x ≡ front ++ behind → 19 ≤ length front → ((place ≡ 9) × LacksVersion front) ⊎ ((place ≡ 11) × LacksGeneration front) → ((place ≡ 9) × LacksVersion x) ⊎ ((place ≡ 11) × LacksGeneration x)
-damaged_long x front behind place e long (inl lacks) =
+damaged_long : (newest : Form) (x front behind : List ℕ) (place : ℕ) → x ≡ front ++ behind → 19 ≤ length front → LacksNumbersIn newest front place → LacksNumbersIn newest x place
+damaged_long newest x front behind place e long (inl lacks) =
     absurd (omega (arith, long, lacks.1.cut, length-named front lacks.1.rest lacks.1.named))
-damaged_long x front behind place e long (inr lacks) =
-    let v = lacks.1.v in
+damaged_long newest x front behind place e long (inr lacks) =
+    let form = lacks.1.form in
     let rest = lacks.1.rest in
-    let named = named_front x front behind (to_le_bytes w16 (version_number v) ++ rest) e lacks.1.named in
+    let named = named_front x front behind (to_le_bytes w16 (version_number_in form) ++ rest) e lacks.1.named in
     elim lacks.1.cut [
-      | inl short ↦ absurd (omega (arith, long, short, length-named front (to_le_bytes w16 (version_number v) ++ rest) lacks.1.named))
-      | inr zero ↦ inr (lacks.0, record { v = v; rest = rest ++ behind; named = named; cut = inr (zero.0 ++ behind, ap (λ (y : List ℕ). y ++ behind) zero.1) })
+      | inl short ↦ absurd (omega (arith, long, short, length-named front (to_le_bytes w16 (version_number_in form) ++ rest) lacks.1.named))
+      | inr zero ↦ inr (lacks.0, record { form = form; is_read = lacks.1.is_read; rest = rest ++ behind; named = named; cut = inr (zero.0 ++ behind, ap (λ (y : List ℕ). y ++ behind) zero.1) })
     ]
 
-lacks_long : (side : Which) (x front behind : List ℕ) (fault : OpenFault) → x ≡ front ++ behind → 19 ≤ length front → LacksHeader side front fault → LacksHeader side x fault
-lacks_long side x front behind (faults.NotState s) e long lacks = (lacks.0, foreign_front x front behind e long lacks.1)
-lacks_long side x front behind (faults.UnknownVersion s version) e long lacks = (
+lacks_long : (newest : Form) (side : Which) (x front behind : List ℕ) (fault : OpenFault) → x ≡ front ++ behind → 19 ≤ length front → LacksHeaderIn newest side front fault → LacksHeaderIn newest side x fault
+lacks_long newest side x front behind (faults.NotState s) e long lacks = (lacks.0, foreign_front x front behind e long lacks.1)
+lacks_long newest side x front behind (faults.UnknownVersion s version) e long lacks = (
   lacks.0,
   record {
     rest = lacks.1.rest ++ behind;
@@ -150,17 +150,17 @@ lacks_long side x front behind (faults.UnknownVersion s version) e long lacks = 
     other = lacks.1.other;
   },
 )
-lacks_long side x front behind (faults.Damaged s place) e long lacks = (lacks.0, damaged_long x front behind place e long lacks.1)
-lacks_long side x front behind faults.Device e long lacks = lacks
-lacks_long side x front behind faults.OutOfMemory e long lacks = lacks
-lacks_long side x front behind faults.SameGeneration e long lacks = lacks
+lacks_long newest side x front behind (faults.Damaged s place) e long lacks = (lacks.0, damaged_long newest x front behind place e long lacks.1)
+lacks_long newest side x front behind faults.Device e long lacks = lacks
+lacks_long newest side x front behind faults.OutOfMemory e long lacks = lacks
+lacks_long newest side x front behind faults.SameGeneration e long lacks = lacks
 
 -- and so is a side whose front has none
-pub refused_front : (side : Which) (x front behind : List ℕ) (fault : OpenFault) → x ≡ front ++ behind → (19 ≤ length front) ⊎ (behind ≡ []) → LacksHeader side front fault → IsRefused side x fault
-refused_front side x front behind fault e (inl long) lacks = refused_of side x fault (lacks_long side x front behind fault e long lacks)
-refused_front side x front behind fault e (inr none) lacks =
+pub refused_front : (newest : Form) (side : Which) (x front behind : List ℕ) (fault : OpenFault) → x ≡ front ++ behind → (19 ≤ length front) ⊎ (behind ≡ []) → LacksHeaderIn newest side front fault → IsRefusedIn newest side x fault
+refused_front newest side x front behind fault e (inl long) lacks = refused_of newest side x fault (lacks_long newest side x front behind fault e long lacks)
+refused_front newest side x front behind fault e (inr none) lacks =
     let same : front ≡ x = sym (e ∙ ap (λ (y : List ℕ). front ++ y) none ∙ append-nil front) in
-    refused_of side x fault (subst (λ (y : List ℕ). LacksHeader side y fault) same lacks)
+    refused_of newest side x fault (subst (λ (y : List ℕ). LacksHeaderIn newest side y fault) same lacks)
 
 -- what is in memory at the start is the front of the side
 pub front_parts : (x : List ℕ) (w : Window) (front : List ℕ) (shown : ShowsHeader x w) → w.place ≡ 0 → front ≡ ahead w → x ≡ front ++ shown.shows.behind
@@ -175,14 +175,14 @@ front_whole x w front shown same =
 -- ---- from batch to batch
 
 -- batches were read up to the window's place, and it shows what follows there
-pub record GoesOn {X : Type 0} (has_taken : X → List Record → Type 0) (x : List ℕ) (v : Version) (generation : ℕ) (sink : X) (first : Bool) (w : Window) : Type 0 where
-  pub walked : HasWalked has_taken x v generation sink first (drop w.place x)
+pub record GoesOn {X : Type 0} (has_taken : X → List Record → Type 0) (x : List ℕ) (form : Form) (generation : ℕ) (sink : X) (first : Bool) (w : Window) : Type 0 where
+  pub walked : HasWalked has_taken x form generation sink first (drop w.place x)
   pub shows : Shows x w
 
-pub at_place : {X : Type 0} (H : X → List Record → Type 0) (x : List ℕ) (v : Version) (generation : ℕ) (sink : X) (first : Bool) (u w : Window) → GoesOn H x v generation sink first u → w.place ≡ u.place
-    → HasWalked H x v generation sink first (drop w.place x)
-at_place {X} H x v generation sink first u w goes place =
-    let P : ℕ → Type 0 = λ n. HasWalked H x v generation sink first (drop n x) in
+pub at_place : {X : Type 0} (H : X → List Record → Type 0) (x : List ℕ) (form : Form) (generation : ℕ) (sink : X) (first : Bool) (u w : Window) → GoesOn H x form generation sink first u → w.place ≡ u.place
+    → HasWalked H x form generation sink first (drop w.place x)
+at_place {X} H x form generation sink first u w goes place =
+    let P : ℕ → Type 0 = λ n. HasWalked H x form generation sink first (drop n x) in
     subst P (sym place) goes.walked
 
 some_front : (x : List ℕ) (w : Window) (shows : Shows x w) → 0 < length (ahead w) → 0 < length (drop w.place x)
@@ -204,31 +204,31 @@ cut_front : (f : List ℕ) → 0 < length f → f ≡ get_or f 0 0 ∷ drop 1 f
 cut_front [] lt = absurd (omega arith)
 cut_front (a ∷ f) lt = refl
 
-pub goes_on : {X : Type 0} (H : X → List Record → Type 0) (x : List ℕ) (v : Version) (generation : ℕ) (sink new : X) (first : Bool) (w u : Window) (after : List ℕ) (rs : List Record) → HasWalked H x v generation sink first (drop w.place x)
-    → Shows x w → Shows x u → 0 < length (ahead w) → get_or (ahead w) 0 0 ≢ 0 → FillBatch v first rs → drop 1 (ahead w) ≡ framed v rs ++ after → AddsRecords H sink new rs → u.place ≡ w.place + (length (ahead w) - length after)
-    → GoesOn H x v generation new false u
-goes_on {X} H x v generation sink new first w u after rs walked shows later some opened filled e added place =
+pub goes_on : {X : Type 0} (H : X → List Record → Type 0) (x : List ℕ) (form : Form) (generation : ℕ) (sink new : X) (first : Bool) (w u : Window) (after : List ℕ) (rs : List Record) → HasWalked H x form generation sink first (drop w.place x)
+    → Shows x w → Shows x u → 0 < length (ahead w) → get_or (ahead w) 0 0 ≢ 0 → FillBatchIn form first rs → drop 1 (ahead w) ≡ framed_in form rs ++ after → AddsRecords H sink new rs → u.place ≡ w.place + (length (ahead w) - length after)
+    → GoesOn H x form generation new false u
+goes_on {X} H x form generation sink new first w u after rs walked shows later some opened filled e added place =
     let f = ahead w in
     let rest = drop w.place x in
-    let cut : drop 1 rest ≡ framed v rs ++ (after ++ shows.behind) =
-    ap (drop 1) shows.parts ∙ drop_one f shows.behind some ∙ ap (λ (y : List ℕ). y ++ shows.behind) e ∙ append_assoc (framed v rs) after shows.behind in
-    let more = walked_more H x v generation sink new first rest (after ++ shows.behind) rs walked (some_front x w shows some) (open_front x w shows some opened) filled cut added in
-    let front_is : f ≡ get_or f 0 0 ∷ (framed v rs ++ after) = cut_front f some ∙ ap (λ (y : List ℕ). get_or f 0 0 ∷ y) e in
-    let count : length f - length after ≡ 1 + length (framed v rs) = omega (arith, ap length front_is, length-append (framed v rs) after) in
+    let cut : drop 1 rest ≡ framed_in form rs ++ (after ++ shows.behind) =
+    ap (drop 1) shows.parts ∙ drop_one f shows.behind some ∙ ap (λ (y : List ℕ). y ++ shows.behind) e ∙ append_assoc (framed_in form rs) after shows.behind in
+    let more = walked_more H x form generation sink new first rest (after ++ shows.behind) rs walked (some_front x w shows some) (open_front x w shows some opened) filled cut added in
+    let front_is : f ≡ get_or f 0 0 ∷ (framed_in form rs ++ after) = cut_front f some ∙ ap (λ (y : List ℕ). get_or f 0 0 ∷ y) e in
+    let count : length f - length after ≡ 1 + length (framed_in form rs) = omega (arith, ap length front_is, length-append (framed_in form rs) after) in
     let left : drop u.place x ≡ after ++ shows.behind =
-    ap (λ (n : ℕ). drop n x) (place ∙ ap (λ (n : ℕ). w.place + n) count) ∙ sym (drop-drop (1 + length (framed v rs)) w.place x)
-    ∙ sym (drop-drop (length (framed v rs)) 1 rest) ∙ ap (drop (length (framed v rs))) cut ∙ drop_at (framed v rs) (after ++ shows.behind) (length (framed v rs)) refl in
-    let W : List ℕ → Type 0 = λ y. HasWalked H x v generation new false y in
+    ap (λ (n : ℕ). drop n x) (place ∙ ap (λ (n : ℕ). w.place + n) count) ∙ sym (drop-drop (1 + length (framed_in form rs)) w.place x)
+    ∙ sym (drop-drop (length (framed_in form rs)) 1 rest) ∙ ap (drop (length (framed_in form rs))) cut ∙ drop_at (framed_in form rs) (after ++ shows.behind) (length (framed_in form rs)) refl in
+    let W : List ℕ → Type 0 = λ y. HasWalked H x form generation new false y in
     record { walked = subst W (sym left) more; shows = later }
 
 -- a closed gate ends the side there
-pub ends_here : {X : Type 0} (H : X → List Record → Type 0) (x : List ℕ) (v : Version) (generation : ℕ) (sink : X) (first : Bool) (w : Window) → HasWalked H x v generation sink first (drop w.place x) → Shows x w → 0 < length (ahead w)
-    → get_or (ahead w) 0 0 ≡ 0 → (held : List Record) × HoldsUpTo x v generation held w.place × H sink held
-ends_here {X} H x v generation sink first w walked shows some closed =
+pub ends_here : {X : Type 0} (H : X → List Record → Type 0) (x : List ℕ) (form : Form) (generation : ℕ) (sink : X) (first : Bool) (w : Window) → HasWalked H x form generation sink first (drop w.place x) → Shows x w → 0 < length (ahead w)
+    → get_or (ahead w) 0 0 ≡ 0 → (held : List Record) × HoldsUpToIn x form generation held w.place × H sink held
+ends_here {X} H x form generation sink first w walked shows some closed =
     let after : List ℕ = drop 1 (ahead w) ++ shows.behind in
     let rest : drop w.place x ≡ 0 ∷ after =
     shows.parts ∙ ap (λ (y : List ℕ). y ++ shows.behind) (cut_front (ahead w) some) ∙ ap (λ (g : ℕ). g ∷ after) closed in
-    let R : List ℕ → Type 0 = λ y. Reaches x v generation walked.batches y in (
+    let R : List ℕ → Type 0 = λ y. ReachesIn x form generation walked.batches y in (
       records_of walked.batches,
       record {
         batches = walked.batches;
@@ -241,32 +241,32 @@ ends_here {X} H x v generation sink first w walked shows some closed =
     )
 
 -- where no batch goes on it is damaged there
-pub broken_front : {X : Type 0} (H : X → List Record → Type 0) (x : List ℕ) (v : Version) (generation : ℕ) (sink : X) (first : Bool) (w : Window) (behind : List ℕ) → HasWalked H x v generation sink first (drop w.place x) → ShowsBatch x w
-    → 0 < length (ahead w) → get_or (ahead w) 0 0 ≢ 0 → behind ≡ drop 1 (ahead w) → ((rs : List Record) (after : List ℕ) → FillBatch v first rs → behind ≢ framed v rs ++ after) → IsBroken x w.place
-broken_front {X} H x v generation sink first w behind walked shown some opened cut none =
+pub broken_front : {X : Type 0} (H : X → List Record → Type 0) (newest : Form) (x : List ℕ) (form : Form) → IsReadIn newest form → (generation : ℕ) (sink : X) (first : Bool) (w : Window) (behind : List ℕ) → HasWalked H x form generation sink first (drop w.place x) → ShowsBatch x w
+    → 0 < length (ahead w) → get_or (ahead w) 0 0 ≢ 0 → behind ≡ drop 1 (ahead w) → ((rs : List Record) (after : List ℕ) → FillBatchIn form first rs → behind ≢ framed_in form rs ++ after) → IsBrokenIn newest x w.place
+broken_front {X} H newest x form is_read generation sink first w behind walked shown some opened cut none =
     let shows = shown.shows in
     let f = ahead w in
     let rest = drop w.place x in
     let lt = some_front x w shows some in
-    let refuted : (rs : List Record) (after : List ℕ) → FillBatch v first rs → drop 1 rest ≢ framed v rs ++ after = λ rs after filled e.
-    let begins : rest ≡ get_or rest 0 0 ∷ (framed v rs ++ after) = cut_front rest lt ∙ ap (λ (y : List ℕ). get_or rest 0 0 ∷ y) e in
-    let long = shown.whole v rs (get_or rest 0 0) after filled.short begins in
-    let same : drop 1 f ++ shows.behind ≡ framed v rs ++ after = sym (drop_one f shows.behind some) ∙ ap (drop 1) (sym shows.parts) ∙ e in
-    let fits : length (framed v rs) ≤ length (drop 1 f) = omega (arith, long, length-drop 1 f) in
-    none rs (drop (length (framed v rs)) (drop 1 f)) filled (cut ∙ prefix_of (drop 1 f) shows.behind (framed v rs) after same fits) in
-    let broken = broken_here H x v generation sink first rest (drop 1 rest) walked lt (open_front x w shows some opened) refl refuted in
+    let refuted : (rs : List Record) (after : List ℕ) → FillBatchIn form first rs → drop 1 rest ≢ framed_in form rs ++ after = λ rs after filled e.
+    let begins : rest ≡ get_or rest 0 0 ∷ (framed_in form rs ++ after) = cut_front rest lt ∙ ap (λ (y : List ℕ). get_or rest 0 0 ∷ y) e in
+    let long = shown.whole form rs (get_or rest 0 0) after filled.short begins in
+    let same : drop 1 f ++ shows.behind ≡ framed_in form rs ++ after = sym (drop_one f shows.behind some) ∙ ap (drop 1) (sym shows.parts) ∙ e in
+    let fits : length (framed_in form rs) ≤ length (drop 1 f) = omega (arith, long, length-drop 1 f) in
+    none rs (drop (length (framed_in form rs)) (drop 1 f)) filled (cut ∙ prefix_of (drop 1 f) shows.behind (framed_in form rs) after same fits) in
+    let broken = broken_here H newest x form is_read generation sink first rest (drop 1 rest) walked lt (open_front x w shows some opened) refl refuted in
     let at : length x - length rest ≡ w.place = omega (arith, lt, length-drop w.place x) in
-    subst (IsBroken x) at broken
+    subst (IsBrokenIn newest x) at broken
 
--- ---- records of one version
+-- ---- records of one form
 
 all_of_both : {X : Type 0} (P : X → Type 0) (xs ys : List X) → AllByRecursion P xs → AllByRecursion P ys → AllByRecursion P (xs ++ ys)
 all_of_both P [] ys front back = back
 all_of_both P (x ∷ xs) ys front back = (front.0, all_of_both P xs ys front.1 back)
 
-pub HasTakenGood-more : {X : Type 0} (H : X → List Record → Type 0) (v : Version) (first : Bool) (sink new : X) (rs : List Record) → HasTakenGood H v sink → FillBatch v first rs → AddsRecords H sink new rs → HasTakenGood H v new
-HasTakenGood-more H v first sink new rs before filled added = record {
+pub HasTakenGood-more : {X : Type 0} (H : X → List Record → Type 0) (form : Form) (first : Bool) (sink new : X) (rs : List Record) → HasTakenGoodIn H form sink → FillBatchIn form first rs → AddsRecords H sink new rs → HasTakenGoodIn H form new
+HasTakenGood-more H form first sink new rs before filled added = record {
   held = before.held ++ rs;
-  good = all_of_both (IsGood v) before.held rs before.good filled.good;
+  good = all_of_both (IsGoodIn form) before.held rs before.good filled.good;
   taken = added.after before.held before.taken;
 }

@@ -1,8 +1,8 @@
 -- The part of a side that is in memory while the side is read forward. The steps are this project's own.
 use Rattle.std.specs.Prelude.{◌≡◌, ◌⊎◌, ℕ, ◌+◌, ◌≤◌, ◌^◌, List, [], ◌∷◌, ◌++◌, length, drop}
-use Rattle.st_records.specs.declared.version.Version.{Version}
+use Rattle.st_records.specs.declared.version.Form.{Form}
 use Rattle.st_records.specs.declared.record.Record.{Record}
-use Rattle.st_file.specs.Batch.{body, framed}
+use Rattle.st_file.specs.Batch.{body_in, framed_in}
 use Rattle.st_file.specs.declared.layout.TheConstants.{HEADER_BYTES}
 use Rattle.st_file.specs.declared.window.Window.{Window}
 
@@ -29,12 +29,12 @@ pub record ShowsHeader (x : List ℕ) (w : Window) : Type 0 where
 -- where a side has so many bytes left, and these in front of them are all or reach over a batch's frame, no batch that
 -- begins with them is longer than this
 pub record IsEnough (front : List ℕ) (left n : ℕ) : Type 0 where
-  pub holds : (v : Version) (rs : List Record) (gate : ℕ) (behind rest : List ℕ) → length (body v rs) ≤ 2 ^ 30
+  pub holds : (form : Form) (rs : List Record) (gate : ℕ) (behind rest : List ℕ) → length (body_in form rs) ≤ 2 ^ 30
       → length front + length behind ≡ left → (9 ≤ length front) ⊎ (behind ≡ [])
-      → front ++ behind ≡ gate ∷ (framed v rs ++ rest) → 9 + length (body v rs) ≤ n
+      → front ++ behind ≡ gate ∷ (framed_in form rs ++ rest) → 9 + length (body_in form rs) ≤ n
 
--- it has all of a batch, of either version and as long as it may be, that begins at its place
+-- it has all of a batch, of any form and as long as it may be, that begins at its place
 pub record ShowsBatch (x : List ℕ) (w : Window) : Type 0 where
   pub shows : Shows x w
-  pub whole : (v : Version) (rs : List Record) (gate : ℕ) (rest : List ℕ) → length (body v rs) ≤ 2 ^ 30
-      → drop w.place x ≡ gate ∷ (framed v rs ++ rest) → 9 + length (body v rs) ≤ length (ahead w)
+  pub whole : (form : Form) (rs : List Record) (gate : ℕ) (rest : List ℕ) → length (body_in form rs) ≤ 2 ^ 30
+      → drop w.place x ≡ gate ∷ (framed_in form rs ++ rest) → 9 + length (body_in form rs) ≤ length (ahead w)

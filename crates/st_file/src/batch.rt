@@ -3,16 +3,16 @@
 ghost use Rattle.std.specs.Prelude.{◌≡◌, ◌≢◌, ◌↔◌, ℕ, ◌<◌, ◌≤◌, ◌^◌, List, ◌++◌, length, IsTrue, IfSome, IfNone, IfOk, OnErr, MatchBool, MatchOption};
 ghost use Rattle.st_records.specs.declared.record.Record.{Record};
 ghost use Rattle.st_records.specs.declared.decoder.DecodeFault.TheVariants as decode_faults;
-ghost use Rattle.st_records.specs.Encoding.{encoding, number};
-ghost use Rattle.st_records.specs.Limits.{IsGood};
+ghost use Rattle.st_records.specs.Encoding.{encoding_in, number};
+ghost use Rattle.st_records.specs.Limits.{IsGoodIn};
 ghost use Rattle.st_records.specs.Faults.{HasWholeTarget};
 ghost use Rattle.st_file.specs.Sink.{AddsRecords};
-ghost use Rattle.st_file.specs.Batch.{may_stand, framed, FillBatch, IsBody, IsFramed, ComesToTarget};
+ghost use Rattle.st_file.specs.Batch.{may_stand, framed_in, FillBatchIn, IsBodyIn, IsFramed, ComesToTargetIn};
 ghost use Rattle.st_file.specs.Window.{IsEnough};
 
 use crate::layout::u32_of;
 use crate::sink::RecordSink;
-use st_records::{DecodeFault, PackedRecord, Version, decode};
+use st_records::{DecodeFault, Form, PackedRecord, decode_in};
 use std::alloc::{AllocError, Global};
 
 /// The bytes that the body of a batch may have.
@@ -45,19 +45,19 @@ fn is_want_of_memory(fault: &DecodeFault) -> bool
     matches!(fault, DecodeFault::OutOfMemory)
 }
 
-/// The record of this version at the front, and the bytes behind it. None where no good record begins the bytes.
+/// The record of this form at the front, and the bytes behind it. None where no good record begins the bytes.
 fn record_of(
     alloc: Global,
-    version: Version,
+    form: Form,
     bytes: &[u8],
 ) -> Result<Option<(PackedRecord, &[u8])>, AllocError>
-    ensures found { IfOk result (λ o. IfSome o (λ f. IsGood version f.0
-        × (bytes.now ≡ encoding version f.0 ++ f.1.now))) }
-    ensures none { IfOk result (λ o. IfNone o ((r : Record) (rest : List ℕ) → IsGood version r
-        → bytes.now ≢ encoding version r ++ rest)) }
+    ensures found { IfOk result (λ o. IfSome o (λ f. IsGoodIn form f.0
+        × (bytes.now ≡ encoding_in form f.0 ++ f.1.now))) }
+    ensures none { IfOk result (λ o. IfNone o ((r : Record) (rest : List ℕ) → IsGoodIn form r
+        → bytes.now ≢ encoding_in form r ++ rest)) }
     ensures memory { OnErr result (HasWholeTarget bytes.now) }
 {
-    match decode(alloc, version, bytes) {
+    match decode_in(alloc, form, bytes) {
         Ok((record, length)) => {
             let (_text, rest) = bytes.split_at(length);
             Ok(Some((record, rest)))
@@ -81,20 +81,20 @@ fn is_allowed(first: bool, event: &PackedRecord) -> bool
 /// Reads all of a body and hands its records on. False where the body isn't just so many records that may stand there.
 fn read_body<S: RecordSink>(
     alloc: Global,
-    version: Version,
+    form: Form,
     first: bool,
     count: u32,
     body: &[u8],
     sink: &mut S,
 ) -> Result<bool, AllocError>
     ensures whole { IfOk result (λ whole. MatchBool whole
-        ((rs : List Record) × IsBody version first count rs body.now × AddsRecords S.has_taken sink.old sink.new rs)
-        ((rs : List Record) → IsBody version first count rs body.now → ⊥)) }
-    ensures memory { OnErr result (ComesToTarget version first count body.now) }
+        ((rs : List Record) × IsBodyIn form first count rs body.now × AddsRecords S.has_taken sink.old sink.new rs)
+        ((rs : List Record) → IsBodyIn form first count rs body.now → ⊥)) }
+    ensures memory { OnErr result (ComesToTargetIn form first count body.now) }
 {
     let mut rest = body;
     for _ in 0..count {
-        let Some((record, behind)) = record_of(alloc, version, rest)? else {
+        let Some((record, behind)) = record_of(alloc, form, rest)? else {
             return Ok(false);
         };
         if !is_allowed(first, &record) {
@@ -110,16 +110,16 @@ fn read_body<S: RecordSink>(
 /// where no batch goes on so.
 pub(crate) fn read_batch<'a, S: RecordSink>(
     alloc: Global,
-    version: Version,
+    form: Form,
     first: bool,
     bytes: &'a [u8],
     sink: &mut S,
 ) -> Result<Option<&'a [u8]>, AllocError>
-    ensures found { IfOk result (λ o. IfSome o (λ rest. (rs : List Record) × FillBatch version first rs
-        × (bytes.now ≡ framed version rs ++ rest.now) × AddsRecords S.has_taken sink.old sink.new rs)) }
-    ensures none { IfOk result (λ o. IfNone o ((rs : List Record) (rest : List ℕ) → FillBatch version first rs
-        → bytes.now ≢ framed version rs ++ rest)) }
-    ensures memory { OnErr result ((frame : IsFramed bytes.now) × ComesToTarget version first frame.count frame.text) }
+    ensures found { IfOk result (λ o. IfSome o (λ rest. (rs : List Record) × FillBatchIn form first rs
+        × (bytes.now ≡ framed_in form rs ++ rest.now) × AddsRecords S.has_taken sink.old sink.new rs)) }
+    ensures none { IfOk result (λ o. IfNone o ((rs : List Record) (rest : List ℕ) → FillBatchIn form first rs
+        → bytes.now ≢ framed_in form rs ++ rest)) }
+    ensures memory { OnErr result ((frame : IsFramed bytes.now) × ComesToTargetIn form first frame.count frame.text) }
 {
     let Some((count, body, rest)) = frame_of(bytes) else {
         return Ok(None);
@@ -127,7 +127,7 @@ pub(crate) fn read_batch<'a, S: RecordSink>(
     if count == 0 {
         return Ok(None);
     }
-    if !read_body(alloc, version, first, count, body, sink)? {
+    if !read_body(alloc, form, first, count, body, sink)? {
         return Ok(None);
     }
     Ok(Some(rest))

@@ -6,11 +6,12 @@ ghost use Rattle.st_disk.specs.Moments.{now, Throughout};
 ghost use Rattle.st_disk.specs.Faults.{CountsFaults};
 ghost use Rattle.st_file.specs.Side.{IsVoid};
 ghost use Rattle.st_file.specs.Gated.{IsReady};
-ghost use Rattle.st_file.specs.Created.{HasClosedGate, IsVoidOrNew, IsCreated};
+ghost use Rattle.st_file.specs.Created.{HasClosedGate, IsVoidOrNew, IsVoidOrNewIn, IsCreated, IsCreatedIn};
 
 use crate::gated::append_gated;
-use crate::layout::new_header;
+use crate::layout::new_header_in;
 use st_disk::{DeviceFault, Disk, Which};
+use st_records::Form;
 
 /// Makes a void side one of version 2 that holds no records. What stands behind its first gate stays. After a refused
 /// call the side is void or holds no records.
@@ -24,8 +25,27 @@ pub fn create<D: Disk>(disk: &mut D, side: Which, generation: u64) -> Result<(),
     ensures calls { D.honest → (D.moments disk.new).newest ≤ (D.moments disk.old).newest + 6 }
     ensures faults { CountsFaults result (D.faults disk.old) (D.faults disk.new) }
 {
+    create_in(disk, side, Form::Plain, generation)
+}
+
+/// The same of the version whose records have this form.
+pub fn create_in<D: Disk>(
+    disk: &mut D,
+    side: Which,
+    form: Form,
+    generation: u64,
+) -> Result<(), DeviceFault>
+    requires some { 0 < generation }
+    requires void { D.honest → IsVoid (D.seen disk.old side) }
+    requires on_disk { D.honest → writes_of side (now (D.moments disk.old)) ≡ settled (D.seen disk.old side) }
+    ensures any_moment { D.honest → Throughout (D.moments disk.old) (D.moments disk.new)
+        (SideHas side (writes_of (other side) (now (D.moments disk.old))) (IsVoidOrNewIn form generation)) }
+    ensures created { D.honest → OnOk result (IsCreatedIn form generation (D.seen disk.new side) (writes_of side (now (D.moments disk.new)))) }
+    ensures calls { D.honest → (D.moments disk.new).newest ≤ (D.moments disk.old).newest + 6 }
+    ensures faults { CountsFaults result (D.faults disk.old) (D.faults disk.new) }
+{
     close_gate(disk, side)?;
-    append_gated(disk, side, 0, &new_header(generation))?;
+    append_gated(disk, side, 0, &new_header_in(form, generation))?;
     Ok(())
 }
 

@@ -3,12 +3,12 @@
 ghost use Rattle.std.specs.Prelude.{◌≡◌, ◌≢◌, ◌↔◌, ℕ, ◌<◌, ◌^◌, List, [], ◌∷◌, ◌++◌, length, IsTrue, IfSome, IfNone, IfOk, IfErr};
 ghost use Rattle.std.specs.Int.{w16, w32, w64, to_le_bytes};
 ghost use Rattle.st_records.specs.declared.version.Version.TheVariants as versions;
-ghost use Rattle.st_file.specs.Layout.{magic, version_number, header_text, IsUnknownVersion, IsNamed, HasHeader};
-ghost use Rattle.st_file.specs.Side.{IsVoid, IsForeign, LacksHeader};
+ghost use Rattle.st_file.specs.Layout.{magic, version_number_in, header_text, header_text_in, IsReadIn, IsUnknownVersionIn, IsNamed, HasHeaderIn};
+ghost use Rattle.st_file.specs.Side.{IsVoid, IsForeign, LacksHeaderIn};
 
 use crate::fault::OpenFault;
 use st_disk::Which;
-use st_records::Version;
+use st_records::Form;
 
 /// The bytes of a header, its gate among them.
 pub const HEADER_BYTES: usize = 19;
@@ -85,23 +85,42 @@ fn opened(bytes: &[u8]) -> Option<&[u8]>
     after_name(behind)
 }
 
-/// The version that has this number.
-fn version_of(number: u16) -> Option<Version>
-    ensures found { IfSome result (λ v. number ≡ version_number v) }
-    ensures none { IfNone result (IsUnknownVersion number) }
+/// The number of the version whose records have this form.
+fn version_number(form: Form) -> u16
+    ensures { result ≡ version_number_in form }
 {
+    match form {
+        Form::Old => 1,
+        Form::Plain => 2,
+        Form::Marked => 4,
+    }
+}
+
+/// The form of the version that has this number, where that one is read.
+fn form_of_number(newest: Form, number: u16) -> Option<Form>
+    ensures found { IfSome result (λ form. IsReadIn newest form × (number ≡ version_number_in form)) }
+    ensures none { IfNone result (IsUnknownVersionIn newest number) }
+{
+    if number > version_number(newest) {
+        return None;
+    }
     match number {
-        1 => Some(Version::One),
-        2 => Some(Version::Two),
+        1 => Some(Form::Old),
+        2 => Some(Form::Plain),
+        4 => Some(Form::Marked),
         _ => None,
     }
 }
 
-/// The version and the generation of a side that isn't void, and the bytes behind its header.
-pub(crate) fn header_of(side: Which, bytes: &[u8]) -> Result<(Version, u64, &[u8]), OpenFault>
+/// The form and the generation of a side that isn't void, and the bytes behind its header.
+pub(crate) fn header_of(
+    newest: Form,
+    side: Which,
+    bytes: &[u8],
+) -> Result<(Form, u64, &[u8]), OpenFault>
     requires { IsVoid bytes.now → ⊥ }
-    ensures whole { IfOk result (λ h. HasHeader bytes.now h.0 h.1 h.2.now) }
-    ensures refused { IfErr result (LacksHeader side bytes.now) }
+    ensures whole { IfOk result (λ h. IsReadIn newest h.0 × HasHeaderIn bytes.now h.0 h.1 h.2.now) }
+    ensures refused { IfErr result (LacksHeaderIn newest side bytes.now) }
 {
     let Some(rest) = opened(bytes) else {
         return Err(OpenFault::NotState(side));
@@ -109,7 +128,7 @@ pub(crate) fn header_of(side: Which, bytes: &[u8]) -> Result<(Version, u64, &[u8
     let Some((number, rest)) = u16_of(rest) else {
         return Err(OpenFault::Damaged(side, VERSION_PLACE));
     };
-    let Some(version) = version_of(number) else {
+    let Some(form) = form_of_number(newest, number) else {
         return Err(OpenFault::UnknownVersion(side, number));
     };
     let Some((generation, rest)) = u64_of(rest) else {
@@ -118,7 +137,7 @@ pub(crate) fn header_of(side: Which, bytes: &[u8]) -> Result<(Version, u64, &[u8
     if generation == 0 {
         return Err(OpenFault::Damaged(side, GENERATION_PLACE));
     }
-    Ok((version, generation, rest))
+    Ok((form, generation, rest))
 }
 
 /// What stands behind the gate of a side of version 2 that holds no records: the header, and the closed gate of its first
@@ -126,9 +145,17 @@ pub(crate) fn header_of(side: Which, bytes: &[u8]) -> Result<(Version, u64, &[u8
 pub fn new_header(generation: u64) -> [u8; HEADER_BYTES]
     ensures { result ≡ header_text versions.Two generation ++ 0 ∷ [] }
 {
+    new_header_in(Form::Plain, generation)
+}
+
+/// The same of the version whose records have this form.
+pub fn new_header_in(form: Form, generation: u64) -> [u8; HEADER_BYTES]
+    ensures { result ≡ header_text_in form generation ++ 0 ∷ [] }
+{
+    let v = version_number(form).to_le_bytes();
     let g = generation.to_le_bytes();
     [
-        b'D', b'M', b'K', b'S', b'T', b'A', b'T', b'E', 2, 0, g[0], g[1], g[2], g[3], g[4], g[5],
-        g[6], g[7], 0,
+        b'D', b'M', b'K', b'S', b'T', b'A', b'T', b'E', v[0], v[1], g[0], g[1], g[2], g[3], g[4],
+        g[5], g[6], g[7], 0,
     ]
 }

@@ -1,6 +1,6 @@
 //! One open side of a disk, to which batches are added.
 
-ghost use Rattle.std.specs.Prelude.{◌≡◌, ◌≢◌, ◌↔◌, ◌+◌, ◌<◌, ◌≤◌, ◌^◌, ◌++◌, ◌∷◌, [], List, length, take, true, false, IsTrue, IfOk, IfErr, IsOk, OnOk, OnErr, IsErrOf};
+ghost use Rattle.std.specs.Prelude.{◌≡◌, ◌≢◌, ◌↔◌, ◌+◌, ◌<◌, ◌≤◌, ◌^◌, ◌++◌, ◌∷◌, [], List, length, take, true, false, IfOk, IfErr, IsOk, OnOk, OnErr, IsErrOf};
 ghost use Rattle.std.specs.List.{AllByRecursion};
 ghost use Rattle.st_disk.specs.Crash.{writes_of, other, SideHas};
 ghost use Rattle.st_disk.specs.Moments.{now, Throughout};
@@ -14,18 +14,12 @@ ghost use Rattle.st_file.specs.Side.{HoldsUpTo};
 ghost use Rattle.st_file.specs.Grown.{IsFull, HoldsWithOrWithout};
 ghost use Rattle.st_file.specs.Gated.{IsReady, IsClosedOrOpen, IsOpened, EndsClosed};
 
-use crate::batch_writer::{batch_text, body_length};
+use crate::batch_writer::text_at;
 use crate::commit_fault::CommitFault;
 use crate::gated::append_gated;
 use st_disk::{DeviceFault, Disk, Which};
-use st_records::{Record, Version};
+use st_records::{Form, Record, Version};
 use std::alloc::Global;
-
-/// The bytes that a side may have up to its closed gate.
-pub const MAX_SIDE_BYTES: usize = 1 << 40;
-
-/// The bytes of a batch beside its body: the gate and two lengths.
-const BATCH_BYTES: usize = 9;
 
 /// One open side of a disk that it owns: the version and the generation of its header, and `end`, where the closed gate
 /// stands behind its batches. After a failed call of the device it is dead, and adds nothing more.
@@ -98,13 +92,7 @@ impl<D: Disk + Drop> Log<D> {
             Version::One => return Err(CommitFault::OldVersion),
             Version::Two => {}
         }
-        let Some(length) = body_length(records) else {
-            return Err(CommitFault::Full);
-        };
-        if !has_room(self.end, length) {
-            return Err(CommitFault::Full);
-        }
-        Ok(batch_text(alloc, records, length)?)
+        text_at(alloc, Form::Plain, self.end, records)
     }
 
     /// Adds a batch of records, all of it or none whatever power cut comes: the batch's text is put behind the closed
@@ -148,16 +136,5 @@ impl<D: Disk + Drop> Log<D> {
         let text = self.batch(alloc, records)?;
         self.append(&text)?;
         Ok(())
-    }
-}
-
-/// Whether a batch of so long a body fits behind a gate at `end`.
-fn has_room(end: usize, body_length: usize) -> bool
-    requires { body_length ≤ 2 ^ 30 }
-    ensures { IsTrue result ↔ (end + (9 + body_length) ≤ 2 ^ 40) }
-{
-    match MAX_SIDE_BYTES.checked_sub(end) {
-        None => false,
-        Some(room) => BATCH_BYTES + body_length <= room,
     }
 }

@@ -2,10 +2,13 @@
 
 ghost use Rattle.std.specs.Prelude.{◌≡◌, ◌⊎◌, ℕ, List, [], IfSome, IfNone, IfOk, IfErr, IsErrOf};
 ghost use Rattle.st_disk.specs.declared.which.Which.{Which};
-ghost use Rattle.st_file.specs.Layout.{HasHeader};
+ghost use Rattle.st_records.specs.declared.version.Form.{Form};
+ghost use Rattle.st_records.specs.declared.version.Form.TheVariants as forms;
+ghost use Rattle.st_records.specs.Forms.{form_of};
 ghost use Rattle.st_records.specs.declared.record.Record.{Record};
+ghost use Rattle.st_file.specs.Layout.{IsReadIn, HasHeaderIn};
 ghost use Rattle.st_file.specs.declared.fault.OpenFault.TheVariants as faults;
-ghost use Rattle.st_file.specs.Side.{IsVoid, HoldsUpTo, IsRefused, Reading, Reads, ComesToRecords};
+ghost use Rattle.st_file.specs.Side.{IsVoid, HoldsUpTo, HoldsUpToIn, IsRefused, IsRefusedIn, Reading, ReadingIn, Reads, ReadsIn, ComesToRecords, ComesToRecordsIn};
 ghost use Rattle.st_file.specs.Answer.{reading_of};
 
 use crate::batch::{names_in, read_batch};
@@ -13,7 +16,7 @@ use crate::fault::OpenFault;
 use crate::layout::{header_of, is_void};
 use crate::sink::RecordSink;
 use st_disk::Which;
-use st_records::{Record, Version};
+use st_records::{Form, Record, Version};
 use std::alloc::Global;
 
 /// What a side holds.
@@ -40,36 +43,66 @@ pub struct Extent {
     pub end: u64,
 }
 
+/// The same, with the form that its records have.
+#[derive(Clone, Copy, Debug, PartialEq, Eq)]
+pub struct ExtentIn {
+    pub form: Form,
+    pub generation: u64,
+    pub end: u64,
+}
+
+impl ExtentIn {
+    /// The same by its version, 1 or 2.
+    pub fn by_version(self) -> Extent
+        requires { IsReadIn forms.Plain self.form }
+        ensures form { form_of result.version ≡ self.form }
+        ensures generation { result.generation ≡ self.generation }
+        ensures end { result.end ≡ self.end }
+    {
+        let version = match self.form {
+            Form::Old => Version::One,
+            Form::Plain | Form::Marked => Version::Two,
+        };
+        Extent {
+            version,
+            generation: self.generation,
+            end: self.end,
+        }
+    }
+}
+
 /// Reads the batches that stand behind the header of a side, up to the closed gate.
 fn read_batches<S: RecordSink>(
     alloc: Global,
     side: Which,
     bytes: &[u8],
-    version: Version,
+    form: Form,
     generation: u64,
     batches: &[u8],
     sink: &mut S,
-) -> Result<Extent, OpenFault>
-    requires header { HasHeader bytes.now version generation batches.now }
+) -> Result<ExtentIn, OpenFault>
+    requires header { HasHeaderIn bytes.now form generation batches.now }
     requires fresh { S.has_taken sink.old [] }
-    ensures held { IfOk result (λ extent. (held : List Record) × HoldsUpTo bytes.now extent.version extent.generation held extent.end
+    ensures held { IfOk result (λ extent. (held : List Record) × HoldsUpToIn bytes.now extent.form extent.generation held extent.end
         × S.has_taken sink.new held) }
-    ensures refused { IfErr result (λ fault. (fault ≡ faults.OutOfMemory) ⊎ IsRefused side bytes.now fault) }
-    ensures memory { IsErrOf result faults.OutOfMemory → ComesToRecords bytes.now }
+    ensures form { (newest : Form) → IsReadIn newest form → IfOk result (λ extent. IsReadIn newest extent.form) }
+    ensures refused { (newest : Form) → IsReadIn newest form
+        → IfErr result (λ fault. (fault ≡ faults.OutOfMemory) ⊎ IsRefusedIn newest side bytes.now fault) }
+    ensures memory { (newest : Form) → IsReadIn newest form → IsErrOf result faults.OutOfMemory → ComesToRecordsIn newest bytes.now }
 {
     let mut rest = batches;
     let mut first = true;
     while !rest.is_empty() {
         let place = (bytes.len() - rest.len()) as u64;
         if rest[0] == 0 {
-            return Ok(Extent {
-                version,
+            return Ok(ExtentIn {
+                form,
                 generation,
                 end: place,
             });
         }
         let (_gate, behind) = rest.split_at(1);
-        let Some(after) = read_batch(alloc, version, first, behind, sink)? else {
+        let Some(after) = read_batch(alloc, form, first, behind, sink)? else {
             return Err(OpenFault::Damaged(side, place));
         };
         rest = after;
@@ -93,12 +126,34 @@ pub fn read_side<S: RecordSink>(
     ensures refused { IfErr result (λ fault. (fault ≡ faults.OutOfMemory) ⊎ IsRefused side bytes.now fault) }
     ensures memory { IsErrOf result faults.OutOfMemory → ComesToRecords bytes.now }
 {
+    match read_side_in(alloc, Form::Plain, side, bytes, sink)? {
+        None => Ok(None),
+        Some(extent) => Ok(Some(extent.by_version())),
+    }
+}
+
+/// The same where `newest` is the form of the newest version that is read.
+pub fn read_side_in<S: RecordSink>(
+    alloc: Global,
+    newest: Form,
+    side: Which,
+    bytes: &[u8],
+    sink: &mut S,
+) -> Result<Option<ExtentIn>, OpenFault>
+    requires { S.has_taken sink.old [] }
+    ensures void { IfOk result (λ found. IfNone found (IsVoid bytes.now × S.has_taken sink.new [])) }
+    ensures form { IfOk result (λ found. IfSome found (λ extent. IsReadIn newest extent.form)) }
+    ensures held { IfOk result (λ found. IfSome found (λ extent. (held : List Record)
+        × HoldsUpToIn bytes.now extent.form extent.generation held extent.end × S.has_taken sink.new held)) }
+    ensures refused { IfErr result (λ fault. (fault ≡ faults.OutOfMemory) ⊎ IsRefusedIn newest side bytes.now fault) }
+    ensures memory { IsErrOf result faults.OutOfMemory → ComesToRecordsIn newest bytes.now }
+{
     if is_void(bytes) {
         return Ok(None);
     }
-    let (version, generation, batches) = header_of(side, bytes)?;
+    let (form, generation, batches) = header_of(newest, side, bytes)?;
     sink.make_room(names_in(batches));
-    Ok(Some(read_batches(alloc, side, bytes, version, generation, batches, sink)?))
+    Ok(Some(read_batches(alloc, side, bytes, form, generation, batches, sink)?))
 }
 
 /// What the bytes of a side hold, or the first fault in them, or that memory ran out. What stands behind the closed gate
@@ -139,4 +194,13 @@ pub fn every_side_has_a_reading(side: Which, bytes: &[u8])
 /// The bytes of a side are read in one way at most.
 pub fn one_reading()
     ensures { (side : Which) (x : List ℕ) (r s : Reading) → Reads side x r → Reads side x s → r ≡ s }
+{}
+
+/// Both hold whichever version is the newest that is read.
+pub fn every_side_has_a_reading_in(newest: Form, side: Which, bytes: &[u8])
+    ensures { (r : ReadingIn) × ReadsIn newest side bytes.now r }
+{}
+
+pub fn one_reading_in()
+    ensures { (newest : Form) (side : Which) (x : List ℕ) (r s : ReadingIn) → ReadsIn newest side x r → ReadsIn newest side x s → r ≡ s }
 {}

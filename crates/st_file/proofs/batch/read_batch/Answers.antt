@@ -1,18 +1,18 @@
 use Rattle.std.proofs.Common.{rules, ◌<◌}
 use Rattle.st_state.proofs.StateLemmas.{on_err}
-use Rattle.st_file.specs.Batch.{IsFramed, ComesToTarget}
+use Rattle.st_file.specs.Batch.{IsFramed, ComesToTargetIn}
 use Rattle.st_file.proofs.FrameLemmas.{no_batch_by_count, no_batch_by_body}
 use Rattle.st_file.proofs.batch.read_batch.Goals as goal
 
 pub returns-then-count-eq0-clause-none : goal.returns-then-count-eq0-clause-none
 returns-then-count-eq0-clause-none g c =
     let frame = c.in-Some.ensures.found in
-    no_batch_by_count c.args.version c.args.first c.in-Some.count c.in-Some.body.now c.in-Some.rest.now c.args.bytes.now c.if-count-eq0.true frame.1 frame.2
+    no_batch_by_count c.args.form c.args.first c.in-Some.count c.in-Some.body.now c.in-Some.rest.now c.args.bytes.now c.if-count-eq0.true frame.1 frame.2
 
 pub returns-then-not-branch-clause-none : goal.returns-then-not-branch-clause-none
 returns-then-not-branch-clause-none g c =
     let frame = c.in-Some.ensures.found in
-    no_batch_by_body c.args.version c.args.first c.in-Some.count c.in-Some.body.now c.in-Some.rest.now c.args.bytes.now frame.0 frame.1 frame.2 (search rules)
+    no_batch_by_body c.args.form c.args.first c.in-Some.count c.in-Some.body.now c.in-Some.rest.now c.args.bytes.now frame.0 frame.1 frame.2 (search rules)
 
 pub returns-in_err-read_body-clause-memory : goal.returns-in_err-read_body-clause-memory
 returns-in_err-read_body-clause-memory g c =
@@ -27,5 +27,5 @@ returns-in_err-read_body-clause-memory g c =
       rest = c.in-Some.rest.now;
       parts = found.2;
     } in
-    let comes : (f : IsFramed c.args.bytes.now) × ComesToTarget c.args.version c.args.first f.count f.text = (frame, c.in_err-read_body.ensures.memory) in
+    let comes : (f : IsFramed c.args.bytes.now) × ComesToTargetIn c.args.form c.args.first f.count f.text = (frame, c.in_err-read_body.ensures.memory) in
     on_err _ comes

@@ -4,4 +4,4 @@ use Rattle.st_file.proofs.batch.record_of.Goals as goal
 
 pub returns-else-is_want_of_memory-clause-none : goal.returns-else-is_want_of_memory-clause-none
 returns-else-is_want_of_memory-clause-none c =
-    no_record c.args.version c.args.bytes.now c.in-Err.fault (search rules) c.in-Err.ensures.only
+    no_record c.args.form c.args.bytes.now c.in-Err.fault (search rules) c.in-Err.ensures.only

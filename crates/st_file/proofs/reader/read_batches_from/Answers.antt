@@ -14,7 +14,7 @@ returns-then-front-eq0-clause-held g c = λ honest.
     ends_here _ _ _ _ _ _ w walked shown.shows c.in_ok-reach_batch.ensures.some (ap (λ (y : List ℕ). get_or y 0 0) (sym c.front-front.ensures) ∙ closed)
 
 pub returns-in_default-clause-refused : goal.returns-in_default-clause-refused
-returns-in_default-clause-refused g c = λ honest.
+returns-in_default-clause-refused g c = λ honest newest is_read.
     let w = c.reach_batch.new.self in
     let on_side = subst (λ (s : Which). ShowsBatch (g.D.Disk.seen c.loop-window.disk s) w) c.loop-window.invariant.side (c.in_ok-reach_batch.ensures.batch honest) in
     let shown = subst (λ (f : Which → List ℕ). ShowsBatch (f c.args.window.now.side) w) (c.loop-window.invariant.seen honest) on_side in
@@ -22,7 +22,7 @@ returns-in_default-clause-refused g c = λ honest.
     let opened : get_or c.front-front.result.now 0 0 ≢ 0 = search rules in
     let open_gate : get_or (ahead w) 0 0 ≢ 0 = λ zero. opened (ap (λ (y : List ℕ). get_or y 0 0) c.front-front.ensures ∙ zero) in
     let none = rw c.in_default.is at c.in_ok-after.ensures.none in
-    let broken = broken_front _ _ _ _ _ _ w _ walked shown c.in_ok-reach_batch.ensures.some open_gate (c.split_at.ensures.back ∙ ap (drop 1) c.front-front.ensures) none in
+    let broken = broken_front _ newest _ _ is_read _ _ _ w _ walked shown c.in_ok-reach_batch.ensures.some open_gate (c.split_at.ensures.back ∙ ap (drop 1) c.front-front.ensures) none in
     inr (inr (c.reach_batch.ensures.side ∙ c.loop-window.invariant.side, inr (inr broken)))
 
 pub loop-window-preserved : goal.loop-window-preserved

@@ -8,10 +8,10 @@ loop-rest-preserved g c =
     walked_more _ _ _ _ _ _ _ c.loop-rest.rest.now c.in-Some.after.now found.0 c.loop-rest.invariant (search rules) (search rules) found.1 (search rules) (search rules)
 
 pub returns-in_default-clause-refused : goal.returns-in_default-clause-refused
-returns-in_default-clause-refused g c =
+returns-in_default-clause-refused g c = λ newest is_read.
     let none = rw c.in_default.is at c.in_ok-after.ensures.none in
-    inr (refl, inr (inr (broken_here _ _ _ _ _ _ c.loop-rest.rest.now _ c.loop-rest.invariant (search rules) (search rules) c.split_at.ensures.back none)))
+    inr (refl, inr (inr (broken_here _ newest _ _ is_read _ _ _ c.loop-rest.rest.now _ c.loop-rest.invariant (search rules) (search rules) c.split_at.ensures.back none)))
 
 pub returns-in_err-after-clause-memory : goal.returns-in_err-after-clause-memory
 returns-in_err-after-clause-memory g c =
-    λ e. comes_to_records _ _ _ _ _ _ c.loop-rest.rest.now _ c.loop-rest.invariant (search rules) (search rules) c.split_at.ensures.back c.in_err-after.ensures.memory
+    λ newest is_read e. comes_to_records _ newest _ _ is_read _ _ _ c.loop-rest.rest.now _ c.loop-rest.invariant (search rules) (search rules) c.split_at.ensures.back c.in_err-after.ensures.memory
