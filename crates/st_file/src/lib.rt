@@ -29,6 +29,6 @@ pub use log_in::LogIn;
 pub use reader::{read_from, read_from_in};
 pub use side::{
     Extent, ExtentIn, Side, every_side_has_a_reading, every_side_has_a_reading_in, one_reading,
-    one_reading_in, read_side, read_side_in, side_of,
+    one_reading_in, read_side, read_side_in, side_of, version_of,
 };
 pub use sink::RecordSink;

@@ -59,15 +59,22 @@ impl ExtentIn {
         ensures generation { result.generation ≡ self.generation }
         ensures end { result.end ≡ self.end }
     {
-        let version = match self.form {
-            Form::Old => Version::One,
-            Form::Plain | Form::Marked => Version::Two,
-        };
         Extent {
-            version,
+            version: version_of(self.form),
             generation: self.generation,
             end: self.end,
         }
+    }
+}
+
+/// The version, 1 or 2, whose records have this form.
+pub fn version_of(form: Form) -> Version
+    requires { IsReadIn forms.Plain form }
+    ensures { form_of result ≡ form }
+{
+    match form {
+        Form::Old => Version::One,
+        Form::Plain | Form::Marked => Version::Two,
     }
 }
 
