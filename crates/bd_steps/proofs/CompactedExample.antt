@@ -5,6 +5,7 @@ use Rattle.std.specs.Int.{w16, w64, to_le_bytes}
 use Rattle.std.specs.FinMap as map
 use Rattle.st_disk.proofs.CrashLaws.{only_image, settled_image}
 use Rattle.st_records.specs.declared.version.Version.TheVariants as versions
+use Rattle.st_records.specs.declared.version.Form.TheVariants as forms
 use Rattle.st_records.specs.declared.record.Entry.{Entry}
 use Rattle.st_records.specs.Limits.{IsGood}
 use Rattle.st_records.proofs.TestLemmas.{within_from}
@@ -59,13 +60,14 @@ second_holds batches are = record {
 recovers_second : (batches : List Batch) → AreBatches versions.Two true batches → Recovers (side_of kept_batch) (side_in 2 batches) (replay map.empty (records_of batches))
 recovers_second batches are =
     inr (inr (record {
-      v = versions.Two;
+      form = forms.Plain;
       generation = 2;
       end = length (rest_in 2 batches);
       counts = record {
+        is_read = omega arith;
         held = records_of batches;
         holds = second_holds batches are;
-        over = inr (1, (records_of kept_batch, (versions.Two, length (rest_in 1 kept_batch), first_holds kept_batch (kept_is_batch, tt))), lit< tt);
+        over = inr (1, (records_of kept_batch, (forms.Plain, omega arith, length (rest_in 1 kept_batch), first_holds kept_batch (kept_is_batch, tt))), lit< tt);
         state_is = refl;
       };
     }))

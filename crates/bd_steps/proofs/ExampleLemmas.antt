@@ -6,6 +6,7 @@ use Rattle.std.specs.Int.{w16, w64, to_le_bytes}
 use Rattle.std.specs.FinMap as map
 use Rattle.st_disk.proofs.CrashLaws.{only_image, settled_image}
 use Rattle.st_records.specs.declared.version.Version.TheVariants as versions
+use Rattle.st_records.specs.declared.version.Form.TheVariants as forms
 use Rattle.st_records.specs.declared.record.Record.{Record}
 use Rattle.st_records.specs.Limits.{IsGood}
 use Rattle.st_records.specs.Parts.{target_of}
@@ -38,10 +39,11 @@ behind_gate batches = magic ++ (to_le_bytes w16 2 ++ (to_le_bytes w64 1 ++ (text
 recovers_side : (batches : List Batch) → AreBatches versions.Two true batches → Recovers (side_of batches) [] (replay map.empty (records_of batches))
 recovers_side batches are =
     inr (inl (record {
-      v = versions.Two;
+      form = forms.Plain;
       generation = 1;
       end = length (behind_gate batches);
       counts = record {
+        is_read = omega arith;
         held = records_of batches;
         holds = record {
           batches = batches;

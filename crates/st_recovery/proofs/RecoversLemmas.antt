@@ -3,19 +3,24 @@ use Rattle.std.specs.Prelude.{IfSome, IfNone, IsErrOf}
 use Rattle.std.proofs.Common.{◌≡◌, ◌⊎◌, ℕ, ◌<◌, ◌≤◌, true, false, cond, ltb, List, Option, Some, None, Result, Err, refl, sym, ap, subst, ◌∙◌, arith, inl, inr, rules, tests}
 use Rattle.std.proofs.lemmas.Bool.{cases_lt}
 use Rattle.std.specs.FinMap as map
+use Rattle.st_disk.specs.declared.which.Which.{Which}
 use Rattle.st_disk.specs.declared.which.Which.TheVariants as sides
 use Rattle.st_records.specs.declared.version.Version.{Version}
+use Rattle.st_records.specs.Forms.{form_of}
+use Rattle.st_records.specs.declared.version.Form.{Form}
+use Rattle.st_records.specs.declared.version.Form.TheVariants.{Plain}
 use Rattle.st_records.specs.declared.record.Record.{Record}
 use Rattle.st_state.specs.State.{StateMap, replay}
 use Rattle.st_file.specs.declared.fault.OpenFault.{OpenFault}
 use Rattle.st_file.specs.declared.fault.OpenFault.TheVariants as faults
+use Rattle.st_file.specs.Layout.{IsReadIn}
 use Rattle.st_file.specs.Side as side
-use Rattle.st_file.specs.declared.side.Extent.{Extent}
-use Rattle.st_file.specs.Side.{IsVoid, HoldsUpTo, HoldsRecords, IsRefused, Reading, Reads}
+use Rattle.st_file.specs.declared.side.ExtentIn.{ExtentIn}
+use Rattle.st_file.specs.Side.{IsVoid, HoldsUpToIn, HoldsRecordsIn, IsRefusedIn, ReadingIn, ReadsIn}
 use Rattle.st_records.proofs.Fields.{IsBytes}
-use Rattle.st_file.proofs.ReadingLemmas.{one_reading}
-use Rattle.st_file.proofs.TotalLemmas.{every_reading}
-use Rattle.st_recovery.specs.Recovers.{Wins, WasRead, Recovers, IsWhole, HaveOneGeneration, RefusesWith, Outcome, recovered, refused, HasOutcome, outcome_of}
+use Rattle.st_file.proofs.ReadingLemmas.{one_reading_in}
+use Rattle.st_file.proofs.TotalLemmas.{every_reading_in}
+use Rattle.st_recovery.specs.Recovers.{WinsIn, WasReadIn, IsChosen, IsChosenIn, RecoversIn, IsWholeIn, HaveOneGenerationIn, RefusesWithIn, Outcome, recovered, refused, HasOutcome, HasOutcomeIn, outcome_of}
 
 -- what comes of two sides that hold records
 abbrev of_two : ℕ → List Record → ℕ → List Record → Outcome
@@ -38,210 +43,231 @@ neither_counts : (g : ℕ) (rs ss : List Record) → of_two g rs g ss ≡ refuse
 neither_counts g rs ss = rw (not_below_ltb g g (λ (more : g < g). omega arith)) refl
 
 -- what comes of two sides that are read so
-abbrev outcome : Reading → Reading → Outcome
-outcome (side.refused f) r = refused f
-outcome side.blank side.blank = recovered map.empty
-outcome side.blank (side.holding w h ss d) = recovered (replay map.empty ss)
-outcome side.blank (side.refused f) = refused f
-outcome (side.holding v g rs e) side.blank = recovered (replay map.empty rs)
-outcome (side.holding v g rs e) (side.holding w h ss d) = of_two g rs h ss
-outcome (side.holding v g rs e) (side.refused f) = refused f
+abbrev outcome : ReadingIn → ReadingIn → Outcome
+outcome (side.refused_in f) r = refused f
+outcome side.blank_in side.blank_in = recovered map.empty
+outcome side.blank_in (side.holding_in other h ss d) = recovered (replay map.empty ss)
+outcome side.blank_in (side.refused_in f) = refused f
+outcome (side.holding_in form g rs e) side.blank_in = recovered (replay map.empty rs)
+outcome (side.holding_in form g rs e) (side.holding_in other h ss d) = of_two g rs h ss
+outcome (side.holding_in form g rs e) (side.refused_in f) = refused f
 
-record BothRead (b : List ℕ) (of_a : Reading) (o : Outcome) : Type 0 where
-  of_b : Reading
-  reads : Reads sides.B b of_b
+record BothRead (newest : Form) (b : List ℕ) (of_a : ReadingIn) (o : Outcome) : Type 0 where
+  of_b : ReadingIn
+  reads : ReadsIn newest sides.B b of_b
   outcome_is : o ≡ outcome of_a of_b
 
 -- side B is looked at only where side A isn't refused
-abbrev FollowsA : List ℕ → Reading → Outcome → Type 0
-FollowsA b (side.refused f) o = o ≡ refused f
-FollowsA b side.blank o = BothRead b side.blank o
-FollowsA b (side.holding v g rs e) o = BothRead b (side.holding v g rs e) o
+abbrev FollowsA : (newest : Form) → List ℕ → ReadingIn → Outcome → Type 0
+FollowsA newest b (side.refused_in f) o = o ≡ refused f
+FollowsA newest b side.blank_in o = BothRead newest b side.blank_in o
+FollowsA newest b (side.holding_in form g rs e) o = BothRead newest b (side.holding_in form g rs e) o
 
-record ComesOf (a b : List ℕ) (o : Outcome) : Type 0 where
-  of_a : Reading
-  reads : Reads sides.A a of_a
-  follows_a : FollowsA b of_a o
+record ComesOf (newest : Form) (a b : List ℕ) (o : Outcome) : Type 0 where
+  of_a : ReadingIn
+  reads : ReadsIn newest sides.A a of_a
+  follows_a : FollowsA newest b of_a o
 
-by_first : (a b : List ℕ) (m : StateMap) → Wins a b m → ComesOf a b (recovered m)
-by_first a b m wins =
+by_first : (newest : Form) (a b : List ℕ) (m : StateMap) → WinsIn newest a b m → ComesOf newest a b (recovered m)
+by_first newest a b m wins =
     let c = wins.counts in
     elim c.over [
       | inl void ↦ record {
-        of_a = side.holding wins.v wins.generation c.held wins.end;
-        reads = c.holds;
-        follows_a = record { of_b = side.blank; reads = void; outcome_is = ap recovered c.state_is };
+        of_a = side.holding_in wins.form wins.generation c.held wins.end;
+        reads = (c.is_read, c.holds);
+        follows_a = record { of_b = side.blank_in; reads = void; outcome_is = ap recovered c.state_is };
       }
       | inr less ↦ record {
-        of_a = side.holding wins.v wins.generation c.held wins.end;
-        reads = c.holds;
+        of_a = side.holding_in wins.form wins.generation c.held wins.end;
+        reads = (c.is_read, c.holds);
         follows_a = record {
-          of_b = side.holding less.1.1.0 less.0 less.1.0 less.1.1.1;
-          reads = less.1.1.2;
+          of_b = side.holding_in less.1.1.0 less.0 less.1.0 less.1.1.2;
+          reads = (less.1.1.1, less.1.1.3);
           outcome_is = ap recovered c.state_is ∙ sym (first_counts wins.generation less.0 c.held less.1.0 less.2);
         };
       }
     ]
 
-by_second : (a b : List ℕ) (m : StateMap) → Wins b a m → ComesOf a b (recovered m)
-by_second a b m wins =
+by_second : (newest : Form) (a b : List ℕ) (m : StateMap) → WinsIn newest b a m → ComesOf newest a b (recovered m)
+by_second newest a b m wins =
     let c = wins.counts in
     elim c.over [
       | inl void ↦ record {
-        of_a = side.blank;
+        of_a = side.blank_in;
         reads = void;
         follows_a = record {
-          of_b = side.holding wins.v wins.generation c.held wins.end;
-          reads = c.holds;
+          of_b = side.holding_in wins.form wins.generation c.held wins.end;
+          reads = (c.is_read, c.holds);
           outcome_is = ap recovered c.state_is;
         };
       }
       | inr less ↦ record {
-        of_a = side.holding less.1.1.0 less.0 less.1.0 less.1.1.1;
-        reads = less.1.1.2;
+        of_a = side.holding_in less.1.1.0 less.0 less.1.0 less.1.1.2;
+        reads = (less.1.1.1, less.1.1.3);
         follows_a = record {
-          of_b = side.holding wins.v wins.generation c.held wins.end;
-          reads = c.holds;
+          of_b = side.holding_in wins.form wins.generation c.held wins.end;
+          reads = (c.is_read, c.holds);
           outcome_is = ap recovered c.state_is ∙ sym (second_counts less.0 wins.generation less.1.0 c.held less.2);
         };
       }
     ]
 
-by_state : (a b : List ℕ) (m : StateMap) → Recovers a b m → ComesOf a b (recovered m)
-by_state a b m (inl none) = record {
-  of_a = side.blank;
+by_state : (newest : Form) (a b : List ℕ) (m : StateMap) → RecoversIn newest a b m → ComesOf newest a b (recovered m)
+by_state newest a b m (inl none) = record {
+  of_a = side.blank_in;
   reads = none.0;
-  follows_a = record { of_b = side.blank; reads = none.1; outcome_is = ap recovered none.2 };
+  follows_a = record { of_b = side.blank_in; reads = none.1; outcome_is = ap recovered none.2 };
 }
-by_state a b m (inr (inl wins)) = by_first a b m wins
-by_state a b m (inr (inr wins)) = by_second a b m wins
+by_state newest a b m (inr (inl wins)) = by_first newest a b m wins
+by_state newest a b m (inr (inr wins)) = by_second newest a b m wins
 
-by_other : (a b : List ℕ) (f : OpenFault) → IsWhole a → IsRefused sides.B b f → ComesOf a b (refused f)
-by_other a b f (inl void) of_b = record {
-  of_a = side.blank;
+by_other : (newest : Form) (a b : List ℕ) (f : OpenFault) → IsWholeIn newest a → IsRefusedIn newest sides.B b f → ComesOf newest a b (refused f)
+by_other newest a b f (inl void) of_b = record {
+  of_a = side.blank_in;
   reads = void;
-  follows_a = record { of_b = side.refused f; reads = of_b; outcome_is = refl };
+  follows_a = record { of_b = side.refused_in f; reads = of_b; outcome_is = refl };
 }
-by_other a b f (inr holds) of_b = record {
-  of_a = side.holding holds.1.1.0 holds.0 holds.1.0 holds.1.1.1;
-  reads = holds.1.1.2;
-  follows_a = record { of_b = side.refused f; reads = of_b; outcome_is = refl };
+by_other newest a b f (inr holds) of_b = record {
+  of_a = side.holding_in holds.1.1.0 holds.0 holds.1.0 holds.1.1.2;
+  reads = (holds.1.1.1, holds.1.1.3);
+  follows_a = record { of_b = side.refused_in f; reads = of_b; outcome_is = refl };
 }
 
-by_generation : (a b : List ℕ) → HaveOneGeneration a b → ComesOf a b (refused faults.SameGeneration)
-by_generation a b same = record {
-  of_a = side.holding same.1.1.0 same.0 same.1.0 same.1.1.1;
-  reads = same.1.1.2;
+by_generation : (newest : Form) (a b : List ℕ) → HaveOneGenerationIn newest a b → ComesOf newest a b (refused faults.SameGeneration)
+by_generation newest a b same = record {
+  of_a = side.holding_in same.1.1.0 same.0 same.1.0 same.1.1.2;
+  reads = (same.1.1.1, same.1.1.3);
   follows_a = record {
-    of_b = side.holding same.2.1.0 same.0 same.2.0 same.2.1.1;
-    reads = same.2.1.2;
+    of_b = side.holding_in same.2.1.0 same.0 same.2.0 same.2.1.2;
+    reads = (same.2.1.1, same.2.1.3);
     outcome_is = sym (neither_counts same.0 same.1.0 same.2.0);
   };
 }
 
-by_refusal : (a b : List ℕ) (f : OpenFault) → RefusesWith a b f → ComesOf a b (refused f)
-by_refusal a b f (inl of_a) = record { of_a = side.refused f; reads = of_a; follows_a = refl }
-by_refusal a b f (inr (inl of_b)) = by_other a b f of_b.0 of_b.1
-by_refusal a b f (inr (inr same)) =
-    let P : OpenFault → Type 0 = λ g. ComesOf a b (refused g) in
-    subst P (sym same.0) (by_generation a b same.1)
+by_refusal : (newest : Form) (a b : List ℕ) (f : OpenFault) → RefusesWithIn newest a b f → ComesOf newest a b (refused f)
+by_refusal newest a b f (inl of_a) = record { of_a = side.refused_in f; reads = of_a; follows_a = refl }
+by_refusal newest a b f (inr (inl of_b)) = by_other newest a b f of_b.0 of_b.1
+by_refusal newest a b f (inr (inr same)) =
+    let P : OpenFault → Type 0 = λ g. ComesOf newest a b (refused g) in
+    subst P (sym same.0) (by_generation newest a b same.1)
 
-comes_of : (a b : List ℕ) (o : Outcome) → HasOutcome a b o → ComesOf a b o
-comes_of a b (recovered m) h = by_state a b m h
-comes_of a b (refused f) h = by_refusal a b f h
+comes_of : (newest : Form) (a b : List ℕ) (o : Outcome) → HasOutcomeIn newest a b o → ComesOf newest a b o
+comes_of newest a b (recovered m) h = by_state newest a b m h
+comes_of newest a b (refused f) h = by_refusal newest a b f h
 
-one_both_read : (b : List ℕ) (of_a : Reading) (o p : Outcome) → BothRead b of_a o → BothRead b of_a p → o ≡ p
-one_both_read b of_a o p h k =
-    h.outcome_is ∙ ap (outcome of_a) (one_reading sides.B b h.of_b k.of_b h.reads k.reads) ∙ sym k.outcome_is
+one_both_read : (newest : Form) (b : List ℕ) (of_a : ReadingIn) (o p : Outcome) → BothRead newest b of_a o → BothRead newest b of_a p → o ≡ p
+one_both_read newest b of_a o p h k =
+    h.outcome_is ∙ ap (outcome of_a) (one_reading_in newest sides.B b h.of_b k.of_b h.reads k.reads) ∙ sym k.outcome_is
 
-one_follows : (b : List ℕ) (of_a : Reading) (o p : Outcome) → FollowsA b of_a o → FollowsA b of_a p → o ≡ p
-one_follows b (side.refused f) o p h k = h ∙ sym k
-one_follows b side.blank o p h k = one_both_read b side.blank o p h k
-one_follows b (side.holding v g rs e) o p h k = one_both_read b (side.holding v g rs e) o p h k
+one_follows : (newest : Form) (b : List ℕ) (of_a : ReadingIn) (o p : Outcome) → FollowsA newest b of_a o → FollowsA newest b of_a p → o ≡ p
+one_follows newest b (side.refused_in f) o p h k = h ∙ sym k
+one_follows newest b side.blank_in o p h k = one_both_read newest b side.blank_in o p h k
+one_follows newest b (side.holding_in form g rs e) o p h k = one_both_read newest b (side.holding_in form g rs e) o p h k
 
 -- a pair recovers one state or is refused with one fault, and only one of these
+pub one_recovery_in : (newest : Form) (a b : List ℕ) (o p : Outcome) → HasOutcomeIn newest a b o → HasOutcomeIn newest a b p → o ≡ p
+one_recovery_in newest a b o p h k =
+    let c = comes_of newest a b o h in
+    let d = comes_of newest a b p k in
+    let same : c.of_a ≡ d.of_a = one_reading_in newest sides.A a c.of_a d.of_a c.reads d.reads in
+    let P : ReadingIn → Type 0 = λ r. FollowsA newest b r o in
+    one_follows newest b d.of_a o p (subst P same c.follows_a) d.follows_a
+
+-- also where versions 1 and 2 are read
 pub one_recovery : (a b : List ℕ) (o p : Outcome) → HasOutcome a b o → HasOutcome a b p → o ≡ p
-one_recovery a b o p h k =
-    let c = comes_of a b o h in
-    let d = comes_of a b p k in
-    let same : c.of_a ≡ d.of_a = one_reading sides.A a c.of_a d.of_a c.reads d.reads in
-    let P : Reading → Type 0 = λ r. FollowsA b r o in
-    one_follows b d.of_a o p (subst P same c.follows_a) d.follows_a
+one_recovery = one_recovery_in Plain
 
 -- so what was answered is the one outcome there is
-pub IfSome-one : (a b : List ℕ) (answered : Option Outcome) → IfSome answered (HasOutcome a b) → (o : Outcome) → HasOutcome a b o → IfSome answered (λ p. p ≡ o)
-IfSome-one a b None found o h = tt
-IfSome-one a b (Some p) found o h = one_recovery a b p o found h
+pub IfSome-one : (newest : Form) (a b : List ℕ) (answered : Option Outcome) → IfSome answered (HasOutcomeIn newest a b) → (o : Outcome) → HasOutcomeIn newest a b o → IfSome answered (λ p. p ≡ o)
+IfSome-one newest a b None found o h = tt
+IfSome-one newest a b (Some p) found o h = one_recovery_in newest a b p o found h
 
 -- no pair is refused for a device
-no_device : (a b : List ℕ) → RefusesWith a b faults.Device → ⊥
-no_device a b (inl of_a) = of_a
-no_device a b (inr (inl of_b)) = of_b.1
-no_device a b (inr (inr same)) =
+no_device : (newest : Form) (a b : List ℕ) → RefusesWithIn newest a b faults.Device → ⊥
+no_device newest a b (inl of_a) = of_a
+no_device newest a b (inr (inl of_b)) = of_b.1
+no_device newest a b (inr (inr same)) =
     let none : faults.Device ≡ faults.SameGeneration = same.0 in absurd cc
 
 -- so none is answered
-pub never_of_a_device : (a b : List ℕ) (answered : Result StateMap OpenFault) → IfSome (outcome_of answered) (HasOutcome a b)
+pub never_of_a_device : (newest : Form) (a b : List ℕ) (answered : Result StateMap OpenFault) → IfSome (outcome_of answered) (HasOutcomeIn newest a b)
     → IsErrOf answered faults.Device → ⊥
-never_of_a_device a b answered found is = no_device a b (subst (λ r. IfSome (outcome_of r) (HasOutcome a b)) is found)
+never_of_a_device newest a b answered found is = no_device newest a b (subst (λ r. IfSome (outcome_of r) (HasOutcomeIn newest a b)) is found)
 
 -- ---- a pair has an outcome: what comes of a reading of each side
 
-abbrev HasSome : List ℕ → List ℕ → Type 0
-HasSome a b = (o : Outcome) × HasOutcome a b o
+abbrev HasSome : (newest : Form) → List ℕ → List ℕ → Type 0
+HasSome newest a b = (o : Outcome) × HasOutcomeIn newest a b o
 
-counting : (x other : List ℕ) (v : Version) (g : ℕ) (rs : List Record) (e : ℕ) → Reads sides.A x (side.holding v g rs e) → IsVoid other ⊎ ((smaller : ℕ) × ((held : List Record) × HoldsRecords other smaller held) × (smaller < g)) → Wins x other (replay map.empty rs)
-counting x other v g rs e holds over =
-    record { v = v; generation = g; end = e; counts = record { held = rs; holds = holds; over = over; state_is = refl } }
+counting : (newest : Form) (x other : List ℕ) (form : Form) (g : ℕ) (rs : List Record) (e : ℕ) → ReadsIn newest sides.A x (side.holding_in form g rs e) → IsVoid other ⊎ ((smaller : ℕ) × ((held : List Record) × HoldsRecordsIn newest other smaller held) × (smaller < g)) → WinsIn newest x other (replay map.empty rs)
+counting newest x other form g rs e holds over =
+    record { form = form; generation = g; end = e; counts = record { is_read = holds.0; held = rs; holds = holds.1; over = over; state_is = refl } }
 
-some_of_two : (a b : List ℕ) (v w : Version) (g h : ℕ) (rs ss : List Record) (e d : ℕ) → Reads sides.A a (side.holding v g rs e) → Reads sides.B b (side.holding w h ss d) → (g < h) ⊎ (h ≤ g) → (h < g) ⊎ (g ≤ h) → HasSome a b
-some_of_two a b v w g h rs ss e d of_a of_b (inl less) more =
-    (recovered (replay map.empty ss), inr (inr (counting b a w h ss d of_b (inr (g, (rs, (v, e, of_a)), less)))))
-some_of_two a b v w g h rs ss e d of_a of_b (inr le) (inl less) =
-    (recovered (replay map.empty rs), inr (inl (counting a b v g rs e of_a (inr (h, (ss, (w, d, of_b)), less)))))
-some_of_two a b v w g h rs ss e d of_a of_b (inr le) (inr ge) =
+some_of_two : (newest : Form) (a b : List ℕ) (form other : Form) (g h : ℕ) (rs ss : List Record) (e d : ℕ) → ReadsIn newest sides.A a (side.holding_in form g rs e) → ReadsIn newest sides.B b (side.holding_in other h ss d) → (g < h) ⊎ (h ≤ g) → (h < g) ⊎ (g ≤ h) → HasSome newest a b
+some_of_two newest a b form other g h rs ss e d of_a of_b (inl less) more =
+    (recovered (replay map.empty ss), inr (inr (counting newest b a other h ss d of_b (inr (g, (rs, (form, of_a.0, e, of_a.1)), less)))))
+some_of_two newest a b form other g h rs ss e d of_a of_b (inr le) (inl less) =
+    (recovered (replay map.empty rs), inr (inl (counting newest a b form g rs e of_a (inr (h, (ss, (other, of_b.0, d, of_b.1)), less)))))
+some_of_two newest a b form other g h rs ss e d of_a of_b (inr le) (inr ge) =
     let same : h ≡ g = omega arith in
-    let P : ℕ → Type 0 = λ n. (held : List Record) × HoldsRecords b n held in
-    (refused faults.SameGeneration, inr (inr (refl, (g, (rs, (v, e, of_a)), subst P same (ss, (w, d, of_b))))))
+    let P : ℕ → Type 0 = λ n. (held : List Record) × HoldsRecordsIn newest b n held in
+    (refused faults.SameGeneration, inr (inr (refl, (g, (rs, (form, of_a.0, e, of_a.1)), subst P same (ss, (other, of_b.0, d, of_b.1))))))
 
-some_of : (a b : List ℕ) (of_a of_b : Reading) → Reads sides.A a of_a → Reads sides.B b of_b → HasSome a b
-some_of a b (side.refused f) of_b reads_a reads_b = (refused f, inl reads_a)
-some_of a b side.blank side.blank reads_a reads_b = (recovered map.empty, inl (reads_a, reads_b, refl))
-some_of a b side.blank (side.holding w h ss d) reads_a reads_b =
-    (recovered (replay map.empty ss), inr (inr (counting b a w h ss d reads_b (inl reads_a))))
-some_of a b side.blank (side.refused f) reads_a reads_b = (refused f, inr (inl (inl reads_a, reads_b)))
-some_of a b (side.holding v g rs e) side.blank reads_a reads_b =
-    (recovered (replay map.empty rs), inr (inl (counting a b v g rs e reads_a (inl reads_b))))
-some_of a b (side.holding v g rs e) (side.holding w h ss d) reads_a reads_b =
-    some_of_two a b v w g h rs ss e d reads_a reads_b (cases_lt g h) (cases_lt h g)
-some_of a b (side.holding v g rs e) (side.refused f) reads_a reads_b =
-    (refused f, inr (inl (inr (g, (rs, (v, e, reads_a))), reads_b)))
+some_of : (newest : Form) (a b : List ℕ) (of_a of_b : ReadingIn) → ReadsIn newest sides.A a of_a → ReadsIn newest sides.B b of_b → HasSome newest a b
+some_of newest a b (side.refused_in f) of_b reads_a reads_b = (refused f, inl reads_a)
+some_of newest a b side.blank_in side.blank_in reads_a reads_b = (recovered map.empty, inl (reads_a, reads_b, refl))
+some_of newest a b side.blank_in (side.holding_in other h ss d) reads_a reads_b =
+    (recovered (replay map.empty ss), inr (inr (counting newest b a other h ss d reads_b (inl reads_a))))
+some_of newest a b side.blank_in (side.refused_in f) reads_a reads_b = (refused f, inr (inl (inl reads_a, reads_b)))
+some_of newest a b (side.holding_in form g rs e) side.blank_in reads_a reads_b =
+    (recovered (replay map.empty rs), inr (inl (counting newest a b form g rs e reads_a (inl reads_b))))
+some_of newest a b (side.holding_in form g rs e) (side.holding_in other h ss d) reads_a reads_b =
+    some_of_two newest a b form other g h rs ss e d reads_a reads_b (cases_lt g h) (cases_lt h g)
+some_of newest a b (side.holding_in form g rs e) (side.refused_in f) reads_a reads_b =
+    (refused f, inr (inl (inr (g, (rs, (form, reads_a.0, e, reads_a.1))), reads_b)))
 
 -- a pair recovers a state or is refused
-pub every_outcome : (a b : List ℕ) → IsBytes a → IsBytes b → (o : Outcome) × HasOutcome a b o
-every_outcome a b a_fits b_fits =
-    let of_a = every_reading sides.A a a_fits in
-    let of_b = every_reading sides.B b b_fits in
-    some_of a b of_a.0 of_b.0 of_a.1 of_b.1
+pub every_outcome : (newest : Form) (a b : List ℕ) → IsBytes a → IsBytes b → (o : Outcome) × HasOutcomeIn newest a b o
+every_outcome newest a b a_fits b_fits =
+    let of_a = every_reading_in newest sides.A a a_fits in
+    let of_b = every_reading_in newest sides.B b b_fits in
+    some_of newest a b of_a.0 of_b.0 of_a.1 of_b.1
 
 -- ---- the clauses of the calls
 
 -- a side that was read isn't refused
-pub whole_of_read : (T : Type 0) (P : List Record → Type 0) (x : List ℕ) (read : Option Extent) → IfNone read (IsVoid x × T) → IfSome read (λ e. (held : List Record) × HoldsUpTo x e.version e.generation held e.end × P held) → IsWhole x
-whole_of_read T P x None void held = inl void.0
-whole_of_read T P x (Some e) void held = inr (e.generation, (held.0, (e.version, e.end, held.1)))
+pub whole_of_read : (newest : Form) (T : Type 0) (P : List Record → Type 0) (x : List ℕ) (read : Option ExtentIn) → IfNone read (IsVoid x × T) → IfSome read (λ e. IsReadIn newest e.form) → IfSome read (λ e. (held : List Record) × HoldsUpToIn x e.form e.generation held e.end × P held) → IsWholeIn newest x
+whole_of_read newest T P x None void form held = inl void.0
+whole_of_read newest T P x (Some e) void form held = inr (e.generation, (held.0, (e.form, form, e.end, held.1)))
 
 -- what was read off is as it was read
-pub was_read : (T : Type 0) (x : List ℕ) (read : Option Extent) (m : StateMap) → IfNone read (IsVoid x × T) → IfSome read (λ e. (held : List Record) × HoldsUpTo x e.version e.generation held e.end × (m ≡ replay map.empty held)) → WasRead x read m
-was_read T x None m void held = void.0
-was_read T x (Some e) m void held = held
+pub was_read : (newest : Form) (T : Type 0) (x : List ℕ) (read : Option ExtentIn) (m : StateMap) → IfNone read (IsVoid x × T) → IfSome read (λ e. IsReadIn newest e.form) → IfSome read (λ e. (held : List Record) × HoldsUpToIn x e.form e.generation held e.end × (m ≡ replay map.empty held)) → WasReadIn newest x read m
+was_read newest T x None m void form held = void.0
+was_read newest T x (Some e) m void form held = (form, held)
+
+-- of the side that was chosen the pair recovers the state
+pub recovers_chosen : (newest : Form) (a b : List ℕ) (side : Which) (form : Form) (generation end : ℕ) (m n : StateMap) → n ≡ m → IsChosenIn newest a b side form generation end m → RecoversIn newest a b n
+recovers_chosen newest a b sides.A form generation end m n same chosen =
+    subst (RecoversIn newest a b) (sym same) (inr (inl (record { form = form; generation = generation; end = end; counts = chosen })))
+recovers_chosen newest a b sides.B form generation end m n same chosen =
+    subst (RecoversIn newest a b) (sym same) (inr (inr (record { form = form; generation = generation; end = end; counts = chosen })))
 
 -- a refusal of side B is one of the pair where side A isn't refused
-pub second_refused : (a b : List ℕ) (f : OpenFault) → IsWhole a → (f ≡ faults.Device) ⊎ ((f ≡ faults.OutOfMemory) ⊎ IsRefused sides.B b f) → (f ≡ faults.Device) ⊎ ((f ≡ faults.OutOfMemory) ⊎ RefusesWith a b f)
-second_refused a b f whole (inl device) = inl device
-second_refused a b f whole (inr (inl memory)) = inr (inl memory)
-second_refused a b f whole (inr (inr is)) = inr (inr (inr (inl (whole, is))))
+pub second_refused : (newest : Form) (a b : List ℕ) (f : OpenFault) → IsWholeIn newest a → (f ≡ faults.Device) ⊎ ((f ≡ faults.OutOfMemory) ⊎ IsRefusedIn newest sides.B b f) → (f ≡ faults.Device) ⊎ ((f ≡ faults.OutOfMemory) ⊎ RefusesWithIn newest a b f)
+second_refused newest a b f whole (inl device) = inl device
+second_refused newest a b f whole (inr (inl memory)) = inr (inl memory)
+second_refused newest a b f whole (inr (inr is)) = inr (inr (inr (inl (whole, is))))
 
 -- one fault in answers of two types
 pub same_fault : {S T : Type 0} (f g : OpenFault) → IsErrOf {T = S} (Err f) g → IsErrOf {T = T} (Err f) g
 same_fault {S} {T} f g e = let same : f ≡ g = cc in let wrapped : OpenFault → Result T OpenFault = λ h. Err h in ap wrapped same
+
+-- ---- where versions 1 and 2 are read
+
+-- a side that was chosen, by its version
+pub chosen_by_version : (a b : List ℕ) (side : Which) (form : Form) (v : Version) (generation g end e : ℕ) (m : StateMap) → form_of v ≡ form → g ≡ generation → e ≡ end → IsChosenIn Plain a b side form generation end m → IsChosen a b side v g e m
+chosen_by_version a b side form v generation g end e m forms generations ends chosen =
+    let P : Form → Type 0 = λ f. IsChosenIn Plain a b side f generation end m in
+    let Q : ℕ → Type 0 = λ n. IsChosenIn Plain a b side (form_of v) n end m in
+    let R : ℕ → Type 0 = λ n. IsChosenIn Plain a b side (form_of v) g n m in
+    subst R (sym ends) (subst Q (sym generations) (subst P (sym forms) chosen))

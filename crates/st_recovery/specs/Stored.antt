@@ -7,47 +7,52 @@ use Rattle.st_disk.specs.Crash.{UnsyncedWrites, IsCrashImage, settled, Sides, wr
 use Rattle.st_disk.specs.Moments.{Moments}
 use Rattle.st_records.specs.declared.version.Version.{Version}
 use Rattle.st_records.specs.declared.version.Version.TheVariants as versions
+use Rattle.st_records.specs.declared.version.Form.{Form}
+use Rattle.st_records.specs.declared.version.Form.TheVariants.{Plain}
 use Rattle.st_records.specs.declared.record.Record.{Record}
+use Rattle.st_records.specs.Forms.{form_of}
 use Rattle.st_state.specs.State.{StateMap, replay}
 use Rattle.st_file.specs.declared.layout.TheConstants.{HEADER_BYTES}
-use Rattle.st_file.specs.Side.{IsVoid, HoldsUpTo}
-use Rattle.st_recovery.specs.Recovers.{HoldsGeneration, Recovers}
+use Rattle.st_file.specs.Layout.{IsReadIn}
+use Rattle.st_file.specs.Side.{IsVoid, HoldsUpToIn}
+use Rattle.st_recovery.specs.Recovers.{HoldsGenerationIn, RecoversIn}
 
 -- a side of this generation counts over a side of these bytes
-abbrev pub GivesWay : ℕ → List ℕ → Type 0
-GivesWay generation x = IsVoid x ⊎ ((smaller : ℕ) × HoldsGeneration x smaller × (smaller < generation))
+abbrev pub GivesWayIn : (newest : Form) → ℕ → List ℕ → Type 0
+GivesWayIn newest generation x = IsVoid x ⊎ ((smaller : ℕ) × HoldsGenerationIn newest x smaller × (smaller < generation))
 
 -- the side that counts is on the disk just as reads give it, and holds up to its end records that make this state of the
 -- empty one; the other side is on the disk too, and gives way
-pub record IsStored (seen : List ℕ) (writes away : UnsyncedWrites) (v : Version) (generation end : ℕ) (m : StateMap) : Type 0 where
+pub record IsStoredIn (newest : Form) (seen : List ℕ) (writes away : UnsyncedWrites) (form : Form) (generation end : ℕ) (m : StateMap) : Type 0 where
   pub on_disk : writes ≡ settled seen
+  pub is_read : IsReadIn newest form
   pub held : List Record
-  pub holds : HoldsUpTo seen v generation held end
+  pub holds : HoldsUpToIn seen form generation held end
   pub state_is : m ≡ replay map.empty held
   pub away_on_disk : away ≡ settled away.synced
-  pub over : (x : List ℕ) → IsCrashImage away x → GivesWay generation x
+  pub over : (x : List ℕ) → IsCrashImage away x → GivesWayIn newest generation x
 
 -- so it is of this side of a disk, by what reads give and what a crash may leave
-abbrev pub IsStoredOn : (Which → List ℕ) → Sides → Which → Version → ℕ → ℕ → StateMap → Type 0
-IsStoredOn seen sides side v generation end m =
-    ∥ IsStored (seen side) (writes_of side sides) (writes_of (other side) sides) v generation end m ∥₁
+abbrev pub IsStoredOnIn : (newest : Form) → (Which → List ℕ) → Sides → Which → Form → ℕ → ℕ → StateMap → Type 0
+IsStoredOnIn newest seen sides side form generation end m =
+    ∥ IsStoredIn newest (seen side) (writes_of side sides) (writes_of (other side) sides) form generation end m ∥₁
 
 -- every pair of crash images recovers this state
-abbrev pub AllRecover : StateMap → Sides → Type 0
-AllRecover m = EachPair (λ a b. ∥ Recovers a b m ∥₁)
+abbrev pub AllRecoverIn : (newest : Form) → StateMap → Sides → Type 0
+AllRecoverIn newest m = EachPair (λ a b. ∥ RecoversIn newest a b m ∥₁)
 
 -- every pair of crash images recovers the one state or the other
-abbrev pub AllRecoverEither : StateMap → StateMap → Sides → Type 0
-AllRecoverEither m n = EachPair (λ a b. ∥ Recovers a b m ⊎ Recovers a b n ∥₁)
+abbrev pub AllRecoverEitherIn : (newest : Form) → StateMap → StateMap → Sides → Type 0
+AllRecoverEitherIn newest m n = EachPair (λ a b. ∥ RecoversIn newest a b m ⊎ RecoversIn newest a b n ∥₁)
 
 -- every pair of crash images was one at this start
 abbrev pub ArePossible : Sides → Sides → Type 0
 ArePossible start = EachPair (λ a b. IsCrashImage start.a a × IsCrashImage start.b b)
 
 -- every pair of crash images was one at this start or, both sides being void there, recovers the empty state
-abbrev pub ArePossibleOrNew : (seen_a seen_b : List ℕ) → Sides → Sides → Type 0
-ArePossibleOrNew seen_a seen_b start = EachPair (λ a b. (IsCrashImage start.a a × IsCrashImage start.b b)
-    ⊎ (IsVoid seen_a × (IsVoid seen_b × Recovers a b map.empty)))
+abbrev pub ArePossibleOrNewIn : (newest : Form) → (seen_a seen_b : List ℕ) → Sides → Sides → Type 0
+ArePossibleOrNewIn newest seen_a seen_b start = EachPair (λ a b. (IsCrashImage start.a a × IsCrashImage start.b b)
+    ⊎ (IsVoid seen_a × (IsVoid seen_b × RecoversIn newest a b map.empty)))
 
 -- one side or the other has a byte
 abbrev pub HaveBytes : List ℕ → List ℕ → Type 0
@@ -58,7 +63,31 @@ abbrev pub AreFewCalls : (seen_a seen_b : List ℕ) → (old new : Moments) → 
 AreFewCalls seen_a seen_b old new =
     (new.newest ≤ old.newest + 2) ⊎ (IsVoid seen_a × (IsVoid seen_b × (new.newest ≤ old.newest + 8)))
 
--- the log of a store that was created: on side A, of version 2 and generation 1, behind the header
+-- the log of a store that was created: on side A, of the newest form and generation 1, behind the header
+pub record IsNewLogIn (newest : Form) (side : Which) (form : Form) (generation end : ℕ) : Type 0 where
+  pub on_a : side ≡ A
+  pub is_newest : form ≡ newest
+  pub first : generation ≡ 1
+  pub empty : end ≡ HEADER_BYTES
+
+-- ---- where versions 1 and 2 are read
+
+abbrev pub GivesWay : ℕ → List ℕ → Type 0
+GivesWay = GivesWayIn Plain
+
+abbrev pub IsStoredOn : (Which → List ℕ) → Sides → Which → Version → ℕ → ℕ → StateMap → Type 0
+IsStoredOn seen sides side v = IsStoredOnIn Plain seen sides side (form_of v)
+
+abbrev pub AllRecover : StateMap → Sides → Type 0
+AllRecover = AllRecoverIn Plain
+
+abbrev pub AllRecoverEither : StateMap → StateMap → Sides → Type 0
+AllRecoverEither = AllRecoverEitherIn Plain
+
+abbrev pub ArePossibleOrNew : (seen_a seen_b : List ℕ) → Sides → Sides → Type 0
+ArePossibleOrNew = ArePossibleOrNewIn Plain
+
+-- of version 2
 pub record IsNewLog (side : Which) (v : Version) (generation end : ℕ) : Type 0 where
   pub on_a : side ≡ A
   pub is_two : v ≡ versions.Two

@@ -5,17 +5,18 @@ ghost use Rattle.std.specs.FinMap as map;
 ghost use Rattle.st_disk.specs.Crash.{writes_of, settled, EachPair};
 ghost use Rattle.st_disk.specs.Moments.{now, Throughout};
 ghost use Rattle.st_disk.specs.Faults.{CountsFaults, Rises};
-ghost use Rattle.st_state.specs.Keepable.{AllCanBeKept};
+ghost use Rattle.st_file.specs.Layout.{IsReadIn};
 ghost use Rattle.st_file.specs.Side.{IsVoid};
 ghost use Rattle.st_file.specs.declared.fault.OpenFault.TheVariants as faults;
-ghost use Rattle.st_recovery.specs.Recovers.{Recovers, RefusesWith, IsChosen};
-ghost use Rattle.st_recovery.specs.Stored.{AllRecover, IsNewLog, ArePossible, ArePossibleOrNew, AreFewCalls, HaveBytes};
+ghost use Rattle.st_recovery.specs.Recovers.{Recovers, RecoversIn, RefusesWith, RefusesWithIn, IsChosenIn, IsMadeOf};
+ghost use Rattle.st_recovery.specs.Stored.{AllRecover, AllRecoverIn, IsNewLog, IsNewLogIn, ArePossible, ArePossibleOrNew, ArePossibleOrNewIn, AreFewCalls, HaveBytes};
 
-use crate::recovery::{Chosen, choose_from};
+use crate::recovery::{ChosenIn, choose_from_in};
 use crate::store::Store;
+use crate::store_in::StoreIn;
 use st_disk::{DeviceFault, Disk, Which};
-use st_file::{HEADER_BYTES, Log, OpenFault, create};
-use st_records::{HashKey, Version};
+use st_file::{HEADER_BYTES, LogIn, OpenFault, create_in};
+use st_records::{Form, HashKey};
 use st_state::State;
 use std::alloc::Global;
 
@@ -48,59 +49,96 @@ pub fn open<D: Disk + Drop>(
         (λ store. AreFewCalls (D.seen disk Which.A) (D.seen disk Which.B) (D.moments disk) (D.moments store.log.disk))
         (λ e. AreFewCalls (D.seen disk Which.A) (D.seen disk Which.B) (D.moments disk) (D.moments e.1)) }
 {
+    match open_in(alloc, key, Form::Plain, disk) {
+        Ok(store) => Ok(store.by_version()),
+        Err(refused) => Err(refused),
+    }
+}
+
+/// The same where `newest` is the form that is written, of the newest version that is read.
+pub fn open_in<D: Disk + Drop>(
+    alloc: Global,
+    key: HashKey,
+    newest: Form,
+    disk: D,
+) -> Result<StoreIn<D>, (OpenFault, D)>
+    ensures any_moment { IfOk result (λ store. D.honest → Throughout (D.moments disk) (D.moments store.log.disk)
+        (ArePossibleOrNewIn newest (D.seen disk Which.A) (D.seen disk Which.B) (now (D.moments disk)))) }
+    ensures any_moment_refused { IfErr result (λ e. D.honest → Throughout (D.moments disk) (D.moments e.1)
+        (ArePossibleOrNewIn newest (D.seen disk Which.A) (D.seen disk Which.B) (now (D.moments disk)))) }
+    ensures found { IfOk result (λ store. D.honest → RecoversIn newest (D.seen disk Which.A) (D.seen disk Which.B) store.state) }
+    ensures recovers { IfOk result (λ store. D.honest → AllRecoverIn newest store.state (now (D.moments store.log.disk))) }
+    ensures newest { IfOk result (λ store. store.newest ≡ newest) }
+    ensures alive { IfOk result (λ store. store.log.dead ≡ false) }
+    ensures created { IfOk result (λ store. D.honest → IsVoid (D.seen disk Which.A) → IsVoid (D.seen disk Which.B)
+        → IsNewLogIn newest store.log.side store.log.form store.log.generation store.log.end) }
+    ensures refused { IfErr result (λ e. D.honest → (e.0 ≡ faults.Device) ⊎ ((e.0 ≡ faults.OutOfMemory)
+        ⊎ RefusesWithIn newest (D.seen disk Which.A) (D.seen disk Which.B) e.0)) }
+    ensures memory { IfErr result (λ e. D.honest → e.0 ≡ faults.OutOfMemory
+        → HaveBytes (D.seen disk Which.A) (D.seen disk Which.B)) }
+    ensures device { IfErr result (λ e. e.0 ≡ faults.Device → Rises (D.faults disk) (D.faults e.1)) }
+    ensures success { IfOk result (λ store. D.faults store.log.disk ≡ D.faults disk) }
+    ensures calls { D.honest → MatchResult result
+        (λ store. AreFewCalls (D.seen disk Which.A) (D.seen disk Which.B) (D.moments disk) (D.moments store.log.disk))
+        (λ e. AreFewCalls (D.seen disk Which.A) (D.seen disk Which.B) (D.moments disk) (D.moments e.1)) }
+{
     let mut disk = disk;
-    match find(alloc, key, &mut disk) {
+    match find(alloc, key, newest, &mut disk) {
         Ok(found) => match found {
-            Some(chosen) => Ok(store_of(disk, chosen)),
-            None => open_new(alloc, key, disk),
+            Some(chosen) => Ok(store_of(newest, disk, chosen)),
+            None => open_new(alloc, key, newest, disk),
         },
         Err(fault) => Err((fault, disk)),
     }
 }
 
 /// The store of the side that was chosen.
-fn store_of<D: Disk + Drop>(disk: D, chosen: Chosen) -> Store<D>
+fn store_of<D: Disk + Drop>(newest: Form, disk: D, chosen: ChosenIn) -> StoreIn<D>
     requires on_a { D.honest → writes_of Which.A (now (D.moments disk)) ≡ settled (D.seen disk Which.A) }
     requires on_b { D.honest → writes_of Which.B (now (D.moments disk)) ≡ settled (D.seen disk Which.B) }
-    requires chosen { D.honest → IsChosen (D.seen disk Which.A) (D.seen disk Which.B) chosen.side chosen.extent.version
+    requires chosen { D.honest → IsChosenIn newest (D.seen disk Which.A) (D.seen disk Which.B) chosen.side chosen.extent.form
         chosen.extent.generation chosen.extent.end chosen.state }
-    requires keepable { AllCanBeKept chosen.state }
+    requires form { IsReadIn newest chosen.extent.form }
+    requires good { IsMadeOf chosen.extent.form chosen.state }
+    ensures newest { result.newest ≡ newest }
     ensures disk { result.log.disk ≡ disk }
     ensures alive { result.log.dead ≡ false }
     ensures state { result.state ≡ chosen.state }
 {
-    let Chosen {
+    let ChosenIn {
         side,
         extent,
         state,
     } = chosen;
-    let log = Log {
+    let log = LogIn {
         disk,
         side,
-        version: extent.version,
+        form: extent.form,
         generation: extent.generation,
         end: extent.end as usize,
         dead: false,
     };
-    Store { log, state }
+    StoreIn { log, state, newest }
 }
 
 /// The store of two void sides: side A is created.
 fn open_new<D: Disk + Drop>(
     alloc: Global,
     key: HashKey,
+    newest: Form,
     disk: D,
-) -> Result<Store<D>, (OpenFault, D)>
+) -> Result<StoreIn<D>, (OpenFault, D)>
     requires on_a { D.honest → writes_of Which.A (now (D.moments disk)) ≡ settled (D.seen disk Which.A) }
     requires on_b { D.honest → writes_of Which.B (now (D.moments disk)) ≡ settled (D.seen disk Which.B) }
     requires void_a { D.honest → IsVoid (D.seen disk Which.A) }
     requires void_b { D.honest → IsVoid (D.seen disk Which.B) }
     ensures any_moment { IfOk result (λ store. D.honest → Throughout (D.moments disk) (D.moments store.log.disk)
-        (EachPair (λ a b. Recovers a b map.empty))) }
+        (EachPair (λ a b. RecoversIn newest a b map.empty))) }
     ensures any_moment_refused { IfErr result (λ e. D.honest → Throughout (D.moments disk) (D.moments e.1)
-        (EachPair (λ a b. Recovers a b map.empty))) }
-    ensures recovers { IfOk result (λ store. D.honest → AllRecover store.state (now (D.moments store.log.disk))) }
-    ensures created { IfOk result (λ store. IsNewLog store.log.side store.log.version store.log.generation store.log.end) }
+        (EachPair (λ a b. RecoversIn newest a b map.empty))) }
+    ensures recovers { IfOk result (λ store. D.honest → AllRecoverIn newest store.state (now (D.moments store.log.disk))) }
+    ensures created { IfOk result (λ store. IsNewLogIn newest store.log.side store.log.form store.log.generation store.log.end) }
+    ensures newest { IfOk result (λ store. store.newest ≡ newest) }
     ensures state { IfOk result (λ store. store.state ≡ map.empty) }
     ensures alive { IfOk result (λ store. store.log.dead ≡ false) }
     ensures device { IfErr result (λ e. (e.0 ≡ faults.Device) × Rises (D.faults disk) (D.faults e.1)) }
@@ -109,18 +147,18 @@ fn open_new<D: Disk + Drop>(
         (λ e. (D.moments e.1).newest ≤ (D.moments disk).newest + 6) }
 {
     let mut disk = disk;
-    match create(&mut disk, Which::A, 1) {
+    match create_in(&mut disk, Which::A, newest, 1) {
         Ok(()) => {
-            let log = Log {
+            let log = LogIn {
                 disk,
                 side: Which::A,
-                version: Version::Two,
+                form: newest,
                 generation: 1,
                 end: HEADER_BYTES,
                 dead: false,
             };
             let state = State::with_key(alloc, key);
-            Ok(Store { log, state })
+            Ok(StoreIn { log, state, newest })
         }
         Err(_) => Err((OpenFault::Device, disk)),
     }
@@ -130,18 +168,20 @@ fn open_new<D: Disk + Drop>(
 fn find<D: Disk + Drop>(
     alloc: Global,
     key: HashKey,
+    newest: Form,
     disk: &mut D,
-) -> Result<Option<Chosen>, OpenFault>
+) -> Result<Option<ChosenIn>, OpenFault>
     ensures any_moment { D.honest → Throughout (D.moments disk.old) (D.moments disk.new) (ArePossible (now (D.moments disk.old))) }
     ensures on_a { D.honest → OnOk result (writes_of Which.A (now (D.moments disk.new)) ≡ settled (D.seen disk.old Which.A)) }
     ensures on_b { D.honest → OnOk result (writes_of Which.B (now (D.moments disk.new)) ≡ settled (D.seen disk.old Which.B)) }
     ensures seen { D.honest → D.seen disk.new ≡ D.seen disk.old }
-    ensures chosen { D.honest → IfOk result (λ o. IfSome o (λ c. IsChosen (D.seen disk.old Which.A) (D.seen disk.old Which.B)
-        c.side c.extent.version c.extent.generation c.extent.end c.state)) }
-    ensures keepable { IfOk result (λ o. IfSome o (λ c. AllCanBeKept c.state)) }
+    ensures chosen { D.honest → IfOk result (λ o. IfSome o (λ c. IsChosenIn newest (D.seen disk.old Which.A) (D.seen disk.old Which.B)
+        c.side c.extent.form c.extent.generation c.extent.end c.state)) }
+    ensures form { IfOk result (λ o. IfSome o (λ c. IsReadIn newest c.extent.form)) }
+    ensures good { IfOk result (λ o. IfSome o (λ c. IsMadeOf c.extent.form c.state)) }
     ensures void { D.honest → IfOk result (λ o. IfNone o (IsVoid (D.seen disk.old Which.A) × IsVoid (D.seen disk.old Which.B))) }
     ensures refused { D.honest → IfErr result (λ fault. (fault ≡ faults.Device) ⊎ ((fault ≡ faults.OutOfMemory)
-        ⊎ RefusesWith (D.seen disk.old Which.A) (D.seen disk.old Which.B) fault)) }
+        ⊎ RefusesWithIn newest (D.seen disk.old Which.A) (D.seen disk.old Which.B) fault)) }
     ensures memory { D.honest → IsErrOf result faults.OutOfMemory
         → HaveBytes (D.seen disk.old Which.A) (D.seen disk.old Which.B) }
     ensures success { OnOk result (D.faults disk.new ≡ D.faults disk.old) }
@@ -149,7 +189,7 @@ fn find<D: Disk + Drop>(
     ensures calls { D.honest → (D.moments disk.new).newest ≤ (D.moments disk.old).newest + 2 }
 {
     settle_both(disk)?;
-    choose_from(alloc, key, disk)
+    choose_from_in(alloc, key, newest, disk)
 }
 
 /// Syncs both sides.

@@ -149,7 +149,11 @@ fn commit_parts<D: Disk + Drop>(
 }
 
 /// Makes ready to take in some records, the state itself in the answer. Without memory the state stays where it was.
-fn stage_beside(alloc: Global, state: &mut State, records: &[Record]) -> Result<Staged, CommitFault>
+pub(crate) fn stage_beside(
+    alloc: Global,
+    state: &mut State,
+    records: &[Record],
+) -> Result<Staged, CommitFault>
     ensures staged { IfOk result (λ s. (staged_state s ≡ state.old) × (staged_records s ≡ records.now)) }
     ensures err { OnErr result (state.new ≡ state.old) }
     ensures fault { IfErr result (λ fault. fault ≡ faults.OutOfMemory) }

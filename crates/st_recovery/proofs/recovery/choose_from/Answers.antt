@@ -1,42 +1,10 @@
-use Rattle.std.proofs.Common.{ℕ, List, subst, inr, rules}
-use Rattle.std.proofs.lemmas.Result.{IfErr-weaker}
-use Rattle.st_disk.specs.declared.which.Which.{Which}
-use Rattle.st_disk.specs.declared.which.Which.TheVariants as which
-use Rattle.st_recovery.specs.Recovers.{WasRead}
-use Rattle.st_recovery.proofs.AnewLemmas.{taken_keepable}
-use Rattle.st_recovery.proofs.RecoversLemmas.{whole_of_read, was_read, second_refused}
+use Rattle.std.proofs.Common.{sym, subst}
+use Rattle.st_state.specs.Keepable.{AllCanBeKept}
+use Rattle.st_recovery.proofs.AnewLemmas.{made_keepable}
 use Rattle.st_recovery.proofs.recovery.choose_from.Goals as goal
 
-pub returns-in_err-b_extent-in-Ok-clause-refused : goal.returns-in_err-b_extent-in-Ok-clause-refused
-returns-in_err-b_extent-in-Ok-clause-refused g c = λ honest.
-    let a = g.D.Disk.seen c.args.disk.now which.A in
-    let b = g.D.Disk.seen c.args.disk.now which.B in
-    let whole = whole_of_read _ _ a c.in-Ok.a_extent (c.in-Ok.ensures.void honest) (c.in-Ok.ensures.held honest) in
-    let refused = rw (c.in-Ok.ensures.seen honest) at (c.in_err-b_extent-in-Ok.ensures.refused honest) in
-    let told = second_refused a b c.in_err-b_extent-in-Ok.field-0.0 whole refused in
-    search (rules, told)
-
-pub returns-in_ok-b_extent-in-Ok-clause-chosen : goal.returns-in_ok-b_extent-in-Ok-clause-chosen
-returns-in_ok-b_extent-in-Ok-clause-chosen g c = λ honest.
-    let a_is = was_read _ _ _ _ (c.in-Ok.ensures.void honest) (c.in-Ok.ensures.held honest) in
-    let b_then = was_read _ _ _ _ (c.in_ok-b_extent-in-Ok.ensures.void honest) (c.in_ok-b_extent-in-Ok.ensures.held honest) in
-    let b_is = subst (λ (f : Which → List ℕ). WasRead (f which.B) c.in_ok-b_extent-in-Ok.b_extent c.read_from-in-Ok.new.sink) (c.in-Ok.ensures.seen honest) b_then in
-    c.newer.ensures.chosen _ _ a_is b_is
-
-pub returns-in_ok-b_extent-in-Ok-clause-void : goal.returns-in_ok-b_extent-in-Ok-clause-void
-returns-in_ok-b_extent-in-Ok-clause-void g c = λ honest.
-    let a_is = was_read _ _ _ _ (c.in-Ok.ensures.void honest) (c.in-Ok.ensures.held honest) in
-    let b_then = was_read _ _ _ _ (c.in_ok-b_extent-in-Ok.ensures.void honest) (c.in_ok-b_extent-in-Ok.ensures.held honest) in
-    let b_is = subst (λ (f : Which → List ℕ). WasRead (f which.B) c.in_ok-b_extent-in-Ok.b_extent c.read_from-in-Ok.new.sink) (c.in-Ok.ensures.seen honest) b_then in
-    c.newer.ensures.void _ _ a_is b_is
-
-pub returns-in_ok-b_extent-in-Ok-clause-refused : goal.returns-in_ok-b_extent-in-Ok-clause-refused
-returns-in_ok-b_extent-in-Ok-clause-refused g c = λ honest.
-    let a_is = was_read _ _ _ _ (c.in-Ok.ensures.void honest) (c.in-Ok.ensures.held honest) in
-    let b_then = was_read _ _ _ _ (c.in_ok-b_extent-in-Ok.ensures.void honest) (c.in_ok-b_extent-in-Ok.ensures.held honest) in
-    let b_is = subst (λ (f : Which → List ℕ). WasRead (f which.B) c.in_ok-b_extent-in-Ok.b_extent c.read_from-in-Ok.new.sink) (c.in-Ok.ensures.seen honest) b_then in
-    IfErr-weaker c.newer.result _ _ (λ fault refused. inr (inr refused)) (c.newer.ensures.refused _ _ a_is b_is)
-
-pub returns-in_ok-b_extent-in-Ok-clause-keepable : goal.returns-in_ok-b_extent-in-Ok-clause-keepable
-returns-in_ok-b_extent-in-Ok-clause-keepable g c =
-    c.newer.ensures.keepable (taken_keepable _ _ c.in-Ok.ensures.good.1) (taken_keepable _ _ c.in_ok-b_extent-in-Ok.ensures.good.1)
+pub returns-in-Some-clause-keepable : goal.returns-in-Some-clause-keepable
+returns-in-Some-clause-keepable g c =
+    let is_read = rw c.in-Some.is at c.in_ok-choose_from_in.ensures.form in
+    let made = rw c.in-Some.is at c.in_ok-choose_from_in.ensures.good in
+    subst AllCanBeKept (sym c.by_version.ensures.state) (made_keepable c.in-Some.chosen.extent.form c.in-Some.chosen.state is_read made)
