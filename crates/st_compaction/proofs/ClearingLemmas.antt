@@ -6,11 +6,11 @@ use Rattle.st_disk.specs.Moments.{Moments, now, after_write, after_cut, MayPass,
 use Rattle.st_disk.proofs.CrashLaws.{side_map}
 use Rattle.st_disk.proofs.MomentLaws.{throughout_map, then_goes, at_end}
 use Rattle.st_disk.proofs.DeviceCalls.{at_first, writes_on, cuts_on, settled_seen, written_within}
-use Rattle.st_records.specs.declared.version.Version.{Version}
+use Rattle.st_records.specs.declared.version.Form.{Form}
 use Rattle.st_records.specs.declared.record.Record.{Record}
-use Rattle.st_file.specs.Layout.{header_text}
-use Rattle.st_file.specs.Batch.{text_of}
-use Rattle.st_file.specs.Side.{IsVoid, HoldsUpTo}
+use Rattle.st_file.specs.Layout.{header_text_in}
+use Rattle.st_file.specs.Batch.{text_of_in}
+use Rattle.st_file.specs.Side.{IsVoid, HoldsUpToIn}
 use Rattle.st_file.specs.Gated.{IsReady, IsClosedOrOpen}
 use Rattle.st_file.specs.Created.{HasClosedGate}
 use Rattle.st_file.proofs.LayoutLemmas.{HasHeader-of, HasHeader-text}
@@ -47,16 +47,16 @@ zero_void [] = tt
 zero_void (b ∷ x) = refl
 
 -- another open gate in front of the same bytes holds the same records
-holds_by_gate : (s x : List ℕ) (v : Version) (generation end gate : ℕ) (held : List Record) → HoldsUpTo s v generation held end → 0 < gate → x ≡ gate ∷ drop 1 s → HoldsUpTo x v generation held end
-holds_by_gate s x v generation end gate held holds is_open e =
+holds_by_gate : (s x : List ℕ) (form : Form) (generation end gate : ℕ) (held : List Record) → HoldsUpToIn s form generation held end → 0 < gate → x ≡ gate ∷ drop 1 s → HoldsUpToIn x form generation held end
+holds_by_gate s x form generation end gate held holds is_open e =
     let h = holds.reached.header in
-    let rest = text_of v holds.batches ++ 0 ∷ holds.after in
-    let before : s ≡ h.named.gate ∷ (header_text v generation ++ rest) = HasHeader-text s v generation rest h in
-    let begins : x ≡ gate ∷ (header_text v generation ++ rest) = e ∙ ap (λ (y : List ℕ). gate ∷ drop 1 y) before in
+    let rest = text_of_in form holds.batches ++ 0 ∷ holds.after in
+    let before : s ≡ h.named.gate ∷ (header_text_in form generation ++ rest) = HasHeader-text s form generation rest h in
+    let begins : x ≡ gate ∷ (header_text_in form generation ++ rest) = e ∙ ap (λ (y : List ℕ). gate ∷ drop 1 y) before in
     record {
       batches = holds.batches;
       after = holds.after;
-      reached = record { allowed = holds.reached.allowed; header = HasHeader-of x v generation gate rest is_open h.some h.fits begins };
+      reached = record { allowed = holds.reached.allowed; header = HasHeader-of x form generation gate rest is_open h.some h.fits begins };
       in_order = holds.in_order;
       place = omega (arith, holds.place, ap length begins, ap length before);
     }
@@ -69,7 +69,7 @@ gives_way_by_gate generation s (suc b ∷ x) (inl void) open_gate len behind = i
 gives_way_by_gate generation s (suc b ∷ x) (inr less) open_gate len behind =
     let same : suc b ∷ x ≡ suc b ∷ drop 1 s = ap (λ (y : List ℕ). suc b ∷ y) behind in
     let some : 0 < suc b = omega arith in
-    inr (less.0, (less.1.0, (less.1.1.0, less.1.1.1, holds_by_gate s (suc b ∷ x) less.1.1.0 less.0 less.1.1.1 (suc b) less.1.0 less.1.1.2 some same)), less.2)
+    inr (less.0, (less.1.0, (less.1.1.0, less.1.1.1, less.1.1.2, holds_by_gate s (suc b ∷ x) less.1.1.0 less.0 less.1.1.2 (suc b) less.1.0 less.1.1.3 some same)), less.2)
 
 pub gives_way_first : (generation : ℕ) {s : List ℕ} {writes : UnsyncedWrites} → GivesWay generation s → writes ≡ settled s → (x : List ℕ) → IsCrashImage writes x → GivesWay generation x
 gives_way_first generation gives on_disk x image = subst (GivesWay generation) (sym (settled_seen on_disk image)) gives

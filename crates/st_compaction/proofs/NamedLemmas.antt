@@ -2,6 +2,7 @@
 use Rattle.std.proofs.Common.{◌≡◌, ℕ, suc, ◌+◌, ◌≤◌, List, [], ◌∷◌, length, drop, drop-cons, slice_get, Some, refl, ap, ◌∙◌, arith}
 use Rattle.std.proofs.lemmas.Option.{get_or_from_slice_get, slice_get_within}
 use Rattle.st_records.specs.declared.version.Version.TheVariants as versions
+use Rattle.st_records.specs.declared.version.Form.TheVariants.{Plain}
 use Rattle.st_records.specs.declared.record.Entry.{Entry}
 use Rattle.st_file.specs.Batch.{body}
 use Rattle.st_file.proofs.FrameLemmas.{length-body}
@@ -14,7 +15,7 @@ length-records_of_names (one ∷ named) = omega (arith, length-records_of_names 
 
 -- no more names than bytes
 pub few_names : (named : List (List ℕ × Entry)) → length named ≤ length (body versions.Two (records_of_names named))
-few_names named = omega (arith, length-records_of_names named, length-body versions.Two (records_of_names named))
+few_names named = omega (arith, length-records_of_names named, length-body Plain (records_of_names named))
 
 -- what is left of the names begins with the one at this place
 pub rest_from : (named : List (List ℕ × Entry)) (place : ℕ) (e : List ℕ × Entry) → slice_get named place ≡ Some e → drop place named ≡ e ∷ drop (place + 1) named

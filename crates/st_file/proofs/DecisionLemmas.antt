@@ -8,7 +8,6 @@ use Rattle.st_records.specs.declared.record.Record.{Record}
 use Rattle.st_records.specs.declared.decoder.DecodeFault.{DecodeFault}
 use Rattle.st_records.specs.Encoding.{encoding_in, number}
 use Rattle.st_records.specs.Limits.{IsGoodIn}
-use Rattle.st_records.specs.Forms.{form_of}
 use Rattle.st_records.specs.Reading.{good_at}
 use Rattle.st_records.proofs.Fields.{IsBytes, IsBytes-take, IsBytes-drop}
 use Rattle.st_records.proofs.Records.{good_reads}

@@ -14,7 +14,7 @@ use Rattle.st_file.specs.declared.fault.OpenFault.TheVariants as faults
 use Rattle.st_file.specs.declared.window.Window.{Window}
 use Rattle.st_file.specs.Layout.{version_number_in, IsReadIn, IsNamed, magic}
 use Rattle.st_file.specs.Batch.{framed_in, FillBatchIn, records_of}
-use Rattle.st_file.specs.Side.{IsVoid, HoldsUpToIn, LacksHeaderIn, LacksVersion, LacksNumbersIn, IsForeign, IsRefusedIn, IsDamagedAtIn, IsBrokenIn, ReachesIn}
+use Rattle.st_file.specs.Side.{IsVoid, HoldsUpToIn, LacksHeaderIn, LacksNumbersIn, IsForeign, IsRefusedIn, IsDamagedAtIn, IsBrokenIn, ReachesIn}
 use Rattle.st_file.specs.Sink.{AddsRecords, HasTakenGoodIn}
 use Rattle.st_file.specs.Window.{ahead, Shows, ShowsHeader, ShowsBatch, IsEnough}
 use Rattle.st_file.proofs.SideLemmas.{HasWalked, walked_more, broken_here}

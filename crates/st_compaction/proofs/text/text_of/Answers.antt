@@ -1,4 +1,4 @@
-use Rattle.std.proofs.Common.{◌∙◌, List, length, sym, ap, subst}
+use Rattle.std.proofs.Common.{◌∙◌, length, sym, ap, subst}
 use Rattle.std.specs.List.{AllByRecursion}
 use Rattle.st_records.specs.declared.version.Version.TheVariants as versions
 use Rattle.st_records.specs.Limits.{IsGood}
