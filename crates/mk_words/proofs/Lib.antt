@@ -1,0 +1,5 @@
+pub mod ChangedLemmas
+pub mod SortedLemmas
+pub mod SpacedLemmas
+pub mod TextLemmas
+pub mod WordLemmas

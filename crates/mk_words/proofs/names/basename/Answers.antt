@@ -1,0 +1,8 @@
+use Rattle.std.proofs.Common.{ap, map}
+use Rattle.mk_words.specs.Names.{basename_of}
+use Rattle.mk_words.specs.Words.{words_of}
+use Rattle.mk_words.proofs.SpacedLemmas.{ended-all}
+use Rattle.mk_words.proofs.names.basename.Goals as goal
+
+pub returns : goal.returns
+returns c = ended-all c.loop-name.out.items c.without_last.result.items (map basename_of c.loop-name.name-iterator) (map basename_of (words_of c.args.names.now)) (ap (map basename_of) c.in-None.ensures.steps.0) c.loop-name.invariant c.without_last.ensures

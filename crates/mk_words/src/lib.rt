@@ -1,0 +1,19 @@
+//! GNU make's functions of words and bytes: each is made of the values of its arguments alone.
+#![tactic(auto)]
+
+mod changed;
+mod counted;
+mod cursor;
+mod joined;
+mod names;
+mod patterns;
+mod sorting;
+mod texts;
+
+pub use changed::patsubst;
+pub use counted::{first_word, last_word, word, word_count, word_list};
+pub use joined::strip;
+pub use names::{add_prefix, add_suffix, basename, dir, join, notdir, suffix};
+pub use patterns::{filter, filter_out};
+pub use sorting::sort;
+pub use texts::{find_string, subst};

@@ -1,0 +1,133 @@
+//! Patterns with a `%`, and the words that fit them.
+ghost use Rattle.std.specs.Prelude.{◌≡◌, ◌++◌, ◌∷◌, ℕ, List, Option, [], length, map, filter, not, IfOk, OnOk};
+ghost use Rattle.std.specs.Option.{option_copied};
+ghost use Rattle.mk_words.specs.Words.{words_of, spaced};
+ghost use Rattle.mk_words.specs.Patterns.{backslashes, pattern_of, stem_of, fits, fits_any};
+
+use crate::cursor::Words;
+use crate::joined::{push_word, without_last};
+use std::alloc::{AllocError, Global};
+use std::marker::Model;
+
+/// What a word has to begin with, and what it ends with behind the `%`, where there is one.
+#[derive(Drop)]
+pub(crate) struct Pattern<'a> {
+    pub(crate) front: Vec<u8>,
+    pub(crate) behind: Option<&'a [u8]>,
+}
+
+impl<'a> Model for Pattern<'a> {
+    ghost Value = { List ℕ × Option (List ℕ) };
+
+    ghost view = { λ s. (s.front.items, option_copied s.behind) };
+}
+
+fn push_backslashes(out: &mut Vec<u8>, count: usize) -> Result<(), AllocError>
+    ensures { OnOk result (out.new.items ≡ out.old.items ++ backslashes count) }
+{
+    for _ in 0..count {
+        out.push(b'\\')?;
+    }
+    Ok(())
+}
+
+/// The part of a word that the `%` stands for.
+pub(crate) fn stem_of<'a>(front: &[u8], behind: &[u8], word: &'a [u8]) -> Option<&'a [u8]>
+    ensures { option_copied result ≡ stem_of front.now behind.now word.now }
+{
+    word.strip_prefix(front)?.strip_suffix(behind)
+}
+
+impl<'a> Pattern<'a> {
+    pub(crate) fn of(alloc: Global, text: &'a [u8]) -> Result<Pattern<'a>, AllocError>
+        ensures { IfOk result (λ pattern. pattern ≡ pattern_of text.now) }
+    {
+        let mut front = Vec::new(alloc);
+        let mut held = 0usize;
+        let mut rest = text;
+        while let Some((byte, behind)) = rest.split_first() {
+            if *byte == b'\\' {
+                held += 1;
+            } else if *byte != b'%' {
+                push_backslashes(&mut front, held)?;
+                front.push(*byte)?;
+                held = 0;
+            } else if held % 2 == 0 {
+                push_backslashes(&mut front, held / 2)?;
+                return Ok(Pattern {
+                    front,
+                    behind: Some(behind),
+                });
+            } else {
+                push_backslashes(&mut front, held / 2)?;
+                front.push(*byte)?;
+                held = 0;
+            }
+            rest = behind;
+        }
+        push_backslashes(&mut front, held)?;
+        Ok(Pattern {
+            front,
+            behind: None,
+        })
+    }
+
+    fn fits(&self, word: &[u8]) -> bool
+        ensures { result ≡ fits self.now word.now }
+    {
+        match self.behind {
+            None => self.front.as_slice() == word,
+            Some(behind) => stem_of(self.front.as_slice(), behind, word).is_some(),
+        }
+    }
+}
+
+/// The patterns of words.
+fn patterns_of(alloc: Global, text: &[u8]) -> Result<Vec<Pattern<'_>>, AllocError>
+    ensures { IfOk result (λ v. v.items ≡ map pattern_of (words_of text.now)) }
+{
+    let mut patterns = Vec::new(alloc);
+    for word in Words::new(text) {
+        patterns.push(Pattern::of(alloc, word)?)?;
+    }
+    Ok(patterns)
+}
+
+fn fits_any(patterns: &[Pattern<'_>], word: &[u8]) -> bool
+    ensures { result ≡ fits_any patterns.now word.now }
+{
+    for pattern in patterns {
+        if pattern.fits(word) {
+            return true;
+        }
+    }
+    false
+}
+
+/// `$(filter PATTERNS,TEXT)`
+pub fn filter(alloc: Global, patterns: &[u8], text: &[u8]) -> Result<Vec<u8>, AllocError>
+    ensures { IfOk result (λ v. v.items ≡ spaced (filter (fits_any (map pattern_of (words_of patterns.now))) (words_of text.now))) }
+{
+    let patterns = patterns_of(alloc, patterns)?;
+    let mut out = Vec::new(alloc);
+    for word in Words::new(text) {
+        if fits_any(patterns.as_slice(), word) {
+            push_word(&mut out, word)?;
+        }
+    }
+    Ok(without_last(out))
+}
+
+/// `$(filter-out PATTERNS,TEXT)`
+pub fn filter_out(alloc: Global, patterns: &[u8], text: &[u8]) -> Result<Vec<u8>, AllocError>
+    ensures { IfOk result (λ v. v.items ≡ spaced (filter (λ word. not (fits_any (map pattern_of (words_of patterns.now)) word)) (words_of text.now))) }
+{
+    let patterns = patterns_of(alloc, patterns)?;
+    let mut out = Vec::new(alloc);
+    for word in Words::new(text) {
+        if !fits_any(patterns.as_slice(), word) {
+            push_word(&mut out, word)?;
+        }
+    }
+    Ok(without_last(out))
+}
