@@ -25,10 +25,6 @@ exchanged-hit (o ∷ os) to (b ∷ bs) begins h is =
     ∙ ap (λ n. to ++ exchanged (o ∷ os) to n false bs) less
     ∙ ap (λ v. to ++ v) (exchanged-left (o ∷ os) to (length os) bs ∙ ap (λ v. exchanged (o ∷ os) to 0 false v) same)
 
--- another byte stays
-pub exchanged-miss : (from to : List ℕ) (begins : Bool) (b : ℕ) (bs : List ℕ) → (begins && is_next from (b ∷ bs)) ≡ false → exchanged from to 0 begins (b ∷ bs) ≡ b ∷ exchanged from to 0 (is_space b) bs
-exchanged-miss from to begins b bs is = ap (λ t. cond t (to ++ exchanged from to (length from - 1) false bs) (b ∷ exchanged from to 0 (is_space b) bs)) is
-
 -- where something is to stand in the place of words
 pub changed-some : (front behind replacement text : List ℕ) → 0 < length replacement → spaced (map (changed front behind (pattern_of replacement)) (words_of text)) ≡ changed_words front behind replacement text
 changed-some front behind [] text h = absurd (omega (arith, h))
