@@ -1,0 +1,136 @@
+//! The functions, by the names that GNU make has for them.
+use mk_words::{
+    add_prefix, add_suffix, basename, dir, filter, filter_out, find_string, first_word, join,
+    last_word, notdir, patsubst, sort, strip, subst, suffix, word, word_count, word_list,
+};
+use row_files::{Answered, Calls, Report, RowFault, Setup, Words, World, bytes};
+use std::alloc::{AllocError, Global};
+
+/// Rows that need nothing before their first call.
+#[derive(Drop)]
+pub(crate) struct Functions;
+
+impl<'a> Setup<'a> for Functions {
+    fn new(_alloc: Global) -> Functions {
+        Functions
+    }
+
+    fn takes(&mut self, _alloc: Global, _line: &'a str) -> Result<bool, RowFault> {
+        Ok(false)
+    }
+
+    fn are_met(
+        &mut self,
+        alloc: Global,
+        calls: &Calls<'a>,
+        report: &mut Report<'_>,
+    ) -> Result<bool, RowFault> {
+        Ok(calls.are_met(alloc, self, report)?)
+    }
+}
+
+/// The next argument of a call.
+fn argument(alloc: Global, words: &mut Words<'_>) -> Result<Vec<u8>, RowFault> {
+    match words.next() {
+        "nothing" => Ok(Vec::new(alloc)),
+        word => bytes::read(alloc, word),
+    }
+}
+
+/// What a number of words doesn't name isn't said.
+fn say_found(out: &mut String, found: Option<&[u8]>) -> Result<(), AllocError> {
+    match found {
+        Some(text) => bytes::say_all(out, text),
+        None => out.push_str("refused"),
+    }
+}
+
+/// A function of a text alone.
+fn of_one(alloc: Global, name: &str, text: &[u8]) -> Result<Vec<u8>, RowFault> {
+    match name {
+        "firstword" => Ok(Vec::from_slice(alloc, first_word(text))?),
+        "lastword" => Ok(Vec::from_slice(alloc, last_word(text))?),
+        "strip" => Ok(strip(alloc, text)?),
+        "dir" => Ok(dir(alloc, text)?),
+        "notdir" => Ok(notdir(alloc, text)?),
+        "suffix" => Ok(suffix(alloc, text)?),
+        "basename" => Ok(basename(alloc, text)?),
+        "sort" => Ok(sort(alloc, text)?),
+        _ => Err(RowFault::Word),
+    }
+}
+
+fn is_of_two(name: &str) -> bool {
+    matches!(
+        name,
+        "addsuffix" | "addprefix" | "join" | "filter" | "filter-out" | "findstring"
+    )
+}
+
+/// A function of a text, with another argument in front.
+fn of_two(alloc: Global, name: &str, first: &[u8], text: &[u8]) -> Result<Vec<u8>, RowFault> {
+    match name {
+        "addsuffix" => Ok(add_suffix(alloc, first, text)?),
+        "addprefix" => Ok(add_prefix(alloc, first, text)?),
+        "join" => Ok(join(alloc, first, text)?),
+        "filter" => Ok(filter(alloc, first, text)?),
+        "filter-out" => Ok(filter_out(alloc, first, text)?),
+        _ => Ok(Vec::from_slice(alloc, find_string(first, text))?),
+    }
+}
+
+/// A function of a text, with two other arguments in front.
+fn of_three(alloc: Global, name: &str, words: &mut Words<'_>) -> Result<Vec<u8>, RowFault> {
+    let from = argument(alloc, words)?;
+    let to = argument(alloc, words)?;
+    let text = argument(alloc, words)?;
+    let (from, to, text) = (from.as_slice(), to.as_slice(), text.as_slice());
+    match name {
+        "subst" => Ok(subst(alloc, from, to, text)?),
+        _ => Ok(patsubst(alloc, from, to, text)?),
+    }
+}
+
+/// A function whose value is a text of its own.
+fn made(alloc: Global, name: &str, words: &mut Words<'_>) -> Result<Vec<u8>, RowFault> {
+    if matches!(name, "subst" | "patsubst") {
+        return of_three(alloc, name, words);
+    }
+    let first = argument(alloc, words)?;
+    if is_of_two(name) {
+        let text = argument(alloc, words)?;
+        return of_two(alloc, name, first.as_slice(), text.as_slice());
+    }
+    of_one(alloc, name, first.as_slice())
+}
+
+impl World for Functions {
+    fn call(&mut self, alloc: Global, words: &mut Words<'_>, out: &mut String) -> Answered {
+        match words.next() {
+            "words" => {
+                let text = argument(alloc, words)?;
+                write!(out, "{}", word_count(text.as_slice()))?;
+            }
+            "word" => {
+                let number = words.number()?;
+                let text = argument(alloc, words)?;
+                say_found(out, word(number, text.as_slice()))?;
+            }
+            "wordlist" => {
+                let first = words.number()?;
+                let last = words.number()?;
+                let text = argument(alloc, words)?;
+                say_found(out, word_list(first, last, text.as_slice()))?;
+            }
+            name => {
+                let text = made(alloc, name, words)?;
+                bytes::say_all(out, text.as_slice())?;
+            }
+        }
+        if words.rest.is_empty() {
+            Ok(())
+        } else {
+            Err(RowFault::Word)
+        }
+    }
+}

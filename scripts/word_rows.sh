@@ -1,0 +1,16 @@
+#!/bin/bash
+# Runs `word_rows` on each file of cases/words, and on texts that it has to refuse. cases/words/README.md has the language of rows.
+# The last line is 'N passed, M failed'.
+set -u -o pipefail
+cd "$(dirname "$0")/.." || exit 2
+program=(crates/word_rows/out/word_rows)
+. scripts/row_program.sh
+
+add_rows cases/words
+refuses 'another answer' $'row r\nwords a > 2\n'
+refuses 'a call that is not known' $'row r\nwordy a > 1\n'
+refuses 'a call with an argument too many' $'row r\nstrip a b > a\n'
+refuses 'a number that is none' $'row r\nword x a > a\n'
+refuses 'bytes of one digit' $'row r\nstrip \\0 > a\n'
+refuses 'a setup, of which there is none' $'row r\nnode a:\nstrip a > a\n'
+tell_counts
