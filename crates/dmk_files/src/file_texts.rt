@@ -12,6 +12,7 @@ use crate::texts::Texts;
 use bd_lists::Variable;
 use byte_strings::ByteStrings;
 use mk_eval::Includes;
+use mk_macros::Rank;
 use mk_notes::Notes;
 use mk_profile::Profile;
 use mk_reader::Statement;
@@ -49,6 +50,8 @@ pub struct FileTexts<C: FileCalls + Drop> {
     listings: Listings,
     unread: Option<Unread>,
     notes: Notes,
+    /// What is defined next before a makefile is read.
+    rank: Rank,
 }
 
 impl<C: FileCalls + Drop> Drop for FileTexts<C> {
@@ -60,6 +63,7 @@ impl<C: FileCalls + Drop> Drop for FileTexts<C> {
             listings: _,
             unread: _,
             notes: _,
+            rank: _,
         } = self;
     }
 }
@@ -155,6 +159,7 @@ impl<C: FileCalls + Drop> FileTexts<C> {
             listings: Listings::new(alloc),
             unread: None,
             notes: Notes::new(alloc),
+            rank: Rank::CommandLine,
         }
     }
 
@@ -183,14 +188,21 @@ impl<C: FileCalls + Drop> FileTexts<C> {
                 lines.push(format!(in alloc; "{note}")?.as_bytes())?;
             }
         }
+        for note in self.notes.fronts.notes()?.iter() {
+            lines.push(format!(in alloc; "{note}")?.as_bytes())?;
+        }
         Ok(lines)
     }
 
-    /// Takes in that these are defined before a makefile is read: what refers to them isn't noted.
+    /// Takes in what is defined before a makefile is read: the command line's definitions first, and then the environment's.
     pub fn define(&mut self, profile: Profile, definitions: &[Variable]) {
         for definition in definitions {
-            let _ = self.notes.define(profile, definition.name.as_slice());
+            let Variable { name, value } = definition;
+            let _ = self
+                .notes
+                .give(profile, self.rank, name.as_slice(), value.as_slice());
         }
+        self.rank = Rank::Environment;
     }
 
     /// The text of this name. The file is read where the name isn't known.
@@ -287,6 +299,7 @@ impl<C: FileCalls + Drop> Includes for FileTexts<C> {
         let lines = self.note_lines(alloc)?;
         self.notes.found = Vec::new(alloc);
         self.notes.leading = Vec::new(alloc);
+        self.notes.fronts.forget_lines();
         Ok(lines)
     }
 

@@ -1,4 +1,5 @@
 pub mod BuiltIn
+pub mod Leading
 pub mod Names
 pub mod Notes
 pub mod References

@@ -32,7 +32,7 @@ pub(crate) fn behind_prefixes(line: &[u8]) -> &[u8]
 }
 
 /// How many bytes stand before this one.
-fn len_before(bytes: &[u8], closing: u8) -> usize
+pub(crate) fn len_before(bytes: &[u8], closing: u8) -> usize
     ensures value { result ≡ prefix_len (differs closing) bytes.now }
     ensures within { result ≤ length bytes.now }
 {
@@ -122,7 +122,7 @@ impl Notes {
             return Ok(());
         }
         match command_of(text) {
-            Some(name) => self.keep_macro(alloc, file, line, name, None),
+            Some(name) => self.keep_macro(alloc, file, line, name),
             None => Ok(()),
         }
     }
@@ -144,7 +144,7 @@ impl Notes {
             return Ok(());
         }
         match of_run(behind) {
-            Some(name) => self.keep_macro(alloc, file, line, name, None),
+            Some(name) => self.keep_macro(alloc, file, line, name),
             None => Ok(()),
         }
     }

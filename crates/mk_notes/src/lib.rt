@@ -2,6 +2,8 @@
 #![tactic(auto)]
 
 mod built_in;
+mod front;
+mod fronts;
 mod leading;
 mod names;
 mod note;

@@ -3,6 +3,7 @@ ghost use Rattle.std.specs.Prelude.{◌≡◌, [], OnOk};
 ghost use Rattle.std.specs.List.{list_any};
 ghost use Rattle.mk_notes.specs.Notes.{is_same, noted};
 
+use crate::fronts::Fronts;
 use crate::note::{Note, Subject};
 use byte_strings::{ByteString, ByteStrings};
 use std::alloc::{AllocError, Global};
@@ -16,10 +17,12 @@ pub struct Notes {
     pub suffixes: Vec<u8>,
     /// What is defined of what would be empty: the bytes of automatic macros, and a blank for any name that has one.
     pub defined: Vec<u8>,
-    /// The names that are defined.
+    /// The names that are defined, in the wide profile.
     pub names: ByteStrings,
-    /// The first place of each macro that is empty unless one of these is its name.
+    /// There, the first place of each macro that is empty unless one of these is its name.
     pub leading: Vec<Note>,
+    /// What recipe lines of the strict profile begin with.
+    pub fronts: Fronts,
 }
 
 /// Whether one note serves for both.
@@ -51,6 +54,7 @@ impl Notes {
             defined: Vec::new(alloc),
             names: ByteStrings::empty(alloc),
             leading: Vec::new(alloc),
+            fronts: Fronts::new(alloc),
         }
     }
 

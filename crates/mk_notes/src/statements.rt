@@ -11,6 +11,7 @@ use crate::note::{Note, Subject};
 use crate::notes::Notes;
 use crate::references::is_automatic;
 use byte_strings::{ByteString, first_word, is_blank};
+use mk_macros::Rank;
 use mk_profile::Profile;
 use mk_reader::{Definition, Item, RecipeLine, Rule, Special, SpecialName, Statement, ends_with};
 use std::alloc::{AllocError, Global};
@@ -105,12 +106,14 @@ fn mark_of(profile: Profile, name: &[u8]) -> Option<u8>
 
 impl Notes {
     /// Takes in that this name is defined.
-    pub fn define(&mut self, profile: Profile, name: &[u8]) -> Result<(), AllocError>
+    fn define(&mut self, profile: Profile, name: &[u8]) -> Result<(), AllocError>
         ensures found { self.new.found ≡ self.old.found }
         ensures suffixes { self.new.suffixes ≡ self.old.suffixes }
         ensures defined { OnOk result (self.new.defined.items ≡ self.old.defined.items ++ marks profile name.now) }
     {
-        self.names.push(name)?;
+        if profile.is_wide() {
+            self.names.push(name)?;
+        }
         match mark_of(profile, name) {
             Some(mark) => {
                 self.defined.push(mark)?;
@@ -118,6 +121,25 @@ impl Notes {
             }
             None => Ok(()),
         }
+    }
+
+    /// Takes in that this name has this text before a makefile is read.
+    pub fn give(
+        &mut self,
+        profile: Profile,
+        rank: Rank,
+        name: &[u8],
+        text: &[u8],
+    ) -> Result<(), AllocError>
+        ensures found { self.new.found ≡ self.old.found }
+        ensures suffixes { self.new.suffixes ≡ self.old.suffixes }
+        ensures defined { OnOk result (self.new.defined.items ≡ self.old.defined.items ++ marks profile name.now) }
+    {
+        self.define(profile, name)?;
+        if profile.is_wide() {
+            return Ok(());
+        }
+        self.fronts.define(rank, name, text, false)
     }
 
     fn see_recipe(
@@ -133,7 +155,7 @@ impl Notes {
     {
         for raw in lines {
             self.note_text(alloc, profile, file, raw.line, raw.text.as_slice())?;
-            self.see_leading(alloc, profile, file, raw.line, raw.text.as_slice())?;
+            self.see_leading(profile, file, raw.line, raw.text.as_slice())?;
             self.see_command(alloc, profile, file, raw.line, raw.text.as_slice())?;
         }
         Ok(())
@@ -301,7 +323,10 @@ impl Notes {
         for statement in statements {
             self.see_statement(alloc, profile, file, statement)?;
         }
-        Ok(())
+        if profile.is_wide() {
+            return Ok(());
+        }
+        self.fronts.see(statements)
     }
 
     /// Whether a note is to be told once all makefiles are read: one on a suffix rule isn't where `.SUFFIXES` names its suffixes, and

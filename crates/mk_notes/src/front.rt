@@ -1,0 +1,92 @@
+//! What a recipe line begins with, as it stands there.
+ghost use Rattle.std.specs.Prelude.{◌≡◌, ◌≤◌, length, option_map};
+ghost use Rattle.std.specs.List.{prefix_len};
+ghost use Rattle.mk_notes.specs.Leading.{goes_on, bracketed, single, referred_behind, referred};
+
+use crate::built_in::{behind_prefixes, len_before};
+use crate::references::closing;
+
+fn goes_on(byte: u8) -> bool
+    ensures { result ≡ goes_on byte }
+{
+    0x80 <= byte && byte <= 0xbf
+}
+
+/// How many bytes go on with a character.
+fn character_len(bytes: &[u8]) -> usize
+    ensures value { result ≡ prefix_len goes_on bytes.now }
+    ensures within { result ≤ length bytes.now }
+{
+    let mut count = 0;
+    while count < bytes.len() && goes_on(bytes[count]) {
+        count += 1;
+    }
+    count
+}
+
+/// What stands in brackets, and behind them. What holds references is none.
+fn bracketed(closing: u8, inner: &[u8]) -> Option<(&[u8], &[u8])>
+    ensures { option_map (λ parts. (parts.0.now, parts.1.now)) result ≡ bracketed closing inner.now }
+{
+    if !inner.contains(&closing) {
+        return None;
+    }
+    let (inside, rest) = inner.split_at(len_before(inner, closing));
+    match rest.split_first() {
+        Some((_closing, behind)) if !inside.contains(&b'$') => Some((inside, behind)),
+        _ => None,
+    }
+}
+
+/// The character that a text begins with, and what stands behind it.
+fn single(text: &[u8]) -> (&[u8], &[u8])
+    ensures { (result.0.now, result.1.now) ≡ single text.now }
+{
+    match text.split_first() {
+        Some((_first, more)) => text.split_at(1 + character_len(more)),
+        None => (text, text),
+    }
+}
+
+fn referred_behind(behind: &[u8]) -> Option<(&[u8], &[u8])>
+    ensures { option_map (λ parts. (parts.0.now, parts.1.now)) result ≡ referred_behind behind.now }
+{
+    let (first, inner) = behind.split_first()?;
+    if *first == b'$' {
+        return None;
+    }
+    match closing(*first) {
+        Some(closing) => bracketed(closing, inner),
+        None => Some(single(behind)),
+    }
+}
+
+/// What the reference that a text begins with has in its brackets, or the character behind its dollar; and what stands behind it.
+pub(crate) fn referred(text: &[u8]) -> Option<(&[u8], &[u8])>
+    ensures { option_map (λ parts. (parts.0.now, parts.1.now)) result ≡ referred text.now }
+{
+    let (first, behind) = text.split_first()?;
+    if *first == b'$' {
+        referred_behind(behind)
+    } else {
+        None
+    }
+}
+
+/// What a recipe line begins with, down to the first byte outside references that is neither a prefix nor a blank; None where that is no
+/// reference. A dollar that begins no reference isn't there.
+pub(crate) fn front(line: &[u8]) -> Option<&[u8]> {
+    let mut rest = behind_prefixes(line);
+    referred(rest)?;
+    for _ in 0..line.len() {
+        let Some((_inside, behind)) = referred(rest) else {
+            break;
+        };
+        rest = behind_prefixes(behind);
+    }
+    let last = match rest.first() {
+        None | Some(b'$') => 0,
+        Some(_) => 1,
+    };
+    line.get(..line.len().saturating_sub(rest.len()).saturating_add(last))
+}
