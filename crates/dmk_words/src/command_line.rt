@@ -1,5 +1,6 @@
 //! The words of the command line, read by `clap`.
 use crate::arguments::{find, refusal};
+use crate::definition::definition_in;
 use crate::environment::read_environment;
 use crate::flags::taken_words;
 use crate::job_words::with_numbers;
@@ -236,11 +237,11 @@ fn say(rt: HostRuntime, answer: clap::Error) -> Result<Request, WordsFault> {
 
 /// Adds a word: a definition where it holds a `=`, and else a target.
 fn add_word(alloc: Global, options: &mut Options, word: &str) -> Result<(), AllocError> {
-    match word.split_once('=') {
+    match definition_in(options.profile, word) {
         Some((name, value)) => {
             options.definitions.push(Variable {
-                name: ByteString::from_slice(alloc, name.as_bytes())?,
-                value: ByteString::from_slice(alloc, value.as_bytes())?,
+                name: ByteString::from_slice(alloc, name)?,
+                value: ByteString::from_slice(alloc, value)?,
             })?;
             Ok(())
         }

@@ -3,6 +3,7 @@
 
 mod arguments;
 mod command_line;
+mod definition;
 mod environment;
 mod flags;
 mod job_words;
