@@ -1,10 +1,11 @@
 //! What is said of the words of the command line before they count.
 use crate::sign::by_sign;
-use crate::signs::last_of;
 use crate::standard_streams::with_patience;
+use bd_lists::Variable;
 use byte_strings::ByteString;
 use dmk_reading::Options;
 use mk_notes::{Subject, is_macro_elsewhere};
+use mk_profile::Profile;
 use plain_text::Plain;
 use std::alloc::Global;
 use std::io::Write;
@@ -17,23 +18,36 @@ fn print_meaningless<W: Write>(alloc: Global, err: &mut W, name: &[u8]) {
     }
 }
 
-/// Says of each definition of the strict profile, but for the first ones, that has such a sign what its macro is called; and of one that
-/// another make goes by that it means nothing here, once of each name.
-pub fn print_word_notes(host: HostRuntime, options: &Options, first: usize) {
-    if options.profile.is_wide() {
-        return;
+/// The macro that a word defines.
+fn defined_by(profile: Profile, variable: &Variable) -> &[u8] {
+    match by_sign(variable) {
+        Some(signed) if profile.is_wide() => signed.name,
+        _ => variable.name.as_slice(),
     }
+}
+
+/// Whether one of these words defines the macro.
+fn are_defining(profile: Profile, words: &[Variable], name: &[u8]) -> bool {
+    words.iter().any(|word| defined_by(profile, word) == name)
+}
+
+/// Says of each definition, but for the first ones, so many, that another make goes by it and it means nothing here, once of each macro;
+/// and in the strict profile of one that has such a sign what its macro is called.
+pub fn print_word_notes(host: HostRuntime, options: &Options, first: usize) {
+    let profile = options.profile;
     let mut err = with_patience(host, host.stderr());
-    for (place, variable) in options.definitions.iter().enumerate().skip(first) {
-        let name = variable.name.as_slice();
-        if by_sign(variable).is_some() {
+    let mut words = options.definitions.get(first..).unwrap_or(&[]);
+    while let Some((variable, behind)) = words.split_first() {
+        let name = defined_by(profile, variable);
+        if !profile.is_wide() && by_sign(variable).is_some() {
             let name = &variable.name;
             let _ = writeln!(
                 Plain::over(&mut err),
                 "dmk: note: the macro is called {name}"
             );
-        } else if is_macro_elsewhere(name) && last_of(&options.definitions, name) == Some(place) {
+        } else if is_macro_elsewhere(profile, name) && !are_defining(profile, behind, name) {
             print_meaningless(host.alloc(), &mut err, name);
         }
+        words = behind;
     }
 }

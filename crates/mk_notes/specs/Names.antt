@@ -2,6 +2,8 @@
 use Rattle.std.specs.Prelude.{ℕ, Bool, not, ◌&&◌, ◌||◌, ◌==◌, ◌+◌, List, [], ◌∷◌, take, drop, bytes_eq}
 use Rattle.std.specs.List.{list_any, prefix_len}
 use Rattle.byte_strings.specs.Blanks.{words}
+use Rattle.mk_profile.specs.Profile.{is_wide}
+use Rattle.mk_profile.specs.declared.profile.Profile.{Profile}
 use Rattle.mk_reader.specs.Text.{is_empty}
 use Rattle.mk_notes.specs.References.{is_dollar}
 use Rattle.mk_notes.specs.declared.names.TheConstants.{TARGETS, MACROS, ASKING, RUN, COMMANDS, SUFFIXES}
@@ -20,6 +22,11 @@ is_macro name = list_any (λ n. bytes_eq n.now name) MACROS
 -- a definition of the macro asks GNU make for something ("Other Special Variables", "Communicating Options to a Sub-make")
 abbrev pub is_asking : (name : List ℕ) → Bool
 is_asking name = list_any (λ n. bytes_eq n.now name) ASKING
+
+-- a definition of the macro has a meaning with another make, and none in this language: one that asks GNU make for something, and in the
+-- strict profile one by which recipes are run otherwise, or files are looked for elsewhere
+abbrev pub is_macro_elsewhere : Profile → (name : List ℕ) → Bool
+is_macro_elsewhere profile name = is_asking name || (not (is_wide profile) && is_macro name)
 
 -- GNU make sets the macro in each run ("Other Special Variables", "Arguments to Specify the Goals", "Communicating Variables to a
 -- Sub-make")

@@ -13,7 +13,7 @@ use Rattle.mk_reader.specs.declared.item.Statement.{Statement}
 use Rattle.mk_reader.specs.declared.item.Statement.TheVariants as statement
 use Rattle.mk_reader.specs.declared.special.SpecialName.{SpecialName}
 use Rattle.mk_reader.specs.declared.special.SpecialName.TheVariants.{Suffixes}
-use Rattle.mk_notes.specs.Names.{is_target, is_macro, is_asking, is_suffix_name, is_named_by}
+use Rattle.mk_notes.specs.Names.{is_target, is_macro_elsewhere, is_suffix_name, is_named_by}
 use Rattle.mk_notes.specs.Notes.{all_noted}
 use Rattle.mk_notes.specs.References.{listed, subjects_in, is_automatic, is_dollar}
 use Rattle.mk_notes.specs.declared.note.Note.{Note}
@@ -69,10 +69,9 @@ target_of profile rule =
     else (if not (is_wide profile) && is_suffix_rule rule then Some (subject.SuffixRule rule.targets)
     else (if is_wide profile && is_plain_target rule then Some (subject.PlainTarget rule.targets) else None)))
 
--- what a macro's name is noted as that a definition has: one that asks GNU make for something, and in the strict profile one with a
--- meaning elsewhere
+-- what a macro's name is noted as that a definition has
 abbrev pub macro_of : Profile → (name : List ℕ) → Option Subject
-macro_of profile name = if is_asking name || (not (is_wide profile) && is_macro name) then Some (subject.Target name) else None
+macro_of profile name = if is_macro_elsewhere profile name then Some (subject.Target name) else None
 
 -- the notes with one on the target of an item that is a rule, or on the name of a definition
 abbrev pub target_noted : Profile → (file : List ℕ) → Item → List Note → List Note

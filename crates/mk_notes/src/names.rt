@@ -3,9 +3,10 @@ ghost use Rattle.std.specs.Prelude.{◌≡◌, ◌≤◌, length, bytes_eq};
 ghost use Rattle.std.specs.List.{list_any, prefix_len};
 ghost use Rattle.byte_strings.specs.Blanks.{words};
 ghost use Rattle.mk_reader.specs.Text.{begins_with};
-ghost use Rattle.mk_notes.specs.Names.{has, is_target, is_macro, is_asking, is_of_run, is_command, is_plain, parts_of, is_suffix_name, is_named_by};
+ghost use Rattle.mk_notes.specs.Names.{has, is_target, is_macro, is_asking, is_macro_elsewhere, is_of_run, is_command, is_plain, parts_of, is_suffix_name, is_named_by};
 
 use byte_strings::Words;
+use mk_profile::Profile;
 
 /// Targets that have a meaning with GNU make or with bmake, and none here.
 pub const TARGETS: [&[u8]; 14] = [
@@ -129,18 +130,25 @@ pub(crate) fn is_target(name: &[u8]) -> bool
     has(&TARGETS, name)
 }
 
-/// Whether the macro has a meaning with other makes, and none in the strict profile.
-pub fn is_macro_elsewhere(name: &[u8]) -> bool
+/// Whether other makes run recipes otherwise by a definition of the macro, or look for files elsewhere.
+fn is_macro(name: &[u8]) -> bool
     ensures { result ≡ is_macro name.now }
 {
     has(&MACROS, name)
 }
 
 /// Whether GNU make is told something by a definition of the macro, and this one isn't.
-pub(crate) fn is_asking(name: &[u8]) -> bool
+fn is_asking(name: &[u8]) -> bool
     ensures { result ≡ is_asking name.now }
 {
     has(&ASKING, name)
+}
+
+/// Whether a definition of the macro has a meaning with another make, and none in this language.
+pub fn is_macro_elsewhere(profile: Profile, name: &[u8]) -> bool
+    ensures { result ≡ is_macro_elsewhere profile name.now }
+{
+    is_asking(name) || !profile.is_wide() && is_macro(name)
 }
 
 /// Whether GNU make sets the macro in each run.

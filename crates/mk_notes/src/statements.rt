@@ -6,7 +6,7 @@ ghost use Rattle.mk_notes.specs.Notes.{all_noted};
 ghost use Rattle.mk_notes.specs.References.{listed};
 ghost use Rattle.mk_notes.specs.Statements.{recipe_texts, rule_texts, item_texts, texts_noted, is_suffix_rule, begins_with_prerequisite, is_plain_target, target_of, macro_of, target_noted, statement_noted, statements_noted, special_suffixes, suffixes_of, statement_suffixes, automatic_in, mark_of, marks, marks_of, statement_marks, counts};
 
-use crate::names::{is_asking, is_macro_elsewhere, is_named_by, is_suffix_name, is_target};
+use crate::names::{is_macro_elsewhere, is_named_by, is_suffix_name, is_target};
 use crate::note::{Note, Subject};
 use crate::notes::Notes;
 use crate::references::is_automatic;
@@ -69,7 +69,7 @@ fn target_of(alloc: Global, profile: Profile, rule: &Rule) -> Result<Option<Subj
 fn macro_of(alloc: Global, profile: Profile, name: &[u8]) -> Result<Option<Subject>, AllocError>
     ensures { IfOk result (λ found. found ≡ macro_of profile name.now) }
 {
-    if is_asking(name) || !profile.is_wide() && is_macro_elsewhere(name) {
+    if is_macro_elsewhere(profile, name) {
         return Ok(Some(Subject::Target(ByteString::from_slice(alloc, name)?)));
     }
     Ok(None)
