@@ -127,7 +127,7 @@ fn run_in<R: Threads + Wait + Sync>(
     print_word_notes(host, &options, before);
     let is_usual = needs_usual_makefile(&options);
     print_other_makefile(host, &mut host.stderr(), is_usual);
-    let options = match with_signs(host, options, before, &environment) {
+    let options = match with_signs(host, options, before, &environment, true) {
         Ok(options) => options,
         Err(SignFault::OutOfMemory) => return Err(AllocError),
         Err(fault) => {

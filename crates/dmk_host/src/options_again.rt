@@ -27,7 +27,7 @@ fn options_with(
 ) -> Result<Option<Options>, AllocError> {
     let options = with_environment(host.alloc(), later, options, environment)?;
     let before = later.definitions_before(options.profile, environment);
-    match with_signs(host, options, before, environment) {
+    match with_signs(host, options, before, environment, false) {
         Ok(options) => Ok(Some(options)),
         Err(SignFault::OutOfMemory) => Err(AllocError),
         Err(_) => Ok(None),

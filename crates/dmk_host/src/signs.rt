@@ -1,5 +1,7 @@
 //! Words of the command line that define a macro by another sign than `=`, in the wide profile: what GNU make has them stand for.
+use crate::always_run::NONE;
 use crate::sign::{Sign, Signed, by_sign};
+use crate::word_notes::print_failed;
 use bd_lists::Variable;
 use byte_strings::ByteString;
 use dmk_reading::Options;
@@ -47,7 +49,15 @@ struct Before<'a> {
     words: &'a [Variable],
     /// Of each word, whether what is appended to it is expanded at once.
     fixed: &'a [bool],
+    outside: Outside<'a>,
+}
+
+/// What words are read beside.
+#[derive(Clone, Copy)]
+struct Outside<'a> {
     environment: &'a [Variable],
+    /// Whether a command that fails is told of.
+    tells: bool,
 }
 
 /// The place of the last of these that has the name.
@@ -81,7 +91,7 @@ impl<'a> Before<'a> {
     fn value(&self, name: &[u8]) -> Option<&'a [u8]> {
         match value_among(self.words, name) {
             Some(value) => Some(value),
-            None => value_among(self.environment, name),
+            None => value_among(self.outside.environment, name),
         }
     }
 
@@ -97,7 +107,7 @@ impl<'a> Before<'a> {
     /// (GNU make).
     fn macros(&self, alloc: Global, profile: Profile) -> Result<Macros, AllocError> {
         let mut macros = Macros::new(alloc, profile);
-        for variable in self.environment {
+        for variable in self.outside.environment {
             if variable.name.as_slice() == b"MAKEFLAGS".as_slice() {
                 break;
             }
@@ -144,12 +154,12 @@ fn at_once(alloc: Global, macros: &Macros, name: &[u8], text: &[u8]) -> Result<V
     Ok(doubled_text(alloc, &text)?)
 }
 
-/// What a command writes, as a text. One that can't be run writes nothing.
-fn written(host: HostRuntime, shell: &[u8], command: &[u8]) -> Result<Vec<u8>, AllocError> {
+/// What a command writes, as a text, and its status. One that can't be run writes nothing.
+fn written(host: HostRuntime, shell: &[u8], command: &[u8]) -> Result<(Vec<u8>, u32), AllocError> {
     let alloc = host.alloc();
     match DryShell::new(host, alloc, &[]).output(shell, command) {
-        Ok(written) => output_text(alloc, written.out.as_slice()),
-        Err(_) => Ok(Vec::new(alloc)),
+        Ok(written) => Ok((output_text(alloc, written.out.as_slice())?, written.status)),
+        Err(_) => Ok((Vec::new(alloc), NONE)),
     }
 }
 
@@ -175,7 +185,11 @@ fn text_by(
         Sign::Output => {
             let shell = expanded(alloc, &macros, name, b"$(SHELL)")?;
             let command = expanded(alloc, &macros, name, text)?;
-            Ok(Some(written(host, &shell, &command)?))
+            let (text, status) = written(host, &shell, &command)?;
+            if before.outside.tells {
+                print_failed(host, name, status);
+            }
+            Ok(Some(text))
         }
     }
 }
@@ -239,13 +253,13 @@ impl Defined {
         &mut self,
         host: HostRuntime,
         profile: Profile,
-        environment: &[Variable],
+        outside: Outside<'_>,
         variable: Variable,
     ) -> Result<(), SignFault> {
         let before = Before {
             words: &self.words,
             fixed: &self.fixed,
-            environment,
+            outside,
         };
         let is_fixed = fixes(&before, &variable);
         if let Some(variable) = variable_by(host, profile, &before, variable)? {
@@ -262,7 +276,7 @@ fn definitions_by_signs(
     profile: Profile,
     given: Vec<Variable>,
     first: usize,
-    environment: &[Variable],
+    outside: Outside<'_>,
 ) -> Result<Vec<Variable>, SignFault> {
     let mut defined = Defined {
         words: Vec::new(host.alloc()),
@@ -273,19 +287,21 @@ fn definitions_by_signs(
             check(&variable)?;
             defined.push(variable, false)?;
         } else {
-            defined.add(host, profile, environment, variable)?;
+            defined.add(host, profile, outside, variable)?;
         }
     }
     let Defined { words, fixed: _ } = defined;
     Ok(words)
 }
 
-/// The options with what their definitions come to by their signs, but for the first ones, so many, which are the environment's.
+/// The options with what their definitions come to by their signs, but for the first ones, so many, which are the environment's. `tells` is
+/// whether a command that fails is told of.
 pub fn with_signs(
     host: HostRuntime,
     options: Options,
     first: usize,
     environment: &[Variable],
+    tells: bool,
 ) -> Result<Options, SignFault> {
     let profile = options.profile;
     if !profile.is_wide() {
@@ -293,7 +309,8 @@ pub fn with_signs(
     }
     let mut options = options;
     let given = mem::replace(&mut options.definitions, Vec::new(host.alloc()));
-    match definitions_by_signs(host, profile, given, first, environment) {
+    let outside = Outside { environment, tells };
+    match definitions_by_signs(host, profile, given, first, outside) {
         Ok(words) => {
             options.definitions = words;
             Ok(options)

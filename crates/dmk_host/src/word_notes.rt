@@ -1,4 +1,5 @@
 //! What is said of the words of the command line before they count.
+use crate::always_run::NONE;
 use crate::sign::by_sign;
 use crate::standard_streams::with_patience;
 use bd_lists::Variable;
@@ -16,6 +17,22 @@ fn print_meaningless<W: Write>(alloc: Global, err: &mut W, name: &[u8]) {
         let subject = Subject::Target(name);
         let _ = writeln!(err, "dmk: note: {subject}");
     }
+}
+
+/// Says that the command failed that a word defines this macro by.
+pub(crate) fn print_failed(host: HostRuntime, name: &[u8], status: u32) {
+    if status == 0 {
+        return;
+    }
+    let mut stream = with_patience(host, host.stderr());
+    let mut err = Plain::over(&mut stream);
+    let _ = err.write_all(b"dmk: note: ");
+    let _ = err.write_all(name);
+    let _ = if status < NONE {
+        writeln!(err, ": the command failed with status {status}")
+    } else {
+        writeln!(err, ": the command was stopped or not started")
+    };
 }
 
 /// The macro that a word defines.
