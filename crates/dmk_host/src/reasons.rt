@@ -43,17 +43,26 @@ pub fn needs_usual_makefile(options: &Options) -> bool {
     options.profile.is_wide() && options.makefiles.named.is_empty()
 }
 
-fn is_there(rt: HostRuntime, name: &str) -> bool {
-    fs::metadata(&rt, name).is_ok()
+/// The name under which a makefile is looked for, if one is there, and whether it is a file that can be read as one.
+fn usual_makefile(rt: HostRuntime) -> Option<(&'static str, bool)> {
+    for name in ["makefile", "Makefile"] {
+        if let Ok(found) = fs::metadata(&rt, name) {
+            return Some((name, found.is_file()));
+        }
+    }
+    None
 }
 
-/// Says that GNUmakefile isn't read, where that is looked for and it alone is there.
+fn has_gnu_makefile(rt: HostRuntime) -> bool {
+    fs::metadata(&rt, "GNUmakefile").is_ok()
+}
+
+/// Says that GNUmakefile isn't read, where that is looked for and no other makefile can be.
 pub fn print_gnu_makefile<W: Write>(rt: HostRuntime, err: &mut W, is_wanted: bool) {
-    if is_wanted
-        && is_there(rt, "GNUmakefile")
-        && !is_there(rt, "makefile")
-        && !is_there(rt, "Makefile")
-    {
+    if !is_wanted || !has_gnu_makefile(rt) {
+        return;
+    }
+    if let None | Some((_, false)) = usual_makefile(rt) {
         let _ = writeln!(
             err,
             "dmk: note: GNUmakefile is not read: -f GNUmakefile names it"
@@ -64,17 +73,14 @@ pub fn print_gnu_makefile<W: Write>(rt: HostRuntime, err: &mut W, is_wanted: boo
 
 /// Says in front that GNUmakefile isn't read, where another makefile is, which GNU make then doesn't read.
 pub fn print_other_makefile<W: Write>(rt: HostRuntime, err: &mut W, is_wanted: bool) {
-    if !is_wanted || !is_there(rt, "GNUmakefile") {
+    if !is_wanted || !has_gnu_makefile(rt) {
         return;
     }
-    for name in ["makefile", "Makefile"] {
-        if is_there(rt, name) {
-            let _ = writeln!(
-                err,
-                "dmk: note: {name} is read, and not GNUmakefile: -f GNUmakefile names it"
-            );
-            let _ = err.flush();
-            return;
-        }
+    if let Some((name, true)) = usual_makefile(rt) {
+        let _ = writeln!(
+            err,
+            "dmk: note: {name} is read, and not GNUmakefile: -f GNUmakefile names it"
+        );
+        let _ = err.flush();
     }
 }
