@@ -5,6 +5,7 @@ ghost use Rattle.mk_notes.specs.Leading.{goes_on, bracketed, single, referred_be
 
 use crate::built_in::{behind_prefixes, len_before};
 use crate::references::closing;
+use byte_strings::first_word;
 
 fn goes_on(byte: u8) -> bool
     ensures { result ≡ goes_on byte }
@@ -73,20 +74,37 @@ pub(crate) fn referred(text: &[u8]) -> Option<(&[u8], &[u8])>
     }
 }
 
-/// What a recipe line begins with, down to the first byte outside references that is neither a prefix nor a blank; None where that is no
-/// reference. A dollar that begins no reference isn't there.
-pub(crate) fn front(line: &[u8]) -> Option<&[u8]> {
-    let mut rest = behind_prefixes(line);
-    referred(rest)?;
-    for _ in 0..line.len() {
+/// What stands behind the references, prefixes and blanks that a text begins with.
+fn behind_references(text: &[u8]) -> &[u8] {
+    let mut rest = behind_prefixes(text);
+    for _ in 0..text.len() {
         let Some((_inside, behind)) = referred(rest) else {
             break;
         };
         rest = behind_prefixes(behind);
     }
+    rest
+}
+
+/// What a recipe line begins with, down to the first byte outside references that is neither a prefix nor a blank; None where that is no
+/// reference. A dollar that begins no reference isn't there.
+pub(crate) fn front(line: &[u8]) -> Option<&[u8]> {
+    referred(behind_prefixes(line))?;
+    let rest = behind_references(line);
     let last = match rest.first() {
         None | Some(b'$') => 0,
         Some(_) => 1,
     };
     line.get(..line.len().saturating_sub(rest.len()).saturating_add(last))
+}
+
+/// As much of a macro's text as says what it comes to begins with: down to the end of the first word that has such a byte.
+pub(crate) fn head(text: &[u8]) -> &[u8] {
+    let rest = behind_references(text);
+    let word = first_word(rest);
+    if word.contains(&b'$') {
+        return text;
+    }
+    let len = text.len().saturating_sub(rest.len());
+    text.get(..len.saturating_add(word.len())).unwrap_or(text)
 }

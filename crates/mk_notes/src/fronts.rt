@@ -1,6 +1,6 @@
 //! What recipe lines of the strict profile begin with, and what that comes to.
 use crate::built_in::{behind_prefixes, is_prefix, unchanged};
-use crate::front::{front, referred};
+use crate::front::{front, head, referred};
 use crate::note::{Note, Subject};
 use byte_strings::{ByteString, Words, trim_start};
 use mk_macros::{Dynamic, MacroFault, Macros, Rank, RecipeNames};
@@ -44,9 +44,9 @@ struct Defined {
 #[derive(Drop)]
 pub struct Fronts {
     alloc: Global,
-    /// Each name comes to its text, as that stands there.
+    /// Each name comes to its text, as that stands there, or as much of it as its value begins with.
     texts: Macros,
-    /// Each name comes to its value.
+    /// Each name comes to its value, or to what that begins with.
     values: Macros,
     /// The last one is the next.
     ahead: Vec<Ahead>,
@@ -115,7 +115,7 @@ impl Fronts {
         }
     }
 
-    /// Takes in a definition.
+    /// Takes in a definition, by what its text begins with.
     pub fn define(
         &mut self,
         rank: Rank,
@@ -124,6 +124,7 @@ impl Fronts {
         append: bool,
     ) -> Result<(), AllocError> {
         let alloc = self.alloc;
+        let text = head(text);
         let whole = doubled(alloc, text)?;
         self.texts.define(alloc, rank, name, &whole, append)?;
         self.values.define(alloc, rank, name, text, append)
@@ -204,7 +205,7 @@ impl Fronts {
     }
 
     /// The text of the macro in place of the reference that a text begins with, which has this in its brackets; None where it has no
-    /// expansion. One whose words are changed gives way to what it comes to.
+    /// expansion. One whose words are changed gives way to what stands behind it, unless it comes to more than prefixes.
     fn followed(
         &self,
         text: &[u8],
@@ -213,22 +214,19 @@ impl Fronts {
     ) -> Result<Option<Vec<u8>>, AllocError> {
         let alloc = self.alloc;
         let (whole, _rest) = text.split_at(text.len().saturating_sub(rest.len()));
-        let is_changed = unchanged(inside).len() < inside.len();
-        let macros = if is_changed {
-            &self.values
-        } else {
-            &self.texts
-        };
-        let Some(value) = value_of(alloc, macros, whole)? else {
-            return Ok(None);
-        };
-        let mut followed = if is_changed {
-            doubled(alloc, &value)?
-        } else {
-            value
-        };
-        followed.extend_from_slice(rest)?;
-        Ok(Some(followed))
+        if unchanged(inside).len() == inside.len() {
+            let Some(mut followed) = value_of(alloc, &self.texts, whole)? else {
+                return Ok(None);
+            };
+            followed.extend_from_slice(rest)?;
+            return Ok(Some(followed));
+        }
+        match value_of(alloc, &self.values, whole)? {
+            Some(value) if behind_prefixes(&value).is_empty() => {
+                Ok(Some(Vec::from_slice(alloc, rest)?))
+            }
+            _ => Ok(None),
+        }
     }
 
     /// The prefix that a text has in front once it is expanded.
