@@ -45,6 +45,14 @@ fn if_found<T>(answer: io::Result<T>) -> io::Result<Option<T>> {
     }
 }
 
+// Whether nothing can stand under a name that can't be looked at.
+fn is_nothing(error: &io::Error) -> bool {
+    matches!(
+        error.kind(),
+        ErrorKind::NotFound | ErrorKind::NotADirectory | ErrorKind::InvalidFilename
+    )
+}
+
 fn is_kept(found: &Metadata) -> bool {
     found.is_file() || found.is_dir()
 }
@@ -171,8 +179,8 @@ impl<'a, R: Wait> HostPlace<'a, R> {
     // Why a file wasn't removed, where one is there all the same.
     fn if_left(&self, name: &str, error: io::Error) -> io::Result<()> {
         match fs::symlink_metadata(&self.host, name) {
-            Ok(found) if !found.is_dir() => Err(error),
-            _ => Ok(()),
+            Err(looked) if is_nothing(&looked) => Ok(()),
+            _ => Err(error),
         }
     }
 
@@ -234,6 +242,8 @@ impl<R: Wait> Place for HostPlace<'_, R> {
             Err(error) => Err(fault_of(error)),
         }
     }
+    ghost gone = { λ place path. Unit {0} };
+
 
     fn stopped(&self) -> Option<Stopped> {
         self.stops.take()

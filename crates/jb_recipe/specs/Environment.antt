@@ -1,5 +1,5 @@
 -- The environment of a recipe's lines, beside the one that dmk itself was given. The order is this project's own.
-use Rattle.std.specs.Prelude.{ℕ, Bool, true, false, not, ◌||◌, List, [], ◌∷◌, ◌++◌, filter, codes, decimal, Option, Some, None}
+use Rattle.std.specs.Prelude.{◌≡◌, ℕ, Bool, true, false, if◌then◌else◌, not, ◌||◌, List, [], ◌∷◌, ◌++◌, filter, codes, decimal, Option, Some, None}
 use Rattle.std.specs.Str.{bytes_eq}
 use Rattle.bd_lists.specs.declared.recipe.Variable.{Variable}
 use Rattle.jb_recipe.specs.declared.variables.Makeflags.{Makeflags}
@@ -31,3 +31,12 @@ report_to (Some path) target = variable (codes "SUNPRO_DEPENDENCIES") (path ++ 3
 -- the definitions of the command line, then MAKEFLAGS, then where the report goes
 abbrev pub environment : (definitions : List Variable) → Makeflags → (path : Option (List ℕ)) → (target : List ℕ) → List Variable
 environment definitions flags path target = filter is_passed_on definitions ++ (set_flags flags ++ report_to path target)
+
+-- the value under a name, that of the later of two; what was found before where none has it
+unfoldable pub last_value : (name found : List ℕ) → List Variable → List ℕ
+last_value name found [] = found
+last_value name found (v ∷ behind) = last_value name (if bytes_eq v.name name then v.value else found) behind
+
+-- a recipe for the target finds there that its report goes to this path
+abbrev pub NamesReport : (target : List ℕ) → List Variable → (path : List ℕ) → Type 0
+NamesReport target variables path = last_value (codes "SUNPRO_DEPENDENCIES") [] variables ≡ path ++ 32 ∷ target

@@ -18,7 +18,7 @@ pub use conduct::Conduct;
 pub use not_done::NotDone;
 pub use noting::{Plan, is_writable};
 pub use place::{Place, PlaceFault};
-pub use recipe_run::{Ran, run_recipe};
+pub use recipe_run::{Ran, Spoken, leave_recipe, run_recipe};
 pub use reporting::{EndNote, Last};
 pub use say::{News, Say, Step};
 pub use stopped::{Signal, Stopped};

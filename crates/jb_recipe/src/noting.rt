@@ -1,5 +1,6 @@
 //! What a target writes into the state, checked before anything of it is.
-ghost use Rattle.std.specs.Prelude.{◌≡◌, ◌≤◌, ◌<◌, ◌↔◌, ◌||◌, length, IfOk, IfSome, IsTrue};
+ghost use Rattle.std.specs.Prelude.{◌≡◌, ◌≤◌, ◌<◌, ◌↔◌, ◌||◌, [], ◌∷◌, ◌++◌, length, codes, IfOk, IfSome, IsTrue};
+ghost use Rattle.std.proofs.Props.{props};
 ghost use Rattle.mk_graph.specs.Numbering.{name_at};
 ghost use Rattle.mk_recipe.specs.Line.{Records};
 ghost use Rattle.mk_rule_lines.specs.Marks.{has_mark};
@@ -11,7 +12,7 @@ ghost use Rattle.st_records.specs.Limits.{IsGood, IsWithin, SaysExplicit};
 ghost use Rattle.st_records.specs.Parts.{status_of};
 ghost use Rattle.st_records.specs.declared.version.Version.TheVariants.{Two};
 ghost use Rattle.st_records.specs.declared.record.Record.TheVariants as records;
-ghost use Rattle.jb_recipe.specs.Environment.{environment, report_path};
+ghost use Rattle.jb_recipe.specs.Environment.{environment, report_path, last_value, NamesReport};
 ghost use Rattle.jb_recipe.specs.Noting.{known_of, removes};
 ghost use Rattle.jb_recipe.specs.Silence.{as_run};
 
@@ -66,6 +67,7 @@ pub struct Plan {
     pub removes: bool,
     ghost within: { IsWithin Two begun },
     ghost own: { begun ≡ records.Begun recipe.target },
+    ghost named: { IfSome report (λ path. last_value (codes "SUNPRO_DEPENDENCIES") [] recipe.env.items ≡ path ++ 32 ∷ recipe.target) } by { Prim.hlevel props },
 }
 
 fn name_of(graph: &Graph, node: usize) -> &[u8]
@@ -157,6 +159,7 @@ fn surroundings(
     ensures report { IfOk result (λ s. s.0 ≡ report_path conduct.now.keeps_state conduct.now.state_name number) }
     ensures env { IfOk result (λ s. s.1.items
         ≡ environment conduct.now.definitions.items conduct.now.makeflags s.0 target.now) }
+    ensures named { IfOk result (λ s. IfSome s.0 (NamesReport target.now s.1.items)) }
 {
     let report = conduct.report_path(alloc, number)?;
     let definitions = conduct.definitions.as_slice();

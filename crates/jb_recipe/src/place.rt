@@ -1,4 +1,5 @@
 //! The files of targets, beside what recipes do to them.
+ghost use Rattle.std.specs.Prelude.{ℕ, List, OnOk};
 
 use crate::Stopped;
 use std::alloc::{AllocError, Global};
@@ -28,8 +29,12 @@ impl From<AllocError> for PlaceFault {
 
 /// Where reports are written and targets are made. Nothing is claimed of it: what files hold is outside every proof.
 pub trait Place {
-    /// Removes a report, or a target's file. One that isn't there is passed over, and so is a folder: that is no report.
-    fn remove(&self, path: &[u8]) -> io::Result<()>;
+    /// Nothing is left under this name: a fact that only a call of `remove` gives.
+    ghost gone: { Self → List ℕ → Type 0 };
+
+    /// Removes a report, or a target's file. One that isn't there is passed over; a folder can't be removed.
+    fn remove(&self, path: &[u8]) -> io::Result<()>
+        ensures { OnOk result (gone self.now path.now) };
 
     /// The bytes of a report; None where there is no report.
     fn report(&self, alloc: Global, path: &[u8]) -> Result<Option<Vec<u8>>, PlaceFault>;

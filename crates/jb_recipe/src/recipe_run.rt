@@ -1,12 +1,14 @@
 //! A recipe run with its lines said.
-ghost use Rattle.std.specs.Prelude.{◌≡◌, ◌<◌, IfOk, IfErr, OnErr, vec_len};
+ghost use Rattle.std.specs.Prelude.{◌≡◌, ◌<◌, [], IfOk, IfErr, IfSome, OnErr, option_copied, vec_len};
 ghost use Rattle.st_records.specs.declared.record.Record.TheVariants as records;
 ghost use Rattle.bd_lists.specs.Running.{FailsInRange};
+ghost use Rattle.jb_recipe.specs.Environment.{NamesReport};
 ghost use Rattle.jb_recipe.specs.Running.{RanUnder};
 
-use crate::{Say, Step};
+use crate::{Place, Say, Step};
 use bd_flusher::Receipt;
 use bd_lists::{Clearance, Ended, Exec, ExecFault, Recipe, Spent, Variable};
+use byte_strings::ByteString;
 use jb_slots::Slot;
 use mk_recipe::Line;
 use std::alloc::Global;
@@ -19,9 +21,9 @@ pub struct Ran {
 
 /// Says each line that is printed, and then runs it. Each is a step of the run.
 #[derive(Drop)]
-struct Spoken<'a, E, S> {
-    exec: &'a E,
-    say: &'a S,
+pub struct Spoken<'a, E, S> {
+    pub exec: &'a E,
+    pub say: &'a S,
 }
 
 impl<T, E: Exec<T>, S: Say> Exec<T> for Spoken<'_, E, S> {
@@ -41,18 +43,22 @@ impl<T, E: Exec<T>, S: Say> Exec<T> for Spoken<'_, E, S> {
     }
 }
 
-/// Runs a recipe under the clearance of its target's 'begun', each line said before it is run. The slot is held by whoever
-/// calls this. Its one growth comes first: where it is refused nothing was run, and the clearance comes back.
-pub fn run_recipe<E: Exec<Receipt>, S: Say>(
+/// Runs a recipe under the clearance of its target's 'begun', each line said before it is run. No line is run beside a report of an
+/// earlier run: the place has to have removed the file that the recipe's environment names. The slot is held by whoever calls this.
+/// Its one growth comes first: where it is refused nothing was run, and the clearance comes back.
+pub fn run_recipe<E: Exec<Receipt>, S: Say, P: Place>(
     alloc: Global,
     clearance: Clearance<Receipt>,
     recipe: Recipe,
+    report: Option<&ByteString>,
+    place: &P,
     _slot: &Slot<'_>,
-    exec: &E,
-    say: &S,
+    spoken: &Spoken<'_, E, S>,
 ) -> Result<Ran, Clearance<Receipt>>
     requires own { clearance.told.noted ≡ records.Begun recipe.target }
-    ensures ran { IfOk result (λ r. RanUnder (E.answers exec.now recipe.env.items) clearance.told recipe r) }
+    requires named { IfSome (option_copied report) (NamesReport recipe.target recipe.env.items) }
+    requires gone { IfSome (option_copied report) (P.gone place.now) }
+    ensures ran { IfOk result (λ r. RanUnder (E.answers spoken.now.exec.now recipe.env.items) clearance.told recipe r) }
     ensures status { IfOk result (λ r. FailsInRange r.spent.outcome) }
     ensures back { IfErr result (λ c. c ≡ clearance) }
     ensures memory { OnErr result (0 < vec_len recipe.lines) }
@@ -60,8 +66,36 @@ pub fn run_recipe<E: Exec<Receipt>, S: Say>(
     let Ok(mut ended) = Vec::with_capacity(alloc, recipe.lines.len()) else {
         return Err(clearance);
     };
-    say.step(Step::Begins);
-    let spent = clearance.run(alloc, recipe, &Spoken { exec, say }, &mut ended);
-    say.step(Step::Ends);
+    spoken.say.step(Step::Begins);
+    let spent = clearance.run(alloc, recipe, spoken, &mut ended);
+    spoken.say.step(Step::Ends);
     Ok(Ran { ended, spent })
+}
+
+/// Runs nothing.
+#[derive(Drop)]
+struct Nothing;
+
+impl Exec<Receipt> for Nothing {
+    ghost answers = { λ nothing env line answer. Unit {0} };
+
+    fn run(
+        &self,
+        _clearance: &Clearance<Receipt>,
+        _line: &Line,
+        _env: &[Variable],
+    ) -> Result<Ended, ExecFault> {
+        Err(ExecFault)
+    }
+}
+
+/// Spends the clearance of a recipe without running a line of it: its target is to end as failed.
+pub fn leave_recipe(alloc: Global, clearance: Clearance<Receipt>, recipe: Recipe) -> Spent<Receipt>
+    requires own { clearance.told.noted ≡ records.Begun recipe.target }
+    ensures told { result.told ≡ clearance.told }
+    ensures lines { result.recipe.lines.items ≡ [] }
+{
+    let mut none = recipe;
+    none.lines = Vec::new(alloc);
+    clearance.run(alloc, none, &Nothing, &mut Vec::new(alloc))
 }

@@ -1,17 +1,19 @@
 //! How a target's recipe ended, as it is written.
-ghost use Rattle.std.specs.Prelude.{◌≡◌, ◌≤◌, None, IfOk, IfSome};
+ghost use Rattle.std.specs.Prelude.{◌≡◌, ◌≤◌, None, IfOk, IfSome, OnOk, option_copied};
 ghost use Rattle.st_records.specs.Limits.{IsGood};
 ghost use Rattle.st_records.specs.declared.version.Version.TheVariants.{Two};
 ghost use Rattle.st_records.specs.declared.record.Record.TheVariants as records;
 ghost use Rattle.st_records.specs.declared.record.Explicit.TheVariants.{Known};
 ghost use Rattle.mk_recipe.specs.declared.line_status.Outcome.TheVariants.{Done};
 ghost use Rattle.bd_lists.specs.Running.{FailsInRange};
+ghost use Rattle.jb_recipe.specs.Environment.{NamesReport};
 ghost use Rattle.jb_recipe.specs.Noting.{IsEndOf};
 
 use crate::elsewhere::tells_elsewhere;
 use crate::noting::{Plan, writable};
 use crate::{NotDone, Place, PlaceFault};
-use bd_lists::Recipe;
+use bd_flusher::Receipt;
+use bd_lists::{Clearance, Recipe};
 use byte_strings::{ByteString, ByteStrings};
 use mk_profile::Profile;
 use mk_recipe::{Outcome, read_report};
@@ -40,8 +42,6 @@ pub struct EndNote {
     removes: bool,
     /// The time of the target's file before the recipe, where that may be removed.
     before: Option<i128>,
-    /// Why a report of an earlier run still lay there when the recipe began.
-    left: Option<io::Error>,
 }
 
 /// The last record of a target, and what there is to say where it isn't a 'done'.
@@ -70,8 +70,8 @@ impl Plan {
           profile = self.profile;
           removes = self.removes;
           before = None;
-          left = None;
         }) }
+        ensures named { IfOk result (λ p. IfSome p.2.report (NamesReport p.1.target p.1.env.items)) }
         ensures told { IfOk result (λ p. p.3 ≡ self.told) }
     {
         let target = self.recipe.target.copy(alloc)?;
@@ -85,7 +85,6 @@ impl Plan {
             profile: self.profile,
             removes: self.removes,
             before: None,
-            left: None,
         };
         Ok((self.begun, self.recipe, note, self.told))
     }
@@ -147,18 +146,45 @@ fn synced<P: Place>(place: &P, name: &[u8]) -> Result<Result<(), NotDone>, Alloc
 }
 
 impl EndNote {
-    /// Before the recipe is run: a report of an earlier run must not be taken for this one's, and what the recipe changes is told
-    /// by the time of the file as it was.
-    pub fn before_run<P: Place>(&mut self, place: &P) {
-        self.left = self.remove_report(place).err();
+    /// Between the target's 'begun' and the first line of its recipe. A report of an earlier run must not be taken for this one's, nor be
+    /// a link by which a compiler writes elsewhere: where it can't be removed no line may be run. What the recipe changes is told by
+    /// the time of the file as it was.
+    pub fn before_run<P: Place>(
+        &mut self,
+        clearance: &Clearance<Receipt>,
+        place: &P,
+    ) -> io::Result<()>
+        requires own { clearance.now.told.noted ≡ records.Begun self.old.target }
+        ensures gone { OnOk result (IfSome self.new.report (P.gone place.now)) }
+        ensures report { self.new.report ≡ self.old.report }
+    {
+        self.remove_report(place)?;
         let _of_before = place.stopped();
         if self.removes {
             self.before = place.stamp(self.target.as_slice());
         }
+        Ok(())
     }
 
-    // The report of a failed recipe isn't left behind.
-    fn remove_report<P: Place>(&self, place: &P) -> io::Result<()> {
+    /// Where the recipe writes its report, if it is to.
+    pub fn report(&self) -> Option<&ByteString>
+        ensures { option_copied result ≡ self.now.report }
+    {
+        self.report.as_ref()
+    }
+
+    /// The record of a recipe of which no line was run, since a report of an earlier run can't be removed.
+    pub fn left(self, error: io::Error) -> Last
+        ensures good { IfSome result.record (λ r. IsGood Two r) }
+        ensures note { IfSome result.record (λ r. r ≡ records.Failed self.target 256) }
+    {
+        self.into_failed(NOT_TAKEN, Some(NotDone::NotRemoved(error)))
+    }
+
+    // The report of a failed recipe isn't left behind either.
+    fn remove_report<P: Place>(&self, place: &P) -> io::Result<()>
+        ensures { OnOk result (IfSome self.now.report (P.gone place.now)) }
+    {
         match &self.report {
             Some(path) => place.remove(path.as_slice()),
             None => Ok(()),
@@ -197,9 +223,6 @@ impl EndNote {
         key: HashKey,
         place: &P,
     ) -> Result<Result<Option<ByteStrings>, NotDone>, AllocError> {
-        if let Some(error) = self.left {
-            return Ok(Err(NotDone::NotRemoved(error)));
-        }
         match &self.report {
             Some(path) => taken(
                 alloc,
@@ -232,7 +255,6 @@ impl EndNote {
             profile: _,
             removes: _,
             before: _,
-            left: _,
         } = self;
         Record::Done {
             target,

@@ -1,6 +1,6 @@
 //! The environment of a recipe's lines, beside the one that dmk itself was given.
-ghost use Rattle.std.specs.Prelude.{◌≡◌, ◌++◌, IfOk, OnOk, option_map, filter};
-ghost use Rattle.jb_recipe.specs.Environment.{is_passed_on, set_flags, report_to, environment};
+ghost use Rattle.std.specs.Prelude.{◌≡◌, ◌++◌, IfOk, OnOk, option_map, filter, IfSome};
+ghost use Rattle.jb_recipe.specs.Environment.{is_passed_on, set_flags, report_to, environment, NamesReport};
 
 use bd_lists::Variable;
 use byte_strings::ByteString;
@@ -95,8 +95,9 @@ pub fn environment(
     path: Option<&ByteString>,
     target: &[u8],
 ) -> Result<Vec<Variable>, AllocError>
-    ensures { IfOk result (λ variables. variables.items
+    ensures all { IfOk result (λ variables. variables.items
         ≡ environment definitions.now flags.now (option_map (λ p. p.now) path.entry) target.now) }
+    ensures named { IfOk result (λ variables. IfSome (option_map (λ p. p.now) path.entry) (NamesReport target.now variables.items)) }
 {
     let mut variables = Vec::new(alloc);
     push_definitions(alloc, &mut variables, definitions)?;

@@ -1,9 +1,10 @@
 //! A target's recipe: its 'begun', the run, its 'done' or 'failed'.
-ghost use Rattle.std.specs.Prelude.{◌≡◌, ◌<◌, IfOk};
+ghost use Rattle.std.specs.Prelude.{◌≡◌, ◌<◌, IfOk, IfSome};
 ghost use Rattle.st_records.specs.Limits.{IsGood};
 ghost use Rattle.st_records.specs.declared.version.Version.TheVariants.{Two};
 ghost use Rattle.st_records.specs.declared.record.Record.TheVariants as records;
 ghost use Rattle.bd_lists.specs.Running.{FailsInRange};
+ghost use Rattle.jb_recipe.specs.Environment.{NamesReport};
 ghost use Rattle.jb_runner.specs.Making.{IsClearedFor};
 
 use crate::bench::{Bench, complain};
@@ -16,7 +17,9 @@ use bd_ledger::Ticket;
 use bd_links::Node;
 use bd_lists::{Advanced, Clearance, Exec, Recipe, Spent, Told};
 use jb_closing::RunFault;
-use jb_recipe::{EndNote, Last, News, NotDone, Place, Plan, Ran, Say, run_recipe};
+use jb_recipe::{
+    EndNote, Last, News, NotDone, Place, Plan, Ran, Say, Spoken, leave_recipe, run_recipe,
+};
 use jb_slots::Bank;
 use mk_nodes::Graph;
 use st_disk::Disk;
@@ -182,18 +185,33 @@ impl<D: Disk + Drop, E: Exec<Receipt>, S: Say, P: Place> Bench<'_, D, E, S, P> {
         alloc: Global,
         clearance: Clearance<Receipt>,
         recipe: Recipe,
+        note: &EndNote,
         bank: &mut B,
     ) -> Result<Ran, Clearance<Receipt>>
         requires own { clearance.told.noted ≡ records.Begun recipe.target }
+        requires named { IfSome note.now.report (NamesReport recipe.target recipe.env.items) }
+        requires gone { IfSome note.now.report (P.gone self.now.place.now) }
         ensures status { IfOk result (λ r. FailsInRange r.spent.outcome) }
     {
+        let spoken = Spoken {
+            exec: self.exec,
+            say: self.say,
+        };
         let slot = self.slots.acquire(rt, bank);
-        let ran = run_recipe(alloc, clearance, recipe, &slot, self.exec, self.say);
+        let ran = run_recipe(
+            alloc,
+            clearance,
+            recipe,
+            note.report(),
+            self.place,
+            &slot,
+            &spoken,
+        );
         let _ = self.slots.release(rt, slot, bank);
         ran
     }
 
-    /// Makes a target, up to its end: that is pending then.
+    /// Makes a target, up to its end: that is pending then. No line of its recipe is run beside a report of an earlier run.
     pub(crate) fn build_planned<R: Wait, B: Bank>(
         &self,
         rt: &R,
@@ -206,13 +224,20 @@ impl<D: Disk + Drop, E: Exec<Receipt>, S: Say, P: Place> Bench<'_, D, E, S, P> {
         let (begun, recipe, mut note, told) = plan.apart(alloc)?;
         match self.clerk.begin(rt, alloc, node, begun, shift) {
             Ok(Begun::Cleared(clearance)) => {
-                note.before_run(self.place);
                 say_lines(self.say, &told);
-                let ran = self.run_with_slot(rt, alloc, clearance, recipe, bank);
-                if complain(rt, self.say, self.complained, bank) {
-                    shift.worsen(2);
+                match note.before_run(&clearance, self.place) {
+                    Ok(()) => {
+                        let ran = self.run_with_slot(rt, alloc, clearance, recipe, &note, bank);
+                        if complain(rt, self.say, self.complained, bank) {
+                            shift.worsen(2);
+                        }
+                        self.end_run(rt, alloc, node, ran, note, shift)
+                    }
+                    Err(error) => {
+                        let spent = leave_recipe(alloc, clearance, recipe);
+                        self.write_end(rt, alloc, node, note.left(error), spent, shift)
+                    }
                 }
-                self.end_run(rt, alloc, node, ran, note, shift)
             }
             Ok(Begun::Refused) => {
                 drop(recipe);
@@ -265,26 +290,38 @@ impl<D: Disk + Drop, E: Exec<Receipt>, S: Say, P: Place> Bench<'_, D, E, S, P> {
         let spent = say_block(self.say, ran);
         let outcome = spent.outcome();
         match note.last_record(alloc, self.key, self.place, outcome) {
-            Ok(
-                Last {
-                    record,
-                    not_done,
-                    unreported,
-                },
-            ) => {
-                tell_unreported(self.say, self.graph, node, unreported);
-                match record {
-                    Some(last) => self.submit_end(rt, alloc, node, last, not_done, spent, shift),
-                    None => {
-                        shift.keep(spent.give_up());
-                        self.not_recorded(rt, node, None, shift);
-                        Ok(())
-                    }
-                }
-            }
+            Ok(last) => self.write_end(rt, alloc, node, last, spent, shift),
             Err(_) => {
                 shift.keep(spent.give_up());
                 Err(RunFault::OutOfMemory)
+            }
+        }
+    }
+
+    // The end of a recipe is written, where its record may stand in the state.
+    fn write_end<R: Wait>(
+        &self,
+        rt: &R,
+        alloc: Global,
+        node: Node,
+        last: Last,
+        spent: Spent<Receipt>,
+        shift: &mut Shift,
+    ) -> Result<(), RunFault>
+        requires { IfSome last.record (λ note. IsGood Two note) }
+    {
+        let Last {
+            record,
+            not_done,
+            unreported,
+        } = last;
+        tell_unreported(self.say, self.graph, node, unreported);
+        match record {
+            Some(last) => self.submit_end(rt, alloc, node, last, not_done, spent, shift),
+            None => {
+                shift.keep(spent.give_up());
+                self.not_recorded(rt, node, None, shift);
+                Ok(())
             }
         }
     }

@@ -3,13 +3,18 @@
 use crate::fake::Fake;
 use jb_recipe::{Place, PlaceFault, Stopped};
 use std::alloc::Global;
-use std::io;
+use std::io::{self, ErrorKind};
 use std::sync::Wait;
 use std::time::Clock;
 
 impl<R: Wait + Clock + Copy> Place for Fake<R> {
+    ghost gone = { λ fake path. Unit {0} };
+
     fn remove(&self, path: &[u8]) -> io::Result<()> {
         self.say(b"~remove ", path);
+        if self.keeps_reports {
+            return Err(ErrorKind::PermissionDenied.into());
+        }
         Ok(())
     }
 

@@ -54,6 +54,7 @@ pub struct Fake<R: Wait + Clock + Copy> {
     pub rt: R,
     pub alloc: Global,
     pub sync: Result<(), PlaceFault>,
+    pub keeps_reports: bool,
     pub is_broken: bool,
     pub notes: Mutex<Notes>,
 }
@@ -64,6 +65,7 @@ impl<R: Wait + Clock + Copy> Drop for Fake<R> {
             rt: _,
             alloc: _,
             sync: _,
+            keeps_reports: _,
             is_broken: _,
             notes: _,
         } = self;
@@ -78,6 +80,7 @@ impl<R: Wait + Clock + Copy> Fake<R> {
             rt,
             alloc,
             sync: way.sync,
+            keeps_reports: way.keeps_reports,
             is_broken: way.tokens.is_none(),
             notes: Mutex::new(Notes {
                 said: Vec::new(alloc),
@@ -113,6 +116,7 @@ impl<R: Wait + Clock + Copy> Fake<R> {
             rt: _,
             alloc: _,
             sync: _,
+            keeps_reports: _,
             is_broken: _,
             notes,
         } = self;

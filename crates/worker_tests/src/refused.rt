@@ -13,7 +13,7 @@ use bd_flusher::{Receipt, Site};
 use bd_links::Node;
 use bd_lists::{Advanced, Board, Clearance, Recipe};
 use byte_strings::ByteString;
-use jb_recipe::{Ran, run_recipe};
+use jb_recipe::{Ran, Spoken, run_recipe};
 use jb_slots::{Slot, Slots};
 use mk_profile::Profile;
 use mk_recipe::split_line;
@@ -114,7 +114,11 @@ fn tried<R: Wait + Clock + Copy>(
     requires { clearance.told.noted ≡ records.Begun recipe.target }
     ensures { IfErr result (λ c. c ≡ clearance) }
 {
-    run_recipe(alloc, clearance, recipe, slot, fake, fake)
+    let spoken = Spoken {
+        exec: fake,
+        say: fake,
+    };
+    run_recipe(alloc, clearance, recipe, None, fake, slot, &spoken)
 }
 
 fn end(ran: Ran) {

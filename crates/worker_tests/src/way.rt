@@ -13,6 +13,8 @@ pub struct Way {
     pub tokens: Option<&'static [u8]>,
     /// Whether a target's file can be put on the disk.
     pub sync: Result<(), PlaceFault>,
+    /// Whether reports of an earlier run can't be removed.
+    pub keeps_reports: bool,
 }
 
 /// One worker, no `-k`.
@@ -22,6 +24,7 @@ pub const ALONE: Way = Way {
     keeps_state: true,
     tokens: Some(b"+"),
     sync: Ok(()),
+    keeps_reports: false,
 };
 
 pub const ALONE_WITH_K: Way = Way {

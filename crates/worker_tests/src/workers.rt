@@ -48,7 +48,20 @@ const BROKEN: Way = Way {
     ..ALONE
 };
 
-static STOPPED: [Row; 3] = [
+const BESIDE_AN_OLD_REPORT: Way = Way {
+    keeps_reports: true,
+    ..ALONE
+};
+
+static STOPPED: [Row; 4] = [
+    // Whatever its line says of statuses.
+    Row {
+        name: "no line is run beside an old report",
+        makefile: "x:\n\t-echo x\n",
+        way: BESIDE_AN_OLD_REPORT,
+        told: "=1 [Failed(256)]\nfailed x 256\n",
+        said: Some(b"~remove .make.state.dep.0\n!x\n"),
+    },
     Row {
         name: "a worker that wants memory ends the run of the other",
         makefile: "all: x .WAIT y\nx:\n\ttrue\ny:\n\techo y\n",
