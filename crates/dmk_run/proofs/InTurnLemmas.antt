@@ -253,37 +253,26 @@ module _ {Source Tree Disk : Type 0} (Reads : Source → World → Type 0) (Allo
           (subst (λ p. Makes world times whole.makefiles p part.definitions.items environment part.targets part.makes_all part.goes_on before disk_honest (seen found) status (sides left) tried) profile
           (subst (λ m. Makes world times m part.profile part.definitions.items environment part.targets part.makes_all part.goes_on before disk_honest (seen found) status (sides left) tried) makefiles is)))))
 
-      -- and what it makes is made, behind these names, to which others are added
-      pub part_makes : {Fault : Type 0} (source : Source) (tree : Tree) (found left : Disk) (names tried added after : Tried) (got : Result ℕ Fault) →
-          before ≡ names → after ≡ both_tried names added →
+      -- and what it makes is made, behind these names, to which others are added, where what it came to is told
+      pub part_makes : {Fault : Type 0} (source : Source) (tree : Tree) (found left : Disk) (names tried added after : Tried) (got told : Result ℕ Fault) →
+          before ≡ names → IfOk told (λ s. got ≡ Ok s) → IfOk told (λ s. after ≡ both_tried names added) →
           ((graph : Graph) (ends : List End) → AreTried graph ends tried → AreTried graph ends added) →
           IfOk got (λ s. (world : World) (times : List ℕ → Option ℤ) → Reads source world → Allows tree times →
           Makes world times part.makefiles part.profile part.definitions.items environment part.targets part.makes_all part.goes_on before disk_honest (seen found) s (sides left) tried) →
-          IfOk got (MakesPart Reads Allows whole environment disk_honest seen sides targets (found, names) (left, after))
-      part_makes source tree found left names tried added after (Ok status) same adds follow is =
+          IfOk told (MakesPart Reads Allows whole environment disk_honest seen sides targets (found, names) (left, after))
+      part_makes source tree found left names tried added after got (Ok status) same so adds follow is =
           subst (λ n. MakesPart Reads Allows whole environment disk_honest seen sides targets (found, n) (left, after) status) same
           (record {
             source = source;
             tree = tree;
             tried = added;
             adds = adds ∙ ap (λ n. both_tried n added) (sym same);
-            made = λ world times text may. makes_others tried added follow (makes_alike world times found left tried status (is world times text may));
+            made = λ world times text may. makes_others tried added follow (makes_alike world times found left tried status
+                (at_ok (λ s. (world : World) (times : List ℕ → Option ℤ) → Reads source world → Allows tree times →
+                Makes world times part.makefiles part.profile part.definitions.items environment part.targets part.makes_all part.goes_on before disk_honest (seen found) s (sides left) tried)
+                got status so is world times text may));
           })
-      part_makes source tree found left names tried added after (Err fault) same adds follow is = tt
-
-      -- and where it is the first one, behind which all that is known is what failed
-      pub first_makes : {Fault : Type 0} (source : Source) (tree : Tree) (found left : Disk) (tried after : Tried) (got : Result ℕ Fault) →
-          before ≡ none_tried → after.built ≡ [] → after.failed ≡ tried.failed →
-          IfOk got (λ s. (world : World) (times : List ℕ → Option ℤ) → Reads source world → Allows tree times →
-          Makes world times part.makefiles part.profile part.definitions.items environment part.targets part.makes_all part.goes_on before disk_honest (seen found) s (sides left) tried) →
-          IfOk got (MakesPart Reads Allows whole environment disk_honest seen sides targets (found, none_tried) (left, after))
-      first_makes source tree found left tried after got same built failed is =
-          part_makes source tree found left none_tried tried after after got same refl
-          (λ graph ends are. record {
-            are_built = subst (All (IsBuiltWithoutFile graph ends)) (sym built) (All-nil (IsBuiltWithoutFile graph ends));
-            are_failed = subst (AreFailed graph ends) (sym failed) are.are_failed;
-          })
-          is
+      part_makes source tree found left names tried added after got (Err fault) same so adds follow is = tt
 
   -- a part that is made over a disk is made over one of which it recovers no other state
   module _ (options : Options) (disk_honest : Type 0) (seen : Disk → Which → List ℕ) (sides : Disk → Sides) (found opened : Disk)

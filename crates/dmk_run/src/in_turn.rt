@@ -97,14 +97,8 @@ where
         made,
         failed,
     } = left;
-    let mut since = looks.anew();
-    match tried.add(alloc, &mut since, &made, &failed) {
-        Ok(()) => (found, disk, standing),
-        Err(error) => {
-            drop(found);
-            (Err(Stop::from(error)), disk, standing)
-        }
-    }
+    let found = tried.add_behind(alloc, &mut looks.anew(), &made, &failed, found);
+    (found, disk, standing)
 }
 
 /// Notes which targets are lost since they were judged up to date. In the wide profile these are made. Those that there is no memory for
@@ -280,13 +274,14 @@ where
     drop(tree);
     let Left {
         standing,
-        made: _,
+        made,
         failed,
     } = left;
     let ends = match made_or_ends(options, found) {
         Ok(found) => {
+            let mut tried = Tried::nothing(alloc);
+            let found = tried.add_behind(alloc, &mut looks.anew(), &made, &failed, found);
             let ran = (found, disk, standing);
-            let mut tried = Tried::of_failed(alloc, failed);
             return lost_made(
                 rt, alloc, means, guard, options, &mut tried, looks, includes, banks, ran,
             );
@@ -294,6 +289,7 @@ where
         Err(ends) => ends,
     };
     drop(standing);
+    drop(made);
     drop(failed);
     match in_parts(alloc, &options.targets, &ends) {
         Ok(parts) => made_in_turn(

@@ -21,7 +21,7 @@ use std::alloc::{AllocError, Global};
 pub struct Left {
     /// What was judged up to date where a recipe was run.
     pub(crate) standing: Vec<Standing>,
-    /// What was built and had no file; none where there is one part.
+    /// What was built and had no file; none where nothing comes behind.
     pub(crate) made: Vec<Made>,
     /// The names of what failed.
     pub(crate) failed: ByteStrings,
@@ -39,17 +39,22 @@ impl Left {
     }
 }
 
-/// What was built without a file, where parts may come behind.
+/// Whether targets may be made once more behind a run over the graph: in the wide profile those that were judged up to date.
+fn may_be_lost(graph: &Graph, standing: &[Standing]) -> bool {
+    graph.macros.profile().is_wide() && !standing.is_empty()
+}
+
+/// What was built without a file, where more may be made behind it.
 fn made_for(
     alloc: Global,
-    is_part: bool,
+    is_followed: bool,
     graph: &Graph,
     found: &Result<Report, RunFault>,
 ) -> Result<Vec<Made>, AllocError>
     ensures { IfOk result (λ made. IfOk found.now (λ r. All (λ m. IsBuiltWithoutFile graph.now r.ends.items m.name) made.items)) }
 {
     match found {
-        Ok(report) if is_part => made_in(alloc, graph, &report.ends),
+        Ok(report) if is_followed => made_in(alloc, graph, &report.ends),
         _ => Ok(Vec::new(alloc)),
     }
 }
@@ -68,17 +73,17 @@ fn failed_for(
     }
 }
 
-/// What was built without a file, where parts may come behind, and what failed.
+/// What was built without a file, where more may be made behind it, and what failed.
 fn tried_for(
     alloc: Global,
-    is_part: bool,
+    is_followed: bool,
     graph: &Graph,
     found: &Result<Report, RunFault>,
 ) -> Result<(Vec<Made>, ByteStrings), AllocError>
     ensures built { IfOk result (λ t. IfOk found.now (λ r. All (λ m. IsBuiltWithoutFile graph.now r.ends.items m.name) t.0.items)) }
     ensures failed { IfOk result (λ t. IfOk found.now (λ r. AreFailed graph.now r.ends.items t.1)) }
 {
-    let made = made_for(alloc, is_part, graph, found)?;
+    let made = made_for(alloc, is_followed, graph, found)?;
     let failed = failed_for(alloc, graph, found)?;
     Ok((made, failed))
 }
@@ -95,7 +100,8 @@ pub(crate) fn came_to(
     ensures begun { IfErr result.0 (λ stop. IsParted stop → ⊥) }
 {
     let standing = standing_in(alloc, graph, &found);
-    match tried_for(alloc, is_part, graph, &found) {
+    let is_followed = is_part || may_be_lost(graph, &standing);
+    match tried_for(alloc, is_followed, graph, &found) {
         Ok((made, failed)) => {
             let left = Left {
                 standing,

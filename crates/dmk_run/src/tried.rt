@@ -1,9 +1,10 @@
 //! Names that parts of a run tried, for which none behind them runs a recipe again.
-ghost use Rattle.std.specs.Prelude.{◌≡◌, ◌↔◌, ◌++◌, [], IsTrue, IfOk, OnOk};
+ghost use Rattle.std.specs.Prelude.{◌≡◌, ◌↔◌, ◌++◌, [], Ok, IsTrue, IfOk, OnOk};
 ghost use Rattle.dmk_run.specs.Behind.{none_tried};
 ghost use Rattle.dmk_run.specs.Made.{AddsSome};
 
 use crate::made::{Made, add_without_file};
+use crate::stop::Stop;
 use byte_strings::ByteStrings;
 use mk_rules::Tree;
 use std::alloc::{AllocError, Global};
@@ -37,17 +38,6 @@ impl Tried {
         }
     }
 
-    /// What failed, where what was built isn't known.
-    pub(crate) fn of_failed(alloc: Global, failed: ByteStrings) -> Tried
-        ensures built { result.built ≡ [] }
-        ensures failed { result.failed ≡ failed }
-    {
-        Tried {
-            built: ByteStrings::empty(alloc),
-            failed,
-        }
-    }
-
     pub(crate) fn is_nothing(&self) -> bool
         ensures { IsTrue result ↔ (self.now ≡ none_tried) }
     {
@@ -63,7 +53,7 @@ impl Tried {
     }
 
     /// Adds what a part built and what still has no file, by new looks, and what failed in it.
-    pub(crate) fn add<T: Tree>(
+    fn add<T: Tree>(
         &mut self,
         alloc: Global,
         tree: &mut T,
@@ -75,5 +65,27 @@ impl Tried {
     {
         add_without_file(alloc, tree, made, &mut self.built)?;
         add_all(&mut self.failed, failed)
+    }
+
+    /// So, behind a part that came to this; or there is no memory for that.
+    pub(crate) fn add_behind<T: Tree>(
+        &mut self,
+        alloc: Global,
+        tree: &mut T,
+        made: &[Made],
+        failed: &ByteStrings,
+        found: Result<u8, Stop>,
+    ) -> Result<u8, Stop>
+        ensures found { IfOk result (λ s. found ≡ Ok s) }
+        ensures built { AddsSome made.now self.old.built self.new.built }
+        ensures failed { IfOk result (λ s. self.new.failed ≡ self.old.failed ++ failed.now) }
+    {
+        match self.add(alloc, tree, made, failed) {
+            Ok(()) => found,
+            Err(error) => {
+                drop(found);
+                Err(Stop::from(error))
+            }
+        }
     }
 }
