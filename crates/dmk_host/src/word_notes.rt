@@ -53,8 +53,9 @@ fn are_defining(profile: Profile, words: &[Variable], name: &[u8]) -> bool {
 pub fn print_word_notes(host: HostRuntime, options: &Options, first: usize) {
     let profile = options.profile;
     let mut err = with_patience(host, host.stderr());
-    let mut words = options.definitions.get(first..).unwrap_or(&[]);
-    while let Some((variable, behind)) = words.split_first() {
+    let words = options.definitions.as_slice();
+    for (place, variable) in words.iter().enumerate().skip(first) {
+        let behind = words.get(place.saturating_add(1)..).unwrap_or(&[]);
         let name = defined_by(profile, variable);
         if !profile.is_wide() && by_sign(variable).is_some() {
             let name = &variable.name;
@@ -65,6 +66,5 @@ pub fn print_word_notes(host: HostRuntime, options: &Options, first: usize) {
         } else if is_macro_elsewhere(profile, name) && !are_defining(profile, behind, name) {
             print_meaningless(host.alloc(), &mut err, name);
         }
-        words = behind;
     }
 }
