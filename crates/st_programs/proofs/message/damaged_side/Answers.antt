@@ -2,7 +2,7 @@ use Rattle.std.proofs.Common.{◌≡◌, ◌∙◌, sym, subst}
 use Rattle.st_file.specs.Side.{IsRefused}
 use Rattle.st_listing.specs.Writing.{IsOfSide}
 use Rattle.st_listing.specs.declared.listing.ListFault.TheVariants as faults
-use Rattle.dmk_state.proofs.output.damaged_side.Goals as goal
+use Rattle.st_programs.proofs.message.damaged_side.Goals as goal
 
 pub returns-in-Open-clause-only : goal.returns-in-Open-clause-only
 returns-in-Open-clause-only c = λ side is. c.damaged_side.ensures.only side (subst (IsOfSide side) c.in-Open.is is)
