@@ -1,0 +1,8 @@
+-- what stands in a line of an answer
+pub mod Lines
+-- the targets of a state, and what is told of one
+pub mod Answers
+-- what was made of a name
+pub mod Users
+-- commands with the sources that they name
+pub mod Compilations
