@@ -7,7 +7,7 @@ set -eu -o pipefail
 cd "$(dirname "$0")/.."
 command -v rt >/dev/null || { echo "build.sh: there is no rt here: the toolchain builds the programs" >&2; exit 1; }
 mkdir -p bin
-programs=(dmk_state dmk)
+programs=(dmk_state dmk_tool dmk)
 mapfile -t crates < <(python3 scripts/build_progress.py --crates "${programs[@]}")
 # A lane for each processor, as long as each has 5 GB: scripts/test.sh says why.
 lanes=${RT_JOBS:-$(awk -v most="$(nproc)" '

@@ -54,13 +54,14 @@ fi
 # placed: for each file its place below the prefix, its mode and what it is made of.
 placed() {
     local name
-    for name in dmk dmk_state; do
+    for name in dmk dmk_state dmk_tool; do
         echo "bin/$name 755 $programs/$name"
     done
     for name in man/*.[1-9]; do
         echo "share/man/man${name##*.}/${name#man/} 644 $name"
     done
     echo "share/bash-completion/completions/dmk 644 completions/dmk.bash"
+    echo "share/bash-completion/completions/dmk_tool 644 completions/dmk_tool.bash"
     echo "share/zsh/site-functions/_dmk 644 completions/_dmk"
     # What git doesn't know, as what an example has made, is no document. A tarball has no git, and all of it counts.
     local -a parts=(README.md CHANGELOG.md CONTRIBUTING.md docs examples crates/*/GUARANTEES.md cases/*/README.md)
@@ -68,7 +69,7 @@ placed() {
         sed 's|.*|share/doc/dmk/& 644 &|'
 }
 
-for name in dmk dmk_state; do
+for name in dmk dmk_state dmk_tool; do
     [ -x "$programs/$name" ] || die "no program $programs/$name: scripts/build.sh builds it"
 done
 [ ! -f "$root$list" ] || take_out
@@ -93,7 +94,7 @@ for file in "${files[@]}"; do
     install -D -m "$mode" -- "$source" "$root$prefix/$place"
 done
 if command -v strip >/dev/null; then
-    strip "$root$prefix/bin/dmk" "$root$prefix/bin/dmk_state"
+    strip "$root$prefix"/bin/{dmk,dmk_state,dmk_tool}
 else
     echo "install.sh: there is no strip here: the programs are as they were built" >&2
 fi

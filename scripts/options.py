@@ -131,7 +131,7 @@ def words_of_messages(texts):
     words = set()
     for text in texts:
         for part in re.split(r"\{[^}]*\}|\\n|\\u\{.*", text):
-            part = re.sub(r"^dmk(?:_state)?: ", "", part).strip(" :")
+            part = re.sub(r"^dmk(?:_state|_tool)?: ", "", part).strip(" :")
             if re.search(r"[a-z]{2}", part) and part != "dmk":
                 words.add(part)
     return words

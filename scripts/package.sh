@@ -16,12 +16,14 @@ cd "$(dirname "$0")/.."
 for tool in dpkg-deb objdump strip gzip tar; do
     command -v $tool >/dev/null || die "there is no $tool here"
 done
-for name in dmk dmk_state; do
+for name in dmk dmk_state dmk_tool; do
     [ -x "$programs/$name" ] || die "no program $programs/$name: scripts/build.sh builds it"
 done
 version=$("$programs/dmk" --version)
 version=${version#dmk }
-[ "$("$programs/dmk_state" --version)" = "dmk_state $version" ] || die "dmk is $version, and dmk_state isn't"
+for name in dmk_state dmk_tool; do
+    [ "$("$programs/$name" --version)" = "$name $version" ] || die "dmk is $version, and $name isn't"
+done
 released=$(sed -n "s/^## $version, //p" CHANGELOG.md)
 [ "$(grep -m 1 '^## ' CHANGELOG.md)" = "## $version, $released" ] || die "dmk is $version, and CHANGELOG's newest version isn't"
 maintainer="$(git config user.name) <$(git config user.email)>" || die "git has no user.name and user.email for the maintainer"
@@ -30,8 +32,8 @@ export SOURCE_DATE_EPOCH
 SOURCE_DATE_EPOCH=$(date -d "$released" +%s)
 
 # What the programs want of the system is the C library: of which version, the newest symbol says.
-needed=$(objdump -p "$programs/dmk" "$programs/dmk_state" | awk '$1 == "NEEDED" { print $2 }' | sort -u)
-newest=$(objdump -T "$programs/dmk" "$programs/dmk_state" 2>/dev/null | grep -o 'GLIBC_[0-9.]*' | sort -V | tail -n 1 || true)
+needed=$(objdump -p "$programs"/{dmk,dmk_state,dmk_tool} | awk '$1 == "NEEDED" { print $2 }' | sort -u)
+newest=$(objdump -T "$programs"/{dmk,dmk_state,dmk_tool} 2>/dev/null | grep -o 'GLIBC_[0-9.]*' | sort -V | tail -n 1 || true)
 case $needed in
     '') depends='' linked="static programs" ;;
     libc.so.6) depends="Depends: libc6 (>= ${newest#GLIBC_})" linked="programs that want glibc ${newest#GLIBC_} or later" ;;
@@ -83,7 +85,7 @@ ${depends:+$depends
  made again where its recipe has changed, and where a run was killed or the
  power was cut in the midst of it, whatever the times of files say.
  .
- dmk_state lists what a state file remembers.
+ dmk_state lists what a state file remembers, and dmk_tool answers questions to it.
 END
 (cd "$root" && find usr -type f -print0 | sort -z | xargs -0 md5sum) >"$root/DEBIAN/md5sums"
 package=$to/dmk_${version}_$architecture.deb

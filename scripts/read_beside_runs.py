@@ -1,6 +1,6 @@
-"""Reads a state beside runs that write it: `dmk -n` and `dmk_state` in turn, while dmk makes 1,000 targets over a state that grows
-until it is compacted. Each answer must be that of a state that was: no fault and no note, and each target that was done at an earlier
-answer of the same build still done.
+"""Reads a state beside runs that write it: `dmk -n`, `dmk_state` and `dmk_tool targets` in turn, while dmk makes 1,000 targets over
+a state that grows until it is compacted. Each answer must be that of a state that was: no fault and no note, and each target that
+was done at an earlier answer of the same build still done.
 
 The last line is 'N passed, M failed', of answers. Usage: read_beside_runs.py [ANSWERS]
 """
@@ -13,6 +13,7 @@ import tempfile
 ROOT = pathlib.Path(__file__).resolve().parent.parent
 DMK = ROOT / "crates/dmk/out/dmk"
 LISTER = ROOT / "crates/dmk_state/out/dmk_state"
+TOOL = ROOT / "crates/dmk_tool/out/dmk_tool"
 COUNT = 1000
 
 
@@ -42,6 +43,16 @@ def done_by_listing(answer):
     if any(len(name) != 2 or name[0] not in ("begun", "done") for name in names):
         return None
     return {name for phase, name in names if phase == "done"}
+
+
+def done_by_answer(answer):
+    """The targets that `dmk_tool targets` says are done; None where the answer is none of a state."""
+    if answer.returncode != 0 or answer.stderr:
+        return None
+    rows = [line.split("\t") for line in answer.stdout.splitlines()]
+    if any(len(row) != 2 or row[0] not in ("begun", "done") for row in rows):
+        return None
+    return {name for phase, name in rows if phase == "done"}
 
 
 def done_by_plan(answer):
@@ -77,7 +88,8 @@ def sides(folder):
 
 def main():
     answers = int(sys.argv[1]) if len(sys.argv) > 1 else 200
-    readers = [((str(DMK), "-n"), done_by_plan), ((str(LISTER),), done_by_listing)]
+    readers = [((str(DMK), "-n"), done_by_plan), ((str(LISTER),), done_by_listing),
+               ((str(TOOL), "targets"), done_by_answer)]
     right, wrong, compactions = 0, [], 0
     with tempfile.TemporaryDirectory() as work:
         rounds = 0

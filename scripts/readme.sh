@@ -3,7 +3,7 @@
 # links of all documents lead somewhere, whether a line of README.md is too long, and whether each figure has its date and its
 # command.
 #
-#   scripts/readme.sh [FOLDER]    FOLDER: where dmk and dmk_state are, in place of crates/*/out
+#   scripts/readme.sh [FOLDER]    FOLDER: where dmk, dmk_state and dmk_tool are, in place of crates/*/out
 #
 # What is run: a fenced block ```console, or an indented one that begins with '$ '. A line '$ COMMAND' is a command, with the
 # lines that a here-document or a backslash at its end asks for ('> ' in front is taken off); behind it stands what it prints, on
@@ -31,7 +31,7 @@ export LC_ALL=C.UTF-8 HOME=$work/home TERM=dumb
 unset MAKEFLAGS MAKELEVEL MFLAGS KEEP_STATE SUNPRO_DEPENDENCIES DMK_HOLDS DMK_PROFILE DESTDIR CFLAGS CC CMAKE_GENERATOR
 mkdir -p "$work/home" "$work/copy/bin"
 tar -c --exclude=./.git --exclude=./crates --exclude=./bin . | tar -x -C "$work/copy" || exit 2
-for program in dmk dmk_state; do
+for program in dmk dmk_state dmk_tool; do
     built=$(realpath -e -- "${1:-crates/$program/out}/$program") ||
         { printf 'not built: %s\n0 passed, 1 failed\n' "$program"; exit 1; }
     ln -s "$built" "$work/copy/bin/$program"

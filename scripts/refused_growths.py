@@ -19,6 +19,7 @@ from state_file import batch, begun, done, failed, header
 ROOT = pathlib.Path(__file__).resolve().parent.parent
 DMK = ROOT / "crates/dmk/out/dmk"
 LISTER = ROOT / "crates/dmk_state/out/dmk_state"
+TOOL = ROOT / "crates/dmk_tool/out/dmk_tool"
 SECONDS = 20
 # So many runs of each program have to end for want of memory: with fewer, the library refuses nothing.
 LEAST = 50
@@ -120,7 +121,7 @@ def build_refused(library, folder, way, number, state, words):
 
 def listing_refused(library, folder, way, number, state, words):
     make_tree(folder, state)
-    status, said, was_refused = with_refusals(library, [LISTER, *words], folder, way, number)
+    status, said, was_refused = with_refusals(library, words, folder, way, number)
     faults = list(faults_of_end(status, said, (0, 2)))
     if (folder / ".make.state").read_bytes() != state:
         faults.append("the state was changed")
@@ -131,7 +132,9 @@ SWEEPS = [
     ("dmk", "a build of one worker, no state", build_refused, b"", ["-s", "-j", "1"]),
     ("dmk", "a build of two, an old state", build_refused, OLD_STATE, ["-k", "-j", "2"]),
     ("dmk", "a listing", build_refused, STATE, ["-n"]),
-    ("dmk_state", "a listing", listing_refused, STATE, []),
+    ("dmk_state", "a listing", listing_refused, STATE, [LISTER]),
+    ("dmk_tool", "a query", listing_refused, STATE, [TOOL, "query", "t1.h"]),
+    ("dmk_tool", "a database", listing_refused, STATE, [TOOL, "compdb"]),
 ]
 
 
@@ -159,7 +162,7 @@ class Tally:
             print(f"FAILED {program}, {title}, {way}={number}: {'; '.join(faults)}\n{said[:500]}", flush=True)
 
     def close(self):
-        for program in ("dmk", "dmk_state"):
+        for program in ("dmk", "dmk_state", "dmk_tool"):
             print(f"{program}: {self.runs[program]} runs, {self.wanted[program]} ended for want of memory")
             if self.wanted[program] < LEAST:
                 print(f"FAILED {program}: at least {LEAST} have to end so")

@@ -1,0 +1,2 @@
+#include "a.h"
+int a(void){return A;}

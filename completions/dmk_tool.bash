@@ -1,0 +1,21 @@
+# Completion of dmk_tool's words for bash: source it, or put it where bash-completion looks for dmk_tool.
+_dmk_tool() {
+    local word=${COMP_WORDS[COMP_CWORD]} before=${COMP_WORDS[COMP_CWORD - 1]} at state=.make.state question=
+    COMPREPLY=()
+    for ((at = 1; at < COMP_CWORD; at++)); do
+        case ${COMP_WORDS[at]} in
+            --state) state=${COMP_WORDS[++at]} ;;
+            -*) ;;
+            *) question=${question:-${COMP_WORDS[at]}} ;;
+        esac
+    done
+    case $before,$word,$question in
+        --state,*) mapfile -t COMPREPLY < <(compgen -f -- "$word") ;;
+        *,-*,compdb) mapfile -t COMPREPLY < <(compgen -W '--all --state --help' -- "$word") ;;
+        *,-*,*) mapfile -t COMPREPLY < <(compgen -W '--state --help --version' -- "$word") ;;
+        *,) mapfile -t COMPREPLY < <(compgen -W 'targets commands hidden query compdb help' -- "$word") ;;
+        *,commands | *,hidden | *,query)
+            mapfile -t COMPREPLY < <(dmk_tool targets --state "$state" 2>/dev/null | cut -f 2- | grep "^$word") ;;
+    esac
+}
+complete -F _dmk_tool dmk_tool

@@ -1,0 +1,138 @@
+//! The answer to a question: a text on standard output, and a status.
+
+ghost use Rattle.std.specs.Prelude.{◌≡◌, ◌⊎◌};
+
+use crate::json::database;
+use crate::request::{Asked, Question, Topic};
+use crate::streams::{tell, tell_of};
+use st_answers::{commands, compilations, hidden, query, targets};
+use st_disk::FailedCallMessage;
+use st_file::OpenFault;
+use st_listing::ListFault;
+use st_programs::{Message, Refusal, read_state, standard_output};
+use st_records::HashKey;
+use st_state::State;
+use std::alloc::AllocError;
+use std::env;
+use std::io::Write;
+
+/// Why there is no answer, or not a whole one.
+#[derive(Clone, Copy)]
+pub enum Fault {
+    OutOfMemory,
+    /// The working folder has no name, or one that isn't UTF-8.
+    NoFolder,
+    Write,
+}
+
+impl From<AllocError> for Fault {
+    fn from(_fault: AllocError) -> Fault {
+        Fault::OutOfMemory
+    }
+}
+
+/// Answers a question: 0, 1 where the state has not all the names that were asked for, and 2 at a fault, which is told. Nothing is
+/// written before the state's files are closed: where standard output is closed, the first file that is opened stands in its place.
+pub fn answer(rt: HostRuntime, asked: &Asked) -> u8
+    ensures status { (result ≡ 0) ⊎ ((result ≡ 1) ⊎ (result ≡ 2)) }
+{
+    let file = asked.file.as_str();
+    let state = match read_state(rt, HashKey::from_system(&rt), file) {
+        Ok(state) => state,
+        Err(refusal) => return refuse(rt, file, refusal),
+    };
+    match write_answer(rt, &state, &asked.question) {
+        Ok(true) => 0,
+        Ok(false) => 1,
+        Err(fault) => tell_fault(rt, file, fault),
+    }
+}
+
+fn refuse(rt: HostRuntime, file: &str, refusal: Refusal) -> u8
+    ensures { result ≡ 2 }
+{
+    let Refusal { fault, failed } = refusal;
+    tell_list_fault(rt, file, ListFault::Open(fault));
+    if let Some(failed) = failed {
+        let message = FailedCallMessage {
+            state: file,
+            failed,
+        };
+        tell(rt, "note: ", &message);
+    }
+    2
+}
+
+fn tell_fault(rt: HostRuntime, file: &str, fault: Fault) -> u8
+    ensures { result ≡ 2 }
+{
+    match fault {
+        Fault::OutOfMemory => tell_list_fault(rt, file, ListFault::Open(OpenFault::OutOfMemory)),
+        Fault::Write => tell_list_fault(rt, file, ListFault::Write),
+        Fault::NoFolder => tell(rt, "", &"the working folder has no name that is UTF-8"),
+    }
+    2
+}
+
+fn tell_list_fault(rt: HostRuntime, file: &str, fault: ListFault) {
+    let message = Message { file, fault };
+    tell(rt, "", &message);
+}
+
+/// Writes the answer, and tells whether the state has all the names.
+fn write_answer(rt: HostRuntime, state: &State, question: &Question) -> Result<bool, Fault> {
+    let alloc = rt.alloc();
+    let (text, found) = match question {
+        Question::Targets => (targets(alloc, state)?, true),
+        Question::Names(topic, names) => of_names(rt, state, *topic, names.as_slice())?,
+        Question::Database { all } => (database_of(rt, state, *all)?, true),
+    };
+    let mut out = standard_output(rt);
+    if out.write_all(text.as_slice()).is_err() || out.flush().is_err() {
+        return Err(Fault::Write);
+    }
+    Ok(found)
+}
+
+/// What the state has of the names, and whether it has all of them. One that it doesn't have is told.
+fn of_names(
+    rt: HostRuntime,
+    state: &State,
+    topic: Topic,
+    names: &[Vec<u8>],
+) -> Result<(Vec<u8>, bool), Fault> {
+    let listed = state.in_byte_order(rt.alloc())?;
+    let mut text = Vec::new(rt.alloc());
+    let mut all = true;
+    for name in names {
+        let name = name.as_slice();
+        let known = match topic {
+            Topic::Commands => commands(state, name, &mut text)?,
+            Topic::Hidden => hidden(state, name, &mut text)?,
+            Topic::Everything => query(state, &listed, name, &mut text)?,
+        };
+        if !known {
+            tell_of(rt, "", name, "not in the state");
+            all = false;
+        }
+    }
+    Ok((text, all))
+}
+
+fn database_of(rt: HostRuntime, state: &State, all: bool) -> Result<Vec<u8>, Fault> {
+    let Ok(folder) = env::current_dir(&rt) else {
+        return Err(Fault::NoFolder);
+    };
+    let listed = state.in_byte_order(rt.alloc())?;
+    let found = compilations(rt.alloc(), &listed, all)?;
+    let (text, left) = database(rt.alloc(), folder.as_str(), found.as_slice())?;
+    for output in left {
+        tell_of(
+            rt,
+            "note: ",
+            output,
+            "left out, for what it is made by isn't UTF-8",
+        );
+    }
+    Ok(text)
+}

@@ -1,0 +1,128 @@
+//! The words, as clap reads them.
+
+use crate::request::{Asked, Question, Request, Topic, WordsFault};
+use crate::words::{Words, is_text};
+use clap::error::ErrorKind;
+use clap::{Arg, ArgAction, ArgMatches, Command};
+use std::alloc::{AllocError, Global};
+
+const DEFAULT_FILE: &str = ".make.state";
+
+const AFTER: &str = "\
+Status: 0 it is answered; 1 a name isn't in the state; 2 a fault, told on
+standard error.";
+
+/// Reads the words, and prints the help, the version or what is wrong with them.
+pub fn read_request(rt: HostRuntime) -> Result<Request, WordsFault> {
+    let words = Words::read(rt)?;
+    match matches_of(rt.alloc(), words.texts.as_slice()) {
+        Ok(found) => asked(rt.alloc(), &words, &found),
+        Err(answer) => say(rt, &words, answer),
+    }
+}
+
+// Prints what clap answers in place of matches. That a mistake can't be printed changes nothing.
+fn say(rt: HostRuntime, words: &Words, answer: clap::Error) -> Result<Request, WordsFault> {
+    if answer.kind() == ErrorKind::OutOfMemory {
+        return Err(WordsFault::OutOfMemory);
+    }
+    if !words.texts.iter().all(|word| is_text(word.as_str())) {
+        return Err(WordsFault::NotText);
+    }
+    let printed = answer.print(&rt);
+    if answer.use_stderr() {
+        return Ok(Request::Leave(2));
+    }
+    match printed {
+        Ok(()) => Ok(Request::Leave(0)),
+        Err(_) => Err(WordsFault::Write),
+    }
+}
+
+fn matches_of<'a>(alloc: Global, words: &'a [String]) -> Result<ArgMatches<'a>, clap::Error> {
+    let state = Arg::new(alloc, "state")
+        .long("state")
+        .value_name("FILE")
+        .help("The state file; its other side is FILE.2. A file that isn't there is an empty side")
+        .action(ArgAction::Set)
+        .global(true)
+        .default_value(DEFAULT_FILE);
+    let all = Arg::new(alloc, "all")
+        .long("all")
+        .help("Commands that name no source too")
+        .action(ArgAction::SetTrue);
+    let compdb = Command::new(alloc, "compdb")
+        .about("Prints compile_commands.json: the commands that name a source")
+        .arg(all)?;
+    let targets = Command::new(alloc, "targets").about(
+        "Prints the names of the targets, and whether each is done",
+    );
+    Command::new(alloc, "dmk_tool")
+        .bin_name("dmk_tool")?
+        .version("0.2.0")
+        .about("Answers questions to the state that dmk keeps of its targets")
+        .after_help(AFTER)
+        .subcommand_required(true)
+        .arg(state)?
+        .subcommand(targets)?
+        .subcommand(of_names(alloc, "commands", "Prints the recorded commands of targets")?)?
+        .subcommand(of_names(
+            alloc,
+            "hidden",
+            "Prints what commands read beside what the makefile names",
+        )?)?
+        .subcommand(of_names(
+            alloc,
+            "query",
+            "Prints what names were made of, and what was made of them",
+        )?)?
+        .subcommand(compdb)?
+        .try_get_matches_from(words)
+}
+
+fn of_names<'a>(alloc: Global, name: &'a str, about: &'a str) -> Result<Command<'a>, AllocError> {
+    let names = Arg::new(alloc, "TARGET")
+        .required(true)
+        .num_args(1..)
+        .action(ArgAction::Append);
+    Command::new(alloc, name).about(about).arg(names)
+}
+
+fn asked(alloc: Global, words: &Words, found: &ArgMatches<'_>) -> Result<Request, WordsFault> {
+    let Some((name, found)) = found.subcommand() else {
+        return Ok(Request::Leave(2));
+    };
+    let file = found.get_str("state").unwrap_or(DEFAULT_FILE);
+    if !is_text(file) {
+        return Err(WordsFault::NotText);
+    }
+    let question = question_of(alloc, words, name, found)?;
+    let file = String::from_str(alloc, file)?;
+    Ok(Request::Ask(Asked { file, question }))
+}
+
+fn question_of(
+    alloc: Global,
+    words: &Words,
+    name: &str,
+    found: &ArgMatches<'_>,
+) -> Result<Question, WordsFault> {
+    let topic = match name {
+        "targets" => return Ok(Question::Targets),
+        "commands" => Topic::Commands,
+        "hidden" => Topic::Hidden,
+        "query" => Topic::Everything,
+        _ => {
+            return Ok(Question::Database {
+                all: found.get_flag("all"),
+            });
+        }
+    };
+    let mut names = Vec::new(alloc);
+    if let Some(texts) = found.get_strs("TARGET") {
+        for text in texts {
+            names.push(Vec::from_slice(alloc, words.named(*text))?)?;
+        }
+    }
+    Ok(Question::Names(topic, names))
+}

@@ -1,0 +1,26 @@
+//! Answers questions to the state that dmk keeps of its targets.
+#![tactic(auto)]
+
+mod answers;
+mod command_line;
+mod json;
+mod request;
+mod streams;
+mod words;
+
+use answers::answer;
+use command_line::read_request;
+use request::Request;
+use std::process::ExitCode;
+use streams::tell;
+
+fn main(rt: HostRuntime) -> ExitCode {
+    match read_request(rt) {
+        Ok(Request::Ask(asked)) => ExitCode::from(answer(rt, &asked)),
+        Ok(Request::Leave(status)) => ExitCode::from(status),
+        Err(fault) => {
+            tell(rt, "", &fault);
+            ExitCode::from(2)
+        }
+    }
+}

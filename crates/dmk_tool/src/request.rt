@@ -1,0 +1,63 @@
+//! What the words ask for.
+
+use std::alloc::{AllocError, AllocFailed};
+use thiserror::Error;
+
+/// What is asked of a state.
+#[derive(Drop)]
+pub enum Question {
+    /// Which targets it has.
+    Targets,
+    /// What it has of each of these names.
+    Names(Topic, Vec<Vec<u8>>),
+    /// A compilation database, with each command where `all` are wanted.
+    Database { all: bool },
+}
+
+/// What is asked of a name.
+#[derive(Clone, Copy, PartialEq, Eq)]
+pub enum Topic {
+    Commands,
+    Hidden,
+    /// All that is known of it.
+    Everything,
+}
+
+/// A question, and the file whose state is asked.
+#[derive(Drop)]
+pub struct Asked {
+    pub file: String,
+    pub question: Question,
+}
+
+#[derive(Drop)]
+pub enum Request {
+    Ask(Asked),
+    /// Nothing more: what there was to say was said. The program ends with this status.
+    Leave(u8),
+}
+
+/// Why the words aren't followed, where nothing was said of it yet.
+#[derive(Clone, Copy, Debug, PartialEq, Eq, Error)]
+pub enum WordsFault {
+    #[error("out of memory")]
+    OutOfMemory,
+    /// One that isn't the name of a target.
+    #[error("a word of the command line isn't UTF-8")]
+    NotText,
+    /// The help or the version was asked for and couldn't be printed.
+    #[error("cannot write")]
+    Write,
+}
+
+impl From<AllocError> for WordsFault {
+    fn from(_fault: AllocError) -> WordsFault {
+        WordsFault::OutOfMemory
+    }
+}
+
+impl<T: Drop> From<AllocFailed<T>> for WordsFault {
+    fn from(_fault: AllocFailed<T>) -> WordsFault {
+        WordsFault::OutOfMemory
+    }
+}
