@@ -2,12 +2,13 @@
 use Rattle.std.proofs.Common.{◌≡◌, ℕ, ◌+◌, Bool, List, ◌++◌, Result, Ok, Err, IfErr, OnOk, sym, subst}
 use Rattle.st_disk.specs.declared.which.Which.{Which}
 use Rattle.st_disk.specs.Crash.{other}
+use Rattle.st_records.specs.declared.version.Form.{Form}
 use Rattle.st_records.specs.declared.version.Version.{Version}
 use Rattle.st_records.specs.declared.version.Version.TheVariants as versions
 use Rattle.st_records.specs.declared.record.Record.{Record}
 use Rattle.st_state.specs.State.{StateMap}
 use Rattle.st_state.specs.Keepable.{kept_records}
-use Rattle.st_file.specs.Side.{HoldsUpTo}
+use Rattle.st_file.specs.Side.{HoldsUpTo, HoldsUpToIn}
 use Rattle.st_compaction.specs.Compacted.{HasChangedSides}
 use Rattle.bd_flusher.specs.Site.{Facts, facts}
 use Rattle.bd_flusher.specs.Tidying.{IsCompacted}
@@ -45,5 +46,5 @@ then_behind x y {side} {side'} {v} {v'} {g} {g'} end later batch sides vs gs by 
     (subst (λ (n : ℕ). (held : List Record) → HoldsUpTo (x side) v n held end → HoldsUpTo (y side) v n (held ++ batch) later) gs by))
 
 -- the same bytes, up to the same place
-pub up_to : {x : List ℕ} {v : Version} {g end end' : ℕ} {held : List Record} → end ≡ end' → HoldsUpTo x v g held end' → HoldsUpTo x v g held end
-up_to {x} {v} {g} {end} {end'} {held} ends holds = subst (λ (n : ℕ). HoldsUpTo x v g held n) (sym ends) holds
+pub up_to : {x : List ℕ} {form : Form} {g end end' : ℕ} {held : List Record} → end ≡ end' → HoldsUpToIn x form g held end' → HoldsUpToIn x form g held end
+up_to {x} {form} {g} {end} {end'} {held} ends holds = subst (λ (n : ℕ). HoldsUpToIn x form g held n) (sym ends) holds
