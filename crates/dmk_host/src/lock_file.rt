@@ -4,12 +4,15 @@
 use crate::run_name::own_name;
 use jb_host::folder_of;
 use std::alloc::AllocError;
-use std::fs::{self, File, Metadata, OpenOptions, TryLockError};
+use std::fs::{self, File, Metadata, OpenOptions, Permissions, TryLockError};
 use std::io::{self, ErrorKind};
-use std::os::unix::fs::{MetadataExt, OpenOptionsExt};
+use std::os::unix::fs::{MetadataExt, OpenOptionsExt, PermissionsExt};
 
 /// Others neither read such a file nor lock it.
 const OWN_MODE: u32 = 0o600;
+
+/// The bits of a file's mode by which others may do anything with it.
+const OTHERS: u32 = 0o077;
 
 /// The bits of a folder's mode by which its group or all users may write it.
 const OTHERS_WRITE: u32 = 0o022;
@@ -85,6 +88,14 @@ fn check(rt: HostRuntime, path: &str, found: &Metadata) -> io::Result<()> {
     Ok(())
 }
 
+/// Takes from others what an earlier version gave them: who may read the file can lock it, and hold runs up. Where the system doesn't let
+/// this user do so, it is locked as it is.
+fn keep_to_owner(file: &File, opened: &Metadata) {
+    if opened.uid() == libc::geteuid() && opened.mode() & OTHERS != 0 {
+        let _ = file.set_permissions(Permissions::from_mode(OWN_MODE));
+    }
+}
+
 impl LockFile {
     // None where what was found at the path isn't what was opened there.
     fn open_found(
@@ -103,6 +114,7 @@ impl LockFile {
         if device != found.dev() || number != found.ino() {
             return Ok(None);
         }
+        keep_to_owner(&file, &opened);
         Ok(Some(LockFile {
             file,
             device,
