@@ -1,4 +1,4 @@
--- What makes below are told in the wide profile (POSIX make, MAKEFLAGS): the options as one word with its hyphen, the words of job slots, and
+-- What makes below are told in the wide profile (POSIX make, MAKEFLAGS): a word of letters with its hyphen, long options, the words of job slots, and
 -- behind `--` the definitions. That form is read alike by GNU make and by BSD make. The profile is told by a variable of its own, since
 -- BSD make ends at an option that it doesn't know. Own.
 use Rattle.std.specs.Prelude.{ℕ, Bool, not, ◌||◌, List, [], ◌∷◌, ◌++◌, Option, Some, None, codes, filter, find}

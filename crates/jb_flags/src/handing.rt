@@ -18,7 +18,7 @@ const MAKEFLAGS: &[u8] = b"MAKEFLAGS";
 /// What is handed on.
 #[derive(Drop)]
 pub struct Handed {
-    /// The options as one word, or nothing.
+    /// The words of options, that of letters first, or nothing.
     pub options: Vec<u8>,
     /// The words of job slots where a recipe shares those of a make above.
     pub slots: Vec<u8>,
