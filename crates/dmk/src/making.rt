@@ -8,8 +8,9 @@ use bd_flusher::Receipt;
 use bd_lists::{Exec, Variable};
 use dmk_files::{FileTexts, FileTree};
 use dmk_host::{
-    HostFiles, Patient, PoolPath, base_asked, beside_recipes, buffered, needs_usual_makefile,
-    print_gnu_makefile, print_notes, print_reasons, reports_path, status_columns, with_patience,
+    HostFiles, Patient, PoolPath, TrustedPlace, base_asked, beside_recipes, buffered,
+    needs_usual_makefile, print_gnu_makefile, print_notes, print_reasons, reports_path,
+    status_columns, with_patience,
 };
 use dmk_reading::{Options, value_of};
 use dmk_run::{Guard, Looks, Means, Printer, build_targets, followed, trust_files};
@@ -96,16 +97,16 @@ fn outfit_of<'a, R: Wait>(
     })
 }
 
-/// Takes targets as they are where that is asked for, makes the targets, and answers the status. The state's disk comes back.
+/// Takes targets as they are where their files are trusted, makes the targets, and answers the status. The state's disk comes back.
 ///
 /// The parts of this machine are of any types here: made concrete once, at the call.
-fn make_over<R, T, L, I, E, O, W, P, G, K, D>(
+fn make_over<R, T, L, I, E, O, W, P, Q, G, K, D>(
     rt: &R,
     alloc: Global,
     means: &Means<'_, E, Printer<'_, R, O, W>, P>,
     guard: &mut G,
     options: Options,
-    trusts_files: bool,
+    trusted: Option<&Q>,
     looks: &L,
     makefiles: &mut I,
     banks: &mut K,
@@ -120,6 +121,7 @@ where
     O: Write + Drop + Send,
     W: Write + Drop + Send,
     P: Place + Sync,
+    Q: Place,
     G: Guard,
     K: Banks,
     K::End: Drop + Send,
@@ -127,7 +129,7 @@ where
     requires { AsksToRun options (value_in means.now.environment.now (codes "MAKEFLAGS")) }
 {
     let mut disk = disk;
-    if trusts_files {
+    if let Some(place) = trusted {
         let mut tree = looks.anew();
         let (found, same) = trust_files(
             alloc,
@@ -137,7 +139,7 @@ where
             guard,
             &options,
             &mut tree,
-            means.place,
+            place,
             makefiles,
             disk,
         );
@@ -194,6 +196,10 @@ fn make_with<'a, R: Threads + Wait + Sync>(
         exec: &shell,
     };
     let place = HostPlace::new(rt, host, stops);
+    let trusted = TrustedPlace {
+        host,
+        place: &place,
+    };
     let means = Means {
         key: HashKey::from_system(&host),
         environment,
@@ -212,7 +218,7 @@ fn make_with<'a, R: Threads + Wait + Sync>(
         &means,
         &mut guard,
         options,
-        trusts_files,
+        trusts_files.then_some(&trusted),
         &looks,
         makefiles,
         &mut banks,

@@ -19,6 +19,7 @@ mod sign;
 mod signs;
 mod standard_streams;
 mod terminal;
+mod trusted_place;
 mod unfilled;
 mod word_notes;
 
@@ -38,4 +39,5 @@ pub use run_name::{is_open_above, is_over};
 pub use signs::{SignFault, with_signs};
 pub use standard_streams::{Patient, buffered, held_streams, tell_fault, with_patience};
 pub use terminal::status_columns;
+pub use trusted_place::TrustedPlace;
 pub use word_notes::print_word_notes;

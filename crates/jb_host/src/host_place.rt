@@ -82,8 +82,8 @@ pub fn folder_of(name: &str) -> &str {
 enum Opened {
     File(File),
     /// It may be neither read nor written: a folder, or a file that may only be run.
-    Refused,
-    Missing,
+    Refused(io::Error),
+    Missing(io::Error),
 }
 
 impl Opened {
@@ -92,17 +92,17 @@ impl Opened {
         match File::open(&host, path) {
             Ok(file) => Ok(Opened::File(file)),
             Err(error) if error.kind() == ErrorKind::PermissionDenied => {
-                Ok(Opened::unread(host, path))
+                Ok(Opened::unread(host, path, error))
             }
-            Err(error) if is_passed_over(&error) => Ok(Opened::Missing),
+            Err(error) if is_passed_over(&error) => Ok(Opened::Missing(error)),
             Err(error) => Err(error),
         }
     }
 
-    fn unread(host: HostRuntime, path: &str) -> Opened {
+    fn unread(host: HostRuntime, path: &str, error: io::Error) -> Opened {
         match OpenOptions::new().write(true).open(&host, path) {
             Ok(file) => Opened::File(file),
-            Err(_) => Opened::Refused,
+            Err(_) => Opened::Refused(error),
         }
     }
 
@@ -110,9 +110,22 @@ impl Opened {
     fn sync(&self, host: HostRuntime) -> io::Result<()> {
         match self {
             Opened::File(file) => file.sync_all(),
-            Opened::Refused => sync_all_files(host),
-            Opened::Missing => Ok(()),
+            Opened::Refused(_) => sync_all_files(host),
+            Opened::Missing(_) => Ok(()),
         }
+    }
+}
+
+// Why an ordinary file or a folder can't be opened to be synced.
+fn unopened(host: HostRuntime, name: &str) -> Option<io::Error> {
+    match fs::metadata(&host, name) {
+        Ok(found) if !is_kept(&found) => return None,
+        Ok(_) => {}
+        Err(error) => return Some(error),
+    }
+    match Opened::of(host, name) {
+        Ok(Opened::File(_)) => None,
+        Ok(Opened::Refused(error) | Opened::Missing(error)) | Err(error) => Some(error),
     }
 }
 
@@ -156,6 +169,14 @@ impl<'a, R: Wait> HostPlace<'a, R> {
         }
     }
 
+    /// Why a target's file can't be opened to be put on the disk by itself; None where it can, and of what isn't opened at all.
+    pub fn why_unopened(&self, target: &[u8]) -> Option<io::Error> {
+        match std::str::from_utf8(target) {
+            Ok(name) => unopened(self.host, name),
+            Err(_) => None,
+        }
+    }
+
     // Only an ordinary file or a folder is opened: a pipe would be waited for, and a device has nothing to be kept.
     fn sync_named(&self, name: &str) -> io::Result<()> {
         match if_there(fs::symlink_metadata(&self.host, name))? {
@@ -176,7 +197,7 @@ impl<'a, R: Wait> HostPlace<'a, R> {
         self.folders.sync(folder, || opened.sync(self.host))
     }
 
-    // Why a file wasn't removed, where one is there all the same.
+    // Why what stands there wasn't removed, unless nothing does.
     fn if_left(&self, name: &str, error: io::Error) -> io::Result<()> {
         match fs::symlink_metadata(&self.host, name) {
             Err(looked) if is_nothing(&looked) => Ok(()),
@@ -221,6 +242,8 @@ impl<'a, R: Wait> HostPlace<'a, R> {
 }
 
 impl<R: Wait> Place for HostPlace<'_, R> {
+    ghost gone = { λ place path. Unit {0} };
+
     fn remove(&self, path: &[u8]) -> io::Result<()> {
         let Ok(name) = std::str::from_utf8(path) else {
             return Ok(());
@@ -242,8 +265,6 @@ impl<R: Wait> Place for HostPlace<'_, R> {
             Err(error) => Err(fault_of(error)),
         }
     }
-    ghost gone = { λ place path. Unit {0} };
-
 
     fn stopped(&self) -> Option<Stopped> {
         self.stops.take()
