@@ -23,7 +23,7 @@ use Rattle.jb_closing.specs.Report.{ends_well}
 use Rattle.dmk_run.specs.Judged.{IsBorneOut}
 use Rattle.dmk_run.specs.Known.{IsTold}
 use Rattle.dmk_run.specs.Behind.{none_tried}
-use Rattle.dmk_run.specs.Made.{HasMade, AreTried, IsBuiltWithoutFile, IsMade}
+use Rattle.dmk_run.specs.Made.{HasMade, AreTried, IsBuilt as IsNameBuilt, IsBuiltWithoutFile, IsMade}
 use Rattle.dmk_run.specs.declared.tried.Tried.{Tried}
 use Rattle.dmk_reading.specs.Lost.{with_unmade}
 use Rattle.dmk_run.specs.Settled.{IsNoneToRun}
@@ -108,6 +108,7 @@ none_failed (n ∷ nodes) (suc node) status failed = none_failed nodes node stat
 nothing_tried : (graph : Graph) → AreTried graph (up_to_date graph.nodes.items) none_tried
 nothing_tried graph = record {
   are_built = All-nil (IsBuiltWithoutFile graph (up_to_date graph.nodes.items));
+  are_filed = All-nil (IsNameBuilt graph (up_to_date graph.nodes.items));
   are_failed = λ name. (
     λ there. absurd (true≢false (sym there)),
     λ is. absurd (none_failed graph.nodes.items is.node is.status is.failed),

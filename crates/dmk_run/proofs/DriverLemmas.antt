@@ -146,7 +146,7 @@ module _ (profile : Profile) (definitions environment : List Variable) (targets 
   pub made_items : (items : List Item) (stored keeping : Bool) (disk_honest : Type 0) (seen : Which → List ℕ) (sides : Sides) (state : StateMap)
       (graph judged : Graph) (counted kept : Bool) → IsStateOn stored disk_honest seen state →
       IsGraphOf profile definitions environment targets times items state graph → (goes_without profile goes_on ≡ false → graph.unmade.items ≡ []) →
-      IsJudgedBehind before (judged_graph all graph) judged → counted ≡ all || keeping → kept ≡ keeping → (got : Result ℕ Stop) →
+      IsJudgedBehind before (all || keeping) (judged_graph all graph) judged → counted ≡ all || keeping → kept ≡ keeping → (got : Result ℕ Stop) →
       IfOk got (λ s. HasMade judged counted kept disk_honest sides s tried) →
       IfOk got (λ s. MakesItems profile definitions environment targets all goes_on before times items stored keeping disk_honest seen s sides tried)
   made_items items stored keeping disk_honest seen sides state graph judged counted kept is_state is_graph all_made is_judged counts same (Ok s) made = record {

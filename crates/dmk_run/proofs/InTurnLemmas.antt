@@ -3,8 +3,6 @@ use Rattle.std.proofs.Math.Nat.{max-zero}
 use Rattle.std.proofs.Math.Seq.{take-suc, take-length}
 use Rattle.std.proofs.lemmas.List.{take-append-drop}
 use Rattle.std.proofs.Common.{◌≡◌, ◌≢◌, ◌⊎◌, inl, inr, ◌∙◌, ℕ, zero, suc, ◌+◌, ◌<◌, ◌≤◌, ℤ, max, Bool, true, false, List, [], ◌∷◌, ◌++◌, Option, Result, Ok, Err, IfOk, IfErr, IsErrAnd, refl, sym, ap, subst, length, take, drop, get_or, add-one, arith}
-use Rattle.std.specs.List.{All}
-use Rattle.std.proofs.lemmas.List.Elements.{All-nil}
 use Rattle.mk_eval.specs.Output.{World}
 use Rattle.mk_reader.specs.declared.item.Item.{Item}
 use Rattle.mk_profile.specs.declared.profile.Profile.{Profile}
@@ -20,7 +18,8 @@ use Rattle.dmk_reading.specs.declared.makefiles.Makefiles.{Makefiles}
 use Rattle.dmk_reading.specs.declared.options.Options.{Options}
 use Rattle.st_state.specs.State.{StateMap}
 use Rattle.dmk_run.specs.Behind.{none_tried, both_tried}
-use Rattle.dmk_run.specs.Made.{Makes, MakesItems, IsBuiltWithoutFile, AreFailed, AreTried}
+use Rattle.dmk_run.specs.Made.{Makes, MakesItems, AreTried, AddsTried, tried_in}
+use Rattle.dmk_run.specs.declared.left.Left.{Left}
 use Rattle.dmk_run.specs.Opened.{RecoversAsBefore}
 use Rattle.dmk_run.specs.InTurn.{Between, MakesPart, LeavesDisk, IsParted, AreParts, at_once, in_turn, GoesOn, EndsRun, Joined, MadeInTurn, none_left, first_made, run_ended, MadeBehind, no_more, once_more, MakesWithLost, IsMadeInTurn}
 use Rattle.dmk_run.specs.declared.stop.Stop.{Stop}
@@ -253,26 +252,25 @@ module _ {Source Tree Disk : Type 0} (Reads : Source → World → Type 0) (Allo
           (subst (λ p. Makes world times whole.makefiles p part.definitions.items environment part.targets part.makes_all part.goes_on before disk_honest (seen found) status (sides left) tried) profile
           (subst (λ m. Makes world times m part.profile part.definitions.items environment part.targets part.makes_all part.goes_on before disk_honest (seen found) status (sides left) tried) makefiles is)))))
 
-      -- and what it makes is made, behind these names, to which others are added, where what it came to is told
-      pub part_makes : {Fault : Type 0} (source : Source) (tree : Tree) (found left : Disk) (names tried added after : Tried) (got told : Result ℕ Fault) →
-          before ≡ names → IfOk told (λ s. got ≡ Ok s) → IfOk told (λ s. after ≡ both_tried names added) →
-          ((graph : Graph) (ends : List End) → AreTried graph ends tried → AreTried graph ends added) →
+      -- and what it makes is made, behind these names, to which what it leaves is added, where what it came to is told
+      pub part_makes : {Fault : Type 0} (source : Source) (tree : Tree) (found on_disk : Disk) (names after : Tried) (left : Left) (got told : Result ℕ Fault) →
+          before ≡ names → IfOk told (λ s. got ≡ Ok s) → IfOk told (λ s. AddsTried left names after) →
           IfOk got (λ s. (world : World) (times : List ℕ → Option ℤ) → Reads source world → Allows tree times →
-          Makes world times part.makefiles part.profile part.definitions.items environment part.targets part.makes_all part.goes_on before disk_honest (seen found) s (sides left) tried) →
-          IfOk told (MakesPart Reads Allows whole environment disk_honest seen sides targets (found, names) (left, after))
-      part_makes source tree found left names tried added after got (Ok status) same so adds follow is =
-          subst (λ n. MakesPart Reads Allows whole environment disk_honest seen sides targets (found, n) (left, after) status) same
+          Makes world times part.makefiles part.profile part.definitions.items environment part.targets part.makes_all part.goes_on before disk_honest (seen found) s (sides on_disk) (tried_in left)) →
+          IfOk told (MakesPart Reads Allows whole environment disk_honest seen sides targets (found, names) (on_disk, after))
+      part_makes source tree found on_disk names after left got (Ok status) same so more is =
+          subst (λ n. MakesPart Reads Allows whole environment disk_honest seen sides targets (found, n) (on_disk, after) status) same
           (record {
             source = source;
             tree = tree;
-            tried = added;
-            adds = adds ∙ ap (λ n. both_tried n added) (sym same);
-            made = λ world times text may. makes_others tried added follow (makes_alike world times found left tried status
+            tried = more.added;
+            adds = more.adds ∙ ap (λ n. both_tried n more.added) (sym same);
+            made = λ world times text may. makes_others (tried_in left) more.added more.are_tried (makes_alike world times found on_disk (tried_in left) status
                 (at_ok (λ s. (world : World) (times : List ℕ → Option ℤ) → Reads source world → Allows tree times →
-                Makes world times part.makefiles part.profile part.definitions.items environment part.targets part.makes_all part.goes_on before disk_honest (seen found) s (sides left) tried)
+                Makes world times part.makefiles part.profile part.definitions.items environment part.targets part.makes_all part.goes_on before disk_honest (seen found) s (sides on_disk) (tried_in left))
                 got status so is world times text may));
           })
-      part_makes source tree found left names tried added after got (Err fault) same so adds follow is = tt
+      part_makes source tree found on_disk names after left got (Err fault) same so more is = tt
 
   -- a part that is made over a disk is made over one of which it recovers no other state
   module _ (options : Options) (disk_honest : Type 0) (seen : Disk → Which → List ℕ) (sides : Disk → Sides) (found opened : Disk)

@@ -22,7 +22,7 @@ use Rattle.dmk_reading.specs.Definitions.{first_defined}
 use Rattle.dmk_reading.specs.declared.makefiles.Makefiles.{Makefiles}
 use Rattle.dmk_reading.specs.Planned.{AreItems, IsGraphOf, IsStateOn, judged_graph}
 use Rattle.dmk_reading.specs.Keeping.{keeps}
-use Rattle.dmk_run.specs.Behind.{IsJudgedBehind}
+use Rattle.dmk_run.specs.Behind.{IsJudgedBehind, both_tried}
 use Rattle.dmk_run.specs.Judged.{IsBorneOut}
 use Rattle.dmk_run.specs.Known.{AreKnownDone}
 use Rattle.dmk_run.specs.declared.left.Left.{Left}
@@ -55,7 +55,14 @@ pub record HasEnded (graph : Graph) (counting keeping : Bool) (sound : Type 0) (
   pub borne_out : status ≡ 0 → IsBorneOut counting graph ends
   pub made : keeping ≡ true → IsMade graph sound sides status ends
 
--- a name that had no file: its recipe was run to its end
+-- a name's recipe was run to its end
+pub record IsBuilt (graph : Graph) (ends : List End) (name : List ℕ) : Type 0 where
+  pub node : ℕ
+  pub within : node < length graph.nodes.items
+  pub named : name_at graph.names node ≡ name
+  pub built : slice_get ends node ≡ Some Built
+
+-- so it is of one that had no file
 pub record IsBuiltWithoutFile (graph : Graph) (ends : List End) (name : List ℕ) : Type 0 where
   pub node : ℕ
   pub it : Node
@@ -70,6 +77,12 @@ pub record AddsSome (made : List Made) (before now : List (List ℕ)) : Type 0 w
   pub adds : now ≡ before ++ added
   pub are_built : (graph : Graph) (ends : List End) → All (λ m. IsBuiltWithoutFile graph ends m.name) made → All (IsBuiltWithoutFile graph ends) added
 
+-- to some names others are added, some of which were built so, and behind them all of those
+pub record AddsBoth (made : List Made) (filed : List (List ℕ)) (before now : List (List ℕ)) : Type 0 where
+  pub between : List (List ℕ)
+  pub some : AddsSome made before between
+  pub adds : now ≡ between ++ filed
+
 -- a name that failed: its recipe did
 pub record HasFailed (graph : Graph) (ends : List End) (name : List ℕ) : Type 0 where
   pub node : ℕ
@@ -82,14 +95,21 @@ pub record HasFailed (graph : Graph) (ends : List End) (name : List ℕ) : Type 
 abbrev pub AreFailed : (graph : Graph) → (ends : List End) → (failed : List (List ℕ)) → Type 0
 AreFailed graph ends failed = (name : List ℕ) → (has_name failed name ≡ true) ↔ HasFailed graph ends name
 
--- of a graph that ended so each of these was built and had no file, and these are all that failed
+-- of a graph that ended so each of these was built, and of some had no file, and these are all that failed
 pub record AreTried (graph : Graph) (ends : List End) (tried : Tried) : Type 0 where
   pub are_built : All (IsBuiltWithoutFile graph ends) tried.built
+  pub are_filed : All (IsBuilt graph ends) tried.filed
   pub are_failed : AreFailed graph ends tried.failed
 
 -- the names that are left to parts behind: what was built without a file, and what failed
 abbrev pub tried_in : Left → Tried
-tried_in left = record { built = map (λ m. m.name) left.made.items; failed = left.failed }
+tried_in left = record { built = map (λ m. m.name) left.made.items; filed = left.filed; failed = left.failed }
+
+-- to what was tried before others are added, which were tried wherever those that are left were
+pub record AddsTried (left : Left) (before now : Tried) : Type 0 where
+  pub added : Tried
+  pub adds : now ≡ both_tried before added
+  pub are_tried : (graph : Graph) (ends : List End) → AreTried graph ends (tried_in left) → AreTried graph ends added
 
 -- so a graph has ended, where these names were tried
 pub record HasMade (graph : Graph) (counting keeping : Bool) (sound : Type 0) (sides : Sides) (status : ℕ) (tried : Tried) : Type 0 where
@@ -108,7 +128,7 @@ pub record MakesItems (profile : Profile) (definitions environment : List Variab
   pub is_graph : IsGraphOf profile definitions environment targets times items state graph
   pub all_made : goes_without profile goes_on ≡ false → graph.unmade.items ≡ []
   pub judged : Graph
-  pub is_judged : IsJudgedBehind before (judged_graph all graph) judged
+  pub is_judged : IsJudgedBehind before (all || keeping) (judged_graph all graph) judged
   pub made : HasMade judged (all || keeping) keeping disk_honest sides status tried
 
 -- so it is for the items of the makefile that is found by these files and times

@@ -10,7 +10,6 @@ ghost use Rattle.dmk_run.specs.declared.tried.Tried.{Tried as TriedNames};
 
 use crate::driver::{Means, build_at_once, status_of};
 use crate::guard::Guard;
-use crate::left::Left;
 use crate::parts::{goes_on, in_parts, joined, part_behind, part_of};
 use crate::printer::Printer;
 use crate::standing::{Standing, lost_targets};
@@ -92,13 +91,8 @@ where
         disk,
     );
     drop(files);
-    let Left {
-        standing,
-        made,
-        failed,
-    } = left;
-    let found = tried.add_behind(alloc, &mut looks.anew(), &made, &failed, found);
-    (found, disk, standing)
+    let found = tried.add_behind(alloc, &mut looks.anew(), &left, found);
+    (found, disk, left.into_standing())
 }
 
 /// Notes which targets are lost since they were judged up to date. In the wide profile these are made. Those that there is no memory for
@@ -272,25 +266,18 @@ where
         rt, alloc, means, guard, whole, None, &mut tree, includes, banks, disk,
     );
     drop(tree);
-    let Left {
-        standing,
-        made,
-        failed,
-    } = left;
     let ends = match made_or_ends(options, found) {
         Ok(found) => {
             let mut tried = Tried::nothing(alloc);
-            let found = tried.add_behind(alloc, &mut looks.anew(), &made, &failed, found);
-            let ran = (found, disk, standing);
+            let found = tried.add_behind(alloc, &mut looks.anew(), &left, found);
+            let ran = (found, disk, left.into_standing());
             return lost_made(
                 rt, alloc, means, guard, options, &mut tried, looks, includes, banks, ran,
             );
         }
         Err(ends) => ends,
     };
-    drop(standing);
-    drop(made);
-    drop(failed);
+    drop(left);
     match in_parts(alloc, &options.targets, &ends) {
         Ok(parts) => made_in_turn(
             rt, alloc, means, guard, options, &parts, looks, includes, banks, disk,

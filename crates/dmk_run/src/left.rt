@@ -5,10 +5,10 @@ ghost use Rattle.jb_closing.specs.declared.report.Report.{Report as RunReport};
 ghost use Rattle.dmk_reading.specs.Lost.{with_unmade};
 ghost use Rattle.dmk_run.specs.InTurn.{IsParted};
 ghost use Rattle.dmk_run.specs.Behind.{none_tried};
-ghost use Rattle.dmk_run.specs.Made.{IsBuiltWithoutFile, AreFailed, AreTried, tried_in};
+ghost use Rattle.dmk_run.specs.Made.{IsBuilt, IsBuiltWithoutFile, AreFailed, AreTried, tried_in};
 
 use crate::building::reported;
-use crate::made::{Made, failed_in, made_in};
+use crate::made::{Made, failed_in, filed_in, made_in};
 use crate::standing::{Standing, standing_in};
 use crate::stop::Stop;
 use byte_strings::ByteStrings;
@@ -23,6 +23,8 @@ pub struct Left {
     pub(crate) standing: Vec<Standing>,
     /// What was built and had no file; none where nothing comes behind.
     pub(crate) made: Vec<Made>,
+    /// The names of what was built and had one; none likewise.
+    pub(crate) filed: ByteStrings,
     /// The names of what failed.
     pub(crate) failed: ByteStrings,
 }
@@ -34,8 +36,14 @@ impl Left {
         Left {
             standing: Vec::new(alloc),
             made: Vec::new(alloc),
+            filed: ByteStrings::empty(alloc),
             failed: ByteStrings::empty(alloc),
         }
+    }
+
+    pub(crate) fn into_standing(self) -> Vec<Standing> {
+        let Left { standing, .. } = self;
+        standing
     }
 }
 
@@ -44,18 +52,23 @@ fn may_be_lost(graph: &Graph, standing: &[Standing]) -> bool {
     graph.macros.profile().is_wide() && !standing.is_empty()
 }
 
-/// What was built without a file, where more may be made behind it.
+/// What was built, where more may be made behind it: without a file, and with one.
 fn made_for(
     alloc: Global,
     is_followed: bool,
     graph: &Graph,
     found: &Result<Report, RunFault>,
-) -> Result<Vec<Made>, AllocError>
-    ensures { IfOk result (λ made. IfOk found.now (λ r. All (λ m. IsBuiltWithoutFile graph.now r.ends.items m.name) made.items)) }
+) -> Result<(Vec<Made>, ByteStrings), AllocError>
+    ensures without { IfOk result (λ made. IfOk found.now (λ r. All (λ m. IsBuiltWithoutFile graph.now r.ends.items m.name) made.0.items)) }
+    ensures filed { IfOk result (λ made. IfOk found.now (λ r. All (IsBuilt graph.now r.ends.items) made.1)) }
 {
     match found {
-        Ok(report) if is_followed => made_in(alloc, graph, &report.ends),
-        _ => Ok(Vec::new(alloc)),
+        Ok(report) if is_followed => {
+            let filed = filed_in(alloc, graph, &report.ends)?;
+            let made = made_in(alloc, graph, &report.ends)?;
+            Ok((made, filed))
+        }
+        _ => Ok((Vec::new(alloc), ByteStrings::empty(alloc))),
     }
 }
 
@@ -73,19 +86,24 @@ fn failed_for(
     }
 }
 
-/// What was built without a file, where more may be made behind it, and what failed.
-fn tried_for(
+/// What a run leaves beside what was judged up to date.
+fn left_of(
     alloc: Global,
     is_followed: bool,
     graph: &Graph,
     found: &Result<Report, RunFault>,
-) -> Result<(Vec<Made>, ByteStrings), AllocError>
-    ensures built { IfOk result (λ t. IfOk found.now (λ r. All (λ m. IsBuiltWithoutFile graph.now r.ends.items m.name) t.0.items)) }
-    ensures failed { IfOk result (λ t. IfOk found.now (λ r. AreFailed graph.now r.ends.items t.1)) }
+    standing: Vec<Standing>,
+) -> Result<Left, AllocError>
+    ensures { IfOk result (λ left. IfOk found.now (λ r. AreTried graph.now r.ends.items (tried_in left))) }
 {
-    let made = made_for(alloc, is_followed, graph, found)?;
+    let (made, filed) = made_for(alloc, is_followed, graph, found)?;
     let failed = failed_for(alloc, graph, found)?;
-    Ok((made, failed))
+    Ok(Left {
+        standing,
+        made,
+        filed,
+        failed,
+    })
 }
 
 /// What a run over the graph comes to, and what it leaves to parts behind it.
@@ -101,18 +119,10 @@ pub(crate) fn came_to(
 {
     let standing = standing_in(alloc, graph, &found);
     let is_followed = is_part || may_be_lost(graph, &standing);
-    match tried_for(alloc, is_followed, graph, &found) {
-        Ok((made, failed)) => {
-            let left = Left {
-                standing,
-                made,
-                failed,
-            };
-            (reported(graph, found), left)
-        }
+    match left_of(alloc, is_followed, graph, &found, standing) {
+        Ok(left) => (reported(graph, found), left),
         Err(error) => {
             drop(found);
-            drop(standing);
             (Err(Stop::from(error)), Left::nothing(alloc))
         }
     }

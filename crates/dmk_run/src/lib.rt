@@ -2,6 +2,7 @@
 #![tactic(auto)]
 
 mod building;
+mod causes;
 mod clearing;
 mod conducting;
 mod counting;

@@ -1,4 +1,5 @@
 //! Where the goals of a run are parted, to be made one behind the other.
+use crate::causes::is_group;
 use crate::made::is_phony_name;
 use crate::refusing::ready_recipes;
 use crate::stop::Stop;
@@ -9,19 +10,8 @@ use mk_plan::{has_text_names, name_of, pass_in};
 use std::alloc::{AllocError, Global};
 use std::sync::OnceLock;
 
-/// Whether nothing makes a file of the node: it is phony, or it has neither file nor recipe.
-fn never_has_file(graph: &Graph, node: usize) -> bool {
-    match graph.nodes.get(node) {
-        Some(known) => {
-            !known.stamp.is_some()
-                && (known.recipe.get().is_none() || is_phony_name(graph, name_of(graph, node)))
-        }
-        None => false,
-    }
-}
-
-/// Whether a file would be made in each part that needs it: it stands on what never has a file, which counts as made in each part, or all
-/// are to be made.
+/// Whether a file would be made in each part that needs it: all are to be made, or it stands on a name without a file that stands for others.
+/// Whether these are newer it doesn't tell.
 fn is_made_in_each(makes_all: bool, graph: &Graph, node: usize) -> bool {
     if is_phony_name(graph, name_of(graph, node)) {
         return false;
@@ -31,10 +21,8 @@ fn is_made_in_each(makes_all: bool, graph: &Graph, node: usize) -> bool {
     }
     let required = graph.required_edges();
     node < required.len()
-        && required
-            .row(node)
-            .iter()
-            .any(|needed| never_has_file(graph, *needed as usize))
+        && required.row(node).iter().any(|needed| (*needed as usize) < graph.len()
+            && is_group(graph, *needed as usize))
 }
 
 /// Whether a node has a file. A phony one has none, whatever there is.

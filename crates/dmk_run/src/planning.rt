@@ -183,11 +183,11 @@ fn behind_or_whole<R: Wait, O: Write + Drop, W: Write + Drop>(
     behind: Option<Tried>,
     graph: Graph,
 ) -> Result<Graph, Stop>
-    ensures judged { PassesEach graph → IfOk result (IsJudgedBehind (unwrap_or behind none_tried) graph) }
+    ensures judged { PassesEach graph → IfOk result (IsJudgedBehind (unwrap_or behind none_tried) counting graph) }
     ensures state { IfOk result (λ judged. judged.state ≡ graph.state) }
 {
     if let Some(before) = behind {
-        return Ok(graph_behind(alloc, graph, &before)?);
+        return Ok(graph_behind(alloc, counting, graph, &before)?);
     }
     if let Err(stop) = whole_at_once(alloc, printer, shell, makes_all, counting, &graph) {
         drop(graph);
@@ -206,7 +206,7 @@ fn ready<R: Wait, O: Write + Drop, W: Write + Drop>(
     behind: Option<Tried>,
     graph: Graph,
 ) -> Result<Graph, Stop>
-    ensures judged { PassesEach graph → IfOk result (IsJudgedBehind (unwrap_or behind none_tried) graph) }
+    ensures judged { PassesEach graph → IfOk result (IsJudgedBehind (unwrap_or behind none_tried) counting graph) }
     ensures state { IfOk result (λ judged. judged.state ≡ graph.state) }
 {
     let graph = behind_or_whole(alloc, printer, shell, makes_all, counting, behind, graph)?;
@@ -232,7 +232,7 @@ pub(crate) fn planned<R: Wait, T: Tree, O: Write + Drop, W: Write + Drop>(
     ensures graph { IfOk result (λ plan. (times : List ℕ → Option ℤ) → T.allows tree.new times
         → (graph : MadeGraph) × IsGraphOf goals.profile goals.definitions.items environment.now goals.targets times items.items state graph
         × (goes_without goals.profile wishes.now.goes_on ≡ false → graph.unmade.items ≡ [])
-        × IsJudgedBehind (unwrap_or goals.behind none_tried) (judged_graph wishes.now.makes_all graph) plan.graph) }
+        × IsJudgedBehind (unwrap_or goals.behind none_tried) (wishes.now.makes_all || keeping) (judged_graph wishes.now.makes_all graph) plan.graph) }
     ensures times { (times : List ℕ → Option ℤ) → T.allows tree.new times → T.allows tree.old times }
     ensures state { IfOk result (λ plan. recorded_in plan ≡ state) }
     ensures keeping { IfOk result (λ plan. plan.conduct.keeps_state ≡ keeping) }

@@ -1,9 +1,10 @@
 //! Names that parts of a run tried, for which none behind them runs a recipe again.
 ghost use Rattle.std.specs.Prelude.{◌≡◌, ◌↔◌, ◌++◌, [], Ok, IsTrue, IfOk, OnOk};
 ghost use Rattle.dmk_run.specs.Behind.{none_tried};
-ghost use Rattle.dmk_run.specs.Made.{AddsSome};
+ghost use Rattle.dmk_run.specs.Made.{AddsSome, AddsBoth, AddsTried};
 
-use crate::made::{Made, add_without_file};
+use crate::left::Left;
+use crate::made::{Made, add_built};
 use crate::stop::Stop;
 use byte_strings::ByteStrings;
 use mk_rules::Tree;
@@ -14,6 +15,8 @@ use std::alloc::{AllocError, Global};
 pub struct Tried {
     /// They were built, and have no file.
     pub(crate) built: ByteStrings,
+    /// They were built, and have one.
+    pub(crate) filed: ByteStrings,
     /// Their recipes failed.
     pub(crate) failed: ByteStrings,
 }
@@ -34,6 +37,7 @@ impl Tried {
     {
         Tried {
             built: ByteStrings::empty(alloc),
+            filed: ByteStrings::empty(alloc),
             failed: ByteStrings::empty(alloc),
         }
     }
@@ -41,46 +45,52 @@ impl Tried {
     pub(crate) fn is_nothing(&self) -> bool
         ensures { IsTrue result ↔ (self.now ≡ none_tried) }
     {
-        self.built.is_empty() && self.failed.is_empty()
+        self.built.is_empty() && self.filed.is_empty() && self.failed.is_empty()
     }
 
     pub(crate) fn copy(&self, alloc: Global) -> Result<Tried, AllocError>
         ensures { IfOk result (λ tried. tried ≡ self.now) }
     {
         let built = self.built.copy(alloc)?;
+        let filed = self.filed.copy(alloc)?;
         let failed = self.failed.copy(alloc)?;
-        Ok(Tried { built, failed })
+        Ok(Tried {
+            built,
+            filed,
+            failed,
+        })
     }
 
-    /// Adds what a part built and what still has no file, by new looks, and what failed in it.
+    /// Adds what a part built and, by new looks, whether it has a file, and what failed in it.
     fn add<T: Tree>(
         &mut self,
         alloc: Global,
         tree: &mut T,
         made: &[Made],
+        filed: &ByteStrings,
         failed: &ByteStrings,
     ) -> Result<(), AllocError>
         ensures built { AddsSome made.now self.old.built self.new.built }
+        ensures filed { OnOk result (AddsBoth made.now filed.now self.old.filed self.new.filed) }
         ensures failed { OnOk result (self.new.failed ≡ self.old.failed ++ failed.now) }
     {
-        add_without_file(alloc, tree, made, &mut self.built)?;
+        add_built(alloc, tree, made, &mut self.built, &mut self.filed)?;
+        add_all(&mut self.filed, filed)?;
         add_all(&mut self.failed, failed)
     }
 
-    /// So, behind a part that came to this; or there is no memory for that.
+    /// So, of what a part leaves that came to this; or there is no memory for that.
     pub(crate) fn add_behind<T: Tree>(
         &mut self,
         alloc: Global,
         tree: &mut T,
-        made: &[Made],
-        failed: &ByteStrings,
+        left: &Left,
         found: Result<u8, Stop>,
     ) -> Result<u8, Stop>
         ensures found { IfOk result (λ s. found ≡ Ok s) }
-        ensures built { AddsSome made.now self.old.built self.new.built }
-        ensures failed { IfOk result (λ s. self.new.failed ≡ self.old.failed ++ failed.now) }
+        ensures adds { IfOk result (λ s. AddsTried left.now self.old self.new) }
     {
-        match self.add(alloc, tree, made, failed) {
+        match self.add(alloc, tree, &left.made, &left.filed, &left.failed) {
             Ok(()) => found,
             Err(error) => {
                 drop(found);

@@ -1,22 +1,21 @@
-use Rattle.std.proofs.Common.{◌≡◌, ◌∙◌, true≢false, refl, sym, subst, true, ℕ, Bool, List, Some, slice_get}
-use Rattle.std.specs.Prelude.{◌↔◌}
-use Rattle.mk_nodes.specs.declared.graph.Node.{Node}
-use Rattle.dmk_run.specs.Behind.{none_tried, HasNothingToRun}
+use Rattle.std.proofs.Common.{◌∙◌, true≢false, refl, sym, subst}
+use Rattle.dmk_run.specs.Behind.{AreMarkedBehind}
 use Rattle.dmk_run.proofs.BehindLemmas.{none_behind, nodes_behind}
 use Rattle.dmk_run.proofs.clearing.graph_behind.Goals as goal
 
 pub returns-then-is_nothing-clause-judged : goal.returns-then-is_nothing-clause-judged
-returns-then-is_nothing-clause-judged c = λ passes. none_behind c.args.before.now c.args.graph (c.is_nothing.ensures.0 c.if-is_nothing.true)
+returns-then-is_nothing-clause-judged c = λ passes. none_behind c.args.before.now c.args.counting c.args.graph (c.is_nothing.ensures.0 c.if-is_nothing.true)
 
 pub returns-clause-judged : goal.returns-clause-judged
 returns-clause-judged c = λ passes.
     let before = c.args.before.now in
-    let marked = subst (λ (marks : List Bool). (n : ℕ) (it : Node) → slice_get c.args.graph.nodes.items n ≡ Some it → (mark : Bool) × (slice_get marks n ≡ Some mark) × ((mark ≡ true) ↔ HasNothingToRun before c.args.graph n it))
-    (sym c.deref.ensures.value) (c.in_ok-marks.ensures.marks passes) in
+    let (causes, are, marked) = subst (AreMarkedBehind before c.args.counting c.args.graph) (sym c.deref.ensures.value) (c.in_ok-marks.ensures.marks passes) in
     record {
       behind = record {
+        causes = causes;
+        are_causes = are;
         count = c.clear_recipes.ensures.count;
-        nodes = nodes_behind before c.args.graph c.deref.result.now c.clear_recipes.new.nodes.items marked c.in_ok-clear_recipes.ensures.nodes;
+        nodes = nodes_behind before c.args.graph causes c.deref.result.now c.clear_recipes.new.nodes.items marked c.in_ok-clear_recipes.ensures.nodes;
         alike = record {
           names = refl;
           goals = refl;

@@ -1,4 +1,4 @@
-use Rattle.std.proofs.Common.{◌≡◌, ◌∙◌, ◌<◌, ℕ, List, true, length, ap}
+use Rattle.std.proofs.Common.{◌∙◌, ℕ, List, ap}
 use Rattle.mk_graph.specs.Edges.{has}
 use Rattle.mk_rule_lines.proofs.ResultLemmas.{if_ok}
 use Rattle.dmk_run.proofs.BehindLemmas.{stand_on_failed}

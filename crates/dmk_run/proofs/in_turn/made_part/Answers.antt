@@ -1,11 +1,4 @@
-use Rattle.std.proofs.Common.{◌≡◌, sym, subst}
-use Rattle.std.specs.List.{All}
 use Rattle.st_disk.specs.Moments.{now}
-use Rattle.mk_rule_lines.proofs.ResultLemmas.{if_ok}
-use Rattle.dmk_run.specs.Made.{IsBuiltWithoutFile, tried_in}
-use Rattle.dmk_run.specs.declared.made.Made.{Made}
-use Rattle.dmk_run.specs.declared.tried.Tried.{Tried}
-use Rattle.dmk_run.proofs.BehindLemmas.{both_are, by_themselves}
 use Rattle.dmk_run.proofs.InTurnLemmas.{part_leaves, part_makes}
 use Rattle.dmk_run.proofs.in_turn.made_part.Goals as goal
 
@@ -14,19 +7,10 @@ pub returns-clause-part : goal.returns-clause-part
 returns-clause-part g c =
     let made = c.build_at_once-found in
     let told = c.add_behind-found in
-    let more = told.ensures.built in
-    let added : Tried = record { built = more.added; failed = made.result.2.failed } in
     part_makes (λ source world. g.I.Includes.allows source world) (λ tree times. g.T.Tree.allows tree times) c.args.means.now.environment.now c.in-Ok.part.0 c.args.options.now
     c.in-Ok.ensures.makefiles c.in-Ok.ensures.profile c.in-Ok.ensures.definitions g.D.Disk.honest (λ d. g.D.Disk.seen d) (λ d. now (g.D.Disk.moments d))
     c.args.targets.now c.in-Ok.ensures.targets c.in-Ok.ensures.all c.in-Ok.ensures.goes_on c.in-Ok.part.1 made.new.includes made.new.tree c.args.disk made.result.1
-    c.args.tried.now (tried_in made.result.2) added told.new.self made.result.0 told.result c.in-Ok.ensures.tried told.ensures.found
-    (if_ok told.result _ _ (λ s failed. both_are told.new.self c.args.tried.now added more.adds failed) told.ensures.failed)
-    (λ graph ends are. record {
-      are_built = more.are_built graph ends (subst (All (λ (m : Made). IsBuiltWithoutFile graph ends m.name)) (sym c.deref.ensures.value)
-          (by_themselves graph ends made.result.2.made.items are.are_built));
-      are_failed = are.are_failed;
-    })
-    made.ensures.makes
+    c.args.tried.now told.new.self made.result.2 made.result.0 told.result c.in-Ok.ensures.tried told.ensures.found told.ensures.adds made.ensures.makes
 
 pub returns-clause-untouched : goal.returns-clause-untouched
 returns-clause-untouched g c =

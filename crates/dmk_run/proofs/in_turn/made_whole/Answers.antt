@@ -1,13 +1,9 @@
-use Rattle.std.proofs.Common.{◌≡◌, ◌∙◌, ◌++◌, refl, sym, ap, subst, IfOk}
-use Rattle.std.specs.List.{All}
+use Rattle.std.proofs.Common.{◌∙◌, refl, sym, subst, IfOk}
 use Rattle.mk_rule_lines.proofs.ResultLemmas.{if_ok}
 use Rattle.st_disk.specs.Moments.{now}
 use Rattle.dmk_run.specs.Behind.{none_tried}
 use Rattle.dmk_run.specs.InTurn.{MakesPart, AreParts}
-use Rattle.dmk_run.specs.Made.{IsBuiltWithoutFile, tried_in}
-use Rattle.dmk_run.specs.declared.made.Made.{Made}
-use Rattle.dmk_run.specs.declared.tried.Tried.{Tried}
-use Rattle.dmk_run.proofs.BehindLemmas.{both_are, by_themselves}
+use Rattle.dmk_run.specs.Made.{AddsTried}
 use Rattle.dmk_run.proofs.InTurnLemmas.{alone, with_lost, in_parts_over, made_before, before_of, leaves_both, passed_on, part_leaves, part_makes}
 use Rattle.dmk_run.proofs.in_turn.made_whole.Goals as goal
 
@@ -17,22 +13,14 @@ returns-in-Ok-made_or_ends-clause-in_turn g c =
     let made = c.build_at_once-found in
     let told = c.add_behind-found in
     let tried = told.new.self in
-    let more = told.ensures.built in
-    let added : Tried = record { built = more.added; failed = made.result.2.failed } in
     let first : IfOk told.result (MakesPart (λ source world. g.I.Includes.allows source world) (λ tree times. g.T.Tree.allows tree times) c.args.options.now c.args.means.now.environment.now
     g.D.Disk.honest (λ d. g.D.Disk.seen d) (λ d. now (g.D.Disk.moments d)) c.args.options.now.targets (c.args.disk, none_tried) (made.result.1, tried)) =
     part_makes (λ source world. g.I.Includes.allows source world) (λ tree times. g.T.Tree.allows tree times) c.args.means.now.environment.now c.in-Ok.whole c.args.options.now
     c.in-Ok.ensures.makefiles c.in-Ok.ensures.profile c.in-Ok.ensures.definitions g.D.Disk.honest (λ d. g.D.Disk.seen d) (λ d. now (g.D.Disk.moments d))
     c.args.options.now.targets c.in-Ok.ensures.targets c.in-Ok.ensures.all c.in-Ok.ensures.goes_on none_tried made.new.includes made.new.tree
-    c.args.disk made.result.1 none_tried (tried_in made.result.2) added tried made.result.0 told.result refl
+    c.args.disk made.result.1 none_tried tried made.result.2 made.result.0 told.result refl
     (if_ok told.result _ _ (λ s same. sym c.in-Ok-made_or_ends.ensures.found ∙ same) told.ensures.found)
-    (if_ok told.result _ _ (λ s failed. both_are tried none_tried added (more.adds ∙ ap (λ (t : Tried). t.built ++ more.added) c.nothing-tried.ensures)
-    (failed ∙ ap (λ (t : Tried). t.failed ++ made.result.2.failed) c.nothing-tried.ensures)) told.ensures.failed)
-    (λ graph ends are. record {
-      are_built = more.are_built graph ends (subst (All (λ (m : Made). IsBuiltWithoutFile graph ends m.name)) (sym c.deref.ensures.value)
-          (by_themselves graph ends made.result.2.made.items are.are_built));
-      are_failed = are.are_failed;
-    })
+    (if_ok told.result _ _ (λ s adds. subst (λ t. AddsTried made.result.2 t tried) c.nothing-tried.ensures adds) told.ensures.adds)
     made.ensures.makes in
     if_ok c.lost_made.result.0 _ _ (λ s is. (c.lost_made.new.tried, is))
     (alone _ c.args.options.now.goes_on c.args.options.now.targets (c.args.disk, none_tried) (c.lost_made.result.1, c.lost_made.new.tried) c.lost_made.result.0
@@ -44,22 +32,14 @@ returns-in-Ok-made_or_ends-clause-strict g c = λ strict.
     let made = c.build_at_once-found in
     let told = c.add_behind-found in
     let tried = told.new.self in
-    let more = told.ensures.built in
-    let added : Tried = record { built = more.added; failed = made.result.2.failed } in
     let first : IfOk told.result (MakesPart (λ source world. g.I.Includes.allows source world) (λ tree times. g.T.Tree.allows tree times) c.args.options.now c.args.means.now.environment.now
     g.D.Disk.honest (λ d. g.D.Disk.seen d) (λ d. now (g.D.Disk.moments d)) c.args.options.now.targets (c.args.disk, none_tried) (made.result.1, tried)) =
     part_makes (λ source world. g.I.Includes.allows source world) (λ tree times. g.T.Tree.allows tree times) c.args.means.now.environment.now c.in-Ok.whole c.args.options.now
     c.in-Ok.ensures.makefiles c.in-Ok.ensures.profile c.in-Ok.ensures.definitions g.D.Disk.honest (λ d. g.D.Disk.seen d) (λ d. now (g.D.Disk.moments d))
     c.args.options.now.targets c.in-Ok.ensures.targets c.in-Ok.ensures.all c.in-Ok.ensures.goes_on none_tried made.new.includes made.new.tree
-    c.args.disk made.result.1 none_tried (tried_in made.result.2) added tried made.result.0 told.result refl
+    c.args.disk made.result.1 none_tried tried made.result.2 made.result.0 told.result refl
     (if_ok told.result _ _ (λ s same. sym c.in-Ok-made_or_ends.ensures.found ∙ same) told.ensures.found)
-    (if_ok told.result _ _ (λ s failed. both_are tried none_tried added (more.adds ∙ ap (λ (t : Tried). t.built ++ more.added) c.nothing-tried.ensures)
-    (failed ∙ ap (λ (t : Tried). t.failed ++ made.result.2.failed) c.nothing-tried.ensures)) told.ensures.failed)
-    (λ graph ends are. record {
-      are_built = more.are_built graph ends (subst (All (λ (m : Made). IsBuiltWithoutFile graph ends m.name)) (sym c.deref.ensures.value)
-          (by_themselves graph ends made.result.2.made.items are.are_built));
-      are_failed = are.are_failed;
-    })
+    (if_ok told.result _ _ (λ s adds. subst (λ t. AddsTried made.result.2 t tried) c.nothing-tried.ensures adds) told.ensures.adds)
     made.ensures.makes in
     let (same, names, status) = c.lost_made.ensures.strict strict in
     if_ok c.lost_made.result.0 _ _ (λ s is. (tried, is))

@@ -8,4 +8,4 @@ use Rattle.dmk_run.proofs.planning.behind_or_whole.Goals as goal
 pub returns-clause-judged : goal.returns-clause-judged
 returns-clause-judged g c = λ passes.
     let none : c.args.behind ≡ None = search rules in
-    none_behind (unwrap_or c.args.behind none_tried) c.args.graph (ap (λ (b : Option Tried). unwrap_or b none_tried) none)
+    none_behind (unwrap_or c.args.behind none_tried) c.args.counting c.args.graph (ap (λ (b : Option Tried). unwrap_or b none_tried) none)

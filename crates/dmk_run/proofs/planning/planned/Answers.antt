@@ -1,7 +1,7 @@
-use Rattle.std.proofs.Common.{Vec, Global, ap, subst, ◌∙◌}
+use Rattle.std.proofs.Common.{Bool, Vec, Global, ap, subst, ◌∙◌}
 use Rattle.std.specs.Prelude.{unwrap_or}
 use Rattle.bd_lists.specs.declared.recipe.Variable.{Variable}
-use Rattle.dmk_reading.specs.Planned.{IsGraphOf}
+use Rattle.dmk_reading.specs.Planned.{IsGraphOf, judged_graph}
 use Rattle.dmk_reading.proofs.PassingLemmas.{passes_each, passes_judged}
 use Rattle.mk_nodes.specs.declared.graph.Graph.{Graph as MadeGraph}
 use Rattle.dmk_run.specs.Behind.{IsJudgedBehind, none_tried}
@@ -18,7 +18,9 @@ returns-in-Ok-ready-clause-graph g c = λ times may.
       made,
       is_graph,
       λ stays. c.in-Ok-found.ensures.made (c.goes_without.ensures ∙ stays),
-      subst (λ judged. IsJudgedBehind (unwrap_or c.args.goals.behind none_tried) judged c.in-Ok-ready.graph) c.judged_graph-graph.ensures (c.in-Ok-ready.ensures.judged passes),
+      subst (λ (counting : Bool). IsJudgedBehind (unwrap_or c.args.goals.behind none_tried) counting (judged_graph c.args.wishes.now.makes_all made) c.in-Ok-ready.graph) c.in-Ok.ensures.records
+          (subst (λ judged. IsJudgedBehind (unwrap_or c.args.goals.behind none_tried) c.in-Ok.made.1.counts_records judged c.in-Ok-ready.graph) c.judged_graph-graph.ensures
+          (c.in-Ok-ready.ensures.judged passes)),
     )
 
 pub returns-in-Ok-ready-clause-state : goal.returns-in-Ok-ready-clause-state
