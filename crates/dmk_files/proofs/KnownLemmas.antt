@@ -1,15 +1,16 @@
 -- What was told of names that stand in a table.
 use Rattle.std.proofs.Common.{◌≡◌, true≢false, ℕ, zero, suc, ◌<◌, ◌≤◌, Bool, true, false, ◌||◌, cond, List, [], ◌∷◌, ◌++◌, length, get_or, slice_set, Option, None, refl, sym, ap, ◌∙◌, arith}
-use Rattle.std.specs.Prelude.{ℤ, bytes_eq}
+use Rattle.std.specs.Prelude.{bytes_eq}
 use Rattle.std.specs.List.{IsDistinct}
 use Rattle.std.proofs.lemmas.Map.Keys.{IsDistinct-tail}
 use Rattle.mk_graph.specs.Numbering.{name_at, has_name}
 use Rattle.mk_graph.proofs.NameLemmas.{same_bytes, bytes_same, new_at}
 use Rattle.dmk_files.specs.Stamps.{told_of}
+use Rattle.mk_nodes.specs.declared.file_look.FileLook.{FileLook}
 
 -- what is told of one name
 abbrev pub Told : Type 0
-Told = Option (Option ℤ)
+Told = Option (Option FileLook)
 
 first_of : (a b : Bool) → (a || b) ≡ false → a ≡ false
 first_of true b e = e

@@ -1,14 +1,19 @@
 -- What the system says of files.
-use Rattle.std.specs.Prelude.{◌≡◌, ◌⊎◌, ℕ, ℤ, ◌+ℤ◌, ◌*ℤ◌, pos, List, Option, Some, IfSome, option_map, bytes_eq, if◌then◌else◌}
+use Rattle.std.specs.Prelude.{◌≡◌, ◌⊎◌, ℕ, ℤ, ◌+ℤ◌, ◌*ℤ◌, pos, ◌%◌, ◌^◌, List, Option, Some, None, IfSome, option_map, bytes_eq, if◌then◌else◌}
 use Rattle.std.specs.declared.io.ErrorKind.{ErrorKind}
 use Rattle.std.specs.declared.io.ErrorKind.TheVariants.{NotFound, NotADirectory, InvalidFilename}
 use Rattle.indexmap.specs.IndexMap.{get_by}
+use Rattle.mk_nodes.specs.declared.file_look.FileLook.{FileLook}
 use Rattle.dmk_files.specs.declared.file_calls.FileStatus.{FileStatus}
 use Rattle.dmk_files.specs.declared.texts.Texts.{Texts}
 
 -- a time in whole nanoseconds since 1970
 abbrev pub nanoseconds_of : FileStatus → ℤ
 nanoseconds_of status = (status.seconds *ℤ pos 1000000000) +ℤ status.nanoseconds
+
+-- what a look at a file tells: its time, and of an ordinary one the number of its bytes modulo 2^32
+abbrev pub look_of : FileStatus → FileLook
+look_of status = record { time = nanoseconds_of status; size = if status.is_ordinary then Some (status.bytes % 2 ^ 32) else None }
 
 -- no file has the name: none is there (ENOENT), it lies below a file (ENOTDIR), or it is too long (ENAMETOOLONG)
 abbrev pub IsMissing : ErrorKind → Type 0

@@ -4,7 +4,7 @@ pub mod Files
 pub mod Commands
 -- Listings: what is known of folders.
 pub mod Listings
--- Stamps: the times of files that are known so far.
+-- Stamps: the looks at files that are known so far.
 pub mod Stamps
 -- Told: what is told of a file by what is kept of it.
 pub mod Told

@@ -1,8 +1,9 @@
 //! What is asked of the system, one call at a time. Nothing is claimed of the answers.
 ghost use Rattle.std.specs.Prelude.{◌≡◌};
-ghost use Rattle.dmk_files.specs.Files.{nanoseconds_of};
+ghost use Rattle.dmk_files.specs.Files.{nanoseconds_of, look_of};
 
 use byte_strings::ByteStrings;
+use mk_nodes::FileLook;
 use std::alloc::{AllocError, Global};
 use std::io;
 
@@ -15,14 +16,30 @@ pub struct FileStatus {
     pub nanoseconds: i64,
     /// It is neither a folder nor a pipe, a device or a socket.
     pub is_ordinary: bool,
+    /// How many bytes it has. Of what isn't ordinary it means nothing.
+    pub bytes: u64,
 }
 
 impl FileStatus {
     /// The time in nanoseconds since 1970.
-    pub fn time(&self) -> i128
+    fn time(&self) -> i128
         ensures { result ≡ nanoseconds_of self.now }
     {
         i128::from(self.seconds) * 1_000_000_000 + i128::from(self.nanoseconds)
+    }
+
+    /// What a look at the file tells.
+    pub fn look(&self) -> FileLook
+        ensures { result ≡ look_of self.now }
+    {
+        FileLook {
+            time: self.time(),
+            size: if self.is_ordinary {
+                Some((self.bytes % (1 << 32)) as u32)
+            } else {
+                None
+            },
+        }
     }
 }
 

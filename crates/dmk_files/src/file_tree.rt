@@ -1,13 +1,15 @@
-//! The times of files by the system's calls, each looked at once.
-ghost use Rattle.std.specs.Prelude.{◌≡◌, ◌<◌, ◌⊎◌, ℕ, ℤ, length, true, false, List, Option, None, IfOk, IfErr, IsOk, IsErr, IsSome};
+//! Looks at files by the system's calls, one a name.
+ghost use Rattle.std.specs.Prelude.{◌≡◌, ◌<◌, ◌⊎◌, ℕ, length, true, false, List, Option, None, IfOk, IfErr, IsOk, IsErr, IsSome};
 ghost use Rattle.std.specs.IoError.{error_kind};
 ghost use Rattle.mk_graph.specs.Numbering.{name_at, has_name};
 ghost use Rattle.dmk_files.specs.Stamps.{names_of, known_stamp, AgreesWith};
 ghost use Rattle.mk_sources.specs.Tree.{IsTreeFault};
-ghost use Rattle.dmk_files.specs.Files.{IsMissing, nanoseconds_of};
+ghost use Rattle.dmk_files.specs.Files.{IsMissing, look_of};
+ghost use Rattle.mk_nodes.specs.declared.file_look.FileLook.{FileLook};
 
 use crate::file_calls::{FileCalls, FileStatus};
 use crate::stamps::Stamps;
+use mk_nodes::FileLook;
 use mk_sources::{Tree, TreeFault};
 use std::alloc::{AllocError, Global};
 use std::io::{self, ErrorKind};
@@ -41,7 +43,7 @@ fn is_missing(error: &io::Error) -> bool
 }
 
 /// What an error of looking at a name says: that there is no file, or that it can't be told.
-fn refused_look(error: &io::Error) -> Result<Option<i128>, TreeFault>
+fn refused_look(error: &io::Error) -> Result<Option<FileLook>, TreeFault>
     ensures missing { IsMissing (error_kind error.now) → result ≡ Ok None }
     ensures others { (IsMissing (error_kind error.now) → ⊥) → IsErr result }
     ensures fault { IfErr result (IsTreeFault (Unit {0})) }
@@ -55,21 +57,21 @@ fn refused_look(error: &io::Error) -> Result<Option<i128>, TreeFault>
     }
 }
 
-/// The time of a file by what the system says of it.
-fn stamp_of(answer: io::Result<FileStatus>) -> Result<Option<i128>, TreeFault>
-    ensures time { IfOk answer (λ status. result ≡ Ok (Some (nanoseconds_of status))) }
+/// A look at a file by what the system says of it.
+fn stamp_of(answer: io::Result<FileStatus>) -> Result<Option<FileLook>, TreeFault>
+    ensures look { IfOk answer (λ status. result ≡ Ok (Some (look_of status))) }
     ensures missing { IfErr answer (λ error. IsMissing (error_kind error) → result ≡ Ok None) }
     ensures others { IfErr answer (λ error. (IsMissing (error_kind error) → ⊥) → IsErr result) }
     ensures fault { IfErr result (IsTreeFault (Unit {0})) }
 {
     match answer {
-        Ok(status) => Ok(Some(status.time())),
+        Ok(status) => Ok(Some(status.look())),
         Err(error) => refused_look(&error),
     }
 }
 
 /// What the system says of a name.
-fn time_of<C: FileCalls>(calls: &mut C, name: &[u8]) -> Result<Option<i128>, TreeFault>
+fn look_by<C: FileCalls>(calls: &mut C, name: &[u8]) -> Result<Option<FileLook>, TreeFault>
     ensures { IfErr result (IsTreeFault (Unit {0})) }
 {
     let Ok(name) = std::str::from_utf8(name) else {
@@ -89,17 +91,17 @@ impl<C: FileCalls + Drop> FileTree<C> {
         }
     }
 
-    /// When the file of this name was last changed. The system is asked where the name isn't known.
+    /// What a look at this name tells. The system is asked where the name isn't known.
     fn look_at(
         &mut self,
         alloc: Global,
         name: &[u8],
         number: usize,
-    ) -> Result<Option<i128>, TreeFault>
+    ) -> Result<Option<FileLook>, TreeFault>
         requires number { number < length (names_of self.old.stamps) }
         requires name { name_at (names_of self.old.stamps) number ≡ name.now }
-        ensures stamp { IfOk result (λ stamp. (times : List ℕ → Option ℤ) → AgreesWith self.new.stamps times → stamp ≡ times name.now) }
-        ensures grows { (times : List ℕ → Option ℤ) → AgreesWith self.new.stamps times → AgreesWith self.old.stamps times }
+        ensures stamp { IfOk result (λ stamp. (looks : List ℕ → Option FileLook) → AgreesWith self.new.stamps looks → stamp ≡ looks name.now) }
+        ensures grows { (looks : List ℕ → Option FileLook) → AgreesWith self.new.stamps looks → AgreesWith self.old.stamps looks }
         ensures known { IsSome (known_stamp self.old.stamps name.now) → self.new ≡ self.old }
         ensures found { IsSome (known_stamp self.old.stamps name.now) → IsOk result }
         ensures listed { self.new.stamps.listed ≡ self.old.stamps.listed }
@@ -108,7 +110,7 @@ impl<C: FileCalls + Drop> FileTree<C> {
         if let Some(known) = self.stamps.get(number) {
             return Ok(known);
         }
-        let stamp = time_of(&mut self.calls, name)?;
+        let stamp = look_by(&mut self.calls, name)?;
         match self.stamps.set(alloc, number, stamp) {
             Ok(()) => Ok(stamp),
             Err(_) => Err(TreeFault::OutOfMemory),
@@ -116,9 +118,9 @@ impl<C: FileCalls + Drop> FileTree<C> {
     }
 
     /// A look at any name.
-    fn look(&mut self, alloc: Global, name: &[u8]) -> Result<Option<i128>, TreeFault>
-        ensures stamp { IfOk result (λ stamp. (times : List ℕ → Option ℤ) → AgreesWith self.new.stamps times → stamp ≡ times name.now) }
-        ensures grows { (times : List ℕ → Option ℤ) → AgreesWith self.new.stamps times → AgreesWith self.old.stamps times }
+    fn look(&mut self, alloc: Global, name: &[u8]) -> Result<Option<FileLook>, TreeFault>
+        ensures stamp { IfOk result (λ stamp. (looks : List ℕ → Option FileLook) → AgreesWith self.new.stamps looks → stamp ≡ looks name.now) }
+        ensures grows { (looks : List ℕ → Option FileLook) → AgreesWith self.new.stamps looks → AgreesWith self.old.stamps looks }
         ensures known { IsSome (known_stamp self.old.stamps name.now) → self.new.calls ≡ self.old.calls }
         ensures listed { (n : List ℕ) → has_name self.new.stamps.listed n ≡ true → has_name self.old.stamps.listed n ≡ true }
         ensures fault { IfErr result (IsTreeFault (Unit {0})) }
@@ -130,26 +132,26 @@ impl<C: FileCalls + Drop> FileTree<C> {
     }
 
     /// A look at a name that is new.
-    fn new_look(&mut self, alloc: Global, name: &[u8]) -> Result<Option<i128>, TreeFault>
+    fn new_look(&mut self, alloc: Global, name: &[u8]) -> Result<Option<FileLook>, TreeFault>
         requires no_found { has_name self.old.stamps.found name.now ≡ false }
         requires no_listed { has_name self.old.stamps.listed name.now ≡ false }
-        ensures stamp { IfOk result (λ stamp. (times : List ℕ → Option ℤ) → AgreesWith self.new.stamps times → stamp ≡ times name.now) }
-        ensures grows { (times : List ℕ → Option ℤ) → AgreesWith self.new.stamps times → AgreesWith self.old.stamps times }
+        ensures stamp { IfOk result (λ stamp. (looks : List ℕ → Option FileLook) → AgreesWith self.new.stamps looks → stamp ≡ looks name.now) }
+        ensures grows { (looks : List ℕ → Option FileLook) → AgreesWith self.new.stamps looks → AgreesWith self.old.stamps looks }
         ensures listed { (n : List ℕ) → has_name self.new.stamps.listed n ≡ true → (has_name self.old.stamps.listed n ≡ true) ⊎ (n ≡ name.now) }
         ensures fault { IfErr result (IsTreeFault (Unit {0})) }
     {
-        let time = time_of(&mut self.calls, name)?;
-        match self.stamps.list(alloc, name, time) {
-            Ok(()) => Ok(time),
+        let look = look_by(&mut self.calls, name)?;
+        match self.stamps.list(alloc, name, look) {
+            Ok(()) => Ok(look),
             Err(_) => Err(TreeFault::OutOfMemory),
         }
     }
 
     /// A look at a name that isn't listed yet.
-    fn first_look(&mut self, alloc: Global, name: &[u8]) -> Result<Option<i128>, TreeFault>
+    fn first_look(&mut self, alloc: Global, name: &[u8]) -> Result<Option<FileLook>, TreeFault>
         requires { has_name self.old.stamps.listed name.now ≡ false }
-        ensures stamp { IfOk result (λ stamp. (times : List ℕ → Option ℤ) → AgreesWith self.new.stamps times → stamp ≡ times name.now) }
-        ensures grows { (times : List ℕ → Option ℤ) → AgreesWith self.new.stamps times → AgreesWith self.old.stamps times }
+        ensures stamp { IfOk result (λ stamp. (looks : List ℕ → Option FileLook) → AgreesWith self.new.stamps looks → stamp ≡ looks name.now) }
+        ensures grows { (looks : List ℕ → Option FileLook) → AgreesWith self.new.stamps looks → AgreesWith self.old.stamps looks }
         ensures known { IsSome (known_stamp self.old.stamps name.now) → self.new ≡ self.old }
         ensures found { IsSome (known_stamp self.old.stamps name.now) → IsOk result }
         ensures listed { (n : List ℕ) → has_name self.new.stamps.listed n ≡ true → (has_name self.old.stamps.listed n ≡ true) ⊎ (n ≡ name.now) }
@@ -166,17 +168,17 @@ impl<C: FileCalls + Drop> Tree for FileTree<C> {
     ghost use Rattle.std.specs.Prelude.{unwrap_or};
     ghost use Rattle.dmk_files.specs.Fits.{some_fit};
 
-    ghost allows = { λ tree times. AgreesWith tree.stamps times };
+    ghost allows = { λ tree looks. AgreesWith tree.stamps looks };
 
     ghost refuses = { λ _ _. Unit {0} };
 
     ghost firsts = { λ tree name. has_name tree.stamps.listed name ≡ true };
 
-    fn stamp(&mut self, alloc: Global, name: &[u8]) -> Result<Option<i128>, TreeFault> {
+    fn stamp(&mut self, alloc: Global, name: &[u8]) -> Result<Option<FileLook>, TreeFault> {
         self.look(alloc, name)
     }
 
-    fn first_stamp(&mut self, alloc: Global, name: &[u8]) -> Result<Option<i128>, TreeFault> {
+    fn first_stamp(&mut self, alloc: Global, name: &[u8]) -> Result<Option<FileLook>, TreeFault> {
         self.first_look(alloc, name)
     }
 

@@ -1,4 +1,4 @@
-//! What the system answered, kept: the times of files, their texts, what commands wrote, and the names in folders.
+//! What the system answered, kept: looks at files, their texts, what commands wrote, and the names in folders.
 //!
 //! Each is asked for once. What was answered holds from then on.
 #![tactic(auto)]

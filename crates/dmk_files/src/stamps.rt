@@ -1,4 +1,4 @@
-//! The times that were told of names.
+//! What looks at names told.
 ghost use Rattle.std.specs.Prelude.{◌≡◌, ℕ, ◌<◌, ◌⊎◌, List, [], None, length, true, false, is_some, IfOk, IfSome, OnOk, OnErr};
 ghost use Rattle.std.specs.List.{IsDistinct};
 ghost use Rattle.std.specs.Str.{bytes_eq};
@@ -8,13 +8,14 @@ ghost use Rattle.dmk_files.specs.Stamps.{names_of, told_of, known_stamp, Adds, K
 use crate::listed::{Listed, make_room};
 use crate::told::Told;
 use mk_graph::Names;
+use mk_nodes::FileLook;
 use std::alloc::{AllocError, Global};
 use std::marker::Model;
 
 /// What was told of each name so far. Contracts see the names by their numbers, and what was told of them.
 ///
 /// A name that was never asked for before is listed at no cost, and is found by its bytes only once another name has to be found.
-/// The times of a graph's nodes can't stand for that list: a name from which a rule may make something is looked at apart from
+/// The looks of a graph's nodes can't stand for that list: a name from which a rule may make something is looked at apart from
 /// its node. To seek each node's name in the list would be a search for each.
 pub struct Stamps {
     /// The names that are found, and those that were listed since.
@@ -137,22 +138,27 @@ impl Stamps {
     }
 
     /// Lists a name that is new, and takes in what was told of it.
-    pub fn list(&mut self, alloc: Global, name: &[u8], time: Option<i128>) -> Result<(), AllocError>
+    pub fn list(
+        &mut self,
+        alloc: Global,
+        name: &[u8],
+        look: Option<FileLook>,
+    ) -> Result<(), AllocError>
         requires no_found { has_name self.old.found name.now ≡ false }
         requires no_listed { has_name self.old.listed name.now ≡ false }
-        ensures ok { OnOk result (Adds name.now time self.old self.new) }
+        ensures ok { OnOk result (Adds name.now look self.old self.new) }
         ensures err { OnErr result (KnowsTheSame self.old self.new) }
         ensures listed { (n : List ℕ) → has_name self.new.listed n ≡ true → (has_name self.old.listed n ≡ true) ⊎ (n ≡ name.now) }
     {
-        let told = Told::of(alloc, time)?;
+        let told = Told::of(alloc, look)?;
         make_room(&mut self.told)?;
         self.listed.push(name)?;
         self.told.push_reserved(told);
         Ok(())
     }
 
-    /// What is known of the name with this number: nothing, that it has no file, or its time.
-    pub fn get(&self, number: usize) -> Option<Option<i128>>
+    /// What is known of the name with this number: nothing, that it has no file, or what a look at it told.
+    pub fn get(&self, number: usize) -> Option<Option<FileLook>>
         requires { number < length (names_of self.now) }
         ensures { result ≡ known_stamp self.now (name_at (names_of self.now) number) }
     {
@@ -164,14 +170,14 @@ impl Stamps {
         &mut self,
         alloc: Global,
         number: usize,
-        time: Option<i128>,
+        look: Option<FileLook>,
     ) -> Result<(), AllocError>
         requires { number < length (names_of self.old) }
-        ensures ok { OnOk result (Adds (name_at (names_of self.old) number) time self.old self.new) }
+        ensures ok { OnOk result (Adds (name_at (names_of self.old) number) look self.old self.new) }
         ensures err { OnErr result (KnowsTheSame self.old self.new) }
         ensures listed { self.new.listed ≡ self.old.listed }
     {
-        let told = Told::of(alloc, time)?;
+        let told = Told::of(alloc, look)?;
         self.told[number] = told;
         Ok(())
     }

@@ -1,29 +1,33 @@
 //! What was told of a file, kept in little memory.
 ghost use Rattle.std.specs.Prelude.{◌≡◌, None, Some, IfOk};
+ghost use Rattle.dmk_files.specs.Told.{told_kept};
 
+use mk_nodes::FileLook;
 use std::alloc::{AllocError, Global};
 use std::boxed::Box;
 use std::marker::Model;
 
-/// As `mk_nodes::Stamp` keeps a time, with one case more: an option of a stamp would take 8 bytes more for it.
+/// As `mk_nodes::Stamp` keeps a look, with one case more: an option of a stamp would take 8 bytes more for it.
 #[derive(Drop)]
 pub(crate) enum Kept {
     Untold,
     NoFile,
     Near(i64),
-    Far(Box<i128>),
+    NearFile(u32, i64),
+    Far(Box<FileLook>),
 }
 
-/// What was told of a file: nothing so far, that there is none, or when it was last changed, in nanoseconds since 1970.
+/// What was told of a file: nothing so far, that there is none, or what a look at it told.
 pub struct Told {
     kept: Kept,
 }
 
 impl Model for Told {
-    ghost use Rattle.std.specs.Prelude.{ℤ, Option};
+    ghost use Rattle.std.specs.Prelude.{Option};
     ghost use Rattle.dmk_files.specs.Told.{told_kept};
+    ghost use Rattle.mk_nodes.specs.declared.file_look.FileLook.{FileLook};
 
-    ghost Value = { Option (Option ℤ) };
+    ghost Value = { Option (Option FileLook) };
 
     ghost view = { λ t. told_kept t.kept };
 }
@@ -31,6 +35,16 @@ impl Model for Told {
 impl Drop for Told {
     fn drop(self) {
         let Told { kept: _ } = self;
+    }
+}
+
+/// The look at a file with this time and size.
+fn near(time: i64, size: Option<u32>) -> Kept
+    ensures { told_kept result ≡ Some (Some (record { time = time; size = size })) }
+{
+    match size {
+        Some(size) => Kept::NearFile(size, time),
+        None => Kept::Near(time),
     }
 }
 
@@ -42,28 +56,35 @@ impl Told {
         Told { kept: Kept::Untold }
     }
 
-    /// This time, or that there is no file.
-    pub fn of(alloc: Global, time: Option<i128>) -> Result<Told, AllocError>
-        ensures { IfOk result (λ told. told ≡ Some time) }
+    /// This look, or that there is no file.
+    pub fn of(alloc: Global, look: Option<FileLook>) -> Result<Told, AllocError>
+        ensures { IfOk result (λ told. told ≡ Some look) }
     {
-        let kept = match time {
+        let kept = match look {
             None => Kept::NoFile,
-            Some(time) => match i64::try_from(time) {
-                Ok(near) => Kept::Near(near),
-                Err(_) => Kept::Far(Box::new(alloc, time)?),
+            Some(look) => match i64::try_from(look.time) {
+                Ok(time) => near(time, look.size),
+                Err(_) => Kept::Far(Box::new(alloc, look)?),
             },
         };
         Ok(Told { kept })
     }
 
-    pub fn get(&self) -> Option<Option<i128>>
+    pub fn get(&self) -> Option<Option<FileLook>>
         ensures { result ≡ self.now }
     {
         match &self.kept {
             Kept::Untold => None,
             Kept::NoFile => Some(None),
-            Kept::Near(time) => Some(Some(i128::from(*time))),
-            Kept::Far(time) => Some(Some(**time)),
+            Kept::Near(time) => Some(Some(FileLook {
+                time: i128::from(*time),
+                size: None,
+            })),
+            Kept::NearFile(size, time) => Some(Some(FileLook {
+                time: i128::from(*time),
+                size: Some(*size),
+            })),
+            Kept::Far(look) => Some(Some(**look)),
         }
     }
 }

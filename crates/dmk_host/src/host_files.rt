@@ -135,11 +135,12 @@ const MARK: &[u8] = b"\xEF\xBB\xBF";
 
 impl FileCalls for HostFiles<'_> {
     fn status(&mut self, name: &str) -> io::Result<FileStatus> {
-        if self.input_named(name).is_some() {
+        if let Some(input) = self.input_named(name) {
             return Ok(FileStatus {
                 seconds: 0,
                 nanoseconds: 0,
                 is_ordinary: true,
+                bytes: input.len() as u64,
             });
         }
         self.looks.status(name)

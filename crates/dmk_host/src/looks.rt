@@ -47,6 +47,7 @@ impl Looks {
             seconds: self.found.stx_mtime.tv_sec,
             nanoseconds: i64::from(self.found.stx_mtime.tv_nsec),
             is_ordinary: u32::from(self.found.stx_mode) & libc::S_IFMT == libc::S_IFREG,
+            bytes: self.found.stx_size,
         })
     }
 }

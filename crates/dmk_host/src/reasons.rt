@@ -2,7 +2,8 @@
 
 use crate::host_files::HostFiles;
 use dmk_files::FileTexts;
-use dmk_reading::{Options, print_lines};
+use dmk_messages::print_lines;
+use dmk_reading::Options;
 use plain_text::Plain;
 use st_disk::{FailedCallMessage, FileDisk, SystemFolder, Which};
 use std::alloc::Global;

@@ -2,7 +2,8 @@
 use crate::host_files::HostFiles;
 use bd_lists::Variable;
 use dmk_files::FileTexts;
-use dmk_reading::{Fault, Makefiles, Options, first_macros, items_of};
+use dmk_messages::Fault;
+use dmk_reading::{Makefiles, Options, first_macros, items_of};
 use mk_eval::Includes;
 use mk_macros::{Dynamic, MacroFault, Macros};
 use mk_plan::RecipeFault;

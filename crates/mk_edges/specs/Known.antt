@@ -19,7 +19,7 @@ required_by known hard = unwrap_or (listed_in known) hard
 
 -- what is found of a name is what the inputs say of it
 pub record IsKnown (inputs : Inputs) (name : List ℕ) (known : Node) : Type 0 where
-  pub stamp : known.stamp ≡ inputs.times name
+  pub stamp : known.stamp ≡ inputs.looks name
   pub stem : known.rare.stem ≡ option_map (λ s. s.stem) (implicit_source inputs name)
   pub implied : known.rare.implied ≡ length (distinct (made_from (implicit_source inputs name)))
   pub recipe : known.recipe ≡ recipe_of inputs name

@@ -33,7 +33,7 @@ is_numbered count hidden = option_map_or (λ n. nat_lt n count) hidden true
 
 -- what is known of a name: the rows are those of its hard prerequisites and of what it waits for besides
 pub record IsNode (inputs : Inputs) (names : List (List ℕ)) (hard soft : List ℕ) (name : List ℕ) (node : Node) : Type 0 where
-  pub stamp : node.stamp ≡ inputs.times name
+  pub stamp : node.stamp ≡ inputs.looks name
   pub stem : node.rare.stem ≡ option_map (λ s. s.stem) (implicit_source inputs name)
   pub implied : node.rare.implied ≡ length (distinct (made_from (implicit_source inputs name)))
   pub source : option_map (name_at names) (source_by node.rare.implied hard) ≡ source_name (implicit_source inputs name)

@@ -3,7 +3,9 @@ use Rattle.std.specs.Prelude.{ℕ, ℤ, int_lt, List, [], ◌∷◌, map, Option
 use Rattle.std.specs.Option.{option_map_or}
 use Rattle.mk_rule_lines.specs.declared.form.Source.{Source}
 use Rattle.mk_nodes.specs.Prerequisites.{Inputs, implicit_source}
+use Rattle.mk_nodes.specs.declared.file_look.FileLook.{FileLook}
 use Rattle.mk_nodes.specs.declared.group.Group.{Group}
+use Rattle.mk_nodes.specs.Look.{time_of}
 
 -- the earlier of two times; none where one is missing
 abbrev pub earlier : (a b : Option ℤ) → Option ℤ
@@ -19,18 +21,19 @@ earliest first (time ∷ more) = earliest (earlier first time) more
 abbrev pub others_in : Option Source → List (List ℕ)
 others_in source = option_map_or (λ s. s.others) source []
 
--- what is made beside the name, and when all of it was: the earliest time of its files
-abbrev pub group_with : (times : List ℕ → Option ℤ) → (name : List ℕ) → (others : List (List ℕ)) → Option Group
-group_with times name [] = None
-group_with times name (other ∷ others) =
-    Some (record { made = earliest (times name) (map times (other ∷ others)); others = other ∷ others })
+-- what is made beside the name, what looks at it tell, and when all of it was made: the earliest time of its files
+abbrev pub group_with : (looks : List ℕ → Option FileLook) → (name : List ℕ) → (others : List (List ℕ)) → Option Group
+group_with looks name [] = None
+group_with looks name (other ∷ others) =
+    let behind = map looks (other ∷ others) in
+    Some (record { made = earliest (time_of (looks name)) (map time_of behind); others = other ∷ others; looks = behind })
 
 abbrev pub group_of : Inputs → (name : List ℕ) → Option Group
-group_of inputs name = group_with inputs.times name (others_in (implicit_source inputs name))
+group_of inputs name = group_with inputs.looks name (others_in (implicit_source inputs name))
 
 -- when what a recipe for the name makes was made: none where a file of it is missing (own: GNU make looks at the name that it comes to)
 abbrev pub made_time : Inputs → (name : List ℕ) → Option ℤ
-made_time inputs name = option_map_or (λ g. g.made) (group_of inputs name) (inputs.times name)
+made_time inputs name = option_map_or (λ g. g.made) (group_of inputs name) (time_of (inputs.looks name))
 
 -- what the recipe makes beside the name
 abbrev pub made_beside : Inputs → (name : List ℕ) → List (List ℕ)

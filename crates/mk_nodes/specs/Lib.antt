@@ -3,6 +3,7 @@ pub mod Graph
 pub mod Groups
 pub mod Hidden
 pub mod Links
+pub mod Look
 pub mod Node
 pub mod Prerequisites
 pub mod Rare

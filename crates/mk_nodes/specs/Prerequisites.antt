@@ -1,5 +1,5 @@
 -- What the rules, the files and the state say of a name: what makes it and what it is made from.
-use Rattle.std.specs.Prelude.{◌≡◌, ℕ, ℤ, Bool, true, false, not, ◌&&◌, ◌||◌, List, [], ◌∷◌, ◌++◌, filter, drop, take, slice_get, codes, Option, Some, None, is_some, is_none, option_and_then, option_to_list, ◌==◌, if◌then◌else◌}
+use Rattle.std.specs.Prelude.{◌≡◌, ℕ, Bool, true, false, not, ◌&&◌, ◌||◌, List, [], ◌∷◌, ◌++◌, filter, drop, take, slice_get, codes, Option, Some, None, is_some, is_none, option_and_then, option_to_list, ◌==◌, if◌then◌else◌}
 use Rattle.std.specs.List.{list_any}
 use Rattle.std.specs.Option.{option_map_or, option_or}
 use Rattle.std.specs.Str.{is_utf8}
@@ -15,21 +15,22 @@ use Rattle.mk_rule_lines.specs.declared.form.Source.{Source}
 use Rattle.mk_rule_lines.specs.declared.rule_line.RuleLine.{RuleLine}
 use Rattle.mk_short_names.specs.Short.{is_short}
 use Rattle.mk_nodes.specs.Chain.{any_wide, source_in, steps_of}
+use Rattle.mk_nodes.specs.declared.file_look.FileLook.{FileLook}
 use Rattle.mk_nodes.specs.Wanted.{from_wanted}
 
--- what a graph is made of: the rule lines, the times of names as the lines let them be seen, and what the state has of each
+-- what a graph is made of: the rule lines, what looks at names tell as the lines let them be seen, and what the state has of each
 -- target
 pub record Inputs : Type 0 where
   pub lines : List RuleLine
-  pub times : (name : List ℕ) → Option ℤ
+  pub looks : (name : List ℕ) → Option FileLook
   pub entries : (name : List ℕ) → Option Entry
 
--- the time of a name: that of its file; a phony name has none, whatever lies there (POSIX make, .PHONY)
-abbrev pub seen_times : (lines : List RuleLine) (times : (name : List ℕ) → Option ℤ) → (name : List ℕ) → Option ℤ
-seen_times lines times name = if is_phony lines name then None else times name
+-- what is seen of a name: its file; of a phony name nothing, whatever lies there (POSIX make, .PHONY)
+abbrev pub seen_looks : (lines : List RuleLine) (looks : (name : List ℕ) → Option FileLook) → (name : List ℕ) → Option FileLook
+seen_looks lines looks name = if is_phony lines name then None else looks name
 
-abbrev pub inputs_of : (lines : List RuleLine) (entries : (name : List ℕ) → Option Entry) (times : (name : List ℕ) → Option ℤ) → Inputs
-inputs_of lines entries times = record { lines = lines; times = seen_times lines times; entries = entries }
+abbrev pub inputs_of : (lines : List RuleLine) (entries : (name : List ℕ) → Option Entry) (looks : (name : List ℕ) → Option FileLook) → Inputs
+inputs_of lines entries looks = record { lines = lines; looks = seen_looks lines looks; entries = entries }
 
 -- some line makes the name
 abbrev pub is_target : List RuleLine → (name : List ℕ) → Bool
@@ -46,7 +47,7 @@ own_recipes lines name = any_or (recipe_places (explicit_targets lines) 0 lines 
 
 -- there is a file of the name, or some line makes it
 abbrev pub is_there : Inputs → (name : List ℕ) → Bool
-is_there inputs name = is_target inputs.lines name || is_some (inputs.times name)
+is_there inputs name = is_target inputs.lines name || is_some (inputs.looks name)
 
 -- the other one, where the list has nothing
 abbrev pub unless_any : {A : Type 0} → List ℕ → (other : Option A) → Option A
@@ -103,7 +104,7 @@ is_cut (Failed status) = true
 -- only one whose recipe wasn't run to its end, which would pass as a source else (own)
 abbrev pub is_left : Inputs → (name : List ℕ) → Bool
 is_left inputs name =
-    not (is_target inputs.lines name) && (is_none (inputs.times name) || option_map_or (λ e. is_cut e.phase) (inputs.entries name) false)
+    not (is_target inputs.lines name) && (is_none (inputs.looks name) || option_map_or (λ e. is_cut e.phase) (inputs.entries name) false)
 
 abbrev pub left_recipe : Inputs → (name : List ℕ) → Option ℕ
 left_recipe inputs name = if is_left inputs name then default_of inputs.lines else None

@@ -1,9 +1,11 @@
--- The time that a stamp keeps.
-use Rattle.std.specs.Prelude.{ℤ, Option, Some, None}
+-- The look that a stamp keeps.
+use Rattle.std.specs.Prelude.{Option, Some, None}
+use Rattle.mk_nodes.specs.declared.file_look.FileLook.{FileLook}
 use Rattle.mk_nodes.specs.declared.stamp.Kept.{Kept}
 use Rattle.mk_nodes.specs.declared.stamp.Kept.TheVariants as kept
 
-abbrev pub time_kept : Kept → Option ℤ
-time_kept kept.Nothing = None
-time_kept (kept.Near time) = Some time
-time_kept (kept.Far time) = Some time.value
+abbrev pub look_kept : Kept → Option FileLook
+look_kept kept.Nothing = None
+look_kept (kept.Near time) = Some (record { time = time; size = None })
+look_kept (kept.NearFile size time) = Some (record { time = time; size = Some size })
+look_kept (kept.Far look) = Some look.value

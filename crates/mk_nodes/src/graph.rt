@@ -25,7 +25,7 @@ use std::alloc::{AllocError, Global};
 
 /// A name of the graph.
 pub struct Node {
-    /// When its file was last changed.
+    /// What a look at it tells.
     pub stamp: Stamp,
     /// What it has of an implicit rule, of order-only prerequisites, and of hidden ones that are gone.
     pub rare: RareParts,

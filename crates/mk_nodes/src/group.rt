@@ -1,4 +1,5 @@
 //! What one run of a rule of several targets makes.
+use crate::file_look::FileLooks;
 use byte_strings::ByteStrings;
 
 /// What the run of a recipe for a name makes beside it.
@@ -7,10 +8,16 @@ pub struct Group {
     pub made: Option<i128>,
     /// The other names.
     pub others: ByteStrings,
+    /// What looks at these tell.
+    pub looks: FileLooks,
 }
 
 impl Drop for Group {
     fn drop(self) {
-        let Group { made: _, others: _ } = self;
+        let Group {
+            made: _,
+            others: _,
+            looks: _,
+        } = self;
     }
 }

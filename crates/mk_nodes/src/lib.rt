@@ -2,6 +2,7 @@
 //! which whoever reads a graph knows nothing.
 #![tactic(auto)]
 
+mod file_look;
 mod graph;
 mod group;
 mod hidden_numbers;
@@ -12,6 +13,7 @@ mod removing;
 mod short_number;
 mod stamp;
 
+pub use file_look::{FileLook, FileLooks};
 pub use graph::{Graph, Node};
 pub use group::Group;
 pub use hidden_numbers::HiddenNumbers;

@@ -1,30 +1,37 @@
-//! When a file was last changed, kept in little memory.
-ghost use Rattle.std.specs.Prelude.{◌≡◌, is_some, IfOk};
+//! What a look at a name tells of its file, kept in little memory.
+ghost use Rattle.std.specs.Prelude.{◌≡◌, Some, is_some, IfOk};
+ghost use Rattle.mk_nodes.specs.Look.{time_of};
+ghost use Rattle.mk_nodes.specs.Stamp.{look_kept};
 
+use crate::file_look::FileLook;
 use std::alloc::{AllocError, Global};
 use std::boxed::Box;
 use std::marker::Model;
 
-/// A time in nanoseconds since 1970: those from 1677 to 2262 take no memory of their own.
+/// A look: where its time is one from 1677 to 2262, it takes no memory of its own.
 #[derive(Drop)]
 pub(crate) enum Kept {
     Nothing,
+    /// The time of what is no ordinary file.
     Near(i64),
-    Far(Box<i128>),
+    /// The size of an ordinary file, in front of its time, so that both take no more than a time alone.
+    NearFile(u32, i64),
+    Far(Box<FileLook>),
 }
 
-/// When a file was last changed, in nanoseconds since 1970; nothing where there is no file.
+/// What a look at a name tells; nothing where there is no file.
 pub struct Stamp {
     kept: Kept,
 }
 
 impl Model for Stamp {
-    ghost use Rattle.std.specs.Prelude.{ℤ, Option};
-    ghost use Rattle.mk_nodes.specs.Stamp.{time_kept};
+    ghost use Rattle.std.specs.Prelude.{Option};
+    ghost use Rattle.mk_nodes.specs.Stamp.{look_kept};
+    ghost use Rattle.mk_nodes.specs.declared.file_look.FileLook.{FileLook};
 
-    ghost Value = { Option ℤ };
+    ghost Value = { Option FileLook };
 
-    ghost view = { λ s. time_kept s.kept };
+    ghost view = { λ s. look_kept s.kept };
 }
 
 impl Drop for Stamp {
@@ -33,33 +40,61 @@ impl Drop for Stamp {
     }
 }
 
+/// The look at a file with this time and size.
+fn near(time: i64, size: Option<u32>) -> Kept
+    ensures { look_kept result ≡ Some (record { time = time; size = size }) }
+{
+    match size {
+        Some(size) => Kept::NearFile(size, time),
+        None => Kept::Near(time),
+    }
+}
+
 impl Stamp {
-    /// This time.
-    pub fn of(alloc: Global, time: Option<i128>) -> Result<Stamp, AllocError>
-        ensures { IfOk result (λ stamp. stamp ≡ time) }
+    /// This look.
+    pub fn of(alloc: Global, look: Option<FileLook>) -> Result<Stamp, AllocError>
+        ensures { IfOk result (λ stamp. stamp ≡ look) }
     {
-        let Some(time) = time else {
+        let Some(look) = look else {
             return Ok(Stamp {
                 kept: Kept::Nothing,
             });
         };
-        match i64::try_from(time) {
-            Ok(near) => Ok(Stamp {
-                kept: Kept::Near(near),
+        match i64::try_from(look.time) {
+            Ok(time) => Ok(Stamp {
+                kept: near(time, look.size),
             }),
             Err(_) => Ok(Stamp {
-                kept: Kept::Far(Box::new(alloc, time)?),
+                kept: Kept::Far(Box::new(alloc, look)?),
             }),
         }
     }
 
-    pub fn get(&self) -> Option<i128>
+    pub fn look(&self) -> Option<FileLook>
         ensures { result ≡ self.now }
     {
         match &self.kept {
             Kept::Nothing => None,
-            Kept::Near(time) => Some(i128::from(*time)),
-            Kept::Far(time) => Some(**time),
+            Kept::Near(time) => Some(FileLook {
+                time: i128::from(*time),
+                size: None,
+            }),
+            Kept::NearFile(size, time) => Some(FileLook {
+                time: i128::from(*time),
+                size: Some(*size),
+            }),
+            Kept::Far(look) => Some(**look),
+        }
+    }
+
+    /// When the file was last changed, in nanoseconds since 1970.
+    pub fn time(&self) -> Option<i128>
+        ensures { result ≡ time_of self.now }
+    {
+        match &self.kept {
+            Kept::Nothing => None,
+            Kept::Near(time) | Kept::NearFile(_, time) => Some(i128::from(*time)),
+            Kept::Far(look) => Some(look.time),
         }
     }
 
@@ -69,7 +104,7 @@ impl Stamp {
     {
         match &self.kept {
             Kept::Nothing => false,
-            Kept::Near(_) | Kept::Far(_) => true,
+            Kept::Near(_) | Kept::NearFile(_, _) | Kept::Far(_) => true,
         }
     }
 }

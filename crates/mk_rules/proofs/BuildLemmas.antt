@@ -1,5 +1,5 @@
 -- The graph of a makefile, a tree and a state, and why there is none.
-use Rattle.std.proofs.Common.{◌≡◌, ℕ, ℤ, List, Option, inl, inr, refl}
+use Rattle.std.proofs.Common.{◌≡◌, ℕ, List, Option, inl, inr, refl}
 use Rattle.std.specs.Prelude.{◌⊎◌}
 use Rattle.mk_graph.specs.declared.numbering.Numbered.{Numbered}
 use Rattle.mk_reader.specs.declared.item.Item.{Item}
@@ -19,6 +19,7 @@ use Rattle.mk_nodes.specs.declared.graph.Graph.{Graph}
 use Rattle.mk_nodes.specs.declared.graph.Node.{Node}
 use Rattle.mk_rule_lines.specs.declared.rule_line.RuleLine.{RuleLine}
 use Rattle.mk_rules.proofs.FaultLemmas.{graph_fault}
+use Rattle.mk_nodes.specs.declared.file_look.FileLook.{FileLook}
 
 -- ---- parts of the fault of these inputs
 
@@ -36,39 +37,39 @@ module _ (inputs : Inputs) (refuses : List ℕ → Type 0) (named : List (List �
   graphless (fault.Cycle cycle) meets = meets
   graphless _ meets = absurd meets
 
-module _ (given : Defined) (items : List Item) (times : (name : List ℕ) → Option ℤ) (entries : (name : List ℕ) → Option Entry)
+module _ (given : Defined) (items : List Item) (looks : (name : List ℕ) → Option FileLook) (entries : (name : List ℕ) → Option Entry)
     (named : List (List ℕ)) (lines : List RuleLine) (are : AreLinesInForce given items lines) where
-  are_inputs : AreInputs given items times entries (inputs_of lines entries times)
-  are_inputs = record { lines = are; times_are = refl; entries_are = refl }
+  are_inputs : AreInputs given items looks entries (inputs_of lines entries looks)
+  are_inputs = record { lines = are; looks_are = refl; entries_are = refl }
 
-  module _ (n : Numbered Node) (found : AreFound (inputs_of lines entries times) (goals_of lines named) n) where
+  module _ (n : Numbered Node) (found : AreFound (inputs_of lines entries looks) (goals_of lines named) n) where
     pub built : (graph : Graph) →
         ((inputs : Inputs) (names : List (List ℕ)) → inputs.lines ≡ lines → entries ≡ inputs.entries → AreFound inputs (goals_of inputs.lines names) n → IsGraph inputs names graph) →
-        (inputs : Inputs) × AreInputs given items times entries inputs × IsGraph inputs named graph
-    built graph is = (inputs_of lines entries times, are_inputs, is (inputs_of lines entries times) named refl refl found)
+        (inputs : Inputs) × AreInputs given items looks entries inputs × IsGraph inputs named graph
+    built graph is = (inputs_of lines entries looks, are_inputs, is (inputs_of lines entries looks) named refl refl found)
 
     pub graph_refused : (refuses : List ℕ → Type 0) (limit : ℕ) (f : RuleFault) →
         ((inputs : Inputs) (names : List (List ℕ)) → inputs.lines ≡ lines → AreFound inputs (goals_of inputs.lines names) n → IsGraphlessFault inputs names f) →
-        IsRuleFault given items times entries refuses named limit f
+        IsRuleFault given items looks entries refuses named limit f
     graph_refused refuses limit f meets =
-        let inputs = inputs_of lines entries times in
-        graph_fault given items times entries refuses named limit inputs are_inputs f
+        let inputs = inputs_of lines entries looks in
+        graph_fault given items looks entries refuses named limit inputs are_inputs f
         (graphless inputs refuses named limit f (meets inputs named refl found))
 
   module _ (refuses : List ℕ → Type 0) (limit : ℕ) (f : RuleFault) where
-    lines_refused : IsTakingFault lines f → IsRuleFault given items times entries refuses named limit f
+    lines_refused : IsTakingFault lines f → IsRuleFault given items looks entries refuses named limit f
     lines_refused meets =
-        let inputs = inputs_of lines entries times in
-        graph_fault given items times entries refuses named limit inputs are_inputs f (taking inputs refuses named limit f meets)
+        let inputs = inputs_of lines entries looks in
+        graph_fault given items looks entries refuses named limit inputs are_inputs f (taking inputs refuses named limit f meets)
 
-    pub names_refused : IsGraphFault (inputs_of lines entries times) refuses named limit f → IsRuleFault given items times entries refuses named limit f
-    names_refused meets = graph_fault given items times entries refuses named limit (inputs_of lines entries times) are_inputs f meets
+    pub names_refused : IsGraphFault (inputs_of lines entries looks) refuses named limit f → IsRuleFault given items looks entries refuses named limit f
+    names_refused meets = graph_fault given items looks entries refuses named limit (inputs_of lines entries looks) are_inputs f meets
 
 -- a makefile is refused for a fault of its text, or of its rule lines
-pub makefile_refused : (given : Defined) (items : List Item) (times : (name : List ℕ) → Option ℤ)
+pub makefile_refused : (given : Defined) (items : List Item) (looks : (name : List ℕ) → Option FileLook)
     (entries : (name : List ℕ) → Option Entry) (named : List (List ℕ)) (refuses : List ℕ → Type 0) (limit : ℕ) (f : RuleFault) →
     IsLinesFault given items f ⊎ ((lines : List RuleLine) × AreLinesInForce given items lines × IsTakingFault lines f) →
-    IsRuleFault given items times entries refuses named limit f
-makefile_refused given items times entries named refuses limit f (inl meets) = inl meets
-makefile_refused given items times entries named refuses limit f (inr meets) =
-    lines_refused given items times entries named meets.0 meets.1 refuses limit f meets.2
+    IsRuleFault given items looks entries refuses named limit f
+makefile_refused given items looks entries named refuses limit f (inl meets) = inl meets
+makefile_refused given items looks entries named refuses limit f (inr meets) =
+    lines_refused given items looks entries named meets.0 meets.1 refuses limit f meets.2

@@ -1,5 +1,5 @@
 -- Each part's fault as one of the whole: of a makefile, a tree and a state.
-use Rattle.std.proofs.Common.{◌≡◌, ℕ, ℤ, Bool, List, inl, inr, Option, sym, subst}
+use Rattle.std.proofs.Common.{◌≡◌, ℕ, Bool, List, inl, inr, Option, sym, subst}
 use Rattle.mk_graph.specs.Numbering.{IsNumbering}
 use Rattle.mk_reader.specs.declared.item.Item.{Item}
 use Rattle.st_records.specs.declared.record.Entry.{Entry}
@@ -14,6 +14,7 @@ use Rattle.mk_rule_lines.specs.Supported.{IsRefusal}
 use Rattle.mk_rule_lines.specs.Table.{IsTableFault}
 use Rattle.mk_rule_lines.specs.declared.fault.RuleFault.{RuleFault}
 use Rattle.mk_rule_lines.specs.declared.fault.RuleFault.TheVariants as fault
+use Rattle.mk_nodes.specs.declared.file_look.FileLook.{FileLook}
 
 -- ---- faults of the inputs
 
@@ -60,11 +61,11 @@ module _ (inputs : Inputs) (refuses : List ℕ → Type 0) (named : List (List �
 
 -- ---- faults of the whole
 
-module _ (given : Defined) (items : List Item) (times : (name : List ℕ) → Option ℤ) (entries : (name : List ℕ) → Option Entry)
+module _ (given : Defined) (items : List Item) (looks : (name : List ℕ) → Option FileLook) (entries : (name : List ℕ) → Option Entry)
     (refuses : List ℕ → Type 0) (named : List (List ℕ)) (limit : ℕ) where
-  pub line_fault : (f : RuleFault) → IsLinesFault given items f → IsRuleFault given items times entries refuses named limit f
+  pub line_fault : (f : RuleFault) → IsLinesFault given items f → IsRuleFault given items looks entries refuses named limit f
   line_fault f meets = inl meets
 
-  pub graph_fault : (inputs : Inputs) → AreInputs given items times entries inputs → (f : RuleFault) → IsGraphFault inputs refuses named limit f →
-      IsRuleFault given items times entries refuses named limit f
+  pub graph_fault : (inputs : Inputs) → AreInputs given items looks entries inputs → (f : RuleFault) → IsGraphFault inputs refuses named limit f →
+      IsRuleFault given items looks entries refuses named limit f
   graph_fault inputs are f meets = inr (inputs, are, meets)

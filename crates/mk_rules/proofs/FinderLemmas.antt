@@ -1,5 +1,5 @@
 -- What is looked up of a name, put together.
-use Rattle.std.proofs.Common.{◌≡◌, ℕ, ℤ, List, ◌++◌, length, filter, map, drop, inl, inr, Option, sym, ap, ◌∙◌}
+use Rattle.std.proofs.Common.{◌≡◌, ℕ, List, ◌++◌, length, filter, map, drop, inl, inr, Option, sym, ap, ◌∙◌}
 use Rattle.std.specs.Prelude.{Result, Ok, Err, IfOk, OnOk, option_map, unwrap_or}
 use Rattle.mk_graph.specs.Numbering.{all_added}
 use Rattle.mk_graph.proofs.NameLemmas.{all_added-append}
@@ -21,6 +21,7 @@ use Rattle.mk_rule_lines.specs.declared.form.Form.{Form}
 use Rattle.mk_nodes.specs.declared.graph.Node.{Node}
 use Rattle.mk_nodes.specs.declared.rare.Rare.{Rare}
 use Rattle.mk_rule_lines.specs.declared.table.TargetTable.{TargetTable}
+use Rattle.mk_nodes.specs.declared.file_look.FileLook.{FileLook}
 
 -- what follows of a call that gave an answer
 pub on_ok_if : {T E : Type 0} (r : Result T E) (P : T → Type 0) (Q : Type 0) → ((v : T) → P v → Q) → IfOk r P → OnOk r Q
@@ -61,7 +62,7 @@ module _ (inputs : Inputs) (name : List ℕ) (seen : Seen) (is : IsSeen inputs n
   }
 
 -- a look at a hidden prerequisite that fails is one of looking up the name
-module _ (targets : TargetTable) (allowed : (List ℕ → Option ℤ) → Type 0) (refuses : List ℕ → Type 0) (forms : List Form) (steps : ℕ) (lines : List RuleLine) (name : List ℕ)
+module _ (targets : TargetTable) (allowed : (List ℕ → Option FileLook) → Type 0) (refuses : List ℕ → Type 0) (forms : List Form) (steps : ℕ) (lines : List RuleLine) (name : List ℕ)
     (entries : (name : List ℕ) → Option Entry) where
   pub hidden_look : (f : RuleFault) → IsNamesFault refuses (hidden_in (entries name)) f → IsLookUpFault targets allowed refuses forms steps lines entries name f
   hidden_look fault.OutOfMemory meets = tt

@@ -1,5 +1,5 @@
 -- What is found of all names, in terms of the inputs.
-use Rattle.std.proofs.Common.{◌≡◌, ℕ, ℤ, ◌<◌, ◌≤◌, Bool, true, false, not, List, [], length, inl, inr, Option, Some, sym, ap, subst, ◌∙◌}
+use Rattle.std.proofs.Common.{◌≡◌, ℕ, ◌<◌, ◌≤◌, Bool, true, false, not, List, [], length, inl, inr, Option, Some, sym, ap, subst, ◌∙◌}
 use Rattle.std.specs.Prelude.{take, slice_get}
 use Rattle.std.specs.List.{list_all}
 use Rattle.mk_graph.specs.Numbering.{IsNumbering, AreDescribed, has_name}
@@ -20,6 +20,7 @@ use Rattle.mk_sources.specs.Search.{IsLedTo, IsSearched, IsChainedTo}
 use Rattle.mk_sources.specs.Source.{IsReached}
 use Rattle.mk_rule_lines.specs.Source.{source_of}
 use Rattle.mk_rule_lines.specs.Table as table
+use Rattle.mk_sources.specs.There as sources
 use Rattle.mk_rule_lines.specs.declared.fault.RuleFault.{RuleFault}
 use Rattle.mk_rule_lines.specs.declared.fault.RuleFault.TheVariants as fault
 use Rattle.mk_rule_lines.specs.declared.form.Form.{Form}
@@ -27,6 +28,7 @@ use Rattle.mk_rule_lines.specs.declared.rule_line.RuleLine.{RuleLine}
 use Rattle.mk_rule_lines.specs.declared.table.TargetTable.{TargetTable}
 use Rattle.mk_sources.proofs.LookupLemmas.{same_there}
 use Rattle.mk_sources.proofs.RuleLemmas.{any_place}
+use Rattle.mk_nodes.specs.declared.file_look.FileLook.{FileLook}
 
 module _ (lines : List RuleLine) (targets : TargetTable)
     (named : (name : List ℕ) → (table.named_at targets name).lines ≡ places (λ l. has name (targets_by false (suffixes_of lines) l)) 0 lines) where
@@ -38,9 +40,9 @@ module _ (lines : List RuleLine) (targets : TargetTable)
 module _ (lines : List RuleLine) (targets : TargetTable)
     (named : (name : List ℕ) → (table.named_at targets name).lines ≡ places (λ l. has name (targets_by false (suffixes_of lines) l)) 0 lines)
     (forms : List Form) (all_forms : forms ≡ forms_of (suffixes_of lines) lines) (steps : ℕ) (few : steps ≡ steps_of lines) (entries : (name : List ℕ) → Option Entry)
-    (allowed : (List ℕ → Option ℤ) → Type 0) (times : List ℕ → Option ℤ) (now : allowed times) where
+    (allowed : (List ℕ → Option FileLook) → Type 0) (looks : List ℕ → Option FileLook) (now : allowed looks) where
   reached : (node name : List ℕ) → is_phony lines node ≡ false → own_recipes lines node ≡ [] → IsReached targets allowed forms node name →
-      IsReachedFrom (inputs_of lines entries times) node name
+      IsReachedFrom (inputs_of lines entries looks) node name
   reached node name no_phony none r = record {
     no_phony = no_phony;
     no_recipe = none;
@@ -53,21 +55,21 @@ module _ (lines : List RuleLine) (targets : TargetTable)
     behind = r.first.behind;
     is = r.first.is;
     there =
-        ap (λ (there : List ℕ → Bool). list_all there r.first.before) (sym (same_there lines targets named entries times)) ∙ r.first.there times now;
+        ap (λ (there : List ℕ → Bool). list_all there r.first.before) (sym (same_there lines targets named entries looks)) ∙ r.first.there looks now;
     no_target = sym (target_is lines targets named name) ∙ r.first.no_target;
     earlier =
-        ap (λ (there : List ℕ → Bool). source_of there (take r.place (forms_of (suffixes_of lines) lines)) node) (sym (same_there lines targets named entries times))
-        ∙ ap (λ (fs : List Form). source_of (table.is_there targets times) (take r.place fs) node) (sym all_forms) ∙ r.earlier times now;
+        ap (λ (there : List ℕ → Bool). source_of there (take r.place (forms_of (suffixes_of lines) lines)) node) (sym (same_there lines targets named entries looks))
+        ∙ ap (λ (fs : List Form). source_of (sources.is_there targets looks) (take r.place fs) node) (sym all_forms) ∙ r.earlier looks now;
   }
 
   led_to : (node name : List ℕ) → is_phony lines node ≡ false → own_recipes lines node ≡ [] → IsLedTo targets allowed forms steps node name →
-      IsLedToFrom (inputs_of lines entries times) node name
+      IsLedToFrom (inputs_of lines entries looks) node name
   led_to node name no_phony none r = record {
     no_phony = no_phony;
     no_recipe = none;
     none =
-        ap (λ (there : List ℕ → Bool). source_of there (forms_of (suffixes_of lines) lines) node) (sym (same_there lines targets named entries times))
-        ∙ ap (λ (fs : List Form). source_of (table.is_there targets times) fs node) (sym all_forms) ∙ r.none times now;
+        ap (λ (there : List ℕ → Bool). source_of there (forms_of (suffixes_of lines) lines) node) (sym (same_there lines targets named entries looks))
+        ∙ ap (λ (fs : List Form). source_of (sources.is_there targets looks) fs node) (sym all_forms) ∙ r.none looks now;
     no_target = sym (target_is lines targets named name) ∙ r.no_target;
     count = r.count;
     some = r.some;
@@ -76,11 +78,11 @@ module _ (lines : List RuleLine) (targets : TargetTable)
   }
 
   searched : (node name : List ℕ) → is_phony lines node ≡ false → own_recipes lines node ≡ [] → IsSearched targets allowed forms steps node name →
-      IsSearchedFrom (inputs_of lines entries times) node name
+      IsSearchedFrom (inputs_of lines entries looks) node name
   searched node name no_phony none (inl r) = inl (reached node name no_phony none r)
   searched node name no_phony none (inr r) = inr (led_to node name no_phony none r)
 
-  asked : (node name : List ℕ) → IsAsked targets allowed forms steps lines entries node name → IsAskedOf (inputs_of lines entries times) node name
+  asked : (node name : List ℕ) → IsAsked targets allowed forms steps lines entries node name → IsAskedOf (inputs_of lines entries looks) node name
   asked node name (inl own) = inl own
   asked node name (inr (inl hidden)) = inr (inl hidden)
   asked node name (inr (inr (inl (no_phony, none, r)))) = inr (inr (inl (searched node name no_phony none r)))
@@ -88,18 +90,18 @@ module _ (lines : List RuleLine) (targets : TargetTable)
       let (no_phony, none, r) = led.searched in
       inr (inr (inr (inl (record {
         source = led.source;
-        found = led.found times now;
+        found = led.found looks now;
         leader = led.leader;
         leader_is = led.leader_is;
         searched = searched led.leader name no_phony none r;
       }))))
-  asked node name (inr (inr (inr (inr (among, no_phony))))) = inr (inr (inr (inr (among times now, no_phony))))
+  asked node name (inr (inr (inr (inr (among, no_phony))))) = inr (inr (inr (inr (among looks now, no_phony))))
 
   -- a name that can't be looked up is one that the goals lead to
   pub finding_fault : (refuses : List ℕ → Type 0) (goals : List (List ℕ)) (limit : ℕ) (node : List ℕ) (f : RuleFault) →
       IsLookUpFault targets allowed refuses forms steps lines entries node f →
-      ((names : List (List ℕ)) → IsNumbering (prerequisites_of (inputs_of lines entries times)) goals names → has_name names node ≡ true) →
-      IsFindingFault (inputs_of lines entries times) refuses goals limit f
+      ((names : List (List ℕ)) → IsNumbering (prerequisites_of (inputs_of lines entries looks)) goals names → has_name names node ≡ true) →
+      IsFindingFault (inputs_of lines entries looks) refuses goals limit f
   finding_fault refuses goals limit node fault.OutOfMemory meets is = tt
   finding_fault refuses goals limit node (fault.Tree name) meets is =
       (record { node = node; is_name = is; asked = asked node name meets.0 }, meets.1)
@@ -117,7 +119,7 @@ module _ {F : Type 0} (allowed : (List ℕ → List (List ℕ)) → Type 0) (ref
       × ((of : List ℕ → List (List ℕ)) → allowed of → (names : List (List ℕ)) → IsNumbering of goals names → has_name names name ≡ true)
   of_source cause is meets = subst (IsNumberingFault allowed refuses goals limit) is meets
 
--- what is known of each name for all times that agree is known for these
+-- what is known of each name for all looks that agree is known for these
 pub described_at : {N : Type 0} (P Q : List ℕ → N → Type 0) (names : List (List ℕ)) (nodes : List N) →
     ((name : List ℕ) (node : N) → P name node → Q name node) → AreDescribed P names nodes → AreDescribed Q names nodes
 described_at P Q names nodes follows are = λ n node at. follows _ node (are n node at)

@@ -1,5 +1,5 @@
--- By the same makefile, times and entries the inputs are the same.
-use Rattle.std.proofs.Common.{◌≡◌, ◌∙◌, ℕ, ℤ, List, ◌∷◌, Option, Some, None, refl, sym, ap, subst}
+-- By the same makefile, looks and entries the inputs are the same.
+use Rattle.std.proofs.Common.{◌≡◌, ◌∙◌, ℕ, List, ◌∷◌, Option, Some, None, refl, sym, ap, subst}
 use Rattle.byte_strings.specs.Blanks.{words}
 use Rattle.mk_macros.specs.Expansion.{gives}
 use Rattle.mk_macros.proofs.OutcomeLemmas.{expands_once}
@@ -17,7 +17,8 @@ use Rattle.mk_rule_lines.specs.Lines.{AreWordsOf, targets_text, ArePrerequisites
 use Rattle.mk_rule_lines.specs.Rules.{suffixes_of}
 use Rattle.mk_rule_lines.specs.declared.rule_line.RuleLine.{RuleLine}
 use Rattle.mk_rules.specs.Faults.{AreInputs}
-use Rattle.mk_nodes.specs.Prerequisites.{Inputs, seen_times}
+use Rattle.mk_nodes.specs.Prerequisites.{Inputs, seen_looks}
+use Rattle.mk_nodes.specs.declared.file_look.FileLook.{FileLook}
 
 words_once : (given : Defined) (text : List ℕ) (ws vs : List (List ℕ)) → AreWordsOf given text ws → AreWordsOf given text vs → ws ≡ vs
 words_once given text ws vs of_a of_b =
@@ -74,13 +75,13 @@ all_once given items a b of_a of_b =
     let same : of_a.lines ≡ of_b.lines = lines_once given items of_a.lines of_b.lines of_a.are of_b.are in
     in_force_once given.language of_b.lines a b (subst (λ ls. AreInForce given.language ls a) same of_a.in_force) of_b.in_force
 
-pub inputs_once : (given : Defined) (items : List Item) (times : List ℕ → Option ℤ) (entries : List ℕ → Option Entry) (a b : Inputs) →
-    AreInputs given items times entries a → AreInputs given items times entries b → a ≡ b
-inputs_once given items times entries a b of_a of_b =
+pub inputs_once : (given : Defined) (items : List Item) (looks : List ℕ → Option FileLook) (entries : List ℕ → Option Entry) (a b : Inputs) →
+    AreInputs given items looks entries a → AreInputs given items looks entries b → a ≡ b
+inputs_once given items looks entries a b of_a of_b =
     let same : a.lines ≡ b.lines = all_once given items a.lines b.lines of_a.lines of_b.lines in
     let first : a ≡ record a { lines = b.lines } = ap (λ ls. record a { lines = ls }) same in
-    let second : record a { lines = b.lines } ≡ record a { lines = b.lines; times = b.times }
-    = ap (λ t. record a { lines = b.lines; times = t }) (of_a.times_are ∙ ap (λ ls. seen_times ls times) same ∙ sym of_b.times_are) in
-    let third : record a { lines = b.lines; times = b.times } ≡ b
-    = ap (λ e. record a { lines = b.lines; times = b.times; entries = e }) (of_a.entries_are ∙ sym of_b.entries_are) in
+    let second : record a { lines = b.lines } ≡ record a { lines = b.lines; looks = b.looks }
+    = ap (λ t. record a { lines = b.lines; looks = t }) (of_a.looks_are ∙ ap (λ ls. seen_looks ls looks) same ∙ sym of_b.looks_are) in
+    let third : record a { lines = b.lines; looks = b.looks } ≡ b
+    = ap (λ e. record a { lines = b.lines; looks = b.looks; entries = e }) (of_a.entries_are ∙ sym of_b.entries_are) in
     first ∙ second ∙ third

@@ -34,13 +34,13 @@ pub made_is : (inputs : Inputs) (lines : List RuleLine) (targets : TargetTable) 
     ((name : List ℕ) → is_named (named_at targets name) ≡ is_target lines name) → (name : List ℕ) (k : Node) → IsKnown inputs name k →
     (is_some k.stamp || (is_some k.rare.stem || is_named (named_at targets name))) ≡ is_made inputs name
 made_is inputs lines targets lines_are none table name k is =
-    let stamp : is_some k.stamp ≡ is_some (inputs.times name) = ap is_some is.stamp in
+    let stamp : is_some k.stamp ≡ is_some (inputs.looks name) = ap is_some is.stamp in
     let stem : is_some k.rare.stem ≡ is_some (implicit_source inputs name) = ap is_some is.stem ∙ some_stem (implicit_source inputs name) in
     let target : is_named (named_at targets name) ≡ is_target inputs.lines name = table name ∙ ap (λ (ls : List RuleLine). is_target ls name) (sym lines_are) in
     in_order (is_some k.stamp) (is_some k.rare.stem) (is_named (named_at targets name))
     ∙ ap (λ (t : Bool). (t || is_some k.stamp) || is_some k.rare.stem) target
     ∙ ap (λ (s : Bool). (is_target inputs.lines name || s) || is_some k.rare.stem) stamp
-    ∙ ap (λ (m : Bool). (is_target inputs.lines name || is_some (inputs.times name)) || m) stem
+    ∙ ap (λ (m : Bool). (is_target inputs.lines name || is_some (inputs.looks name)) || m) stem
     ∙ no_default (is_some (default_of inputs.lines)) _ (ap (λ (ls : List RuleLine). is_some (default_of ls)) lines_are ∙ none)
 
 below_next : (n k : ℕ) → nat_lt n (k + 1) ≡ (nat_lt n k || nat_eq n k)

@@ -1,5 +1,5 @@
 -- What each refusal says of a makefile, its files and its state.
-use Rattle.std.specs.Prelude.{◌≡◌, ℕ, ℤ, ◌<◌, ◌≤◌, ◌⊎◌, Bool, true, false, List, [], ◌∷◌, ◌++◌, length, map, take, slice_get, Option, Some, None, IfSome}
+use Rattle.std.specs.Prelude.{◌≡◌, ℕ, ◌<◌, ◌≤◌, ◌⊎◌, Bool, true, false, List, [], ◌∷◌, ◌++◌, length, map, take, slice_get, Option, Some, None, IfSome}
 use Rattle.std.specs.List.{list_all}
 use Rattle.mk_graph.specs.Cycle.{IsCycle}
 use Rattle.mk_graph.specs.Numbering.{IsNumbering, name_at, has_name}
@@ -16,7 +16,7 @@ use Rattle.mk_nodes.specs.Groups.{others_in}
 use Rattle.mk_macros.specs.Ranks.{Defined}
 use Rattle.mk_rule_lines.specs.InForce.{AreLinesInForce}
 use Rattle.mk_rule_lines.specs.Lines.{IsLinesFault}
-use Rattle.mk_nodes.specs.Prerequisites.{Inputs, IsTextAmong, seen_times, own_recipes, found_source, implicit_source, is_target, is_there, hidden_of, prerequisites_of, is_made}
+use Rattle.mk_nodes.specs.Prerequisites.{Inputs, IsTextAmong, seen_looks, own_recipes, found_source, implicit_source, is_target, is_there, hidden_of, prerequisites_of, is_made}
 use Rattle.mk_rule_lines.specs.Rules.{has, targets_by, suffixes_of}
 use Rattle.mk_rule_lines.specs.Source.{stem_of, source_at, source_of}
 use Rattle.mk_rule_lines.specs.Supported.{HasRefusedLine}
@@ -27,6 +27,7 @@ use Rattle.mk_rule_lines.specs.declared.fault.RuleFault.TheVariants as fault
 use Rattle.mk_rule_lines.specs.declared.form.Form.{Form}
 use Rattle.mk_rule_lines.specs.declared.form.Source.{Source}
 use Rattle.mk_rule_lines.specs.declared.rule_line.RuleLine.{RuleLine}
+use Rattle.mk_nodes.specs.declared.file_look.FileLook.{FileLook}
 
 -- the names of the graph for these goals
 abbrev pub AreNames : Inputs → (named names : List (List ℕ)) → Type 0
@@ -132,16 +133,16 @@ IsGraphFault inputs refuses named limit (fault.Macro f) = ⊥
 IsGraphFault inputs refuses named limit (fault.Unsupported what line) = HasRefusedLine inputs.lines what line
 IsGraphFault inputs refuses named limit (fault.Tree name) = IsLookedAt inputs named name × refuses name
 
--- the inputs that a makefile, the times of files and a state give
-pub record AreInputs (given : Defined) (items : List Item) (times : (name : List ℕ) → Option ℤ)
+-- the inputs that a makefile, looks at files and a state give
+pub record AreInputs (given : Defined) (items : List Item) (looks : (name : List ℕ) → Option FileLook)
     (entries : (name : List ℕ) → Option Entry) (inputs : Inputs) : Type 0 where
   pub lines : AreLinesInForce given items inputs.lines
-  pub times_are : inputs.times ≡ seen_times inputs.lines times
+  pub looks_are : inputs.looks ≡ seen_looks inputs.lines looks
   pub entries_are : inputs.entries ≡ entries
 
--- the fault of a makefile, the times of files and a state: a macro's, met while the lines are expanded, or that of what they
+-- the fault of a makefile, looks at files and a state: a macro's, met while the lines are expanded, or that of what they
 -- give
-abbrev pub IsRuleFault : (given : Defined) (items : List Item) (times : (name : List ℕ) → Option ℤ)
+abbrev pub IsRuleFault : (given : Defined) (items : List Item) (looks : (name : List ℕ) → Option FileLook)
     (entries : (name : List ℕ) → Option Entry) (refuses : List ℕ → Type 0) (named : List (List ℕ)) (limit : ℕ) → RuleFault → Type 0
-IsRuleFault given items times entries refuses named limit f =
-    IsLinesFault given items f ⊎ ((inputs : Inputs) × AreInputs given items times entries inputs × IsGraphFault inputs refuses named limit f)
+IsRuleFault given items looks entries refuses named limit f =
+    IsLinesFault given items f ⊎ ((inputs : Inputs) × AreInputs given items looks entries inputs × IsGraphFault inputs refuses named limit f)

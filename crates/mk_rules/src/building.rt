@@ -1,7 +1,7 @@
 //! From a makefile's items to its graph.
 ghost use Rattle.std.specs.List.{IsDistinct};
 ghost use Rattle.std.specs.Str.{bytes_eq};
-ghost use Rattle.std.specs.Prelude.{◌≡◌, ◌≤◌, ◌||◌, ℕ, ℤ, List, Option, length, map, is_ok, is_some, unwrap_or, true, false, [], IsTrue, IfOk, IfErr, IfSome, OnOk};
+ghost use Rattle.std.specs.Prelude.{◌≡◌, ◌≤◌, ◌||◌, ℕ, List, Option, length, map, is_ok, is_some, unwrap_or, true, false, [], IsTrue, IfOk, IfErr, IfSome, OnOk};
 ghost use Rattle.std.specs.FinMap as finmap;
 ghost use Rattle.mk_graph.specs.Edges.{is_closed};
 ghost use Rattle.mk_graph.specs.Numbering.{AreDescribed, name_at};
@@ -24,6 +24,7 @@ ghost use Rattle.mk_rule_lines.specs.Goals.{goals_of};
 ghost use Rattle.mk_nodes.specs.Graph.{IsGraph, AreUnmade};
 ghost use Rattle.st_state.specs.State.{StateMap};
 ghost use Rattle.mk_rules.specs.Faults.{AreInputs, IsGraphFault, IsRuleFault};
+ghost use Rattle.mk_nodes.specs.declared.file_look.FileLook.{FileLook};
 
 use crate::finder::{Finder, expected};
 use crate::nodes::{Named, named_nodes};
@@ -48,15 +49,15 @@ fn found_names<T: Tree>(
     limit: usize,
 ) -> Result<Numbered<Node>, RuleFault>
     requires { (n : List ℕ) → ¬ (T.firsts finder.old.tree.now n) }
-    ensures found { IfOk result (λ n. (times : List ℕ → Option ℤ) → T.allows finder.new.tree.now times
-        → AreFound (inputs_of finder.old.rules.lines.now (finmap.get finder.old.rules.state.now) times) goals.now n) }
+    ensures found { IfOk result (λ n. (looks : List ℕ → Option FileLook) → T.allows finder.new.tree.now looks
+        → AreFound (inputs_of finder.old.rules.lines.now (finmap.get finder.old.rules.state.now) looks) goals.now n) }
     ensures row_count { IfOk result (λ n. length n.rows ≡ length n.names) }
     ensures node_count { IfOk result (λ n. length n.nodes.items ≡ length n.names) }
     ensures closed { IfOk result (λ n. IsTrue (is_closed n.rows)) }
     ensures few { IfOk result (λ n. length n.names ≤ limit) }
     ensures goals { IfOk result (λ n. map (name_at n.names) n.goals.items ≡ goals.now) }
-    ensures fault { IfErr result (λ fault. (times : List ℕ → Option ℤ) → T.allows finder.new.tree.now times
-        → IsFindingFault (inputs_of finder.old.rules.lines.now (finmap.get finder.old.rules.state.now) times) (T.refuses finder.new.tree.now)
+    ensures fault { IfErr result (λ fault. (looks : List ℕ → Option FileLook) → T.allows finder.new.tree.now looks
+        → IsFindingFault (inputs_of finder.old.rules.lines.now (finmap.get finder.old.rules.state.now) looks) (T.refuses finder.new.tree.now)
         goals.now limit fault) }
     ensures same { finder.new.tree.ghost_name ≡ finder.old.tree.ghost_name }
     ensures looks { Looks (T.allows finder.old.tree.now) (T.allows finder.new.tree.now) (T.refuses finder.old.tree.now) (T.refuses finder.new.tree.now)
@@ -78,17 +79,17 @@ fn numbered_names<T: Tree>(
     goals: &ByteStrings,
     limit: usize,
 ) -> Result<Numbered<Node>, RuleFault>
-    ensures found { IfOk result (λ n. (times : List ℕ → Option ℤ) → T.allows tree.new times
-        → AreFound (inputs_of rules.entry.lines.now (finmap.get rules.entry.state.now) times) goals.now n) }
+    ensures found { IfOk result (λ n. (looks : List ℕ → Option FileLook) → T.allows tree.new looks
+        → AreFound (inputs_of rules.entry.lines.now (finmap.get rules.entry.state.now) looks) goals.now n) }
     ensures row_count { IfOk result (λ n. length n.rows ≡ length n.names) }
     ensures node_count { IfOk result (λ n. length n.nodes.items ≡ length n.names) }
     ensures closed { IfOk result (λ n. IsTrue (is_closed n.rows)) }
     ensures few { IfOk result (λ n. length n.names ≤ limit) }
     ensures goals { IfOk result (λ n. map (name_at n.names) n.goals.items ≡ goals.now) }
-    ensures fault { IfErr result (λ fault. (times : List ℕ → Option ℤ) → T.allows tree.new times
-        → IsFindingFault (inputs_of rules.entry.lines.now (finmap.get rules.entry.state.now) times) (T.refuses tree.new) goals.now limit fault) }
+    ensures fault { IfErr result (λ fault. (looks : List ℕ → Option FileLook) → T.allows tree.new looks
+        → IsFindingFault (inputs_of rules.entry.lines.now (finmap.get rules.entry.state.now) looks) (T.refuses tree.new) goals.now limit fault) }
     ensures names { IfOk result (λ n. IsDistinct bytes_eq n.names) }
-    ensures narrows { (times : List ℕ → Option ℤ) → T.allows tree.new times → T.allows tree.old times }
+    ensures narrows { (looks : List ℕ → Option FileLook) → T.allows tree.new looks → T.allows tree.old looks }
     ensures asked { AskedOnce (T.asked tree.old) (λ _. true) (T.asked tree.new) }
 {
     tree.begin(alloc, expected(&rules).names.min(limit))?;
@@ -270,16 +271,16 @@ fn reached<T: Tree>(
     state: &State,
     limit: usize,
 ) -> Result<Numbered<Node>, RuleFault>
-    ensures found { IfOk result (λ n. (times : List ℕ → Option ℤ) → T.allows tree.new times
-        → AreFound (inputs_of makefile.now.lines.items (finmap.get state.now) times) (goals_of makefile.now.lines.items goals) n) }
+    ensures found { IfOk result (λ n. (looks : List ℕ → Option FileLook) → T.allows tree.new looks
+        → AreFound (inputs_of makefile.now.lines.items (finmap.get state.now) looks) (goals_of makefile.now.lines.items goals) n) }
     ensures row_count { IfOk result (λ n. length n.rows ≡ length n.names) }
     ensures node_count { IfOk result (λ n. length n.nodes.items ≡ length n.names) }
     ensures closed { IfOk result (λ n. IsTrue (is_closed n.rows)) }
     ensures few { IfOk result (λ n. length n.names ≤ limit) }
     ensures names { IfOk result (λ n. IsDistinct bytes_eq n.names) }
-    ensures fault { IfErr result (λ fault. (times : List ℕ → Option ℤ) → T.allows tree.new times
-        → IsGraphFault (inputs_of makefile.now.lines.items (finmap.get state.now) times) (T.refuses tree.new) goals limit fault) }
-    ensures narrows { (times : List ℕ → Option ℤ) → T.allows tree.new times → T.allows tree.old times }
+    ensures fault { IfErr result (λ fault. (looks : List ℕ → Option FileLook) → T.allows tree.new looks
+        → IsGraphFault (inputs_of makefile.now.lines.items (finmap.get state.now) looks) (T.refuses tree.new) goals limit fault) }
+    ensures narrows { (looks : List ℕ → Option FileLook) → T.allows tree.new looks → T.allows tree.old looks }
     ensures asked { AskedOnce (T.asked tree.old) (λ _. true) (T.asked tree.new) }
 {
     let goals = goals_of(alloc, &makefile.lines, &makefile.suffixes, goals)?;
@@ -302,7 +303,7 @@ fn reached<T: Tree>(
 ///
 /// A name that isn't there and that nothing makes is refused, but where the run goes on without it: then the graph has its number.
 ///
-/// It is the graph for any times that agree with what the tree answered. The tree looks at a name once at most. The
+/// It is the graph for any looks that agree with what the tree answered. The tree looks at a name once at most. The
 /// macros take in the definitions of the makefile, and the graph keeps the state.
 pub fn build<T: Tree>(
     alloc: Global,
@@ -314,15 +315,15 @@ pub fn build<T: Tree>(
     limit: usize,
     goes_on: bool,
 ) -> Result<Graph, RuleFault>
-    ensures graph { IfOk result (λ graph. (times : List ℕ → Option ℤ) → T.allows tree.new times → (inputs : Inputs)
-        × AreInputs (defined_by macros) items.items times (finmap.get state) inputs
+    ensures graph { IfOk result (λ graph. (looks : List ℕ → Option FileLook) → T.allows tree.new looks → (inputs : Inputs)
+        × AreInputs (defined_by macros) items.items looks (finmap.get state) inputs
         × IsGraph inputs goals graph) }
     ensures made { goes_on ≡ false → IfOk result (λ graph. graph.unmade.items ≡ []) }
     ensures few { IfOk result (λ graph. length graph.nodes.items ≤ limit) }
     ensures macros { IfOk result (λ graph. defined_by graph.macros ≡ behind_items (defined_by macros) items.items) }
-    ensures fault { IfErr result (λ fault. (times : List ℕ → Option ℤ) → T.allows tree.new times
-        → IsRuleFault (defined_by macros) items.items times (finmap.get state) (T.refuses tree.new) goals limit fault) }
-    ensures narrows { (times : List ℕ → Option ℤ) → T.allows tree.new times → T.allows tree.old times }
+    ensures fault { IfErr result (λ fault. (looks : List ℕ → Option FileLook) → T.allows tree.new looks
+        → IsRuleFault (defined_by macros) items.items looks (finmap.get state) (T.refuses tree.new) goals limit fault) }
+    ensures narrows { (looks : List ℕ → Option FileLook) → T.allows tree.new looks → T.allows tree.old looks }
     ensures asked { AskedOnce (T.asked tree.old) (λ _. true) (T.asked tree.new) }
 {
     let mut macros = macros;

@@ -1,5 +1,5 @@
 //! Names looked up one by one while they are numbered.
-ghost use Rattle.std.specs.Prelude.{◌≡◌, ◌<◌, ◌++◌, ℕ, ℤ, Bool, List, Option, [], length, map, is_some, nat_lt, true, IfOk, IfErr, OnOk};
+ghost use Rattle.std.specs.Prelude.{◌≡◌, ◌<◌, ◌++◌, ℕ, Bool, List, Option, [], length, map, is_some, nat_lt, true, IfOk, IfErr, OnOk};
 ghost use Rattle.std.specs.FinMap as finmap;
 ghost use Rattle.std.specs.List.{list_all, IsDistinct};
 ghost use Rattle.std.specs.Option.{option_copied};
@@ -16,6 +16,7 @@ ghost use Rattle.mk_rules.specs.NodeNotes.{AreKnownNodes};
 ghost use Rattle.mk_rules.specs.Row.{named, IsRow, IsSomeRow};
 ghost use Rattle.mk_sources.specs.Seen.{made_in, order_only_in, rare_in};
 ghost use Rattle.mk_rules.specs.Completed.{IsAsSeen, IsNumberedAs};
+ghost use Rattle.mk_nodes.specs.declared.file_look.FileLook.{FileLook};
 
 use crate::distinct_numbers::DistinctNumbers;
 use crate::explicit::mention_explicit;
@@ -170,17 +171,17 @@ fn numbered<T: Tree>(
     seen: Seen,
     recorded: Option<&PackedEntry>,
 ) -> Result<Node, RuleFault>
-    requires noted { (times : List ℕ → Option ℤ) → T.allows tree.old times
-        → AreKnownNodes (is_node (inputs_of rules.now.lines.now (finmap.get rules.now.state.now) times)) names.old notes.old.marks.items }
+    requires noted { (looks : List ℕ → Option FileLook) → T.allows tree.old looks
+        → AreKnownNodes (is_node (inputs_of rules.now.lines.now (finmap.get rules.now.state.now) looks)) names.old notes.old.marks.items }
     requires distinct { IsDistinct bytes_eq names.old }
     ensures row { OnOk result (IsRow names.old names.new notes.new.row) }
-    ensures prerequisites { IfOk result (λ node. (times : List ℕ → Option ℤ) → T.allows tree.new times
+    ensures prerequisites { IfOk result (λ node. (looks : List ℕ → Option FileLook) → T.allows tree.new looks
         → (name : List ℕ) → seen.entry.lines.now ≡ numbers_of rules.now.lines.now name
-        → IsNumberedAs (is_node (inputs_of rules.now.lines.now (finmap.get rules.now.state.now) times)) seen.entry
+        → IsNumberedAs (is_node (inputs_of rules.now.lines.now (finmap.get rules.now.state.now) looks)) seen.entry
         (made_in seen.entry.ruled.given ++ explicit_of rules.now.lines.now name) (hidden_in (option_copied recorded.entry))
         (named names.new notes.new.row) node) }
-    ensures noted { OnOk result ((times : List ℕ → Option ℤ) → T.allows tree.new times
-        → AreKnownNodes (is_node (inputs_of rules.now.lines.now (finmap.get rules.now.state.now) times)) names.new notes.new.marks.items) }
+    ensures noted { OnOk result ((looks : List ℕ → Option FileLook) → T.allows tree.new looks
+        → AreKnownNodes (is_node (inputs_of rules.now.lines.now (finmap.get rules.now.state.now) looks)) names.new notes.new.marks.items) }
     ensures looks { Looks (T.allows tree.old) (T.allows tree.new) (T.refuses tree.old) (T.refuses tree.new) (T.asked tree.old) (T.asked tree.new) (T.firsts tree.old) (T.firsts tree.new) }
     ensures fault { IfErr result (IsNamesFault (T.refuses tree.new) (hidden_in (option_copied recorded.entry))) }
 {
@@ -208,19 +209,19 @@ fn look_up<T: Tree>(
     number: usize,
 ) -> Result<Node, RuleFault>
     requires number { number < length names.old }
-    requires noted { (times : List ℕ → Option ℤ) → T.allows tree.old times
-        → AreKnownNodes (is_node (inputs_of rules.now.lines.now (finmap.get rules.now.state.now) times)) names.old notes.old.marks.items }
+    requires noted { (looks : List ℕ → Option FileLook) → T.allows tree.old looks
+        → AreKnownNodes (is_node (inputs_of rules.now.lines.now (finmap.get rules.now.state.now) looks)) names.old notes.old.marks.items }
     requires distinct { IsDistinct bytes_eq names.old }
     requires unasked { ¬ (T.firsts tree.old (name_at names.old number)) }
     ensures names { OnOk result (names.new ≡ all_added names.old (map (name_at names.new) notes.new.row)) }
     ensures numbers { OnOk result (list_all (λ n. nat_lt n (length names.new)) notes.new.row ≡ true) }
-    ensures prerequisites { OnOk result ((times : List ℕ → Option ℤ) → T.allows tree.new times
+    ensures prerequisites { OnOk result ((looks : List ℕ → Option FileLook) → T.allows tree.new looks
         → map (name_at names.new) notes.new.row
-        ≡ prerequisites_of (inputs_of rules.now.lines.now (finmap.get rules.now.state.now) times) (name_at names.old number)) }
-    ensures node { IfOk result (λ node. (times : List ℕ → Option ℤ) → T.allows tree.new times
-        → IsKnown (inputs_of rules.now.lines.now (finmap.get rules.now.state.now) times) (name_at names.old number) node) }
-    ensures noted { OnOk result ((times : List ℕ → Option ℤ) → T.allows tree.new times
-        → AreKnownNodes (is_node (inputs_of rules.now.lines.now (finmap.get rules.now.state.now) times)) names.new notes.new.marks.items) }
+        ≡ prerequisites_of (inputs_of rules.now.lines.now (finmap.get rules.now.state.now) looks) (name_at names.old number)) }
+    ensures node { IfOk result (λ node. (looks : List ℕ → Option FileLook) → T.allows tree.new looks
+        → IsKnown (inputs_of rules.now.lines.now (finmap.get rules.now.state.now) looks) (name_at names.old number) node) }
+    ensures noted { OnOk result ((looks : List ℕ → Option FileLook) → T.allows tree.new looks
+        → AreKnownNodes (is_node (inputs_of rules.now.lines.now (finmap.get rules.now.state.now) looks)) names.new notes.new.marks.items) }
     ensures looks { Looks (T.allows tree.old) (T.allows tree.new) (T.refuses tree.old) (T.refuses tree.new) (T.asked tree.old) (T.asked tree.new) (and_this (name_at names.old number) (T.firsts tree.old)) (T.firsts tree.new) }
     ensures fault { IfErr result (IsLookUpFault rules.now.targets.now (T.allows tree.new) (T.refuses tree.new) rules.now.forms.now rules.now.steps
         rules.now.lines.now (finmap.get rules.now.state.now) (name_at names.old number)) }
@@ -266,8 +267,8 @@ impl<'m, 't, T: Tree> Dependencies for Finder<'m, 't, T> {
     // The time of each name is asked for first where the name is looked up.
     ghost asked = { λ f name. T.firsts f.tree.now name };
 
-    ghost describes = { λ f name known. (times : List ℕ → Option ℤ) → T.allows f.tree.now times
-        → IsKnown (inputs_of f.rules.lines.now (finmap.get f.rules.state.now) times) name known };
+    ghost describes = { λ f name known. (looks : List ℕ → Option FileLook) → T.allows f.tree.now looks
+        → IsKnown (inputs_of f.rules.lines.now (finmap.get f.rules.state.now) looks) name known };
 
     ghost refuses = { λ f name fault. IsLookUpFault f.rules.targets.now (T.allows f.tree.now) (T.refuses f.tree.now) f.rules.forms.now f.rules.steps
         f.rules.lines.now (finmap.get f.rules.state.now) name fault };
@@ -275,8 +276,8 @@ impl<'m, 't, T: Tree> Dependencies for Finder<'m, 't, T> {
     ghost follows = { λ f _ g. (g.rules ≡ f.rules) × (g.tree.ghost_name ≡ f.tree.ghost_name)
         × Looks (T.allows f.tree.now) (T.allows g.tree.now) (T.refuses f.tree.now) (T.refuses g.tree.now) (T.asked f.tree.now) (T.asked g.tree.now) any_name any_name };
 
-    ghost fits = { λ f names notes. (times : List ℕ → Option ℤ) → T.allows f.tree.now times
-        → AreKnownNodes (is_node (inputs_of f.rules.lines.now (finmap.get f.rules.state.now) times)) names notes.marks.items };
+    ghost fits = { λ f names notes. (looks : List ℕ → Option FileLook) → T.allows f.tree.now looks
+        → AreKnownNodes (is_node (inputs_of f.rules.lines.now (finmap.get f.rules.state.now) looks)) names notes.marks.items };
 
     ghost row = { λ notes. notes.row };
 

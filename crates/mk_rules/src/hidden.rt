@@ -1,5 +1,5 @@
 //! The hidden prerequisites of a name, taken in behind the hard ones.
-ghost use Rattle.std.specs.Prelude.{◌≡◌, ◌<◌, ℕ, ℤ, List, Option, [], true, length, is_some, IfOk, IfErr, OnOk, MatchOption};
+ghost use Rattle.std.specs.Prelude.{◌≡◌, ◌<◌, ℕ, List, Option, [], true, length, is_some, IfOk, IfErr, OnOk, MatchOption};
 ghost use Rattle.std.specs.FinMap as map;
 ghost use Rattle.mk_graph.specs.Numbering.{name_at, added};
 ghost use Rattle.mk_rule_lines.specs.Rules.{has};
@@ -8,6 +8,7 @@ ghost use Rattle.mk_sources.specs.Looks.{Looks};
 ghost use Rattle.mk_rules.specs.NodeNotes.{AreKnownNodes};
 ghost use Rattle.mk_rules.specs.Row.{named, IsRow, IsSomeRow};
 ghost use Rattle.mk_nodes.specs.Hidden.{Takes, HasHidden, IsNamesFault};
+ghost use Rattle.mk_nodes.specs.declared.file_look.FileLook.{FileLook};
 
 use crate::mentioned::Mentioned;
 use crate::node_notes::NodeNotes;
@@ -26,14 +27,14 @@ fn node_number<T: Tree>(
     notes: &mut NodeNotes,
     name: &[u8],
 ) -> Result<Option<u32>, RuleFault>
-    requires { (times : List ℕ → Option ℤ) → T.allows tree.old times
-        → AreKnownNodes (is_node (inputs_of rules.now.lines.now (map.get rules.now.state.now) times)) names.old notes.old.marks.items }
+    requires { (looks : List ℕ → Option FileLook) → T.allows tree.old looks
+        → AreKnownNodes (is_node (inputs_of rules.now.lines.now (map.get rules.now.state.now) looks)) names.old notes.old.marks.items }
     ensures number { IfOk result (λ number. MatchOption number (names.new ≡ names.old) (λ n.
         (names.new ≡ added names.old name.now) × (n < length names.new) × (name_at names.new n ≡ name.now))) }
-    ensures node { IfOk result (λ number. (times : List ℕ → Option ℤ) → T.allows tree.new times
-        → is_some number ≡ is_node (inputs_of rules.now.lines.now (map.get rules.now.state.now) times) name.now) }
-    ensures noted { OnOk result ((times : List ℕ → Option ℤ) → T.allows tree.new times
-        → AreKnownNodes (is_node (inputs_of rules.now.lines.now (map.get rules.now.state.now) times)) names.new notes.new.marks.items) }
+    ensures node { IfOk result (λ number. (looks : List ℕ → Option FileLook) → T.allows tree.new looks
+        → is_some number ≡ is_node (inputs_of rules.now.lines.now (map.get rules.now.state.now) looks) name.now) }
+    ensures noted { OnOk result ((looks : List ℕ → Option FileLook) → T.allows tree.new looks
+        → AreKnownNodes (is_node (inputs_of rules.now.lines.now (map.get rules.now.state.now) looks)) names.new notes.new.marks.items) }
     ensures looks { Looks (T.allows tree.old) (T.allows tree.new) (T.refuses tree.old) (T.refuses tree.new) (T.asked tree.old) (T.asked tree.new) (T.firsts tree.old) (T.firsts tree.new) }
     ensures fault { IfErr result (λ fault. (hidden : List (List ℕ)) → has name.now hidden ≡ true → IsNamesFault (T.refuses tree.new) hidden fault) }
 {
@@ -59,15 +60,15 @@ fn take_hidden<T: Tree>(
     mentioned: &mut Mentioned,
     name: &[u8],
 ) -> Result<(), RuleFault>
-    requires noted { (times : List ℕ → Option ℤ) → T.allows tree.old times
-        → AreKnownNodes (is_node (inputs_of rules.now.lines.now (map.get rules.now.state.now) times)) names.old notes.old.marks.items }
+    requires noted { (looks : List ℕ → Option FileLook) → T.allows tree.old looks
+        → AreKnownNodes (is_node (inputs_of rules.now.lines.now (map.get rules.now.state.now) looks)) names.old notes.old.marks.items }
     requires row { IsSomeRow names.old mentioned.old.nodes }
     ensures row { OnOk result ((start : List (List ℕ)) → IsRow start names.old mentioned.old.nodes → IsRow start names.new mentioned.new.nodes) }
-    ensures taken { OnOk result ((times : List ℕ → Option ℤ) → T.allows tree.new times
-        → Takes (is_node (inputs_of rules.now.lines.now (map.get rules.now.state.now) times)) name.now (named names.old mentioned.old.nodes)
+    ensures taken { OnOk result ((looks : List ℕ → Option FileLook) → T.allows tree.new looks
+        → Takes (is_node (inputs_of rules.now.lines.now (map.get rules.now.state.now) looks)) name.now (named names.old mentioned.old.nodes)
         (named names.new mentioned.new.nodes) mentioned.old.gone mentioned.new.gone mentioned.old.hidden mentioned.new.hidden) }
-    ensures noted { OnOk result ((times : List ℕ → Option ℤ) → T.allows tree.new times
-        → AreKnownNodes (is_node (inputs_of rules.now.lines.now (map.get rules.now.state.now) times)) names.new notes.new.marks.items) }
+    ensures noted { OnOk result ((looks : List ℕ → Option FileLook) → T.allows tree.new looks
+        → AreKnownNodes (is_node (inputs_of rules.now.lines.now (map.get rules.now.state.now) looks)) names.new notes.new.marks.items) }
     ensures looks { Looks (T.allows tree.old) (T.allows tree.new) (T.refuses tree.old) (T.refuses tree.new) (T.asked tree.old) (T.asked tree.new) (T.firsts tree.old) (T.firsts tree.new) }
     ensures fault { IfErr result (λ fault. (hidden : List (List ℕ)) → has name.now hidden ≡ true → IsNamesFault (T.refuses tree.new) hidden fault) }
 {
@@ -89,17 +90,17 @@ pub(crate) fn add_hidden<T: Tree>(
     mentioned: &mut Mentioned,
     hidden: &Iter<'_>,
 ) -> Result<(), RuleFault>
-    requires noted { (times : List ℕ → Option ℤ) → T.allows tree.old times
-        → AreKnownNodes (is_node (inputs_of rules.now.lines.now (map.get rules.now.state.now) times)) names.old notes.old.marks.items }
+    requires noted { (looks : List ℕ → Option FileLook) → T.allows tree.old looks
+        → AreKnownNodes (is_node (inputs_of rules.now.lines.now (map.get rules.now.state.now) looks)) names.old notes.old.marks.items }
     requires row { IsSomeRow names.old mentioned.old.nodes }
     requires gone { mentioned.old.gone ≡ [] }
     requires none { mentioned.old.hidden ≡ [] }
     ensures row { OnOk result ((start : List (List ℕ)) → IsRow start names.old mentioned.old.nodes → IsRow start names.new mentioned.new.nodes) }
-    ensures hidden { OnOk result ((times : List ℕ → Option ℤ) → T.allows tree.new times
-        → HasHidden (is_node (inputs_of rules.now.lines.now (map.get rules.now.state.now) times)) (named names.old mentioned.old.nodes) hidden.now
+    ensures hidden { OnOk result ((looks : List ℕ → Option FileLook) → T.allows tree.new looks
+        → HasHidden (is_node (inputs_of rules.now.lines.now (map.get rules.now.state.now) looks)) (named names.old mentioned.old.nodes) hidden.now
         (named names.new mentioned.new.nodes) mentioned.new.hidden) }
-    ensures noted { OnOk result ((times : List ℕ → Option ℤ) → T.allows tree.new times
-        → AreKnownNodes (is_node (inputs_of rules.now.lines.now (map.get rules.now.state.now) times)) names.new notes.new.marks.items) }
+    ensures noted { OnOk result ((looks : List ℕ → Option FileLook) → T.allows tree.new looks
+        → AreKnownNodes (is_node (inputs_of rules.now.lines.now (map.get rules.now.state.now) looks)) names.new notes.new.marks.items) }
     ensures looks { Looks (T.allows tree.old) (T.allows tree.new) (T.refuses tree.old) (T.refuses tree.new) (T.asked tree.old) (T.asked tree.new) (T.firsts tree.old) (T.firsts tree.new) }
     ensures fault { IfErr result (IsNamesFault (T.refuses tree.new) hidden.now) }
 {

@@ -1,5 +1,5 @@
 //! What the state has of a name, and the hidden prerequisites that are recorded there.
-ghost use Rattle.std.specs.Prelude.{◌≡◌, ℕ, ℤ, List, Option, IfOk, IfErr, OnOk};
+ghost use Rattle.std.specs.Prelude.{◌≡◌, ℕ, List, Option, IfOk, IfErr, OnOk};
 ghost use Rattle.std.specs.FinMap as finmap;
 ghost use Rattle.std.specs.Option.{option_copied};
 ghost use Rattle.mk_nodes.specs.Prerequisites.{inputs_of, is_node, hidden_in};
@@ -7,6 +7,7 @@ ghost use Rattle.mk_sources.specs.Looks.{Looks};
 ghost use Rattle.mk_nodes.specs.Hidden.{HasHidden, IsNamesFault};
 ghost use Rattle.mk_rules.specs.NodeNotes.{AreKnownNodes};
 ghost use Rattle.mk_rules.specs.Row.{named, IsRow, IsSomeRow};
+ghost use Rattle.mk_nodes.specs.declared.file_look.FileLook.{FileLook};
 
 use crate::hidden::add_hidden;
 use crate::hidden_marks::HiddenMarks;
@@ -43,15 +44,15 @@ fn add_all_hidden<T: Tree>(
     notes: &mut NodeNotes,
     hidden: &Iter<'_>,
 ) -> Result<HiddenMarks, RuleFault>
-    requires noted { (times : List ℕ → Option ℤ) → T.allows tree.old times
-        → AreKnownNodes (is_node (inputs_of rules.now.lines.now (finmap.get rules.now.state.now) times)) names.old notes.old.marks.items }
+    requires noted { (looks : List ℕ → Option FileLook) → T.allows tree.old looks
+        → AreKnownNodes (is_node (inputs_of rules.now.lines.now (finmap.get rules.now.state.now) looks)) names.old notes.old.marks.items }
     requires row { IsSomeRow names.old notes.old.row }
     ensures row { OnOk result ((start : List (List ℕ)) → IsRow start names.old notes.old.row → IsRow start names.new notes.new.row) }
-    ensures hidden { IfOk result (λ among. (times : List ℕ → Option ℤ) → T.allows tree.new times
-        → HasHidden (is_node (inputs_of rules.now.lines.now (finmap.get rules.now.state.now) times)) (named names.old notes.old.row) hidden.now
+    ensures hidden { IfOk result (λ among. (looks : List ℕ → Option FileLook) → T.allows tree.new looks
+        → HasHidden (is_node (inputs_of rules.now.lines.now (finmap.get rules.now.state.now) looks)) (named names.old notes.old.row) hidden.now
         (named names.new notes.new.row) among) }
-    ensures noted { OnOk result ((times : List ℕ → Option ℤ) → T.allows tree.new times
-        → AreKnownNodes (is_node (inputs_of rules.now.lines.now (finmap.get rules.now.state.now) times)) names.new notes.new.marks.items) }
+    ensures noted { OnOk result ((looks : List ℕ → Option FileLook) → T.allows tree.new looks
+        → AreKnownNodes (is_node (inputs_of rules.now.lines.now (finmap.get rules.now.state.now) looks)) names.new notes.new.marks.items) }
     ensures looks { Looks (T.allows tree.old) (T.allows tree.new) (T.refuses tree.old) (T.refuses tree.new) (T.asked tree.old) (T.asked tree.new) (T.firsts tree.old) (T.firsts tree.new) }
     ensures fault { IfErr result (IsNamesFault (T.refuses tree.new) hidden.now) }
 {
@@ -71,15 +72,15 @@ fn add_listed<T: Tree>(
     notes: &mut NodeNotes,
     hidden: Iter<'_>,
 ) -> Result<HiddenMarks, RuleFault>
-    requires noted { (times : List ℕ → Option ℤ) → T.allows tree.old times
-        → AreKnownNodes (is_node (inputs_of rules.now.lines.now (finmap.get rules.now.state.now) times)) names.old notes.old.marks.items }
+    requires noted { (looks : List ℕ → Option FileLook) → T.allows tree.old looks
+        → AreKnownNodes (is_node (inputs_of rules.now.lines.now (finmap.get rules.now.state.now) looks)) names.old notes.old.marks.items }
     requires row { IsSomeRow names.old notes.old.row }
     ensures row { OnOk result ((start : List (List ℕ)) → IsRow start names.old notes.old.row → IsRow start names.new notes.new.row) }
-    ensures hidden { IfOk result (λ among. (times : List ℕ → Option ℤ) → T.allows tree.new times
-        → HasHidden (is_node (inputs_of rules.now.lines.now (finmap.get rules.now.state.now) times)) (named names.old notes.old.row) hidden.entry
+    ensures hidden { IfOk result (λ among. (looks : List ℕ → Option FileLook) → T.allows tree.new looks
+        → HasHidden (is_node (inputs_of rules.now.lines.now (finmap.get rules.now.state.now) looks)) (named names.old notes.old.row) hidden.entry
         (named names.new notes.new.row) among) }
-    ensures noted { OnOk result ((times : List ℕ → Option ℤ) → T.allows tree.new times
-        → AreKnownNodes (is_node (inputs_of rules.now.lines.now (finmap.get rules.now.state.now) times)) names.new notes.new.marks.items) }
+    ensures noted { OnOk result ((looks : List ℕ → Option FileLook) → T.allows tree.new looks
+        → AreKnownNodes (is_node (inputs_of rules.now.lines.now (finmap.get rules.now.state.now) looks)) names.new notes.new.marks.items) }
     ensures looks { Looks (T.allows tree.old) (T.allows tree.new) (T.refuses tree.old) (T.refuses tree.new) (T.asked tree.old) (T.asked tree.new) (T.firsts tree.old) (T.firsts tree.new) }
     ensures fault { IfErr result (IsNamesFault (T.refuses tree.new) hidden.entry) }
 {
@@ -98,15 +99,15 @@ pub(crate) fn add_recorded<T: Tree>(
     notes: &mut NodeNotes,
     recorded: Option<&PackedEntry>,
 ) -> Result<HiddenMarks, RuleFault>
-    requires noted { (times : List ℕ → Option ℤ) → T.allows tree.old times
-        → AreKnownNodes (is_node (inputs_of rules.now.lines.now (finmap.get rules.now.state.now) times)) names.old notes.old.marks.items }
+    requires noted { (looks : List ℕ → Option FileLook) → T.allows tree.old looks
+        → AreKnownNodes (is_node (inputs_of rules.now.lines.now (finmap.get rules.now.state.now) looks)) names.old notes.old.marks.items }
     requires row { IsSomeRow names.old notes.old.row }
     ensures row { OnOk result ((start : List (List ℕ)) → IsRow start names.old notes.old.row → IsRow start names.new notes.new.row) }
-    ensures hidden { IfOk result (λ among. (times : List ℕ → Option ℤ) → T.allows tree.new times
-        → HasHidden (is_node (inputs_of rules.now.lines.now (finmap.get rules.now.state.now) times)) (named names.old notes.old.row) (hidden_in (option_copied recorded.entry))
+    ensures hidden { IfOk result (λ among. (looks : List ℕ → Option FileLook) → T.allows tree.new looks
+        → HasHidden (is_node (inputs_of rules.now.lines.now (finmap.get rules.now.state.now) looks)) (named names.old notes.old.row) (hidden_in (option_copied recorded.entry))
         (named names.new notes.new.row) among) }
-    ensures noted { OnOk result ((times : List ℕ → Option ℤ) → T.allows tree.new times
-        → AreKnownNodes (is_node (inputs_of rules.now.lines.now (finmap.get rules.now.state.now) times)) names.new notes.new.marks.items) }
+    ensures noted { OnOk result ((looks : List ℕ → Option FileLook) → T.allows tree.new looks
+        → AreKnownNodes (is_node (inputs_of rules.now.lines.now (finmap.get rules.now.state.now) looks)) names.new notes.new.marks.items) }
     ensures looks { Looks (T.allows tree.old) (T.allows tree.new) (T.refuses tree.old) (T.refuses tree.new) (T.asked tree.old) (T.asked tree.new) (T.firsts tree.old) (T.firsts tree.new) }
     ensures fault { IfErr result (IsNamesFault (T.refuses tree.new) (hidden_in (option_copied recorded.entry))) }
 {

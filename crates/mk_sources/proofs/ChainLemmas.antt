@@ -1,5 +1,5 @@
 -- Chains of implicit rules, one form at a time.
-use Rattle.std.proofs.Common.{◌≡◌, ◌+◌, ◌-◌, ◌<◌, ◌≤◌, ℕ, ℤ, zero, suc, Bool, true, false, ◌||◌, List, [], ◌∷◌, ◌++◌, length, take, drop, get_or, Option, Some, None, inl, inr, ⊎_elim, refl, sym, ap, subst, ◌∙◌, arith}
+use Rattle.std.proofs.Common.{◌≡◌, ◌+◌, ◌-◌, ◌<◌, ◌≤◌, ℕ, zero, suc, Bool, true, false, ◌||◌, List, [], ◌∷◌, ◌++◌, length, take, drop, get_or, Option, Some, None, inl, inr, ⊎_elim, refl, sym, ap, subst, ◌∙◌, arith}
 use Rattle.std.specs.Prelude.{find, is_some, option_map, option_to_list, if◌then◌else◌}
 use Rattle.std.specs.List.{list_all}
 use Rattle.std.specs.Option.{option_or}
@@ -8,7 +8,8 @@ use Rattle.std.proofs.lemmas.List.{take-append-drop}
 use Rattle.std.proofs.lemmas.List.Elements.{filter-append}
 use Rattle.std.proofs.lemmas.List.Folds.{find-append}
 use Rattle.mk_rule_lines.specs.Source.{stem_of, source_at, candidates, source_of}
-use Rattle.mk_rule_lines.specs.Table.{is_named, is_there, named_at}
+use Rattle.mk_rule_lines.specs.Table.{is_named, named_at}
+use Rattle.mk_sources.specs.There.{is_there}
 use Rattle.mk_rule_lines.specs.declared.form.Form.{Form}
 use Rattle.mk_rule_lines.specs.declared.form.Source.{Source}
 use Rattle.mk_rule_lines.specs.declared.table.TargetTable.{TargetTable}
@@ -19,6 +20,7 @@ use Rattle.mk_sources.specs.Looks.{IsLookFault}
 use Rattle.mk_sources.specs.Search.{IsBehind, IsAskedIn, IsChainedTo, IsLedFault, IsSearchFault}
 use Rattle.mk_sources.specs.Source.{IsSourceFault}
 use Rattle.mk_sources.proofs.SourceLemmas.{candidates-append, from_form, up_to_form}
+use Rattle.mk_nodes.specs.declared.file_look.FileLook.{FileLook}
 
 -- ---- the candidates of the forms that a chain may go on with
 
@@ -150,7 +152,7 @@ module _ (targets : TargetTable) (refuses : List ℕ → Type 0) where
   led_here leads name no_target here (fault.Tree n) meets = (rw meets.0 no_target, subst leads (sym meets.0) here, meets.1)
   led_here leads name no_target here _ meets = meets
 
-module _ (targets : TargetTable) (allowed : (List ℕ → Option ℤ) → Type 0) (refuses : List ℕ → Type 0) (forms : List Form) (steps : ℕ) (name : List ℕ) where
+module _ (targets : TargetTable) (allowed : (List ℕ → Option FileLook) → Type 0) (refuses : List ℕ → Type 0) (forms : List Form) (steps : ℕ) (name : List ℕ) where
   -- the search for a source leads to what the search for the candidates that are there reaches
   pub search_there : (f : RuleFault) → IsSourceFault targets allowed refuses forms name f → IsSearchFault targets allowed refuses forms steps name f
   search_there fault.OutOfMemory meets = tt
@@ -158,7 +160,7 @@ module _ (targets : TargetTable) (allowed : (List ℕ → Option ℤ) → Type 0
   search_there _ meets = meets
 
   -- and where there is none, to what the search for a chain leads to
-  pub search_chain : (none : (times : List ℕ → Option ℤ) → allowed times → source_of (is_there targets times) forms name ≡ None) (count : ℕ) → 0 < count → count ≤ steps → (f : RuleFault) →
+  pub search_chain : (none : (looks : List ℕ → Option FileLook) → allowed looks → source_of (is_there targets looks) forms name ≡ None) (count : ℕ) → 0 < count → count ≤ steps → (f : RuleFault) →
       IsLedFault targets refuses (IsChainedTo forms count name) f → IsSearchFault targets allowed refuses forms steps name f
   search_chain none count some few fault.OutOfMemory meets = tt
   search_chain none count some few (fault.Tree n) meets =

@@ -1,7 +1,7 @@
 -- What is left to the recipe of `.DEFAULT`.
 use Rattle.std.specs.Prelude.{codes, option_to_list, slice_get, is_none, if◌then◌else◌}
 use Rattle.std.specs.Option.{option_map_or}
-use Rattle.std.proofs.Common.{◌≡◌, ◌∙◌, ℕ, ℤ, Bool, true, false, not, ◌&&◌, ◌||◌, List, [], ◌∷◌, filter, Option, Some, None, refl, sym, ap}
+use Rattle.std.proofs.Common.{◌≡◌, ◌∙◌, ℕ, Bool, true, false, not, ◌&&◌, ◌||◌, List, [], ◌∷◌, filter, Option, Some, None, refl, sym, ap}
 use Rattle.mk_reader.specs.Text.{is_empty}
 use Rattle.mk_rule_lines.specs.Explicit.{explicit_targets, numbers_of, is_default_at}
 use Rattle.mk_rule_lines.specs.Rules.{has, recipe_places}
@@ -9,6 +9,7 @@ use Rattle.mk_rule_lines.specs.declared.rule_line.RuleLine.{RuleLine}
 use Rattle.mk_nodes.specs.Prerequisites.{Inputs, default_of, is_cut, is_left, is_target, left_recipe}
 use Rattle.mk_sources.proofs.RuleLemmas.{any_place}
 use Rattle.st_records.specs.declared.record.Entry.{Entry}
+use Rattle.mk_nodes.specs.declared.file_look.FileLook.{FileLook}
 
 -- the line of `.DEFAULT` by the recipe of this name
 pub none_named : (lines : List RuleLine) (recipe : Option ℕ) → recipe ≡ None →
@@ -25,15 +26,15 @@ twice_not true = refl
 twice_not false = refl
 
 -- whether a name is left is told by the lines that make it, its time and its entry
-pub left_is : (inputs : Inputs) (lines : List RuleLine) (name : List ℕ) (stamp : Option ℤ) (entry : Option Entry) → inputs.lines ≡ lines → inputs.times name ≡ stamp →
+pub left_is : (inputs : Inputs) (lines : List RuleLine) (name : List ℕ) (stamp : Option FileLook) (entry : Option Entry) → inputs.lines ≡ lines → inputs.looks name ≡ stamp →
     inputs.entries name ≡ entry →
     (is_empty (numbers_of lines name) && (is_none stamp || option_map_or (λ e. is_cut e.phase) entry false)) ≡ is_left inputs name
-left_is inputs lines name stamp entry lines_are times_are entry_is =
+left_is inputs lines name stamp entry lines_are looks_are entry_is =
     ap (λ b. b && (is_none stamp || option_map_or (λ (e : Entry). is_cut e.phase) entry false))
     (twice_not (is_empty (numbers_of lines name)) ∙ ap not (any_place (λ (l : RuleLine). has name (explicit_targets lines l)) 0 lines)
     ∙ ap (λ (ls : List RuleLine). not (is_target ls name)) (sym lines_are))
-    ∙ ap (λ s. not (is_target inputs.lines name) && (is_none s || option_map_or (λ (e : Entry). is_cut e.phase) entry false)) (sym times_are)
-    ∙ ap (λ o. not (is_target inputs.lines name) && (is_none (inputs.times name) || option_map_or (λ (e : Entry). is_cut e.phase) o false)) (sym entry_is)
+    ∙ ap (λ s. not (is_target inputs.lines name) && (is_none s || option_map_or (λ (e : Entry). is_cut e.phase) entry false)) (sym looks_are)
+    ∙ ap (λ o. not (is_target inputs.lines name) && (is_none (inputs.looks name) || option_map_or (λ (e : Entry). is_cut e.phase) o false)) (sym entry_is)
 
 -- without a `.DEFAULT` no name is left to it
 neither : (b : Bool) → (none : Option ℕ) → none ≡ None → (if b then none else None) ≡ None

@@ -1,5 +1,5 @@
 -- Rules of several targets: what one run makes, and when it was made.
-use Rattle.std.proofs.Common.{◌≡◌, ℕ, ℤ, Bool, true, false, cond, List, [], ◌∷◌, take, Option, Some, None, refl, sym, ap, ◌∙◌, ◌==◌}
+use Rattle.std.proofs.Common.{◌≡◌, ℕ, Bool, true, false, cond, List, [], ◌∷◌, take, Option, Some, None, refl, sym, ap, ◌∙◌, ◌==◌}
 use Rattle.std.specs.Prelude.{is_none, option_and_then, slice_get}
 use Rattle.std.proofs.lemmas.Bool.{and_parts, eqb-true}
 use Rattle.std.specs.Option.{option_map_or}
@@ -12,7 +12,6 @@ use Rattle.mk_rule_lines.specs.declared.rule_line.RuleLine.{RuleLine}
 use Rattle.mk_sources.specs.Asked.{IsOthersFault}
 use Rattle.mk_sources.specs.Looks.{IsLookFault}
 use Rattle.mk_nodes.specs.Prerequisites.{Inputs, own_recipes, unless_any, first_or, found_source, implicit_source, is_led, is_run_of, runs_for, rule_or, left_recipe, recipe_of, source_name}
-use Rattle.mk_nodes.specs.declared.group.Group.{Group}
 
 abbrev where_led : Inputs → Option Source → Option Source
 where_led inputs = option_and_then (λ source. cond (is_led inputs source) (Some source) None)
@@ -43,9 +42,6 @@ others_fault refuses lines names name among no_phony fault.OutOfMemory meets = t
 others_fault refuses lines names name among no_phony (fault.Tree n) meets =
     (ap (λ m. has m names) meets.0 ∙ among, ap (is_phony lines) meets.0 ∙ no_phony, meets.1)
 others_fault refuses lines names name among no_phony _ meets = meets
-
-abbrev pub group_at : (made : Option ℤ) (others : List (List ℕ)) → Group
-group_at made others = record { made = made; others = others }
 
 -- ---- what is made by the run for another name
 

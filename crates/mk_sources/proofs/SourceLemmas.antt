@@ -1,5 +1,5 @@
 -- The source of a name, one form at a time.
-use Rattle.std.proofs.Common.{◌≡◌, ◌+◌, ◌<◌, ℕ, ℤ, suc, Bool, true, false, ◌&&◌, List, [], ◌∷◌, ◌++◌, length, take, drop, get_or, Option, Some, None, add-one, refl, sym, ap, ◌∙◌}
+use Rattle.std.proofs.Common.{◌≡◌, ◌+◌, ◌<◌, ℕ, suc, Bool, true, false, ◌&&◌, List, [], ◌∷◌, ◌++◌, length, take, drop, get_or, Option, Some, None, add-one, refl, sym, ap, ◌∙◌}
 use Rattle.std.proofs.Math.Seq.{drop-cons}
 use Rattle.std.specs.Prelude.{find, option_map, option_to_list}
 use Rattle.std.specs.List.{list_all}
@@ -11,11 +11,13 @@ use Rattle.mk_rule_lines.specs.Source.{stem_of, source_at, candidates, source_of
 use Rattle.mk_sources.specs.Source.{IsFirstAsked, IsReached, IsAllFault, IsSourceFault}
 use Rattle.std.proofs.lemmas.Option.{slice_get_read}
 use Rattle.mk_sources.specs.Looks.{IsLookFault}
-use Rattle.mk_rule_lines.specs.Table.{is_named, is_there, named_at}
+use Rattle.mk_rule_lines.specs.Table.{is_named, named_at}
+use Rattle.mk_sources.specs.There.{is_there}
 use Rattle.mk_rule_lines.specs.declared.table.TargetTable.{TargetTable}
 use Rattle.mk_rule_lines.specs.declared.fault.RuleFault.{RuleFault}
 use Rattle.mk_rule_lines.specs.declared.fault.RuleFault.TheVariants as fault
 use Rattle.mk_rule_lines.specs.declared.form.Form.{Form}
+use Rattle.mk_nodes.specs.declared.file_look.FileLook.{FileLook}
 
 -- the forms from one on
 pub from_form : (forms : List Form) (k : ℕ) (form : Form) → k < length forms → form ≡ get_or forms k form → drop k forms ≡ form ∷ drop (k + 1) forms
@@ -60,9 +62,9 @@ module _ (is_there : List ℕ → Bool) (form : Form) (forms : List Form) (name 
 pub unfit : (is_there : List ℕ → Bool) (form : Form) (forms : List Form) (name : List ℕ) → stem_of form name ≡ None → source_of is_there (form ∷ forms) name ≡ source_of is_there forms name
 unfit is_there form forms name e = ap (λ found. find (λ source. list_all is_there source.names) (option_to_list (option_map (source_at form) found) ++ candidates forms name)) e
 
-module _ (targets : TargetTable) (allowed : (List ℕ → Option ℤ) → Type 0) (refuses : List ℕ → Type 0) (forms : List Form) (name : List ℕ) (k : ℕ) (form : Form) (stem : List ℕ × List ℕ)
+module _ (targets : TargetTable) (allowed : (List ℕ → Option FileLook) → Type 0) (refuses : List ℕ → Type 0) (forms : List Form) (name : List ℕ) (k : ℕ) (form : Form) (stem : List ℕ × List ℕ)
     (within : k < length forms) (is : form ≡ get_or forms k form) (fits : stem_of form name ≡ Some stem)
-    (earlier : (times : List ℕ → Option ℤ) → allowed times → source_of (is_there targets times) (take k forms) name ≡ None) where
+    (earlier : (looks : List ℕ → Option FileLook) → allowed looks → source_of (is_there targets looks) (take k forms) name ≡ None) where
   reached : (n : List ℕ) → IsFirstAsked targets allowed (source_at form stem).names n → IsReached targets allowed forms name n
   reached n first = record {
     place = k;
@@ -93,9 +95,9 @@ all_left p [] ys all = refl
 all_left p (x ∷ xs) ys all =
     let parts = and_parts (p x) (list_all p xs) all in ap (λ b. b && list_all p (xs ++ ys)) parts.0 ∙ all_left p xs ys parts.1
 
-module _ (targets : TargetTable) (allowed : (List ℕ → Option ℤ) → Type 0) (refuses : List ℕ → Type 0) (names before behind : List (List ℕ)) (n : List ℕ) (is : names ≡ before ++ n ∷ behind)
+module _ (targets : TargetTable) (allowed : (List ℕ → Option FileLook) → Type 0) (refuses : List ℕ → Type 0) (names before behind : List (List ℕ)) (n : List ℕ) (is : names ≡ before ++ n ∷ behind)
     (no_target : is_named (named_at targets n) ≡ false)
-    (there : (times : List ℕ → Option ℤ) → allowed times → list_all (is_there targets times) before ≡ true) where
+    (there : (looks : List ℕ → Option FileLook) → allowed looks → list_all (is_there targets looks) before ≡ true) where
   -- a name that can't be looked at is the first that isn't known to be there
   pub first_fault : (f : RuleFault) → IsLookFault refuses n f → IsAllFault targets allowed refuses names f
   first_fault fault.OutOfMemory meets = tt

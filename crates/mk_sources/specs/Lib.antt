@@ -5,4 +5,5 @@ pub mod LooksLaws
 pub mod Search
 pub mod Seen
 pub mod Source
+pub mod There
 pub mod Tree

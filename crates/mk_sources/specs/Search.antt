@@ -1,7 +1,8 @@
 -- Which names the search for a chain asks for.
-use Rattle.std.specs.Prelude.{◌≡◌, ◌⊎◌, ◌<◌, ◌≤◌, ℕ, ℤ, zero, suc, false, not, List, [], ◌∷◌, ◌++◌, Option, None}
+use Rattle.std.specs.Prelude.{◌≡◌, ◌⊎◌, ◌<◌, ◌≤◌, ℕ, zero, suc, false, not, List, [], ◌∷◌, ◌++◌, Option, None}
 use Rattle.mk_rule_lines.specs.Source.{candidates, source_of}
-use Rattle.mk_rule_lines.specs.Table.{is_named, is_there, named_at}
+use Rattle.mk_rule_lines.specs.Table.{is_named, named_at}
+use Rattle.mk_sources.specs.There.{is_there}
 use Rattle.mk_rule_lines.specs.declared.form.Form.{Form}
 use Rattle.mk_rule_lines.specs.declared.form.Source.{Source}
 use Rattle.mk_rule_lines.specs.declared.table.TargetTable.{TargetTable}
@@ -9,6 +10,7 @@ use Rattle.mk_rule_lines.specs.declared.fault.RuleFault.{RuleFault}
 use Rattle.mk_rule_lines.specs.declared.fault.RuleFault.TheVariants as fault
 use Rattle.mk_nodes.specs.Chain.{has_a_type, usable}
 use Rattle.mk_sources.specs.Source.{IsReached}
+use Rattle.mk_nodes.specs.declared.file_look.FileLook.{FileLook}
 
 -- one of these names leads to n
 pub record IsAmong (leads : (name n : List ℕ) → Type 0) (names : List (List ℕ)) (n : List ℕ) : Type 0 where
@@ -43,8 +45,8 @@ IsLedFault targets refuses leads (fault.Tree n) = (is_named (named_at targets n)
 IsLedFault targets refuses leads _ = ⊥
 
 -- where no candidate is there, some search for a chain leads to the name n, which no line makes
-pub record IsLedTo (targets : TargetTable) (allowed : (List ℕ → Option ℤ) → Type 0) (forms : List Form) (steps : ℕ) (name n : List ℕ) : Type 0 where
-  pub none : (times : List ℕ → Option ℤ) → allowed times → source_of (is_there targets times) forms name ≡ None
+pub record IsLedTo (targets : TargetTable) (allowed : (List ℕ → Option FileLook) → Type 0) (forms : List Form) (steps : ℕ) (name n : List ℕ) : Type 0 where
+  pub none : (looks : List ℕ → Option FileLook) → allowed looks → source_of (is_there targets looks) forms name ≡ None
   pub no_target : is_named (named_at targets n) ≡ false
   pub count : ℕ
   pub some : 0 < count
@@ -52,11 +54,11 @@ pub record IsLedTo (targets : TargetTable) (allowed : (List ℕ → Option ℤ) 
   pub leads : IsChainedTo forms count name n
 
 -- the search for a source asks for the name n
-abbrev pub IsSearched : TargetTable → (allowed : (List ℕ → Option ℤ) → Type 0) → List Form → (steps : ℕ) (name n : List ℕ) → Type 0
+abbrev pub IsSearched : TargetTable → (allowed : (List ℕ → Option FileLook) → Type 0) → List Form → (steps : ℕ) (name n : List ℕ) → Type 0
 IsSearched targets allowed forms steps name n = IsReached targets allowed forms name n ⊎ IsLedTo targets allowed forms steps name n
 
 -- the fault of looking for the source of a name, by a chain of at most so many steps before the last one
-abbrev pub IsSearchFault : TargetTable → (allowed : (List ℕ → Option ℤ) → Type 0) → (refuses : List ℕ → Type 0) → List Form → (steps : ℕ) (name : List ℕ) → RuleFault → Type 0
+abbrev pub IsSearchFault : TargetTable → (allowed : (List ℕ → Option FileLook) → Type 0) → (refuses : List ℕ → Type 0) → List Form → (steps : ℕ) (name : List ℕ) → RuleFault → Type 0
 IsSearchFault targets allowed refuses forms steps name fault.OutOfMemory = Unit {0}
 IsSearchFault targets allowed refuses forms steps name (fault.Tree n) = IsSearched targets allowed forms steps name n × refuses n
 IsSearchFault targets allowed refuses forms steps name _ = ⊥

@@ -29,7 +29,7 @@ pub record IsGiven (inputs : Inputs) (name : List ℕ) (source : Option Source) 
   pub order_only_are : order_only ≡ behind_bar_of source ++ order_only_of inputs.lines name
   pub stem : rare.stem ≡ option_map (λ s. s.stem) source
   pub implied : rare.implied ≡ length (distinct (made_from source))
-  pub group : option_map (λ g. g.value) rare.group ≡ group_with inputs.times name (others_in source)
+  pub group : option_map (λ g. g.value) rare.group ≡ group_with inputs.looks name (others_in source)
   pub required : unwrap_or (option_map (λ names. names.value) rare.required) (distinct (made_from source ++ explicit_of inputs.lines name))
       ≡ all_added (distinct (made_from source ++ explicit_of inputs.lines name)) (behind_bar_of source ++ order_only_of inputs.lines name)
 
@@ -45,5 +45,5 @@ IsRuledIn inputs name left ruled = IsRuled inputs name (implicit_source inputs n
 -- what is found of a name is what the inputs say of it
 pub record IsSeen (inputs : Inputs) (name : List ℕ) (seen : Seen) : Type 0 where
   pub lines_are : seen.lines.now ≡ numbers_of inputs.lines name
-  pub stamp : seen.stamp ≡ inputs.times name
+  pub stamp : seen.stamp ≡ inputs.looks name
   pub ruled : IsRuledIn inputs name (left_recipe inputs name) seen.ruled

@@ -1,13 +1,14 @@
 //! Chains of implicit rules.
-ghost use Rattle.std.specs.Prelude.{◌≡◌, ◌<◌, ℕ, ℤ, false, List, ◌∷◌, Option, None, option_map, if◌then◌else◌, IfOk, IfErr};
+ghost use Rattle.std.specs.Prelude.{◌≡◌, ◌<◌, ℕ, false, List, ◌∷◌, Option, None, option_map, if◌then◌else◌, IfOk, IfErr};
 ghost use Rattle.std.specs.List.{list_all};
 ghost use Rattle.mk_graph.specs.Edges.{has as has_number};
 ghost use Rattle.mk_rule_lines.specs.Source.{stem_of, source_of};
-ghost use Rattle.mk_rule_lines.specs.Table.{is_there};
+ghost use Rattle.mk_sources.specs.There.{is_there};
 ghost use Rattle.mk_nodes.specs.Chain.{any_wide, steps_of, makes_any, has_a_type, is_usable, usable, first_that, can_be, chained, source_in};
 ghost use Rattle.mk_nodes.specs.Links.{AreLinks};
 ghost use Rattle.mk_sources.specs.Search.{IsAmong, IsAskedIn, IsBehind, IsChainedTo, IsLedFault, IsSearchFault};
 ghost use Rattle.mk_sources.specs.Looks.{Looks};
+ghost use Rattle.mk_nodes.specs.declared.file_look.FileLook.{FileLook};
 
 use crate::links::{makes_any, may_lead_on, stem_of, steps_behind};
 use crate::source::{is_there, source_of};
@@ -92,8 +93,8 @@ fn can_be<T: Tree>(
     taken: &[usize],
     name: &[u8],
 ) -> Result<bool, RuleFault>
-    ensures can_be { IfOk result (λ can. (times : List ℕ → Option ℤ) → T.allows tree.new times
-        → can ≡ can_be (is_there makers.now.targets.now times) makers.now.forms.now steps taken.now name.now) }
+    ensures can_be { IfOk result (λ can. (looks : List ℕ → Option FileLook) → T.allows tree.new looks
+        → can ≡ can_be (is_there makers.now.targets.now looks) makers.now.forms.now steps taken.now name.now) }
     ensures looks { Looks (T.allows tree.old) (T.allows tree.new) (T.refuses tree.old) (T.refuses tree.new) (T.asked tree.old) (T.asked tree.new) (T.firsts tree.old) (T.firsts tree.new) }
     ensures fault { IfErr result (IsLedFault makers.now.targets.now (T.refuses tree.new) (IsAskedIn makers.now.forms.now steps taken.now name.now)) }
 {
@@ -117,8 +118,8 @@ fn all_can_be<T: Tree>(
     taken: &[usize],
     names: &ByteStrings,
 ) -> Result<bool, RuleFault>
-    ensures can_be { IfOk result (λ can. (times : List ℕ → Option ℤ) → T.allows tree.new times
-        → can ≡ list_all (can_be (is_there makers.now.targets.now times) makers.now.forms.now steps taken.now) names.now) }
+    ensures can_be { IfOk result (λ can. (looks : List ℕ → Option FileLook) → T.allows tree.new looks
+        → can ≡ list_all (can_be (is_there makers.now.targets.now looks) makers.now.forms.now steps taken.now) names.now) }
     ensures looks { Looks (T.allows tree.old) (T.allows tree.new) (T.refuses tree.old) (T.refuses tree.new) (T.asked tree.old) (T.asked tree.new) (T.firsts tree.old) (T.firsts tree.new) }
     ensures fault { IfErr result (IsLedFault makers.now.targets.now (T.refuses tree.new) (IsAmong (IsAskedIn makers.now.forms.now steps taken.now) names.now)) }
 {
@@ -140,8 +141,8 @@ fn first_that<T: Tree>(
     taken: &[usize],
     name: &[u8],
 ) -> Result<Option<Source>, RuleFault>
-    ensures source { IfOk result (λ found. (times : List ℕ → Option ℤ) → T.allows tree.new times
-        → found ≡ first_that (λ rule. can_be (is_there makers.now.targets.now times) makers.now.forms.now steps (rule ∷ taken.now))
+    ensures source { IfOk result (λ found. (looks : List ℕ → Option FileLook) → T.allows tree.new looks
+        → found ≡ first_that (λ rule. can_be (is_there makers.now.targets.now looks) makers.now.forms.now steps (rule ∷ taken.now))
         (usable false taken.now makers.now.forms.now) name.now) }
     ensures looks { Looks (T.allows tree.old) (T.allows tree.new) (T.refuses tree.old) (T.refuses tree.new) (T.asked tree.old) (T.asked tree.new) (T.firsts tree.old) (T.firsts tree.new) }
     ensures fault { IfErr result (IsLedFault makers.now.targets.now (T.refuses tree.new)
@@ -170,10 +171,10 @@ fn chained<T: Tree>(
     steps: usize,
     name: &[u8],
 ) -> Result<Option<Source>, RuleFault>
-    requires none { (times : List ℕ → Option ℤ) → T.allows tree.old times
-        → source_of (is_there makers.now.targets.now times) makers.now.forms.now name.now ≡ None }
-    ensures source { IfOk result (λ found. (times : List ℕ → Option ℤ) → T.allows tree.new times
-        → found ≡ chained (is_there makers.now.targets.now times) makers.now.forms.now steps name.now) }
+    requires none { (looks : List ℕ → Option FileLook) → T.allows tree.old looks
+        → source_of (is_there makers.now.targets.now looks) makers.now.forms.now name.now ≡ None }
+    ensures source { IfOk result (λ found. (looks : List ℕ → Option FileLook) → T.allows tree.new looks
+        → found ≡ chained (is_there makers.now.targets.now looks) makers.now.forms.now steps name.now) }
     ensures looks { Looks (T.allows tree.old) (T.allows tree.new) (T.refuses tree.old) (T.refuses tree.new) (T.asked tree.old) (T.asked tree.new) (T.firsts tree.old) (T.firsts tree.new) }
     ensures fault { IfErr result (IsLedFault makers.now.targets.now (T.refuses tree.new) (IsChainedTo makers.now.forms.now steps name.now)) }
 {
@@ -204,10 +205,10 @@ fn shortest<T: Tree>(
     name: &[u8],
 ) -> Result<Option<Source>, RuleFault>
     requires some { 0 < steps }
-    requires none { (times : List ℕ → Option ℤ) → T.allows tree.old times
-        → source_of (is_there makers.now.targets.now times) makers.now.forms.now name.now ≡ None }
-    ensures source { IfOk result (λ found. (times : List ℕ → Option ℤ) → T.allows tree.new times
-        → found ≡ source_in (is_there makers.now.targets.now times) makers.now.forms.now steps name.now) }
+    requires none { (looks : List ℕ → Option FileLook) → T.allows tree.old looks
+        → source_of (is_there makers.now.targets.now looks) makers.now.forms.now name.now ≡ None }
+    ensures source { IfOk result (λ found. (looks : List ℕ → Option FileLook) → T.allows tree.new looks
+        → found ≡ source_in (is_there makers.now.targets.now looks) makers.now.forms.now steps name.now) }
     ensures looks { Looks (T.allows tree.old) (T.allows tree.new) (T.refuses tree.old) (T.refuses tree.new) (T.asked tree.old) (T.asked tree.new) (T.firsts tree.old) (T.firsts tree.new) }
     ensures fault { IfErr result (IsSearchFault makers.now.targets.now (T.allows tree.new) (T.refuses tree.new) makers.now.forms.now steps name.now) }
 {
@@ -225,7 +226,7 @@ fn shortest<T: Tree>(
 
 /// What implicit rules make the name from, by chains of at most so many steps before the last one.
 ///
-/// The answer is right for any times that agree with what the tree answered.
+/// The answer is right for any looks that agree with what the tree answered.
 pub(crate) fn source_in<T: Tree>(
     alloc: Global,
     makers: &Makers,
@@ -233,8 +234,8 @@ pub(crate) fn source_in<T: Tree>(
     steps: usize,
     name: &[u8],
 ) -> Result<Option<Source>, RuleFault>
-    ensures source { IfOk result (λ found. (times : List ℕ → Option ℤ) → T.allows tree.new times
-        → found ≡ source_in (is_there makers.now.targets.now times) makers.now.forms.now steps name.now) }
+    ensures source { IfOk result (λ found. (looks : List ℕ → Option FileLook) → T.allows tree.new looks
+        → found ≡ source_in (is_there makers.now.targets.now looks) makers.now.forms.now steps name.now) }
     ensures looks { Looks (T.allows tree.old) (T.allows tree.new) (T.refuses tree.old) (T.refuses tree.new) (T.asked tree.old) (T.asked tree.new) (T.firsts tree.old) (T.firsts tree.new) }
     ensures fault { IfErr result (IsSearchFault makers.now.targets.now (T.allows tree.new) (T.refuses tree.new) makers.now.forms.now steps name.now) }
 {

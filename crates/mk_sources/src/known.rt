@@ -26,7 +26,7 @@ pub struct Ruled {
 pub struct Seen<'r> {
     /// The numbers of the lines that make it.
     pub lines: &'r [usize],
-    /// When its file was last changed.
+    /// What is seen of it.
     pub stamp: Stamp,
     pub ruled: Ruled,
 }
@@ -42,7 +42,7 @@ impl Drop for Seen<'_> {
 }
 
 impl Seen<'_> {
-    /// The time, and what rules say.
+    /// What is seen of it, and what rules say.
     pub fn into_parts(self) -> (Stamp, Ruled)
         ensures stamp { result.0 ≡ self.entry.stamp }
         ensures ruled { result.1 ≡ self.entry.ruled }

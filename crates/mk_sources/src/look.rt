@@ -1,19 +1,21 @@
 //! A look at a name in a tree.
-ghost use Rattle.std.specs.Prelude.{◌≡◌, ℕ, ℤ, List, Option, IfOk, IfErr};
+ghost use Rattle.std.specs.Prelude.{◌≡◌, ℕ, List, Option, IfOk, IfErr};
 ghost use Rattle.mk_sources.specs.Looks.{IsLookFault, Looks, and_this};
+ghost use Rattle.mk_nodes.specs.declared.file_look.FileLook.{FileLook};
 
 use crate::tree::{Tree, TreeFault};
 use byte_strings::ByteString;
+use mk_nodes::FileLook;
 use mk_rule_lines::RuleFault;
 use std::alloc::Global;
 
-/// The time of the file of this name, if there is one.
+/// What a look at this name tells.
 pub(crate) fn stamp_of<T: Tree>(
     alloc: Global,
     tree: &mut T,
     name: &[u8],
-) -> Result<Option<i128>, RuleFault>
-    ensures stamp { IfOk result (λ stamp. (times : List ℕ → Option ℤ) → T.allows tree.new times → stamp ≡ times name.now) }
+) -> Result<Option<FileLook>, RuleFault>
+    ensures stamp { IfOk result (λ stamp. (looks : List ℕ → Option FileLook) → T.allows tree.new looks → stamp ≡ looks name.now) }
     ensures looks { Looks (T.allows tree.old) (T.allows tree.new) (T.refuses tree.old) (T.refuses tree.new) (T.asked tree.old) (T.asked tree.new) (T.firsts tree.old) (T.firsts tree.new) }
     ensures fault { IfErr result (IsLookFault (T.refuses tree.new) name.now) }
 {
@@ -29,14 +31,14 @@ pub(crate) fn first_stamp_of<T: Tree>(
     alloc: Global,
     tree: &mut T,
     name: &[u8],
-) -> Result<Option<i128>, RuleFault>
+) -> Result<Option<FileLook>, RuleFault>
     requires { ¬ (T.firsts tree.old name.now) }
-    ensures stamp { IfOk result (λ stamp. (times : List ℕ → Option ℤ) → T.allows tree.new times → stamp ≡ times name.now) }
+    ensures stamp { IfOk result (λ stamp. (looks : List ℕ → Option FileLook) → T.allows tree.new looks → stamp ≡ looks name.now) }
     ensures looks { Looks (T.allows tree.old) (T.allows tree.new) (T.refuses tree.old) (T.refuses tree.new) (T.asked tree.old) (T.asked tree.new) (and_this name.now (T.firsts tree.old)) (T.firsts tree.new) }
     ensures fault { IfErr result (IsLookFault (T.refuses tree.new) name.now) }
 {
     match tree.first_stamp(alloc, name) {
-        Ok(time) => Ok(time),
+        Ok(look) => Ok(look),
         Err(TreeFault::OutOfMemory) => Err(RuleFault::OutOfMemory),
         Err(TreeFault::CannotLook) => Err(RuleFault::Tree(ByteString::from_slice(alloc, name)?)),
     }

@@ -1,5 +1,5 @@
 //! What is found of a name: what makes it, and what it is made from.
-ghost use Rattle.std.specs.Prelude.{◌≡◌, ◌⊎◌, ℕ, ℤ, List, Option, None, [], false, nat_lt, option_to_list, IfOk, IfErr, IsOk, IsErr, if◌then◌else◌};
+ghost use Rattle.std.specs.Prelude.{◌≡◌, ◌⊎◌, ℕ, List, Option, None, [], false, nat_lt, option_to_list, IfOk, IfErr, IsOk, IsErr, if◌then◌else◌};
 ghost use Rattle.std.specs.FinMap as map;
 ghost use Rattle.std.specs.List.{list_all};
 ghost use Rattle.std.specs.Str.{is_utf8};
@@ -7,11 +7,13 @@ ghost use Rattle.mk_rule_lines.specs.Explicit.{is_phony};
 ghost use Rattle.mk_nodes.specs.Prerequisites.{inputs_of, is_read, is_node, found_source, own_recipes};
 ghost use Rattle.mk_sources.specs.Looks.{IsLookFault, Looks, and_this};
 ghost use Rattle.mk_sources.specs.Search.{IsSearchFault};
+ghost use Rattle.mk_nodes.specs.declared.file_look.FileLook.{FileLook};
 
 use crate::look::{first_stamp_of, stamp_of};
 use crate::rules::Rules;
 use crate::source::is_there;
 use crate::tree::Tree;
+use mk_nodes::FileLook;
 use mk_rule_lines::{RuleFault, Source};
 use mk_short_names::is_short;
 use std::alloc::Global;
@@ -51,8 +53,8 @@ pub fn is_node<T: Tree>(
     tree: &mut T,
     name: &[u8],
 ) -> Result<bool, RuleFault>
-    ensures node { IfOk result (λ node. (times : List ℕ → Option ℤ) → T.allows tree.new times
-        → node ≡ is_node (inputs_of rules.now.lines.now (map.get rules.now.state.now) times) name.now) }
+    ensures node { IfOk result (λ node. (looks : List ℕ → Option FileLook) → T.allows tree.new looks
+        → node ≡ is_node (inputs_of rules.now.lines.now (map.get rules.now.state.now) looks) name.now) }
     ensures looks { Looks (T.allows tree.old) (T.allows tree.new) (T.refuses tree.old) (T.refuses tree.new) (T.asked tree.old) (T.asked tree.new) (T.firsts tree.old) (T.firsts tree.new) }
     ensures fault { IfErr result (IsLookFault (T.refuses tree.new) name.now) }
     // A name that isn't text is neither asked for nor looked at.
@@ -67,15 +69,15 @@ pub fn is_node<T: Tree>(
     is_there(alloc, rules.targets, tree, name)
 }
 
-/// The time of a name, which isn't asked for where the name is phony: such a one has none.
+/// What is seen of a name. A phony one isn't looked at: it has no file.
 pub(crate) fn seen_stamp<T: Tree>(
     alloc: Global,
     tree: &mut T,
     name: &[u8],
     is_phony: bool,
-) -> Result<Option<i128>, RuleFault>
-    ensures stamp { IfOk result (λ stamp. (times : List ℕ → Option ℤ)
-        → T.allows tree.new times → stamp ≡ (if is_phony then None else times name.now)) }
+) -> Result<Option<FileLook>, RuleFault>
+    ensures stamp { IfOk result (λ stamp. (looks : List ℕ → Option FileLook)
+        → T.allows tree.new looks → stamp ≡ (if is_phony then None else looks name.now)) }
     ensures looks { Looks (T.allows tree.old) (T.allows tree.new) (T.refuses tree.old) (T.refuses tree.new) (T.asked tree.old) (T.asked tree.new) (T.firsts tree.old) (T.firsts tree.new) }
     ensures fault { IfErr result (IsLookFault (T.refuses tree.new) name.now) }
     ensures asked { IsErr result → is_phony ≡ false }
@@ -92,10 +94,10 @@ pub(crate) fn first_seen_stamp<T: Tree>(
     tree: &mut T,
     name: &[u8],
     is_phony: bool,
-) -> Result<Option<i128>, RuleFault>
+) -> Result<Option<FileLook>, RuleFault>
     requires { ¬ (T.firsts tree.old name.now) }
-    ensures stamp { IfOk result (λ stamp. (times : List ℕ → Option ℤ)
-        → T.allows tree.new times → stamp ≡ (if is_phony then None else times name.now)) }
+    ensures stamp { IfOk result (λ stamp. (looks : List ℕ → Option FileLook)
+        → T.allows tree.new looks → stamp ≡ (if is_phony then None else looks name.now)) }
     ensures looks { Looks (T.allows tree.old) (T.allows tree.new) (T.refuses tree.old) (T.refuses tree.new) (T.asked tree.old) (T.asked tree.new) (and_this name.now (T.firsts tree.old)) (T.firsts tree.new) }
     ensures fault { IfErr result (IsLookFault (T.refuses tree.new) name.now) }
     ensures asked { IsErr result → is_phony ≡ false }
@@ -118,8 +120,8 @@ pub(crate) fn found_source<T: Tree>(
 ) -> Result<Option<Source>, RuleFault>
     requires own { option_to_list own ≡ own_recipes rules.now.lines.now name.now }
     requires phony { phony ≡ is_phony rules.now.lines.now name.now }
-    ensures source { IfOk result (λ found. (times : List ℕ → Option ℤ) → T.allows tree.new times
-        → found ≡ found_source (inputs_of rules.now.lines.now (map.get rules.now.state.now) times) name.now) }
+    ensures source { IfOk result (λ found. (looks : List ℕ → Option FileLook) → T.allows tree.new looks
+        → found ≡ found_source (inputs_of rules.now.lines.now (map.get rules.now.state.now) looks) name.now) }
     ensures looks { Looks (T.allows tree.old) (T.allows tree.new) (T.refuses tree.old) (T.refuses tree.new) (T.asked tree.old) (T.asked tree.new) (T.firsts tree.old) (T.firsts tree.new) }
     ensures fault { IfErr result (IsSearchFault rules.now.targets.now (T.allows tree.new) (T.refuses tree.new) rules.now.forms.now rules.now.steps name.now) }
     // Of a phony name, and beside a recipe of its own, no source is looked for.

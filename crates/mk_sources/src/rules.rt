@@ -1,5 +1,5 @@
 //! What a makefile's rules and the state say of a name.
-ghost use Rattle.std.specs.Prelude.{◌≡◌, ℕ, ℤ, List, Option, false, [], slice_get, option_to_list, IfOk, IfErr};
+ghost use Rattle.std.specs.Prelude.{◌≡◌, ℕ, List, Option, false, [], slice_get, option_to_list, IfOk, IfErr};
 ghost use Rattle.std.specs.FinMap as map;
 ghost use Rattle.std.specs.Option.{option_copied, option_map_or, option_or};
 ghost use Rattle.mk_rule_lines.specs.Rules.{has, suffixes_of, targets_by, places, recipe_places};
@@ -7,11 +7,13 @@ ghost use Rattle.mk_nodes.specs.Chain.{steps_of};
 ghost use Rattle.mk_nodes.specs.Links.{AreLinks};
 ghost use Rattle.mk_sources.specs.Search.{IsSearchFault};
 ghost use Rattle.mk_sources.specs.Looks.{Looks};
-ghost use Rattle.mk_rule_lines.specs.Table.{is_there, named_at};
+ghost use Rattle.mk_rule_lines.specs.Table.{named_at};
+ghost use Rattle.mk_sources.specs.There.{is_there};
 ghost use Rattle.mk_rule_lines.specs.Doubles.{first_double};
 ghost use Rattle.mk_rule_lines.specs.Explicit.{numbers_of, order_only_in};
 ghost use Rattle.mk_rule_lines.specs.Forms.{forms_of};
 ghost use Rattle.mk_nodes.specs.Prerequisites.{any_or, default_of};
+ghost use Rattle.mk_nodes.specs.declared.file_look.FileLook.{FileLook};
 
 use crate::chain::{Makers, source_in};
 use crate::left_over::is_left;
@@ -102,10 +104,10 @@ impl<'m> Rules<'m> {
         self.targets.is_target(name)
     }
 
-    /// The line whose recipe makes the name where no rule does, which the lines of these numbers make and which has this time.
+    /// The line whose recipe makes the name where no rule does, which the lines of these numbers make and of which this is seen.
     pub fn left_recipe(&self, name: &[u8], numbers: &[usize], stamp: &Stamp) -> Option<usize>
         requires { numbers.now ≡ numbers_of self.now.lines.now name.now }
-        ensures { (inputs : Inputs) → inputs.lines ≡ self.now.lines.now → inputs.times name.now ≡ stamp.now
+        ensures { (inputs : Inputs) → inputs.lines ≡ self.now.lines.now → inputs.looks name.now ≡ stamp.now
             → inputs.entries name.now ≡ map.get self.now.state.now name.now → result ≡ left_recipe inputs name.now }
     {
         // Without a `.DEFAULT` the state isn't asked.
@@ -160,8 +162,8 @@ impl<'m> Rules<'m> {
         tree: &mut T,
         name: &[u8],
     ) -> Result<Option<Source>, RuleFault>
-        ensures source { IfOk result (λ found. (times : List ℕ → Option ℤ) → T.allows tree.new times
-            → found ≡ option_or (source_in (is_there self.now.targets.now times) self.now.forms.now self.now.steps name.now)
+        ensures source { IfOk result (λ found. (looks : List ℕ → Option FileLook) → T.allows tree.new looks
+            → found ≡ option_or (source_in (is_there self.now.targets.now looks) self.now.forms.now self.now.steps name.now)
             (from_wanted (is_target self.now.lines.now) self.now.lines.now self.now.forms.now name.now)) }
         ensures looks { Looks (T.allows tree.old) (T.allows tree.new) (T.refuses tree.old) (T.refuses tree.new) (T.asked tree.old) (T.asked tree.new) (T.firsts tree.old) (T.firsts tree.new) }
         ensures fault { IfErr result (IsSearchFault self.now.targets.now (T.allows tree.new) (T.refuses tree.new) self.now.forms.now self.now.steps name.now) }

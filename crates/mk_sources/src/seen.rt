@@ -1,13 +1,14 @@
 //! What is found of a name but its hidden prerequisites.
-ghost use Rattle.std.specs.Prelude.{◌≡◌, ◌++◌, ℕ, ℤ, List, Option, None, length, option_map, option_to_list, unwrap_or, IfOk, IfErr};
+ghost use Rattle.std.specs.Prelude.{◌≡◌, ◌++◌, ℕ, List, Option, None, length, option_map, option_to_list, unwrap_or, IfOk, IfErr};
 ghost use Rattle.std.specs.FinMap as map;
 ghost use Rattle.mk_rule_lines.specs.Explicit.{numbers_of, explicit_of, order_only_of, is_phony};
 ghost use Rattle.mk_nodes.specs.Groups.{others_in, group_with};
-ghost use Rattle.mk_nodes.specs.Prerequisites.{Inputs, inputs_of, own_recipes, seen_times, first_or, rule_or, behind_bar_of, made_from, distinct};
+ghost use Rattle.mk_nodes.specs.Prerequisites.{Inputs, inputs_of, own_recipes, seen_looks, first_or, rule_or, behind_bar_of, made_from, distinct};
 ghost use Rattle.mk_graph.specs.Numbering.{all_added};
 ghost use Rattle.mk_sources.specs.Looks.{Looks, and_this};
 ghost use Rattle.mk_sources.specs.Asked.{IsLookUpFault, IsOthersFault};
 ghost use Rattle.mk_sources.specs.Seen.{IsSeen, IsGiven, IsRuled, IsRuledIn};
+ghost use Rattle.mk_nodes.specs.declared.file_look.FileLook.{FileLook};
 
 use crate::distinct_names::DistinctNames;
 use crate::known::{Given, Ruled, Seen};
@@ -128,7 +129,7 @@ fn given_with(
 ) -> Result<Box<Given>, AllocError>
     ensures { IfOk result (λ given. (inputs : Inputs) (name : List ℕ) → inputs.lines ≡ rules.now.lines.now
         → numbers.now ≡ numbers_of rules.now.lines.now name
-        → option_map (λ g. g.value) group ≡ group_with inputs.times name (others_in source)
+        → option_map (λ g. g.value) group ≡ group_with inputs.looks name (others_in source)
         → IsGiven inputs name source given.value.made given.value.order_only given.value.rare) }
 {
     let made = made_from(alloc, &source)?;
@@ -143,7 +144,7 @@ fn given_with(
     Ok(Box::new(alloc, given)?)
 }
 
-/// What rules give a name with this source. `stamp` is the name's own time.
+/// What rules give a name with this source. `stamp` is what is seen of the name itself.
 #[inline(never)]
 fn given_by<T: Tree>(
     alloc: Global,
@@ -153,13 +154,13 @@ fn given_by<T: Tree>(
     stamp: &Stamp,
     source: Option<Source>,
 ) -> Result<Box<Given>, RuleFault>
-    ensures given { IfOk result (λ given. (name : List ℕ) (times : List ℕ → Option ℤ) → T.allows tree.new times
-        → numbers.now ≡ numbers_of rules.now.lines.now name → stamp.now ≡ seen_times rules.now.lines.now times name
-        → IsGiven (inputs_of rules.now.lines.now (map.get rules.now.state.now) times) name source given.value.made given.value.order_only given.value.rare) }
+    ensures given { IfOk result (λ given. (name : List ℕ) (looks : List ℕ → Option FileLook) → T.allows tree.new looks
+        → numbers.now ≡ numbers_of rules.now.lines.now name → stamp.now ≡ seen_looks rules.now.lines.now looks name
+        → IsGiven (inputs_of rules.now.lines.now (map.get rules.now.state.now) looks) name source given.value.made given.value.order_only given.value.rare) }
     ensures looks { Looks (T.allows tree.old) (T.allows tree.new) (T.refuses tree.old) (T.refuses tree.new) (T.asked tree.old) (T.asked tree.new) (T.firsts tree.old) (T.firsts tree.new) }
     ensures fault { IfErr result (IsOthersFault (T.refuses tree.new) rules.now.lines.now (others_in source)) }
 {
-    let group = group_of(alloc, rules, tree, stamp.get(), &source)?;
+    let group = group_of(alloc, rules, tree, stamp.time(), &source)?;
     let given = given_with(alloc, rules, numbers, source, group)?;
     Ok(given)
 }
@@ -188,9 +189,9 @@ fn ruled_by<T: Tree>(
     stamp: &Stamp,
     source: Option<Source>,
 ) -> Result<Ruled, RuleFault>
-    ensures ruled { IfOk result (λ ruled. (name : List ℕ) (times : List ℕ → Option ℤ) → T.allows tree.new times
-        → numbers.now ≡ numbers_of rules.now.lines.now name → stamp.now ≡ seen_times rules.now.lines.now times name
-        → IsRuled (inputs_of rules.now.lines.now (map.get rules.now.state.now) times) name source (option_to_list own) left ruled) }
+    ensures ruled { IfOk result (λ ruled. (name : List ℕ) (looks : List ℕ → Option FileLook) → T.allows tree.new looks
+        → numbers.now ≡ numbers_of rules.now.lines.now name → stamp.now ≡ seen_looks rules.now.lines.now looks name
+        → IsRuled (inputs_of rules.now.lines.now (map.get rules.now.state.now) looks) name source (option_to_list own) left ruled) }
     ensures looks { Looks (T.allows tree.old) (T.allows tree.new) (T.refuses tree.old) (T.refuses tree.new) (T.asked tree.old) (T.asked tree.new) (T.firsts tree.old) (T.firsts tree.new) }
     ensures fault { IfErr result (IsOthersFault (T.refuses tree.new) rules.now.lines.now (others_in source)) }
 {
@@ -218,9 +219,9 @@ fn searched<T: Tree>(
     requires numbers { numbers.now ≡ numbers_of rules.now.lines.now name.now }
     requires own { option_to_list own ≡ own_recipes rules.now.lines.now name.now }
     requires phony { phony ≡ is_phony rules.now.lines.now name.now }
-    ensures ruled { IfOk result (λ ruled. (times : List ℕ → Option ℤ) → T.allows tree.new times
-        → stamp.now ≡ seen_times rules.now.lines.now times name.now
-        → IsRuledIn (inputs_of rules.now.lines.now (map.get rules.now.state.now) times) name.now left ruled) }
+    ensures ruled { IfOk result (λ ruled. (looks : List ℕ → Option FileLook) → T.allows tree.new looks
+        → stamp.now ≡ seen_looks rules.now.lines.now looks name.now
+        → IsRuledIn (inputs_of rules.now.lines.now (map.get rules.now.state.now) looks) name.now left ruled) }
     ensures looks { Looks (T.allows tree.old) (T.allows tree.new) (T.refuses tree.old) (T.refuses tree.new) (T.asked tree.old) (T.asked tree.new) (T.firsts tree.old) (T.firsts tree.new) }
     ensures fault { IfErr result (IsLookUpFault rules.now.targets.now (T.allows tree.new) (T.refuses tree.new) rules.now.forms.now rules.now.steps
         rules.now.lines.now (map.get rules.now.state.now) name.now) }
@@ -233,7 +234,7 @@ fn searched<T: Tree>(
     ruled_by(alloc, rules, tree, numbers, own, left, stamp, source)
 }
 
-/// What rules say of a name with this time.
+/// What rules say of a name of which this is seen.
 fn ruled_of<T: Tree>(
     alloc: Global,
     rules: &Rules,
@@ -248,9 +249,9 @@ fn ruled_of<T: Tree>(
     requires numbers { numbers.now ≡ numbers_of rules.now.lines.now name.now }
     requires own { option_to_list own ≡ own_recipes rules.now.lines.now name.now }
     requires phony { phony ≡ is_phony rules.now.lines.now name.now }
-    ensures ruled { IfOk result (λ ruled. (times : List ℕ → Option ℤ) → T.allows tree.new times
-        → stamp.now ≡ seen_times rules.now.lines.now times name.now
-        → IsRuledIn (inputs_of rules.now.lines.now (map.get rules.now.state.now) times) name.now left ruled) }
+    ensures ruled { IfOk result (λ ruled. (looks : List ℕ → Option FileLook) → T.allows tree.new looks
+        → stamp.now ≡ seen_looks rules.now.lines.now looks name.now
+        → IsRuledIn (inputs_of rules.now.lines.now (map.get rules.now.state.now) looks) name.now left ruled) }
     ensures looks { Looks (T.allows tree.old) (T.allows tree.new) (T.refuses tree.old) (T.refuses tree.new) (T.asked tree.old) (T.asked tree.new) (T.firsts tree.old) (T.firsts tree.new) }
     ensures fault { IfErr result (IsLookUpFault rules.now.targets.now (T.allows tree.new) (T.refuses tree.new) rules.now.forms.now rules.now.steps
         rules.now.lines.now (map.get rules.now.state.now) name.now) }
@@ -271,8 +272,8 @@ pub fn seen_of<'r, T: Tree>(
     name: &[u8],
 ) -> Result<Seen<'r>, RuleFault>
     requires { ¬ (T.firsts tree.old name.now) }
-    ensures seen { IfOk result (λ seen. (times : List ℕ → Option ℤ) → T.allows tree.new times
-        → IsSeen (inputs_of rules.now.lines.now (map.get rules.now.state.now) times) name.now seen) }
+    ensures seen { IfOk result (λ seen. (looks : List ℕ → Option FileLook) → T.allows tree.new looks
+        → IsSeen (inputs_of rules.now.lines.now (map.get rules.now.state.now) looks) name.now seen) }
     ensures looks { Looks (T.allows tree.old) (T.allows tree.new) (T.refuses tree.old) (T.refuses tree.new) (T.asked tree.old) (T.asked tree.new) (and_this name.now (T.firsts tree.old)) (T.firsts tree.new) }
     ensures fault { IfErr result (IsLookUpFault rules.now.targets.now (T.allows tree.new) (T.refuses tree.new) rules.now.forms.now rules.now.steps
         rules.now.lines.now (map.get rules.now.state.now) name.now) }
@@ -280,8 +281,8 @@ pub fn seen_of<'r, T: Tree>(
     let (numbers, own, next) = rules.near(name, *place);
     *place = next;
     let phony = rules.is_phony(numbers);
-    let time = first_seen_stamp(alloc, tree, name, phony)?;
-    let stamp = Stamp::of(alloc, time)?;
+    let look = first_seen_stamp(alloc, tree, name, phony)?;
+    let stamp = Stamp::of(alloc, look)?;
     let left = rules.left_recipe(name, numbers, &stamp);
     let ruled = ruled_of(alloc, rules, tree, name, numbers, own, phony, left, &stamp)?;
     Ok(Seen {

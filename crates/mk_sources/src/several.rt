@@ -1,17 +1,19 @@
 //! Rules of several targets: their further targets are made by the run for the first.
-ghost use Rattle.std.specs.Prelude.{◌≡◌, ◌&&◌, ◌==◌, ℕ, ℤ, List, Option, Some, is_none, map, option_map, option_to_list, IfOk, IfErr};
+ghost use Rattle.std.specs.Prelude.{◌≡◌, ◌&&◌, ◌==◌, ℕ, List, Option, Some, is_none, map, option_map, option_to_list, IfOk, IfErr};
 ghost use Rattle.std.specs.FinMap as finmap;
 ghost use Rattle.mk_rule_lines.specs.Explicit.{is_phony};
 ghost use Rattle.mk_nodes.specs.Groups.{earlier, earliest, others_in, group_with};
+ghost use Rattle.mk_nodes.specs.Look.{time_of};
+ghost use Rattle.mk_nodes.specs.declared.file_look.FileLook.{FileLook};
 ghost use Rattle.mk_sources.specs.Asked.{IsImplicitFault, IsFoundFault, IsOthersFault};
 ghost use Rattle.mk_sources.specs.Looks.{Looks};
-ghost use Rattle.mk_nodes.specs.Prerequisites.{inputs_of, own_recipes, seen_times, implicit_source, is_led, is_run_of, runs_for};
+ghost use Rattle.mk_nodes.specs.Prerequisites.{inputs_of, own_recipes, seen_looks, implicit_source, is_led, is_run_of, runs_for};
 
 use crate::lookup::{found_source, seen_stamp};
 use crate::rules::Rules;
 use crate::tree::Tree;
 use byte_strings::ByteStrings;
-use mk_nodes::Group;
+use mk_nodes::{FileLook, FileLooks, Group};
 use mk_rule_lines::{RuleFault, Source};
 use std::alloc::Global;
 use std::boxed::Box;
@@ -32,8 +34,8 @@ fn runs_for<T: Tree>(
     rule: usize,
     name: &[u8],
 ) -> Result<bool, RuleFault>
-    ensures runs { IfOk result (λ runs. (times : List ℕ → Option ℤ) → T.allows tree.new times
-        → runs ≡ runs_for (inputs_of rules.now.lines.now (finmap.get rules.now.state.now) times) rule name.now) }
+    ensures runs { IfOk result (λ runs. (looks : List ℕ → Option FileLook) → T.allows tree.new looks
+        → runs ≡ runs_for (inputs_of rules.now.lines.now (finmap.get rules.now.state.now) looks) rule name.now) }
     ensures looks { Looks (T.allows tree.old) (T.allows tree.new) (T.refuses tree.old) (T.refuses tree.new) (T.asked tree.old) (T.asked tree.new) (T.firsts tree.old) (T.firsts tree.new) }
     ensures fault { IfErr result (IsFoundFault rules.now.targets.now (T.allows tree.new) (T.refuses tree.new) rules.now.forms.now rules.now.steps rules.now.lines.now name.now) }
 {
@@ -56,8 +58,8 @@ fn is_led<T: Tree>(
     tree: &mut T,
     source: &Source,
 ) -> Result<bool, RuleFault>
-    ensures led { IfOk result (λ led. (times : List ℕ → Option ℤ) → T.allows tree.new times
-        → led ≡ is_led (inputs_of rules.now.lines.now (finmap.get rules.now.state.now) times) source.now) }
+    ensures led { IfOk result (λ led. (looks : List ℕ → Option FileLook) → T.allows tree.new looks
+        → led ≡ is_led (inputs_of rules.now.lines.now (finmap.get rules.now.state.now) looks) source.now) }
     ensures looks { Looks (T.allows tree.old) (T.allows tree.new) (T.refuses tree.old) (T.refuses tree.new) (T.asked tree.old) (T.asked tree.new) (T.firsts tree.old) (T.firsts tree.new) }
     ensures fault { IfErr result (λ f. (leader : List ℕ) × ((source.now.leader ≡ Some leader)
         × IsFoundFault rules.now.targets.now (T.allows tree.new) (T.refuses tree.new) rules.now.forms.now rules.now.steps rules.now.lines.now leader f)) }
@@ -80,8 +82,8 @@ pub(crate) fn implicit_source<T: Tree>(
 ) -> Result<Option<Source>, RuleFault>
     requires own { option_to_list own ≡ own_recipes rules.now.lines.now name.now }
     requires phony { phony ≡ is_phony rules.now.lines.now name.now }
-    ensures source { IfOk result (λ found. (times : List ℕ → Option ℤ) → T.allows tree.new times
-        → found ≡ implicit_source (inputs_of rules.now.lines.now (finmap.get rules.now.state.now) times) name.now) }
+    ensures source { IfOk result (λ found. (looks : List ℕ → Option FileLook) → T.allows tree.new looks
+        → found ≡ implicit_source (inputs_of rules.now.lines.now (finmap.get rules.now.state.now) looks) name.now) }
     ensures looks { Looks (T.allows tree.old) (T.allows tree.new) (T.refuses tree.old) (T.refuses tree.new) (T.asked tree.old) (T.asked tree.new) (T.firsts tree.old) (T.firsts tree.new) }
     ensures fault { IfErr result (IsImplicitFault rules.now.targets.now (T.allows tree.new) (T.refuses tree.new) rules.now.forms.now rules.now.steps rules.now.lines.now
         (finmap.get rules.now.state.now) name.now) }
@@ -108,41 +110,60 @@ fn earlier(a: Option<i128>, b: Option<i128>) -> Option<i128>
     }
 }
 
-/// The earliest of this time and those of the names.
+fn time_of(look: &Option<FileLook>) -> Option<i128>
+    ensures { result ≡ time_of look.now }
+{
+    match look {
+        Some(file) => Some(file.time),
+        None => None,
+    }
+}
+
+/// The earliest of this time and those of the looks.
+fn earliest(first: Option<i128>, looks: &[Option<FileLook>]) -> Option<i128>
+    ensures { result ≡ earliest first (map time_of looks.now) }
+{
+    let mut time = first;
+    for look in looks {
+        time = earlier(time, time_of(look));
+    }
+    time
+}
+
+/// What is seen of these names.
 #[inline(never)]
-fn earliest<T: Tree>(
+fn seen_looks<T: Tree>(
     alloc: Global,
     rules: &Rules,
     tree: &mut T,
-    first: Option<i128>,
     names: &ByteStrings,
-) -> Result<Option<i128>, RuleFault>
-    ensures time { IfOk result (λ time. (times : List ℕ → Option ℤ) → T.allows tree.new times
-        → time ≡ earliest first (map (seen_times rules.now.lines.now times) names.now)) }
+) -> Result<FileLooks, RuleFault>
+    ensures seen { IfOk result (λ found. (looks : List ℕ → Option FileLook) → T.allows tree.new looks
+        → found ≡ map (seen_looks rules.now.lines.now looks) names.now) }
     ensures looks { Looks (T.allows tree.old) (T.allows tree.new) (T.refuses tree.old) (T.refuses tree.new) (T.asked tree.old) (T.asked tree.new) (T.firsts tree.old) (T.firsts tree.new) }
     ensures fault { IfErr result (IsOthersFault (T.refuses tree.new) rules.now.lines.now names.now) }
 {
-    let mut time = first;
+    let mut found = FileLooks::none(alloc);
     for name in names.iter() {
         let (numbers, _) = rules.named(name);
         let phony = rules.is_phony(numbers);
         let seen = seen_stamp(alloc, tree, name, phony)?;
-        time = earlier(time, seen);
+        found.push(seen)?;
     }
-    Ok(time)
+    Ok(found)
 }
 
-/// What the run for the name of this source makes beside it, where it makes more; `stamp` is the name's own time.
+/// What the run for the name of this source makes beside it, where it makes more; `time` is that of the name itself.
 pub(crate) fn group_of<T: Tree>(
     alloc: Global,
     rules: &Rules,
     tree: &mut T,
-    stamp: Option<i128>,
+    time: Option<i128>,
     source: &Option<Source>,
 ) -> Result<Option<Box<Group>>, RuleFault>
-    ensures group { IfOk result (λ group. (name : List ℕ) (times : List ℕ → Option ℤ) → T.allows tree.new times
-        → stamp ≡ seen_times rules.now.lines.now times name
-        → option_map (λ g. g.value) group ≡ group_with (seen_times rules.now.lines.now times) name (others_in source.now)) }
+    ensures group { IfOk result (λ group. (name : List ℕ) (looks : List ℕ → Option FileLook) → T.allows tree.new looks
+        → time ≡ time_of (seen_looks rules.now.lines.now looks name)
+        → option_map (λ g. g.value) group ≡ group_with (seen_looks rules.now.lines.now looks) name (others_in source.now)) }
     ensures looks { Looks (T.allows tree.old) (T.allows tree.new) (T.refuses tree.old) (T.refuses tree.new) (T.asked tree.old) (T.asked tree.new) (T.firsts tree.old) (T.firsts tree.new) }
     ensures fault { IfErr result (IsOthersFault (T.refuses tree.new) rules.now.lines.now (others_in source.now)) }
 {
@@ -152,7 +173,13 @@ pub(crate) fn group_of<T: Tree>(
     if source.others.is_empty() {
         return Ok(None);
     }
-    let made = earliest(alloc, rules, tree, stamp, &source.others)?;
+    let looks = seen_looks(alloc, rules, tree, &source.others)?;
+    let made = earliest(time, looks.as_slice());
     let others = source.others.copy(alloc)?;
-    Ok(Some(Box::new(alloc, Group { made, others })?))
+    let group = Group {
+        made,
+        others,
+        looks,
+    };
+    Ok(Some(Box::new(alloc, group)?))
 }

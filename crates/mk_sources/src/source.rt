@@ -1,10 +1,12 @@
 //! The implicit source of a name.
-ghost use Rattle.std.specs.Prelude.{◌≡◌, ℕ, ℤ, List, Option, false, IfOk, IfErr, IsErr};
+ghost use Rattle.std.specs.Prelude.{◌≡◌, ℕ, List, Option, false, IfOk, IfErr, IsErr};
 ghost use Rattle.std.specs.List.{list_all};
 ghost use Rattle.mk_rule_lines.specs.Source.{source_at, source_of};
 ghost use Rattle.mk_sources.specs.Source.{IsAllFault, IsSourceFault};
 ghost use Rattle.mk_sources.specs.Looks.{IsLookFault, Looks};
-ghost use Rattle.mk_rule_lines.specs.Table.{is_named, is_there, named_at};
+ghost use Rattle.mk_rule_lines.specs.Table.{is_named, named_at};
+ghost use Rattle.mk_sources.specs.There.{is_there};
+ghost use Rattle.mk_nodes.specs.declared.file_look.FileLook.{FileLook};
 
 use crate::links::{set_name, stem_of};
 use crate::look::stamp_of;
@@ -19,8 +21,8 @@ pub(crate) fn is_there<T: Tree>(
     tree: &mut T,
     name: &[u8],
 ) -> Result<bool, RuleFault>
-    ensures there { IfOk result (λ there. (times : List ℕ → Option ℤ)
-        → T.allows tree.new times → there ≡ is_there targets.now times name.now) }
+    ensures there { IfOk result (λ there. (looks : List ℕ → Option FileLook)
+        → T.allows tree.new looks → there ≡ is_there targets.now looks name.now) }
     ensures looks { Looks (T.allows tree.old) (T.allows tree.new) (T.refuses tree.old) (T.refuses tree.new) (T.asked tree.old) (T.asked tree.new) (T.firsts tree.old) (T.firsts tree.new) }
     ensures fault { IfErr result (IsLookFault (T.refuses tree.new) name.now) }
     ensures asked { IsErr result → is_named (named_at targets.now name.now) ≡ false }
@@ -41,8 +43,8 @@ fn all_there<T: Tree>(
     folder: &[u8],
     stem: &[u8],
 ) -> Result<bool, RuleFault>
-    ensures there { IfOk result (λ there. (times : List ℕ → Option ℤ) → T.allows tree.new times
-        → there ≡ list_all (is_there targets.now times) (source_at form.now (folder.now, stem.now)).names) }
+    ensures there { IfOk result (λ there. (looks : List ℕ → Option FileLook) → T.allows tree.new looks
+        → there ≡ list_all (is_there targets.now looks) (source_at form.now (folder.now, stem.now)).names) }
     ensures looks { Looks (T.allows tree.old) (T.allows tree.new) (T.refuses tree.old) (T.refuses tree.new) (T.asked tree.old) (T.asked tree.new) (T.firsts tree.old) (T.firsts tree.new) }
     ensures fault { IfErr result (IsAllFault targets.now (T.allows tree.new) (T.refuses tree.new) (source_at form.now (folder.now, stem.now)).names) }
 {
@@ -59,7 +61,7 @@ fn all_there<T: Tree>(
 /// What an implicit rule makes the name from: the first of all candidates, in the order of the forms, of whose names each has a
 /// file or some line that makes it.
 ///
-/// The answer is right for any times that agree with what the tree answered.
+/// The answer is right for any looks that agree with what the tree answered.
 pub(crate) fn source_of<T: Tree>(
     alloc: Global,
     targets: &TargetTable,
@@ -67,8 +69,8 @@ pub(crate) fn source_of<T: Tree>(
     forms: &[Form],
     name: &[u8],
 ) -> Result<Option<Source>, RuleFault>
-    ensures source { IfOk result (λ found. (times : List ℕ → Option ℤ)
-        → T.allows tree.new times → found ≡ source_of (is_there targets.now times) forms.now name.now) }
+    ensures source { IfOk result (λ found. (looks : List ℕ → Option FileLook)
+        → T.allows tree.new looks → found ≡ source_of (is_there targets.now looks) forms.now name.now) }
     ensures looks { Looks (T.allows tree.old) (T.allows tree.new) (T.refuses tree.old) (T.refuses tree.new) (T.asked tree.old) (T.asked tree.new) (T.firsts tree.old) (T.firsts tree.new) }
     ensures fault { IfErr result (IsSourceFault targets.now (T.allows tree.new) (T.refuses tree.new) forms.now name.now) }
 {

@@ -1,7 +1,8 @@
-//! Where the times of files come from.
-ghost use Rattle.std.specs.Prelude.{◌≡◌, ◌≤◌, ◌⊎◌, ℕ, ℤ, List, Option, IfOk, IfErr, OnOk};
+//! Where looks at files come from.
+ghost use Rattle.std.specs.Prelude.{◌≡◌, ◌≤◌, ◌⊎◌, ℕ, List, Option, IfOk, IfErr, OnOk};
 ghost use Rattle.std.specs.Str.{bytes_eq};
 
+use mk_nodes::FileLook;
 use std::alloc::{AllocError, Global};
 use thiserror::Error;
 
@@ -15,12 +16,13 @@ pub enum TreeFault {
     CannotLook,
 }
 
-/// The times of the files that a makefile's names stand for.
+/// What looks tell of the files that a makefile's names stand for.
 pub trait Tree {
     ghost use Rattle.mk_sources.specs.Tree.{IsTreeFault, AskedOnce, LooksOnce};
+    ghost use Rattle.mk_nodes.specs.declared.file_look.FileLook.{FileLook};
 
-    /// Which times, one of each name that has a file, agree with all that was answered so far.
-    ghost allows: { Self → (List ℕ → Option ℤ) → Type 0 };
+    /// Which looks, one at each name, agree with all that was answered so far.
+    ghost allows: { Self → (List ℕ → Option FileLook) → Type 0 };
 
     /// That it can't be told whether the name has a file. Of the files of a disk this stays open.
     ghost refuses: { Self → List ℕ → Type 0 };
@@ -31,12 +33,12 @@ pub trait Tree {
     /// Which names `first_stamp` was asked for since looks began. A tree to which it's all the same leaves it out.
     ghost firsts: { Self → List ℕ → Type 0 } = { λ _ _. ⊥ };
 
-    /// When the file of this name was last changed, in nanoseconds since 1970, or `None` where there is no file.
-    /// Links are followed. A name that no file can have has none. An answer narrows what is still possible and never widens
-    /// it, so a name has one time. Who asks keeps no answers: a name that was looked at isn't looked at again.
-    fn stamp(&mut self, alloc: Global, name: &[u8]) -> Result<Option<i128>, TreeFault>
-        ensures stamp { IfOk result (λ answer. (times : List ℕ → Option ℤ) → allows self.new times → answer ≡ times name.now) }
-        ensures grows { (times : List ℕ → Option ℤ) → allows self.new times → allows self.old times }
+    /// What a look at this name tells: when its file was last changed, and of an ordinary one its size; `None` where there is no
+    /// file. Links are followed. A name that no file can have has none. An answer narrows what is still possible and never widens
+    /// it, so a name has one look. Who asks keeps no answers: a name that was looked at isn't looked at again.
+    fn stamp(&mut self, alloc: Global, name: &[u8]) -> Result<Option<FileLook>, TreeFault>
+        ensures stamp { IfOk result (λ answer. (looks : List ℕ → Option FileLook) → allows self.new looks → answer ≡ looks name.now) }
+        ensures grows { (looks : List ℕ → Option FileLook) → allows self.new looks → allows self.old looks }
         ensures refused { IfErr result (IsTreeFault (refuses self.new name.now)) }
         ensures kept { (n : List ℕ) → refuses self.old n → refuses self.new n }
         ensures asked { AskedOnce (asked self.old) (λ other. bytes_eq other name.now) (asked self.new) }
@@ -44,10 +46,10 @@ pub trait Tree {
         ensures firsts { (n : List ℕ) → firsts self.new n → firsts self.old n };
 
     /// The same, once a name at most since looks began: the tree may take it that the name is new.
-    fn first_stamp(&mut self, alloc: Global, name: &[u8]) -> Result<Option<i128>, TreeFault>
+    fn first_stamp(&mut self, alloc: Global, name: &[u8]) -> Result<Option<FileLook>, TreeFault>
         requires { ¬ (firsts self.old name.now) }
-        ensures stamp { IfOk result (λ answer. (times : List ℕ → Option ℤ) → allows self.new times → answer ≡ times name.now) }
-        ensures grows { (times : List ℕ → Option ℤ) → allows self.new times → allows self.old times }
+        ensures stamp { IfOk result (λ answer. (looks : List ℕ → Option FileLook) → allows self.new looks → answer ≡ looks name.now) }
+        ensures grows { (looks : List ℕ → Option FileLook) → allows self.new looks → allows self.old looks }
         ensures refused { IfErr result (IsTreeFault (refuses self.new name.now)) }
         ensures kept { (n : List ℕ) → refuses self.old n → refuses self.new n }
         ensures asked { AskedOnce (asked self.old) (λ other. bytes_eq other name.now) (asked self.new) }
@@ -58,10 +60,10 @@ pub trait Tree {
     /// expected, of which nothing is promised.
     fn begin(&mut self, alloc: Global, expected: usize) -> Result<(), AllocError>
         ensures none { OnOk result ((n : List ℕ) → ¬ (firsts self.new n)) }
-        ensures grows { (times : List ℕ → Option ℤ) → allows self.new times → allows self.old times }
+        ensures grows { (looks : List ℕ → Option FileLook) → allows self.new looks → allows self.old looks }
         ensures kept { (n : List ℕ) → refuses self.old n → refuses self.new n }
         ensures asked { (n : List ℕ) → asked self.new n ≤ asked self.old n };
 
     // Something is always possible.
-    ghost possible: { (tree : Self) → (times : List ℕ → Option ℤ) × allows tree times };
+    ghost possible: { (tree : Self) → (looks : List ℕ → Option FileLook) × allows tree looks };
 }

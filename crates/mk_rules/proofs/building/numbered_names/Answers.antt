@@ -11,16 +11,16 @@ use Rattle.mk_rules.proofs.building.numbered_names.Goals as goal
 pub returns-clause-found : goal.returns-clause-found
 returns-clause-found g c =
     let ended = c.tree-1.given.1 (sym c.found_names.ensures.same) in
-    if_ok c.found_names.result _ _ (λ n are times now. are times (subst (λ t. g.T.Tree.allows t times) ended now)) c.found_names.ensures.found
+    if_ok c.found_names.result _ _ (λ n are looks now. are looks (subst (λ t. g.T.Tree.allows t looks) ended now)) c.found_names.ensures.found
 
 pub returns-clause-fault : goal.returns-clause-fault
 returns-clause-fault g c =
     let rules = c.args.rules in
     let ended = c.tree-1.given.1 (sym c.found_names.ensures.same) in
     if_err c.found_names.result _ _
-    (λ f meets times now.
-    subst (λ t. IsFindingFault (inputs_of rules.lines.now (map.get rules.state.now) times) (g.T.Tree.refuses t) c.args.goals.now c.args.limit f) (sym ended)
-    (meets times (subst (λ t. g.T.Tree.allows t times) ended now)))
+    (λ f meets looks now.
+    subst (λ t. IsFindingFault (inputs_of rules.lines.now (map.get rules.state.now) looks) (g.T.Tree.refuses t) c.args.goals.now c.args.limit f) (sym ended)
+    (meets looks (subst (λ t. g.T.Tree.allows t looks) ended now)))
     c.found_names.ensures.fault
 
 pub returns-clause-names : goal.returns-clause-names
@@ -32,9 +32,9 @@ returns-clause-names g c =
     c.found_names.ensures.found
 
 pub returns-clause-narrows : goal.returns-clause-narrows
-returns-clause-narrows g c = λ times now.
+returns-clause-narrows g c = λ looks now.
     let ended = c.tree-1.given.1 (sym c.found_names.ensures.same) in
-    c.in_ok-begin.ensures.grows times (c.found_names.ensures.looks.narrows times (subst (λ t. g.T.Tree.allows t times) ended now))
+    c.in_ok-begin.ensures.grows looks (c.found_names.ensures.looks.narrows looks (subst (λ t. g.T.Tree.allows t looks) ended now))
 
 pub returns-clause-asked : goal.returns-clause-asked
 returns-clause-asked g c =

@@ -1,4 +1,4 @@
-use Rattle.std.proofs.Common.{◌≡◌, ℕ, ℤ, Bool, List, Option, true, false, sym, ap, subst, ◌∙◌}
+use Rattle.std.proofs.Common.{◌≡◌, ℕ, Bool, List, Option, true, false, sym, ap, subst, ◌∙◌}
 use Rattle.std.specs.FinMap as map
 use Rattle.std.specs.Prelude.{codes, option_to_list}
 use Rattle.mk_nodes.specs.Chain.{steps_of}
@@ -18,6 +18,7 @@ use Rattle.mk_rules.proofs.LookLemmas.{asked_none}
 use Rattle.mk_rules.proofs.FaultLemmas.{no_goal, not_found}
 use Rattle.mk_rule_lines.proofs.LineLemmas.{handed_on}
 use Rattle.mk_rule_lines.proofs.ResultLemmas.{if_ok, if_err}
+use Rattle.mk_nodes.specs.declared.file_look.FileLook.{FileLook}
 use Rattle.mk_rules.proofs.building.reached.Goals as goal
 
 pub returns-clause-found : goal.returns-clause-found
@@ -27,9 +28,9 @@ returns-clause-found g c =
     let goals = c.in_ok-goals.goals in
     let goals_are : goals ≡ goals_of lines c.args.goals = c.in_ok-goals.ensures.goals ∙ ap (λ (ls : List RuleLine). goals_of ls c.args.goals) c.deref.ensures.value in
     if_ok c.numbered_names.result _ _
-    (λ n found times now.
-    subst (λ (gs : List (List ℕ)). AreFound (inputs_of lines entries times) gs n) goals_are
-    (subst (λ (ls : List RuleLine). AreFound (inputs_of ls entries times) goals n) c.deref-4.ensures.value (found times now)))
+    (λ n found looks now.
+    subst (λ (gs : List (List ℕ)). AreFound (inputs_of lines entries looks) gs n) goals_are
+    (subst (λ (ls : List RuleLine). AreFound (inputs_of ls entries looks) goals n) c.deref-4.ensures.value (found looks now)))
     c.numbered_names.ensures.found
 
 pub returns-clause-fault : goal.returns-clause-fault
@@ -40,9 +41,9 @@ returns-clause-fault g c =
     let goals = c.in_ok-goals.goals in
     let goals_are : goals ≡ goals_of lines c.args.goals = c.in_ok-goals.ensures.goals ∙ ap (λ (ls : List RuleLine). goals_of ls c.args.goals) c.deref.ensures.value in
     if_err c.numbered_names.result _ _
-    (λ f meets times now.
-    not_found (inputs_of lines entries times) refuses c.args.goals c.args.limit goals goals_are f
-    (subst (λ (ls : List RuleLine). IsFindingFault (inputs_of ls entries times) refuses goals c.args.limit f) c.deref-4.ensures.value (meets times now)))
+    (λ f meets looks now.
+    not_found (inputs_of lines entries looks) refuses c.args.goals c.args.limit goals goals_are f
+    (subst (λ (ls : List RuleLine). IsFindingFault (inputs_of ls entries looks) refuses goals c.args.limit f) c.deref-4.ensures.value (meets looks now)))
     c.numbered_names.ensures.fault
 
 pub returns-in_err-goals-clause-fault : goal.returns-in_err-goals-clause-fault
@@ -52,10 +53,10 @@ returns-in_err-goals-clause-fault g c =
     let refuses = g.T.Tree.refuses c.args.tree.now in
     let f = c.in_err-goals.field-0.0 in
     handed_on _
-    (λ (e : RuleFault). (times : List ℕ → Option ℤ) → g.T.Tree.allows c.args.tree.now times
-    → IsGraphFault (inputs_of lines entries times) refuses c.args.goals c.args.limit e)
+    (λ (e : RuleFault). (looks : List ℕ → Option FileLook) → g.T.Tree.allows c.args.tree.now looks
+    → IsGraphFault (inputs_of lines entries looks) refuses c.args.goals c.args.limit e)
     f (c.from_residual.ensures).1
-    (λ times now. no_goal (inputs_of lines entries times) refuses c.args.goals c.args.limit f
+    (λ looks now. no_goal (inputs_of lines entries looks) refuses c.args.goals c.args.limit f
     (subst (λ (ls : List RuleLine). IsGoalFault ls c.args.goals f) c.deref.ensures.value c.in_err-goals.ensures.fault))
 
 pub invariant_of-rules : goal.invariant_of-rules

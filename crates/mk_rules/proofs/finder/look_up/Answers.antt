@@ -21,7 +21,7 @@ seen_of-requires g c = subst (λ (n : List ℕ). g.T.Tree.firsts c.args.tree.now
 
 pub numbered-requires : goal.numbered-requires
 numbered-requires g c = record {
-  noted = λ times now. rw c.entry_of-entry.ensures.marks (c.requires.noted times (c.in_ok-seen.ensures.looks.narrows times now));
+  noted = λ looks now. rw c.entry_of-entry.ensures.marks (c.requires.noted looks (c.in_ok-seen.ensures.looks.narrows looks now));
   distinct = c.requires.distinct;
 }
 
@@ -36,14 +36,14 @@ returns-clause-prerequisites g c =
     let rules = c.args.rules.now in
     let name = c.name-name.result.now in
     on_ok_if c.numbered.result _ _
-    (λ node are times now.
-    let inputs = inputs_of rules.lines.now (map.get rules.state.now) times in
+    (λ node are looks now.
+    let inputs = inputs_of rules.lines.now (map.get rules.state.now) looks in
     let row = named c.numbered.new.names c.numbered.new.notes.row in
     let seen = c.in_ok-seen.seen in
-    let is = c.in_ok-seen.ensures.seen times (c.numbered.ensures.looks.narrows times now) in
+    let is = c.in_ok-seen.ensures.seen looks (c.numbered.ensures.looks.narrows looks now) in
     all_are inputs name seen is row node
     (subst (λ (h : List (List ℕ)). IsNumberedAs (is_node inputs) seen (made_in seen.ruled.given ++ explicit_of rules.lines.now name) h row node)
-    (ap hidden_in c.entry_of-entry.ensures.entry) (are times now name is.lines_are))
+    (ap hidden_in c.entry_of-entry.ensures.entry) (are looks now name is.lines_are))
     ∙ ap (prerequisites_of inputs) c.name-name.ensures)
     c.numbered.ensures.prerequisites
 
@@ -52,15 +52,15 @@ returns-clause-node g c =
     let rules = c.args.rules.now in
     let name = c.name-name.result.now in
     if_ok c.numbered.result _ _
-    (λ node are times now.
-    let inputs = inputs_of rules.lines.now (map.get rules.state.now) times in
+    (λ node are looks now.
+    let inputs = inputs_of rules.lines.now (map.get rules.state.now) looks in
     let row = named c.numbered.new.names c.numbered.new.notes.row in
     let seen = c.in_ok-seen.seen in
-    let is = c.in_ok-seen.ensures.seen times (c.numbered.ensures.looks.narrows times now) in
+    let is = c.in_ok-seen.ensures.seen looks (c.numbered.ensures.looks.narrows looks now) in
     subst (λ (n : List ℕ). IsKnown inputs n node) c.name-name.ensures
     (known_is inputs name seen is row node
     (subst (λ (h : List (List ℕ)). IsNumberedAs (is_node inputs) seen (made_in seen.ruled.given ++ explicit_of rules.lines.now name) h row node)
-    (ap hidden_in c.entry_of-entry.ensures.entry) (are times now name is.lines_are))))
+    (ap hidden_in c.entry_of-entry.ensures.entry) (are looks now name is.lines_are))))
     c.numbered.ensures.prerequisites
 
 pub returns-clause-looks : goal.returns-clause-looks

@@ -20,9 +20,9 @@ add_recorded-requires g c =
     let rules = c.args.rules.now in
     let row = subst (IsRow names names) (sym c.clear.ensures) (row_start names c.requires.distinct) in
     record {
-      noted = λ times now.
-          let p = is_node (inputs_of rules.lines.now (map.get rules.state.now) times) in
-          c.in_ok-mention_hard.ensures.known p (c.requires.noted times now);
+      noted = λ looks now.
+          let p = is_node (inputs_of rules.lines.now (map.get rules.state.now) looks) in
+          c.in_ok-mention_hard.ensures.known p (c.requires.noted looks now);
       row = (names, c.in_ok-mention_hard.ensures.row names row);
     }
 
@@ -39,22 +39,22 @@ returns-clause-row g c =
     c.in_ok-mention_order_only.ensures.row names (c.in_ok-hidden.ensures.row names (c.in_ok-mention_hard.ensures.row names row))
 
 pub returns-clause-noted : goal.returns-clause-noted
-returns-clause-noted g c = λ times now.
+returns-clause-noted g c = λ looks now.
     let rules = c.args.rules.now in
-    let p = is_node (inputs_of rules.lines.now (map.get rules.state.now) times) in
-    c.in_ok-mention_order_only.ensures.known p _ (c.in_ok-hidden.ensures.noted times now)
+    let p = is_node (inputs_of rules.lines.now (map.get rules.state.now) looks) in
+    c.in_ok-mention_order_only.ensures.known p _ (c.in_ok-hidden.ensures.noted looks now)
 
 pub returns-clause-prerequisites : goal.returns-clause-prerequisites
-returns-clause-prerequisites g c = λ times now name lines.
+returns-clause-prerequisites g c = λ looks now name lines.
     let rules = c.args.rules.now in
     let names = c.args.names.now in
     let seen = c.args.seen in
     let recorded = hidden_in (option_copied c.args.recorded) in
-    let p = is_node (inputs_of rules.lines.now (map.get rules.state.now) times) in
+    let p = is_node (inputs_of rules.lines.now (map.get rules.state.now) looks) in
     let mentioned = made_in seen.ruled.given ++ explicit_of rules.lines.now name in
     let first : named c.mention_hard.new.names c.mention_hard.new.notes.row ≡ all_added [] mentioned =
     c.in_ok-mention_hard.ensures.named name lines ∙ ap (λ (ns : List ℕ). all_added (named names ns) mentioned) c.clear.ensures in
-    let hidden = c.in_ok-hidden.ensures.hidden times now in
+    let hidden = c.in_ok-hidden.ensures.hidden looks now in
     let done = c.in_ok-completed.ensures in
     record {
       row_is =

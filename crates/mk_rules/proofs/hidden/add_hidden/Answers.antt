@@ -15,9 +15,9 @@ use Rattle.mk_rules.proofs.hidden.add_hidden.Goals as goal
 
 pub take_hidden-requires : goal.take_hidden-requires
 take_hidden-requires g c = record {
-  noted = λ times now.
-      let p = is_node (inputs_of c.args.rules.now.lines.now (map.get c.args.rules.now.state.now) times) in
-      subst (AreKnownNodes p c.loop-name.names) (sym c.in-None-guess.ensures.same) (c.loop-name.invariant.noted times now);
+  noted = λ looks now.
+      let p = is_node (inputs_of c.args.rules.now.lines.now (map.get c.args.rules.now.state.now) looks) in
+      subst (AreKnownNodes p c.loop-name.names) (sym c.in-None-guess.ensures.same) (c.loop-name.invariant.noted looks now);
   row = (c.requires.row.0, c.loop-name.invariant.row c.requires.row.0 c.requires.row.1);
 }
 
@@ -35,18 +35,18 @@ loop-name-preserved-in-Continue-1 g c =
     let row : IsSomeRow names c.loop-name.mentioned.nodes = (c.requires.row.0, inv.row c.requires.row.0 c.requires.row.1) in
     let done = c.in_ok-add_hidden-in-Some-guess.ensures names row (added_known names name number guessed.name.0 guessed.name.1, guessed.name.0, guessed.name.1) in
     record {
-      noted = λ times now.
-          let p = is_node (inputs_of rules.lines.now (map.get rules.state.now) times) in
-          subst (AreKnownNodes p names) (sym guessed.same) (inv.noted times now);
+      noted = λ looks now.
+          let p = is_node (inputs_of rules.lines.now (map.get rules.state.now) looks) in
+          subst (AreKnownNodes p names) (sym guessed.same) (inv.noted looks now);
       row = λ start row. done.0 start (inv.row start row);
       taken = (
         added judged name,
-        λ times now.
-            let p = is_node (inputs_of rules.lines.now (map.get rules.state.now) times) in
+        λ looks now.
+            let p = is_node (inputs_of rules.lines.now (map.get rules.state.now) looks) in
             taken_step p hard c.args.hidden.now name left judged (named names c.loop-name.mentioned.nodes) c.loop-name.mentioned.gone c.loop-name.mentioned.hidden
             (subst (λ (ls : List (List ℕ)). TakenSoFar p hard c.args.hidden.now ls judged (named names c.loop-name.mentioned.nodes) c.loop-name.mentioned.gone c.loop-name.mentioned.hidden)
-            c.in-Some.ensures.steps (inv.taken.1 times now))
-            _ _ _ (takes_same p (λ _. true) name _ _ _ _ _ _ (sym (ap p (sym guessed.name.1) ∙ (inv.noted times now number guessed.marked).1)) done.1),
+            c.in-Some.ensures.steps (inv.taken.1 looks now))
+            _ _ _ (takes_same p (λ _. true) name _ _ _ _ _ _ (sym (ap p (sym guessed.name.1) ∙ (inv.noted looks now number guessed.marked).1)) done.1),
       );
       within = λ n is. inv.within n (subst (λ (ls : List (List ℕ)). has n ls ≡ true) (sym c.in-Some.ensures.steps) (has_later n name left is));
       looks = inv.looks;
@@ -66,12 +66,12 @@ loop-name-preserved g c =
       row = λ start row. done.row start (inv.row start row);
       taken = (
         added judged name,
-        λ times now.
-            let p = is_node (inputs_of rules.lines.now (map.get rules.state.now) times) in
+        λ looks now.
+            let p = is_node (inputs_of rules.lines.now (map.get rules.state.now) looks) in
             taken_step p hard c.args.hidden.now name left judged (named c.loop-name.names c.loop-name.mentioned.nodes) c.loop-name.mentioned.gone c.loop-name.mentioned.hidden
             (subst (λ (ls : List (List ℕ)). TakenSoFar p hard c.args.hidden.now ls judged (named c.loop-name.names c.loop-name.mentioned.nodes) c.loop-name.mentioned.gone c.loop-name.mentioned.hidden)
-            c.in-Some.ensures.steps (inv.taken.1 times (done.looks.narrows times now)))
-            _ _ _ (done.taken times now),
+            c.in-Some.ensures.steps (inv.taken.1 looks (done.looks.narrows looks now)))
+            _ _ _ (done.taken looks now),
       );
       within = λ n is. inv.within n (subst (λ (ls : List (List ℕ)). has n ls ≡ true) (sym c.in-Some.ensures.steps) (has_later n name left is));
       looks = looks_on _ _ _ _ _ _ _ _ _ _ _ _ inv.looks done.looks;
@@ -100,8 +100,8 @@ loop-name-init g c =
       row = λ start row. row;
       taken = (
         hard,
-        λ times now.
-            let p = is_node (inputs_of rules.lines.now (map.get rules.state.now) times) in
+        λ looks now.
+            let p = is_node (inputs_of rules.lines.now (map.get rules.state.now) looks) in
             subst (λ (ls : List (List ℕ)). TakenSoFar p hard c.args.hidden.now ls hard hard m.gone m.hidden) start
             (taken_start p hard c.args.hidden.now m.gone m.hidden c.requires.gone c.requires.none),
       );
@@ -117,7 +117,7 @@ returns-clause-hidden g c =
     let nodes = named c.loop-name.names m.nodes in
     let ended : c.loop-name.name-iterator ≡ [] = (c.in-None.ensures.steps).0 in
     let taken = c.loop-name.invariant.taken in
-    λ times now.
-    let p = is_node (inputs_of rules.lines.now (map.get rules.state.now) times) in
+    λ looks now.
+    let p = is_node (inputs_of rules.lines.now (map.get rules.state.now) looks) in
     taken_end p hard c.args.hidden.now taken.0 nodes m.gone m.hidden
-    (subst (λ (ls : List (List ℕ)). TakenSoFar p hard c.args.hidden.now ls taken.0 nodes m.gone m.hidden) ended (taken.1 times now))
+    (subst (λ (ls : List (List ℕ)). TakenSoFar p hard c.args.hidden.now ls taken.0 nodes m.gone m.hidden) ended (taken.1 looks now))

@@ -15,32 +15,32 @@ returns-in-Some-clause-number g c =
     (added_known names name c.in-Some.number is.0 is.1, is.0, is.1)
 
 pub returns-in-Some-clause-node : goal.returns-in-Some-clause-node
-returns-in-Some-clause-node g c = λ times now.
+returns-in-Some-clause-node g c = λ looks now.
     let rules = c.args.rules.now in
     let names = c.args.names.now in
     let name = c.args.name.now in
-    let p = is_node (inputs_of rules.lines.now (map.get rules.state.now) times) in
+    let p = is_node (inputs_of rules.lines.now (map.get rules.state.now) looks) in
     let is = subst (λ (o : Option ℕ). IfSome o (λ (n : ℕ). (n < length names) × (name_at names n ≡ name))) c.in-Some.is c.in_ok-known.ensures.name in
     let marked = subst (λ (o : Option ℕ). IfSome o (λ (n : ℕ). is_marked c.args.notes.now.marks.items n ≡ true)) c.in-Some.is c.in_ok-known.ensures.marked in
-    sym (ap p (sym is.1) ∙ (c.requires times now c.in-Some.number marked).1)
+    sym (ap p (sym is.1) ∙ (c.requires looks now c.in-Some.number marked).1)
 
 pub returns-in-Some-clause-noted : goal.returns-in-Some-clause-noted
-returns-in-Some-clause-noted g c = λ times now.
+returns-in-Some-clause-noted g c = λ looks now.
     let rules = c.args.rules.now in
-    let p = is_node (inputs_of rules.lines.now (map.get rules.state.now) times) in
-    subst (AreKnownNodes p c.args.names.now) (sym c.in_ok-known.ensures.same) (c.requires times now)
+    let p = is_node (inputs_of rules.lines.now (map.get rules.state.now) looks) in
+    subst (AreKnownNodes p c.args.names.now) (sym c.in_ok-known.ensures.same) (c.requires looks now)
 
 pub returns-then-not-branch-clause-noted : goal.returns-then-not-branch-clause-noted
-returns-then-not-branch-clause-noted g c = λ times now.
+returns-then-not-branch-clause-noted g c = λ looks now.
     let rules = c.args.rules.now in
-    let p = is_node (inputs_of rules.lines.now (map.get rules.state.now) times) in
-    subst (AreKnownNodes p c.args.names.now) (sym c.in_ok-known.ensures.same) (c.requires times (c.in_ok-is_node.ensures.looks.narrows times now))
+    let p = is_node (inputs_of rules.lines.now (map.get rules.state.now) looks) in
+    subst (AreKnownNodes p c.args.names.now) (sym c.in_ok-known.ensures.same) (c.requires looks (c.in_ok-is_node.ensures.looks.narrows looks now))
 
 pub returns-clause-noted : goal.returns-clause-noted
-returns-clause-noted g c = λ times now.
+returns-clause-noted g c = λ looks now.
     let rules = c.args.rules.now in
-    let p = is_node (inputs_of rules.lines.now (map.get rules.state.now) times) in
-    let told = c.in_ok-is_node.ensures.node times now in
+    let p = is_node (inputs_of rules.lines.now (map.get rules.state.now) looks) in
+    let told = c.in_ok-is_node.ensures.node looks now in
     let yes : p c.args.name.now ≡ true = cc in
     c.in_ok-number.ensures.known p yes
-    (subst (AreKnownNodes p c.args.names.now) (sym c.in_ok-known.ensures.same) (c.requires times (c.in_ok-is_node.ensures.looks.narrows times now)))
+    (subst (AreKnownNodes p c.args.names.now) (sym c.in_ok-known.ensures.same) (c.requires looks (c.in_ok-is_node.ensures.looks.narrows looks now)))

@@ -7,7 +7,7 @@ use Rattle.mk_rules.proofs.HiddenLemmas.{none_hidden}
 use Rattle.mk_rules.proofs.recorded.add_recorded.Goals as goal
 
 pub returns-in-None-clause-hidden : goal.returns-in-None-clause-hidden
-returns-in-None-clause-hidden g c = λ times now.
+returns-in-None-clause-hidden g c = λ looks now.
     let rules = c.args.rules.now in
-    none_hidden (is_node (inputs_of rules.lines.now (map.get rules.state.now) times)) (named c.args.names.now c.args.notes.now.row) (hidden_in (option_copied c.args.recorded)) _
+    none_hidden (is_node (inputs_of rules.lines.now (map.get rules.state.now) looks)) (named c.args.names.now c.args.notes.now.row) (hidden_in (option_copied c.args.recorded)) _
     (ap (λ o. length (hidden_in (option_copied o))) c.in-None.is) c.none.ensures

@@ -5,7 +5,7 @@ use Rattle.std.specs.List.{list_all}
 use Rattle.std.proofs.lemmas.List.{append_assoc, append-nil}
 use Rattle.mk_rule_lines.proofs.LineLemmas.{handed_on}
 use Rattle.mk_rule_lines.specs.Source.{source_at}
-use Rattle.mk_rule_lines.specs.Table.{is_there}
+use Rattle.mk_sources.specs.There.{is_there}
 use Rattle.mk_rule_lines.specs.declared.form.Source.{Source}
 use Rattle.mk_nodes.specs.Chain.{usable, can_be}
 use Rattle.mk_sources.specs.LooksLaws.{looks_none, looks_on}
@@ -17,25 +17,25 @@ use Rattle.mk_sources.proofs.chain.+chain.Goals as goal
 -- ---- one name
 
 pub can_be-returns-then-branch-clause-can_be : goal.can_be-returns-then-branch-clause-can_be
-can_be-returns-then-branch-clause-can_be g t c = λ times now.
+can_be-returns-then-branch-clause-can_be g t c = λ looks now.
     let tells = c.in_ok-is_there.ensures in
-    sym (there_can (is_there c.args.makers.now.targets.now times) c.args.makers.now.forms.now c.args.steps c.args.taken.now c.args.name.now (sym (tells.there times now) ∙ c.if-branch.true))
+    sym (there_can (is_there c.args.makers.now.targets.now looks) c.args.makers.now.forms.now c.args.steps c.args.taken.now c.args.name.now (sym (tells.there looks now) ∙ c.if-branch.true))
 
 pub can_be-returns-then-steps-eq0-clause-can_be : goal.can_be-returns-then-steps-eq0-clause-can_be
-can_be-returns-then-steps-eq0-clause-can_be g t c = λ times now.
+can_be-returns-then-steps-eq0-clause-can_be g t c = λ looks now.
     let tells = c.in_ok-is_there.ensures in
     let none : c.args.steps ≡ 0 = cc in
-    sym (none_can (is_there c.args.makers.now.targets.now times) c.args.makers.now.forms.now c.args.steps c.args.taken.now c.args.name.now none (sym (tells.there times now) ∙ c.if-branch.false))
+    sym (none_can (is_there c.args.makers.now.targets.now looks) c.args.makers.now.forms.now c.args.steps c.args.taken.now c.args.name.now none (sym (tells.there looks now) ∙ c.if-branch.false))
 
 pub can_be-returns-clause-can_be : goal.can_be-returns-clause-can_be
-can_be-returns-clause-can_be g t c = λ times now.
+can_be-returns-clause-can_be g t c = λ looks now.
     let tells = c.in_ok-is_there.ensures in
     let made = c.in_ok-source.ensures in
     let some : 0 < c.args.steps = omega arith in
     let same : c.is_some.result ≡ is_some c.in_ok-source.source = cc in
-    same ∙ ap is_some (made.source times now)
-    ∙ sym (made_can (is_there c.args.makers.now.targets.now times) c.args.makers.now.forms.now c.args.steps c.args.taken.now c.args.name.now some
-    (sym (tells.there times (made.looks.narrows times now)) ∙ c.if-branch.false))
+    same ∙ ap is_some (made.source looks now)
+    ∙ sym (made_can (is_there c.args.makers.now.targets.now looks) c.args.makers.now.forms.now c.args.steps c.args.taken.now c.args.name.now some
+    (sym (tells.there looks (made.looks.narrows looks now)) ∙ c.if-branch.false))
 
 pub can_be-returns-clause-looks : goal.can_be-returns-clause-looks
 can_be-returns-clause-looks g t c = looks_on _ _ _ _ _ _ _ _ _ _ _ _ c.in_ok-is_there.ensures.looks c.in_ok-source.ensures.looks
@@ -70,7 +70,7 @@ can_be-returns-in_err-source-clause-looks g t c = looks_on _ _ _ _ _ _ _ _ _ _ _
 pub all_can_be-loop-name-init : goal.all_can_be-loop-name-init
 all_can_be-loop-name-init g t c =
     let start : c.args.names.now ≡ c.into_iter-name-iterator.result = cc in
-    record { front = ([], start, λ times now. refl); looks = looks_none _ _ _ _ }
+    record { front = ([], start, λ looks now. refl); looks = looks_none _ _ _ _ }
 
 pub all_can_be-loop-name-preserved : goal.all_can_be-loop-name-preserved
 all_can_be-loop-name-preserved g t c =
@@ -84,35 +84,35 @@ all_can_be-loop-name-preserved g t c =
       front = (
         before ++ name ∷ [],
         parted ∙ ap (λ (ls : List (List ℕ)). before ++ ls) c.in-Some.ensures.steps ∙ sym (append_assoc before (name ∷ []) left),
-        λ times now.
-            all_more (can_be (is_there makers.targets.now times) makers.forms.now c.args.steps c.args.taken.now) before name
-            (can times (tells.looks.narrows times now)) (sym (tells.can_be times now) ∙ c.if-not-branch.false),
+        λ looks now.
+            all_more (can_be (is_there makers.targets.now looks) makers.forms.now c.args.steps c.args.taken.now) before name
+            (can looks (tells.looks.narrows looks now)) (sym (tells.can_be looks now) ∙ c.if-not-branch.false),
       );
       looks = looks_on _ _ _ _ _ _ _ _ _ _ _ _ inv.looks tells.looks;
     }
 
 pub all_can_be-returns-then-not-branch-clause-can_be : goal.all_can_be-returns-then-not-branch-clause-can_be
-all_can_be-returns-then-not-branch-clause-can_be g t c = λ times now.
+all_can_be-returns-then-not-branch-clause-can_be g t c = λ looks now.
     let name = c.in-Some.name.now in
     let left = c.next.new.self in
     let tells = c.in_ok-can_be.ensures in
     let makers = c.args.makers.now in
     let (before, parted, can) = c.loop-name.invariant.front in
-    let passes = can_be (is_there makers.targets.now times) makers.forms.now c.args.steps c.args.taken.now in
-    let no : passes name ≡ false = sym (tells.can_be times now) ∙ c.if-not-branch.true in
+    let passes = can_be (is_there makers.targets.now looks) makers.forms.now c.args.steps c.args.taken.now in
+    let no : passes name ≡ false = sym (tells.can_be looks now) ∙ c.if-not-branch.true in
     sym (ap (list_all passes) (parted ∙ ap (λ (ls : List (List ℕ)). before ++ ls) c.in-Some.ensures.steps)
-    ∙ all_left passes before (name ∷ left) (can times (tells.looks.narrows times now)) ∙ ap (λ b. b && list_all passes left) no)
+    ∙ all_left passes before (name ∷ left) (can looks (tells.looks.narrows looks now)) ∙ ap (λ b. b && list_all passes left) no)
 
 pub all_can_be-returns-then-not-branch-clause-looks : goal.all_can_be-returns-then-not-branch-clause-looks
 all_can_be-returns-then-not-branch-clause-looks g t c = looks_on _ _ _ _ _ _ _ _ _ _ _ _ c.loop-name.invariant.looks c.in_ok-can_be.ensures.looks
 
 pub all_can_be-returns-clause-can_be : goal.all_can_be-returns-clause-can_be
-all_can_be-returns-clause-can_be g t c = λ times now.
+all_can_be-returns-clause-can_be g t c = λ looks now.
     let makers = c.args.makers.now in
     let (before, parted, can) = c.loop-name.invariant.front in
     let ended : c.loop-name.name-iterator ≡ [] = (c.in-None.ensures.steps).0 in
-    sym (ap (list_all (can_be (is_there makers.targets.now times) makers.forms.now c.args.steps c.args.taken.now))
-    (parted ∙ ap (λ (ls : List (List ℕ)). before ++ ls) ended ∙ append-nil before) ∙ can times now)
+    sym (ap (list_all (can_be (is_there makers.targets.now looks) makers.forms.now c.args.steps c.args.taken.now))
+    (parted ∙ ap (λ (ls : List (List ℕ)). before ++ ls) ended ∙ append-nil before) ∙ can looks now)
 
 pub all_can_be-returns-in_err-can_be-clause-looks : goal.all_can_be-returns-in_err-can_be-clause-looks
 all_can_be-returns-in_err-can_be-clause-looks g t c = looks_on _ _ _ _ _ _ _ _ _ _ _ _ c.loop-name.invariant.looks c.in_err-can_be.ensures.looks
@@ -139,7 +139,7 @@ all_can_be-returns-in_err-can_be-clause-fault g t c =
 -- ---- the first candidate of whose names each can be
 
 pub first_that-loop-number-init : goal.first_that-loop-number-init
-first_that-loop-number-init g t c = record { none = λ times now. refl; looks = looks_none _ _ _ _ }
+first_that-loop-number-init g t c = record { none = λ looks now. refl; looks = looks_none _ _ _ _ }
 
 pub first_that-loop-number-preserved : goal.first_that-loop-number-preserved
 first_that-loop-number-preserved g t c =
@@ -155,14 +155,14 @@ first_that-loop-number-preserved g t c =
     let inv = c.loop-number.invariant in
     let tells = c.in_ok-all_can_be.ensures in
     record {
-      none = λ times now.
-          let can : ℕ → List ℕ → Bool = λ rule. can_be (is_there makers.targets.now times) forms c.args.steps (rule ∷ taken) in
+      none = λ looks now.
+          let can : ℕ → List ℕ → Bool = λ rule. can_be (is_there makers.targets.now looks) forms c.args.steps (rule ∷ taken) in
           let no : list_all (can form.rule) (source_at form stem).names ≡ false
-          = sym (c.steps_behind-steps.ensures.same (is_there makers.targets.now times) forms form makers.linked at stem (form.rule ∷ taken))
-          ∙ ap (λ (s : Source). list_all (can_be (is_there makers.targets.now times) forms few (form.rule ∷ taken)) s.names) (sym c.in_ok-source.ensures)
-          ∙ ap (λ (rules : List ℕ). list_all (can_be (is_there makers.targets.now times) forms few rules) c.in_ok-source.source.names) (sym (c.deref.ensures.value ∙ c.in_ok-taken.ensures))
-          ∙ sym (tells.can_be times now) ∙ c.if-branch.false in
-          passed_more name false taken forms k form c.loop-number-test.true c.form-item.is can (inv.none times (tells.looks.narrows times now)) stem (sym c.in-Some.ensures) no;
+          = sym (c.steps_behind-steps.ensures.same (is_there makers.targets.now looks) forms form makers.linked at stem (form.rule ∷ taken))
+          ∙ ap (λ (s : Source). list_all (can_be (is_there makers.targets.now looks) forms few (form.rule ∷ taken)) s.names) (sym c.in_ok-source.ensures)
+          ∙ ap (λ (rules : List ℕ). list_all (can_be (is_there makers.targets.now looks) forms few rules) c.in_ok-source.source.names) (sym (c.deref.ensures.value ∙ c.in_ok-taken.ensures))
+          ∙ sym (tells.can_be looks now) ∙ c.if-branch.false in
+          passed_more name false taken forms k form c.loop-number-test.true c.form-item.is can (inv.none looks (tells.looks.narrows looks now)) stem (sym c.in-Some.ensures) no;
       looks = looks_on _ _ _ _ _ _ _ _ _ _ _ _ inv.looks tells.looks;
     }
 
@@ -171,14 +171,14 @@ first_that-loop-number-preserved-in_default g t c =
     let makers = c.args.makers.now in
     let inv = c.loop-number.invariant in
     record {
-      none = λ times now.
+      none = λ looks now.
           unfit_more c.args.name.now false c.args.taken.now makers.forms.now c.loop-number.number c.form-item.result c.loop-number-test.true c.form-item.is
-          (λ rule. can_be (is_there makers.targets.now times) makers.forms.now c.args.steps (rule ∷ c.args.taken.now)) (inv.none times now) (sym c.in_default.ensures);
+          (λ rule. can_be (is_there makers.targets.now looks) makers.forms.now c.args.steps (rule ∷ c.args.taken.now)) (inv.none looks now) (sym c.in_default.ensures);
       looks = inv.looks;
     }
 
 pub first_that-returns-then-branch-clause-source : goal.first_that-returns-then-branch-clause-source
-first_that-returns-then-branch-clause-source g t c = λ times now.
+first_that-returns-then-branch-clause-source g t c = λ looks now.
     let makers = c.args.makers.now in
     let forms = makers.forms.now in
     let taken = c.args.taken.now in
@@ -189,15 +189,15 @@ first_that-returns-then-branch-clause-source g t c = λ times now.
     let at : slice_get forms k ≡ Some form = slice_get_read forms (length forms) k form refl c.loop-number-test.true c.form-item.is in
     let stem : List ℕ × List ℕ = (c.in-Some.folder.now, c.in-Some.stem.now) in
     let tells = c.in_ok-all_can_be.ensures in
-    let can : ℕ → List ℕ → Bool = λ rule. can_be (is_there makers.targets.now times) forms c.args.steps (rule ∷ taken) in
+    let can : ℕ → List ℕ → Bool = λ rule. can_be (is_there makers.targets.now looks) forms c.args.steps (rule ∷ taken) in
     let yes : list_all (can form.rule) (source_at form stem).names ≡ true
-    = sym (c.steps_behind-steps.ensures.same (is_there makers.targets.now times) forms form makers.linked at stem (form.rule ∷ taken))
-    ∙ ap (λ (s : Source). list_all (can_be (is_there makers.targets.now times) forms few (form.rule ∷ taken)) s.names) (sym c.in_ok-source.ensures)
-    ∙ ap (λ (rules : List ℕ). list_all (can_be (is_there makers.targets.now times) forms few rules) c.in_ok-source.source.names) (sym (c.deref.ensures.value ∙ c.in_ok-taken.ensures))
-    ∙ sym (tells.can_be times now) ∙ c.if-branch.true in
+    = sym (c.steps_behind-steps.ensures.same (is_there makers.targets.now looks) forms form makers.linked at stem (form.rule ∷ taken))
+    ∙ ap (λ (s : Source). list_all (can_be (is_there makers.targets.now looks) forms few (form.rule ∷ taken)) s.names) (sym c.in_ok-source.ensures)
+    ∙ ap (λ (rules : List ℕ). list_all (can_be (is_there makers.targets.now looks) forms few rules) c.in_ok-source.source.names) (sym (c.deref.ensures.value ∙ c.in_ok-taken.ensures))
+    ∙ sym (tells.can_be looks now) ∙ c.if-branch.true in
     ap (λ (s : Source). Some s) c.in_ok-source.ensures
     ∙ sym (taken_first name false taken forms k form c.loop-number-test.true c.form-item.is can
-    (c.loop-number.invariant.none times (tells.looks.narrows times now)) stem (sym c.in-Some.ensures) yes)
+    (c.loop-number.invariant.none looks (tells.looks.narrows looks now)) stem (sym c.in-Some.ensures) yes)
 
 pub first_that-returns-then-branch-clause-looks : goal.first_that-returns-then-branch-clause-looks
 first_that-returns-then-branch-clause-looks g t c = looks_on _ _ _ _ _ _ _ _ _ _ _ _ c.loop-number.invariant.looks c.in_ok-all_can_be.ensures.looks

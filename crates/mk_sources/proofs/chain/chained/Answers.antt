@@ -5,7 +5,7 @@ use Rattle.std.proofs.lemmas.List.{take_all}
 use Rattle.std.proofs.lemmas.Option.{slice_get_read}
 use Rattle.mk_rule_lines.proofs.LineLemmas.{handed_on}
 use Rattle.mk_rule_lines.specs.Source.{source_at}
-use Rattle.mk_rule_lines.specs.Table.{is_there}
+use Rattle.mk_sources.specs.There.{is_there}
 use Rattle.mk_rule_lines.specs.declared.form.Source.{Source}
 use Rattle.mk_nodes.specs.Chain.{usable, can_be, first_that, has_a_type}
 use Rattle.mk_sources.specs.LooksLaws.{looks_none, looks_on}
@@ -15,7 +15,7 @@ use Rattle.mk_sources.proofs.LinkLemmas.{passed_over}
 use Rattle.mk_sources.proofs.chain.chained.Goals as goal
 
 pub loop-number-init : goal.loop-number-init
-loop-number-init g c = record { none = λ times now. refl; looks = looks_none _ _ _ _ }
+loop-number-init g c = record { none = λ looks now. refl; looks = looks_none _ _ _ _ }
 
 -- a form behind which no chain goes on
 pub loop-number-preserved-then-not-may_lead_on : goal.loop-number-preserved-then-not-may_lead_on
@@ -27,9 +27,9 @@ loop-number-preserved-then-not-may_lead_on g c =
     let inv = c.loop-number.invariant in
     let at : slice_get forms k ≡ Some form = slice_get_read forms (length forms) k form refl c.loop-number-test.true c.form-item.is in
     record {
-      none = λ times now.
-          passed_over (is_there makers.targets.now times) forms c.args.name.now (c.requires.none times (inv.looks.narrows times now)) k form c.loop-number-test.true c.form-item.is
-          (not c.has_a_type-any.result) c.args.steps (c.may_lead_on.ensures forms form makers.linked at c.if-not-may_lead_on.true) (inv.none times now);
+      none = λ looks now.
+          passed_over (is_there makers.targets.now looks) forms c.args.name.now (c.requires.none looks (inv.looks.narrows looks now)) k form c.loop-number-test.true c.form-item.is
+          (not c.has_a_type-any.result) c.args.steps (c.may_lead_on.ensures forms form makers.linked at c.if-not-may_lead_on.true) (inv.none looks now);
       looks = inv.looks;
     }
 
@@ -44,11 +44,11 @@ loop-number-preserved g c =
     let inv = c.loop-number.invariant in
     let tells = c.in_ok-all_can_be.ensures in
     record {
-      none = λ times now.
-          let can : ℕ → List ℕ → Bool = λ rule. can_be (is_there makers.targets.now times) forms c.args.steps (rule ∷ []) in
+      none = λ looks now.
+          let can : ℕ → List ℕ → Bool = λ rule. can_be (is_there makers.targets.now looks) forms c.args.steps (rule ∷ []) in
           let no : list_all (can form.rule) (source_at form stem).names ≡ false
-          = ap (λ (s : Source). list_all (can form.rule) s.names) (sym c.in_ok-source.ensures) ∙ sym (tells.can_be times now) ∙ c.if-branch.false in
-          passed_more name (not c.has_a_type-any.result) [] forms k form c.loop-number-test.true c.form-item.is can (inv.none times (tells.looks.narrows times now)) stem (sym c.in-Some.ensures) no;
+          = ap (λ (s : Source). list_all (can form.rule) s.names) (sym c.in_ok-source.ensures) ∙ sym (tells.can_be looks now) ∙ c.if-branch.false in
+          passed_more name (not c.has_a_type-any.result) [] forms k form c.loop-number-test.true c.form-item.is can (inv.none looks (tells.looks.narrows looks now)) stem (sym c.in-Some.ensures) no;
       looks = looks_on _ _ _ _ _ _ _ _ _ _ _ _ inv.looks tells.looks;
     }
 
@@ -57,14 +57,14 @@ loop-number-preserved-in_default g c =
     let makers = c.args.makers.now in
     let inv = c.loop-number.invariant in
     record {
-      none = λ times now.
+      none = λ looks now.
           unfit_more c.args.name.now (not c.has_a_type-any.result) [] makers.forms.now c.loop-number.number c.form-item.result c.loop-number-test.true c.form-item.is
-          (λ rule. can_be (is_there makers.targets.now times) makers.forms.now c.args.steps (rule ∷ [])) (inv.none times now) (sym c.in_default.ensures);
+          (λ rule. can_be (is_there makers.targets.now looks) makers.forms.now c.args.steps (rule ∷ [])) (inv.none looks now) (sym c.in_default.ensures);
       looks = inv.looks;
     }
 
 pub returns-then-branch-clause-source : goal.returns-then-branch-clause-source
-returns-then-branch-clause-source g c = λ times now.
+returns-then-branch-clause-source g c = λ looks now.
     let makers = c.args.makers.now in
     let forms = makers.forms.now in
     let name = c.args.name.now in
@@ -72,12 +72,12 @@ returns-then-branch-clause-source g c = λ times now.
     let k = c.loop-number.number in
     let stem : List ℕ × List ℕ = (c.in-Some.folder.now, c.in-Some.stem.now) in
     let tells = c.in_ok-all_can_be.ensures in
-    let can : ℕ → List ℕ → Bool = λ rule. can_be (is_there makers.targets.now times) forms c.args.steps (rule ∷ []) in
+    let can : ℕ → List ℕ → Bool = λ rule. can_be (is_there makers.targets.now looks) forms c.args.steps (rule ∷ []) in
     let yes : list_all (can form.rule) (source_at form stem).names ≡ true
-    = ap (λ (s : Source). list_all (can form.rule) s.names) (sym c.in_ok-source.ensures) ∙ sym (tells.can_be times now) ∙ c.if-branch.true in
+    = ap (λ (s : Source). list_all (can form.rule) s.names) (sym c.in_ok-source.ensures) ∙ sym (tells.can_be looks now) ∙ c.if-branch.true in
     ap (λ (s : Source). Some s) c.in_ok-source.ensures
     ∙ sym (taken_first name (not c.has_a_type-any.result) [] forms k form c.loop-number-test.true c.form-item.is can
-    (c.loop-number.invariant.none times (tells.looks.narrows times now)) stem (sym c.in-Some.ensures) yes)
+    (c.loop-number.invariant.none looks (tells.looks.narrows looks now)) stem (sym c.in-Some.ensures) yes)
     ∙ ap (λ (typed : Bool). first_that can (usable (not typed) [] forms) name) c.has_a_type-any.ensures
 
 pub returns-then-branch-clause-looks : goal.returns-then-branch-clause-looks
@@ -113,11 +113,11 @@ returns-in_err-all_can_be-clause-fault g c =
 
 -- no form is left
 pub returns-clause-source : goal.returns-clause-source
-returns-clause-source g c = λ times now.
+returns-clause-source g c = λ looks now.
     let makers = c.args.makers.now in
     let forms = makers.forms.now in
-    let can : ℕ → List ℕ → Bool = λ rule. can_be (is_there makers.targets.now times) forms c.args.steps (rule ∷ []) in
-    let none = c.loop-number.invariant.none times now in
+    let can : ℕ → List ℕ → Bool = λ rule. can_be (is_there makers.targets.now looks) forms c.args.steps (rule ∷ []) in
+    let none = c.loop-number.invariant.none looks now in
     let all : length forms ≤ c.loop-number.number = let past = c.loop-number-test.false in omega arith in
     let whole : take c.loop-number.number forms ≡ forms = take_all c.loop-number.number forms all in
     sym (ap (λ (typed : Bool). first_that can (usable (not typed) [] forms) c.args.name.now) (sym c.has_a_type-any.ensures)

@@ -13,8 +13,8 @@ returns-clause-source g c =
     let none : is_some c.args.own ≡ false = cc in
     let no_phony : is_phony rules.lines.now name ≡ false = sym c.requires.phony ∙ cc in
     if_ok c.source.result _ _
-    (λ found is. λ times now.
-    found_is rules.lines.now rules.targets.now rules.named (map.get rules.state.now) times rules.forms.now rules.steps name c.args.own found rules.all_forms rules.few c.requires.own none no_phony (is times now))
+    (λ found is. λ looks now.
+    found_is rules.lines.now rules.targets.now rules.named (map.get rules.state.now) looks rules.forms.now rules.steps name c.args.own found rules.all_forms rules.few c.requires.own none no_phony (is looks now))
     c.source.ensures.source
 
 pub returns-clause-unasked : goal.returns-clause-unasked

@@ -12,7 +12,7 @@ returns-clause-node g c =
     let name = c.args.name.now in
     let text : is_utf8 name ≡ true = cc in
     let read : is_read rules.lines.now name ≡ true = cc in
-    if_ok c.is_there.result _ _ (λ there is. λ times now. is times now ∙ node_there rules.lines.now rules.targets.now rules.named (map.get rules.state.now) times name text read)
+    if_ok c.is_there.result _ _ (λ there is. λ looks now. is looks now ∙ node_there rules.lines.now rules.targets.now rules.named (map.get rules.state.now) looks name text read)
     c.is_there.ensures.there
 
 pub returns-clause-unasked : goal.returns-clause-unasked

@@ -16,11 +16,11 @@ returns-clause-ruled g c =
     let rules = c.args.rules.now in
     let name = c.args.name.now in
     if_ok c.ruled_by.result _ _
-    (λ ruled is times now stamp.
-    let inputs = inputs_of rules.lines.now (map.get rules.state.now) times in
-    let source = c.in_ok-source.ensures.source times (c.ruled_by.ensures.looks.narrows times now) in
+    (λ ruled is looks now stamp.
+    let inputs = inputs_of rules.lines.now (map.get rules.state.now) looks in
+    let source = c.in_ok-source.ensures.source looks (c.ruled_by.ensures.looks.narrows looks now) in
     subst (λ (own : List ℕ). IsRuled inputs name (implicit_source inputs name) own c.args.left ruled) c.requires.own
-    (subst (λ (s : Option Source). IsRuled inputs name s (option_to_list c.args.own) c.args.left ruled) source (is name times now c.requires.numbers stamp)))
+    (subst (λ (s : Option Source). IsRuled inputs name s (option_to_list c.args.own) c.args.left ruled) source (is name looks now c.requires.numbers stamp)))
     c.ruled_by.ensures.ruled
 
 pub returns-clause-looks : goal.returns-clause-looks
@@ -35,7 +35,7 @@ returns-clause-fault g c =
     let refuses = g.T.Tree.refuses c.ruled_by.new.tree in
     if_err c.ruled_by.result _ _
     (others_look rules.targets.now allowed refuses rules.forms.now rules.steps rules.lines.now name entries c.in_ok-source.source
-    (λ times now. c.in_ok-source.ensures.source times (c.ruled_by.ensures.looks.narrows times now)))
+    (λ looks now. c.in_ok-source.ensures.source looks (c.ruled_by.ensures.looks.narrows looks now)))
     c.ruled_by.ensures.fault
 
 pub returns-in_err-source-clause-fault : goal.returns-in_err-source-clause-fault

@@ -6,22 +6,22 @@ use Rattle.mk_sources.specs.Seen.{IsRuledIn}
 use Rattle.mk_sources.proofs.seen.seen_of.Goals as goal
 
 pub returns-clause-seen : goal.returns-clause-seen
-returns-clause-seen g c = λ times now.
+returns-clause-seen g c = λ looks now.
     let rules = c.args.rules.now in
-    let inputs = inputs_of rules.lines.now (map.get rules.state.now) times in
+    let inputs = inputs_of rules.lines.now (map.get rules.state.now) looks in
     let name = c.args.name.now in
-    let time = c.in_ok-time.ensures.stamp times (c.in_ok-ruled.ensures.looks.narrows times now)
-    ∙ ap (λ (t : Bool). cond t None (times name)) (c.is_phony-phony.ensures name c.near-own.ensures.lines) in
+    let time = c.in_ok-look.ensures.stamp looks (c.in_ok-ruled.ensures.looks.narrows looks now)
+    ∙ ap (λ (t : Bool). cond t None (looks name)) (c.is_phony-phony.ensures name c.near-own.ensures.lines) in
     let stamp = c.in_ok-stamp.ensures ∙ time in
     record {
       lines_are = c.near-own.ensures.lines;
       stamp = stamp;
       ruled = subst (λ (l : Option ℕ). IsRuledIn inputs name l c.in_ok-ruled.ruled) (c.left_recipe-left.ensures inputs refl (sym stamp) refl)
-          (c.in_ok-ruled.ensures.ruled times now stamp);
+          (c.in_ok-ruled.ensures.ruled looks now stamp);
     }
 
 pub returns-clause-looks : goal.returns-clause-looks
-returns-clause-looks g c = looks_on _ _ _ _ _ _ _ _ _ _ _ _ c.in_ok-time.ensures.looks c.in_ok-ruled.ensures.looks
+returns-clause-looks g c = looks_on _ _ _ _ _ _ _ _ _ _ _ _ c.in_ok-look.ensures.looks c.in_ok-ruled.ensures.looks
 
 pub returns-in_err-ruled-clause-looks : goal.returns-in_err-ruled-clause-looks
-returns-in_err-ruled-clause-looks g c = looks_on _ _ _ _ _ _ _ _ _ _ _ _ c.in_ok-time.ensures.looks c.in_err-ruled.ensures.looks
+returns-in_err-ruled-clause-looks g c = looks_on _ _ _ _ _ _ _ _ _ _ _ _ c.in_ok-look.ensures.looks c.in_err-ruled.ensures.looks

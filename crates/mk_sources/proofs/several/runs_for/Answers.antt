@@ -9,17 +9,17 @@ use Rattle.mk_nodes.specs.Prerequisites.{inputs_of, found_source, is_run_of}
 use Rattle.mk_sources.proofs.several.runs_for.Goals as goal
 
 pub returns-in-Some-clause-runs : goal.returns-in-Some-clause-runs
-returns-in-Some-clause-runs g c = λ times now.
-    let said = c.in_ok-source.ensures.source times now in
+returns-in-Some-clause-runs g c = λ looks now.
+    let said = c.in_ok-source.ensures.source looks now in
     let is = c.in-Some.is in
-    let found : Some c.in-Some.source ≡ found_source (inputs_of c.args.rules.now.lines.now (map.get c.args.rules.now.state.now) times) c.args.name.now = cc in
+    let found : Some c.in-Some.source ≡ found_source (inputs_of c.args.rules.now.lines.now (map.get c.args.rules.now.state.now) looks) c.args.name.now = cc in
     c.is_run_of-runs.ensures ∙ ap (λ (s : Option Source). option_map_or (is_run_of c.args.rule) s false) found
 
 pub returns-in-None-clause-runs : goal.returns-in-None-clause-runs
-returns-in-None-clause-runs g c = λ times now.
-    let said = c.in_ok-source.ensures.source times now in
+returns-in-None-clause-runs g c = λ looks now.
+    let said = c.in_ok-source.ensures.source looks now in
     let is = c.in-None.is in
-    let found : None ≡ found_source (inputs_of c.args.rules.now.lines.now (map.get c.args.rules.now.state.now) times) c.args.name.now = cc in
+    let found : None ≡ found_source (inputs_of c.args.rules.now.lines.now (map.get c.args.rules.now.state.now) looks) c.args.name.now = cc in
     ap (λ (s : Option Source). option_map_or (is_run_of c.args.rule) s false) found
 
 pub returns-in_err-source-clause-fault : goal.returns-in_err-source-clause-fault

@@ -12,5 +12,5 @@ returns-clause-none g c =
     c.find_listed.ensures.none
 
 pub returns-clause-grows : goal.returns-clause-grows
-returns-clause-grows g c = λ times fits.
-    fits_alike (known_stamp c.args.self.now.stamps) (known_stamp c.find_listed.new.self) times c.find_listed.ensures.same fits
+returns-clause-grows g c = λ looks fits.
+    fits_alike (known_stamp c.args.self.now.stamps) (known_stamp c.find_listed.new.self) looks c.find_listed.ensures.same fits

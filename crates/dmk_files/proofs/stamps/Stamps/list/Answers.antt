@@ -36,7 +36,7 @@ returns-clause-ok c = λ n.
     ∙ ap (λ (ts : List Told). told_of (all_added found (listed ++ name ∷ [])) ts n) pushed
     ∙ listed_told found listed told name one n no_found no_listed c.self.invariant.as_many
     ∙ ap (λ (t : Told). cond (bytes_eq n name) t (told_of (all_added found listed) told n)) c.in_ok-told.ensures
-    ∙ ap (λ (k : Known). cond (bytes_eq n name) (Some c.args.time) (known_stamp k n)) c.self.view_is
+    ∙ ap (λ (k : Known). cond (bytes_eq n name) (Some c.args.look) (known_stamp k n)) c.self.view_is
 
 pub returns-clause-listed : goal.returns-clause-listed
 returns-clause-listed c = λ n is.

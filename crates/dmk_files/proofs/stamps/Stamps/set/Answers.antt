@@ -23,4 +23,4 @@ returns-clause-ok c = λ n.
     let within : number < length told = omega (arith, named, c.self.invariant.as_many) in
     told_set names told number c.in_ok-told.told n (distinct_all_added found listed c.self.invariant.once) named within
     ∙ ap (λ (t : Told). cond (bytes_eq n (name_at names number)) t (told_of names told n)) c.in_ok-told.ensures
-    ∙ ap (λ (k : Known). cond (bytes_eq n (name_at (names_of k) number)) (Some c.args.time) (known_stamp k n)) c.self.view_is
+    ∙ ap (λ (k : Known). cond (bytes_eq n (name_at (names_of k) number)) (Some c.args.look) (known_stamp k n)) c.self.view_is

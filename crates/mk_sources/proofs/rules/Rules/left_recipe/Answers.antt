@@ -10,23 +10,23 @@ use Rattle.mk_sources.proofs.LeftLemmas.{left_is, none_left}
 use Rattle.mk_sources.proofs.rules.Rules.left_recipe.Goals as goal
 
 pub returns-in_default : goal.returns-in_default
-returns-in_default c = λ inputs lines_are times_are entry_is.
+returns-in_default c = λ inputs lines_are looks_are entry_is.
     let is = c.in_default.is in
     let none : c.args.self.now.default ≡ None = cc in
     none_left inputs c.args.name.now (ap default_of lines_are ∙ sym c.args.self.now.left_over ∙ none)
 
 pub returns-then-not-is_left : goal.returns-then-not-is_left
-returns-then-not-is_left c = λ inputs lines_are times_are entry_is.
+returns-then-not-is_left c = λ inputs lines_are looks_are entry_is.
     let lines = c.args.self.now.lines.now in
     let name = c.args.name.now in
     let entry = map.get c.args.self.now.state.now name in
     let told = c.is_left.ensures
     ∙ ap (λ ns. is_empty ns && (is_none c.args.stamp.now || option_map_or (λ (e : Entry). is_cut e.phase) (option_copied c.entry.result) false)) c.requires
     ∙ ap (λ e. is_empty (numbers_of lines name) && (is_none c.args.stamp.now || option_map_or (λ (e : Entry). is_cut e.phase) e false)) c.entry.ensures in
-    sym (ap (λ b. cond b (default_of inputs.lines) None) (sym (left_is inputs lines name c.args.stamp.now entry lines_are times_are entry_is) ∙ sym told ∙ c.if-not-is_left.true))
+    sym (ap (λ b. cond b (default_of inputs.lines) None) (sym (left_is inputs lines name c.args.stamp.now entry lines_are looks_are entry_is) ∙ sym told ∙ c.if-not-is_left.true))
 
 pub returns : goal.returns
-returns c = λ inputs lines_are times_are entry_is.
+returns c = λ inputs lines_are looks_are entry_is.
     let lines = c.args.self.now.lines.now in
     let name = c.args.name.now in
     let entry = map.get c.args.self.now.state.now name in
@@ -36,4 +36,4 @@ returns c = λ inputs lines_are times_are entry_is.
     let is = c.in-Some.is in
     let line : Some c.in-Some.line ≡ c.args.self.now.default = cc in
     line ∙ c.args.self.now.left_over ∙ ap default_of (sym lines_are)
-    ∙ sym (ap (λ b. cond b (default_of inputs.lines) None) (sym (left_is inputs lines name c.args.stamp.now entry lines_are times_are entry_is) ∙ sym told ∙ c.if-not-is_left.false))
+    ∙ sym (ap (λ b. cond b (default_of inputs.lines) None) (sym (left_is inputs lines name c.args.stamp.now entry lines_are looks_are entry_is) ∙ sym told ∙ c.if-not-is_left.false))
