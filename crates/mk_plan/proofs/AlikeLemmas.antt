@@ -216,7 +216,8 @@ module _ (a b : Graph) (same : AreAlike a b) (marks : List Bool) (n : ℕ) where
     stamp = is.stamp ∙ same.made n;
     prerequisites = is.prerequisites ∙ seen_in;
     ordered = is.ordered ∙ ap not same.dropped;
-    mark = is.mark;
+    source = is.source;
+    files = is.files;
   }
 
   -- ---- reasons, and what is told

@@ -23,7 +23,6 @@ use Rattle.mk_verdict.specs.ByTimes.{HasNoMarks, HoldsByTimes}
 use Rattle.mk_verdict.specs.Tests.{is_later, is_gone, counts_as_remade}
 use Rattle.mk_verdict.specs.Verdict.{HasFailed, IsLater, IsGone, IsRemade, NamesOthers, Holds}
 use Rattle.mk_verdict.specs.declared.mark.Look.TheVariants.{NoFile}
-use Rattle.mk_verdict.specs.declared.mark.Mark.TheVariants.{NotKept}
 use Rattle.mk_verdict.specs.declared.verdict.Prerequisite.{Prerequisite}
 use Rattle.mk_verdict.specs.declared.verdict.Reason.{Reason}
 use Rattle.mk_verdict.specs.declared.verdict.Reason.TheVariants.{NoEntry, WasBegun, WasFailed, CommandsChanged, PrerequisitesChanged, Absent, TargetChanged, Newer, Changed, HiddenGone, Remade}
@@ -198,12 +197,12 @@ module _ (keeping : Bool) (graph : Graph) (marks : List Bool) (n : ℕ) where
     stamp = made_of graph n;
     prerequisites = record { ref_ptr = (0, 0); now = prerequisites };
     orders_hidden = not graph.soft_dropped;
-    look = NoFile;
-    mark = NotKept;
+    source_changed = false;
+    files = record { ref_ptr = (0, 0); now = [] };
   }
 
   no_marks : (commands : List (List ℕ)) → HasNoMarks (target_of commands)
-  no_marks commands = has_no_marks graph marks n (target_of commands) refl (shown_again (seen_of graph marks n))
+  no_marks commands = has_no_marks graph marks n (target_of commands) refl refl (shown_again (seen_of graph marks n))
 
   abbrev tests : Prerequisite → Bool
   tests = quiet keeping (not graph.soft_dropped) (made_of graph n)
@@ -265,8 +264,8 @@ module _ (keeping : Bool) (graph : Graph) (marks : List Bool) (n : ℕ) where
     no_reason WasBegun (k, h) = done_begun (sym is_over ∙ of_entry (λ e. e.phase ≡ phase.Begun) h)
     no_reason WasFailed (k, h) = let (status, is) = of_entry HasFailed h in done_failed status (sym is_over ∙ is)
     no_reason CommandsChanged (k, h) = of_entry (λ e. e.commands ≢ entry.commands) h refl
-    no_reason PrerequisitesChanged (k, h) =
-        let (names, known, others) = of_entry (NamesOthers (explicit_of graph n)) h in
+    no_reason PrerequisitesChanged h =
+        let (names, known, others) = of_entry (NamesOthers (explicit_of graph n)) (by_time PrerequisitesChanged h).1 in
         others (same_explicit graph n (names_recorded entry.explicit) names known (both (is_done entry.phase) (is_explicit graph n (names_recorded entry.explicit)) kept).1)
     no_reason Absent none = none_some (made_of graph n) has_files none
     no_reason TargetChanged h = by_time TargetChanged h
@@ -294,7 +293,8 @@ module _ (keeping : Bool) (graph : Graph) (marks : List Bool) (n : ℕ) where
             stamp = refl;
             prerequisites = shown_again (seen_of graph marks n);
             ordered = refl;
-            mark = refl;
+            source = refl;
+            files = refl;
           })
           (λ (reason, holds). no_reason reason holds)
 

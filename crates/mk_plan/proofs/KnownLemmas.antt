@@ -19,6 +19,7 @@ use Rattle.st_records.specs.declared.record.Entry.{Entry}
 use Rattle.mk_plan.specs.Nodes.{group_in, made_in, entry_of}
 use Rattle.mk_plan.specs.Parts.{language_of, parts_of}
 use Rattle.mk_nodes.specs.Groups.{group_of}
+use Rattle.mk_nodes.specs.Look.{time_of}
 use Rattle.mk_nodes.specs.declared.group.Group.{Group}
 use Rattle.mk_plan.specs.Words.{implied_names}
 use Rattle.mk_graph.proofs.NameLemmas.{all_added-append}
@@ -50,11 +51,11 @@ module _ (inputs : Inputs) (named : List (List ℕ)) (graph : Graph) (is : IsGra
       ∙ ap (take node.rare.implied) hard_is ∙ ap (λ k. take k (hard_of inputs name)) known.implied ∙ front in
       let entry_is : entry_of graph n ≡ inputs.entries name = ap (λ (f : List ℕ → Option Entry). f name) is.entries in
       record {
-        stamp = ap (option_and_then (λ (m : Node). m.stamp)) at ∙ known.stamp;
+        stamp = ap (option_and_then (λ (m : Node). time_of m.stamp)) at ∙ ap time_of known.stamp;
         made =
             ap (option_and_then made_in) at
-            ∙ ap (λ (g : Option Group). option_map_or (λ (m : Group). m.made) g node.stamp) known.group
-            ∙ ap (option_map_or (λ (m : Group). m.made) (group_of inputs name)) known.stamp;
+            ∙ ap (λ (g : Option Group). option_map_or (λ (m : Group). m.made) g (time_of node.stamp)) known.group
+            ∙ ap (λ s. option_map_or (λ (m : Group). m.made) (group_of inputs name) (time_of s)) known.stamp;
         made_too =
             ap (λ o. option_map_or (λ (g : Group). g.others) (option_and_then group_in o) []) at
             ∙ ap (λ (g : Option Group). option_map_or (λ (m : Group). m.others) g []) known.group;

@@ -1,10 +1,11 @@
 -- No marks are kept of a node and its prerequisites.
 use Rattle.std.specs.Prelude.{slice_get, option_map}
-use Rattle.std.proofs.Common.{◌≡◌, ◌∙◌, ℕ, zero, suc, Bool, true, List, [], ◌∷◌, ◌++◌, map, Option, Some, None, refl, sym, ap}
+use Rattle.std.proofs.Common.{◌≡◌, ◌∙◌, ℕ, zero, suc, Bool, true, false, List, [], ◌∷◌, ◌++◌, map, Option, Some, None, refl, sym, ap}
 use Rattle.std.proofs.lemmas.Option.{none-some, same_Some, slice_get-map}
 use Rattle.mk_graph.specs.Edges.{row}
 use Rattle.mk_nodes.specs.declared.graph.Graph.{Graph}
 use Rattle.mk_verdict.specs.ByTimes.{HasNoMarks}
+use Rattle.mk_verdict.specs.declared.mark.MadeFile.{MadeFile}
 use Rattle.mk_verdict.specs.declared.mark.Mark.TheVariants.{NotKept}
 use Rattle.mk_verdict.specs.declared.verdict.Target.{Target}
 use Rattle.mk_plan.specs.Nodes.{hidden_of}
@@ -29,10 +30,11 @@ hiddens_unmarked graph marks (h ∷ hidden) zero s at =
     ap (λ (t : Seen). t.mark) (sym (same_Some (seen_at graph marks true h) s at)) ∙ hidden_unmarked graph marks h
 hiddens_unmarked graph marks (h ∷ hidden) (suc i) s at = hiddens_unmarked graph marks hidden i s at
 
-pub has_no_marks : (graph : Graph) (marks : List Bool) (n : ℕ) (target : Target) → target.mark ≡ NotKept →
+pub has_no_marks : (graph : Graph) (marks : List Bool) (n : ℕ) (target : Target) → target.source_changed ≡ false → target.files.now ≡ [] →
     map shown target.prerequisites.now ≡ seen_of graph marks n → HasNoMarks target
-has_no_marks graph marks n target own seen = record {
-  own = own;
+has_no_marks graph marks n target source none seen = record {
+  source = source;
+  files = λ i f at. absurd (none-some f (sym (ap (λ (fs : List MadeFile). slice_get fs i) none) ∙ at));
   prerequisites = λ i p at.
       all_unmarked (seen_hard graph marks) (λ m. refl) (map (seen_at graph marks true) (hidden_of graph n))
       (hiddens_unmarked graph marks (hidden_of graph n)) (row graph.hard n) i (shown p)

@@ -18,6 +18,7 @@ use Rattle.mk_rule_lines.specs.Rules.{is_default_rule}
 use Rattle.mk_nodes.specs.Graph.{IsGraph, is_numbered, judged, judged_name, required_in}
 use Rattle.mk_nodes.specs.Node.{source_in, explicit_in, implied_in, hidden_in}
 use Rattle.mk_nodes.specs.Groups.{made_time}
+use Rattle.mk_nodes.specs.Look.{time_of}
 use Rattle.mk_nodes.specs.Prerequisites.{Inputs, hard_of, judged_of, distinct, implicit_source, made_from, source_name, recipe_of as rule_of, explicit_names, required_of}
 use Rattle.mk_nodes.specs.declared.graph.Node.{Node}
 use Rattle.mk_nodes.specs.declared.graph.Graph.{Graph}
@@ -45,7 +46,7 @@ module _ (graph : Graph) (n : ℕ) (past : length graph.nodes.items ≤ n) where
   none = past_none graph.nodes.items n past
 
   no_stamp : stamp_of graph n ≡ None
-  no_stamp = ap (option_and_then (λ (node : Node). node.stamp)) none
+  no_stamp = ap (option_and_then (λ (node : Node). time_of node.stamp)) none
 
   no_made : made_of graph n ≡ None
   no_made = ap (option_and_then made_in) none
@@ -175,7 +176,7 @@ module _ (inputs : Inputs) (named : List (List ℕ)) (a b : Graph) (is_a : IsGra
     names = names;
     hard = hard;
     stamp =
-        view_once (length a.nodes.items) (stamp_of a) (stamp_of b) (λ n. inputs.times (name_at a.names n)) None (λ n inside. (known_a n inside).stamp)
+        view_once (length a.nodes.items) (stamp_of a) (stamp_of b) (λ n. time_of (inputs.looks (name_at a.names n))) None (λ n inside. (known_a n inside).stamp)
         (λ n inside. (known_b n inside).stamp) (no_stamp a) (λ n past. no_stamp b n (past_b n past));
     made =
         view_once (length a.nodes.items) (made_of a) (made_of b) (λ n. made_time inputs (name_at a.names n)) None (λ n inside. (known_a n inside).made)

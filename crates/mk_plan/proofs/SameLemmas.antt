@@ -165,13 +165,17 @@ prerequisite_alike P ps qs i same h =
 
 module _ (keeping : Bool) (entry : Option Entry) (a b : Target) (commands : a.commands.now ≡ b.commands.now) (explicit : a.explicit.now ≡ b.explicit.now)
     (stamp : a.stamp ≡ b.stamp) (prerequisites : map shown a.prerequisites.now ≡ map shown b.prerequisites.now)
-    (ordered : a.orders_hidden ≡ b.orders_hidden) (none : HasNoMarks a) where
+    (ordered : a.orders_hidden ≡ b.orders_hidden) (source : a.source_changed ≡ b.source_changed) (none : HasNoMarks a) where
   holds_alike : (r : Reason) → Holds keeping entry a r → Holds keeping entry b r
   holds_alike reason.NoEntry h = h
   holds_alike reason.WasBegun h = h
   holds_alike reason.WasFailed h = h
   holds_alike reason.CommandsChanged h = (h.0, subst (λ cs. IsSomeAnd entry (λ e. e.commands ≢ cs)) commands h.1)
-  holds_alike reason.PrerequisitesChanged h = (h.0, subst (λ ns. IsSomeAnd entry (NamesOthers ns)) explicit h.1)
+  holds_alike reason.PrerequisitesChanged h = (
+    h.0,
+    subst (λ ns. IsSomeAnd entry (λ e. IsTrue b.source_changed ⊎ NamesOthers ns e)) explicit
+        (subst (λ s. IsSomeAnd entry (λ e. IsTrue s ⊎ NamesOthers a.explicit.now e)) source h.1),
+  )
   holds_alike reason.Absent h = sym stamp ∙ h
   holds_alike reason.TargetChanged h = absurd ((by_times keeping entry a reason.TargetChanged none).0 h)
   holds_alike (reason.Newer i) h =
@@ -225,12 +229,12 @@ module _ (keeping : Bool) (graph : Graph) (marks : List Bool) (n : ℕ) (lines :
   there : (r : Reason) → Holds keeping (entry_of graph n) a r → Holds keeping (entry_of graph n) b r
   there =
       holds_alike keeping (entry_of graph n) a b commands (of_a.explicit ∙ sym of_b.explicit) (of_a.stamp ∙ sym of_b.stamp)
-      prerequisites (of_a.ordered ∙ sym of_b.ordered) (has_no_marks graph marks n a of_a.mark of_a.prerequisites)
+      prerequisites (of_a.ordered ∙ sym of_b.ordered) (of_a.source ∙ sym of_b.source) (has_no_marks graph marks n a of_a.source of_a.files of_a.prerequisites)
 
   back : (r : Reason) → Holds keeping (entry_of graph n) b r → Holds keeping (entry_of graph n) a r
   back =
       holds_alike keeping (entry_of graph n) b a (sym commands) (of_b.explicit ∙ sym of_a.explicit) (of_b.stamp ∙ sym of_a.stamp)
-      (sym prerequisites) (of_b.ordered ∙ sym of_a.ordered) (has_no_marks graph marks n b of_b.mark of_b.prerequisites)
+      (sym prerequisites) (of_b.ordered ∙ sym of_a.ordered) (of_b.source ∙ sym of_a.source) (has_no_marks graph marks n b of_b.source of_b.files of_b.prerequisites)
 
   out_of_date_alike : IsOutOfDate keeping (entry_of graph n) a → IsOutOfDate keeping (entry_of graph n) b
   out_of_date_alike (r, holds) = (r, there r holds)

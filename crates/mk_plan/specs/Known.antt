@@ -7,6 +7,7 @@ use Rattle.mk_rule_lines.specs.Explicit.{explicit_of as names_written}
 use Rattle.mk_rule_lines.specs.Rules.{is_default_rule}
 use Rattle.mk_nodes.specs.Graph.{judged, judged_name}
 use Rattle.mk_nodes.specs.Groups.{made_time, made_beside as names_beside}
+use Rattle.mk_nodes.specs.Look.{time_of}
 use Rattle.mk_nodes.specs.Prerequisites.{Inputs, implicit_source, made_from, source_name, recipe_of as rule_of, distinct, hard_of, hidden_of as hidden_names, judged_of, explicit_names, required_of}
 use Rattle.mk_nodes.specs.declared.graph.Graph.{Graph}
 use Rattle.mk_plan.specs.ExplicitWords.{is_implicit}
@@ -19,7 +20,7 @@ use Rattle.mk_plan.specs.Words.{implied_names, written_of, order_only_words}
 -- the source of the implicit rule that makes it, if one does, the lines whose recipes make it, and its prerequisites, by name as they are
 -- recorded, as they are written, and as they are judged, and all of their names, gone or not, and its order-only prerequisites
 pub record IsNodeOf (inputs : Inputs) (graph : Graph) (n : ℕ) (name : List ℕ) : Type 0 where
-  pub stamp : stamp_of graph n ≡ inputs.times name
+  pub stamp : stamp_of graph n ≡ time_of (inputs.looks name)
   pub made : made_of graph n ≡ made_time inputs name
   pub made_too : made_beside graph n ≡ names_beside inputs name
   pub entry : entry_of graph n ≡ inputs.entries name

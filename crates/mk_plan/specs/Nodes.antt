@@ -6,6 +6,7 @@ use Rattle.std.specs.Option.{option_map_or}
 use Rattle.mk_graph.specs.Edges.{row}
 use Rattle.mk_graph.specs.Numbering.{name_at}
 use Rattle.mk_verdict.specs.Verdict.{IsLater}
+use Rattle.mk_nodes.specs.Look.{time_of}
 use Rattle.mk_nodes.specs.Node.{source_in, explicit_in, hidden_in}
 use Rattle.mk_nodes.specs.declared.graph.Node.{Node}
 use Rattle.mk_nodes.specs.declared.graph.Graph.{Graph}
@@ -17,7 +18,7 @@ node_at graph n = slice_get graph.nodes.items n
 
 -- the time of its file
 abbrev pub stamp_of : Graph → (n : ℕ) → Option ℤ
-stamp_of graph n = option_and_then (λ node. node.stamp) (node_at graph n)
+stamp_of graph n = option_and_then (λ node. time_of node.stamp) (node_at graph n)
 
 -- what its recipe makes beside it, where it is that of an implicit rule and makes more
 abbrev pub group_in : Node → Option Group
@@ -26,7 +27,7 @@ group_in node = option_map (λ g. g.value) node.rare.group
 -- when all that its recipe makes was made: the time of its file, and where the recipe makes more, the earliest of all; none where a file
 -- is missing
 abbrev pub made_in : Node → Option ℤ
-made_in node = option_map_or (λ g. g.made) (group_in node) node.stamp
+made_in node = option_map_or (λ g. g.made) (group_in node) (time_of node.stamp)
 
 abbrev pub made_of : Graph → (n : ℕ) → Option ℤ
 made_of graph n = option_and_then made_in (node_at graph n)

@@ -43,11 +43,12 @@ abbrev pub seen_of : Graph → (marks : List Bool) → (n : ℕ) → List Seen
 seen_of graph marks n = map (seen_hard graph marks) (row graph.hard n) ++ map (seen_at graph marks true) (hidden_of graph n)
 
 -- node n as a target with these lines as its recipe. Hidden prerequisites count for what is remade unless soft edges
--- were dropped
+-- were dropped. Neither its source nor its files are held against marks
 pub record IsTargetOf (graph : Graph) (marks : List Bool) (n : ℕ) (lines : List Line) (target : Target) : Type 0 where
   pub commands : Records lines target.commands.now
   pub explicit : target.explicit.now ≡ explicit_of graph n
   pub stamp : target.stamp ≡ made_of graph n
   pub prerequisites : map shown target.prerequisites.now ≡ seen_of graph marks n
   pub ordered : target.orders_hidden ≡ not graph.soft_dropped
-  pub mark : target.mark ≡ NotKept
+  pub source : target.source_changed ≡ false
+  pub files : target.files.now ≡ []

@@ -29,7 +29,7 @@ pub fn stamp_of(graph: &Graph, node: usize) -> Option<i128>
     ensures { result ≡ stamp_of graph.now node }
 {
     match graph.nodes.get(node) {
-        Some(node) => node.stamp.get(),
+        Some(node) => node.stamp.time(),
         None => None,
     }
 }
@@ -41,7 +41,7 @@ pub fn made_of(graph: &Graph, node: usize) -> Option<i128>
     let node = graph.nodes.get(node)?;
     match node.group() {
         Some(group) => group.made,
-        None => node.stamp.get(),
+        None => node.stamp.time(),
     }
 }
 

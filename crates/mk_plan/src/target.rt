@@ -87,8 +87,8 @@ pub fn judge_node(
         stamp: made_of(graph, node),
         prerequisites: &prerequisites,
         orders_hidden: !graph.soft_dropped,
-        look: Look::NoFile,
-        mark: Mark::NotKept,
+        source_changed: false,
+        files: &[],
     };
     why_of(alloc, keeping, graph, node, &target)
 }

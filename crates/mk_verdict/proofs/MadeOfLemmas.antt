@@ -1,16 +1,17 @@
 -- A target that is up to date is as it is recorded.
-use Rattle.std.proofs.Common.{◌≡◌, ◌∙◌, ℕ, Bool, true, false, List, Option, Some, refl, sym}
+use Rattle.std.proofs.Common.{◌≡◌, ◌∙◌, inl, ℕ, Bool, true, false, List, Option, Some, refl, sym}
 use Rattle.std.specs.Prelude.{IsSomeAnd, slice_get}
 use Rattle.st_records.specs.declared.record.Entry.{Entry}
 use Rattle.st_records.specs.declared.record.Phase.{Phase}
 use Rattle.st_records.specs.declared.record.Phase.TheVariants as phase
 use Rattle.mk_verdict.specs.declared.mark.Look.{Look}
 use Rattle.mk_verdict.specs.declared.mark.Look.TheVariants.{File}
+use Rattle.mk_verdict.specs.declared.mark.MadeFile.{MadeFile}
 use Rattle.mk_verdict.specs.declared.mark.Mark.{Mark}
 use Rattle.mk_verdict.specs.declared.mark.Mark.TheVariants as mark
 use Rattle.mk_verdict.specs.declared.verdict.Prerequisite.{Prerequisite}
 use Rattle.mk_verdict.specs.declared.verdict.Target.{Target}
-use Rattle.mk_verdict.specs.declared.verdict.Reason.TheVariants.{WasBegun, WasFailed, CommandsChanged, TargetChanged, Changed}
+use Rattle.mk_verdict.specs.declared.verdict.Reason.TheVariants.{WasBegun, WasFailed, CommandsChanged, PrerequisitesChanged, TargetChanged, Changed}
 use Rattle.mk_verdict.specs.declared.verdict.Verdict.TheVariants.{UpToDate}
 use Rattle.mk_verdict.specs.Marks.{Differs}
 use Rattle.mk_verdict.specs.Verdict.{IsVerdict}
@@ -40,13 +41,20 @@ done_of (phase.Failed status) a b = absurd (b status refl)
 some_and : {X : Type 0} (P : X → Type 0) (o : Option X) (x : X) → o ≡ Some x → P x → IsSomeAnd o P
 some_and P o x e h = rw e h
 
+unchanged : (b : Bool) → (b ≡ true → ⊥) → b ≡ false
+unchanged true h = absurd (h refl)
+unchanged false h = refl
+
 pub as_recorded : (entry : Entry) (target : Target) → IsVerdict true (Some entry) target UpToDate → IsAsRecorded entry target
 as_recorded entry target h = record {
   done = done_of entry.phase (λ e. h (WasBegun, (refl, e))) (λ status e. h (WasFailed, (refl, (status, e))));
   commands =
       commands_by (same_strings entry.commands target.commands.now) entry.commands target.commands.now refl
       (λ differ. h (CommandsChanged, (refl, differ)));
-  file = recorded_of target.mark target.look (λ d. h (TargetChanged, d));
+  source = unchanged target.source_changed (λ is. h (PrerequisitesChanged, (refl, inl is)));
+  files = λ i f at.
+      recorded_of f.mark f.look
+      (λ d. h (TargetChanged, (i, some_and (λ (g : MadeFile). Differs g.mark g.look) (slice_get target.files.now i) f at d)));
   prerequisites = λ i p at.
       recorded_of p.mark p.look
       (λ d. h (Changed i, some_and (λ (q : Prerequisite). Differs q.mark q.look) (slice_get target.prerequisites.now i) p at d));

@@ -1,6 +1,6 @@
 -- What the tests of marks mean, one by one.
-use Rattle.std.proofs.Common.{◌≡◌, ℕ, ℤ, ◌&&◌, refl}
-use Rattle.std.specs.Prelude.{nat_eq}
+use Rattle.std.proofs.Common.{◌≡◌, ℕ, ℤ, zero, suc, Bool, true, false, ◌&&◌, ◌||◌, List, [], ◌∷◌, refl}
+use Rattle.std.specs.Prelude.{nat_eq, IsSomeAnd, slice_get}
 use Rattle.std.specs.Bool.{Decides}
 use Rattle.std.specs.Ordering.{int_eq}
 use Rattle.std.proofs.lemmas.Bool.Decides.{Decides-and, Decides-eqb, Decides-int_eq, Decides-like, Decides-not}
@@ -8,8 +8,11 @@ use Rattle.mk_verdict.specs.declared.mark.Look.{Look}
 use Rattle.mk_verdict.specs.declared.mark.Look.TheVariants.{NoFile, Other, File}
 use Rattle.mk_verdict.specs.declared.mark.Mark.{Mark}
 use Rattle.mk_verdict.specs.declared.mark.Mark.TheVariants as mark
-use Rattle.mk_verdict.specs.Marks.{Differs, IsTimed}
-use Rattle.mk_verdict.specs.Tests.{same_look, mark_differs, is_timed}
+use Rattle.std.specs.List.{list_any}
+use Rattle.mk_verdict.specs.declared.mark.MadeFile.{MadeFile}
+use Rattle.mk_verdict.specs.Marks.{mark_of, Differs, IsTimed}
+use Rattle.mk_verdict.specs.Tests.{same_look, mark_differs, is_timed, is_replaced}
+use Rattle.mk_verdict.specs.Verdict.{HasReplaced}
 
 file_time : (t u : ℤ) (s z : ℕ) → File t s ≡ File u z → t ≡ u
 file_time t u s z e = cc
@@ -47,3 +50,28 @@ timed_decides mark.Unknown = ((λ e. absurd cc), λ h. absurd h)
 timed_decides (mark.Was NoFile) = ((λ e. absurd cc), λ h. absurd cc)
 timed_decides (mark.Was Other) = ((λ e. refl), λ h. refl)
 timed_decides (mark.Was (File t s)) = ((λ e. absurd cc), λ h. absurd cc)
+
+-- ---- one of several
+
+abbrev Some_at : {X : Type 0} → (P : X → Type 0) → List X → Type 0
+Some_at P xs = (i : ℕ) × IsSomeAnd (slice_get xs i) P
+
+here_or_behind : {X : Type 0} (test : X → Bool) (P : X → Type 0) → ((x : X) → Decides (test x) (P x)) → (x : X) (xs : List X) (b : Bool) → test x ≡ b
+    → Decides (list_any test xs) (Some_at P xs) → Decides (b || list_any test xs) (Some_at P (x ∷ xs))
+here_or_behind test P decides x xs true e rest = ((λ k. (zero, (decides x).0 e)), λ h. refl)
+here_or_behind test P decides x xs false e rest = (
+  (λ k. let found = rest.0 k in (suc found.0, found.1)),
+  λ (i, h). behind i h,
+)
+  where
+    behind : (i : ℕ) → IsSomeAnd (slice_get (x ∷ xs) i) P → list_any test xs ≡ true
+    behind zero h = let wrong : test x ≡ true = (decides x).1 h in absurd cc
+    behind (suc i) h = rest.1 (i, h)
+
+any_decides : {X : Type 0} (test : X → Bool) (P : X → Type 0) → ((x : X) → Decides (test x) (P x)) → (xs : List X) → Decides (list_any test xs) (Some_at P xs)
+any_decides test P decides [] = ((λ e. absurd cc), λ h. absurd h.1)
+any_decides test P decides (x ∷ xs) = here_or_behind test P decides x xs (test x) refl (any_decides test P decides xs)
+
+pub replaced_decides : (keeping : Bool) (files : List MadeFile) → Decides (list_any (is_replaced keeping) files) (HasReplaced keeping files)
+replaced_decides keeping files =
+    any_decides (is_replaced keeping) (λ f. Differs (mark_of keeping f.mark) f.look) (λ f. differs_decides (mark_of keeping f.mark) f.look) files

@@ -1,6 +1,7 @@
 -- The tests, one after the other, give the verdict.
 use Rattle.std.proofs.Common.{◌≡◌, ◌∙◌, ℕ, ◌≤◌, inl, inr, ℤ, Bool, true, false, cond, List, Option, Some, None, refl, sym, ap, subst, arith}
 use Rattle.std.specs.Prelude.{is_none, IsTrue, IsSomeAnd, slice_get, option_map, position}
+use Rattle.std.specs.List.{list_any}
 use Rattle.st_records.specs.declared.record.Entry.{Entry}
 use Rattle.st_records.specs.declared.record.Phase.{Phase}
 use Rattle.st_records.specs.declared.record.Phase.TheVariants as phase
@@ -11,10 +12,10 @@ use Rattle.mk_verdict.specs.declared.verdict.Reason.TheVariants.{NoEntry, WasBeg
 use Rattle.mk_verdict.specs.declared.verdict.Verdict.{Verdict}
 use Rattle.mk_verdict.specs.declared.verdict.Verdict.TheVariants.{UpToDate, OutOfDate}
 use Rattle.mk_verdict.specs.Marks.{mark_of, Differs}
-use Rattle.mk_verdict.specs.Verdict.{rank, place, Precedes, Holds, IsNewer, IsGone, IsRemade, IsVerdict}
-use Rattle.mk_verdict.specs.Tests.{same_strings, mark_differs, is_newer, is_changed, is_gone, counts_as_remade, phase_reason, explicit_reason, changed_reason, recorded_reason, timed_reason, replaced_reason, present_reason, first_reason, gone_at, or_else}
+use Rattle.mk_verdict.specs.Verdict.{rank, place, Precedes, HasOtherNames, Holds, IsNewer, IsGone, IsRemade, IsVerdict}
+use Rattle.mk_verdict.specs.Tests.{same_strings, is_newer, is_changed, is_gone, is_replaced, counts_as_remade, phase_reason, explicit_reason, names_reason, changed_reason, recorded_reason, timed_reason, replaced_reason, present_reason, first_reason, gone_at, or_else}
 use Rattle.mk_verdict.proofs.FirstLemmas.{reason_at, reason_at-rank, From, from_first, from_next, IsAnswer, found_at, none_left, IsLeast, step, least_position}
-use Rattle.mk_verdict.proofs.MarkLemmas.{differs_decides}
+use Rattle.mk_verdict.proofs.MarkLemmas.{replaced_decides}
 use Rattle.mk_verdict.proofs.ReasonLemmas.{strings_decide, is_newer-decides, is_changed-decides, is_gone-decides, counts_as_remade-decides}
 
 zero_least : (i : ℕ) → 0 ≤ i
@@ -81,17 +82,17 @@ newer_step keeping entry target from =
     (least_position (is_newer keeping target.stamp) (IsNewer keeping target.stamp) (is_newer-decides keeping target.stamp) target.prerequisites.now)
     (changed_step keeping entry target)
 
-replaced_by : (keeping : Bool) (entry : Option Entry) (target : Target) (differs : Bool) → mark_differs (mark_of keeping target.mark) target.look ≡ differs
-    → From (Holds keeping entry target) 7 → IsAnswer (Holds keeping entry target) (cond differs (Some TargetChanged) (timed_reason keeping target))
+replaced_by : (keeping : Bool) (entry : Option Entry) (target : Target) (replaced : Bool) → list_any (is_replaced keeping) target.files.now ≡ replaced
+    → From (Holds keeping entry target) 7 → IsAnswer (Holds keeping entry target) (cond replaced (Some TargetChanged) (timed_reason keeping target))
 replaced_by keeping entry target true e from =
-    found_at (Holds keeping entry target) 7 TargetChanged from refl ((differs_decides (mark_of keeping target.mark) target.look).0 e) (λ i h. zero_least i)
+    found_at (Holds keeping entry target) 7 TargetChanged from refl ((replaced_decides keeping target.files.now).0 e) (λ i h. zero_least i)
 replaced_by keeping entry target false e from =
     newer_step keeping entry target (from_next (Holds keeping entry target) 7 from
-    (λ i h. apart (mark_differs (mark_of keeping target.mark) target.look) ((differs_decides (mark_of keeping target.mark) target.look).1 h) e))
+    (λ i h. apart (list_any (is_replaced keeping) target.files.now) ((replaced_decides keeping target.files.now).1 h) e))
 
 replaced_step : (keeping : Bool) (entry : Option Entry) (target : Target) → From (Holds keeping entry target) 7
     → IsAnswer (Holds keeping entry target) (replaced_reason keeping target)
-replaced_step keeping entry target from = replaced_by keeping entry target (mark_differs (mark_of keeping target.mark) target.look) refl from
+replaced_step keeping entry target from = replaced_by keeping entry target (list_any (is_replaced keeping) target.files.now) refl from
 
 some_time : (t : ℤ) → Some t ≡ None → ⊥
 some_time t e = cc
@@ -125,30 +126,45 @@ none_some names e = cc
 known_is : (a b : List (List ℕ)) → Some a ≡ Some b → a ≡ b
 known_is a b e = cc
 
-known_step : (entry : Entry) (target : Target) (names : List (List ℕ)) (same : Bool) → names_recorded entry.explicit ≡ Some names → same_strings names target.explicit.now ≡ same
+known_step : (entry : Entry) (target : Target) (names : List (List ℕ)) (same : Bool) → target.source_changed ≡ false
+    → names_recorded entry.explicit ≡ Some names → same_strings names target.explicit.now ≡ same
     → From (Kept entry target) 5 → (rest : Option Reason) → (From (Kept entry target) 6 → IsAnswer (Kept entry target) rest)
     → IsAnswer (Kept entry target) (or_else (cond same None (Some PrerequisitesChanged)) rest)
-known_step entry target names true known e from rest more =
-    more (from_next (Kept entry target) 5 from (λ i (kept, (others, is, differ)).
-    differ (known_is others names (sym is ∙ known) ∙ (strings_decide names target.explicit.now).0 e)))
-known_step entry target names false known e from rest more =
+known_step entry target names true source known e from rest more =
+    more (from_next (Kept entry target) 5 from (λ i (kept, h). others_none h))
+  where
+    others_none : HasOtherNames target entry → ⊥
+    others_none (inl changed) = apart target.source_changed changed source
+    others_none (inr (others, is, differ)) = differ (known_is others names (sym is ∙ known) ∙ (strings_decide names target.explicit.now).0 e)
+known_step entry target names false source known e from rest more =
     found_at (Kept entry target) 5 PrerequisitesChanged from refl
-    (refl, (names, known, λ h. apart (same_strings names target.explicit.now) ((strings_decide names target.explicit.now).1 h) e))
+    (refl, inr (names, known, λ h. apart (same_strings names target.explicit.now) ((strings_decide names target.explicit.now).1 h) e))
     (λ i h. zero_least i)
 
-explicit_step : (entry : Entry) (target : Target) (x : Option (List (List ℕ))) → names_recorded entry.explicit ≡ x
+explicit_step : (entry : Entry) (target : Target) (x : Option (List (List ℕ))) → target.source_changed ≡ false → names_recorded entry.explicit ≡ x
     → From (Kept entry target) 5 → (rest : Option Reason) → (From (Kept entry target) 6 → IsAnswer (Kept entry target) rest)
     → IsAnswer (Kept entry target) (or_else (explicit_reason x target.explicit.now) rest)
-explicit_step entry target None known from rest more =
-    more (from_next (Kept entry target) 5 from (λ i (kept, (others, is, differ)). none_some others (sym known ∙ is)))
-explicit_step entry target (Some names) known from rest more =
-    known_step entry target names (same_strings names target.explicit.now) known refl from rest more
+explicit_step entry target None source known from rest more =
+    more (from_next (Kept entry target) 5 from (λ i (kept, h). others_none h))
+  where
+    others_none : HasOtherNames target entry → ⊥
+    others_none (inl changed) = apart target.source_changed changed source
+    others_none (inr (others, is, differ)) = none_some others (sym known ∙ is)
+explicit_step entry target (Some names) source known from rest more =
+    known_step entry target names (same_strings names target.explicit.now) source known refl from rest more
+
+names_step : (entry : Entry) (target : Target) (changed : Bool) → target.source_changed ≡ changed
+    → From (Kept entry target) 5 → (rest : Option Reason) → (From (Kept entry target) 6 → IsAnswer (Kept entry target) rest)
+    → IsAnswer (Kept entry target) (or_else (cond changed (Some PrerequisitesChanged) (explicit_reason (names_recorded entry.explicit) target.explicit.now)) rest)
+names_step entry target true source from rest more =
+    found_at (Kept entry target) 5 PrerequisitesChanged from refl (refl, inl source) (λ i h. zero_least i)
+names_step entry target false source from rest more = explicit_step entry target (names_recorded entry.explicit) source refl from rest more
 
 commands_step : (entry : Entry) (target : Target) (same : Bool) → same_strings entry.commands target.commands.now ≡ same
     → From (Kept entry target) 4 → (rest : Option Reason) → (From (Kept entry target) 6 → IsAnswer (Kept entry target) rest)
-    → IsAnswer (Kept entry target) (or_else (cond same (explicit_reason (names_recorded entry.explicit) target.explicit.now) (Some CommandsChanged)) rest)
+    → IsAnswer (Kept entry target) (or_else (cond same (names_reason entry target) (Some CommandsChanged)) rest)
 commands_step entry target true e from rest more =
-    explicit_step entry target (names_recorded entry.explicit) refl
+    names_step entry target target.source_changed refl
     (from_next (Kept entry target) 4 from (λ i h. h.1 ((strings_decide entry.commands target.commands.now).0 e))) rest more
 commands_step entry target false e from rest more =
     found_at (Kept entry target) 4 CommandsChanged from refl

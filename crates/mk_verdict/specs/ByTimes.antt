@@ -1,7 +1,8 @@
 -- Why a target is out of date where no marks are kept.
-use Rattle.std.specs.Prelude.{◌≡◌, ◌≢◌, ℕ, Bool, IsTrue, Option, Some, None, IsSomeAnd, slice_get}
+use Rattle.std.specs.Prelude.{◌≡◌, ◌≢◌, ℕ, Bool, false, IsTrue, Option, Some, None, IsSomeAnd, slice_get}
 use Rattle.st_records.specs.declared.record.Entry.{Entry}
 use Rattle.st_records.specs.declared.record.Phase.TheVariants as phase
+use Rattle.mk_verdict.specs.declared.mark.MadeFile.{MadeFile}
 use Rattle.mk_verdict.specs.declared.mark.Mark.TheVariants.{NotKept}
 use Rattle.mk_verdict.specs.declared.verdict.Prerequisite.{Prerequisite}
 use Rattle.mk_verdict.specs.declared.verdict.Target.{Target}
@@ -9,9 +10,10 @@ use Rattle.mk_verdict.specs.declared.verdict.Reason.{Reason}
 use Rattle.mk_verdict.specs.declared.verdict.Reason.TheVariants.{NoEntry, WasBegun, WasFailed, CommandsChanged, PrerequisitesChanged, Absent, TargetChanged, Newer, Changed, HiddenGone, Remade}
 use Rattle.mk_verdict.specs.Verdict.{HasFailed, NamesOthers, IsLater, IsGone, IsRemade}
 
--- no marks are kept of the target
+-- no marks are kept of the target, nor of its source
 pub record HasNoMarks (target : Target) : Type 0 where
-  pub own : target.mark ≡ NotKept
+  pub source : target.source_changed ≡ false
+  pub files : (i : ℕ) (f : MadeFile) → slice_get target.files.now i ≡ Some f → f.mark ≡ NotKept
   pub prerequisites : (i : ℕ) (p : Prerequisite) → slice_get target.prerequisites.now i ≡ Some p → p.mark ≡ NotKept
 
 -- a reason why the target is out of date, by times and no marks. What the state says counts only where state is kept

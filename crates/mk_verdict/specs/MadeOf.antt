@@ -1,9 +1,10 @@
 -- What a target that is up to date was made of.
-use Rattle.std.specs.Prelude.{◌≡◌, ℕ, ◌≤◌, ℤ, Bool, true, List, Some, slice_get}
+use Rattle.std.specs.Prelude.{◌≡◌, ℕ, ◌≤◌, ℤ, Bool, true, false, List, Some, slice_get}
 use Rattle.st_records.specs.declared.record.Entry.{Entry}
 use Rattle.st_records.specs.declared.record.Phase.TheVariants as phase
 use Rattle.mk_verdict.specs.declared.mark.Look.{Look}
 use Rattle.mk_verdict.specs.declared.mark.Look.TheVariants.{File}
+use Rattle.mk_verdict.specs.declared.mark.MadeFile.{MadeFile}
 use Rattle.mk_verdict.specs.declared.mark.Mark.{Mark}
 use Rattle.mk_verdict.specs.declared.mark.Mark.TheVariants as mark
 use Rattle.mk_verdict.specs.declared.verdict.Prerequisite.{Prerequisite}
@@ -17,12 +18,13 @@ IsRecorded mark.NotKept look = Unit {0}
 IsRecorded mark.Unknown look = ⊥
 IsRecorded (mark.Was was) look = was ≡ look
 
--- the recipe that is recorded came to its end, its commands are those of now, and the files of the target and of each prerequisite
--- are those that are recorded
+-- the recipe that is recorded came to its end, its commands are those of now, and so is its source, and each of the target's files and
+-- that of each prerequisite are those that are recorded
 pub record IsAsRecorded (entry : Entry) (target : Target) : Type 0 where
   pub done : entry.phase ≡ phase.Done
   pub commands : entry.commands ≡ target.commands.now
-  pub file : IsRecorded target.mark target.look
+  pub source : target.source_changed ≡ false
+  pub files : (i : ℕ) (f : MadeFile) → slice_get target.files.now i ≡ Some f → IsRecorded f.mark f.look
   pub prerequisites : (i : ℕ) (p : Prerequisite) → slice_get target.prerequisites.now i ≡ Some p → IsRecorded p.mark p.look
 
 -- the premise: where two looks at a name tell the same file, and the first was before the recipe was begun and settled then (its last

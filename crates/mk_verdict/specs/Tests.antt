@@ -1,5 +1,6 @@
 -- What the private functions compute, by one test after the other. `Verdict` says what it means.
 use Rattle.std.specs.Prelude.{ℕ, ℤ, int_lt, Bool, true, false, not, ◌&&◌, ◌||◌, if◌then◌else◌, List, Option, Some, None, is_none, nat_eq, position, option_map}
+use Rattle.std.specs.List.{list_any}
 use Rattle.std.specs.Ordering.{int_eq}
 use Rattle.std.specs.Str.{is_utf8}
 use Rattle.std.specs.Cmp.Lexicographic.{pointwise}
@@ -9,6 +10,7 @@ use Rattle.st_records.specs.declared.record.Phase.TheVariants as phase
 use Rattle.st_records.specs.Parts.{names_recorded}
 use Rattle.mk_verdict.specs.declared.mark.Look.{Look}
 use Rattle.mk_verdict.specs.declared.mark.Look.TheVariants.{NoFile, Other, File}
+use Rattle.mk_verdict.specs.declared.mark.MadeFile.{MadeFile}
 use Rattle.mk_verdict.specs.declared.mark.Mark.{Mark}
 use Rattle.mk_verdict.specs.declared.mark.Mark.TheVariants as mark
 use Rattle.mk_verdict.specs.declared.verdict.Prerequisite.{Prerequisite}
@@ -54,6 +56,9 @@ is_newer keeping target p = is_timed (mark_of keeping p.mark) && is_later p.stam
 abbrev pub is_changed : (keeping : Bool) → Prerequisite → Bool
 is_changed keeping p = mark_differs (mark_of keeping p.mark) p.look
 
+abbrev pub is_replaced : (keeping : Bool) → MadeFile → Bool
+is_replaced keeping f = mark_differs (mark_of keeping f.mark) f.look
+
 abbrev pub is_gone : Prerequisite → Bool
 is_gone p = p.is_hidden && ((is_none p.stamp && not p.has_rule) || not (is_utf8 p.name.now))
 
@@ -70,10 +75,14 @@ abbrev pub explicit_reason : Option (List (List ℕ)) → List (List ℕ) → Op
 explicit_reason None explicit = None
 explicit_reason (Some names) explicit = if same_strings names explicit then None else Some PrerequisitesChanged
 
+-- another source is recorded, or the known list is another one
+abbrev pub names_reason : Entry → Target → Option Reason
+names_reason entry target =
+    if target.source_changed then Some PrerequisitesChanged else explicit_reason (names_recorded entry.explicit) target.explicit.now
+
 abbrev pub changed_reason : Entry → Target → Option Reason
 changed_reason entry target =
-    if same_strings entry.commands target.commands.now then explicit_reason (names_recorded entry.explicit) target.explicit.now
-    else Some CommandsChanged
+    if same_strings entry.commands target.commands.now then names_reason entry target else Some CommandsChanged
 
 -- the first of two answers that there is
 abbrev pub or_else : Option Reason → Option Reason → Option Reason
@@ -96,10 +105,10 @@ timed_reason keeping target =
     (or_else (option_map HiddenGone (gone_at keeping target.prerequisites.now))
     (option_map Remade (position (counts_as_remade target.orders_hidden) target.prerequisites.now))))
 
--- the same, where the target has a file: first whether that is the recorded one
+-- the same, where the target has its files: first whether these are the recorded ones
 abbrev pub replaced_reason : (keeping : Bool) → Target → Option Reason
 replaced_reason keeping target =
-    if mark_differs (mark_of keeping target.mark) target.look then Some TargetChanged else timed_reason keeping target
+    if list_any (is_replaced keeping) target.files.now then Some TargetChanged else timed_reason keeping target
 
 abbrev pub present_reason : (keeping : Bool) → Target → Option Reason
 present_reason keeping target = if is_none target.stamp then Some Absent else replaced_reason keeping target

@@ -5,6 +5,7 @@ use Rattle.std.specs.Str.{is_utf8}
 use Rattle.st_records.specs.declared.record.Entry.{Entry}
 use Rattle.st_records.specs.declared.record.Phase.TheVariants as phase
 use Rattle.st_records.specs.Parts.{names_recorded}
+use Rattle.mk_verdict.specs.declared.mark.MadeFile.{MadeFile}
 use Rattle.mk_verdict.specs.declared.verdict.Prerequisite.{Prerequisite}
 use Rattle.mk_verdict.specs.declared.verdict.Target.{Target}
 use Rattle.mk_verdict.specs.declared.verdict.Reason.{Reason}
@@ -20,6 +21,10 @@ HasFailed entry = (status : ℕ) × (entry.phase ≡ phase.Failed status)
 -- the list of explicit prerequisites is known, and it is not this one
 abbrev pub NamesOthers : List (List ℕ) → Entry → Type 0
 NamesOthers explicit entry = (names : List (List ℕ)) × (names_recorded entry.explicit ≡ Some names) × (names ≢ explicit)
+
+-- another source is recorded than the target has now, or the known list is another one
+abbrev pub HasOtherNames : Target → Entry → Type 0
+HasOtherNames target entry = IsTrue target.source_changed ⊎ NamesOthers target.explicit.now entry
 
 -- both have files, and that of the prerequisite is later
 abbrev pub IsLater : (prerequisite target : Option ℤ) → Type 0
@@ -39,15 +44,19 @@ IsGone p =
 abbrev pub IsRemade : (orders_hidden : Bool) → Prerequisite → Type 0
 IsRemade orders_hidden p = IsTrue p.is_remade × (IsTrue p.is_hidden → IsTrue orders_hidden)
 
+-- one of these files isn't, or may not be, the one that its recipe has left
+abbrev pub HasReplaced : (keeping : Bool) → List MadeFile → Type 0
+HasReplaced keeping files = (i : ℕ) × IsSomeAnd (slice_get files i) (λ f. Differs (mark_of keeping f.mark) f.look)
+
 -- a reason why the target is out of date. What the state says counts only where state is kept
 abbrev pub Holds : (keeping : Bool) → Option Entry → Target → Reason → Type 0
 Holds keeping entry target NoEntry = IsTrue keeping × (entry ≡ None)
 Holds keeping entry target WasBegun = IsTrue keeping × IsSomeAnd entry (λ e. e.phase ≡ phase.Begun)
 Holds keeping entry target WasFailed = IsTrue keeping × IsSomeAnd entry HasFailed
 Holds keeping entry target CommandsChanged = IsTrue keeping × IsSomeAnd entry (λ e. e.commands ≢ target.commands.now)
-Holds keeping entry target PrerequisitesChanged = IsTrue keeping × IsSomeAnd entry (NamesOthers target.explicit.now)
+Holds keeping entry target PrerequisitesChanged = IsTrue keeping × IsSomeAnd entry (HasOtherNames target)
 Holds keeping entry target Absent = target.stamp ≡ None
-Holds keeping entry target TargetChanged = Differs (mark_of keeping target.mark) target.look
+Holds keeping entry target TargetChanged = HasReplaced keeping target.files.now
 Holds keeping entry target (Newer i) = IsSomeAnd (slice_get target.prerequisites.now i) (IsNewer keeping target.stamp)
 Holds keeping entry target (Changed i) = IsSomeAnd (slice_get target.prerequisites.now i) (λ p. Differs (mark_of keeping p.mark) p.look)
 Holds keeping entry target (HiddenGone i) = IsTrue keeping × IsSomeAnd (slice_get target.prerequisites.now i) IsGone

@@ -10,6 +10,6 @@ pub use laws::{
     begun_is_out_of_date, each_judged, made_of_what_is_there, one_verdict,
     up_to_date_is_as_recorded, without_marks_by_times,
 };
-pub use mark::{Look, Mark};
+pub use mark::{Look, MadeFile, Mark};
 pub use told::Told;
 pub use verdict::{Prerequisite, Reason, Target, Verdict, judge};

@@ -1,7 +1,7 @@
 //! What the state has of a file, against what a look at it tells.
 ghost use Rattle.std.specs.Prelude.{◌≡◌};
 ghost use Rattle.mk_verdict.specs.Marks.{mark_of};
-ghost use Rattle.mk_verdict.specs.Tests.{same_look, mark_differs, is_timed};
+ghost use Rattle.mk_verdict.specs.Tests.{same_look, mark_differs, is_timed, is_replaced};
 
 /// What a look at a name tells of its file.
 #[derive(Clone, Copy)]
@@ -10,7 +10,7 @@ pub enum Look {
     /// A folder or a device: its time alone counts.
     Other,
     /// An ordinary file, last changed then (nanoseconds since 1970), with so many bytes (modulo 2^32).
-    File { time: i64, size: u32 },
+    File { time: i128, size: u32 },
 }
 
 /// What the state has of a file that went into a target, or came of its recipe.
@@ -21,6 +21,15 @@ pub enum Mark {
     /// The file may have changed while the recipe was run.
     Unknown,
     Was(Look),
+}
+
+/// One of the files that a target's recipe makes.
+#[derive(Clone, Copy)]
+pub struct MadeFile {
+    /// The file now. It counts only where a mark of it is kept.
+    pub look: Look,
+    /// The file as the recipe has left it.
+    pub mark: Mark,
 }
 
 impl Look {
@@ -51,7 +60,7 @@ impl Mark {
     }
 
     /// Whether the file isn't, or may not be, the one that is recorded.
-    pub(crate) fn differs(self, look: Look) -> bool
+    pub fn differs(self, look: Look) -> bool
         ensures { result ≡ mark_differs self look }
     {
         match self {
@@ -62,7 +71,7 @@ impl Mark {
     }
 
     /// Whether the file's time is what counts.
-    pub(crate) fn is_timed(self) -> bool
+    pub fn is_timed(self) -> bool
         ensures { result ≡ is_timed self }
     {
         match self {
@@ -74,5 +83,14 @@ impl Mark {
                 Look::File { .. } => false,
             },
         }
+    }
+}
+
+impl MadeFile {
+    /// Whether the file isn't, or may not be, the one that the recipe has left.
+    pub(crate) fn is_replaced(&self, keeping: bool) -> bool
+        ensures { result ≡ is_replaced keeping self.now }
+    {
+        self.mark.kept(keeping).differs(self.look)
     }
 }

@@ -1,10 +1,11 @@
 //! Whether a target is finished, and if it isn't, why.
 ghost use Rattle.std.specs.Prelude.{◌≡◌, position};
+ghost use Rattle.std.specs.List.{list_any};
 ghost use Rattle.std.specs.Option.{option_copied};
 ghost use Rattle.mk_verdict.specs.Verdict.{IsVerdict};
-ghost use Rattle.mk_verdict.specs.Tests.{is_later, is_newer, is_changed, is_gone, gone_at, counts_as_remade, phase_reason, changed_reason, recorded_reason, timed_reason, replaced_reason, present_reason, first_reason};
+ghost use Rattle.mk_verdict.specs.Tests.{is_later, is_newer, is_changed, is_gone, is_replaced, gone_at, counts_as_remade, phase_reason, changed_reason, recorded_reason, timed_reason, replaced_reason, present_reason, first_reason};
 
-use crate::mark::{Look, Mark};
+use crate::mark::{Look, MadeFile, Mark};
 use byte_strings::ByteStrings;
 use mk_reader::is_utf8;
 use st_records::{PackedEntry, Phase};
@@ -40,10 +41,10 @@ pub struct Target<'a> {
     pub prerequisites: &'a [Prerequisite<'a>],
     /// Hidden prerequisites count for the order of this run, and so for what is remade.
     pub orders_hidden: bool,
-    /// Its file now. It counts only where a mark of it is kept.
-    pub look: Look,
-    /// Its file as its recipe has left it.
-    pub mark: Mark,
+    /// Another source is recorded than it has now.
+    pub source_changed: bool,
+    /// Its own file, and those that its recipe makes beside it.
+    pub files: &'a [MadeFile],
 }
 
 /// Why a target is out of date. A number is that of a prerequisite. The order is that in which reasons are looked for.
@@ -55,11 +56,11 @@ pub enum Reason {
     WasBegun,
     WasFailed,
     CommandsChanged,
-    /// The recorded list of the makefile's prerequisites is known, and it is another one now.
+    /// The recorded list of the makefile's prerequisites is known, or the recorded source, and it is another one now.
     PrerequisitesChanged,
     /// The target has no file.
     Absent,
-    /// The target's file isn't the one that its recipe has left.
+    /// A file of the target isn't the one that its recipe has left.
     TargetChanged,
     /// The prerequisite's file is later than the target's. Where a mark of it is kept this doesn't count, but for folders.
     Newer(usize),
@@ -128,6 +129,9 @@ fn changed_reason(entry: &PackedEntry, target: &Target<'_>) -> Option<Reason>
 {
     if !entry.commands().are(target.commands.iter()) {
         return Some(Reason::CommandsChanged);
+    }
+    if target.source_changed {
+        return Some(Reason::PrerequisitesChanged);
     }
     match entry.explicit() {
         None => None,
@@ -213,11 +217,18 @@ fn timed_reason(keeping: bool, target: &Target<'_>) -> Option<Reason>
     }
 }
 
+/// Whether one of the target's files isn't, or may not be, the one that is recorded.
+fn is_any_replaced(keeping: bool, target: &Target<'_>) -> bool
+    ensures { result ≡ list_any (is_replaced keeping) target.now.files.now }
+{
+    target.files.iter().any(|file| file.is_replaced(keeping))
+}
+
 /// The first of the reasons that files and this run give, where the target has a file: first its own.
 fn replaced_reason(keeping: bool, target: &Target<'_>) -> Option<Reason>
     ensures { result ≡ replaced_reason keeping target.now }
 {
-    if target.mark.kept(keeping).differs(target.look) {
+    if is_any_replaced(keeping, target) {
         return Some(Reason::TargetChanged);
     }
     timed_reason(keeping, target)

@@ -12,5 +12,6 @@ returns c =
       stamp = c.made_of.ensures;
       prerequisites = ap (map shown) c.deref.ensures.value ∙ c.in_ok-prerequisites.ensures;
       ordered = refl;
-      mark = refl;
+      source = refl;
+      files = refl;
     })
