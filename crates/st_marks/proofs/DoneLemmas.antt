@@ -1,12 +1,11 @@
 -- A done record of version 4 says one thing, and is spelled in one way.
-use Rattle.std.proofs.Common.{◌≡◌, ◌∙◌, ℕ, List, ◌++◌, Option, sym, ap, subst}
+use Rattle.std.proofs.Common.{◌≡◌, ◌∙◌, ℕ, List, ◌++◌, sym, ap, subst}
 use Rattle.st_records.specs.declared.version.Form.TheVariants as forms
 use Rattle.st_records.specs.declared.record.Record.{Record}
 use Rattle.st_records.specs.Parts.{target_of, commands_of, hidden_of, explicit_of, names_known, marks_known}
 use Rattle.st_records.specs.Encoding.{encoding_in}
 use Rattle.st_records.proofs.Decoding.{one_encoding_in_lem}
-use Rattle.st_marks.specs.declared.mark.Mark.{Mark}
-use Rattle.st_marks.specs.Encoding.{IsText, text_of}
+use Rattle.st_marks.specs.Encoding.{IsText}
 use Rattle.st_marks.specs.Done.{Done, done_record, IsDone}
 use Rattle.st_marks.proofs.TextLemmas.{same_said}
 

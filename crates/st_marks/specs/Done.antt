@@ -1,5 +1,5 @@
 -- A done record of version 4: by which commands a target was made, of what, and which files these were.
-use Rattle.std.specs.Prelude.{◌≡◌, ℕ, List, Option}
+use Rattle.std.specs.Prelude.{ℕ, List, Option}
 use Rattle.st_records.specs.declared.version.Form.TheVariants as forms
 use Rattle.st_records.specs.declared.record.Explicit.TheVariants as explicits
 use Rattle.st_records.specs.declared.record.Record.{Record}

@@ -1,10 +1,11 @@
 //! From a text to what it says.
 
-ghost use Rattle.std.specs.Prelude.{◌≡◌, ℕ, List, Option, length, replicate, IfSome, IfNone};
+ghost use Rattle.std.specs.Prelude.{◌≡◌, ℕ, List, Option, Some, None, length, replicate, IfSome, IfNone};
 ghost use Rattle.std.specs.Option.{option_copied};
 ghost use Rattle.st_marks.specs.declared.mark.Mark.{Mark};
 ghost use Rattle.st_marks.specs.declared.mark.Mark.TheVariants as mark;
 ghost use Rattle.st_marks.specs.Encoding.{IsText};
+ghost use Rattle.st_marks.specs.Parts.{said_of};
 
 use crate::fields::{number_of, source_of};
 use crate::marks::Marks;
@@ -22,6 +23,9 @@ pub struct Marked<'a> {
 pub fn read_marks(text: &[u8]) -> Option<Marked<'_>>
     ensures found { IfSome result (λ said. IsText (option_copied said.source) said.marks text.now) }
     ensures none { IfNone result ((source : Option (List ℕ)) (marks : List Mark) → IsText source marks text.now → ⊥) }
+    // The same as a value.
+    ensures said { IfSome result (λ said. said_of text.now ≡ Some (option_copied said.source, said.marks)) }
+    ensures nothing { IfNone result (said_of text.now ≡ None) }
 {
     let (source, rest) = source_of(text)?;
     let (count, rest) = number_of(rest)?;

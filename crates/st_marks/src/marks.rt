@@ -1,6 +1,6 @@
 //! Marks that lie in some bytes, one behind the other, without a copy of them.
 
-ghost use Rattle.std.specs.Prelude.{◌≡◌, ℕ, List, [], Ok, length, replicate, IfSome, IfNone, IsErr};
+ghost use Rattle.std.specs.Prelude.{◌≡◌, ◌≤◌, ℕ, List, [], Ok, length, take, drop, slice_get, replicate, IfSome, IfNone, IsErr};
 ghost use Rattle.st_marks.specs.declared.mark.Mark.{Mark};
 ghost use Rattle.st_marks.specs.declared.mark.Mark.TheVariants as mark;
 ghost use Rattle.st_marks.specs.Reading.{mark_at, many_at, mark_or_unknown};
@@ -61,6 +61,36 @@ impl<'a> Marks<'a> {
         }
     }
 
+    /// The first of them, which isn't left then; None where none is left.
+    pub fn first(&mut self) -> Option<Mark>
+        ensures first { result ≡ slice_get self.old 0 }
+        ensures left { self.new ≡ drop 1 self.old }
+    {
+        self.next()
+    }
+
+    /// The first of them, so many.
+    pub(crate) fn front(&self, wanted: usize) -> Marks<'a>
+        requires { wanted ≤ length self.now }
+        ensures { result ≡ take wanted self.now }
+    {
+        Marks {
+            count: wanted,
+            bytes: self.bytes,
+        }
+    }
+
+    /// Those behind the first ones, so many.
+    pub(crate) fn behind(&self, passed: usize) -> Marks<'a>
+        ensures { result ≡ drop passed self.now }
+    {
+        let whole = Marks {
+            count: self.count,
+            bytes: self.bytes,
+        };
+        behind(whole, passed)
+    }
+
     /// How many marks are left.
     pub fn len(&self) -> usize
         ensures { result ≡ length self.now }
@@ -87,6 +117,17 @@ impl<'a> Iterator for Marks<'a> {
         self.count -= 1;
         Some(mark)
     }
+}
+
+/// Those behind the first ones, so many.
+fn behind(marks: Marks<'_>, passed: usize) -> Marks<'_>
+    ensures { result ≡ drop passed marks.entry }
+{
+    let mut left = marks;
+    for _ in 0..passed {
+        let _mark = left.first();
+    }
+    left
 }
 
 /// The mark at the front and the bytes behind it, or an unknown one and no bytes.
