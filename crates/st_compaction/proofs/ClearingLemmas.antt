@@ -15,8 +15,8 @@ use Rattle.st_file.specs.Gated.{IsReady, IsClosedOrOpen}
 use Rattle.st_file.specs.Created.{HasClosedGate}
 use Rattle.st_file.proofs.LayoutLemmas.{HasHeader-of, HasHeader-text}
 use Rattle.st_file.proofs.CreatedLemmas.{short_void, void_short, closed_void}
-use Rattle.st_recovery.specs.Stored.{GivesWay}
-use Rattle.st_compaction.specs.Compacted.{IsRetired, IsVoidOrOpen, GivesWayOrOpen}
+use Rattle.st_recovery.specs.Stored.{GivesWayIn}
+use Rattle.st_compaction.specs.Compacted.{IsRetired, IsVoidOrOpen, GivesWayOrOpenIn}
 
 -- ---- runs of calls on one side
 
@@ -62,30 +62,30 @@ holds_by_gate s x form generation end gate held holds is_open e =
     }
 
 -- any byte over an open gate leaves a side that gives way as it did
-gives_way_by_gate : (generation : ℕ) (s x : List ℕ) → GivesWay generation s → (HasClosedGate s → ⊥) → length x ≡ length s → drop 1 x ≡ drop 1 s → GivesWay generation x
-gives_way_by_gate generation s [] gives open_gate len behind = inl tt
-gives_way_by_gate generation s (zero ∷ x) gives open_gate len behind = inl (zero_void x)
-gives_way_by_gate generation s (suc b ∷ x) (inl void) open_gate len behind = inl (short_void (suc b ∷ x) (omega (arith, len, void_short s void open_gate)))
-gives_way_by_gate generation s (suc b ∷ x) (inr less) open_gate len behind =
+gives_way_by_gate : (newest : Form) (generation : ℕ) (s x : List ℕ) → GivesWayIn newest generation s → (HasClosedGate s → ⊥) → length x ≡ length s → drop 1 x ≡ drop 1 s → GivesWayIn newest generation x
+gives_way_by_gate newest generation s [] gives open_gate len behind = inl tt
+gives_way_by_gate newest generation s (zero ∷ x) gives open_gate len behind = inl (zero_void x)
+gives_way_by_gate newest generation s (suc b ∷ x) (inl void) open_gate len behind = inl (short_void (suc b ∷ x) (omega (arith, len, void_short s void open_gate)))
+gives_way_by_gate newest generation s (suc b ∷ x) (inr less) open_gate len behind =
     let same : suc b ∷ x ≡ suc b ∷ drop 1 s = ap (λ (y : List ℕ). suc b ∷ y) behind in
     let some : 0 < suc b = omega arith in
     inr (less.0, (less.1.0, (less.1.1.0, less.1.1.1, less.1.1.2, holds_by_gate s (suc b ∷ x) less.1.1.0 less.0 less.1.1.2 (suc b) less.1.0 less.1.1.3 some same)), less.2)
 
-pub gives_way_first : (generation : ℕ) {s : List ℕ} {writes : UnsyncedWrites} → GivesWay generation s → writes ≡ settled s → (x : List ℕ) → IsCrashImage writes x → GivesWay generation x
-gives_way_first generation gives on_disk x image = subst (GivesWay generation) (sym (settled_seen on_disk image)) gives
+pub gives_way_first : (newest : Form) (generation : ℕ) {s : List ℕ} {writes : UnsyncedWrites} → GivesWayIn newest generation s → writes ≡ settled s → (x : List ℕ) → IsCrashImage writes x → GivesWayIn newest generation x
+gives_way_first newest generation gives on_disk x image = subst (GivesWayIn newest generation) (sym (settled_seen on_disk image)) gives
 
-gives_way_written : (generation : ℕ) {s : List ℕ} {writes : UnsyncedWrites} → GivesWay generation s → (HasClosedGate s → ⊥) → 0 < length s → writes ≡ settled s → (x : List ℕ) → IsCrashImage (written_at 0 1 writes) x → GivesWay generation x
-gives_way_written generation {s} gives open_gate some on_disk x image =
+gives_way_written : (newest : Form) (generation : ℕ) {s : List ℕ} {writes : UnsyncedWrites} → GivesWayIn newest generation s → (HasClosedGate s → ⊥) → 0 < length s → writes ≡ settled s → (x : List ℕ) → IsCrashImage (written_at 0 1 writes) x → GivesWayIn newest generation x
+gives_way_written newest generation {s} gives open_gate some on_disk x image =
     let room : 0 + 1 ≤ length s = omega (arith, some) in
     let torn = written_within 0 1 on_disk room x image in
-    gives_way_by_gate generation s x gives open_gate torn.0 torn.1
+    gives_way_by_gate newest generation s x gives open_gate torn.0 torn.1
 
 -- a byte written over the open gate of a side that isn't empty
-pub gate_closing : {side : Which} {m0 m m1 : Moments} {s : List ℕ} (generation : ℕ) → GivesWay generation s → (HasClosedGate s → ⊥) → 0 < length s → writes_of side (now m0) ≡ settled s → m ≡ m0 → MayPass (after_write side 0 1 m) m m1
-    → Throughout m0 m1 (SideHas side (writes_of (other side) (now m0)) (GivesWay generation))
-gate_closing {side} {m0} {m} {m1} {s} generation gives open_gate some on_disk same may =
+pub gate_closing : {side : Which} {m0 m m1 : Moments} {s : List ℕ} (newest : Form) (generation : ℕ) → GivesWayIn newest generation s → (HasClosedGate s → ⊥) → 0 < length s → writes_of side (now m0) ≡ settled s → m ≡ m0 → MayPass (after_write side 0 1 m) m m1
+    → Throughout m0 m1 (SideHas side (writes_of (other side) (now m0)) (GivesWayIn newest generation))
+gate_closing {side} {m0} {m} {m1} {s} newest generation gives open_gate some on_disk same may =
     let may0 = subst (λ (n : Moments). MayPass (after_write side 0 1 n) n m1) same may in
-    writes_on (at_first m0 (gives_way_first generation gives on_disk)) 0 1 may0 (gives_way_written generation gives open_gate some on_disk)
+    writes_on (at_first m0 (gives_way_first newest generation gives on_disk)) 0 1 may0 (gives_way_written newest generation gives open_gate some on_disk)
 
 pub ready_closed : (s s1 : List ℕ) (writes : UnsyncedWrites) → s1 ≡ overwritten s 0 (0 ∷ []) → writes ≡ settled s1 → IsReady s1 writes 0
 ready_closed s s1 writes e on_disk =
@@ -119,6 +119,6 @@ pub void_or_open : (text x : List ℕ) → IsClosedOrOpen [] text x → IsVoidOr
 void_or_open text x (inl closed) = inl (closed_void x closed)
 void_or_open text x (inr opened) = inr opened
 
-pub gives_way_or_open : (generation : ℕ) (text x : List ℕ) → IsVoidOrOpen text x → GivesWayOrOpen generation text x
-gives_way_or_open generation text x (inl void) = inl (inl void)
-gives_way_or_open generation text x (inr opened) = inr opened
+pub gives_way_or_open : (newest : Form) (generation : ℕ) (text x : List ℕ) → IsVoidOrOpen text x → GivesWayOrOpenIn newest generation text x
+gives_way_or_open newest generation text x (inl void) = inl (inl void)
+gives_way_or_open newest generation text x (inr opened) = inr opened

@@ -16,7 +16,7 @@ use crate::rewriting::rewrite;
 use crate::text::compacted_text;
 use st_disk::{Disk, Which};
 use st_file::{CommitFault, HEADER_BYTES};
-use st_records::Version;
+use st_records::{Form, Version};
 use st_recovery::Store;
 use std::alloc::Global;
 
@@ -52,7 +52,7 @@ pub fn compact<D: Disk + Drop>(alloc: Global, store: &mut Store<D>) -> Result<()
     let Some(generation) = store.log.generation.checked_add(1) else {
         return Err(CommitFault::GenerationsSpent);
     };
-    let text = compacted_text(alloc, generation, &store.state)?;
+    let text = compacted_text(alloc, Form::Plain, generation, &store.state)?;
     let side = other_side(store.log.side);
     store.log.dead = true; // until all of it stands on the other side
     rewrite(&mut store.log.disk, side, &text)?;
@@ -64,7 +64,7 @@ pub fn compact<D: Disk + Drop>(alloc: Global, store: &mut Store<D>) -> Result<()
     Ok(())
 }
 
-fn other_side(side: Which) -> Which
+pub(crate) fn other_side(side: Which) -> Which
     ensures { result ≡ other side }
 {
     match side {

@@ -2,7 +2,9 @@
 #![tactic(auto)]
 
 mod compaction;
+mod compaction_in;
 mod rewriting;
 mod text;
 
 pub use compaction::compact;
+pub use compaction_in::compact_in;

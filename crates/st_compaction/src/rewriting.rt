@@ -6,8 +6,9 @@ ghost use Rattle.st_disk.specs.Moments.{now, Throughout};
 ghost use Rattle.st_disk.specs.Faults.{CountsFaults};
 ghost use Rattle.st_file.specs.Side.{IsVoid};
 ghost use Rattle.st_file.specs.Gated.{IsReady, IsOpened};
-ghost use Rattle.st_recovery.specs.Stored.{GivesWay};
-ghost use Rattle.st_compaction.specs.Compacted.{IsRetired, IsVoidOrOpen, GivesWayOrOpen};
+ghost use Rattle.st_records.specs.declared.version.Form.{Form};
+ghost use Rattle.st_recovery.specs.Stored.{GivesWayIn};
+ghost use Rattle.st_compaction.specs.Compacted.{IsRetired, IsVoidOrOpen, GivesWayOrOpenIn};
 
 use st_disk::{DeviceFault, Disk, Which};
 use st_file::{append_gated, close_gate, has_closed_gate};
@@ -16,9 +17,9 @@ use st_file::{append_gated, close_gate, has_closed_gate};
 /// it gave way to before, or its first gate is open and the text stands behind it.
 pub(crate) fn rewrite<D: Disk>(disk: &mut D, side: Which, text: &[u8]) -> Result<(), DeviceFault>
     requires { D.honest → writes_of side (now (D.moments disk.old)) ≡ settled (D.seen disk.old side) }
-    ensures any_moment { D.honest → (generation : ℕ) → GivesWay generation (D.seen disk.old side)
+    ensures any_moment { D.honest → (newest : Form) (generation : ℕ) → GivesWayIn newest generation (D.seen disk.old side)
         → Throughout (D.moments disk.old) (D.moments disk.new)
-        (SideHas side (writes_of (other side) (now (D.moments disk.old))) (GivesWayOrOpen generation text.now)) }
+        (SideHas side (writes_of (other side) (now (D.moments disk.old))) (GivesWayOrOpenIn newest generation text.now)) }
     ensures opened { D.honest → OnOk result (IsOpened [] text.now (D.seen disk.new side) (writes_of side (now (D.moments disk.new)))) }
     ensures faults { CountsFaults result (D.faults disk.old) (D.faults disk.new) }
 {
@@ -30,9 +31,9 @@ pub(crate) fn rewrite<D: Disk>(disk: &mut D, side: Which, text: &[u8]) -> Result
 /// Clears a side: its first gate is closed, and then all behind it is cut off. An empty side stays as it is.
 fn retire<D: Disk>(disk: &mut D, side: Which) -> Result<(), DeviceFault>
     requires { D.honest → writes_of side (now (D.moments disk.old)) ≡ settled (D.seen disk.old side) }
-    ensures any_moment { D.honest → (generation : ℕ) → GivesWay generation (D.seen disk.old side)
+    ensures any_moment { D.honest → (newest : Form) (generation : ℕ) → GivesWayIn newest generation (D.seen disk.old side)
         → Throughout (D.moments disk.old) (D.moments disk.new)
-        (SideHas side (writes_of (other side) (now (D.moments disk.old))) (GivesWay generation)) }
+        (SideHas side (writes_of (other side) (now (D.moments disk.old))) (GivesWayIn newest generation)) }
     ensures retired { D.honest → OnOk result (IsRetired (D.seen disk.new side) (writes_of side (now (D.moments disk.new)))) }
     ensures faults { CountsFaults result (D.faults disk.old) (D.faults disk.new) }
 {
@@ -49,9 +50,9 @@ fn retire<D: Disk>(disk: &mut D, side: Which) -> Result<(), DeviceFault>
 fn close_first_gate<D: Disk>(disk: &mut D, side: Which) -> Result<(), DeviceFault>
     requires some { D.honest → 0 < length (D.seen disk.old side) }
     requires on_disk { D.honest → writes_of side (now (D.moments disk.old)) ≡ settled (D.seen disk.old side) }
-    ensures any_moment { D.honest → (generation : ℕ) → GivesWay generation (D.seen disk.old side)
+    ensures any_moment { D.honest → (newest : Form) (generation : ℕ) → GivesWayIn newest generation (D.seen disk.old side)
         → Throughout (D.moments disk.old) (D.moments disk.new)
-        (SideHas side (writes_of (other side) (now (D.moments disk.old))) (GivesWay generation)) }
+        (SideHas side (writes_of (other side) (now (D.moments disk.old))) (GivesWayIn newest generation)) }
     ensures ready { D.honest → OnOk result (IsReady (D.seen disk.new side) (writes_of side (now (D.moments disk.new))) 0) }
     ensures faults { CountsFaults result (D.faults disk.old) (D.faults disk.new) }
 {

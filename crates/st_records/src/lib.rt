@@ -28,5 +28,5 @@ pub use limits::{
 };
 pub use packed::PackedEntry;
 pub use packed_record::{Event, PackedRecord};
-pub use record::{Entry, Explicit, Phase, Record};
+pub use record::{Entry, Explicit, Named, Phase, Record};
 pub use version::{Form, Version};

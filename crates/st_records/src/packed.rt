@@ -257,7 +257,7 @@ impl PackedEntry {
     }
 
     /// What is said of the prerequisites that the makefile named.
-    pub(crate) fn lend(&self) -> Named<'_>
+    pub fn lend(&self) -> Named<'_>
         ensures { explicit_from result ≡ self.now.explicit }
     {
         match self.standing.counted() {

@@ -29,7 +29,7 @@ pub enum Explicit {
 
 /// What is said of explicit names, where it is lent.
 #[derive(Drop)]
-pub(crate) enum Named<'a> {
+pub enum Named<'a> {
     Unknown,
     Known(Iter<'a>),
     Marked(Iter<'a>, &'a [u8]),

@@ -31,6 +31,6 @@ pub enum Form {
     Old,
     /// The explicit prerequisites, as in version 2.
     Plain,
-    /// And which files all of them were, by their marks: version 4. No file is read or written so yet.
+    /// And which files all of them were, by their marks, as in version 4.
     Marked,
 }

@@ -12,49 +12,49 @@ use Rattle.std.specs.FinMap.Entries.{by_order, below_all}
 use Rattle.std.specs.Map.{keys_of}
 use Rattle.std.proofs.lemmas.List.{length-append, nil_from_length}
 use Rattle.std.proofs.lemmas.Map.Keys.{IsDistinct-head, IsDistinct-tail, IsDistinct-cons}
-use Rattle.st_records.specs.declared.version.Version.TheVariants.{Two}
+use Rattle.st_records.specs.declared.version.Form.{Form}
 use Rattle.st_records.specs.declared.record.Entry.{Entry}
-use Rattle.st_records.specs.Encoding.{encoding}
-use Rattle.st_records.specs.Limits.{IsGood}
+use Rattle.st_records.specs.Encoding.{encoding_in}
+use Rattle.st_records.specs.Limits.{IsGoodIn}
 use Rattle.st_state.specs.State.{StateMap, replay}
-use Rattle.st_state.specs.Keepable.{kept_record, kept_records, kept_bytes, AllCanBeKept}
+use Rattle.st_state.specs.Keepable.{kept_record, kept_records, kept_bytes_in, AllCanBeKeptIn}
 use Rattle.st_state.proofs.StateLemmas.{by_bytes, by_bytes-exact, by_bytes-same, same_bytes, AreApart, absent, with_entries, with_entries-empty}
 
 -- ---- how many bytes
 
 -- the bytes of the kept records of some entries
-abbrev pub bytes_of : List (List ℕ × Entry) → ℕ
-bytes_of es = length (flat_map (encoding Two) (list_map kept_record es))
+abbrev pub bytes_of : Form → List (List ℕ × Entry) → ℕ
+bytes_of form es = length (flat_map (encoding_in form) (list_map kept_record es))
 
-pub bytes_of-more : (e : List ℕ × Entry) (es : List (List ℕ × Entry)) → bytes_of (e ∷ es) ≡ length (encoding Two (kept_record e)) + bytes_of es
-bytes_of-more e es = length-append (encoding Two (kept_record e)) (flat_map (encoding Two) (list_map kept_record es))
+pub bytes_of-more : (form : Form) (e : List ℕ × Entry) (es : List (List ℕ × Entry)) → bytes_of form (e ∷ es) ≡ length (encoding_in form (kept_record e)) + bytes_of form es
+bytes_of-more form e es = length-append (encoding_in form (kept_record e)) (flat_map (encoding_in form) (list_map kept_record es))
 
 nothing : {A : Type 0} (x : A) → Some x ≡ None → ⊥
 nothing x e = cc
 
 -- one entry of a new name more
-bytes_of-put : (name : List ℕ) (entry : Entry) (es : List (List ℕ × Entry)) → find by_bytes name es ≡ None → bytes_of (put by_bytes name entry es) ≡ length (encoding Two (kept_record (name, entry))) + bytes_of es
-bytes_of-put name entry [] missing = bytes_of-more (name, entry) []
-bytes_of-put name entry (e ∷ es) missing =
+bytes_of-put : (form : Form) (name : List ℕ) (entry : Entry) (es : List (List ℕ × Entry)) → find by_bytes name es ≡ None → bytes_of form (put by_bytes name entry es) ≡ length (encoding_in form (kept_record (name, entry))) + bytes_of form es
+bytes_of-put form name entry [] missing = bytes_of-more form (name, entry) []
+bytes_of-put form name entry (e ∷ es) missing =
     elim (by_bytes name e.0) as (λ o. cond (is_eq o) (Some e.1) (find by_bytes name es) ≡ None
-    → bytes_of (by_order o ((name, entry) ∷ e ∷ es) ((e.0, entry) ∷ es) (e ∷ put by_bytes name entry es)) ≡ length (encoding Two (kept_record (name, entry))) + bytes_of (e ∷ es)) [
-      | Less ↦ λ _. bytes_of-more (name, entry) (e ∷ es)
+    → bytes_of form (by_order o ((name, entry) ∷ e ∷ es) ((e.0, entry) ∷ es) (e ∷ put by_bytes name entry es)) ≡ length (encoding_in form (kept_record (name, entry))) + bytes_of form (e ∷ es)) [
+      | Less ↦ λ _. bytes_of-more form (name, entry) (e ∷ es)
       | Equal ↦ λ found. absurd (nothing e.1 found)
-      | Greater ↦ λ later. omega (arith, bytes_of-more e (put by_bytes name entry es), bytes_of-more e es, bytes_of-put name entry es later)
+      | Greater ↦ λ later. omega (arith, bytes_of-more form e (put by_bytes name entry es), bytes_of-more form e es, bytes_of-put form name entry es later)
     ] missing
 
 -- a map's kept records have the bytes of those of its entries, in whatever order these stand
-pub bytes_from_entries : (es : List (List ℕ × Entry)) → AreApart (keys_of es) → kept_bytes (map.from_entries {R = by_bytes} es) ≡ bytes_of es
-bytes_from_entries [] apart =
+pub bytes_from_entries : (form : Form) (es : List (List ℕ × Entry)) → AreApart (keys_of es) → kept_bytes_in form (map.from_entries {R = by_bytes} es) ≡ bytes_of form es
+bytes_from_entries form [] apart =
     let none : map.entries (map.empty {X = Entry} {R = by_bytes}) ≡ [] = nil_from_length _ (sym (len-entries (map.empty {X = Entry} {R = by_bytes})) ∙ len-empty by_bytes Entry) in
-    ap bytes_of none
-bytes_from_entries (e ∷ es) apart =
+    ap (bytes_of form) none
+bytes_from_entries form (e ∷ es) apart =
     let m = map.from_entries {R = by_bytes} es in
     let missing : find by_bytes e.0 (map.entries m) ≡ None =
     sym (get-entries m e.0) ∙ get-from_entries nat_list_cmp_total es e.0 ∙ absent e.0 es (IsDistinct-head _ _ _ apart) in
-    let one : kept_bytes (map.insert m e.0 e.1) ≡ length (encoding Two (kept_record e)) + kept_bytes m =
-    ap bytes_of (entries-insert nat_list_cmp_total m e.0 e.1) ∙ bytes_of-put e.0 e.1 (map.entries m) missing in
-    omega (arith, one, bytes_of-more e es, bytes_from_entries es (IsDistinct-tail _ _ _ apart))
+    let one : kept_bytes_in form (map.insert m e.0 e.1) ≡ length (encoding_in form (kept_record e)) + kept_bytes_in form m =
+    ap (bytes_of form) (entries-insert nat_list_cmp_total m e.0 e.1) ∙ bytes_of-put form e.0 e.1 (map.entries m) missing in
+    omega (arith, one, bytes_of-more form e es, bytes_from_entries form es (IsDistinct-tail _ _ _ apart))
 
 -- ---- the same state again
 
@@ -105,12 +105,12 @@ found_behind e es q v apart found =
       | false ↦ λ _. found
     ] refl
 
-good_entries : (es : List (List ℕ × Entry)) → AreApart (keys_of es) → ((q : List ℕ) (v : Entry) → find by_bytes q es ≡ Some v → IsGood Two (kept_record (q, v))) → AllByRecursion (IsGood Two) (list_map kept_record es)
-good_entries [] apart each = tt
-good_entries (e ∷ es) apart each = (
+good_entries : (form : Form) (es : List (List ℕ × Entry)) → AreApart (keys_of es) → ((q : List ℕ) (v : Entry) → find by_bytes q es ≡ Some v → IsGoodIn form (kept_record (q, v))) → AllByRecursion (IsGoodIn form) (list_map kept_record es)
+good_entries form [] apart each = tt
+good_entries form (e ∷ es) apart each = (
   each e.0 e.1 (ap (λ b. cond b (Some e.1) (find by_bytes e.0 es)) (by_bytes-same e.0)),
-  good_entries es (IsDistinct-tail _ _ _ apart) (λ q v found. each q v (found_behind e es q v apart found)),
+  good_entries form es (IsDistinct-tail _ _ _ apart) (λ q v found. each q v (found_behind e es q v apart found)),
 )
 
-pub good_kept : (m : StateMap) → AllCanBeKept m → AllByRecursion (IsGood Two) (kept_records m)
-good_kept m all = good_entries (map.entries m) (apart_entries m) (λ q v found. all q v (get-entries m q ∙ found))
+pub good_kept_in : (form : Form) (m : StateMap) → AllCanBeKeptIn form m → AllByRecursion (IsGoodIn form) (kept_records m)
+good_kept_in form m all = good_entries form (map.entries m) (apart_entries m) (λ q v found. all q v (get-entries m q ∙ found))

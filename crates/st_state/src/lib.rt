@@ -9,7 +9,7 @@ mod staged;
 mod state;
 mod taking;
 
-pub use laws::entries_can_be_kept;
+pub use laws::{entries_can_be_kept, entries_can_be_kept_in};
 pub use listed::Listed;
 pub use staged::Staged;
 pub use state::State;

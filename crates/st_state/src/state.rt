@@ -3,7 +3,7 @@
 ghost use Rattle.std.specs.Prelude.{◌≡◌, ◌+◌, ◌<◌, ◌⊎◌, None, Some, OnOk, OnErr, IfOk, IfSome, MatchOption, length, map as list_map};
 ghost use Rattle.std.specs.Option.{option_copied};
 ghost use Rattle.std.specs.FinMap as map;
-ghost use Rattle.st_state.specs.Keepable.{kept_bytes};
+ghost use Rattle.st_state.specs.Keepable.{kept_bytes, kept_bytes_in};
 ghost use Rattle.st_records.specs.Parts.{target_of};
 ghost use Rattle.st_state.specs.State.{SetsEntry, apply_record, known_hidden, unfinished};
 
@@ -13,7 +13,7 @@ use crate::staged::Staged;
 use crate::taking::take_event;
 use indexmap::{Equivalent, IndexMap};
 use name_keys::{Name, NameEnds, NameRef};
-use st_records::{HashKey, PackedEntry, PackedRecord, Phase, Record, room_after_kept};
+use st_records::{Form, HashKey, PackedEntry, PackedRecord, Phase, Record, room_after_kept_in};
 use st_unfinished::leave_unfinished;
 use std::alloc::{AllocError, Global};
 use std::marker::Model;
@@ -142,9 +142,16 @@ impl State {
     pub fn room_after_kept(&self, room: usize) -> Option<usize>
         ensures { MatchOption result (room < kept_bytes self.now) (λ left. left + kept_bytes self.now ≡ room) }
     {
+        self.room_after_kept_in(Form::Plain, room)
+    }
+
+    /// The same in a form.
+    pub fn room_after_kept_in(&self, form: Form, room: usize) -> Option<usize>
+        ensures { MatchOption result (room < kept_bytes_in form self.now) (λ left. left + kept_bytes_in form self.now ≡ room) }
+    {
         let mut left = room;
         for (name, entry) in self.entries.iter() {
-            left = room_after_kept(name.as_slice(), entry, left)?;
+            left = room_after_kept_in(form, name.as_slice(), entry, left)?;
         }
         Some(left)
     }

@@ -7,31 +7,31 @@ use Rattle.st_compaction.proofs.ClearingLemmas.{side_still, gives_way_first, gat
 use Rattle.st_compaction.proofs.rewriting.close_first_gate.Goals as goal
 
 pub returns-in_err-has_closed_gate-clause-any_moment : goal.returns-in_err-has_closed_gate-clause-any_moment
-returns-in_err-has_closed_gate-clause-any_moment g c = λ honest generation gives.
-    side_still c.args.side (gives_way_first generation gives (c.requires.on_disk honest)) (c.has_closed_gate.ensures.moments honest)
+returns-in_err-has_closed_gate-clause-any_moment g c = λ honest newest generation gives.
+    side_still c.args.side (gives_way_first newest generation gives (c.requires.on_disk honest)) (c.has_closed_gate.ensures.moments honest)
 
 pub returns-in_err-write_at-clause-any_moment : goal.returns-in_err-write_at-clause-any_moment
-returns-in_err-write_at-clause-any_moment g c = λ honest generation gives.
+returns-in_err-write_at-clause-any_moment g c = λ honest newest generation gives.
     let gate = c.in_ok-has_closed_gate.ensures.gate honest in
     let open_gate : HasClosedGate (g.D.Disk.seen c.args.disk.now c.args.side) → ⊥ = search rules in
-    gate_closing generation gives open_gate (c.requires.some honest) (c.requires.on_disk honest) (c.has_closed_gate.ensures.moments honest) (c.write_at.ensures.moments honest)
+    gate_closing newest generation gives open_gate (c.requires.some honest) (c.requires.on_disk honest) (c.has_closed_gate.ensures.moments honest) (c.write_at.ensures.moments honest)
 
 pub returns-in_err-sync-clause-any_moment : goal.returns-in_err-sync-clause-any_moment
-returns-in_err-sync-clause-any_moment g c = λ honest generation gives.
+returns-in_err-sync-clause-any_moment g c = λ honest newest generation gives.
     let gate = c.in_ok-has_closed_gate.ensures.gate honest in
     let open_gate : HasClosedGate (g.D.Disk.seen c.args.disk.now c.args.side) → ⊥ = search rules in
     let image = g.met.D.Disk.seen_is_image c.write_at.new.self honest c.args.side in
     syncs_on
-    (gate_closing generation gives open_gate (c.requires.some honest) (c.requires.on_disk honest) (c.has_closed_gate.ensures.moments honest) (c.write_at.ensures.moments honest))
+    (gate_closing newest generation gives open_gate (c.requires.some honest) (c.requires.on_disk honest) (c.has_closed_gate.ensures.moments honest) (c.write_at.ensures.moments honest))
     (g.D.Disk.seen c.write_at.new.self c.args.side) (c.sync.ensures.moments honest) image
 
 pub returns-clause-any_moment : goal.returns-clause-any_moment
-returns-clause-any_moment g c = λ honest generation gives.
+returns-clause-any_moment g c = λ honest newest generation gives.
     let gate = c.in_ok-has_closed_gate.ensures.gate honest in
     let open_gate : HasClosedGate (g.D.Disk.seen c.args.disk.now c.args.side) → ⊥ = search rules in
     let image = g.met.D.Disk.seen_is_image c.write_at.new.self honest c.args.side in
     syncs_on
-    (gate_closing generation gives open_gate (c.requires.some honest) (c.requires.on_disk honest) (c.has_closed_gate.ensures.moments honest) (c.write_at.ensures.moments honest))
+    (gate_closing newest generation gives open_gate (c.requires.some honest) (c.requires.on_disk honest) (c.has_closed_gate.ensures.moments honest) (c.write_at.ensures.moments honest))
     (g.D.Disk.seen c.write_at.new.self c.args.side) (c.sync.ensures.moments honest) image
 
 pub returns-clause-ready : goal.returns-clause-ready

@@ -10,12 +10,12 @@ pub publish-requires-clause-on_disk : goal.publish-requires-clause-on_disk
 publish-requires-clause-on_disk g c = λ honest. (c.in_ok-retire.ensures.retired honest).on_disk
 
 pub returns-in_err-retire-clause-any_moment : goal.returns-in_err-retire-clause-any_moment
-returns-in_err-retire-clause-any_moment g c = λ honest generation gives. side_so_far (c.retire.ensures.any_moment honest generation gives) (λ x old. inl old)
+returns-in_err-retire-clause-any_moment g c = λ honest newest generation gives. side_so_far (c.retire.ensures.any_moment honest newest generation gives) (λ x old. inl old)
 
 pub returns-in_err-publish-clause-any_moment : goal.returns-in_err-publish-clause-any_moment
-returns-in_err-publish-clause-any_moment g c = λ honest generation gives.
-    side_goes_on (c.retire.ensures.any_moment honest generation gives) (c.publish.ensures.any_moment honest) (λ x old. inl old) (gives_way_or_open generation c.args.text.now)
+returns-in_err-publish-clause-any_moment g c = λ honest newest generation gives.
+    side_goes_on (c.retire.ensures.any_moment honest newest generation gives) (c.publish.ensures.any_moment honest) (λ x old. inl old) (gives_way_or_open newest generation c.args.text.now)
 
 pub returns-clause-any_moment : goal.returns-clause-any_moment
-returns-clause-any_moment g c = λ honest generation gives.
-    side_goes_on (c.retire.ensures.any_moment honest generation gives) (c.publish.ensures.any_moment honest) (λ x old. inl old) (gives_way_or_open generation c.args.text.now)
+returns-clause-any_moment g c = λ honest newest generation gives.
+    side_goes_on (c.retire.ensures.any_moment honest newest generation gives) (c.publish.ensures.any_moment honest) (λ x old. inl old) (gives_way_or_open newest generation c.args.text.now)
