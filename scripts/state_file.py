@@ -1,7 +1,8 @@
-"""Writes state files of version 2, from the layout in docs/STATE_FILE.md and from nothing else of this repository.
+"""Writes state files of versions 2 and 4, from the layout in docs/STATE_FILE.md and from nothing else of this repository.
 
-As a program: state_file.py example FILE | pairs FILE | names FILE | begun FILE COUNT | done FILE COUNT
+As a program: state_file.py example FILE | marked FILE | pairs FILE | names FILE | begun FILE COUNT | done FILE COUNT
   example  the small state that examples/hello holds
+  marked   a small state of version 4, with each kind of mark
   pairs    100 MB as builds leave it: 125,000 begun and done pairs over 50,000 targets, each with 20 hidden and 3
            explicit names
   names    4,000,000 targets, each begun once
@@ -29,12 +30,40 @@ def done(target, commands, hidden, explicit):
     return b"\x02" + text(target) + texts(commands) + texts(hidden) + texts(explicit)
 
 
+UNKNOWN, NO_FILE, OTHER = b"\0", b"\1", b"\2"
+
+
+def file(time, size, kind=3):
+    """The mark of a file of this time, in nanoseconds since 1970, and so many bytes."""
+    return struct.pack("<BqI", kind, time, size % 2**32)
+
+
+def own(time, size):
+    return file(time, size, 4)
+
+
+def marks(source, of):
+    """The text of marks: of the target's files, the source, and explicit and hidden prerequisites."""
+    return (b"\0" if source is None else b"\1" + text(source)) + struct.pack("<I", len(of)) + b"".join(of)
+
+
+def done_marked(target, commands, hidden, explicit, of):
+    """A done record of version 4, with a text of marks."""
+    return b"\x02" + text(target) + texts(commands) + texts(hidden) + b"\2" + texts(explicit) + text(of)
+
+
+def kept_marked(target, commands, hidden, explicit=None, of=None):
+    """A kept record of version 4, of what is done: its explicit prerequisites and the text of their marks may be unknown."""
+    known = b"\0" if explicit is None else b"\1" + texts(explicit) if of is None else b"\2" + texts(explicit) + text(of)
+    return b"\x04" + text(target) + struct.pack("<BI", 2, 0) + texts(commands) + texts(hidden) + known
+
+
 def failed(target, status):
     return b"\x03" + text(target) + struct.pack("<I", status)
 
 
-def header(generation):
-    return b"\x01DMKSTATE" + struct.pack("<HQ", 2, generation)
+def header(generation, version=2):
+    return b"\x01DMKSTATE" + struct.pack("<HQ", version, generation)
 
 
 def batch(records):
@@ -49,6 +78,16 @@ def example():
     yield batch([done("parse.o", ["cc -O2 -c parse.c"], ["parse.h"], ["parse.c"]), begun("test")])
     yield batch([begun("hello")])
     yield batch([failed("test", 2)])
+    yield b"\x00"
+
+
+def marked():
+    yield header(1, 4)
+    text_of_c = marks(None, [file(1764290001500000000, 120), file(-1500000000, 7)])
+    yield batch([kept_marked("c", [], [], ["s"], text_of_c), kept_marked("d", [], ["h"], ["s"]), kept_marked("e", [], ["h"])])
+    of = [file(1764290000123456789, 2**32 - 1), NO_FILE, file(-1, 3), UNKNOWN, OTHER, own(-(2**63), 8), own(0, 0)]
+    commands = ["yacc p.y", "mv y.tab.c $@\ntest -s $@"]
+    yield batch([begun("p.c"), done_marked("p.c", commands, ["y.tab.h", "new.h"], ["flags", "lib"], marks("p.y", of))])
     yield b"\x00"
 
 
@@ -92,6 +131,7 @@ def done_targets(count):
 
 if __name__ == "__main__":
     kind, path, *counts = sys.argv[1:]
+    kinds = {"example": example, "marked": marked, "pairs": pairs, "names": names, "begun": begun_targets, "done": done_targets}
     with open(path, "wb") as out:
-        for part in {"example": example, "pairs": pairs, "names": names, "begun": begun_targets, "done": done_targets}[kind](*counts):
+        for part in kinds[kind](*counts):
             out.write(part)

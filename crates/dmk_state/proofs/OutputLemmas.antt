@@ -9,10 +9,12 @@ use Rattle.st_records.specs.declared.record.Entry.{Entry}
 use Rattle.st_file.specs.declared.fault.OpenFault.{OpenFault}
 use Rattle.st_file.specs.declared.fault.OpenFault.TheVariants as open_faults
 use Rattle.st_state.specs.State.{StateMap}
-use Rattle.st_recovery.specs.Recovers.{Recovers, RefusesWith, PairComesToRecords, recovered}
-use Rattle.st_recovery.proofs.RecoversLemmas.{one_recovery}
-use Rattle.st_recovery.proofs.MemoryLemmas.{comes_of_state}
+use Rattle.st_records.specs.declared.version.Form.TheVariants.{Marked}
+use Rattle.st_recovery.specs.Recovers.{recovered}
+use Rattle.st_recovery.proofs.RecoversLemmas.{one_recovery_in}
+use Rattle.st_recovery.proofs.MemoryLemmas.{comes_of_state_in}
 use Rattle.st_listing.specs.Listing.{entry_lines, listing}
+use Rattle.st_listing.specs.Read.{Recovers, RefusesWith, PairComesToRecords}
 use Rattle.st_listing.specs.Writing.{IsCause, AppendsPart, LeavesWriter}
 use Rattle.st_listing.specs.declared.listing.ListFault.{ListFault}
 use Rattle.st_listing.specs.declared.listing.ListFault.TheVariants as faults
@@ -41,7 +43,7 @@ pub cause_of_fault : {T : Type 0} (a b : List ℕ) (old new : Option (List ℕ))
 cause_of_fault a b old new (faults.Open f) (inl is) memory left = inl (f, is)
 cause_of_fault {T} a b old new (faults.Open f) (inr e) memory left =
     inr (memory (ap (λ (g : OpenFault). answered {T = T} (faults.Open g)) e))
-cause_of_fault a b old new faults.Write cause memory left = inr (comes_of_state a b left.0 left.1.0 (some_names left.0 old new left.1.1))
+cause_of_fault a b old new faults.Write cause memory left = inr (comes_of_state_in Marked a b left.0 left.1.0 (some_names left.0 old new left.1.1))
 
 same_state : (m n : StateMap) → recovered m ≡ recovered n → m ≡ n
 same_state m n e = cc
@@ -50,5 +52,5 @@ same_state m n e = cc
 pub part_at_fault : (a b : List ℕ) (m : StateMap) (old new : Option (List ℕ)) (f : ListFault) → Recovers a b m → LeavesWriter a b f old new → Keeps old new ⊎ AppendsPart old new (listing m)
 part_at_fault a b m old new (faults.Open f) found left = inl left
 part_at_fault a b m old new faults.Write found left =
-    let one : left.0 ≡ m = same_state left.0 m (one_recovery a b (recovered left.0) (recovered m) left.1.0 found) in
+    let one : left.0 ≡ m = same_state left.0 m (one_recovery_in Marked a b (recovered left.0) (recovered m) left.1.0 found) in
     inr (subst (λ (n : StateMap). AppendsPart old new (listing n)) one left.1.1)

@@ -4,8 +4,8 @@ ghost use Rattle.std.specs.Prelude.{◌≡◌, ◌⊎◌};
 ghost use Rattle.std.specs.Io.KnownBytes.{Appends, Keeps};
 ghost use Rattle.st_state.specs.State.{StateMap};
 ghost use Rattle.st_file.specs.declared.fault.OpenFault.{OpenFault};
-ghost use Rattle.st_recovery.specs.Recovers.{Recovers, RefusesWith, PairComesToRecords};
 ghost use Rattle.st_listing.specs.Listing.{listing};
+ghost use Rattle.st_listing.specs.Read.{Recovers, RefusesWith, PairComesToRecords};
 ghost use Rattle.st_listing.specs.Writing.{AppendsPart};
 
 use st_disk::{FailedCall, FailedCallMessage};

@@ -1,3 +1,4 @@
 pub mod Loops
+mod MarkLemmas
 pub mod UserLemmas
 pub mod CompiledLemmas

@@ -2,6 +2,8 @@
 pub mod Lines
 -- the targets of a state, and what is told of one
 pub mod Answers
+-- the files that a target was made of, and their marks
+pub mod Marks
 -- what was made of a name
 pub mod Users
 -- commands with the sources that they name

@@ -8,6 +8,7 @@ use Rattle.st_records.specs.declared.record.Entry.{Entry}
 use Rattle.st_state.specs.State.{StateMap}
 use Rattle.st_answers.specs.Lines.{row, rows}
 use Rattle.st_answers.specs.Answers.{is_target_of, target_row}
+use Rattle.st_answers.specs.Marks.{rows_below}
 
 -- the name is one of these
 abbrev pub is_among : List ℕ → List (List ℕ) → Bool
@@ -36,8 +37,7 @@ has_name m name = is_target_of m name || is_used_in m name
 -- what a name is, and of a target what it was made of; a name that is no target is a source
 abbrev pub own_rows : List ℕ → Option Entry → List ℕ
 own_rows name None = row (codes "source") name
-own_rows name (Some entry) =
-    target_row (name, entry) ++ (rows (codes "explicit") (names_known entry.explicit) ++ rows (codes "hidden") entry.hidden)
+own_rows name (Some entry) = target_row (name, entry) ++ rows_below entry.hidden entry.explicit
 
 -- the same, and then what was made of it
 abbrev pub query_text : StateMap → List ℕ → List ℕ

@@ -3,6 +3,7 @@
 
 mod compiling;
 mod line_text;
+mod of_marks;
 mod of_names;
 mod of_targets;
 mod sources;

@@ -7,7 +7,8 @@ ghost use Rattle.std.specs.FinMap as map;
 ghost use Rattle.st_records.specs.Parts.{names_known};
 ghost use Rattle.st_answers.specs.Users.{is_among, stands_on, user_rows, has_name, own_rows, answer_text};
 
-use crate::line_text::{append_row, append_rows};
+use crate::line_text::append_row;
+use crate::of_marks::append_below;
 use crate::of_targets::append_target;
 use st_records::{Iter, PackedEntry};
 use st_state::{Listed, State};
@@ -15,7 +16,8 @@ use std::alloc::AllocError;
 
 /// Writes what is told of a name behind a text, and answers whether the state has the name. Each line is a word, a TAB and a name:
 /// of a target `done`, `begun` or `failed`, then a line `explicit` or `hidden` for each prerequisite; of another name `source`;
-/// and for each target that was made of it `user`.
+/// and for each target that was made of it `user`. Of a target with marks, `mark` is the word of the lines that have them, each below
+/// the name that it is of, and `inferred` that of the source which an implicit rule gave it.
 pub fn query(
     state: &State,
     named: &Listed<'_>,
@@ -52,8 +54,7 @@ fn append_own(
         None => append_row(text, b"source", name),
         Some(entry) => {
             append_target(text, name, entry)?;
-            append_rows(text, b"explicit", &entry.names())?;
-            append_rows(text, b"hidden", &entry.hidden())
+            append_below(text, &entry.hidden(), entry.lend())
         }
     }
 }

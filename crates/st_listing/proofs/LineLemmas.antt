@@ -1,11 +1,12 @@
 -- The lines of a listing, one after another.
-use Rattle.std.proofs.Common.{◌≡◌, ◌∙◌, Some, None, ℕ, zero, suc, Bool, true, false, ◌==◌, ◌<◌, ◌+◌, ◌-◌, List, [], ◌∷◌, ◌++◌, length, take, drop, get_or, slice_get, append_assoc, codes, refl, sym, ap, arith, if◌then◌else◌}
+use Rattle.std.proofs.Common.{◌≡◌, ◌∙◌, Option, Some, None, ℕ, zero, suc, Bool, true, false, ◌==◌, ◌<◌, ◌+◌, ◌-◌, List, [], ◌∷◌, ◌++◌, length, take, drop, get_or, slice_get, append_assoc, codes, refl, sym, ap, arith, if◌then◌else◌}
 use Rattle.std.proofs.lemmas.Grind.{flat_map-append}
 use Rattle.std.proofs.lemmas.List.{drop-drop, drop_more, take-append-drop, take_rest, take_all}
 use Rattle.std.specs.List.{flat_map}
 use Rattle.memchr.specs.Find.{IsFirstByte, is_byte}
 use Rattle.st_records.specs.declared.record.Entry.{Entry}
-use Rattle.st_listing.specs.Listing.{continued, entry_lines, line, newline}
+use Rattle.st_marks.specs.declared.mark.Mark.{Mark}
+use Rattle.st_listing.specs.Listing.{continued, entry_lines, line, mark_below, marked_lines, newline}
 use Rattle.st_listing.proofs.ListingLemmas.{lines_of_more}
 
 -- ---- texts of items
@@ -18,6 +19,23 @@ next_text f all items rest sent x e next = e ∙ ap (λ xs. sent ++ flat_map f x
 pub text_moved : {X : Type 0} (f : X → List ℕ) (all items rest : List X) (sent : List ℕ) (x : X) → flat_map f all ≡ sent ++ flat_map f items → items ≡ x ∷ rest
     → flat_map f all ≡ (sent ++ f x) ++ flat_map f rest
 text_moved f all items rest sent x e next = next_text f all items rest sent x e next ∙ sym (append_assoc sent (f x) (flat_map f rest))
+
+-- the same of names with their marks, where the first mark is given and the others are left
+pub marked_next : (front all : List ℕ) (items rest : List (List ℕ)) (marks left : List Mark) (sent name : List ℕ) (given : Option Mark) → all ≡ sent ++ marked_lines front items marks
+    → items ≡ name ∷ rest → given ≡ slice_get marks 0 → left ≡ drop 1 marks
+    → all ≡ sent ++ ((line (front ++ name) ++ mark_below given) ++ marked_lines front rest left)
+marked_next front all items rest marks left sent name given e next is others =
+    e
+    ∙ ap (λ (xs : List (List ℕ)). sent ++ marked_lines front xs marks) next
+    ∙ ap (λ (o : Option Mark). sent ++ ((line (front ++ name) ++ mark_below o) ++ marked_lines front rest (drop 1 marks))) (sym is)
+    ∙ ap (λ (ms : List Mark). sent ++ ((line (front ++ name) ++ mark_below given) ++ marked_lines front rest ms)) (sym others)
+
+pub marked_moved : (front all : List ℕ) (items rest : List (List ℕ)) (marks left : List Mark) (sent name : List ℕ) (given : Option Mark) → all ≡ sent ++ marked_lines front items marks
+    → items ≡ name ∷ rest → given ≡ slice_get marks 0 → left ≡ drop 1 marks
+    → all ≡ (sent ++ (line (front ++ name) ++ mark_below given)) ++ marked_lines front rest left
+marked_moved front all items rest marks left sent name given e next is others =
+    marked_next front all items rest marks left sent name given e next is others
+    ∙ sym (append_assoc sent (line (front ++ name) ++ mark_below given) (marked_lines front rest left))
 
 -- the lines before a place, and those from it on
 pub lines_from : (es : List (List ℕ × Entry)) (place : ℕ) → flat_map entry_lines es ≡ flat_map entry_lines (take place es) ++ flat_map entry_lines (drop place es)

@@ -10,8 +10,9 @@ use Rattle.st_records.specs.declared.record.Entry.{Entry}
 use Rattle.st_file.specs.declared.fault.OpenFault.{OpenFault}
 use Rattle.st_file.specs.declared.fault.OpenFault.TheVariants as open_faults
 use Rattle.st_state.specs.State.{StateMap}
-use Rattle.st_recovery.specs.Recovers.{Recovers, RefusesWith, Outcome, HasOutcome, outcome_of, recovered, refused}
+use Rattle.st_recovery.specs.Recovers.{Outcome, outcome_of, recovered, refused}
 use Rattle.st_listing.specs.Listing.{entry_lines, listing}
+use Rattle.st_listing.specs.Read.{Recovers, RefusesWith, HasOutcome}
 use Rattle.st_listing.specs.Writing.{IsCause, IsOfMachine, LeavesText, LeavesWriter}
 use Rattle.st_listing.specs.declared.listing.ListFault.{ListFault}
 use Rattle.st_listing.specs.declared.listing.ListFault.TheVariants as faults

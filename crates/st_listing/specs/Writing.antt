@@ -5,8 +5,8 @@ use Rattle.st_disk.specs.declared.which.Which.{Which}
 use Rattle.st_file.specs.Side as side_file
 use Rattle.st_file.specs.declared.fault.OpenFault.TheVariants as open_faults
 use Rattle.st_state.specs.State.{StateMap}
-use Rattle.st_recovery.specs.Recovers.{Recovers, RefusesWith}
 use Rattle.st_listing.specs.Listing.{listing}
+use Rattle.st_listing.specs.Read.{Recovers, RefusesWith}
 use Rattle.st_listing.specs.declared.listing.ListFault.{ListFault}
 use Rattle.st_listing.specs.declared.listing.ListFault.TheVariants as faults
 

@@ -2,6 +2,7 @@
 #![tactic(auto)]
 
 mod listing;
+mod marked;
 mod output;
 mod text;
 

@@ -6,16 +6,16 @@ ghost use Rattle.std.specs.Io.KnownBytes.{Appends, Keeps};
 ghost use Rattle.st_state.specs.State.{StateMap};
 ghost use Rattle.st_file.specs.declared.fault.OpenFault.{OpenFault};
 ghost use Rattle.st_file.specs.declared.fault.OpenFault.TheVariants as open_faults;
-ghost use Rattle.st_recovery.specs.Recovers.{Recovers, RefusesWith, PairComesToRecords};
 ghost use Rattle.st_listing.specs.Listing.{listing};
+ghost use Rattle.st_listing.specs.Read.{Recovers, RefusesWith, PairComesToRecords};
 ghost use Rattle.st_listing.specs.Writing.{IsCause, AppendsPart, LeavesText, LeavesWriter, IsOfMachine};
 ghost use Rattle.st_listing.specs.declared.listing.ListFault.TheVariants as faults;
 
 use crate::output::WriteFailed;
 use crate::text::write_lines;
 use st_file::OpenFault;
-use st_records::HashKey;
-use st_recovery::recover;
+use st_records::{Form, HashKey};
+use st_recovery::recover_in;
 use st_state::State;
 use std::alloc::{AllocError, Global};
 use std::io::Write;
@@ -52,7 +52,7 @@ impl From<WriteFailed> for ListFault {
     }
 }
 
-/// Writes the listing of the state that the bytes of the two sides recover. Where names are listed, the bytes are let go
+/// Writes the listing of the state that the bytes of the two sides recover, each of version 1, 2 or 4. Where names are listed, the bytes are let go
 /// first, so that they and the order of the names aren't in memory together.
 pub fn list<W: Write>(
     alloc: Global,
@@ -79,7 +79,7 @@ pub fn list<W: Write>(
     ensures kept { (f : OpenFault) → RefusesWith a.old.items b.old.items f → (a.new ≡ a.old) × (b.new ≡ b.old) }
     ensures kept_empty { (m : StateMap) → Recovers a.old.items b.old.items m → map.len m ≡ 0 → (a.new ≡ a.old) × (b.new ≡ b.old) }
 {
-    match recover(alloc, key, a, b) {
+    match recover_in(alloc, key, Form::Marked, a, b) {
         Ok(state) => {
             let_go(alloc, &state, a, b);
             write_listing(alloc, &state, writer)

@@ -4,13 +4,15 @@ ghost use Rattle.std.specs.Prelude.{◌≡◌, ◌++◌, [], codes, length, OnOk
 ghost use Rattle.std.specs.Io.KnownBytes.{Appends};
 ghost use Rattle.std.specs.Fmt.{decimal};
 ghost use Rattle.std.specs.List.{flat_map};
-ghost use Rattle.st_listing.specs.Listing.{entry_lines, phase_text, command_text, hidden_text, explicit_text, line};
+ghost use Rattle.st_records.specs.Packed.{explicit_from};
+ghost use Rattle.st_listing.specs.Listing.{entry_lines, phase_text, command_text, plain_lines, lines_below, line};
 ghost use Rattle.st_listing.specs.Writing.{AppendsPart, SendsOrPart};
 
+use crate::marked::send_with_marks;
 use crate::output::{WriteFailed, make_room, send_both, send_line, write_text};
 use itoa::Buffer;
 use memchr::memchr;
-use st_records::{Iter, PackedEntry, Phase};
+use st_records::{Iter, Named, PackedEntry, Phase};
 use st_state::Listed;
 use std::io::Write;
 
@@ -97,32 +99,45 @@ fn send_entry<W: Write>(
 ) -> Result<(), WriteFailed>
     ensures { SendsOrPart result (W.contents writer.old) (W.contents writer.new) buffer.old.items buffer.new.items (entry_lines (name.now, entry.now)) }
 {
-    let (commands, hidden, names) = (entry.commands(), entry.hidden(), entry.names());
-    send_lines(
+    send_phase(buffer, writer, name, entry.phase())?;
+    send_below(
         buffer,
         writer,
-        name,
-        entry.phase(),
-        &commands,
-        &hidden,
-        &names,
+        &entry.commands(),
+        &entry.hidden(),
+        entry.lend(),
     )
 }
 
-fn send_lines<W: Write>(
+fn send_below<W: Write>(
     buffer: &mut Vec<u8>,
     writer: &mut W,
-    name: &[u8],
-    phase: Phase,
+    commands: &Iter<'_>,
+    hidden: &Iter<'_>,
+    explicit: Named<'_>,
+) -> Result<(), WriteFailed>
+    ensures { SendsOrPart result (W.contents writer.old) (W.contents writer.new) buffer.old.items buffer.new.items
+        (lines_below commands.now hidden.now (explicit_from explicit.entry)) }
+{
+    match explicit {
+        Named::Unknown => send_plain(buffer, writer, commands, hidden, &Iter::empty()),
+        Named::Known(names) => send_plain(buffer, writer, commands, hidden, &names),
+        Named::Marked(names, marks) => {
+            send_with_marks(buffer, writer, commands, hidden, &names, marks)
+        }
+    }
+}
+
+pub(crate) fn send_plain<W: Write>(
+    buffer: &mut Vec<u8>,
+    writer: &mut W,
     commands: &Iter<'_>,
     hidden: &Iter<'_>,
     names: &Iter<'_>,
 ) -> Result<(), WriteFailed>
     ensures { SendsOrPart result (W.contents writer.old) (W.contents writer.new) buffer.old.items buffer.new.items
-        (line (phase_text name.now phase) ++ flat_map (λ c. line (command_text c)) commands.now ++ flat_map (λ h. line (hidden_text h)) hidden.now
-        ++ flat_map (λ n. line (explicit_text n)) names.now) }
+        (plain_lines commands.now hidden.now names.now) }
 {
-    send_phase(buffer, writer, name, phase)?;
     send_commands(buffer, writer, commands)?;
     send_names(buffer, writer, b"    < ", hidden)?;
     send_names(buffer, writer, b"    : ", names)
@@ -157,7 +172,7 @@ fn send_failed<W: Write>(
     send_line(buffer, writer, b" ", digits.format(status).as_bytes())
 }
 
-fn send_commands<W: Write>(
+pub(crate) fn send_commands<W: Write>(
     buffer: &mut Vec<u8>,
     writer: &mut W,
     commands: &Iter<'_>,

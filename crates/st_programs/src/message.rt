@@ -1,8 +1,9 @@
 //! Faults as the user reads them.
 
 ghost use Rattle.std.specs.Prelude.{◌≡◌, ℕ, List, Some, IfSome};
+ghost use Rattle.st_records.specs.declared.version.Form.{Form};
 ghost use Rattle.st_file.specs.declared.fault.OpenFault.{OpenFault};
-ghost use Rattle.st_file.specs.Side.{IsRefused};
+ghost use Rattle.st_file.specs.Side.{IsRefusedIn};
 ghost use Rattle.st_listing.specs.Writing.{IsOfSide};
 ghost use Rattle.st_listing.specs.declared.listing.ListFault.TheVariants as faults;
 
@@ -34,7 +35,7 @@ fn damaged_side(fault: ListFault) -> Option<Which>
     ensures found { IfSome result (λ side. IsOfSide side fault) }
     ensures only { (side : Which) → IsOfSide side fault → result ≡ Some side }
     // Whatever bytes are refused with the fault, the message names their side.
-    ensures refused { (side : Which) (x : List ℕ) (f : OpenFault) → IsRefused side x f → fault ≡ faults.Open f → result ≡ Some side }
+    ensures refused { (newest : Form) (side : Which) (x : List ℕ) (f : OpenFault) → IsRefusedIn newest side x f → fault ≡ faults.Open f → result ≡ Some side }
 {
     match fault {
         ListFault::Open(fault) => fault.damaged_side(),

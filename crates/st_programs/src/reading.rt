@@ -3,8 +3,8 @@
 use crate::sides::{Reading, settled};
 use st_disk::{FailedCall, FileDisk, SystemFolder};
 use st_file::OpenFault;
-use st_records::HashKey;
-use st_recovery::{recover, recover_from};
+use st_records::{Form, HashKey};
+use st_recovery::{recover_from_in, recover_in};
 use st_state::State;
 
 /// Why there is no state, and the call that failed where one did.
@@ -14,12 +14,12 @@ pub struct Refusal {
     pub failed: Option<FailedCall>,
 }
 
-/// The state that FILE and FILE.2 recover, read block after block. Their files are closed then.
+/// The state that FILE and FILE.2, each of version 1, 2 or 4, recover, read block after block. Their files are closed then.
 pub fn recovered(rt: HostRuntime, key: HashKey, file: &str) -> Result<State, OpenFault> {
     let alloc = rt.alloc();
     let folder = SystemFolder::new(rt, alloc, file)?;
     let mut disk = FileDisk::new(folder);
-    recover_from(alloc, key, &mut disk)
+    recover_from_in(alloc, key, Form::Marked, &mut disk)
 }
 
 /// The same, or, where it is refused or has no names, as both are read whole once they are settled.
@@ -31,7 +31,7 @@ pub fn read_state(rt: HostRuntime, key: HashKey, file: &str) -> Result<State, Re
     }
     let Reading { sides, failed } = settled(rt, key, file);
     let found = match sides {
-        Ok((a, b)) => recover(rt.alloc(), key, &a, &b),
+        Ok((a, b)) => recover_in(rt.alloc(), key, Form::Marked, &a, &b),
         Err(fault) => Err(fault),
     };
     match found {

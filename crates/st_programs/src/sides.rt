@@ -5,8 +5,8 @@ ghost use Rattle.st_file.specs.declared.fault.OpenFault.TheVariants as faults;
 
 use st_disk::{FailedCall, FileDisk, SystemFolder, Which};
 use st_file::{OpenFault, read_whole};
-use st_records::HashKey;
-use st_recovery::recover;
+use st_records::{Form, HashKey};
+use st_recovery::recover_in;
 use std::alloc::Global;
 use std::thread;
 use std::time::Duration;
@@ -75,7 +75,7 @@ pub fn settled(rt: HostRuntime, key: HashKey, file: &str) -> Reading {
 // A reading that falls between two writes of a run may be refused, or find neither side's records.
 fn is_doubtful(alloc: Global, key: HashKey, sides: &Sides) -> bool {
     match sides {
-        Ok((a, b)) => match recover(alloc, key, a, b) {
+        Ok((a, b)) => match recover_in(alloc, key, Form::Marked, a, b) {
             Ok(_) => is_void(a) && is_void(b),
             Err(fault) => fault != OpenFault::OutOfMemory,
         },

@@ -1,8 +1,10 @@
-//! A folder in memory, whose times and texts are told as they stand.
-ghost use Rattle.std.specs.Prelude.{◌≡◌, ℕ, List, [], None, find, bytes_eq, option_map, option_copied, refl};
+//! A folder in memory, whose files and texts are told as they stand.
+ghost use Rattle.std.specs.Prelude.{◌≡◌, ℕ, List, [], None, find, bytes_eq, length, option_map, option_copied, refl};
+ghost use Rattle.worker_tests.specs.Looks.{look_at};
 
 use byte_strings::ByteStrings;
 use mk_eval::Includes;
+use mk_nodes::FileLook;
 use mk_profile::Profile;
 use mk_reader::Statement;
 use mk_rules::{Tree, TreeFault};
@@ -42,20 +44,30 @@ fn text_of(files: &'static [File], name: &[u8]) -> Option<&'static [u8]>
     }
 }
 
+/// A look at a file of this time and text.
+fn look_at(time: i128, text: &'static str) -> FileLook
+    ensures { result ≡ look_at time (length text.now) }
+{
+    FileLook {
+        time,
+        size: Some((text.len() % (1 << 32)) as u32),
+    }
+}
+
 impl Tree for Folder {
-    ghost allows = { λ folder times. (name : List ℕ)
-        → times name ≡ option_map (λ file. file.1) (find (λ file. bytes_eq file.0.now name) folder.files.now) };
+    ghost allows = { λ folder looks. (name : List ℕ)
+        → looks name ≡ option_map (λ file. look_at file.1 (length file.2.now)) (find (λ file. bytes_eq file.0.now name) folder.files.now) };
 
     ghost refuses = { λ _ _. ⊥ };
 
-    fn stamp(&mut self, _alloc: Global, name: &[u8]) -> Result<Option<i128>, TreeFault> {
+    fn stamp(&mut self, _alloc: Global, name: &[u8]) -> Result<Option<FileLook>, TreeFault> {
         match find_file(self.files, name) {
-            Some(file) => Ok(Some(file.1)),
+            Some(file) => Ok(Some(look_at(file.1, file.2))),
             None => Ok(None),
         }
     }
 
-    fn first_stamp(&mut self, alloc: Global, name: &[u8]) -> Result<Option<i128>, TreeFault> {
+    fn first_stamp(&mut self, alloc: Global, name: &[u8]) -> Result<Option<FileLook>, TreeFault> {
         self.stamp(alloc, name)
     }
 
@@ -64,7 +76,7 @@ impl Tree for Folder {
     }
 
     ghost possible = { λ folder. (
-      λ name. option_map (λ file. file.1) (find (λ file. bytes_eq file.0.now name) folder.files.now),
+      λ name. option_map (λ file. look_at file.1 (length file.2.now)) (find (λ file. bytes_eq file.0.now name) folder.files.now),
       λ name. refl,
     ) };
 }

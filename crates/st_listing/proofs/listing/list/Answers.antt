@@ -4,7 +4,8 @@ use Rattle.std.specs.Io.KnownBytes.{Appends}
 use Rattle.st_state.specs.State.{StateMap}
 use Rattle.st_listing.specs.Listing.{listing}
 use Rattle.st_listing.proofs.ListingLemmas.{one_state, not_refused, fault_of_machine, same_refusal, cause_of, cause_of_machine, joined, met_before, at_fault, leaves_of_state}
-use Rattle.st_recovery.proofs.MemoryLemmas.{comes_of_state}
+use Rattle.st_records.specs.declared.version.Form.TheVariants.{Marked}
+use Rattle.st_recovery.proofs.MemoryLemmas.{comes_of_state_in}
 use Rattle.st_listing.proofs.listing.list.Goals as goal
 
 pub returns-in-Ok-clause-listed : goal.returns-in-Ok-clause-listed
@@ -51,7 +52,7 @@ returns-in-Err-clause-found g c = cause_of c.args.a.now.items c.args.b.now.items
 
 pub returns-in-Ok-clause-memory : goal.returns-in-Ok-clause-memory
 returns-in-Ok-clause-memory g c =
-    λ e. comes_of_state c.args.a.now.items c.args.b.now.items c.in-Ok.state (rw (c.deref.ensures.value, c.deref-2.ensures.value) at c.in-Ok.ensures.found) (c.write_listing.ensures.memory e)
+    λ e. comes_of_state_in Marked c.args.a.now.items c.args.b.now.items c.in-Ok.state (rw (c.deref.ensures.value, c.deref-2.ensures.value) at c.in-Ok.ensures.found) (c.write_listing.ensures.memory e)
 
 pub returns-in-Err-clause-memory : goal.returns-in-Err-clause-memory
 returns-in-Err-clause-memory g c = λ e. rw (c.deref.ensures.value, c.deref-2.ensures.value) at c.in-Err.ensures.memory (met_before _ c.in-Err.fault _ e)
