@@ -1,7 +1,8 @@
 -- In which order implicit rules are tried.
-use Rattle.std.specs.Prelude.{ℕ, ◌+◌, nat_lt, Bool, false, not, ◌&&◌, ◌||◌, List, [], ◌∷◌, ◌++◌, length, filter, slice_get, unwrap_or, codes, bytes_eq, if◌then◌else◌}
+use Rattle.std.specs.Prelude.{ℕ, ◌+◌, nat_lt, Bool, false, not, ◌&&◌, ◌||◌, List, [], ◌∷◌, ◌++◌, length, filter, slice_get, unwrap_or, is_some, codes, bytes_eq, if◌then◌else◌}
 use Rattle.std.specs.List.{insert, list_any, position}
 use Rattle.std.specs.Option.{option_map_or}
+use Rattle.mk_macros.specs.Words.{without_end}
 use Rattle.mk_profile.specs.Profile.{is_wide}
 use Rattle.mk_rule_lines.specs.declared.form.Form.{Form}
 use Rattle.mk_rule_lines.specs.declared.rule_line.RuleLine.{RuleLine}
@@ -41,9 +42,16 @@ own_of lines forms = filter (is_own lines) forms
 abbrev pub built_in_of : List RuleLine → (forms : List Form) → List Form
 built_in_of lines forms = filter (λ form. not (is_own lines form)) forms
 
--- the makefile has a rule of its own that makes C files
-abbrev pub makes_c : List RuleLine → (listed : List Form) → Bool
-makes_c lines listed = list_any (λ form. is_own lines form && bytes_eq form.after (codes ".c")) listed
+abbrev pub ends_in_c : List ℕ → Bool
+ends_in_c bytes = is_some (without_end (codes ".c") bytes)
+
+-- a rule that makes C files, or objects of C files
+abbrev pub goes_through_c : Form → Bool
+goes_through_c form = bytes_eq form.after (codes ".c") || (bytes_eq form.after (codes ".o") && list_any ends_in_c form.prerequisites)
+
+-- the makefile has such a rule of its own
+abbrev pub has_own_through_c : List RuleLine → (listed : List Form) → Bool
+has_own_through_c lines listed = list_any (λ form. is_own lines form && goes_through_c form) listed
 
 -- a built-in rule that makes an object of a source for yacc or lex, by way of a C file that is gone behind it (POSIX make, "Default Rules").
 -- GNU make has none: there it is a chain
@@ -52,9 +60,9 @@ goes_by_c lines form =
     not (is_own lines form)
     && (bytes_eq form.after (codes ".o") && list_any (λ pattern. bytes_eq pattern (codes "%.y") || bytes_eq pattern (codes "%.l")) form.prerequisites)
 
--- the forms that count: where the makefile makes C files by rules of its own, these built-in rules yield to chains of them
+-- the forms that count: where the makefile has a rule of its own for a step of theirs, these built-in rules yield to the chain with it
 abbrev pub standing : List RuleLine → (listed : List Form) → List Form
-standing lines listed = if makes_c lines listed then filter (λ form. not (goes_by_c lines form)) listed else listed
+standing lines listed = if has_own_through_c lines listed then filter (λ form. not (goes_by_c lines form)) listed else listed
 
 -- the makefile's own forms before those of built-in rules, and among each the shortest stem first
 abbrev pub own_first : List RuleLine → (listed : List Form) → List Form

@@ -2,7 +2,7 @@
 ghost use Rattle.std.specs.Prelude.{◌≡◌, ◌<◌, ◌||◌, length, bytes_eq, codes, IfOk, OnOk, IfSome};
 ghost use Rattle.std.specs.List.{list_any, position};
 ghost use Rattle.mk_profile.specs.Profile.{is_wide};
-ghost use Rattle.mk_rule_lines.specs.Order.{beside_stem, has_longer_stem, with_form, is_own, makes_c, goes_by_c, standing, own_first, in_order_of};
+ghost use Rattle.mk_rule_lines.specs.Order.{beside_stem, has_longer_stem, with_form, is_own, ends_in_c, goes_through_c, has_own_through_c, goes_by_c, standing, own_first, in_order_of};
 
 use crate::form::Form;
 use crate::rule_line::RuleLine;
@@ -65,13 +65,34 @@ fn is_own(lines: &[RuleLine], form: &Form) -> bool
     }
 }
 
-/// Whether the makefile has a rule of its own that makes C files.
-fn makes_c(lines: &[RuleLine], listed: &[Form]) -> bool
-    ensures { result ≡ makes_c lines.now listed.now }
+fn ends_in_c(bytes: &[u8]) -> bool
+    ensures { result ≡ ends_in_c bytes.now }
+{
+    bytes.strip_suffix(C).is_some()
+}
+
+/// Whether some of these patterns is that of a C file.
+fn has_c_file(patterns: &ByteStrings) -> bool
+    ensures { result ≡ list_any ends_in_c patterns.now }
+{
+    patterns.iter().any(|pattern| ends_in_c(pattern))
+}
+
+/// Whether a rule makes C files, or objects of C files.
+fn goes_through_c(form: &Form) -> bool
+    ensures { result ≡ goes_through_c form.now }
+{
+    let after = form.after.as_slice();
+    after == C || (after == OBJECT && has_c_file(&form.prerequisites))
+}
+
+/// Whether the makefile has such a rule of its own.
+fn has_own_through_c(lines: &[RuleLine], listed: &[Form]) -> bool
+    ensures { result ≡ has_own_through_c lines.now listed.now }
 {
     listed
         .iter()
-        .any(|form| is_own(lines, form) && form.after.as_slice() == C)
+        .any(|form| is_own(lines, form) && goes_through_c(form))
 }
 
 /// Whether some of these patterns is that of a source for yacc or lex.
@@ -90,11 +111,11 @@ fn goes_by_c(lines: &[RuleLine], form: &Form) -> bool
     !is_own(lines, form) && form.after.as_slice() == OBJECT && has_grammar(&form.prerequisites)
 }
 
-/// Takes out the forms that yield to chains of the makefile's own rules.
+/// Takes out the forms that yield to chains with the makefile's own rules.
 fn take_out_yielding(lines: &[RuleLine], listed: &mut Vec<Form>)
     ensures { listed.new.items ≡ standing lines.now listed.old.items }
 {
-    if makes_c(lines, listed) {
+    if has_own_through_c(lines, listed) {
         listed.retain(|form| !goes_by_c(lines, form));
     }
 }
