@@ -1,4 +1,7 @@
 //! The words of the command line, read by `clap`.
+ghost use Rattle.std.specs.Prelude.{◌≡◌, false, IfOk};
+ghost use Rattle.dmk_reading.specs.Asked.{AsksToRun};
+
 use crate::arguments::{find, refusal};
 use crate::definition::definition_in;
 use crate::environment::read_environment;
@@ -64,7 +67,10 @@ pub fn read_words(rt: HostRuntime, processors: u16) -> Result<Request, WordsFaul
     let above = workers_by(alloc, makeflags, processors, MAX_WORKERS)?;
     let found = find(alloc, count.as_str(), ArgAction::Append, &words);
     match answered(rt, found, above) {
-        Ok(asked) => checked(Ok(run_by(program, asked)), makeflags),
+        Ok(asked) => {
+            let level = level_in(&environment);
+            checked(Ok(run_by(program, level, asked)), makeflags)
+        }
         Err(fault) => {
             drop(program);
             Err(fault)
@@ -85,12 +91,19 @@ fn program_of(
     started_by(rt, word.as_str(), folders)
 }
 
-/// What is asked for, of this program.
-fn run_by(program: Option<Vec<u8>>, asked: Request) -> Request {
+/// How many makes are above, as MAKELEVEL says.
+fn level_in(environment: &[Variable]) -> u32 {
+    let text = str::from_utf8(value_of(environment, b"MAKELEVEL")).unwrap_or("");
+    text.parse::<u32>().unwrap_or(0)
+}
+
+/// What is asked for, of this program, with so many makes above.
+fn run_by(program: Option<Vec<u8>>, level: u32, asked: Request) -> Request {
     match asked {
         Request::Make(asked) => {
             let mut asked = asked;
             asked.program = program;
+            asked.later.level = level;
             Request::Make(asked)
         }
         Request::Leave(status) => {
@@ -121,7 +134,10 @@ fn trust_fault(asked: &Result<Request, WordsFault>, makeflags: &[u8]) -> Option<
     }
 }
 
-fn check_trust(options: &Options, makeflags: &[u8]) -> Result<(), WordsFault> {
+fn check_trust(options: &Options, makeflags: &[u8]) -> Result<(), WordsFault>
+    ensures runs { IfOk result (λ _. AsksToRun options.now makeflags.now) }
+    ensures judges { IfOk result (λ _. options.now.makes_all ≡ false) }
+{
     if !options.language(makeflags).is_wide() {
         return Err(WordsFault::TrustInStrict);
     }
@@ -345,6 +361,8 @@ fn asked_of(alloc: Global, found: &ArgMatches<'_>, above: Above) -> Result<Asked
             trusts_files: found.contains_id("trusts_files"),
             has_jobs: named.is_some() || above.is_said,
             hides_folder: found.contains_id("untold"),
+            tells_folder: found.contains_id("told") && !found.contains_id("untold"),
+            level: 0,
         },
         options,
     })

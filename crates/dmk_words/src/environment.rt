@@ -1,4 +1,9 @@
 //! The variables of the environment, as bytes.
+ghost use Rattle.std.specs.Prelude.{◌≡◌, true, false, codes, IfOk};
+ghost use Rattle.mk_profile.specs.Profile.{is_wide};
+ghost use Rattle.dmk_reading.specs.Asked.{AsksForLanguage};
+ghost use Rattle.dmk_reading.specs.Keeping.{value_in};
+
 use crate::flags::flags_seen;
 use crate::request::Later;
 use bd_lists::Variable;
@@ -65,6 +70,12 @@ fn is_given(name: &[u8]) -> bool {
     name != b"CURDIR".as_slice() && name != b"MAKEFLAGS".as_slice() && name != b"SHELL".as_slice()
 }
 
+fn has_variable(environment: &[Variable], name: &[u8]) -> bool {
+    environment
+        .iter()
+        .any(|variable| variable.name.as_slice() == name)
+}
+
 /// How many of the variables that macros see count as definitions where the environment's do: in the wide language those before
 /// MAKEFLAGS.
 pub(crate) fn given_in(profile: Profile, environment: &[Variable]) -> usize {
@@ -91,23 +102,25 @@ fn push(
 }
 
 /// The variables in this language: in the wide one CURDIR is the folder that is worked in, whatever the environment says of it (POSIX
-/// make, "Macros"), and SHELL isn't taken, with -e neither. Behind them stand MAKEFLAGS as it came, and MAKE, unless the environment
-/// has one. They aren't handed to recipes. What the folder or the program has no name for isn't there.
+/// make, "Macros"), and SHELL isn't taken, with -e neither. Behind them stand MAKEFLAGS as it came, and MAKELEVEL, which is 0, and MAKE,
+/// unless the environment has them. They aren't handed to recipes. What the folder or the program has no name for isn't there.
 fn with_own(
     rt: HostRuntime,
     profile: Profile,
     program: Option<&[u8]>,
     environment: Vec<Variable>,
-) -> Result<Vec<Variable>, AllocError> {
+) -> Result<Vec<Variable>, AllocError>
+    ensures strict { is_wide profile ≡ false → IfOk result (λ variables. variables ≡ environment) }
+{
     if !profile.is_wide() {
         return Ok(environment);
     }
     let alloc = rt.alloc();
     let flags = Vec::from_slice(alloc, value_of(&environment, b"MAKEFLAGS"))?;
     let mut variables = Vec::with_capacity(alloc, environment.len())?;
-    let mut has_make = false;
+    let has_make = has_variable(&environment, b"MAKE");
+    let has_level = has_variable(&environment, b"MAKELEVEL");
     for variable in environment {
-        has_make = has_make || variable.name.as_slice() == b"MAKE".as_slice();
         if is_given(variable.name.as_slice()) {
             variables.push(variable)?;
         }
@@ -116,6 +129,9 @@ fn with_own(
         push(alloc, &mut variables, b"CURDIR", folder.as_str().as_bytes())?;
     }
     push(alloc, &mut variables, b"MAKEFLAGS", &flags)?;
+    if !has_level {
+        push(alloc, &mut variables, b"MAKELEVEL", b"0")?;
+    }
     match program {
         Some(program) if !has_make => push(alloc, &mut variables, b"MAKE", program)?,
         _ => {}
@@ -142,7 +158,9 @@ pub fn with_flags_seen(
     options: &Options,
     later: Later,
     environment: Vec<Variable>,
-) -> Result<Vec<Variable>, AllocError> {
+) -> Result<Vec<Variable>, AllocError>
+    ensures strict { is_wide options.now.profile ≡ false → IfOk result (λ variables. variables ≡ environment) }
+{
     let before = later.definitions_before(options.profile, &environment);
     let Some(text) = flags_seen(alloc, options, later, before)? else {
         return Ok(environment);
@@ -164,7 +182,11 @@ pub fn with_environment(
     later: Later,
     options: Options,
     environment: &[Variable],
-) -> Result<Options, AllocError> {
+) -> Result<Options, AllocError>
+    ensures language { IfOk result (λ asked. AsksForLanguage options (value_in environment.now (codes "MAKEFLAGS")) asked.profile) }
+    ensures state { later.names_state ≡ true → IfOk result (λ asked. asked.state ≡ options.state) }
+    ensures definitions { later.environment_counts ≡ false → IfOk result (λ asked. asked.definitions ≡ options.definitions) }
+{
     let mut options = options;
     options.profile = options.language(value_of(environment, b"MAKEFLAGS"));
     if !later.names_state {

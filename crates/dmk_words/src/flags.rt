@@ -1,5 +1,8 @@
 //! What MAKEFLAGS says of options and definitions, and what makes below are told of them. Only in the wide profile.
 
+ghost use Rattle.std.specs.Prelude.{◌≡◌, false, None, IfOk};
+ghost use Rattle.mk_profile.specs.Profile.{is_wide};
+
 use crate::request::Later;
 use bd_lists::Variable;
 use byte_strings::ByteStrings;
@@ -53,21 +56,18 @@ pub fn taken_words(alloc: Global, makeflags: &[u8]) -> Result<ByteStrings, Alloc
 }
 
 /// The letters of options that makes below are told.
-fn option_word(
-    alloc: Global,
-    options: &Options,
-    environment_counts: bool,
-) -> Result<Vec<u8>, AllocError> {
+fn option_word(alloc: Global, options: &Options, later: Later) -> Result<Vec<u8>, AllocError> {
     let mut word = Vec::new(alloc);
     for (is_set, letter) in [
         (options.makes_all, b'B'),
-        (environment_counts, b'e'),
+        (later.environment_counts, b'e'),
         (options.ignores_statuses, b'i'),
         (options.goes_on, b'k'),
         (options.is_dry && !options.asks, b'n'),
         (options.asks, b'q'),
         (options.makefiles.without_rules, b'r'),
         (options.is_silent, b's'),
+        (later.tells_folder, b'w'),
     ] {
         if is_set {
             if word.is_empty() {
@@ -81,7 +81,7 @@ fn option_word(
 
 /// The options that makes below are told: a word of letters, and a long one behind it (GNU make).
 fn option_words(alloc: Global, options: &Options, later: Later) -> Result<Vec<u8>, AllocError> {
-    let mut words = option_word(alloc, options, later.environment_counts)?;
+    let mut words = option_word(alloc, options, later)?;
     if later.hides_folder {
         words.push(b' ')?;
         words.extend_from_slice(HIDES_FOLDER)?;
@@ -133,16 +133,21 @@ pub fn handed_on(
     later: Later,
     before: usize,
     makeflags: &[u8],
-) -> Result<Option<Handed>, AllocError> {
+) -> Result<Option<Handed>, AllocError>
+    ensures strict { is_wide options.now.profile ≡ false → IfOk result (λ handed. handed ≡ None) }
+{
     if !options.profile.is_wide() {
         return Ok(None);
     }
     let definitions = definitions_behind(options, before);
+    let below = later.level.saturating_add(1);
+    let level = format!(in alloc; "{below}")?;
     Ok(Some(Handed {
         options: option_words(alloc, options, later)?,
         slots: shared_slots(alloc, options.workers, makeflags)?,
         alone: own_slot(alloc, later.has_jobs)?,
         definitions: definition_words(alloc, definitions)?,
+        level: Vec::from_slice(alloc, level.as_bytes())?,
     }))
 }
 
@@ -167,7 +172,9 @@ pub fn flags_seen(
     options: &Options,
     later: Later,
     before: usize,
-) -> Result<Option<Vec<u8>>, AllocError> {
+) -> Result<Option<Vec<u8>>, AllocError>
+    ensures strict { is_wide options.now.profile ≡ false → IfOk result (λ flags. flags ≡ None) }
+{
     if !options.profile.is_wide() {
         return Ok(None);
     }

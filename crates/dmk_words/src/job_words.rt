@@ -1,11 +1,16 @@
 //! Options whose value may be left out, where another word stands behind them: the number of a -j is that of the processors.
+ghost use Rattle.std.specs.Prelude.{◌≤◌};
+
 use crate::option_table::HELD;
 use dmk_reading::MAX_WORKERS;
 use std::alloc::{AllocError, Global};
 use std::thread::{self, Threads};
 
 /// How many recipes run at once where -j has no number: as many as there are processors.
-pub fn processors<R: Threads>(rt: &R) -> u16 {
+pub fn processors<R: Threads>(rt: &R) -> u16
+    ensures one { 1 ≤ result }
+    ensures most { result ≤ 256 }
+{
     match thread::available_parallelism(rt) {
         Ok(found) => match u16::try_from(found.get()) {
             Ok(processors) => processors.min(MAX_WORKERS),

@@ -50,7 +50,7 @@ const TELLING: &str = "What is told";
 /// GNU make's word for how what recipes write is held together here.
 pub const HELD: &str = "target";
 
-static OPTIONS: [Row; 32] = [
+static OPTIONS: [Row; 33] = [
     Row {
         id: "folders",
         letter: Some('C'),
@@ -206,8 +206,15 @@ static OPTIONS: [Row; 32] = [
         id: "silent",
         letter: Some('s'),
         words: &["silent", "quiet"],
-        takes: Takes::Nothing,
+        takes: Takes::NothingAfter("loud"),
         role: Role::Told(TELLING, "Don't print lines before they\nare run"),
+    },
+    Row {
+        id: "loud",
+        letter: None,
+        words: &["no-silent"],
+        takes: Takes::NothingAfter("silent"),
+        role: Role::Told(TELLING, "Print them, as without -s; the last one counts"),
     },
     Row {
         id: "told",

@@ -1,5 +1,5 @@
 //! What the words of the command line ask for, or why they aren't followed.
-ghost use Rattle.std.specs.Prelude.{◌≡◌};
+ghost use Rattle.std.specs.Prelude.{◌≡◌, false};
 
 use crate::environment::given_in;
 use bd_lists::Variable;
@@ -38,6 +38,10 @@ pub struct Later {
     pub has_jobs: bool,
     /// The words or MAKEFLAGS say that no folder is told.
     pub hides_folder: bool,
+    /// They say that it is.
+    pub tells_folder: bool,
+    /// How many makes are above this one.
+    pub level: u32,
 }
 
 /// What the words ask for.
@@ -80,7 +84,9 @@ pub enum WordsFault {
 
 impl Later {
     /// How many definitions stand before those of the command line.
-    pub fn definitions_before(self, profile: Profile, environment: &[Variable]) -> usize {
+    pub fn definitions_before(self, profile: Profile, environment: &[Variable]) -> usize
+        ensures none { self.environment_counts ≡ false → result ≡ 0 }
+    {
         if self.environment_counts {
             given_in(profile, environment)
         } else {

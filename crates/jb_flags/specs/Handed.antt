@@ -44,7 +44,15 @@ slot_words handed env = option_map_or (λ v. own_slot_words handed v.value) (fin
 abbrev pub makeflags : Handed → List Variable → List ℕ
 makeflags handed env = handed.options.items ++ slot_words handed env ++ handed.definitions.items
 
+-- what makes below are told: MAKEFLAGS, how many makes are above them (GNU make, MAKELEVEL), and the profile
+abbrev pub handed_variables : Handed → List Variable → List Variable
+handed_variables handed env =
+    variable (codes "MAKEFLAGS") (makeflags handed env)
+    ∷ variable (codes "MAKELEVEL") handed.level.items
+    ∷ variable (codes "DMK_PROFILE") (codes "posix")
+    ∷ []
+
 -- a recipe's variables with what makes below are told, where something is: of two of one name the later counts
 abbrev pub with_handed : Option Handed → List Variable → List Variable
 with_handed None env = env
-with_handed (Some handed) env = env ++ variable (codes "MAKEFLAGS") (makeflags handed env) ∷ variable (codes "DMK_PROFILE") (codes "posix") ∷ []
+with_handed (Some handed) env = env ++ handed_variables handed env

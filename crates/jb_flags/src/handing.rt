@@ -15,6 +15,9 @@ pub const PROFILE: (&[u8], &[u8]) = (b"DMK_PROFILE", b"posix");
 
 const MAKEFLAGS: &[u8] = b"MAKEFLAGS";
 
+/// The variable that tells makes below how many are above them (GNU make).
+const LEVEL: &[u8] = b"MAKELEVEL";
+
 /// What is handed on.
 #[derive(Drop)]
 pub struct Handed {
@@ -26,6 +29,8 @@ pub struct Handed {
     pub alone: Vec<u8>,
     /// The definitions, behind `--`.
     pub definitions: Vec<u8>,
+    /// How many makes are above those below.
+    pub level: Vec<u8>,
 }
 
 fn push_definition(text: &mut Vec<u8>, variable: &Variable) -> Result<(), AllocError>
@@ -128,6 +133,7 @@ impl Handed {
         }
         let flags = self.makeflags(alloc, env)?;
         all.push(variable(alloc, MAKEFLAGS, &flags)?)?;
+        all.push(variable(alloc, LEVEL, &self.level)?)?;
         all.push(variable(alloc, PROFILE.0, PROFILE.1)?)?;
         Ok(all)
     }
