@@ -6,6 +6,7 @@ ghost use Rattle.mk_notes.specs.Leading.{goes_on, bracketed, single, referred_be
 use crate::built_in::{behind_prefixes, len_before};
 use crate::references::closing;
 use byte_strings::first_word;
+use std::alloc::{AllocError, Global};
 
 fn goes_on(byte: u8) -> bool
     ensures { result ≡ goes_on byte }
@@ -107,4 +108,22 @@ pub(crate) fn head(text: &[u8]) -> &[u8] {
     }
     let len = text.len().saturating_sub(rest.len());
     text.get(..len.saturating_add(word.len())).unwrap_or(text)
+}
+
+/// The reference to the macro as it would be if its words weren't changed.
+pub(crate) fn unchanged_reference(
+    alloc: Global,
+    reference: &[u8],
+    name: &[u8],
+) -> Result<Vec<u8>, AllocError> {
+    let mut plain = Vec::new(alloc);
+    if let [dollar, opening, ..] = reference {
+        plain.push(*dollar)?;
+        plain.push(*opening)?;
+    }
+    plain.extend_from_slice(name)?;
+    if let Some(closing) = reference.last() {
+        plain.push(*closing)?;
+    }
+    Ok(plain)
 }

@@ -1,6 +1,6 @@
 //! What recipe lines of the strict profile begin with, and what that comes to.
 use crate::built_in::{behind_prefixes, is_prefix, unchanged};
-use crate::front::{front, head, referred};
+use crate::front::{front, head, referred, unchanged_reference};
 use crate::note::{Note, Subject};
 use byte_strings::{ByteString, Words, trim_start};
 use mk_macros::{Dynamic, MacroFault, Macros, Rank, RecipeNames};
@@ -23,6 +23,8 @@ struct Line {
     file: ByteString,
     number: usize,
     front: ByteString,
+    /// The targets of its rule, as they are spelled, where it may matter which they are: where words are changed.
+    targets: ByteString,
 }
 
 /// What stands behind the include line whose file is read.
@@ -86,10 +88,15 @@ fn told(name: &[u8]) -> &[u8] {
     if name.is_empty() { b"$()" } else { name }
 }
 
-/// What a text comes to in a recipe; None where it has no expansion.
-fn value_of(alloc: Global, macros: &Macros, text: &[u8]) -> Result<Option<Vec<u8>>, AllocError> {
+/// What a text comes to in a recipe of the target; None where it has no expansion.
+fn value_of(
+    alloc: Global,
+    macros: &Macros,
+    text: &[u8],
+    target: &[u8],
+) -> Result<Option<Vec<u8>>, AllocError> {
     let names = RecipeNames {
-        target: SOMETHING,
+        target,
         source: SOMETHING,
         stem: SOMETHING,
         newer: &[SOMETHING],
@@ -174,28 +181,34 @@ impl Fronts {
         self.advance()
     }
 
-    fn has(&self, front: &[u8]) -> bool {
-        self.lines
-            .iter()
-            .rev()
-            .take(COMPARED)
-            .any(|line| line.front.as_slice() == front)
+    fn has(&self, front: &[u8], targets: &[u8]) -> bool {
+        self.lines.iter().rev().take(COMPARED).any(|line| line.front.as_slice() == front
+            && line.targets.as_slice() == targets)
     }
 
-    /// Keeps a recipe line that begins with a reference.
-    pub fn see_line(&mut self, file: &[u8], number: usize, text: &[u8]) -> Result<(), AllocError> {
+    /// Keeps a recipe line, of a rule of these targets, that begins with a reference.
+    pub fn see_line(
+        &mut self,
+        file: &[u8],
+        number: usize,
+        targets: &[u8],
+        text: &[u8],
+    ) -> Result<(), AllocError> {
         let Some(front) = front(text) else {
             return Ok(());
         };
-        if self.has(front) {
+        let targets = if front.contains(&b'=') { targets } else { b"" };
+        if self.has(front, targets) {
             return Ok(());
         }
         let file = ByteString::from_slice(self.alloc, file)?;
         let front = ByteString::from_slice(self.alloc, front)?;
+        let targets = ByteString::from_slice(self.alloc, targets)?;
         self.lines.push(Line {
             file,
             number,
             front,
+            targets,
         })?;
         Ok(())
     }
@@ -204,34 +217,9 @@ impl Fronts {
         self.lines = Vec::new(self.alloc);
     }
 
-    /// The text of the macro in place of the reference that a text begins with, which has this in its brackets; None where it has no
-    /// expansion. One whose words are changed gives way to what stands behind it, unless it comes to more than prefixes.
-    fn followed(
-        &self,
-        text: &[u8],
-        inside: &[u8],
-        rest: &[u8],
-    ) -> Result<Option<Vec<u8>>, AllocError> {
-        let alloc = self.alloc;
-        let (whole, _rest) = text.split_at(text.len().saturating_sub(rest.len()));
-        if unchanged(inside).len() == inside.len() {
-            let Some(mut followed) = value_of(alloc, &self.texts, whole)? else {
-                return Ok(None);
-            };
-            followed.extend_from_slice(rest)?;
-            return Ok(Some(followed));
-        }
-        match value_of(alloc, &self.values, whole)? {
-            Some(value) if behind_prefixes(&value).is_empty() => {
-                Ok(Some(Vec::from_slice(alloc, rest)?))
-            }
-            _ => Ok(None),
-        }
-    }
-
     /// The prefix that a text has in front once it is expanded.
     fn prefix_of(&self, text: &[u8]) -> Result<Option<u8>, AllocError> {
-        let Some(value) = value_of(self.alloc, &self.values, text)? else {
+        let Some(value) = value_of(self.alloc, &self.values, text, SOMETHING)? else {
             return Ok(None);
         };
         match trim_start(&value).first() {
@@ -240,29 +228,88 @@ impl Fronts {
         }
     }
 
-    /// The macro that is defined nowhere and comes first, behind prefixes and blanks, in what a line comes to, and the prefix behind it.
-    fn leading(&self, front: &[u8]) -> Result<Option<(ByteString, u8)>, AllocError> {
+    /// Whether a reference comes to no more than prefixes where the target is this one.
+    fn is_nothing_for(&self, reference: &[u8], target: &[u8]) -> Result<bool, AllocError> {
+        match value_of(self.alloc, &self.values, reference, target)? {
+            Some(value) => Ok(behind_prefixes(&value).is_empty()),
+            None => Ok(false),
+        }
+    }
+
+    /// Whether it does for some target, or for one of these.
+    fn is_nothing(&self, reference: &[u8], targets: &[u8]) -> Result<bool, AllocError> {
+        if self.is_nothing_for(reference, SOMETHING)? {
+            return Ok(true);
+        }
+        for target in Words::new(targets).take(MAX_FOLLOWED) {
+            if self.is_nothing_for(reference, target)? {
+                return Ok(true);
+            }
+        }
+        Ok(false)
+    }
+
+    /// Adds to what is to be followed the text of a macro in place of the reference to it, unless that has no expansion.
+    fn follow_text(
+        &self,
+        reference: &[u8],
+        rest: &[u8],
+        texts: &mut Vec<Vec<u8>>,
+    ) -> Result<(), AllocError> {
+        if let Some(mut text) = value_of(self.alloc, &self.texts, reference, SOMETHING)? {
+            text.extend_from_slice(rest)?;
+            texts.push(text)?;
+        }
+        Ok(())
+    }
+
+    /// So where its words are changed: what stands behind it, where it comes to nothing, and first the text of its macro, where what all
+    /// comes to begins with a prefix.
+    fn follow_changed(
+        &self,
+        start: &[u8],
+        reference: &[u8],
+        name: &[u8],
+        targets: &[u8],
+        texts: &mut Vec<Vec<u8>>,
+    ) -> Result<(), AllocError> {
         let alloc = self.alloc;
-        let mut text = Vec::from_slice(alloc, front)?;
+        let (_reference, rest) = start.split_at(reference.len().min(start.len()));
+        if self.is_nothing(reference, targets)? {
+            texts.push(Vec::from_slice(alloc, rest)?)?;
+        }
+        if is_dynamic(name) || self.prefix_of(start)?.is_none() {
+            return Ok(());
+        }
+        let plain = unchanged_reference(alloc, reference, name)?;
+        self.follow_text(&plain, rest, texts)
+    }
+
+    /// The macro that is defined nowhere and comes first, behind prefixes and blanks, in what a line comes to, and the prefix behind it.
+    fn leading(&self, line: &Line) -> Result<Option<(ByteString, u8)>, AllocError> {
+        let alloc = self.alloc;
+        let mut texts = Vec::new(alloc);
+        texts.push(Vec::from_slice(alloc, line.front.as_slice())?)?;
         for _ in 0..MAX_FOLLOWED {
-            let start = behind_prefixes(&text);
-            let Some((inside, rest)) = referred(start) else {
+            let Some(text) = texts.pop() else {
                 break;
             };
+            let start = behind_prefixes(&text);
+            let Some((inside, rest)) = referred(start) else {
+                continue;
+            };
+            let (reference, _rest) = start.split_at(start.len().saturating_sub(rest.len()));
             let name = unchanged(inside);
-            if is_dynamic(name) {
-                break;
-            }
-            if !self.values.is_defined(name) {
-                let Some(prefix) = self.prefix_of(rest)? else {
-                    break;
-                };
-                let name = ByteString::from_slice(alloc, told(name))?;
-                return Ok(Some((name, prefix)));
-            }
-            match self.followed(start, inside, rest)? {
-                Some(followed) => text = followed,
-                None => break,
+            if !is_dynamic(name) && !self.values.is_defined(name) {
+                if let Some(prefix) = self.prefix_of(rest)? {
+                    let name = ByteString::from_slice(alloc, told(name))?;
+                    return Ok(Some((name, prefix)));
+                }
+            } else if name.len() < inside.len() {
+                let targets = line.targets.as_slice();
+                self.follow_changed(start, reference, name, targets, &mut texts)?;
+            } else if !is_dynamic(name) {
+                self.follow_text(reference, rest, &mut texts)?;
             }
         }
         Ok(None)
@@ -274,7 +321,7 @@ impl Fronts {
         let mut told = Macros::new(alloc, Profile::Strict);
         let mut notes = Vec::new(alloc);
         for line in &self.lines {
-            let Some((name, prefix)) = self.leading(line.front.as_slice())? else {
+            let Some((name, prefix)) = self.leading(line)? else {
                 continue;
             };
             if told.is_defined(name.as_slice()) {

@@ -41,12 +41,13 @@ impl Notes {
         Ok(())
     }
 
-    /// Takes in a recipe line of the strict profile, by what it begins with.
+    /// Takes in a recipe line of the strict profile, of a rule of these targets, by what it begins with.
     pub(crate) fn see_leading(
         &mut self,
         profile: Profile,
         file: &[u8],
         line: usize,
+        targets: &[u8],
         text: &[u8],
     ) -> Result<(), AllocError>
         ensures found { self.new.found ≡ self.old.found }
@@ -56,7 +57,7 @@ impl Notes {
         if profile.is_wide() {
             return Ok(());
         }
-        self.fronts.see_line(file, line, text)
+        self.fronts.see_line(file, line, targets, text)
     }
 
     /// Whether the macro of a note that was kept is defined nowhere.

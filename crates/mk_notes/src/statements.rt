@@ -147,6 +147,7 @@ impl Notes {
         alloc: Global,
         profile: Profile,
         file: &[u8],
+        targets: &[u8],
         lines: &[RecipeLine],
     ) -> Result<(), AllocError>
         ensures found { OnOk result (self.new.found.items ≡ texts_noted profile file.now (recipe_texts lines.now) self.old.found.items) }
@@ -155,7 +156,7 @@ impl Notes {
     {
         for raw in lines {
             self.note_text(alloc, profile, file, raw.line, raw.text.as_slice())?;
-            self.see_leading(profile, file, raw.line, raw.text.as_slice())?;
+            self.see_leading(profile, file, raw.line, targets, raw.text.as_slice())?;
             self.see_command(alloc, profile, file, raw.line, raw.text.as_slice())?;
         }
         Ok(())
@@ -180,7 +181,8 @@ impl Notes {
             rule.line,
             rule.prerequisites.as_slice(),
         )?;
-        self.see_recipe(alloc, profile, file, rule.recipe.lines())
+        let targets = rule.targets.as_slice();
+        self.see_recipe(alloc, profile, file, targets, rule.recipe.lines())
     }
 
     fn see_target(
