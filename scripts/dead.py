@@ -23,6 +23,7 @@ SIGNATURE = re.compile(r"^(?:pub )?([^\s:(){}]+) : ")
 # to be taken out here.
 WAITING = {
     "crates/st_records/proofs/Good.antt": {"fits_from_good"},
+    "crates/st_recovery/proofs/MemoryLemmas.antt": {"comes_of_state"},
     "crates/mk_reader/proofs/SearchLemmas.antt": {"read_further"},
 }
 WAITING_EXPORTS = {
@@ -31,18 +32,24 @@ WAITING_EXPORTS = {
     "mk_eval": {"MAX_INCLUDE_DEPTH"},
     "mk_graph": {"distinct_names", "order_nodes", "whole_plan"},
     "mk_macros": {"FUNCTIONS"},
+    "mk_marks": {"Kept", "Noted", "mark_of", "note_of"},
     "mk_recipe": {"LineStatus", "Told", "Verdict", "outcome"},
+    "mk_verdict": {"MadeFile"},
     "mk_wildcards": {"Brackets", "Element", "elements", "fits_name"},
     "row_files": {"hex_digit"},
+    "st_compaction": {"compact_in"},
     "st_disk": {"Call"},
     "st_file": {
-        "MAX_SIDE_BYTES", "RecordSink", "Side", "every_side_has_a_reading", "every_side_has_a_reading_in", "new_header_in", "one_reading_in",
+        "MAX_SIDE_BYTES", "RecordSink", "Side", "every_side_has_a_reading", "every_side_has_a_reading_in", "new_header", "one_reading_in",
         "read_from", "read_log",
     },
     "st_marks": {"Marked", "append_marks"},
-    "st_records": {"MAX_COMMANDS", "MAX_EXPLICIT_NAMES", "MAX_NAME_BYTES_IN_ONE", "MAX_RECORD_BYTES_IN_ONE"},
+    "st_records": {
+        "MAX_COMMANDS", "MAX_EXPLICIT_NAMES", "MAX_NAME_BYTES_IN_ONE", "MAX_RECORD_BYTES_IN_ONE", "append_kept",
+        "room_after_kept",
+    },
     "st_recovery": {
-        "Chosen", "ChosenIn", "StoreIn", "choose_from", "choose_from_in", "choose_in", "open_in", "recover_from_in", "recover_in",
+        "Chosen", "ChosenIn", "choose_from", "choose_from_in", "choose_in", "open_in",
     },
 }
 EXPORT = re.compile(r"^pub use ((?:\w+::)+)(\{[^}]*\}|\w+);", re.MULTILINE)

@@ -9,7 +9,8 @@ use dmk_host::{
     FolderFault, SignFault, ask, enter, held_streams, keep_blocks, needs_usual_makefile,
     print_other_makefile, print_word_notes, read_input, run_anew, tell, tell_fault, with_signs,
 };
-use dmk_reading::{Fault, Message, Mode, Options, value_of};
+use dmk_messages::{Fault, Message};
+use dmk_reading::{Mode, Options, value_of};
 use dmk_words::{
     Asked, Later, Request, macro_variables, processors, read_words, with_environment,
     with_flags_seen,

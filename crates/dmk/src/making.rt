@@ -12,8 +12,9 @@ use dmk_host::{
     needs_usual_makefile, print_gnu_makefile, print_notes, print_reasons, reports_path,
     status_columns, with_patience,
 };
+use dmk_printing::{Printer, followed};
 use dmk_reading::{Options, value_of};
-use dmk_run::{Guard, Looks, Means, Printer, build_targets, followed, trust_files};
+use dmk_run::{Guard, Looks, Means, build_targets, trust_files};
 use dmk_words::{Later, handed_on};
 use jb_flags::{Handed, Handing};
 use jb_host::{BeforeLines, HOLDS, HostPlace, Shell, Stops};

@@ -1,5 +1,5 @@
 -- What was printed and answered, in the words of the plan.
-use Rattle.std.proofs.Common.{arith, ◌≡◌, ◌≢◌, ◌⊎◌, ◌∙◌, ◌&&◌, ◌<◌, inl, inr, ℕ, ℤ, Bool, true, false, not, List, [], ◌∷◌, ◌++◌, map, append-nil, length, Option, None, Some, Result, Ok, Err, IfOk, IfErr, IsOk, IsErr, IsErrOf, refl, sym, ap, subst}
+use Rattle.std.proofs.Common.{arith, ◌≡◌, ◌≢◌, ◌⊎◌, ◌∙◌, ◌&&◌, ◌<◌, inl, inr, ℕ, Bool, true, false, not, List, [], ◌∷◌, ◌++◌, map, append-nil, length, Option, None, Some, Result, Ok, Err, IfOk, IfErr, IsOk, IsErr, IsErrOf, refl, sym, ap, subst}
 use Rattle.std.specs.Io.KnownBytes.{Appends, Keeps}
 use Rattle.mk_graph.specs.Numbering.{name_at}
 use Rattle.mk_reader.specs.declared.item.Item.{Item}
@@ -14,19 +14,20 @@ use Rattle.dmk_dry.specs.declared.always_run.AlwaysRun.{AlwaysRun}
 use Rattle.dmk_reading.specs.Definitions.{first_defined}
 use Rattle.dmk_dry.specs.Faults.{IsFaultOf}
 use Rattle.dmk_reading.specs.Lost.{goes_without, with_unmade}
-use Rattle.dmk_reading.specs.Messages.{SaysFault}
+use Rattle.dmk_messages.specs.Messages.{SaysFault}
 use Rattle.dmk_dry.specs.Output.{SaysCut, CutsListing, ListsWithout, TellsFault, question_status, shown_status}
-use Rattle.dmk_reading.specs.Output.{AppendsPart}
+use Rattle.dmk_messages.specs.Output.{AppendsPart}
 use Rattle.dmk_dry.specs.Listing.{listing_text}
 use Rattle.dmk_reading.specs.Planned.{AreItems}
 use Rattle.dmk_dry.specs.Planned.{IsPlanned, Tells, Plans}
-use Rattle.dmk_reading.specs.declared.fault.Fault.{Fault}
+use Rattle.dmk_messages.specs.declared.fault.Fault.{Fault}
 use Rattle.dmk_reading.specs.declared.makefiles.Makefiles.{Makefiles}
-use Rattle.dmk_reading.specs.declared.fault.Fault.TheVariants.{State}
+use Rattle.dmk_messages.specs.declared.fault.Fault.TheVariants.{State}
 use Rattle.dmk_dry.specs.declared.planning.DryRun.{DryRun}
 use Rattle.dmk_dry.proofs.PassingLemmas.{no_text}
 use Rattle.bd_lists.specs.declared.recipe.Variable.{Variable}
 use Rattle.mk_eval.specs.Output.{World}
+use Rattle.mk_nodes.specs.declared.file_look.FileLook.{FileLook}
 
 no_value : false ≡ true → ⊥
 no_value is = cc
@@ -93,22 +94,22 @@ quiet_run asks status (Ok run) found asking other is Quiet quiet =
     quiet (none_unmade run.unmade.items status _ is other) (ap (λ a. run.soft_dropped && not a) asking ∙ none_said run.soft_dropped)
 quiet_run asks status (Err f) found asking other is Quiet quiet = absurd (no_value found)
 
-module _ (world : World) (times : List ℕ → Option ℤ) (makefiles : Makefiles)
+module _ (world : World) (looks : List ℕ → Option FileLook) (makefiles : Makefiles)
     (profile : Profile) (definitions environment : List Variable) (targets : List (List ℕ)) (all goes_on : Bool) (disk_honest : Type 0) (seen : Which → List ℕ)
     (telling : Telling) (recipes : Bool) where
   -- what is told of a run for the makefile that is found
   abbrev pub Told : DryRun → Type 0
-  Told run = (items : List Item) × AreItems world times makefiles (first_defined profile definitions environment) items
-      × Tells profile definitions environment targets all goes_on times disk_honest seen items telling recipes run
+  Told run = (items : List Item) × AreItems world looks makefiles (first_defined profile definitions environment) items
+      × Tells profile definitions environment targets all goes_on looks disk_honest seen items telling recipes run
 
   -- it is planned, where each name is made, without any
-  planned_whole : (run : DryRun) (items : List Item) → AreItems world times makefiles (first_defined profile definitions environment) items →
-      (tells : Tells profile definitions environment targets all goes_on times disk_honest seen items telling recipes run) → run.unmade.items ≡ [] →
-      Plans world times makefiles profile definitions environment targets all goes_on disk_honest seen tells.plan run.soft_dropped []
+  planned_whole : (run : DryRun) (items : List Item) → AreItems world looks makefiles (first_defined profile definitions environment) items →
+      (tells : Tells profile definitions environment targets all goes_on looks disk_honest seen items telling recipes run) → run.unmade.items ≡ [] →
+      Plans world looks makefiles profile definitions environment targets all goes_on disk_honest seen tells.plan run.soft_dropped []
   planned_whole run items are tells none = record {
     items = items;
     are_items = are;
-    planned = subst (λ us. IsPlanned profile definitions environment targets all goes_on times disk_honest seen items tells.plan run.soft_dropped
+    planned = subst (λ us. IsPlanned profile definitions environment targets all goes_on looks disk_honest seen items tells.plan run.soft_dropped
         (map (λ u. u.name) us)) none tells.planned;
   }
 
@@ -119,7 +120,7 @@ module _ (world : World) (times : List ℕ → Option ℤ) (makefiles : Makefile
       (Says : Bool → Type 0) → IfOk got (λ run. run.unmade.items ≡ [] → Says (run.soft_dropped && not asks)) →
       (always : List AlwaysRun) → IfOk got (λ run. always ≡ run.always.items) →
       (plan : List Passage) × (dropped : Bool)
-      × Plans world times makefiles profile definitions environment targets all goes_on disk_honest seen plan dropped []
+      × Plans world looks makefiles profile definitions environment targets all goes_on disk_honest seen plan dropped []
       × Appends old new (listing_text telling true plan) × (dropped ≡ false → Quiet) × Says dropped
       × (always ≡ lines_run_always telling true plan)
   listed_plan asks old new status (Ok run) (items, are, tells) found lists listing other is appended Quiet quiet Says says always those =
@@ -140,7 +141,7 @@ module _ (world : World) (times : List ℕ → Option ℤ) (makefiles : Makefile
       IfOk got (λ run. Appends old new run.text.items) →
       (always : List AlwaysRun) → IfOk got (λ run. always ≡ run.always.items) →
       (plan : List Passage) × (dropped : Bool)
-      × Plans world times makefiles profile definitions environment targets all goes_on disk_honest seen plan dropped [] × (status ≡ question_status plan)
+      × Plans world looks makefiles profile definitions environment targets all goes_on disk_honest seen plan dropped [] × (status ≡ question_status plan)
       × Appends old new (listing_text telling false plan) × (always ≡ lines_run_always telling false plan)
   asked_plan asks old new status (Ok run) (items, are, tells) found lists asking other is appended always those =
       let none : run.unmade.items ≡ [] = none_unmade run.unmade.items status _ is other in (
@@ -166,9 +167,9 @@ module _ (world : World) (times : List ℕ → Option ℤ) (makefiles : Makefile
       (is_whole ≡ false → IfOk got (λ run. run.unmade.items ≡ [] → SaysCut err err_after told (run.soft_dropped && not asks))) →
       (is_whole ≡ false → (status ≡ 2) × (always ≡ [])) →
       ((TellsFault (λ f. Meets f × (f ≡ State open_fault.Device → Failed)) told old new err err_after
-      ⊎ CutsListing (Plans world times makefiles profile definitions environment targets all goes_on disk_honest seen) telling asks told old new err err_after)
+      ⊎ CutsListing (Plans world looks makefiles profile definitions environment targets all goes_on disk_honest seen) telling asks told old new err err_after)
       × (always ≡ []))
-      ⊎ ListsWithout (Plans world times makefiles profile definitions environment targets all goes_on disk_honest seen) telling asks old new always
+      ⊎ ListsWithout (Plans world looks makefiles profile definitions environment targets all goes_on disk_honest seen) telling asks old new always
   refused_plan asks Meets Failed told old new err err_after status true (Ok run) always lists two (items, are, tells) meets failed kept line found whole is those part cut refused =
       inr (record {
         plan = tells.plan;
@@ -225,18 +226,18 @@ module _ (world : World) (times : List ℕ → Option ℤ) (makefiles : Makefile
       absurd (no_part old new run.text.items (nothing_shown run told nothing none) (part refl))
   silent_plan old new is_whole (Err f) told nothing none whole part refused = refused refl
 
-pub told_of : (world : World) (times : List ℕ → Option ℤ) (makefiles : Makefiles)
+pub told_of : (world : World) (looks : List ℕ → Option FileLook) (makefiles : Makefiles)
     (profile : Profile) (definitions defined environment : List Variable) (targets : List (List ℕ)) (all goes_on : Bool) (disk_honest : Type 0) (seen : Which → List ℕ)
     (telling : Telling) (recipes : Bool) (got : Result DryRun Fault) → defined ≡ definitions →
-    IfOk got (Told world times makefiles profile defined environment targets all goes_on disk_honest seen telling recipes) →
-    IfOk got (Told world times makefiles profile definitions environment targets all goes_on disk_honest seen telling recipes)
-told_of world times makefiles profile definitions defined environment targets all goes_on disk_honest seen telling recipes got is_defined told =
-    subst (λ d. IfOk got (Told world times makefiles profile d environment targets all goes_on disk_honest seen telling recipes)) is_defined told
+    IfOk got (Told world looks makefiles profile defined environment targets all goes_on disk_honest seen telling recipes) →
+    IfOk got (Told world looks makefiles profile definitions environment targets all goes_on disk_honest seen telling recipes)
+told_of world looks makefiles profile definitions defined environment targets all goes_on disk_honest seen telling recipes got is_defined told =
+    subst (λ d. IfOk got (Told world looks makefiles profile d environment targets all goes_on disk_honest seen telling recipes)) is_defined told
 
-pub fault_of : (world : World) (times : List ℕ → Option ℤ) (makefiles : Makefiles)
+pub fault_of : (world : World) (looks : List ℕ → Option FileLook) (makefiles : Makefiles)
     (profile : Profile) (definitions defined environment : List Variable) (targets : List (List ℕ)) (all goes_on : Bool) (refuses : List ℕ → Type 0) (disk_honest : Type 0)
     (seen : Which → List ℕ) (got : Result DryRun Fault) → defined ≡ definitions →
-    IfErr got (IsFaultOf world times makefiles profile defined environment targets all goes_on refuses disk_honest seen) →
-    IfErr got (IsFaultOf world times makefiles profile definitions environment targets all goes_on refuses disk_honest seen)
-fault_of world times makefiles profile definitions defined environment targets all goes_on refuses disk_honest seen got is_defined meets =
-    subst (λ d. IfErr got (IsFaultOf world times makefiles profile d environment targets all goes_on refuses disk_honest seen)) is_defined meets
+    IfErr got (IsFaultOf world looks makefiles profile defined environment targets all goes_on refuses disk_honest seen) →
+    IfErr got (IsFaultOf world looks makefiles profile definitions environment targets all goes_on refuses disk_honest seen)
+fault_of world looks makefiles profile definitions defined environment targets all goes_on refuses disk_honest seen got is_defined meets =
+    subst (λ d. IfErr got (IsFaultOf world looks makefiles profile d environment targets all goes_on refuses disk_honest seen)) is_defined meets

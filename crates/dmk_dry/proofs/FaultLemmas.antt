@@ -8,8 +8,8 @@ use Rattle.st_file.specs.declared.fault.OpenFault.TheVariants as open_fault
 use Rattle.st_state.specs.State.{StateMap}
 use Rattle.st_recovery.specs.Recovers.{RefusesWith}
 use Rattle.dmk_dry.specs.Faults.{IsOpenFault, IsRunFault}
-use Rattle.dmk_reading.specs.declared.fault.Fault.{Fault}
-use Rattle.dmk_reading.specs.declared.fault.Fault.TheVariants.{OutOfMemory, NoMakefile, Read, State, Rules, Recipe, Write}
+use Rattle.dmk_messages.specs.declared.fault.Fault.{Fault}
+use Rattle.dmk_messages.specs.declared.fault.Fault.TheVariants.{OutOfMemory, NoMakefile, Read, State, Rules, Recipe, Write}
 
 module _ (Text : Fault → Type 0) (Items : List Item → Type 0) (Plan : List Item → Fault → Type 0) where
   -- the makefile's own. It has no fault of a later stage

@@ -1,8 +1,8 @@
--- By the same files, times and state there is one plan, with one listing.
+-- By the same files, looks and state there is one plan, with one listing.
 use Rattle.std.specs.Prelude.{slice_set, replicate}
 use Rattle.std.specs.List.{list_all}
 use Rattle.std.proofs.lemmas.List.{ext_get_or}
-use Rattle.std.proofs.Common.{◌≡◌, ◌∙◌, ◌||◌, ◌&&◌, ◌<◌, ℕ, ℤ, Bool, true, false, not, nat_lt, List, [], length, Option, sym, ap, subst}
+use Rattle.std.proofs.Common.{◌≡◌, ◌∙◌, ◌||◌, ◌&&◌, ◌<◌, ℕ, Bool, true, false, not, nat_lt, List, [], length, Option, sym, ap, subst}
 use Rattle.std.specs.FinMap as map
 use Rattle.mk_reader.specs.declared.item.Item.{Item}
 use Rattle.mk_plan.specs.Passage.{Passage}
@@ -33,6 +33,7 @@ use Rattle.dmk_dry.specs.Planned.{IsPlanned, Plans}
 use Rattle.dmk_dry.proofs.ListingLemmas.{lists_once}
 use Rattle.dmk_reading.proofs.MakefileLemmas.{items_once}
 use Rattle.mk_eval.specs.Output.{World}
+use Rattle.mk_nodes.specs.declared.file_look.FileLook.{FileLook}
 
 -- ---- the same nodes are lost
 
@@ -107,12 +108,12 @@ state_once false honest seen m n works of_m of_n = of_m ∙ sym of_n
 
 -- ---- one plan
 
-module _ (profile : Profile) (definitions environment : List Variable) (targets : List (List ℕ)) (times : List ℕ → Option ℤ) (items : List Item) (state : StateMap)
-    (a b : Graph) (of_a : IsGraphOf profile definitions environment targets times items state a) (of_b : IsGraphOf profile definitions environment targets times items state b) where
+module _ (profile : Profile) (definitions environment : List Variable) (targets : List (List ℕ)) (looks : List ℕ → Option FileLook) (items : List Item) (state : StateMap)
+    (a b : Graph) (of_a : IsGraphOf profile definitions environment targets looks items state a) (of_b : IsGraphOf profile definitions environment targets looks items state b) where
   is_b : IsGraph of_a.inputs targets b
   is_b =
       subst (λ i. IsGraph i targets b)
-      (sym (inputs_once (first_defined profile definitions environment) items times (map.get state) of_a.inputs of_b.inputs of_a.are_inputs of_b.are_inputs)) of_b.is_graph
+      (sym (inputs_once (first_defined profile definitions environment) items looks (map.get state) of_a.inputs of_b.inputs of_a.are_inputs of_b.are_inputs)) of_b.is_graph
 
   names : a.names ≡ b.names
   names = one_names of_a.inputs targets a b of_a.is_graph is_b
@@ -149,26 +150,26 @@ module _ (profile : Profile) (definitions environment : List Variable) (targets 
       (one_count of_a.inputs targets a b of_a.is_graph is_b) (one_order of_a.inputs targets a b of_a.is_graph is_b) x of_x)
       of_y
 
-module _ (profile : Profile) (definitions environment : List Variable) (targets : List (List ℕ)) (all goes_on : Bool) (times : List ℕ → Option ℤ) (honest : Type 0) (works : honest)
+module _ (profile : Profile) (definitions environment : List Variable) (targets : List (List ℕ)) (all goes_on : Bool) (looks : List ℕ → Option FileLook) (honest : Type 0) (works : honest)
     (seen : Which → List ℕ) (items : List Item) (x y : List Passage) (d e : Bool) (u v : List (List ℕ)) where
-  planned_once : IsPlanned profile definitions environment targets all goes_on times honest seen items x d u → IsPlanned profile definitions environment targets all goes_on times honest seen items y e v →
+  planned_once : IsPlanned profile definitions environment targets all goes_on looks honest seen items x d u → IsPlanned profile definitions environment targets all goes_on looks honest seen items y e v →
       (x ≡ y) × (d ≡ e)
   planned_once of_x of_y =
       let keeping : Bool = keeps environment items in
       let state = state_once keeping honest seen of_x.state of_y.state works of_x.is_state of_y.is_state in
-      let of_b : IsGraphOf profile definitions environment targets times items of_x.state of_y.graph
-      = subst (λ m. IsGraphOf profile definitions environment targets times items m of_y.graph) (sym state) of_y.is_graph.is_graph in (
-        listing_once profile definitions environment targets times items of_x.state of_x.graph of_y.graph of_x.is_graph.is_graph of_b all (all || keeping) x y of_x.lists of_y.lists,
-        of_x.soft ∙ dropped_once profile definitions environment targets times items of_x.state of_x.graph of_y.graph of_x.is_graph.is_graph of_b ∙ sym of_y.soft,
+      let of_b : IsGraphOf profile definitions environment targets looks items of_x.state of_y.graph
+      = subst (λ m. IsGraphOf profile definitions environment targets looks items m of_y.graph) (sym state) of_y.is_graph.is_graph in (
+        listing_once profile definitions environment targets looks items of_x.state of_x.graph of_y.graph of_x.is_graph.is_graph of_b all (all || keeping) x y of_x.lists of_y.lists,
+        of_x.soft ∙ dropped_once profile definitions environment targets looks items of_x.state of_x.graph of_y.graph of_x.is_graph.is_graph of_b ∙ sym of_y.soft,
       )
 
-pub plan_once : (world : World) (times : List ℕ → Option ℤ) (makefiles : Makefiles) (profile : Profile) (definitions environment : List Variable)
+pub plan_once : (world : World) (looks : List ℕ → Option FileLook) (makefiles : Makefiles) (profile : Profile) (definitions environment : List Variable)
     (targets : List (List ℕ)) (all goes_on : Bool) (honest : Type 0) (seen : Which → List ℕ) (x y : List Passage) (d e : Bool) (u v : List (List ℕ)) → honest →
-    Plans world times makefiles profile definitions environment targets all goes_on honest seen x d u →
-    Plans world times makefiles profile definitions environment targets all goes_on honest seen y e v →
+    Plans world looks makefiles profile definitions environment targets all goes_on honest seen x d u →
+    Plans world looks makefiles profile definitions environment targets all goes_on honest seen y e v →
     (x ≡ y) × (d ≡ e)
-plan_once world times makefiles profile definitions environment targets all goes_on honest seen x y d e u v works of_x of_y =
-    planned_once profile definitions environment targets all goes_on times honest works seen of_y.items x y d e u v
-    (subst (λ items. IsPlanned profile definitions environment targets all goes_on times honest seen items x d u)
-    (items_once world times makefiles _ of_x.items of_y.items of_x.are_items of_y.are_items) of_x.planned)
+plan_once world looks makefiles profile definitions environment targets all goes_on honest seen x y d e u v works of_x of_y =
+    planned_once profile definitions environment targets all goes_on looks honest works seen of_y.items x y d e u v
+    (subst (λ items. IsPlanned profile definitions environment targets all goes_on looks honest seen items x d u)
+    (items_once world looks makefiles _ of_x.items of_y.items of_x.are_items of_y.are_items) of_x.planned)
     of_y.planned

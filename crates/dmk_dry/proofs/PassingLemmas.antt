@@ -1,5 +1,5 @@
 -- What stays true while a listing is made of the nodes of a graph.
-use Rattle.std.proofs.Common.{◌≡◌, ◌+◌, ◌<◌, ltb-true, ℕ, ℤ, Bool, Option, true, false, nat_lt, List, [], ◌∷◌, ◌++◌, length, take, drop, set, refl, sym, ap, ◌∙◌, subst, append-nil}
+use Rattle.std.proofs.Common.{◌≡◌, ◌+◌, ◌<◌, ltb-true, ℕ, Bool, Option, true, false, nat_lt, List, [], ◌∷◌, ◌++◌, length, take, drop, set, refl, sym, ap, ◌∙◌, subst, append-nil}
 use Rattle.std.proofs.lemmas.Bool.{and_parts}
 use Rattle.std.proofs.lemmas.Grind.{flat_map-append}
 use Rattle.std.proofs.lemmas.List.{take-append-drop}
@@ -31,6 +31,7 @@ use Rattle.dmk_dry.specs.Listing.{ListsFault, here, later, beyond, IsListingFaul
 use Rattle.mk_profile.specs.declared.profile.Profile.{Profile}
 use Rattle.mk_eval.specs.Output.{World}
 use Rattle.dmk_reading.proofs.PassingLemmas.{ListedSoFar}
+use Rattle.mk_nodes.specs.declared.file_look.FileLook.{FileLook}
 
 -- a lost node is passed over
 pub listed_without : (keeping : Bool) (graph : Graph) (marks : List Bool) (i n : ℕ) (listed : List Passage) →
@@ -123,8 +124,8 @@ all_listed graph marks _ _ (behind stands (has_no_recipe none remade) rest) = al
 all_listed graph marks _ _ (behind stands (is_left none left) rest) = all_listed graph _ _ _ rest
 all_listed graph marks _ _ (without lost rest) = all_listed graph _ _ _ rest
 
-pub each_made : (world : World) (times : List ℕ → Option ℤ) (makefiles : Makefiles) (profile : Profile) (definitions environment : List Variable)
+pub each_made : (world : World) (looks : List ℕ → Option FileLook) (makefiles : Makefiles) (profile : Profile) (definitions environment : List Variable)
     (targets : List (List ℕ)) (goes_on : Bool) (honest : Type 0) (seen : Which → List ℕ) (plan : List Passage) (dropped : Bool) (unmade : List (List ℕ)) →
-    Plans world times makefiles profile definitions environment targets true goes_on honest seen plan dropped unmade → list_all is_listed plan ≡ true
-each_made world times makefiles profile definitions environment targets goes_on honest seen plan dropped unmade is =
+    Plans world looks makefiles profile definitions environment targets true goes_on honest seen plan dropped unmade → list_all is_listed plan ≡ true
+each_made world looks makefiles profile definitions environment targets goes_on honest seen plan dropped unmade is =
     all_listed is.planned.graph _ _ plan is.planned.lists

@@ -1,6 +1,6 @@
 -- What each fault of a dry run says. Of a fault that comes later all stages before it are told, so that the order of the faults is
 -- that of the cases here.
-use Rattle.std.specs.Prelude.{◌≡◌, ◌||◌, ℕ, ℤ, Bool, true, List, Option}
+use Rattle.std.specs.Prelude.{◌≡◌, ◌||◌, ℕ, Bool, true, List, Option}
 use Rattle.std.specs.FinMap as map
 use Rattle.mk_eval.specs.Output.{World}
 use Rattle.mk_reader.specs.declared.item.Item.{Item}
@@ -19,11 +19,12 @@ use Rattle.dmk_reading.specs.Keeping.{keeps}
 use Rattle.dmk_dry.specs.Listing.{IsListingFault}
 use Rattle.dmk_reading.specs.Planned.{AreItems, IsStateOn, judged_graph}
 use Rattle.dmk_dry.specs.Planned.{IsListedGraphOf}
-use Rattle.dmk_reading.specs.declared.fault.Fault.{Fault}
-use Rattle.dmk_reading.specs.declared.fault.Fault.TheVariants as fault
+use Rattle.dmk_messages.specs.declared.fault.Fault.{Fault}
+use Rattle.dmk_messages.specs.declared.fault.Fault.TheVariants as fault
 use Rattle.dmk_reading.specs.declared.makefiles.Makefiles.{Makefiles}
 use Rattle.bd_lists.specs.declared.recipe.Variable.{Variable}
 use Rattle.dmk_reading.specs.Faults.{IsTextFault}
+use Rattle.mk_nodes.specs.declared.file_look.FileLook.{FileLook}
 
 -- the fault of the two sides; a device and want of memory say nothing of their bytes
 abbrev pub IsOpenFault : (seen : Which → List ℕ) → OpenFault → Type 0
@@ -32,19 +33,19 @@ IsOpenFault seen open_fault.OutOfMemory = Unit {0}
 IsOpenFault seen f = RefusesWith (seen sides.A) (seen sides.B) f
 
 -- the fault of a plan for items that were read
-abbrev pub IsPlanFault : (profile : Profile) (definitions environment : List Variable) (targets : List (List ℕ)) (all goes_on : Bool) (times : List ℕ → Option ℤ)
+abbrev pub IsPlanFault : (profile : Profile) (definitions environment : List Variable) (targets : List (List ℕ)) (all goes_on : Bool) (looks : List ℕ → Option FileLook)
     (refuses : List ℕ → Type 0) (disk_honest : Type 0) (seen : Which → List ℕ) (items : List Item) →
     Fault → Type 0
-IsPlanFault profile definitions environment targets all goes_on times refuses disk_honest seen items fault.OutOfMemory = Unit {0}
-IsPlanFault profile definitions environment targets all goes_on times refuses disk_honest seen items (fault.State f) =
+IsPlanFault profile definitions environment targets all goes_on looks refuses disk_honest seen items fault.OutOfMemory = Unit {0}
+IsPlanFault profile definitions environment targets all goes_on looks refuses disk_honest seen items (fault.State f) =
     (keeps environment items ≡ true) × (disk_honest → IsOpenFault seen f)
-IsPlanFault profile definitions environment targets all goes_on times refuses disk_honest seen items (fault.Rules f) =
+IsPlanFault profile definitions environment targets all goes_on looks refuses disk_honest seen items (fault.Rules f) =
     (state : StateMap) × IsStateOn (keeps environment items) disk_honest seen state
-    × IsRuleFault (first_defined profile definitions environment) items times (map.get state) refuses targets (node_limit profile) f
-IsPlanFault profile definitions environment targets all goes_on times refuses disk_honest seen items (fault.Recipe f) =
+    × IsRuleFault (first_defined profile definitions environment) items looks (map.get state) refuses targets (node_limit profile) f
+IsPlanFault profile definitions environment targets all goes_on looks refuses disk_honest seen items (fault.Recipe f) =
     (state : StateMap) × IsStateOn (keeps environment items) disk_honest seen state
-    × ((graph : Graph) × IsListedGraphOf profile definitions environment targets goes_on times items state graph × IsListingFault (all || keeps environment items) (judged_graph all graph) f)
-IsPlanFault profile definitions environment targets all goes_on times refuses disk_honest seen items _ = ⊥
+    × ((graph : Graph) × IsListedGraphOf profile definitions environment targets goes_on looks items state graph × IsListingFault (all || keeps environment items) (judged_graph all graph) f)
+IsPlanFault profile definitions environment targets all goes_on looks refuses disk_honest seen items _ = ⊥
 
 -- a fault of the makefile comes before all else; the others are those of a plan for its items
 abbrev pub IsRunFault : (Text : Fault → Type 0) (Items : List Item → Type 0) (Plan : List Item → Fault → Type 0) → Fault → Type 0
@@ -57,10 +58,10 @@ IsRunFault Text Items Plan (fault.Recipe f) = (items : List Item) × Items items
 IsRunFault Text Items Plan fault.Write = ⊥
 
 -- so it is of the makefile that is named, or the usual one, for these targets
-abbrev pub IsFaultOf : (world : World) (times : List ℕ → Option ℤ) (makefiles : Makefiles)
+abbrev pub IsFaultOf : (world : World) (looks : List ℕ → Option FileLook) (makefiles : Makefiles)
     (profile : Profile) (definitions environment : List Variable) (targets : List (List ℕ)) (all goes_on : Bool) (refuses : List ℕ → Type 0) (disk_honest : Type 0)
     (seen : Which → List ℕ) → Fault → Type 0
-IsFaultOf world times makefiles profile definitions environment targets all goes_on refuses disk_honest seen =
-    IsRunFault (IsTextFault world times refuses makefiles (first_defined profile definitions environment))
-    (AreItems world times makefiles (first_defined profile definitions environment))
-    (IsPlanFault profile definitions environment targets all goes_on times refuses disk_honest seen)
+IsFaultOf world looks makefiles profile definitions environment targets all goes_on refuses disk_honest seen =
+    IsRunFault (IsTextFault world looks refuses makefiles (first_defined profile definitions environment))
+    (AreItems world looks makefiles (first_defined profile definitions environment))
+    (IsPlanFault profile definitions environment targets all goes_on looks refuses disk_honest seen)

@@ -5,11 +5,11 @@ use Rattle.mk_plan.specs.Passage.{Passage}
 use Rattle.mk_plan.specs.declared.telling.Telling.{Telling}
 use Rattle.dmk_dry.specs.AlwaysRun.{lines_run_always}
 use Rattle.dmk_dry.specs.declared.always_run.AlwaysRun.{AlwaysRun}
-use Rattle.dmk_reading.specs.Messages.{SaysFault, note_lines, line_of}
+use Rattle.dmk_messages.specs.Messages.{SaysFault, note_lines, line_of}
 use Rattle.dmk_dry.specs.Listing.{listing_text}
 use Rattle.dmk_reading.specs.Passing.{lists_any}
-use Rattle.dmk_reading.specs.declared.fault.Fault.{Fault}
-use Rattle.dmk_reading.specs.Output.{AppendsPart}
+use Rattle.dmk_messages.specs.declared.fault.Fault.{Fault}
+use Rattle.dmk_messages.specs.Output.{AppendsPart}
 
 -- where each line was taken, known bytes grow by what there is to say of soft edges
 abbrev pub SaysNote : (err err_after : Option (List ℕ)) (told dropped : Bool) → Type 0

@@ -1,5 +1,5 @@
 //! The program over handed-in parts.
-ghost use Rattle.std.specs.Prelude.{◌≡◌, ◌≢◌, ◌⊎◌, ◌&&◌, ℕ, ℤ, Bool, true, false, not, List, [], Option, codes, IfOk, IfErr, IsOk, IsErr};
+ghost use Rattle.std.specs.Prelude.{◌≡◌, ◌≢◌, ◌⊎◌, ◌&&◌, ℕ, Bool, true, false, not, List, [], Option, codes, IfOk, IfErr, IsOk, IsErr};
 ghost use Rattle.std.specs.Io.KnownBytes.{Appends, Keeps};
 ghost use Rattle.mk_plan.specs.Passage.{Passage};
 ghost use Rattle.mk_plan.specs.declared.telling.Telling.TheVariants as tellings;
@@ -9,20 +9,22 @@ ghost use Rattle.dmk_dry.specs.AlwaysRun.{lines_run_always};
 ghost use Rattle.dmk_dry.specs.Faults.{IsFaultOf};
 ghost use Rattle.dmk_reading.specs.Keeping.{value_in};
 ghost use Rattle.dmk_reading.specs.Lost.{goes_without, with_unmade};
-ghost use Rattle.dmk_reading.specs.Messages.{SaysFault};
+ghost use Rattle.dmk_messages.specs.Messages.{SaysFault};
 ghost use Rattle.dmk_dry.specs.Output.{SaysNote, SaysCut, CutsListing, ListsWithout, TellsFault, question_status, shown_status};
-ghost use Rattle.dmk_reading.specs.Output.{AppendsPart};
+ghost use Rattle.dmk_messages.specs.Output.{AppendsPart};
 ghost use Rattle.dmk_reading.specs.Asked.{AsksForListing, AsksToLook};
 ghost use Rattle.dmk_dry.specs.Listing.{listing_text};
 ghost use Rattle.dmk_dry.specs.Planned.{Plans};
-ghost use Rattle.dmk_reading.specs.declared.fault.Fault.TheVariants as faults;
+ghost use Rattle.dmk_messages.specs.declared.fault.Fault.TheVariants as faults;
 ghost use Rattle.mk_eval.specs.Output.{World};
+ghost use Rattle.mk_nodes.specs.declared.file_look.FileLook.{FileLook};
 
 use crate::always_run::AlwaysRun;
 use crate::passing::Shows;
 use crate::planning::{DryRun, Given, dry_run};
 use bd_lists::Variable;
-use dmk_reading::{Fault, Message, Options, print_fault, print_note, write_text};
+use dmk_messages::{Fault, Message, print_fault, print_note, write_text};
+use dmk_reading::Options;
 use mk_eval::Includes;
 use mk_rule_lines::{RuleFault, Unmade};
 use mk_rules::Tree;
@@ -205,20 +207,20 @@ pub fn drive<T: Tree, I: Includes, D: Disk, O: Write, E: Write>(
     // It lists or answers: a run of recipes isn't asked for.
     requires { AsksToLook options (value_in environment.now (codes "MAKEFLAGS")) }
 
-    // A listing is that of the plan, for all texts and times that agree with what was answered. Beside it only the note is
+    // A listing is that of the plan, for all texts and looks that agree with what was answered. Beside it only the note is
     // said, and that where soft edges are dropped. Each name has a file, or something makes it.
     ensures listed { AsksForListing options environment.now → result.0.status ≡ 0
-        → (world : World) (times : List ℕ → Option ℤ) → I.allows includes.new world → T.allows tree.new times
+        → (world : World) (looks : List ℕ → Option FileLook) → I.allows includes.new world → T.allows tree.new looks
         → (plan : List Passage) × (dropped : Bool)
-        × Plans world times options.makefiles options.profile options.definitions.items environment.now options.targets options.makes_all options.goes_on D.honest (D.seen disk) plan dropped []
+        × Plans world looks options.makefiles options.profile options.definitions.items environment.now options.targets options.makes_all options.goes_on D.honest (D.seen disk) plan dropped []
         × Appends (O.contents out.old) (O.contents out.new) (listing_text options.telling true plan) × (dropped ≡ false → err.new ≡ err.old)
         × SaysNote (E.contents err.old) (E.contents err.new) result.0.is_told dropped
         × (result.2.items ≡ lines_run_always options.telling true plan) }
     // The question is answered by the plan, and no recipe is printed: nothing is, unless it is asked why targets are made.
     ensures asked { options.asks ≡ true → result.0.status ≢ 2
-        → (world : World) (times : List ℕ → Option ℤ) → I.allows includes.new world → T.allows tree.new times
+        → (world : World) (looks : List ℕ → Option FileLook) → I.allows includes.new world → T.allows tree.new looks
         → (plan : List Passage) × (dropped : Bool)
-        × Plans world times options.makefiles options.profile options.definitions.items environment.now options.targets options.makes_all options.goes_on D.honest (D.seen disk) plan dropped []
+        × Plans world looks options.makefiles options.profile options.definitions.items environment.now options.targets options.makes_all options.goes_on D.honest (D.seen disk) plan dropped []
         × (result.0.status ≡ question_status plan)
         × Appends (O.contents out.old) (O.contents out.new) (listing_text options.telling false plan)
         × (result.2.items ≡ lines_run_always options.telling false plan) }
@@ -228,15 +230,15 @@ pub fn drive<T: Tree, I: Includes, D: Disk, O: Write, E: Write>(
     // At status 2 a fault of the run is told, of which a device's is a call of the disk that failed; or a listing is cut short; and no line
     // is run. Or there are names that nothing makes, and the listing is that of the plan without them.
     ensures refused { result.0.status ≡ 2
-        → (world : World) (times : List ℕ → Option ℤ) → I.allows includes.new world → T.allows tree.new times
-        → ((TellsFault (λ fault. IsFaultOf world times options.makefiles options.profile options.definitions.items environment.now
+        → (world : World) (looks : List ℕ → Option FileLook) → I.allows includes.new world → T.allows tree.new looks
+        → ((TellsFault (λ fault. IsFaultOf world looks options.makefiles options.profile options.definitions.items environment.now
         options.targets options.makes_all options.goes_on (T.refuses tree.new) D.honest (D.seen disk) fault
         × (fault ≡ faults.State open_faults.Device → Rises (D.faults disk) (D.faults result.1)))
         result.0.is_told (O.contents out.old) (O.contents out.new) (E.contents err.old) (E.contents err.new)
-        ⊎ CutsListing (Plans world times options.makefiles options.profile options.definitions.items environment.now options.targets options.makes_all options.goes_on D.honest (D.seen disk))
+        ⊎ CutsListing (Plans world looks options.makefiles options.profile options.definitions.items environment.now options.targets options.makes_all options.goes_on D.honest (D.seen disk))
         options.telling options.asks result.0.is_told (O.contents out.old) (O.contents out.new) (E.contents err.old) (E.contents err.new))
         × (result.2.items ≡ []))
-        ⊎ ListsWithout (Plans world times options.makefiles options.profile options.definitions.items environment.now options.targets options.makes_all options.goes_on D.honest (D.seen disk))
+        ⊎ ListsWithout (Plans world looks options.makefiles options.profile options.definitions.items environment.now options.targets options.makes_all options.goes_on D.honest (D.seen disk))
         options.telling options.asks (O.contents out.old) (O.contents out.new) result.2.items }
     ensures status { (result.0.status ≡ 0) ⊎ (((result.0.status ≡ 1) × (options.asks ≡ true)) ⊎ (result.0.status ≡ 2)) }
     ensures none_run { goes_without options.profile options.goes_on ≡ false → result.0.status ≡ 2 → result.2.items ≡ [] }

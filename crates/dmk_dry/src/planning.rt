@@ -1,5 +1,5 @@
 //! From a makefile to what is listed, stage by stage. The first stage that has a fault ends it.
-ghost use Rattle.std.specs.Prelude.{◌≡◌, ◌||◌, ℕ, ℤ, true, List, Option, length, map, nat_lt, IfOk, IfErr, IsErrOf};
+ghost use Rattle.std.specs.Prelude.{◌≡◌, ◌||◌, ℕ, true, List, Option, length, map, nat_lt, IfOk, IfErr, IsErrOf};
 ghost use Rattle.std.specs.List.{list_all};
 ghost use Rattle.mk_plan.specs.declared.fault.RecipeFault.{RecipeFault as LineFault};
 ghost use Rattle.mk_graph.specs.Numbering.{name_at};
@@ -18,16 +18,18 @@ ghost use Rattle.dmk_reading.specs.Planned.{AreItems, IsStateOn, judged_graph};
 ghost use Rattle.dmk_dry.specs.Planned.{IsListedGraphOf, Tells};
 ghost use Rattle.dmk_dry.specs.Faults.{IsOpenFault, IsPlanFault, IsRunFault};
 ghost use Rattle.dmk_reading.specs.Faults.{IsTextFault};
-ghost use Rattle.dmk_reading.specs.declared.fault.Fault.TheVariants as faults;
+ghost use Rattle.dmk_messages.specs.declared.fault.Fault.TheVariants as faults;
 ghost use Rattle.mk_eval.specs.Output.{World};
+ghost use Rattle.mk_nodes.specs.declared.file_look.FileLook.{FileLook};
 
 use crate::always_run::AlwaysRun;
 use crate::passing::{Listing, Shows, listing_of};
 use crate::recovered::state_of;
 use bd_lists::Variable;
 use byte_strings::ByteStrings;
+use dmk_messages::Fault;
 use dmk_reading::{
-    Fault, Makefiles, goes_without, graph_of, items_of, judged_graph, keeps_state, unmade_names,
+    Makefiles, goes_without, graph_of, items_of, judged_graph, keeps_state, unmade_names,
 };
 use mk_eval::Includes;
 use mk_nodes::Graph;
@@ -151,12 +153,12 @@ fn kept_graph<T: Tree, D: Disk>(
 ) -> Result<Graph, Fault>
     requires { keeping ≡ keeps given.environment.now items.items }
     ensures graph { IfOk result (λ graph. (m : StateMap) × IsStateOn keeping D.honest (D.seen disk.old) m
-        × ((times : List ℕ → Option ℤ) → T.allows tree.new times
-        → IsListedGraphOf given.entry.profile given.entry.definitions.now given.entry.environment.now targets given.entry.goes_on times items.items m graph)) }
-    ensures fault { IfErr result (λ fault. (times : List ℕ → Option ℤ) → T.allows tree.new times
-        → IsPlanFault given.entry.profile given.entry.definitions.now given.entry.environment.now targets given.entry.makes_all given.entry.goes_on times (T.refuses tree.new) D.honest (D.seen disk.old)
+        × ((looks : List ℕ → Option FileLook) → T.allows tree.new looks
+        → IsListedGraphOf given.entry.profile given.entry.definitions.now given.entry.environment.now targets given.entry.goes_on looks items.items m graph)) }
+    ensures fault { IfErr result (λ fault. (looks : List ℕ → Option FileLook) → T.allows tree.new looks
+        → IsPlanFault given.entry.profile given.entry.definitions.now given.entry.environment.now targets given.entry.makes_all given.entry.goes_on looks (T.refuses tree.new) D.honest (D.seen disk.old)
         items.items fault) }
-    ensures times { (times : List ℕ → Option ℤ) → T.allows tree.new times → T.allows tree.old times }
+    ensures looks { (looks : List ℕ → Option FileLook) → T.allows tree.new looks → T.allows tree.old looks }
     ensures seen { D.honest → D.seen disk.new ≡ D.seen disk.old }
     ensures moments { D.honest → D.moments disk.new ≡ D.moments disk.old }
     ensures device { IsErrOf result (faults.State open_faults.Device) → Rises (D.faults disk.old) (D.faults disk.new) }
@@ -186,13 +188,13 @@ fn plan_items<T: Tree, D: Disk>(
     disk: &mut D,
     items: Vec<Item>,
 ) -> Result<DryRun, Fault>
-    ensures tells { IfOk result (λ run. (times : List ℕ → Option ℤ) → T.allows tree.new times
-        → Tells given.entry.profile given.entry.definitions.now given.entry.environment.now targets given.entry.makes_all given.entry.goes_on times D.honest (D.seen disk.old) items.items
+    ensures tells { IfOk result (λ run. (looks : List ℕ → Option FileLook) → T.allows tree.new looks
+        → Tells given.entry.profile given.entry.definitions.now given.entry.environment.now targets given.entry.makes_all given.entry.goes_on looks D.honest (D.seen disk.old) items.items
         given.entry.shows.telling given.entry.shows.recipes run) }
-    ensures fault { IfErr result (λ fault. (times : List ℕ → Option ℤ) → T.allows tree.new times
-        → IsPlanFault given.entry.profile given.entry.definitions.now given.entry.environment.now targets given.entry.makes_all given.entry.goes_on times (T.refuses tree.new) D.honest (D.seen disk.old)
+    ensures fault { IfErr result (λ fault. (looks : List ℕ → Option FileLook) → T.allows tree.new looks
+        → IsPlanFault given.entry.profile given.entry.definitions.now given.entry.environment.now targets given.entry.makes_all given.entry.goes_on looks (T.refuses tree.new) D.honest (D.seen disk.old)
         items.items fault) }
-    ensures times { (times : List ℕ → Option ℤ) → T.allows tree.new times → T.allows tree.old times }
+    ensures looks { (looks : List ℕ → Option FileLook) → T.allows tree.new looks → T.allows tree.old looks }
     ensures seen { D.honest → D.seen disk.new ≡ D.seen disk.old }
     ensures moments { D.honest → D.moments disk.new ≡ D.moments disk.old }
     ensures device { IsErrOf result (faults.State open_faults.Device) → Rises (D.faults disk.old) (D.faults disk.new) }
@@ -216,14 +218,14 @@ pub fn dry_run<T: Tree, I: Includes, D: Disk>(
     includes: &mut I,
     disk: &mut D,
 ) -> Result<DryRun, Fault>
-    ensures tells { IfOk result (λ run. (world : World) (times : List ℕ → Option ℤ) → I.allows includes.new world → T.allows tree.new times
-        → (items : List MakefileItem) × AreItems world times given.entry.makefiles.now (first_defined given.entry.profile given.entry.definitions.now given.entry.environment.now) items
-        × Tells given.entry.profile given.entry.definitions.now given.entry.environment.now targets given.entry.makes_all given.entry.goes_on times D.honest (D.seen disk.old) items
+    ensures tells { IfOk result (λ run. (world : World) (looks : List ℕ → Option FileLook) → I.allows includes.new world → T.allows tree.new looks
+        → (items : List MakefileItem) × AreItems world looks given.entry.makefiles.now (first_defined given.entry.profile given.entry.definitions.now given.entry.environment.now) items
+        × Tells given.entry.profile given.entry.definitions.now given.entry.environment.now targets given.entry.makes_all given.entry.goes_on looks D.honest (D.seen disk.old) items
         given.entry.shows.telling given.entry.shows.recipes run) }
-    ensures fault { IfErr result (λ fault. (world : World) (times : List ℕ → Option ℤ) → I.allows includes.new world → T.allows tree.new times
-        → IsRunFault (IsTextFault world times (T.refuses tree.new) given.entry.makefiles.now (first_defined given.entry.profile given.entry.definitions.now given.entry.environment.now))
-        (AreItems world times given.entry.makefiles.now (first_defined given.entry.profile given.entry.definitions.now given.entry.environment.now))
-        (IsPlanFault given.entry.profile given.entry.definitions.now given.entry.environment.now targets given.entry.makes_all given.entry.goes_on times (T.refuses tree.new) D.honest (D.seen disk.old))
+    ensures fault { IfErr result (λ fault. (world : World) (looks : List ℕ → Option FileLook) → I.allows includes.new world → T.allows tree.new looks
+        → IsRunFault (IsTextFault world looks (T.refuses tree.new) given.entry.makefiles.now (first_defined given.entry.profile given.entry.definitions.now given.entry.environment.now))
+        (AreItems world looks given.entry.makefiles.now (first_defined given.entry.profile given.entry.definitions.now given.entry.environment.now))
+        (IsPlanFault given.entry.profile given.entry.definitions.now given.entry.environment.now targets given.entry.makes_all given.entry.goes_on looks (T.refuses tree.new) D.honest (D.seen disk.old))
         fault) }
     ensures seen { D.honest → D.seen disk.new ≡ D.seen disk.old }
     ensures moments { D.honest → D.moments disk.new ≡ D.moments disk.old }

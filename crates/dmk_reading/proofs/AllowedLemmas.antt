@@ -1,4 +1,4 @@
--- What holds for each of the files and times that are allowed.
+-- What holds for each of the files and looks that are allowed.
 use Rattle.std.specs.Prelude.{Result, Ok, Err, IfOk, IfErr}
 
 -- what is so of the value for each that is allowed

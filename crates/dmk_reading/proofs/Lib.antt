@@ -5,6 +5,5 @@ pub mod GraphLemmas
 pub mod KeepingLemmas
 pub mod LostLemmas
 pub mod MakefileLemmas
-pub mod OutputLemmas
 pub mod OwnLemmas
 pub mod PassingLemmas

@@ -1,5 +1,5 @@
 -- Which file is the makefile, and what reading its text says, in the words of its file; and so of several that are named.
-use Rattle.std.proofs.Common.{◌≡◌, ◌∙◌, inl, inr, ℕ, ℤ, Bool, true, false, not, List, [], ◌∷◌, ◌++◌, append_assoc, append-nil, Option, Some, None, is_some, option_map, Result, Ok, Err, IfErr, IsErrAnd, IfSome, IsTrue, refl, sym, ap, subst}
+use Rattle.std.proofs.Common.{◌≡◌, ◌∙◌, inl, inr, ℕ, Bool, true, false, not, List, [], ◌∷◌, ◌++◌, append_assoc, append-nil, Option, Some, None, is_some, option_map, Result, Ok, Err, IfErr, IsErrAnd, IfSome, IsTrue, refl, sym, ap, subst}
 use Rattle.mk_eval.specs.Output.{World}
 use Rattle.mk_eval.specs.Makefile.{InOrder, TextItems, GivesItems, Outcome, behind, depth, with_front}
 use Rattle.mk_macros.specs.Ranks.{Defined}
@@ -15,12 +15,13 @@ use Rattle.dmk_reading.specs.Makefile.{IsUsualMakefile, NamedItems, AllItems, fi
 use Rattle.dmk_reading.specs.BuiltIn.{TellsOwn, standing, reads_rules, rules_name, rules_text, AreRules}
 use Rattle.dmk_reading.specs.Planned.{AreItems, AreOwnItems, WithRules}
 use Rattle.dmk_reading.specs.Faults.{IsFaultAmong, IsFaultOfOne, IsFaultOfRules, IsOwnFault, IsReadFault, IsRulesFault, IsTextFault}
-use Rattle.dmk_reading.specs.declared.fault.Fault.{Fault}
-use Rattle.dmk_reading.specs.declared.fault.Fault.TheVariants as fault
-use Rattle.dmk_reading.specs.declared.fault.Fault.TheVariants.{Read}
+use Rattle.dmk_messages.specs.declared.fault.Fault.{Fault}
+use Rattle.dmk_messages.specs.declared.fault.Fault.TheVariants as fault
+use Rattle.dmk_messages.specs.declared.fault.Fault.TheVariants.{Read}
 use Rattle.dmk_reading.specs.declared.makefile.Makefile.{Makefile}
 use Rattle.dmk_reading.specs.declared.makefiles.Makefiles.{Makefiles}
 use Rattle.dmk_reading.proofs.OwnLemmas.{tells_once}
+use Rattle.mk_nodes.specs.declared.file_look.FileLook.{FileLook}
 
 -- a time that isn't there, and one that is
 pub none_is : {A : Type 0} (o : Option A) (none : Bool) → is_some o ≡ not none → IsTrue none → o ≡ None
@@ -31,30 +32,30 @@ pub some_is : {A : Type 0} (o other : Option A) (none : Bool) → o ≡ other �
 some_is o other none same is told = sym (ap is_some same) ∙ is ∙ ap not told
 
 -- the file is `makefile`
-pub first_is : (world : World) (times : List ℕ → Option ℤ) (found : Option Makefile) (m : Makefile) → found ≡ Some m →
-    IfSome found (λ x. x.file ≡ first_name) → world.files first_name ≡ option_map (λ x. x.text.value.items) found → IsUsualMakefile world times m.file m.text.value.items
-first_is world times found m is file read =
+pub first_is : (world : World) (looks : List ℕ → Option FileLook) (found : Option Makefile) (m : Makefile) → found ≡ Some m →
+    IfSome found (λ x. x.file ≡ first_name) → world.files first_name ≡ option_map (λ x. x.text.value.items) found → IsUsualMakefile world looks m.file m.text.value.items
+first_is world looks found m is file read =
     inl (subst (λ o. IfSome o (λ x. x.file ≡ first_name)) is file, read ∙ ap (option_map (λ (x : Makefile). x.text.value.items)) is)
 
 -- it is `Makefile`
-pub second_is : (world : World) (times : List ℕ → Option ℤ) (found : Option Makefile) (m : Makefile) → found ≡ Some m →
-    world.files first_name ≡ None → times first_name ≡ None → IfSome found (λ x. x.file ≡ second_name) →
-    world.files second_name ≡ option_map (λ x. x.text.value.items) found → IsUsualMakefile world times m.file m.text.value.items
-second_is world times found m is none absent file read =
+pub second_is : (world : World) (looks : List ℕ → Option FileLook) (found : Option Makefile) (m : Makefile) → found ≡ Some m →
+    world.files first_name ≡ None → looks first_name ≡ None → IfSome found (λ x. x.file ≡ second_name) →
+    world.files second_name ≡ option_map (λ x. x.text.value.items) found → IsUsualMakefile world looks m.file m.text.value.items
+second_is world looks found m is none absent file read =
     inr (subst (λ o. IfSome o (λ x. x.file ≡ second_name)) is file, (none, (absent, read ∙ ap (option_map (λ (x : Makefile). x.text.value.items)) is)))
 
-module _ (world : World) (times : List ℕ → Option ℤ) (given : Defined)
-    (file name text bytes : List ℕ) (is_file : name ≡ file) (is_text : bytes ≡ text) (is_makefile : IsUsualMakefile world times file text) where
+module _ (world : World) (looks : List ℕ → Option FileLook) (given : Defined)
+    (file name text bytes : List ℕ) (is_file : name ≡ file) (is_text : bytes ≡ text) (is_makefile : IsUsualMakefile world looks file text) where
   -- what the bytes give under a name is what the makefile's text gives
   read_alike : (outcome : Outcome) → TextItems world depth given name bytes outcome → TextItems world depth given file text outcome
   read_alike outcome gives =
       subst (λ f. TextItems world depth given f text outcome) is_file
       (subst (λ t. TextItems world depth given name t outcome) is_text gives)
 
-  pub read_items : (items : List Item) → TextItems world depth given name bytes (Ok items) → AreOwnItems world times [] given items
+  pub read_items : (items : List Item) → TextItems world depth given name bytes (Ok items) → AreOwnItems world looks [] given items
   read_items items gives = record { file = file; text = text; is_makefile = is_makefile; read = read_alike (Ok items) gives }
 
-  pub read_refused : (fault : ReadFault) → GivesItems (Err fault) (TextItems world depth given name bytes) → IsReadFault world times [] given fault
+  pub read_refused : (fault : ReadFault) → GivesItems (Err fault) (TextItems world depth given name bytes) → IsReadFault world looks [] given fault
   read_refused OutOfMemory gives = tt
   read_refused (Refused refusal) gives = (file, text, is_makefile, read_alike (Err refusal) gives)
 
@@ -154,13 +155,13 @@ pub some_named : {A : Type 0} (names : List A) (none : Bool) → (names ≡ [] �
 some_named names none is some empty = let both : true ≡ false = sym (is empty) ∙ some in cc
 
 -- so it is of the makefiles of a run, where some are named
-module _ (world : World) (times : List ℕ → Option ℤ) (given : Defined) where
-  pub items_among : (names : List (List ℕ)) (items : List Item) → (names ≡ [] → ⊥) → AllItems world given names (Ok items) → AreOwnItems world times names given items
+module _ (world : World) (looks : List ℕ → Option FileLook) (given : Defined) where
+  pub items_among : (names : List (List ℕ)) (items : List Item) → (names ≡ [] → ⊥) → AllItems world given names (Ok items) → AreOwnItems world looks names given items
   items_among [] items some gives = absurd (some refl)
   items_among (name ∷ names) items some gives = gives
 
   pub text_fault_among : (refuses : List ℕ → Type 0) (names : List (List ℕ)) (f : Fault) → (names ≡ [] → ⊥) → IsFaultAmong world given names f →
-      IsOwnFault world times refuses names given f
+      IsOwnFault world looks refuses names given f
   text_fault_among refuses [] f some is = absurd (some refl)
   text_fault_among refuses (name ∷ names) fault.OutOfMemory some is = tt
   text_fault_among refuses (name ∷ names) fault.NoMakefile some is = is
@@ -180,13 +181,13 @@ one_text content a b is_a is_b = same_Some a b (sym is_a ∙ is_b)
 no_text : (content : Option (List ℕ)) (a : List ℕ) → content ≡ Some a → content ≡ None → ⊥
 no_text content a is none = let both : Some a ≡ None = sym is ∙ none in cc
 
-makefile_once : (world : World) (times : List ℕ → Option ℤ) (file other text bytes : List ℕ) →
-    IsUsualMakefile world times file text → IsUsualMakefile world times other bytes → (file ≡ other) × (text ≡ bytes)
-makefile_once world times file other text bytes (inl (is_a, of_a)) (inl (is_b, of_b)) =
+makefile_once : (world : World) (looks : List ℕ → Option FileLook) (file other text bytes : List ℕ) →
+    IsUsualMakefile world looks file text → IsUsualMakefile world looks other bytes → (file ≡ other) × (text ≡ bytes)
+makefile_once world looks file other text bytes (inl (is_a, of_a)) (inl (is_b, of_b)) =
     (is_a ∙ sym is_b, one_text (world.files first_name) text bytes of_a of_b)
-makefile_once world times file other text bytes (inl (is_a, of_a)) (inr (is_b, of_b)) = absurd (no_text (world.files first_name) text of_a of_b.0)
-makefile_once world times file other text bytes (inr (is_a, of_a)) (inl (is_b, of_b)) = absurd (no_text (world.files first_name) bytes of_b of_a.0)
-makefile_once world times file other text bytes (inr (is_a, of_a)) (inr (is_b, of_b)) =
+makefile_once world looks file other text bytes (inl (is_a, of_a)) (inr (is_b, of_b)) = absurd (no_text (world.files first_name) text of_a of_b.0)
+makefile_once world looks file other text bytes (inr (is_a, of_a)) (inl (is_b, of_b)) = absurd (no_text (world.files first_name) bytes of_b of_a.0)
+makefile_once world looks file other text bytes (inr (is_a, of_a)) (inr (is_b, of_b)) =
     (is_a ∙ sym is_b, one_text (world.files second_name) text bytes of_a.1.1 of_b.1.1)
 
 named_once : (world : World) (given : Defined) (name : List ℕ) (one other : Outcome) → NamedItems world given name one → NamedItems world given name other → one ≡ other
@@ -194,13 +195,13 @@ named_once world given name one other (text, holds, gives) (bytes, also, gave) =
     text_one world depth given name bytes one other
     (subst (λ t. TextItems world depth given name t one) (one_text (world.files name) text bytes holds also) gives) gave
 
-own_once : (world : World) (times : List ℕ → Option ℤ) (named : List (List ℕ)) (given : Defined) (a b : List Item) →
-    AreOwnItems world times named given a → AreOwnItems world times named given b → a ≡ b
-own_once world times [] given a b of_a of_b =
-    let same = makefile_once world times of_a.file of_b.file of_a.text of_b.text of_a.is_makefile of_b.is_makefile in
-    let read = read_alike world times given of_b.file of_a.file of_b.text of_a.text same.0 same.1 of_b.is_makefile (Ok a) of_a.read in
+own_once : (world : World) (looks : List ℕ → Option FileLook) (named : List (List ℕ)) (given : Defined) (a b : List Item) →
+    AreOwnItems world looks named given a → AreOwnItems world looks named given b → a ≡ b
+own_once world looks [] given a b of_a of_b =
+    let same = makefile_once world looks of_a.file of_b.file of_a.text of_b.text of_a.is_makefile of_b.is_makefile in
+    let read = read_alike world looks given of_b.file of_a.file of_b.text of_a.text same.0 same.1 of_b.is_makefile (Ok a) of_a.read in
     same_items a b (Ok a) (Ok b) refl refl (text_one world depth given of_b.file of_b.text (Ok a) (Ok b) read of_b.read)
-own_once world times (name ∷ names) given a b of_a of_b =
+own_once world looks (name ∷ names) given a b of_a of_b =
     same_items a b (Ok a) (Ok b) refl refl
     (order_one behind (NamedItems world) (named_once world) given (name ∷ names) (Ok a) (Ok b) of_a of_b)
 
@@ -220,10 +221,10 @@ behind_once world Own given one true a b of_a of_b =
     (rules_one world given of_b.own (Ok of_a.rules) (Ok of_b.rules) (subst (λ items. AreRules world given items (Ok of_a.rules)) own of_a.are_rules) of_b.are_rules) in
     of_a.whole ∙ ap (λ front. front ++ of_a.own) rules ∙ ap (λ items. of_b.rules ++ items) own ∙ sym of_b.whole
 
-pub items_once : (world : World) (times : List ℕ → Option ℤ) (makefiles : Makefiles) (given : Defined) (a b : List Item) →
-    AreItems world times makefiles given a → AreItems world times makefiles given b → a ≡ b
-items_once world times makefiles given =
-    behind_once world (AreOwnItems world times makefiles.named given) given (own_once world times makefiles.named given) (reads_rules makefiles given.language)
+pub items_once : (world : World) (looks : List ℕ → Option FileLook) (makefiles : Makefiles) (given : Defined) (a b : List Item) →
+    AreItems world looks makefiles given a → AreItems world looks makefiles given b → a ≡ b
+items_once world looks makefiles given =
+    behind_once world (AreOwnItems world looks makefiles.named given) given (own_once world looks makefiles.named given) (reads_rules makefiles given.language)
 
 -- ---- all that is read
 
@@ -240,20 +241,20 @@ pub rules_refused : (world : World) (given : Defined) (items : List Item) (left 
 rules_refused world given items left own tells is OutOfMemory read = tt
 rules_refused world given items left own tells is (Refused refusal) read = rules_given world given items left own tells is (Err refusal) read
 
-module _ (world : World) (times : List ℕ → Option ℤ) (makefiles : Makefiles) (given : Defined) (own : List Item) where
+module _ (world : World) (looks : List ℕ → Option FileLook) (makefiles : Makefiles) (given : Defined) (own : List Item) where
   abbrev Own : List Item → Type 0
-  Own items = AreOwnItems world times makefiles.named given items
+  Own items = AreOwnItems world looks makefiles.named given items
 
-  pub without_rules : reads_rules makefiles given.language ≡ false → Own own → AreItems world times makefiles given own
+  pub without_rules : reads_rules makefiles given.language ≡ false → Own own → AreItems world looks makefiles given own
   without_rules reads is = subst (λ b. WithRules b world Own given own) (sym reads) is
 
   pub behind_rules : reads_rules makefiles given.language ≡ true → Own own → (rules items : List Item) → AreRules world given own (Ok rules) →
-      items ≡ rules ++ own → AreItems world times makefiles given items
+      items ≡ rules ++ own → AreItems world looks makefiles given items
   behind_rules reads is rules items are whole =
       subst (λ b. WithRules b world Own given items) (sym reads) (record { rules = rules; own = own; whole = whole; are_rules = are; are_own = is })
 
   pub fault_behind : (refuses : List ℕ → Type 0) → reads_rules makefiles given.language ≡ true → Own own → (f : Fault) →
-      IsFaultOfRules world given own f → IsTextFault world times refuses makefiles given f
+      IsFaultOfRules world given own f → IsTextFault world looks refuses makefiles given f
   fault_behind refuses reads is fault.OutOfMemory of_f = tt
   fault_behind refuses reads is (fault.Read f) of_f = inr (subst (λ b. IsRulesFault b world Own given f) (sym reads) (own, is, of_f))
   fault_behind refuses reads is fault.NoMakefile of_f = absurd of_f
@@ -262,12 +263,12 @@ module _ (world : World) (times : List ℕ → Option ℤ) (makefiles : Makefile
   fault_behind refuses reads is (fault.Recipe f) of_f = absurd of_f
   fault_behind refuses reads is fault.Write of_f = absurd of_f
 
-pub own_fault : (world : World) (times : List ℕ → Option ℤ) (makefiles : Makefiles) (given : Defined)
-    (refuses : List ℕ → Type 0) (f : Fault) → IsOwnFault world times refuses makefiles.named given f → IsTextFault world times refuses makefiles given f
-own_fault world times makefiles given refuses fault.OutOfMemory is = is
-own_fault world times makefiles given refuses fault.NoMakefile is = is
-own_fault world times makefiles given refuses (fault.Read f) is = inl is
-own_fault world times makefiles given refuses (fault.State f) is = is
-own_fault world times makefiles given refuses (fault.Rules f) is = is
-own_fault world times makefiles given refuses (fault.Recipe f) is = is
-own_fault world times makefiles given refuses fault.Write is = is
+pub own_fault : (world : World) (looks : List ℕ → Option FileLook) (makefiles : Makefiles) (given : Defined)
+    (refuses : List ℕ → Type 0) (f : Fault) → IsOwnFault world looks refuses makefiles.named given f → IsTextFault world looks refuses makefiles given f
+own_fault world looks makefiles given refuses fault.OutOfMemory is = is
+own_fault world looks makefiles given refuses fault.NoMakefile is = is
+own_fault world looks makefiles given refuses (fault.Read f) is = inl is
+own_fault world looks makefiles given refuses (fault.State f) is = is
+own_fault world looks makefiles given refuses (fault.Rules f) is = is
+own_fault world looks makefiles given refuses (fault.Recipe f) is = is
+own_fault world looks makefiles given refuses fault.Write is = is

@@ -16,10 +16,6 @@ pub mod Passing
 pub mod Planned
 -- Faults: what a fault says that is met before a graph is made.
 pub mod Faults
--- Messages: what is said of faults and of soft edges.
-pub mod Messages
--- Output: what went out.
-pub mod Output
 -- Base: what -p prints.
 pub mod Base
 -- StateName: which state is kept where none is named.

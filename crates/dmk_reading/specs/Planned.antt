@@ -1,5 +1,5 @@
 -- From the text of makefiles to a graph: each stage is that of its crate.
-use Rattle.std.specs.Prelude.{◌≡◌, ℕ, ℤ, Bool, true, false, List, [], ◌∷◌, ◌++◌, Option, Ok}
+use Rattle.std.specs.Prelude.{◌≡◌, ℕ, Bool, true, false, List, [], ◌∷◌, ◌++◌, Option, Ok}
 use Rattle.std.specs.FinMap as map
 use Rattle.mk_profile.specs.declared.profile.Profile.{Profile}
 use Rattle.mk_macros.specs.Ranks.{Defined, defined_by}
@@ -20,6 +20,7 @@ use Rattle.dmk_reading.specs.BuiltIn.{reads_rules, AreRules}
 use Rattle.dmk_reading.specs.Makefile.{IsUsualMakefile, AllItems}
 use Rattle.dmk_reading.specs.declared.makefiles.Makefiles.{Makefiles}
 use Rattle.bd_lists.specs.declared.recipe.Variable.{Variable}
+use Rattle.mk_nodes.specs.declared.file_look.FileLook.{FileLook}
 
 -- the state that a run goes by: what the two sides recover where state is kept, and else none
 abbrev pub IsStateOf : (keeping : Bool) (seen : Which → List ℕ) (m : StateMap) → Type 0
@@ -33,16 +34,16 @@ IsStateOn false disk_honest seen m = IsStateOf false seen m
 
 -- the items are those of the makefile where none is named, by what the files hold and whether there is a file of a name, in
 -- its language and with what is defined before it
-pub record AreUsualItems (world : World) (times : List ℕ → Option ℤ) (given : Defined) (items : List Item) : Type 0 where
+pub record AreUsualItems (world : World) (looks : List ℕ → Option FileLook) (given : Defined) (items : List Item) : Type 0 where
   pub file : List ℕ
   pub text : List ℕ
-  pub is_makefile : IsUsualMakefile world times file text
+  pub is_makefile : IsUsualMakefile world looks file text
   pub read : TextItems world depth given file text (Ok items)
 
 -- the items are those of the makefiles that are named, one behind the other, or else of the usual one
-abbrev pub AreOwnItems : (world : World) (times : List ℕ → Option ℤ) (named : List (List ℕ)) → Defined → (items : List Item) → Type 0
-AreOwnItems world times [] given items = AreUsualItems world times given items
-AreOwnItems world times (name ∷ names) given items = AllItems world given (name ∷ names) (Ok items)
+abbrev pub AreOwnItems : (world : World) (looks : List ℕ → Option FileLook) (named : List (List ℕ)) → Defined → (items : List Item) → Type 0
+AreOwnItems world looks [] given items = AreUsualItems world looks given items
+AreOwnItems world looks (name ∷ names) given items = AllItems world given (name ∷ names) (Ok items)
 
 -- the tool's rules stand in front of these items
 pub record AreBehindRules (world : World) (Own : List Item → Type 0) (given : Defined) (items : List Item) : Type 0 where
@@ -57,22 +58,22 @@ WithRules false world Own given items = Own items
 WithRules true world Own given items = AreBehindRules world Own given items
 
 -- all items: those of the makefiles, behind the tool's rules where these are read
-abbrev pub AreItems : (world : World) (times : List ℕ → Option ℤ) → Makefiles → Defined → (items : List Item) → Type 0
-AreItems world times makefiles given =
-    WithRules (reads_rules makefiles given.language) world (AreOwnItems world times makefiles.named given) given
+abbrev pub AreItems : (world : World) (looks : List ℕ → Option FileLook) → Makefiles → Defined → (items : List Item) → Type 0
+AreItems world looks makefiles given =
+    WithRules (reads_rules makefiles given.language) world (AreOwnItems world looks makefiles.named given) given
 
 -- the graph of these items for the targets that are named, with this state, in the language of the profile
-pub record IsGraphOf (profile : Profile) (definitions environment : List Variable) (targets : List (List ℕ)) (times : List ℕ → Option ℤ)
+pub record IsGraphOf (profile : Profile) (definitions environment : List Variable) (targets : List (List ℕ)) (looks : List ℕ → Option FileLook)
     (items : List Item) (state : StateMap) (graph : Graph) : Type 0 where
   pub inputs : Inputs
-  pub are_inputs : AreInputs (first_defined profile definitions environment) items times (map.get state) inputs
+  pub are_inputs : AreInputs (first_defined profile definitions environment) items looks (map.get state) inputs
   pub is_graph : IsGraph inputs targets graph
   pub macros : defined_by graph.macros ≡ behind_items (first_defined profile definitions environment) items
 
 -- so it is, and each name in it has a file, or something makes it
-pub record IsWholeGraphOf (profile : Profile) (definitions environment : List Variable) (targets : List (List ℕ)) (times : List ℕ → Option ℤ)
+pub record IsWholeGraphOf (profile : Profile) (definitions environment : List Variable) (targets : List (List ℕ)) (looks : List ℕ → Option FileLook)
     (items : List Item) (state : StateMap) (graph : Graph) : Type 0 where
-  pub is_graph : IsGraphOf profile definitions environment targets times items state graph
+  pub is_graph : IsGraphOf profile definitions environment targets looks items state graph
   pub all_made : graph.unmade.items ≡ []
 
 -- the graph by which targets are judged: where all are to be made, nothing is recorded of any of them

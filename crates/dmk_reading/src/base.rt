@@ -1,17 +1,18 @@
 //! What -p prints: macros and rules as they were read, and where they stand.
-ghost use Rattle.std.specs.Prelude.{◌≡◌, ◌++◌, ℕ, ℤ, List, Option, codes, map, IfOk, OnOk};
+ghost use Rattle.std.specs.Prelude.{◌≡◌, ◌++◌, ℕ, List, Option, codes, map, IfOk, OnOk};
 ghost use Rattle.std.specs.List.{flat_map};
 ghost use Rattle.mk_reader.specs.declared.item.Item.{Item as MakefileItem};
 ghost use Rattle.dmk_reading.specs.Base.{origin_line, place_line, equals, macro_line, definition_text, colons, target_line, recipe_line, rule_text, item_text, variable_text, base_text};
 ghost use Rattle.dmk_reading.specs.Definitions.{first_defined, variable, tool_macros, environment_macros};
 ghost use Rattle.dmk_reading.specs.Planned.{AreItems};
 ghost use Rattle.mk_eval.specs.Output.{World};
+ghost use Rattle.mk_nodes.specs.declared.file_look.FileLook.{FileLook};
 
 use crate::definitions::table;
-use crate::fault::Fault;
 use crate::makefile::items_of;
 use crate::makefiles::Makefiles;
 use bd_lists::Variable;
+use dmk_messages::Fault;
 use mk_eval::Includes;
 use mk_profile::Profile;
 use mk_reader::{Definition, Item, RecipeLine, Rule};
@@ -229,8 +230,8 @@ pub fn base_of<T: Tree, I: Includes>(
     tree: &mut T,
     includes: &mut I,
 ) -> Result<Vec<u8>, Fault>
-    ensures { IfOk result (λ text. (world : World) (times : List ℕ → Option ℤ) → I.allows includes.new world → T.allows tree.new times
-        → (items : List MakefileItem) × AreItems world times makefiles.now (first_defined profile definitions.now environment.now) items
+    ensures { IfOk result (λ text. (world : World) (looks : List ℕ → Option FileLook) → I.allows includes.new world → T.allows tree.new looks
+        → (items : List MakefileItem) × AreItems world looks makefiles.now (first_defined profile definitions.now environment.now) items
         × (text.items ≡ base_text profile definitions.now environment.now items)) }
 {
     let items = items_of(

@@ -1,17 +1,18 @@
 //! The graph of what is to be made, and the one by which it is judged.
-ghost use Rattle.std.specs.Prelude.{◌≡◌, ◌⊎◌, ℕ, ℤ, List, [], Option, false, IfOk, IfErr};
+ghost use Rattle.std.specs.Prelude.{◌≡◌, ◌⊎◌, ℕ, List, [], Option, false, IfOk, IfErr};
 ghost use Rattle.std.specs.FinMap as finmap;
 ghost use Rattle.mk_rules.specs.Faults.{IsRuleFault};
 ghost use Rattle.mk_rules.specs.Limit.{node_limit};
 ghost use Rattle.mk_rule_lines.specs.declared.fault.RuleFault.{RuleFault as RulesFault};
 ghost use Rattle.dmk_reading.specs.Definitions.{first_defined};
 ghost use Rattle.dmk_reading.specs.Planned.{IsGraphOf, judged_graph};
-ghost use Rattle.dmk_reading.specs.declared.fault.Fault.TheVariants as faults;
+ghost use Rattle.dmk_messages.specs.declared.fault.Fault.TheVariants as faults;
+ghost use Rattle.mk_nodes.specs.declared.file_look.FileLook.{FileLook};
 
 use crate::definitions::first_macros;
-use crate::fault::Fault;
 use bd_lists::Variable;
 use byte_strings::ByteStrings;
+use dmk_messages::Fault;
 use mk_nodes::Graph;
 use mk_profile::Profile;
 use mk_reader::Item;
@@ -33,16 +34,16 @@ pub fn graph_of<T: Tree>(
     state: State,
     goes_without: bool,
 ) -> Result<Graph, Fault>
-    ensures graph { IfOk result (λ graph. (times : List ℕ → Option ℤ) → T.allows tree.new times
-        → IsGraphOf profile definitions.now environment.now targets times items.items state graph) }
+    ensures graph { IfOk result (λ graph. (looks : List ℕ → Option FileLook) → T.allows tree.new looks
+        → IsGraphOf profile definitions.now environment.now targets looks items.items state graph) }
     ensures made { goes_without ≡ false → IfOk result (λ graph. graph.unmade.items ≡ []) }
     ensures fault { IfErr result (λ fault. (fault ≡ faults.OutOfMemory)
         ⊎ ((f : RulesFault) × (fault ≡ faults.Rules f)
-        × ((times : List ℕ → Option ℤ) → T.allows tree.new times
-        → IsRuleFault (first_defined profile definitions.now environment.now) items.items times
+        × ((looks : List ℕ → Option FileLook) → T.allows tree.new looks
+        → IsRuleFault (first_defined profile definitions.now environment.now) items.items looks
         (finmap.get state) (T.refuses tree.new) targets (node_limit profile) f))) }
     ensures state { IfOk result (λ graph. graph.state ≡ state) }
-    ensures times { (times : List ℕ → Option ℤ) → T.allows tree.new times → T.allows tree.old times }
+    ensures looks { (looks : List ℕ → Option FileLook) → T.allows tree.new looks → T.allows tree.old looks }
 {
     let macros = first_macros(alloc, profile, definitions, environment)?;
     let limit = node_limit(profile);

@@ -1,5 +1,5 @@
 //! What holds of the definitions alone. The functions do nothing: what they ensure is the law.
-ghost use Rattle.std.specs.Prelude.{◌≡◌, ℕ, ℤ, List, Option};
+ghost use Rattle.std.specs.Prelude.{◌≡◌, ℕ, List, Option};
 ghost use Rattle.std.specs.List.{list_any};
 ghost use Rattle.mk_reader.specs.declared.item.Item.{Item};
 ghost use Rattle.mk_rule_lines.specs.Goals.{is_keep_state, has_special};
@@ -14,6 +14,7 @@ ghost use Rattle.dmk_reading.specs.Passing.{PassesEach};
 ghost use Rattle.dmk_reading.specs.Planned.{AreItems};
 ghost use Rattle.dmk_reading.specs.declared.makefiles.Makefiles.{Makefiles};
 ghost use Rattle.mk_eval.specs.Output.{World};
+ghost use Rattle.mk_nodes.specs.declared.file_look.FileLook.{FileLook};
 
 /// State is kept by the items of a makefile just where it is by their rule lines.
 pub fn one_reading_of_the_settings()
@@ -21,10 +22,10 @@ pub fn one_reading_of_the_settings()
         → has_special is_keep_state lines ≡ list_any is_keep_item items }
 {}
 
-/// By the same files and times there are the same makefiles, with one list of items.
+/// By the same files and looks there are the same makefiles, with one list of items.
 pub fn one_makefile()
-    ensures { (world : World) (times : List ℕ → Option ℤ) (makefiles : Makefiles) (given : Defined) (a b : List Item)
-        → AreItems world times makefiles given a → AreItems world times makefiles given b → a ≡ b }
+    ensures { (world : World) (looks : List ℕ → Option FileLook) (makefiles : Makefiles) (given : Defined) (a b : List Item)
+        → AreItems world looks makefiles given a → AreItems world looks makefiles given b → a ≡ b }
 {}
 
 /// A plan passes each node of its graph just once, behind all that it counts.

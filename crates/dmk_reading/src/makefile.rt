@@ -1,5 +1,5 @@
 //! The makefiles: which files they are, and their items.
-ghost use Rattle.std.specs.Prelude.{◌≡◌, ◌++◌, ℕ, ℤ, List, Option, None, [], Ok, IfOk, IfErr, IfSome, IsTrue, option_map, false};
+ghost use Rattle.std.specs.Prelude.{◌≡◌, ◌++◌, ℕ, List, Option, None, [], Ok, IfOk, IfErr, IfSome, IsTrue, option_map, false};
 ghost use Rattle.mk_macros.specs.Ranks.{Defined, defined_by};
 ghost use Rattle.mk_eval.specs.Output.{World};
 ghost use Rattle.mk_eval.specs.Makefile.{behind};
@@ -8,15 +8,16 @@ ghost use Rattle.dmk_reading.specs.Makefile.{MayBeThere, IsUsualMakefile, NamedI
 ghost use Rattle.dmk_reading.specs.BuiltIn.{AreRules};
 ghost use Rattle.dmk_reading.specs.Planned.{AreItems, AreOwnItems};
 ghost use Rattle.dmk_reading.specs.Faults.{IsTextFault, IsOwnFault, IsFaultOfRules, IsFaultOfOne, IsFaultAmong};
-ghost use Rattle.dmk_reading.specs.declared.fault.Fault.TheVariants.{OutOfMemory, NoMakefile};
+ghost use Rattle.dmk_messages.specs.declared.fault.Fault.TheVariants.{OutOfMemory, NoMakefile};
+ghost use Rattle.mk_nodes.specs.declared.file_look.FileLook.{FileLook};
 
 use crate::built_in::{reads_rules, rules_before};
 use crate::definitions::first_macros;
-use crate::fault::Fault;
 use crate::makefiles::Makefiles;
 use crate::own_rules::standing_rules;
 use bd_lists::Variable;
 use byte_strings::{ByteString, ByteStrings};
+use dmk_messages::Fault;
 use mk_eval::{Includes, read_makefile};
 use mk_macros::Macros;
 use mk_profile::Profile;
@@ -64,10 +65,10 @@ fn file_named<I: Includes>(
 
 /// Whether there is no file of this name, not even one that can't be read.
 fn is_absent<T: Tree>(alloc: Global, name: &[u8], tree: &mut T) -> Result<bool, Fault>
-    ensures absent { IfOk result (λ absent. IsTrue absent → (times : List ℕ → Option ℤ) → T.allows tree.new times → times name.now ≡ None) }
-    ensures there { IfOk result (λ absent. absent ≡ false → (times : List ℕ → Option ℤ) → T.allows tree.new times
-        → MayBeThere times (T.refuses tree.new) name.now) }
-    ensures times { (times : List ℕ → Option ℤ) → T.allows tree.new times → T.allows tree.old times }
+    ensures absent { IfOk result (λ absent. IsTrue absent → (looks : List ℕ → Option FileLook) → T.allows tree.new looks → looks name.now ≡ None) }
+    ensures there { IfOk result (λ absent. absent ≡ false → (looks : List ℕ → Option FileLook) → T.allows tree.new looks
+        → MayBeThere looks (T.refuses tree.new) name.now) }
+    ensures looks { (looks : List ℕ → Option FileLook) → T.allows tree.new looks → T.allows tree.old looks }
     ensures kept { (n : List ℕ) → T.refuses tree.old n → T.refuses tree.new n }
     ensures fault { IfErr result (λ fault. fault ≡ OutOfMemory) }
 {
@@ -84,12 +85,12 @@ fn usual_makefile<T: Tree, I: Includes>(
     tree: &mut T,
     includes: &mut I,
 ) -> Result<Makefile, Fault>
-    ensures makefile { IfOk result (λ m. (world : World) (times : List ℕ → Option ℤ) → I.allows includes.new world → T.allows tree.new times
-        → IsUsualMakefile world times m.file m.text.value.items) }
-    ensures fault { IfErr result (λ fault. (world : World) (times : List ℕ → Option ℤ) (given : Defined) → I.allows includes.new world → T.allows tree.new times
-        → IsOwnFault world times (T.refuses tree.new) [] given fault) }
+    ensures makefile { IfOk result (λ m. (world : World) (looks : List ℕ → Option FileLook) → I.allows includes.new world → T.allows tree.new looks
+        → IsUsualMakefile world looks m.file m.text.value.items) }
+    ensures fault { IfErr result (λ fault. (world : World) (looks : List ℕ → Option FileLook) (given : Defined) → I.allows includes.new world → T.allows tree.new looks
+        → IsOwnFault world looks (T.refuses tree.new) [] given fault) }
     ensures files { (world : World) → I.allows includes.new world → I.allows includes.old world }
-    ensures times { (times : List ℕ → Option ℤ) → T.allows tree.new times → T.allows tree.old times }
+    ensures looks { (looks : List ℕ → Option FileLook) → T.allows tree.new looks → T.allows tree.old looks }
     ensures kept { (n : List ℕ) → T.refuses tree.old n → T.refuses tree.new n }
 {
     if let Some(makefile) = file_named(alloc, FIRST_NAME, includes)? {
@@ -111,11 +112,11 @@ fn usual_items<T: Tree, I: Includes>(
     tree: &mut T,
     includes: &mut I,
 ) -> Result<Vec<Item>, Fault>
-    ensures items { IfOk result (λ items. (world : World) (times : List ℕ → Option ℤ) → I.allows includes.new world → T.allows tree.new times
-        → AreOwnItems world times [] (defined_by macros.old) items.items) }
-    ensures fault { IfErr result (λ fault. (world : World) (times : List ℕ → Option ℤ) → I.allows includes.new world → T.allows tree.new times
-        → IsOwnFault world times (T.refuses tree.new) [] (defined_by macros.old) fault) }
-    ensures times { (times : List ℕ → Option ℤ) → T.allows tree.new times → T.allows tree.old times }
+    ensures items { IfOk result (λ items. (world : World) (looks : List ℕ → Option FileLook) → I.allows includes.new world → T.allows tree.new looks
+        → AreOwnItems world looks [] (defined_by macros.old) items.items) }
+    ensures fault { IfErr result (λ fault. (world : World) (looks : List ℕ → Option FileLook) → I.allows includes.new world → T.allows tree.new looks
+        → IsOwnFault world looks (T.refuses tree.new) [] (defined_by macros.old) fault) }
+    ensures looks { (looks : List ℕ → Option FileLook) → T.allows tree.new looks → T.allows tree.old looks }
     ensures kept { (n : List ℕ) → T.refuses tree.old n → T.refuses tree.new n }
 {
     let makefile = usual_makefile(alloc, tree, includes)?;
@@ -180,11 +181,11 @@ fn own_items<T: Tree, I: Includes>(
     tree: &mut T,
     includes: &mut I,
 ) -> Result<Vec<Item>, Fault>
-    ensures items { IfOk result (λ items. (world : World) (times : List ℕ → Option ℤ) → I.allows includes.new world → T.allows tree.new times
-        → AreOwnItems world times named.now (first_defined profile definitions.now environment.now) items.items) }
-    ensures fault { IfErr result (λ fault. (world : World) (times : List ℕ → Option ℤ) → I.allows includes.new world → T.allows tree.new times
-        → IsOwnFault world times (T.refuses tree.new) named.now (first_defined profile definitions.now environment.now) fault) }
-    ensures times { (times : List ℕ → Option ℤ) → T.allows tree.new times → T.allows tree.old times }
+    ensures items { IfOk result (λ items. (world : World) (looks : List ℕ → Option FileLook) → I.allows includes.new world → T.allows tree.new looks
+        → AreOwnItems world looks named.now (first_defined profile definitions.now environment.now) items.items) }
+    ensures fault { IfErr result (λ fault. (world : World) (looks : List ℕ → Option FileLook) → I.allows includes.new world → T.allows tree.new looks
+        → IsOwnFault world looks (T.refuses tree.new) named.now (first_defined profile definitions.now environment.now) fault) }
+    ensures looks { (looks : List ℕ → Option FileLook) → T.allows tree.new looks → T.allows tree.old looks }
     ensures kept { (n : List ℕ) → T.refuses tree.old n → T.refuses tree.new n }
 {
     let mut macros = first_macros(alloc, profile, definitions, environment)?;
@@ -236,11 +237,11 @@ pub fn items_of<T: Tree, I: Includes>(
     tree: &mut T,
     includes: &mut I,
 ) -> Result<Vec<Item>, Fault>
-    ensures items { IfOk result (λ items. (world : World) (times : List ℕ → Option ℤ) → I.allows includes.new world → T.allows tree.new times
-        → AreItems world times makefiles.now (first_defined profile definitions.now environment.now) items.items) }
-    ensures fault { IfErr result (λ fault. (world : World) (times : List ℕ → Option ℤ) → I.allows includes.new world → T.allows tree.new times
-        → IsTextFault world times (T.refuses tree.new) makefiles.now (first_defined profile definitions.now environment.now) fault) }
-    ensures times { (times : List ℕ → Option ℤ) → T.allows tree.new times → T.allows tree.old times }
+    ensures items { IfOk result (λ items. (world : World) (looks : List ℕ → Option FileLook) → I.allows includes.new world → T.allows tree.new looks
+        → AreItems world looks makefiles.now (first_defined profile definitions.now environment.now) items.items) }
+    ensures fault { IfErr result (λ fault. (world : World) (looks : List ℕ → Option FileLook) → I.allows includes.new world → T.allows tree.new looks
+        → IsTextFault world looks (T.refuses tree.new) makefiles.now (first_defined profile definitions.now environment.now) fault) }
+    ensures looks { (looks : List ℕ → Option FileLook) → T.allows tree.new looks → T.allows tree.old looks }
     ensures kept { (n : List ℕ) → T.refuses tree.old n → T.refuses tree.new n }
 {
     let named = &makefiles.named;

@@ -1,5 +1,5 @@
 -- What a run over a store says of a makefile.
-use Rattle.std.proofs.Common.{◌≡◌, ◌≢◌, ◌⊎◌, ◌||◌, inl, inr, ℕ, ℤ, ◌≤◌, Bool, true, false, List, [], ◌∷◌, Option, Result, Ok, Err, IfOk, IfErr, IsTrue, ◌∙◌, length, refl, sym, subst, arith}
+use Rattle.std.proofs.Common.{◌≡◌, ◌≢◌, ◌⊎◌, ◌||◌, inl, inr, ℕ, ◌≤◌, Bool, true, false, List, [], ◌∷◌, Option, Result, Ok, Err, IfOk, IfErr, IsTrue, ◌∙◌, length, refl, sym, subst, arith}
 use Rattle.std.specs.FinMap as map
 use Rattle.std.specs.Coded.{Coded-set}
 use Rattle.std.proofs.Math.Logic.{∥∥₁_elim}
@@ -28,6 +28,7 @@ use Rattle.dmk_run.specs.Made.{HasMade, AreTried, IsMade, MakesItems}
 use Rattle.dmk_reading.specs.Lost.{goes_without, with_unmade}
 use Rattle.dmk_run.specs.declared.stop.Stop.{Stop}
 use Rattle.dmk_run.specs.declared.tried.Tried.{Tried}
+use Rattle.mk_nodes.specs.declared.file_look.FileLook.{FileLook}
 
 -- what isn't parted may have left anything
 pub never_parted : (got : Result ℕ Stop) (Left : Type 0) → IfErr got (λ stop. IsParted stop → ⊥) → IfErr got (λ stop. IsParted stop → Left)
@@ -141,14 +142,14 @@ has_made graph counting keeping sound sides tried found (Ok s) (r, is, same, are
     (at_ok (λ r. keeping ≡ true → IsMade graph sound sides r.status r.ends.items) found r is made)
 has_made graph counting keeping sound sides tried found (Err stop) is all well borne made = tt
 
-module _ (profile : Profile) (definitions environment : List Variable) (targets : List (List ℕ)) (all goes_on : Bool) (before : Tried) (times : List ℕ → Option ℤ) (tried : Tried) where
+module _ (profile : Profile) (definitions environment : List Variable) (targets : List (List ℕ)) (all goes_on : Bool) (before : Tried) (looks : List ℕ → Option FileLook) (tried : Tried) where
   -- so a graph of these items has
   pub made_items : (items : List Item) (stored keeping : Bool) (disk_honest : Type 0) (seen : Which → List ℕ) (sides : Sides) (state : StateMap)
       (graph judged : Graph) (counted kept : Bool) → IsStateOn stored disk_honest seen state →
-      IsGraphOf profile definitions environment targets times items state graph → (goes_without profile goes_on ≡ false → graph.unmade.items ≡ []) →
+      IsGraphOf profile definitions environment targets looks items state graph → (goes_without profile goes_on ≡ false → graph.unmade.items ≡ []) →
       IsJudgedBehind before (all || keeping) (judged_graph all graph) judged → counted ≡ all || keeping → kept ≡ keeping → (got : Result ℕ Stop) →
       IfOk got (λ s. HasMade judged counted kept disk_honest sides s tried) →
-      IfOk got (λ s. MakesItems profile definitions environment targets all goes_on before times items stored keeping disk_honest seen s sides tried)
+      IfOk got (λ s. MakesItems profile definitions environment targets all goes_on before looks items stored keeping disk_honest seen s sides tried)
   made_items items stored keeping disk_honest seen sides state graph judged counted kept is_state is_graph all_made is_judged counts same (Ok s) made = record {
     state = state;
     is_state = is_state;
@@ -165,8 +166,8 @@ module _ (profile : Profile) (definitions environment : List Variable) (targets 
   module _ (items : List Item) (memory_honest : Type 0) (memory : Which → List ℕ) (works : memory_honest)
       (a : memory which.A ≡ []) (b : memory which.B ≡ []) (memory_sides : Sides) (disk_honest : Type 0) (seen : Which → List ℕ) (sides : Sides) where
     pub without_state : (status : ℕ) →
-        MakesItems profile definitions environment targets all goes_on before times items true false memory_honest memory status memory_sides tried →
-        MakesItems profile definitions environment targets all goes_on before times items false false disk_honest seen status sides tried
+        MakesItems profile definitions environment targets all goes_on before looks items true false memory_honest memory status memory_sides tried →
+        MakesItems profile definitions environment targets all goes_on before looks items false false disk_honest seen status sides tried
     without_state status run = record {
       state = run.state;
       is_state = empty_state (memory which.A) (memory which.B) run.state a b (run.is_state works);
@@ -189,10 +190,10 @@ module _ (profile : Profile) (definitions environment : List Variable) (targets 
     }
 
     pub found_without_state : (keeping : Bool) → false ≡ keeping → (got : Result ℕ Stop) →
-        IfOk got (λ s. MakesItems profile definitions environment targets all goes_on before times items true false memory_honest memory s memory_sides tried) →
-        IfOk got (λ s. MakesItems profile definitions environment targets all goes_on before times items keeping keeping disk_honest seen s sides tried)
+        IfOk got (λ s. MakesItems profile definitions environment targets all goes_on before looks items true false memory_honest memory s memory_sides tried) →
+        IfOk got (λ s. MakesItems profile definitions environment targets all goes_on before looks items keeping keeping disk_honest seen s sides tried)
     found_without_state keeping is (Ok status) run =
-        subst (λ k. MakesItems profile definitions environment targets all goes_on before times items k k disk_honest seen status sides tried) is
+        subst (λ k. MakesItems profile definitions environment targets all goes_on before looks items k k disk_honest seen status sides tried) is
         (without_state status run)
     found_without_state keeping is (Err stop) run = tt
 

@@ -2,7 +2,7 @@
 use Rattle.std.proofs.Math.Nat.{max-zero}
 use Rattle.std.proofs.Math.Seq.{take-suc, take-length}
 use Rattle.std.proofs.lemmas.List.{take-append-drop}
-use Rattle.std.proofs.Common.{◌≡◌, ◌≢◌, ◌⊎◌, inl, inr, ◌∙◌, ℕ, zero, suc, ◌+◌, ◌<◌, ◌≤◌, ℤ, max, Bool, true, false, List, [], ◌∷◌, ◌++◌, Option, Result, Ok, Err, IfOk, IfErr, IsErrAnd, refl, sym, ap, subst, length, take, drop, get_or, add-one, arith}
+use Rattle.std.proofs.Common.{◌≡◌, ◌≢◌, ◌⊎◌, inl, inr, ◌∙◌, ℕ, zero, suc, ◌+◌, ◌<◌, ◌≤◌, max, Bool, true, false, List, [], ◌∷◌, ◌++◌, Option, Result, Ok, Err, IfOk, IfErr, IsErrAnd, refl, sym, ap, subst, length, take, drop, get_or, add-one, arith}
 use Rattle.mk_eval.specs.Output.{World}
 use Rattle.mk_reader.specs.declared.item.Item.{Item}
 use Rattle.mk_profile.specs.declared.profile.Profile.{Profile}
@@ -25,6 +25,7 @@ use Rattle.dmk_run.specs.InTurn.{Between, MakesPart, LeavesDisk, IsParted, ArePa
 use Rattle.dmk_run.specs.declared.stop.Stop.{Stop}
 use Rattle.dmk_run.specs.declared.tried.Tried.{Tried}
 use Rattle.dmk_run.proofs.DriverLemmas.{at_ok}
+use Rattle.mk_nodes.specs.declared.file_look.FileLook.{FileLook}
 
 -- what goes on doesn't end
 not_both : (goes_on : Bool) (status : ℕ) → EndsRun goes_on status → GoesOn goes_on status → ⊥
@@ -190,11 +191,11 @@ passed_on M found (Ok status) disk left there same so = subst (λ d. M d status)
 passed_on M found (Err fault) disk left there same so = tt
 
 -- where some names were tried so were others that follow from them
-makes_others : {world : World} {times : List ℕ → Option ℤ} {makefiles : Makefiles} {profile : Profile} {definitions environment : List Variable} {targets : List (List ℕ)}
+makes_others : {world : World} {looks : List ℕ → Option FileLook} {makefiles : Makefiles} {profile : Profile} {definitions environment : List Variable} {targets : List (List ℕ)}
     {all goes_on : Bool} {before : Tried} {disk_honest : Type 0} {seen : Which → List ℕ} {status : ℕ} {sides : Sides} (tried others : Tried) →
     ((graph : Graph) (ends : List End) → AreTried graph ends tried → AreTried graph ends others) →
-    Makes world times makefiles profile definitions environment targets all goes_on before disk_honest seen status sides tried →
-    Makes world times makefiles profile definitions environment targets all goes_on before disk_honest seen status sides others
+    Makes world looks makefiles profile definitions environment targets all goes_on before disk_honest seen status sides tried →
+    Makes world looks makefiles profile definitions environment targets all goes_on before disk_honest seen status sides others
 makes_others tried others are is = record {
   items = is.items;
   are_items = is.are_items;
@@ -210,7 +211,7 @@ makes_others tried others are is = record {
   };
 }
 
-module _ {Source Tree Disk : Type 0} (Reads : Source → World → Type 0) (Allows : Tree → (List ℕ → Option ℤ) → Type 0) (environment : List Variable) where
+module _ {Source Tree Disk : Type 0} (Reads : Source → World → Type 0) (Allows : Tree → (List ℕ → Option FileLook) → Type 0) (environment : List Variable) where
   -- a disk that is left twice is left so
   pub leaves_both : (options : Options) (first between last : Disk) → LeavesDisk Reads Allows options environment first between →
       LeavesDisk Reads Allows options environment between last → LeavesDisk Reads Allows options environment first last
@@ -222,41 +223,41 @@ module _ {Source Tree Disk : Type 0} (Reads : Source → World → Type 0) (Allo
   module _ (part whole : Options) (makefiles : part.makefiles ≡ whole.makefiles) (profile : part.profile ≡ whole.profile)
       (definitions : part.definitions.items ≡ whole.definitions.items) where
     -- what a run of a part's options leaves is left by that of all
-    pub part_leaves : (source : Source) (tree : Tree) (found left : Disk) → (left ≡ found) ⊎ ((world : World) (times : List ℕ → Option ℤ) →
-        Reads source world → Allows tree times → (items : List Item) × AreItems world times part.makefiles (first_defined part.profile part.definitions.items environment) items
+    pub part_leaves : (source : Source) (tree : Tree) (found left : Disk) → (left ≡ found) ⊎ ((world : World) (looks : List ℕ → Option FileLook) →
+        Reads source world → Allows tree looks → (items : List Item) × AreItems world looks part.makefiles (first_defined part.profile part.definitions.items environment) items
         × (keeps environment items ≡ true)) → LeavesDisk Reads Allows whole environment found left
     part_leaves source tree found left (inl same) = inl same
     part_leaves source tree found left (inr keeps) = inr (
       source,
       tree,
-      λ world times text may.
-          let (items, are, is) = keeps world times text may in (
+      λ world looks text may.
+          let (items, are, is) = keeps world looks text may in (
             items,
-            subst (λ m. AreItems world times m (first_defined whole.profile whole.definitions.items environment) items) makefiles
-                (subst (λ p. AreItems world times part.makefiles (first_defined p whole.definitions.items environment) items) profile
-                (subst (λ d. AreItems world times part.makefiles (first_defined part.profile d environment) items) definitions are)),
+            subst (λ m. AreItems world looks m (first_defined whole.profile whole.definitions.items environment) items) makefiles
+                (subst (λ p. AreItems world looks part.makefiles (first_defined p whole.definitions.items environment) items) profile
+                (subst (λ d. AreItems world looks part.makefiles (first_defined part.profile d environment) items) definitions are)),
             is,
           ),
     )
 
     module _ (disk_honest : Type 0) (seen : Disk → Which → List ℕ) (sides : Disk → Sides) (targets : List (List ℕ)) (asked : part.targets ≡ targets)
         (all : part.makes_all ≡ whole.makes_all) (goes_on : part.goes_on ≡ whole.goes_on) (before : Tried) where
-      makes_alike : (world : World) (times : List ℕ → Option ℤ) (found left : Disk) (tried : Tried) (status : ℕ) →
-          Makes world times part.makefiles part.profile part.definitions.items environment part.targets part.makes_all part.goes_on before disk_honest (seen found) status (sides left) tried →
-          Makes world times whole.makefiles whole.profile whole.definitions.items environment targets whole.makes_all whole.goes_on before disk_honest (seen found) status (sides left) tried
-      makes_alike world times found left tried status is =
-          subst (λ g. Makes world times whole.makefiles whole.profile whole.definitions.items environment targets whole.makes_all g before disk_honest (seen found) status (sides left) tried) goes_on
-          (subst (λ a. Makes world times whole.makefiles whole.profile whole.definitions.items environment targets a part.goes_on before disk_honest (seen found) status (sides left) tried) all
-          (subst (λ t. Makes world times whole.makefiles whole.profile whole.definitions.items environment t part.makes_all part.goes_on before disk_honest (seen found) status (sides left) tried) asked
-          (subst (λ d. Makes world times whole.makefiles whole.profile d environment part.targets part.makes_all part.goes_on before disk_honest (seen found) status (sides left) tried) definitions
-          (subst (λ p. Makes world times whole.makefiles p part.definitions.items environment part.targets part.makes_all part.goes_on before disk_honest (seen found) status (sides left) tried) profile
-          (subst (λ m. Makes world times m part.profile part.definitions.items environment part.targets part.makes_all part.goes_on before disk_honest (seen found) status (sides left) tried) makefiles is)))))
+      makes_alike : (world : World) (looks : List ℕ → Option FileLook) (found left : Disk) (tried : Tried) (status : ℕ) →
+          Makes world looks part.makefiles part.profile part.definitions.items environment part.targets part.makes_all part.goes_on before disk_honest (seen found) status (sides left) tried →
+          Makes world looks whole.makefiles whole.profile whole.definitions.items environment targets whole.makes_all whole.goes_on before disk_honest (seen found) status (sides left) tried
+      makes_alike world looks found left tried status is =
+          subst (λ g. Makes world looks whole.makefiles whole.profile whole.definitions.items environment targets whole.makes_all g before disk_honest (seen found) status (sides left) tried) goes_on
+          (subst (λ a. Makes world looks whole.makefiles whole.profile whole.definitions.items environment targets a part.goes_on before disk_honest (seen found) status (sides left) tried) all
+          (subst (λ t. Makes world looks whole.makefiles whole.profile whole.definitions.items environment t part.makes_all part.goes_on before disk_honest (seen found) status (sides left) tried) asked
+          (subst (λ d. Makes world looks whole.makefiles whole.profile d environment part.targets part.makes_all part.goes_on before disk_honest (seen found) status (sides left) tried) definitions
+          (subst (λ p. Makes world looks whole.makefiles p part.definitions.items environment part.targets part.makes_all part.goes_on before disk_honest (seen found) status (sides left) tried) profile
+          (subst (λ m. Makes world looks m part.profile part.definitions.items environment part.targets part.makes_all part.goes_on before disk_honest (seen found) status (sides left) tried) makefiles is)))))
 
       -- and what it makes is made, behind these names, to which what it leaves is added, where what it came to is told
       pub part_makes : {Fault : Type 0} (source : Source) (tree : Tree) (found on_disk : Disk) (names after : Tried) (left : Left) (got told : Result ℕ Fault) →
           before ≡ names → IfOk told (λ s. got ≡ Ok s) → IfOk told (λ s. AddsTried left names after) →
-          IfOk got (λ s. (world : World) (times : List ℕ → Option ℤ) → Reads source world → Allows tree times →
-          Makes world times part.makefiles part.profile part.definitions.items environment part.targets part.makes_all part.goes_on before disk_honest (seen found) s (sides on_disk) (tried_in left)) →
+          IfOk got (λ s. (world : World) (looks : List ℕ → Option FileLook) → Reads source world → Allows tree looks →
+          Makes world looks part.makefiles part.profile part.definitions.items environment part.targets part.makes_all part.goes_on before disk_honest (seen found) s (sides on_disk) (tried_in left)) →
           IfOk told (MakesPart Reads Allows whole environment disk_honest seen sides targets (found, names) (on_disk, after))
       part_makes source tree found on_disk names after left got (Ok status) same so more is =
           subst (λ n. MakesPart Reads Allows whole environment disk_honest seen sides targets (found, n) (on_disk, after) status) same
@@ -265,10 +266,10 @@ module _ {Source Tree Disk : Type 0} (Reads : Source → World → Type 0) (Allo
             tree = tree;
             tried = more.added;
             adds = more.adds ∙ ap (λ n. both_tried n more.added) (sym same);
-            made = λ world times text may. makes_others (tried_in left) more.added more.are_tried (makes_alike world times found on_disk (tried_in left) status
-                (at_ok (λ s. (world : World) (times : List ℕ → Option ℤ) → Reads source world → Allows tree times →
-                Makes world times part.makefiles part.profile part.definitions.items environment part.targets part.makes_all part.goes_on before disk_honest (seen found) s (sides on_disk) (tried_in left))
-                got status so is world times text may));
+            made = λ world looks text may. makes_others (tried_in left) more.added more.are_tried (makes_alike world looks found on_disk (tried_in left) status
+                (at_ok (λ s. (world : World) (looks : List ℕ → Option FileLook) → Reads source world → Allows tree looks →
+                Makes world looks part.makefiles part.profile part.definitions.items environment part.targets part.makes_all part.goes_on before disk_honest (seen found) s (sides on_disk) (tried_in left))
+                got status so is world looks text may));
           })
       part_makes source tree found on_disk names after left got (Err fault) same so more is = tt
 
@@ -279,10 +280,10 @@ module _ {Source Tree Disk : Type 0} (Reads : Source → World → Type 0) (Allo
     state_before true m is = λ honest. before honest m (is honest)
     state_before false m is = is
 
-    items_before : (targets : List (List ℕ)) (times : List ℕ → Option ℤ) (items : List Item) (stored keeping : Bool) (left : Sides) (names tried : Tried) (own : ℕ) →
-        MakesItems options.profile options.definitions.items environment targets options.makes_all options.goes_on names times items stored keeping disk_honest (seen opened) own left tried →
-        MakesItems options.profile options.definitions.items environment targets options.makes_all options.goes_on names times items stored keeping disk_honest (seen found) own left tried
-    items_before targets times items stored keeping left names tried own run = record {
+    items_before : (targets : List (List ℕ)) (looks : List ℕ → Option FileLook) (items : List Item) (stored keeping : Bool) (left : Sides) (names tried : Tried) (own : ℕ) →
+        MakesItems options.profile options.definitions.items environment targets options.makes_all options.goes_on names looks items stored keeping disk_honest (seen opened) own left tried →
+        MakesItems options.profile options.definitions.items environment targets options.makes_all options.goes_on names looks items stored keeping disk_honest (seen found) own left tried
+    items_before targets looks items stored keeping left names tried own run = record {
       state = run.state;
       is_state = state_before stored run.state run.is_state;
       graph = run.graph;
@@ -301,11 +302,11 @@ module _ {Source Tree Disk : Type 0} (Reads : Source → World → Type 0) (Allo
       tree = is.tree;
       tried = is.tried;
       adds = is.adds;
-      made = λ world times text may.
-          let run = is.made world times text may in
+      made = λ world looks text may.
+          let run = is.made world looks text may in
           record {
             items = run.items;
             are_items = run.are_items;
-            made = items_before targets times run.items (keeps environment run.items) (keeps environment run.items) (sides left.0) names is.tried own run.made;
+            made = items_before targets looks run.items (keeps environment run.items) (keeps environment run.items) (sides left.0) names is.tried own run.made;
           };
     }

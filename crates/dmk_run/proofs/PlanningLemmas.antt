@@ -1,5 +1,5 @@
--- What is recorded by a plan.
-use Rattle.std.proofs.Common.{◌≡◌, Bool, true, false, Option, Some, None, refl, ap, ◌∙◌}
+-- What is recorded by a plan, and that all its names have a file or a rule.
+use Rattle.std.proofs.Common.{◌≡◌, Bool, true, false, List, [], Option, Some, None, refl, sym, ap, ◌∙◌}
 use Rattle.std.specs.Prelude.{unwrap_or}
 use Rattle.mk_nodes.specs.declared.graph.Graph.{Graph}
 use Rattle.st_state.specs.State.{StateMap}
@@ -11,3 +11,8 @@ pub recorded_so : (all : Bool) (graph judged : Graph) (forgotten : Option StateM
 recorded_so true graph judged forgotten state is kept none same = ap (λ f. unwrap_or f judged.state) (kept refl)
 recorded_so false graph judged forgotten state is kept none same =
     ap (λ f. unwrap_or f judged.state) (none refl) ∙ is ∙ same
+
+-- so it is of the graph that is built, where it is of the one by which targets are judged
+pub unmade_so : (all : Bool) (graph judged : Graph) → judged ≡ judged_graph all graph → judged.unmade.items ≡ [] → graph.unmade.items ≡ []
+unmade_so true graph judged is none = sym (ap (λ (g : Graph). g.unmade.items) is) ∙ none
+unmade_so false graph judged is none = sym (ap (λ (g : Graph). g.unmade.items) is) ∙ none

@@ -1,5 +1,5 @@
 -- What an opening leaves behind which targets are taken as they are.
-use Rattle.std.proofs.Common.{◌≡◌, ◌≢◌, ◌<◌, ◌⊎◌, inl, inr, ℕ, ℤ, List, [], Option, length, refl, subst, arith, ◌∙◌, ap, Result, Ok, Err, IfOk, OnOk}
+use Rattle.std.proofs.Common.{◌≡◌, ◌≢◌, ◌<◌, ◌⊎◌, inl, inr, ℕ, List, [], Option, length, refl, subst, arith, ◌∙◌, ap, Result, Ok, Err, IfOk, OnOk}
 use Rattle.std.proofs.Math.Logic.{∥∥₁_map}
 use Rattle.std.specs.FinMap as map
 use Rattle.bd_lists.specs.declared.recipe.Variable.{Variable}
@@ -20,12 +20,13 @@ use Rattle.dmk_run.specs.Opened.{RecoversAs, ArePossibleOrRecover}
 use Rattle.dmk_run.specs.Taken.{AreTaken}
 use Rattle.dmk_run.specs.Trusted.{AllRecoverTaken, IsOfTaken, IsLeft, LeavesState, RecoversTaken, AllRecoverOrTaken, ArePossibleOrTaken}
 use Rattle.dmk_run.specs.declared.stop.Stop.{Stop}
-use Rattle.dmk_run.specs.declared.trusting.Trusted.{Trusted}
+use Rattle.dmk_printing.specs.declared.trusted.Trusted.{Trusted}
+use Rattle.mk_nodes.specs.declared.file_look.FileLook.{FileLook}
 
 -- a graph in which each name has a file or is made
-pub as_whole : {profile : Profile} {definitions environment : List Variable} {targets : List (List ℕ)} {times : List ℕ → Option ℤ} {items : List Item}
-    {state : StateMap} {graph : Graph} → IsGraphOf profile definitions environment targets times items state graph → graph.unmade.items ≡ [] →
-    IsWholeGraphOf profile definitions environment targets times items state graph
+pub as_whole : {profile : Profile} {definitions environment : List Variable} {targets : List (List ℕ)} {looks : List ℕ → Option FileLook} {items : List Item}
+    {state : StateMap} {graph : Graph} → IsGraphOf profile definitions environment targets looks items state graph → graph.unmade.items ≡ [] →
+    IsWholeGraphOf profile definitions environment targets looks items state graph
 as_whole is made = record { is_graph = is; all_made = made }
 
 -- a batch of the records of all that are taken
@@ -53,13 +54,13 @@ something_known m some = λ none.
 -- what is left of the state that was found
 pub leaves : {Times : Type 0} (honest : Type 0) (allows : Times → Type 0) (IsWanted : Times → Graph → Type 0) (seen : Which → List ℕ) (sides : Sides)
     (got : Result Trusted Stop) (was left : StateMap) → (honest → Recovers (seen which.A) (seen which.B) was) →
-    IfOk got (λ found. (times : Times) → allows times → IsLeft (IsWanted times) was left found) → (honest → OnOk got (AllRecover left sides)) →
-    IfOk got (λ found. honest → (times : Times) → allows times → LeavesState (IsWanted times) seen sides found)
-leaves honest allows IsWanted seen sides (Ok found) was left recovered is all = λ keeps times may. record {
+    IfOk got (λ found. (looks : Times) → allows looks → IsLeft (IsWanted looks) was left found) → (honest → OnOk got (AllRecover left sides)) →
+    IfOk got (λ found. honest → (looks : Times) → allows looks → LeavesState (IsWanted looks) seen sides found)
+leaves honest allows IsWanted seen sides (Ok found) was left recovered is all = λ keeps looks may. record {
   was = was;
   recovered = recovered keeps;
   left = left;
-  is_left = is times may;
+  is_left = is looks may;
   recovers = all keeps;
 }
 leaves honest allows IsWanted seen sides (Err stop) was left recovered is all = tt

@@ -1,6 +1,6 @@
 -- Goals that are made in parts, one behind the other. That the targets of the command line are made in their order is what POSIX make
 -- says of a run with one worker, and that a failure ends a run without -k (its "OPERANDS" and "OPTIONS"); where a part ends is own.
-use Rattle.std.specs.Prelude.{◌≡◌, ◌≢◌, ◌⊎◌, ℕ, ℤ, max, Bool, true, false, List, [], ◌∷◌, ◌++◌, Option, Result, Ok}
+use Rattle.std.specs.Prelude.{◌≡◌, ◌≢◌, ◌⊎◌, ℕ, max, Bool, true, false, List, [], ◌∷◌, ◌++◌, Option, Result, Ok}
 use Rattle.mk_eval.specs.Output.{World}
 use Rattle.mk_reader.specs.declared.item.Item.{Item}
 use Rattle.st_disk.specs.Crash.{Sides}
@@ -15,6 +15,7 @@ use Rattle.dmk_run.specs.Made.{Makes}
 use Rattle.dmk_run.specs.declared.stop.Stop.{Stop}
 use Rattle.dmk_run.specs.declared.stop.Stop.TheVariants as stops
 use Rattle.dmk_run.specs.declared.tried.Tried.{Tried}
+use Rattle.mk_nodes.specs.declared.file_look.FileLook.{FileLook}
 
 -- ---- One part
 
@@ -24,23 +25,23 @@ Between Disk = Disk × Tried
 
 -- a part is made: these goals are, as the options say, over the disk that was found and behind what was tried before, by what makefiles were
 -- read from and by looks at files of its own. It adds names that it built without a file, and all that failed in it
-pub record MakesPart {Source Tree Disk : Type 0} (Reads : Source → World → Type 0) (Allows : Tree → (List ℕ → Option ℤ) → Type 0)
+pub record MakesPart {Source Tree Disk : Type 0} (Reads : Source → World → Type 0) (Allows : Tree → (List ℕ → Option FileLook) → Type 0)
     (options : Options) (environment : List Variable) (disk_honest : Type 0) (seen : Disk → Which → List ℕ) (sides : Disk → Sides)
     (targets : List (List ℕ)) (found left : Between Disk) (status : ℕ) : Type 0 where
   pub source : Source
   pub tree : Tree
   pub tried : Tried
   pub adds : left.1 ≡ both_tried found.1 tried
-  pub made : (world : World) (times : List ℕ → Option ℤ) → Reads source world → Allows tree times →
-      Makes world times options.makefiles options.profile options.definitions.items environment targets options.makes_all options.goes_on found.1 disk_honest
+  pub made : (world : World) (looks : List ℕ → Option FileLook) → Reads source world → Allows tree looks →
+      Makes world looks options.makefiles options.profile options.definitions.items environment targets options.makes_all options.goes_on found.1 disk_honest
       (seen found.0) status (sides left.0) tried
 
 -- the disk is left as it was found, or what makefiles were read from and looks at files say that a makefile keeps state
-abbrev pub LeavesDisk : {Source Tree Disk : Type 0} (Reads : Source → World → Type 0) (Allows : Tree → (List ℕ → Option ℤ) → Type 0)
+abbrev pub LeavesDisk : {Source Tree Disk : Type 0} (Reads : Source → World → Type 0) (Allows : Tree → (List ℕ → Option FileLook) → Type 0)
     (options : Options) (environment : List Variable) (found left : Disk) → Type 0
 LeavesDisk {Source} {Tree} Reads Allows options environment found left =
-    (left ≡ found) ⊎ ((source : Source) × (tree : Tree) × ((world : World) (times : List ℕ → Option ℤ) → Reads source world → Allows tree times →
-    (items : List Item) × AreItems world times options.makefiles (first_defined options.profile options.definitions.items environment) items
+    (left ≡ found) ⊎ ((source : Source) × (tree : Tree) × ((world : World) (looks : List ℕ → Option FileLook) → Reads source world → Allows tree looks →
+    (items : List Item) × AreItems world looks options.makefiles (first_defined options.profile options.definitions.items environment) items
     × (keeps environment items ≡ true)))
 
 -- ---- Which parts there are

@@ -1,5 +1,5 @@
 -- What a run leaves on its disk, where it ends with a report.
-use Rattle.std.specs.Prelude.{◌≡◌, ◌≢◌, ◌↔◌, ◌||◌, ◌++◌, ◌<◌, ℕ, ℤ, Bool, true, false, List, [], map, Option, Some, None, length, slice_get, IsTrue}
+use Rattle.std.specs.Prelude.{◌≡◌, ◌≢◌, ◌↔◌, ◌||◌, ◌++◌, ◌<◌, ℕ, Bool, true, false, List, [], map, Option, Some, None, length, slice_get, IsTrue}
 use Rattle.std.specs.List.{All, list_all}
 use Rattle.mk_profile.specs.declared.profile.Profile.{Profile}
 use Rattle.mk_reader.specs.declared.item.Item.{Item}
@@ -30,6 +30,7 @@ use Rattle.dmk_run.specs.declared.made.Made.{Made}
 use Rattle.dmk_run.specs.declared.tried.Tried.{Tried}
 use Rattle.dmk_reading.specs.Lost.{goes_without}
 use Rattle.mk_eval.specs.Output.{World}
+use Rattle.mk_nodes.specs.declared.file_look.FileLook.{FileLook}
 
 -- how the nodes of a graph ended, which is true of what the disk holds: workers gathered the receipts of all that was told, each
 -- once, among them that of the 'done' of each node that ended as built, and where the disk keeps its model every pair of crash
@@ -119,23 +120,23 @@ pub record HasMade (graph : Graph) (counting keeping : Bool) (sound : Type 0) (s
 -- so the graph of these items has, for the targets that are named, by the state that the disk recovers, if it is stored there, behind parts
 -- of the run that tried some names. A run that doesn't go on without names has none that lacks a file and that nothing makes
 pub record MakesItems (profile : Profile) (definitions environment : List Variable) (targets : List (List ℕ)) (all goes_on : Bool)
-    (before : Tried) (times : List ℕ → Option ℤ)
+    (before : Tried) (looks : List ℕ → Option FileLook)
     (items : List Item) (stored keeping : Bool) (disk_honest : Type 0) (seen : Which → List ℕ)
     (status : ℕ) (sides : Sides) (tried : Tried) : Type 0 where
   pub state : StateMap
   pub is_state : IsStateOn stored disk_honest seen state
   pub graph : Graph
-  pub is_graph : IsGraphOf profile definitions environment targets times items state graph
+  pub is_graph : IsGraphOf profile definitions environment targets looks items state graph
   pub all_made : goes_without profile goes_on ≡ false → graph.unmade.items ≡ []
   pub judged : Graph
   pub is_judged : IsJudgedBehind before (all || keeping) (judged_graph all graph) judged
   pub made : HasMade judged (all || keeping) keeping disk_honest sides status tried
 
--- so it is for the items of the makefile that is found by these files and times
-pub record Makes (world : World) (times : List ℕ → Option ℤ) (makefiles : Makefiles)
+-- so it is for the items of the makefile that is found by these files and looks
+pub record Makes (world : World) (looks : List ℕ → Option FileLook) (makefiles : Makefiles)
     (profile : Profile) (definitions environment : List Variable) (targets : List (List ℕ)) (all goes_on : Bool) (before : Tried)
     (disk_honest : Type 0) (seen : Which → List ℕ) (status : ℕ) (sides : Sides) (tried : Tried) : Type 0 where
   pub items : List Item
-  pub are_items : AreItems world times makefiles (first_defined profile definitions environment) items
-  pub made : MakesItems profile definitions environment targets all goes_on before times items (keeps environment items) (keeps environment items)
+  pub are_items : AreItems world looks makefiles (first_defined profile definitions environment) items
+  pub made : MakesItems profile definitions environment targets all goes_on before looks items (keeps environment items) (keeps environment items)
       disk_honest seen status sides tried

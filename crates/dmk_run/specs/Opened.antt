@@ -11,8 +11,8 @@ use Rattle.st_recovery.specs.Recovers.{Recovers, RefusesWith}
 use Rattle.st_recovery.specs.Stored.{IsStoredOn}
 use Rattle.bd_flusher.specs.declared.fault.FlushFault.{FlushFault}
 use Rattle.bd_flusher.specs.declared.fault.FlushFault.TheVariants as refusals
-use Rattle.dmk_reading.specs.declared.fault.Fault.{Fault}
-use Rattle.dmk_reading.specs.declared.fault.Fault.TheVariants as faults
+use Rattle.dmk_messages.specs.declared.fault.Fault.{Fault}
+use Rattle.dmk_messages.specs.declared.fault.Fault.TheVariants as faults
 use Rattle.jb_closing.specs.declared.fault.RunFault.{RunFault}
 use Rattle.jb_closing.specs.declared.fault.RunFault.TheVariants as run_faults
 use Rattle.dmk_run.specs.declared.stop.Stop.{Stop}

@@ -11,8 +11,8 @@ use Rattle.st_recovery.specs.Recovers.{Recovers}
 use Rattle.st_recovery.specs.Stored.{AllRecover}
 use Rattle.dmk_run.specs.Opened.{RecoversAs}
 use Rattle.dmk_run.specs.Taken.{AreTaken}
-use Rattle.dmk_run.specs.declared.trusting.Trusted.{Trusted}
-use Rattle.dmk_run.specs.declared.trusting.Trusted.TheVariants as trusted
+use Rattle.dmk_printing.specs.declared.trusted.Trusted.{Trusted}
+use Rattle.dmk_printing.specs.declared.trusted.Trusted.TheVariants as trusted
 
 -- every pair of crash images recovers this state, or that with the records of all targets of the graph that are taken as they are
 abbrev pub AllRecoverTaken : Graph → StateMap → Sides → Type 0

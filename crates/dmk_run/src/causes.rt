@@ -18,7 +18,7 @@ pub(crate) fn is_group(graph: &Graph, node: usize) -> bool
     ensures { (it : MadeNode) → slice_get graph.now.nodes.items node ≡ Some it → result ≡ is_group graph.now node it }
 {
     let known = &graph.nodes[node];
-    known.stamp.get().is_none()
+    known.stamp.look().is_none()
         && known.recipe.get().is_none()
         && !graph.required_edges().row(node).is_empty()
 }

@@ -35,7 +35,7 @@ fn is_filed_before(graph: &Graph, node: usize, known: &Names) -> bool
     requires { node < length graph.now.nodes.items }
     ensures { (it : MadeNode) → slice_get graph.now.nodes.items node ≡ Some it → result ≡ is_filed_before known.now (name_at graph.now.names node) it }
 {
-    graph.nodes[node].stamp.get().is_some() && known.number_of(name_of(graph, node)).is_some()
+    graph.nodes[node].stamp.is_some() && known.number_of(name_of(graph, node)).is_some()
 }
 
 /// The numbers of those of these names that the graph has.

@@ -1,5 +1,5 @@
 //! The program over handed-in parts, where recipes are run.
-ghost use Rattle.std.specs.Prelude.{◌≡◌, ◌≢◌, ◌⊎◌, ◌≤◌, ℕ, ℤ, true, false, List, Option, Ok, codes, unwrap_or, IfOk, IfErr};
+ghost use Rattle.std.specs.Prelude.{◌≡◌, ◌≢◌, ◌⊎◌, ◌≤◌, ℕ, true, false, List, Option, Ok, codes, unwrap_or, IfOk, IfErr};
 ghost use Rattle.mk_reader.specs.declared.item.Item.{Item as MakefileItem};
 ghost use Rattle.st_disk.specs.Moments.{now};
 ghost use Rattle.dmk_reading.specs.Keeping.{keeps, value_in};
@@ -11,6 +11,7 @@ ghost use Rattle.dmk_run.specs.InTurn.{IsParted};
 ghost use Rattle.dmk_run.specs.Made.{Makes, MakesItems, tried_in};
 ghost use Rattle.dmk_run.specs.Opened.{RecoversAsBefore};
 ghost use Rattle.mk_eval.specs.Output.{World};
+ghost use Rattle.mk_nodes.specs.declared.file_look.FileLook.{FileLook};
 
 use crate::conducting::Wishes;
 use crate::guard::{Guard, hold_state};
@@ -18,13 +19,14 @@ use crate::left::Left;
 use crate::making::make;
 use crate::opening::{disk_of, open_store};
 use crate::planning::{Goals, planned};
-use crate::printer::Printer;
 use crate::stop::Stop;
 use crate::tried::Tried;
 use bd_flusher::Receipt;
 use bd_lists::{Exec, Variable};
 use byte_strings::ByteString;
-use dmk_reading::{Fault, Makefiles, Message, Options, items_of, keeps_state};
+use dmk_messages::{Fault, Message};
+use dmk_printing::Printer;
+use dmk_reading::{Makefiles, Options, items_of, keeps_state};
 use jb_recipe::Place;
 use jb_slots::Banks;
 use mk_eval::Includes;
@@ -79,10 +81,10 @@ where
     K::End: Drop + Send,
     D: Disk + Drop + Send,
     ensures status { IfOk result.0 (λ s. s ≤ 2) }
-    ensures makes { IfOk result.0 (λ s. (times : List ℕ → Option ℤ) → T.allows tree.new times
+    ensures makes { IfOk result.0 (λ s. (looks : List ℕ → Option FileLook) → T.allows tree.new looks
         → MakesItems goals.profile goals.definitions.items means.now.environment.now goals.targets wishes.now.makes_all wishes.now.goes_on
-        (unwrap_or goals.behind none_tried) times items.items true keeping D.honest (D.seen disk) s (now (D.moments result.1)) (tried_in result.2)) }
-    ensures times { (times : List ℕ → Option ℤ) → T.allows tree.new times → T.allows tree.old times }
+        (unwrap_or goals.behind none_tried) looks items.items true keeping D.honest (D.seen disk) s (now (D.moments result.1)) (tried_in result.2)) }
+    ensures looks { (looks : List ℕ → Option FileLook) → T.allows tree.new looks → T.allows tree.old looks }
     ensures parted { IfErr result.0 (λ stop. IsParted stop → RecoversAsBefore D.honest (D.seen disk) (D.seen result.1)) }
     ensures let_go { K.serves banks.old ≡ false → K.serves banks.new ≡ false }
 {
@@ -139,11 +141,11 @@ where
     K::End: Drop + Send,
     D: Disk + Drop + Send,
     ensures status { IfOk result.0 (λ s. s ≤ 2) }
-    ensures makes { IfOk result.0 (λ s. (times : List ℕ → Option ℤ) → T.allows tree.new times
+    ensures makes { IfOk result.0 (λ s. (looks : List ℕ → Option FileLook) → T.allows tree.new looks
         → MakesItems goals.profile goals.definitions.items means.now.environment.now goals.targets wishes.now.makes_all wishes.now.goes_on
-        (unwrap_or goals.behind none_tried) times items.items (keeps means.now.environment.now items.items) (keeps means.now.environment.now items.items)
+        (unwrap_or goals.behind none_tried) looks items.items (keeps means.now.environment.now items.items) (keeps means.now.environment.now items.items)
         D.honest (D.seen disk) s (now (D.moments result.1)) (tried_in result.2)) }
-    ensures times { (times : List ℕ → Option ℤ) → T.allows tree.new times → T.allows tree.old times }
+    ensures looks { (looks : List ℕ → Option FileLook) → T.allows tree.new looks → T.allows tree.old looks }
     ensures untouched { keeps means.now.environment.now items.items ≡ false → result.1 ≡ disk }
     ensures parted { IfErr result.0 (λ stop. IsParted stop → RecoversAsBefore D.honest (D.seen disk) (D.seen result.1)) }
     ensures let_go { K.serves banks.old ≡ false → K.serves banks.new ≡ false }
@@ -193,11 +195,11 @@ where
     K::End: Drop + Send,
     D: Disk + Drop + Send,
     ensures status { IfOk result.0 (λ s. s ≤ 2) }
-    ensures makes { IfOk result.0 (λ s. (world : World) (times : List ℕ → Option ℤ) → I.allows includes.new world → T.allows tree.new times
-        → Makes world times makefiles.now goals.profile goals.definitions.items means.now.environment.now goals.targets wishes.now.makes_all wishes.now.goes_on
+    ensures makes { IfOk result.0 (λ s. (world : World) (looks : List ℕ → Option FileLook) → I.allows includes.new world → T.allows tree.new looks
+        → Makes world looks makefiles.now goals.profile goals.definitions.items means.now.environment.now goals.targets wishes.now.makes_all wishes.now.goes_on
         (unwrap_or goals.behind none_tried) D.honest (D.seen disk) s (now (D.moments result.1)) (tried_in result.2)) }
-    ensures untouched { (result.1 ≡ disk) ⊎ ((world : World) (times : List ℕ → Option ℤ) → I.allows includes.new world → T.allows tree.new times
-        → (items : List MakefileItem) × AreItems world times makefiles.now (first_defined goals.profile goals.definitions.items means.now.environment.now) items
+    ensures untouched { (result.1 ≡ disk) ⊎ ((world : World) (looks : List ℕ → Option FileLook) → I.allows includes.new world → T.allows tree.new looks
+        → (items : List MakefileItem) × AreItems world looks makefiles.now (first_defined goals.profile goals.definitions.items means.now.environment.now) items
         × (keeps means.now.environment.now items ≡ true)) }
     ensures parted { IfErr result.0 (λ stop. IsParted stop → RecoversAsBefore D.honest (D.seen disk) (D.seen result.1)) }
     ensures let_go { K.serves banks.old ≡ false → K.serves banks.new ≡ false }
@@ -315,16 +317,16 @@ where
     // Recipes are run only where neither the words nor MAKEFLAGS ask for a listing.
     requires asked { AsksToRun options (value_in means.now.environment.now (codes "MAKEFLAGS")) }
     // Nothing is known yet of any file.
-    requires anew { (times : List ℕ → Option ℤ) → T.allows tree.old times }
+    requires anew { (looks : List ℕ → Option FileLook) → T.allows tree.old looks }
     ensures status { IfOk result.0 (λ s. s ≤ 2) }
     // Each target that was built is done in every pair of crash images, with the commands of the 'done' whose receipt its worker
-    // gathered: so for all texts and times that agree with what was answered.
-    ensures makes { IfOk result.0 (λ s. (world : World) (times : List ℕ → Option ℤ) → I.allows includes.new world → T.allows tree.new times
-        → Makes world times options.makefiles options.profile options.definitions.items means.now.environment.now options.targets options.makes_all options.goes_on
+    // gathered: so for all texts and looks that agree with what was answered.
+    ensures makes { IfOk result.0 (λ s. (world : World) (looks : List ℕ → Option FileLook) → I.allows includes.new world → T.allows tree.new looks
+        → Makes world looks options.makefiles options.profile options.definitions.items means.now.environment.now options.targets options.makes_all options.goes_on
         (unwrap_or behind none_tried) D.honest (D.seen disk) s (now (D.moments result.1)) (tried_in result.2)) }
     // Unless a makefile that was read keeps state, the disk is handed back as it came.
-    ensures untouched { (result.1 ≡ disk) ⊎ ((world : World) (times : List ℕ → Option ℤ) → I.allows includes.new world → T.allows tree.new times
-        → (items : List MakefileItem) × AreItems world times options.makefiles (first_defined options.profile options.definitions.items means.now.environment.now) items
+    ensures untouched { (result.1 ≡ disk) ⊎ ((world : World) (looks : List ℕ → Option FileLook) → I.allows includes.new world → T.allows tree.new looks
+        → (items : List MakefileItem) × AreItems world looks options.makefiles (first_defined options.profile options.definitions.items means.now.environment.now) items
         × (keeps means.now.environment.now items ≡ true)) }
     // Where the goals are to be made in parts, nothing was begun: the disk recovers no other state than before.
     ensures parted { IfErr result.0 (λ stop. IsParted stop → RecoversAsBefore D.honest (D.seen disk) (D.seen result.1)) }

@@ -1,7 +1,7 @@
 //! Other runs kept from the state that a run keeps. Nothing is claimed of them: that nobody else writes the state is a premise.
 
-use crate::printer::Printer;
 use crate::stop::Stop;
+use dmk_printing::Printer;
 use std::alloc::AllocError;
 use std::io::{self, Write};
 use std::sync::Wait;

@@ -1,5 +1,5 @@
 //! The parts of a run, made one behind the other: each over files that are looked at anew.
-ghost use Rattle.std.specs.Prelude.{◌≡◌, ◌≢◌, ◌≤◌, ℕ, ℤ, List, Option, Ok, codes, false, IfOk, IfErr, IsErrAnd, IsOk};
+ghost use Rattle.std.specs.Prelude.{◌≡◌, ◌≢◌, ◌≤◌, ℕ, List, Option, Ok, codes, false, IfOk, IfErr, IsErrAnd, IsOk};
 ghost use Rattle.mk_profile.specs.declared.profile.Profile.TheVariants.{Strict};
 ghost use Rattle.st_disk.specs.Moments.{now};
 ghost use Rattle.dmk_reading.specs.Keeping.{value_in};
@@ -7,17 +7,18 @@ ghost use Rattle.dmk_reading.specs.Asked.{AsksToRun};
 ghost use Rattle.dmk_run.specs.Behind.{none_tried};
 ghost use Rattle.dmk_run.specs.InTurn.{MakesPart, MakesWithLost, MadeInTurn, MadeBehind, IsMadeInTurn, IsParted, LeavesDisk};
 ghost use Rattle.dmk_run.specs.declared.tried.Tried.{Tried as TriedNames};
+ghost use Rattle.mk_nodes.specs.declared.file_look.FileLook.{FileLook};
 
 use crate::driver::{Means, build_at_once, status_of};
 use crate::guard::Guard;
 use crate::parts::{goes_on, in_parts, joined, part_behind, part_of};
-use crate::printer::Printer;
 use crate::standing::{Standing, lost_targets};
 use crate::stop::Stop;
 use crate::tried::Tried;
 use bd_flusher::Receipt;
 use bd_lists::Exec;
 use byte_strings::ByteStrings;
+use dmk_printing::Printer;
 use dmk_reading::Options;
 use jb_recipe::Place;
 use jb_slots::Banks;
@@ -33,7 +34,7 @@ use std::thread::Threads;
 pub trait Looks<T: Tree> {
     /// What knows nothing yet of any file.
     fn anew(&self) -> T
-        ensures { (times : List ℕ → Option ℤ) → T.allows result times };
+        ensures { (looks : List ℕ → Option FileLook) → T.allows result looks };
 }
 
 /// Makes a part of what the options ask for, over files that are looked at anew, behind parts that tried these names.
@@ -66,10 +67,10 @@ where
     D: Disk + Drop + Send,
     requires { AsksToRun options.now (value_in means.now.environment.now (codes "MAKEFLAGS")) }
     ensures status { IfOk result.0 (λ s. s ≤ 2) }
-    ensures part { IfOk result.0 (MakesPart (λ source world. I.allows source world) (λ tree times. T.allows tree times) options.now
+    ensures part { IfOk result.0 (MakesPart (λ source world. I.allows source world) (λ tree looks. T.allows tree looks) options.now
         means.now.environment.now D.honest (λ d. D.seen d) (λ d. now (D.moments d)) targets.now
         (disk, tried.old) (result.1, tried.new)) }
-    ensures untouched { LeavesDisk (λ source world. I.allows source world) (λ tree times. T.allows tree times) options.now
+    ensures untouched { LeavesDisk (λ source world. I.allows source world) (λ tree looks. T.allows tree looks) options.now
         means.now.environment.now disk result.1 }
     ensures let_go { K.serves banks.old ≡ false → K.serves banks.new ≡ false }
 {
@@ -125,11 +126,11 @@ where
     requires asks { AsksToRun options.now (value_in means.now.environment.now (codes "MAKEFLAGS")) }
     requires status { IfOk ran.0 (λ s. s ≤ 2) }
     ensures status { IfOk result.0 (λ s. s ≤ 2) }
-    ensures behind { IfOk result.0 (λ s. (before : ℕ) × (ran.0 ≡ Ok before) × MadeBehind (MakesPart (λ source world. I.allows source world) (λ tree times. T.allows tree times) options.now
+    ensures behind { IfOk result.0 (λ s. (before : ℕ) × (ran.0 ≡ Ok before) × MadeBehind (MakesPart (λ source world. I.allows source world) (λ tree looks. T.allows tree looks) options.now
         means.now.environment.now D.honest (λ d. D.seen d) (λ d. now (D.moments d)))
         options.now.goes_on before (ran.1, tried.old) (result.1, tried.new) s) }
     ensures strict { options.now.profile ≡ Strict → (result.1 ≡ ran.1) × (tried.new ≡ tried.old) × IfOk result.0 (λ s. ran.0 ≡ Ok s) }
-    ensures untouched { LeavesDisk (λ source world. I.allows source world) (λ tree times. T.allows tree times) options.now
+    ensures untouched { LeavesDisk (λ source world. I.allows source world) (λ tree looks. T.allows tree looks) options.now
         means.now.environment.now ran.1 result.1 }
     ensures let_go { K.serves banks.old ≡ false → K.serves banks.new ≡ false }
 {
@@ -179,10 +180,10 @@ where
     D: Disk + Drop + Send,
     requires { AsksToRun options.now (value_in means.now.environment.now (codes "MAKEFLAGS")) }
     ensures status { IfOk result.0 (λ s. s ≤ 2) }
-    ensures in_turn { IfOk result.0 (λ s. (tried : TriedNames) × MadeInTurn (MakesWithLost (MakesPart (λ source world. I.allows source world) (λ tree times. T.allows tree times) options.now
+    ensures in_turn { IfOk result.0 (λ s. (tried : TriedNames) × MadeInTurn (MakesWithLost (MakesPart (λ source world. I.allows source world) (λ tree looks. T.allows tree looks) options.now
         means.now.environment.now D.honest (λ d. D.seen d) (λ d. now (D.moments d))) options.now.goes_on)
         options.now.goes_on parts.now (disk, none_tried) (result.1, tried) s) }
-    ensures untouched { LeavesDisk (λ source world. I.allows source world) (λ tree times. T.allows tree times) options.now
+    ensures untouched { LeavesDisk (λ source world. I.allows source world) (λ tree looks. T.allows tree looks) options.now
         means.now.environment.now disk result.1 }
     ensures let_go { K.serves banks.old ≡ false → K.serves banks.new ≡ false }
 {
@@ -247,13 +248,13 @@ where
     D: Disk + Drop + Send,
     requires { AsksToRun options.now (value_in means.now.environment.now (codes "MAKEFLAGS")) }
     ensures status { IfOk result.0 (λ s. s ≤ 2) }
-    ensures in_turn { IfOk result.0 (λ s. (tried : TriedNames) × IsMadeInTurn (MakesPart (λ source world. I.allows source world) (λ tree times. T.allows tree times) options.now
+    ensures in_turn { IfOk result.0 (λ s. (tried : TriedNames) × IsMadeInTurn (MakesPart (λ source world. I.allows source world) (λ tree looks. T.allows tree looks) options.now
         means.now.environment.now D.honest (λ d. D.seen d) (λ d. now (D.moments d)))
         options.now.goes_on options.now.targets (disk, none_tried) (result.1, tried) s) }
-    ensures strict { options.now.profile ≡ Strict → IfOk result.0 (λ s. (tried : TriedNames) × MakesPart (λ source world. I.allows source world) (λ tree times. T.allows tree times) options.now
+    ensures strict { options.now.profile ≡ Strict → IfOk result.0 (λ s. (tried : TriedNames) × MakesPart (λ source world. I.allows source world) (λ tree looks. T.allows tree looks) options.now
         means.now.environment.now D.honest (λ d. D.seen d) (λ d. now (D.moments d)) options.now.targets
         (disk, none_tried) (result.1, tried) s) }
-    ensures untouched { LeavesDisk (λ source world. I.allows source world) (λ tree times. T.allows tree times) options.now
+    ensures untouched { LeavesDisk (λ source world. I.allows source world) (λ tree looks. T.allows tree looks) options.now
         means.now.environment.now disk result.1 }
     ensures let_go { K.serves banks.old ≡ false → K.serves banks.new ≡ false }
 {
@@ -320,14 +321,14 @@ where
     ensures status { result.0 ≤ 2 }
     // At another status than 2 the goals were made over the disk, in parts one behind the other, and behind a part maybe some targets that
     // were lost. Of each of these `build_at_once` tells what is so.
-    ensures in_turn { result.0 ≢ 2 → (tried : TriedNames) × IsMadeInTurn (MakesPart (λ source world. I.allows source world) (λ tree times. T.allows tree times) options
+    ensures in_turn { result.0 ≢ 2 → (tried : TriedNames) × IsMadeInTurn (MakesPart (λ source world. I.allows source world) (λ tree looks. T.allows tree looks) options
         means.now.environment.now D.honest (λ d. D.seen d) (λ d. now (D.moments d)))
         options.goes_on options.targets (disk, none_tried) (result.1, tried) result.0 }
     // In the strict profile there is one part.
-    ensures strict { result.0 ≢ 2 → options.profile ≡ Strict → (tried : TriedNames) × MakesPart (λ source world. I.allows source world) (λ tree times. T.allows tree times) options
+    ensures strict { result.0 ≢ 2 → options.profile ≡ Strict → (tried : TriedNames) × MakesPart (λ source world. I.allows source world) (λ tree looks. T.allows tree looks) options
         means.now.environment.now D.honest (λ d. D.seen d) (λ d. now (D.moments d)) options.targets (disk, none_tried) (result.1, tried) result.0 }
     // Unless a makefile that was read keeps state, the disk is handed back as it came.
-    ensures untouched { LeavesDisk (λ source world. I.allows source world) (λ tree times. T.allows tree times) options
+    ensures untouched { LeavesDisk (λ source world. I.allows source world) (λ tree looks. T.allows tree looks) options
         means.now.environment.now disk result.1 }
     // A pool that is served for the run is let go at its end.
     ensures let_go { K.serves banks.old ≡ false → K.serves banks.new ≡ false }

@@ -36,7 +36,7 @@ pub(crate) fn is_made_before(graph: &Graph, node: usize, known: &Names) -> bool
     requires { node < length graph.now.nodes.items }
     ensures { (it : MadeNode) → slice_get graph.now.nodes.items node ≡ Some it → result ≡ is_made_before known.now (name_at graph.now.names node) it }
 {
-    graph.nodes[node].stamp.get().is_none() && known.number_of(name_of(graph, node)).is_some()
+    graph.nodes[node].stamp.look().is_none() && known.number_of(name_of(graph, node)).is_some()
 }
 
 /// Whether a node was built that had no file.
@@ -45,7 +45,7 @@ fn is_built_without_file(graph: &Graph, ends: &[End], node: usize) -> bool
     ensures { result ≡ true → IsBuiltWithoutFile graph.now ends.now (name_at graph.now.names node) }
 {
     match ends.get(node) {
-        Some(End::Built) => graph.nodes[node].stamp.get().is_none(),
+        Some(End::Built) => graph.nodes[node].stamp.look().is_none(),
         _ => false,
     }
 }
@@ -71,7 +71,7 @@ fn is_built_with_file(graph: &Graph, ends: &[End], node: usize) -> bool
     ensures { result ≡ true → IsBuilt graph.now ends.now (name_at graph.now.names node) }
 {
     match ends.get(node) {
-        Some(End::Built) => graph.nodes[node].stamp.get().is_some(),
+        Some(End::Built) => graph.nodes[node].stamp.is_some(),
         _ => false,
     }
 }

@@ -15,7 +15,7 @@ ghost use Rattle.dmk_run.specs.Opened.{ArePossibleOrRecover, RecoversAsBefore, S
 
 use crate::stop::Stop;
 use bd_flusher::FlushFault;
-use dmk_reading::Fault;
+use dmk_messages::Fault;
 use jb_closing::RunFault;
 use st_compaction::compact;
 use st_disk::Disk;

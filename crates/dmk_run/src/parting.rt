@@ -1,7 +1,7 @@
 //! Where the goals of a run are parted, to be made one behind the other.
 use crate::causes::is_group;
 use crate::made::is_phony_name;
-use crate::refusing::ready_recipes;
+use crate::refusing::ready_all_recipes;
 use crate::stop::Stop;
 use byte_strings::ByteString;
 use dmk_reading::{is_lost, lost_nodes};
@@ -100,14 +100,18 @@ fn places_of(alloc: Global, graph: &Graph, last: bool) -> Result<Vec<Option<usiz
     Ok(places)
 }
 
-/// Which nodes are to be made as files stand now. One whose recipe can't be expanded counts too.
-fn to_make(alloc: Global, counting: bool, graph: &Graph) -> Result<Vec<bool>, AllocError> {
+/// Which nodes are to be made as files stand now, of those that aren't lost. One whose recipe can't be expanded counts too.
+fn to_make(
+    alloc: Global,
+    counting: bool,
+    graph: &Graph,
+    lost: &[bool],
+) -> Result<Vec<bool>, AllocError> {
     let mut made = vec![in alloc; false; graph.len()]?;
     let mut marks = vec![in alloc; false; graph.len()]?;
     let texts = has_text_names(graph);
-    let lost = lost_nodes(alloc, graph)?;
     for node in graph.order.as_slice() {
-        if is_lost(&lost, *node) {
+        if is_lost(lost, *node) {
             continue;
         }
         if *node < graph.len() && *node < marks.len() && *node < made.len() {
@@ -132,11 +136,17 @@ struct Spans {
 }
 
 impl Spans {
-    fn add(&mut self, first: Option<usize>, last: Option<usize>, is_made_in_each: bool) {
+    fn add(
+        &mut self,
+        first: Option<usize>,
+        last: Option<usize>,
+        is_run: bool,
+        is_made_in_each: bool,
+    ) {
         let (Some(first), Some(last)) = (first, last) else {
             return;
         };
-        if first < self.is_run.len() {
+        if is_run && first < self.is_run.len() {
             self.is_run[first] = true;
         }
         if is_made_in_each && first < self.farthest.len() {
@@ -153,14 +163,16 @@ fn place_in(places: &[Option<usize>], node: usize) -> Option<usize> {
     }
 }
 
-/// What a part made is up to date behind it, or has no file and isn't made again, but for some files.
+/// What a part made is up to date behind it, or has no file and isn't made again, but for some files. What is lost may be made in a part
+/// behind one that makes what it lacks.
 fn spans_of(
     alloc: Global,
     makes_all: bool,
     counting: bool,
     graph: &Graph,
 ) -> Result<Spans, AllocError> {
-    let made = to_make(alloc, counting, graph)?;
+    let lost = lost_nodes(alloc, graph)?;
+    let made = to_make(alloc, counting, graph, &lost)?;
     let first = places_of(alloc, graph, false)?;
     let last = places_of(alloc, graph, true)?;
     let mut spans = Spans {
@@ -168,9 +180,14 @@ fn spans_of(
         farthest: vec![in alloc; 0; graph.goals.len()]?,
     };
     for (node, is_made) in made.iter().enumerate() {
-        if *is_made {
+        if *is_made || is_lost(&lost, node) {
             let (first, last) = (place_in(&first, node), place_in(&last, node));
-            spans.add(first, last, is_made_in_each(makes_all, graph, node));
+            spans.add(
+                first,
+                last,
+                *is_made,
+                is_made_in_each(makes_all, graph, node),
+            );
         }
     }
     Ok(spans)
@@ -215,6 +232,6 @@ pub(crate) fn at_once(
     if !ends.iter().any(|is_end| *is_end) {
         return Ok(());
     }
-    ready_recipes(alloc, false, graph, shell)?;
+    ready_all_recipes(alloc, graph, shell)?;
     Err(Stop::Parted(ends))
 }

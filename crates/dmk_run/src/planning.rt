@@ -1,5 +1,5 @@
 //! What a run makes and how it goes, before anything is made.
-ghost use Rattle.std.specs.Prelude.{◌≡◌, ◌⊎◌, ◌||◌, ℕ, ℤ, List, [], Option, Some, None, true, false, unwrap_or, IfOk, IfErr};
+ghost use Rattle.std.specs.Prelude.{◌≡◌, ◌⊎◌, ◌||◌, ℕ, List, [], Option, Some, None, true, false, unwrap_or, IfOk, IfErr};
 ghost use Rattle.std.specs.FinMap as finmap;
 ghost use Rattle.mk_rules.specs.Faults.{IsRuleFault};
 ghost use Rattle.mk_rules.specs.Limit.{node_limit};
@@ -7,27 +7,30 @@ ghost use Rattle.mk_rule_lines.specs.declared.fault.RuleFault.{RuleFault as Rule
 ghost use Rattle.mk_nodes.specs.declared.graph.Graph.{Graph as MadeGraph};
 ghost use Rattle.dmk_reading.specs.Definitions.{first_defined};
 ghost use Rattle.dmk_reading.specs.Planned.{IsGraphOf, judged_graph};
-ghost use Rattle.dmk_reading.specs.declared.fault.Fault.TheVariants as faults;
+ghost use Rattle.dmk_messages.specs.declared.fault.Fault.TheVariants as faults;
 ghost use Rattle.dmk_reading.specs.Lost.{goes_without};
 ghost use Rattle.dmk_reading.specs.Passing.{PassesEach};
 ghost use Rattle.dmk_run.specs.Behind.{IsJudgedBehind, none_tried};
 ghost use Rattle.dmk_run.specs.Planned.{recorded_in};
 ghost use Rattle.dmk_run.specs.declared.stop.Stop.TheVariants as stops;
+ghost use Rattle.mk_nodes.specs.declared.file_look.FileLook.{FileLook};
 
 use crate::clearing::graph_behind;
 use crate::conducting::Wishes;
 use crate::parting::at_once;
-use crate::printer::Printer;
 use crate::stop::Stop;
 use crate::tried::Tried;
 use crate::unmade::tell_unmade;
 use bd_lists::Variable;
 use byte_strings::{ByteString, ByteStrings};
-use dmk_reading::judged_graph;
+use dmk_messages::Fault;
+use dmk_printing::Printer;
+use dmk_reading::{judged_graph, unmade_names};
 use jb_recipe::Conduct;
 use mk_nodes::Graph;
 use mk_profile::Profile;
 use mk_reader::Item;
+use mk_rule_lines::RuleFault;
 use mk_rules::Tree;
 use st_records::HashKey;
 use st_state::State;
@@ -131,16 +134,16 @@ pub(crate) fn graph_of<T: Tree>(
     state: State,
     goes_without: bool,
 ) -> Result<Graph, Stop>
-    ensures graph { IfOk result (λ graph. (times : List ℕ → Option ℤ) → T.allows tree.new times
-        → IsGraphOf profile definitions.now environment.now targets times items.items state graph) }
+    ensures graph { IfOk result (λ graph. (looks : List ℕ → Option FileLook) → T.allows tree.new looks
+        → IsGraphOf profile definitions.now environment.now targets looks items.items state graph) }
     ensures made { goes_without ≡ false → IfOk result (λ graph. graph.unmade.items ≡ []) }
     ensures fault { IfErr result (λ stop. (stop ≡ stops.Before faults.OutOfMemory)
         ⊎ ((f : RulesFault) × (stop ≡ stops.Before (faults.Rules f))
-        × ((times : List ℕ → Option ℤ) → T.allows tree.new times
-        → IsRuleFault (first_defined profile definitions.now environment.now) items.items times
+        × ((looks : List ℕ → Option FileLook) → T.allows tree.new looks
+        → IsRuleFault (first_defined profile definitions.now environment.now) items.items looks
         (finmap.get state) (T.refuses tree.new) targets (node_limit profile) f))) }
     ensures state { IfOk result (λ graph. graph.state ≡ state) }
-    ensures times { (times : List ℕ → Option ℤ) → T.allows tree.new times → T.allows tree.old times }
+    ensures looks { (looks : List ℕ → Option FileLook) → T.allows tree.new looks → T.allows tree.old looks }
 {
     match dmk_reading::graph_of(
         alloc,
@@ -196,19 +199,52 @@ fn behind_or_whole<R: Wait, O: Write + Drop, W: Write + Drop>(
     Ok(graph)
 }
 
-/// So it is, and what there is to say of it is said.
-fn ready<R: Wait, O: Write + Drop, W: Write + Drop>(
+/// Refuses a graph in which a name has no file and nothing makes it. Where its goals are made in parts, each part is judged in its turn.
+fn refuse_unmade<R: Wait, O: Write + Drop, W: Write + Drop>(
     alloc: Global,
     printer: &Printer<'_, R, O, W>,
     shell: &OnceLock<ByteString>,
     makes_all: bool,
+    counting: bool,
+    graph: &Graph,
+) -> Result<(), Stop>
+    ensures { IfOk result (λ _. graph.now.unmade.items ≡ []) }
+{
+    let mut told = unmade_names(alloc, graph)?;
+    if told.is_empty() {
+        return Ok(());
+    }
+    if let Err(stop) = whole_at_once(alloc, printer, shell, makes_all, counting, graph) {
+        drop(told);
+        return Err(stop);
+    }
+    let first = told.swap_remove(0);
+    drop(told);
+    Err(Stop::Before(Fault::Rules(RuleFault::NoRule(first))))
+}
+
+/// So it is, and what there is to say of it is said. Unless the run goes on without them, all names have a file or a rule.
+fn ready<R: Wait, O: Write + Drop, W: Write + Drop>(
+    alloc: Global,
+    printer: &Printer<'_, R, O, W>,
+    shell: &OnceLock<ByteString>,
+    wishes: &Wishes<'_>,
+    profile: Profile,
     counting: bool,
     behind: Option<Tried>,
     graph: Graph,
 ) -> Result<Graph, Stop>
     ensures judged { PassesEach graph → IfOk result (IsJudgedBehind (unwrap_or behind none_tried) counting graph) }
     ensures state { IfOk result (λ judged. judged.state ≡ graph.state) }
+    ensures made { goes_without profile wishes.now.goes_on ≡ false → IfOk result (λ _. graph.unmade.items ≡ []) }
 {
+    let makes_all = wishes.makes_all;
+    if !wishes.goes_without(profile) {
+        if let Err(stop) = refuse_unmade(alloc, printer, shell, makes_all, counting, &graph) {
+            drop(graph);
+            return Err(stop);
+        }
+    }
     let graph = behind_or_whole(alloc, printer, shell, makes_all, counting, behind, graph)?;
     tell_unmade(alloc, printer, &graph)?;
     Ok(graph)
@@ -229,11 +265,11 @@ pub(crate) fn planned<R: Wait, T: Tree, O: Write + Drop, W: Write + Drop>(
     items: Vec<Item>,
     state: State,
 ) -> Result<Plan, Stop>
-    ensures graph { IfOk result (λ plan. (times : List ℕ → Option ℤ) → T.allows tree.new times
-        → (graph : MadeGraph) × IsGraphOf goals.profile goals.definitions.items environment.now goals.targets times items.items state graph
+    ensures graph { IfOk result (λ plan. (looks : List ℕ → Option FileLook) → T.allows tree.new looks
+        → (graph : MadeGraph) × IsGraphOf goals.profile goals.definitions.items environment.now goals.targets looks items.items state graph
         × (goes_without goals.profile wishes.now.goes_on ≡ false → graph.unmade.items ≡ [])
         × IsJudgedBehind (unwrap_or goals.behind none_tried) (wishes.now.makes_all || keeping) (judged_graph wishes.now.makes_all graph) plan.graph) }
-    ensures times { (times : List ℕ → Option ℤ) → T.allows tree.new times → T.allows tree.old times }
+    ensures looks { (looks : List ℕ → Option FileLook) → T.allows tree.new looks → T.allows tree.old looks }
     ensures state { IfOk result (λ plan. recorded_in plan ≡ state) }
     ensures keeping { IfOk result (λ plan. plan.conduct.keeps_state ≡ keeping) }
     ensures records { IfOk result (λ plan. plan.conduct.counts_records ≡ wishes.now.makes_all || keeping) }
@@ -252,6 +288,7 @@ pub(crate) fn planned<R: Wait, T: Tree, O: Write + Drop, W: Write + Drop>(
             return Err(Stop::from(error));
         }
     };
+    let may_be_parted = behind.is_none() && profile.is_wide() && targets.len() > 1;
     let found = graph_of(
         alloc,
         profile,
@@ -261,7 +298,7 @@ pub(crate) fn planned<R: Wait, T: Tree, O: Write + Drop, W: Write + Drop>(
         tree,
         items,
         state,
-        wishes.goes_without(profile),
+        may_be_parted || wishes.goes_without(profile),
     );
     let graph = match found {
         Ok(graph) => graph,
@@ -276,7 +313,8 @@ pub(crate) fn planned<R: Wait, T: Tree, O: Write + Drop, W: Write + Drop>(
         alloc,
         printer,
         shell,
-        wishes.makes_all,
+        wishes,
+        profile,
         conduct.counts_records,
         behind,
         graph,

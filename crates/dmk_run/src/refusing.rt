@@ -2,7 +2,8 @@
 
 use crate::stop::Stop;
 use byte_strings::ByteString;
-use dmk_reading::{Fault, is_lost, lost_nodes};
+use dmk_messages::Fault;
+use dmk_reading::{is_lost, lost_nodes};
 use mk_macros::{Dynamic, MacroFault};
 use mk_nodes::Graph;
 use mk_plan::{RecipeFault, has_text_names, pass_in};
@@ -46,16 +47,20 @@ fn name_shell(alloc: Global, graph: &Graph, shell: &OnceLock<ByteString>) -> Res
     }
 }
 
-/// Refuses a graph of the wide profile of which a listing would have a recipe that calls a function.
-fn refuse_functions(alloc: Global, counting: bool, graph: &Graph) -> Result<(), Stop> {
+/// Refuses a graph of the wide profile of which a listing without these nodes would have a recipe that calls a function.
+fn refuse_functions(
+    alloc: Global,
+    counting: bool,
+    graph: &Graph,
+    lost: &[bool],
+) -> Result<(), Stop> {
     if !graph.macros.profile().is_wide() {
         return Ok(());
     }
     let mut marks = vec![in alloc; false; graph.len()]?;
     let texts = has_text_names(graph);
-    let lost = lost_nodes(alloc, graph)?;
     for node in graph.order.as_slice() {
-        if is_lost(&lost, *node) {
+        if is_lost(lost, *node) {
             continue;
         }
         if *node < graph.len() && *node < marks.len() {
@@ -76,5 +81,16 @@ pub(crate) fn ready_recipes(
     shell: &OnceLock<ByteString>,
 ) -> Result<(), Stop> {
     name_shell(alloc, graph, shell)?;
-    refuse_functions(alloc, counting, graph)
+    let lost = lost_nodes(alloc, graph)?;
+    refuse_functions(alloc, counting, graph, &lost)
+}
+
+/// So of a graph that is made in parts: what a name is missing for may be made once a part before it has made that name.
+pub(crate) fn ready_all_recipes(
+    alloc: Global,
+    graph: &Graph,
+    shell: &OnceLock<ByteString>,
+) -> Result<(), Stop> {
+    name_shell(alloc, graph, shell)?;
+    refuse_functions(alloc, false, graph, &[])
 }

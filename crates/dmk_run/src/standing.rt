@@ -1,9 +1,9 @@
 //! Targets that were judged up to date, looked at once more when a part is made.
 
 use crate::parting::has_file;
-use crate::printer::Printer;
 use bd_places::End;
 use byte_strings::{ByteString, ByteStrings};
+use dmk_printing::Printer;
 use jb_closing::{Report, RunFault};
 use jb_recipe::Place;
 use mk_nodes::Graph;
@@ -136,7 +136,7 @@ fn file_of(alloc: Global, graph: &Graph, node: usize) -> Result<Option<Standing>
     let Some(known) = graph.nodes.get(node) else {
         return Ok(None);
     };
-    let Some(time) = known.stamp.get() else {
+    let Some(time) = known.stamp.time() else {
         return Ok(None);
     };
     Ok(Some(Standing {

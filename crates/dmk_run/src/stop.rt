@@ -1,6 +1,6 @@
 //! Why a run has no report.
 
-use dmk_reading::Fault;
+use dmk_messages::Fault;
 use jb_closing::RunFault;
 use std::alloc::AllocError;
 use std::io;
@@ -22,7 +22,7 @@ pub enum Stop {
 
 impl From<AllocError> for Stop {
     ghost use Rattle.std.specs.Prelude.{◌≡◌};
-    ghost use Rattle.dmk_reading.specs.declared.fault.Fault.TheVariants as faults;
+    ghost use Rattle.dmk_messages.specs.declared.fault.Fault.TheVariants as faults;
     ghost use Rattle.dmk_run.specs.declared.stop.Stop.TheVariants as stops;
 
     ghost from_gives = { λ _ stop. stop ≡ stops.Before faults.OutOfMemory };

@@ -15,7 +15,7 @@ ghost use Rattle.dmk_run.specs.Taken.{done_of, Takes, AreTaken};
 
 use crate::stop::Stop;
 use byte_strings::{ByteString, ByteStrings};
-use dmk_reading::Fault;
+use dmk_messages::Fault;
 use jb_recipe::{Place, PlaceFault, is_writable};
 use mk_nodes::Graph;
 use mk_plan::{Passed, RecipeFault, explicit_of, name_of, pass};

@@ -1,5 +1,5 @@
 //! Targets taken as they are, on a disk where nothing is known of any.
-ghost use Rattle.std.specs.Prelude.{◌≡◌, ◌≢◌, ◌⊎◌, ℕ, ℤ, true, false, List, [], Option, length, nat_lt, IfOk, IfErr, OnOk};
+ghost use Rattle.std.specs.Prelude.{◌≡◌, ◌≢◌, ◌⊎◌, ℕ, true, false, List, [], Option, length, nat_lt, IfOk, IfErr, OnOk};
 ghost use Rattle.std.specs.FinMap as finmap;
 ghost use Rattle.std.specs.List.{list_all};
 ghost use Rattle.mk_eval.specs.Output.{World};
@@ -13,17 +13,18 @@ ghost use Rattle.dmk_reading.specs.Keeping.{keeps};
 ghost use Rattle.dmk_reading.specs.Planned.{AreItems, IsGraphOf, IsWholeGraphOf};
 ghost use Rattle.dmk_run.specs.Taken.{AreTaken};
 ghost use Rattle.dmk_run.specs.Trusted.{AllRecoverTaken, AllRecoverOrTaken, ArePossibleOrTaken, IsLeft, LeavesState};
-ghost use Rattle.dmk_run.specs.declared.trusting.Trusted.TheVariants as trusteds;
+ghost use Rattle.dmk_printing.specs.declared.trusted.Trusted.TheVariants as trusteds;
+ghost use Rattle.mk_nodes.specs.declared.file_look.FileLook.{FileLook};
 
 use crate::driver::status_of;
 use crate::guard::{Guard, hold_state};
 use crate::opening::{disk_of_store, open_store};
 use crate::planning::graph_of;
-use crate::printer::Printer;
 use crate::stop::Stop;
 use crate::taking::taken_on_disk;
 use bd_flusher::FlushFault;
 use bd_lists::Variable;
+use dmk_printing::{Printer, Trusted};
 use dmk_reading::{Options, items_of, keeps_state};
 use jb_closing::RunFault;
 use jb_recipe::Place;
@@ -38,17 +39,6 @@ use st_state::State;
 use std::alloc::Global;
 use std::io::Write;
 use std::sync::Wait;
-
-/// What came of taking targets as they are.
-#[derive(Clone, Copy, Debug, PartialEq, Eq)]
-pub enum Trusted {
-    /// No state is kept.
-    Unkept,
-    /// The state knows of targets already, so none was taken.
-    Known,
-    /// So many were taken.
-    Taken(usize),
-}
 
 /// Records the targets of a graph that are taken as they are, all of them or none, and answers how many there are.
 fn record_taken<P: Place, D: Disk + Drop>(
@@ -90,10 +80,10 @@ fn graph_asked<T: Tree>(
     items: Vec<Item>,
     state: &State,
 ) -> Result<Graph, Stop>
-    ensures graph { IfOk result (λ graph. (times : List ℕ → Option ℤ) → T.allows tree.new times
-        → IsGraphOf options.now.profile options.now.definitions.items environment.now options.now.targets times items.items state.now graph) }
+    ensures graph { IfOk result (λ graph. (looks : List ℕ → Option FileLook) → T.allows tree.new looks
+        → IsGraphOf options.now.profile options.now.definitions.items environment.now options.now.targets looks items.items state.now graph) }
     ensures made { IfOk result (λ graph. graph.unmade.items ≡ []) }
-    ensures times { (times : List ℕ → Option ℤ) → T.allows tree.new times → T.allows tree.old times }
+    ensures looks { (looks : List ℕ → Option FileLook) → T.allows tree.new looks → T.allows tree.old looks }
 {
     let targets = options.targets.copy(alloc)?;
     let state = state.copy(alloc)?;
@@ -122,15 +112,15 @@ fn trust_over<T: Tree, P: Place, D: Disk + Drop>(
     store: &mut Store<D>,
 ) -> Result<Trusted, Stop>
     requires { store.old.log.dead ≡ false }
-    ensures any_moment { D.honest → (times : List ℕ → Option ℤ) → T.allows tree.new times
+    ensures any_moment { D.honest → (looks : List ℕ → Option FileLook) → T.allows tree.new looks
         → Throughout (D.moments store.old.log.disk) (D.moments store.new.log.disk) (AllRecoverOrTaken (IsWholeGraphOf
-        options.now.profile options.now.definitions.items environment.now options.now.targets times items.items finmap.empty) store.old.state) }
+        options.now.profile options.now.definitions.items environment.now options.now.targets looks items.items finmap.empty) store.old.state) }
     ensures recovers { D.honest → OnOk result (AllRecover store.new.state (now (D.moments store.new.log.disk))) }
-    ensures left { IfOk result (λ found. (times : List ℕ → Option ℤ) → T.allows tree.new times
-        → IsLeft (IsWholeGraphOf options.now.profile options.now.definitions.items environment.now options.now.targets times items.items finmap.empty)
+    ensures left { IfOk result (λ found. (looks : List ℕ → Option FileLook) → T.allows tree.new looks
+        → IsLeft (IsWholeGraphOf options.now.profile options.now.definitions.items environment.now options.now.targets looks items.items finmap.empty)
         store.old.state store.new.state found) }
     ensures kept { IfOk result (λ found. found ≢ trusteds.Unkept) }
-    ensures times { (times : List ℕ → Option ℤ) → T.allows tree.new times → T.allows tree.old times }
+    ensures looks { (looks : List ℕ → Option FileLook) → T.allows tree.new looks → T.allows tree.old looks }
 {
     if knows_any(store.state()) {
         drop(items);
@@ -154,14 +144,14 @@ fn trust_on<T: Tree, P: Place, D: Disk + Drop>(
     items: Vec<Item>,
     disk: D,
 ) -> (Result<Trusted, Stop>, D)
-    ensures any_moment { D.honest → (times : List ℕ → Option ℤ) → T.allows tree.new times
+    ensures any_moment { D.honest → (looks : List ℕ → Option FileLook) → T.allows tree.new looks
         → Throughout (D.moments disk) (D.moments result.1) (ArePossibleOrTaken (IsWholeGraphOf options.now.profile options.now.definitions.items
-        environment.now options.now.targets times items.items finmap.empty) (D.seen disk) (now (D.moments disk))) }
-    ensures left { IfOk result.0 (λ found. D.honest → (times : List ℕ → Option ℤ) → T.allows tree.new times
-        → LeavesState (IsWholeGraphOf options.now.profile options.now.definitions.items environment.now options.now.targets times items.items finmap.empty)
+        environment.now options.now.targets looks items.items finmap.empty) (D.seen disk) (now (D.moments disk))) }
+    ensures left { IfOk result.0 (λ found. D.honest → (looks : List ℕ → Option FileLook) → T.allows tree.new looks
+        → LeavesState (IsWholeGraphOf options.now.profile options.now.definitions.items environment.now options.now.targets looks items.items finmap.empty)
         (D.seen disk) (now (D.moments result.1)) found) }
     ensures kept { IfOk result.0 (λ found. found ≢ trusteds.Unkept) }
-    ensures times { (times : List ℕ → Option ℤ) → T.allows tree.new times → T.allows tree.old times }
+    ensures looks { (looks : List ℕ → Option FileLook) → T.allows tree.new looks → T.allows tree.old looks }
 {
     let mut store = match open_store(alloc, key, disk) {
         Ok(store) => store,
@@ -193,20 +183,20 @@ where
     P: Place,
     G: Guard,
     D: Disk + Drop,
-    ensures any_moment { D.honest → (world : World) (times : List ℕ → Option ℤ) → I.allows includes.new world → T.allows tree.new times
-        → (result.1 ≡ disk) ⊎ ((items : List MakefileItem) × AreItems world times options.now.makefiles
+    ensures any_moment { D.honest → (world : World) (looks : List ℕ → Option FileLook) → I.allows includes.new world → T.allows tree.new looks
+        → (result.1 ≡ disk) ⊎ ((items : List MakefileItem) × AreItems world looks options.now.makefiles
         (first_defined options.now.profile options.now.definitions.items environment.now) items × (keeps environment.now items ≡ true)
         × Throughout (D.moments disk) (D.moments result.1) (ArePossibleOrTaken (IsWholeGraphOf options.now.profile options.now.definitions.items
-        environment.now options.now.targets times items finmap.empty) (D.seen disk) (now (D.moments disk)))) }
+        environment.now options.now.targets looks items finmap.empty) (D.seen disk) (now (D.moments disk)))) }
     ensures left { IfOk result.0 (λ found. D.honest → found ≢ trusteds.Unkept
-        → (world : World) (times : List ℕ → Option ℤ) → I.allows includes.new world → T.allows tree.new times
-        → (items : List MakefileItem) × AreItems world times options.now.makefiles
+        → (world : World) (looks : List ℕ → Option FileLook) → I.allows includes.new world → T.allows tree.new looks
+        → (items : List MakefileItem) × AreItems world looks options.now.makefiles
         (first_defined options.now.profile options.now.definitions.items environment.now) items × (keeps environment.now items ≡ true)
-        × LeavesState (IsWholeGraphOf options.now.profile options.now.definitions.items environment.now options.now.targets times items finmap.empty)
+        × LeavesState (IsWholeGraphOf options.now.profile options.now.definitions.items environment.now options.now.targets looks items finmap.empty)
         (D.seen disk) (now (D.moments result.1)) found) }
     ensures unkept { IfOk result.0 (λ found. found ≡ trusteds.Unkept → (result.1 ≡ disk)
-        × ((world : World) (times : List ℕ → Option ℤ) → I.allows includes.new world → T.allows tree.new times
-        → (items : List MakefileItem) × AreItems world times options.now.makefiles
+        × ((world : World) (looks : List ℕ → Option FileLook) → I.allows includes.new world → T.allows tree.new looks
+        → (items : List MakefileItem) × AreItems world looks options.now.makefiles
         (first_defined options.now.profile options.now.definitions.items environment.now) items × (keeps environment.now items ≡ false))) }
 {
     let items = match items_of(
@@ -260,21 +250,21 @@ where
     D: Disk + Drop,
     // Unless a makefile that was read keeps state, the disk is handed back as it came. Else at every moment each pair was possible
     // at the start or recovers the state that the sides recovered or, where that is empty, the one of the targets that are taken.
-    ensures any_moment { D.honest → (world : World) (times : List ℕ → Option ℤ) → I.allows includes.new world → T.allows tree.new times
-        → (result.1 ≡ disk) ⊎ ((items : List MakefileItem) × AreItems world times options.now.makefiles
+    ensures any_moment { D.honest → (world : World) (looks : List ℕ → Option FileLook) → I.allows includes.new world → T.allows tree.new looks
+        → (result.1 ≡ disk) ⊎ ((items : List MakefileItem) × AreItems world looks options.now.makefiles
         (first_defined options.now.profile options.now.definitions.items environment.now) items × (keeps environment.now items ≡ true)
         × Throughout (D.moments disk) (D.moments result.1) (ArePossibleOrTaken (IsWholeGraphOf options.now.profile options.now.definitions.items
-        environment.now options.now.targets times items finmap.empty) (D.seen disk) (now (D.moments disk)))) }
+        environment.now options.now.targets looks items finmap.empty) (D.seen disk) (now (D.moments disk)))) }
     // Of a state that knows of some target nothing changes; where nothing is known, all targets that are taken are recorded.
     ensures left { IfOk result.0 (λ found. D.honest → found ≢ trusteds.Unkept
-        → (world : World) (times : List ℕ → Option ℤ) → I.allows includes.new world → T.allows tree.new times
-        → (items : List MakefileItem) × AreItems world times options.now.makefiles
+        → (world : World) (looks : List ℕ → Option FileLook) → I.allows includes.new world → T.allows tree.new looks
+        → (items : List MakefileItem) × AreItems world looks options.now.makefiles
         (first_defined options.now.profile options.now.definitions.items environment.now) items × (keeps environment.now items ≡ true)
-        × LeavesState (IsWholeGraphOf options.now.profile options.now.definitions.items environment.now options.now.targets times items finmap.empty)
+        × LeavesState (IsWholeGraphOf options.now.profile options.now.definitions.items environment.now options.now.targets looks items finmap.empty)
         (D.seen disk) (now (D.moments result.1)) found) }
     ensures unkept { IfOk result.0 (λ found. found ≡ trusteds.Unkept → (result.1 ≡ disk)
-        × ((world : World) (times : List ℕ → Option ℤ) → I.allows includes.new world → T.allows tree.new times
-        → (items : List MakefileItem) × AreItems world times options.now.makefiles
+        × ((world : World) (looks : List ℕ → Option FileLook) → I.allows includes.new world → T.allows tree.new looks
+        → (items : List MakefileItem) × AreItems world looks options.now.makefiles
         (first_defined options.now.profile options.now.definitions.items environment.now) items × (keeps environment.now items ≡ false))) }
     ensures status { IfErr result.0 (λ status. status ≡ 2) }
 {

@@ -2,7 +2,7 @@
 ghost use Rattle.std.specs.Prelude.{◌≡◌, ◌≤◌};
 ghost use Rattle.dmk_reading.specs.Lost.{with_unmade};
 
-use crate::printer::Printer;
+use dmk_printing::Printer;
 use dmk_reading::unmade_names;
 use mk_nodes::Graph;
 use std::alloc::{AllocError, Global};

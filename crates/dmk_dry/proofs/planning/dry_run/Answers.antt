@@ -10,7 +10,7 @@ use Rattle.dmk_dry.proofs.planning.dry_run.Goals as goal
 pub returns-clause-tells : goal.returns-clause-tells
 returns-clause-tells g c =
     if_ok c.plan_items.result _ _
-    (λ run tells world times text now. (c.in_ok-items.items.items, c.in_ok-items.ensures.items world times text (c.plan_items.ensures.times times now), tells times now))
+    (λ run tells world looks text now. (c.in_ok-items.items.items, c.in_ok-items.ensures.items world looks text (c.plan_items.ensures.looks looks now), tells looks now))
     c.plan_items.ensures.tells
 
 pub returns-clause-fault : goal.returns-clause-fault
@@ -19,17 +19,17 @@ returns-clause-fault g c =
     let named = c.args.given.makefiles.now in
     let given = first_defined c.args.given.profile c.args.given.definitions.now c.args.given.environment.now in
     if_err c.plan_items.result _ _
-    (λ f meets world times text now.
-    plan_fault (IsTextFault world times refuses named given) (AreItems world times named given)
-    (IsPlanFault c.args.given.profile c.args.given.definitions.now c.args.given.environment.now c.args.targets c.args.given.makes_all c.args.given.goes_on times refuses g.D.Disk.honest (g.D.Disk.seen c.args.disk.now))
-    c.in_ok-items.items.items (c.in_ok-items.ensures.items world times text (c.plan_items.ensures.times times now)) f (meets times now)
+    (λ f meets world looks text now.
+    plan_fault (IsTextFault world looks refuses named given) (AreItems world looks named given)
+    (IsPlanFault c.args.given.profile c.args.given.definitions.now c.args.given.environment.now c.args.targets c.args.given.makes_all c.args.given.goes_on looks refuses g.D.Disk.honest (g.D.Disk.seen c.args.disk.now))
+    c.in_ok-items.items.items (c.in_ok-items.ensures.items world looks text (c.plan_items.ensures.looks looks now)) f (meets looks now)
     (λ no. no) (λ f no. no) (λ no. no))
     c.plan_items.ensures.fault
 
 pub returns-in_err-items-clause-device : goal.returns-in_err-items-clause-device
 returns-in_err-items-clause-device g c = λ is.
     let (world, text) = g.met.I.Includes.possible c.items_of.new.includes in
-    let (times, now) = g.met.T.Tree.possible c.items_of.new.tree in
+    let (looks, now) = g.met.T.Tree.possible c.items_of.new.tree in
     let given = first_defined c.args.given.profile c.args.given.definitions.now c.args.given.environment.now in
-    absurd (no_state (IsTextFault world times (g.T.Tree.refuses c.items_of.new.tree) c.args.given.makefiles.now given) c.from_residual.result c.in_err-items.field-0.0
-    open_faults.Device (c.from_residual.ensures).1 (c.in_err-items.ensures.fault world times text now) (λ none. none) is)
+    absurd (no_state (IsTextFault world looks (g.T.Tree.refuses c.items_of.new.tree) c.args.given.makefiles.now given) c.from_residual.result c.in_err-items.field-0.0
+    open_faults.Device (c.from_residual.ensures).1 (c.in_err-items.ensures.fault world looks text now) (λ none. none) is)

@@ -12,7 +12,7 @@ returns-clause-graph g c =
 pub returns-clause-fault : goal.returns-clause-fault
 returns-clause-fault g c =
     if_err c.graph_of.result _ _
-    (λ f meets times now.
-    rules_fault c.args.given.profile c.args.given.definitions.now c.args.given.environment.now c.args.targets c.args.given.makes_all c.args.given.goes_on times g.D.Disk.honest (g.D.Disk.seen c.args.disk.now) c.args.items.items
+    (λ f meets looks now.
+    rules_fault c.args.given.profile c.args.given.definitions.now c.args.given.environment.now c.args.targets c.args.given.makes_all c.args.given.goes_on looks g.D.Disk.honest (g.D.Disk.seen c.args.disk.now) c.args.items.items
     c.args.keeping c.requires _ c.in_ok-state.ensures.found (g.T.Tree.refuses c.graph_of.new.tree) (g.T.Tree.allows c.graph_of.new.tree) now f meets)
     c.graph_of.ensures.fault

@@ -14,16 +14,16 @@ kept_graph-requires g c = c.keeps_state-keeping.ensures ∙ ap (keeps c.args.giv
 pub listed-requires-clause-plan : goal.listed-requires-clause-plan
 listed-requires-clause-plan g c =
     let (state, found, is) = c.in_ok-graph.ensures.graph in
-    let (times, now) = g.met.T.Tree.possible c.kept_graph.new.tree in
-    let by = (is times now).is_graph in
+    let (looks, now) = g.met.T.Tree.possible c.kept_graph.new.tree in
+    let by = (is looks now).is_graph in
     passes_judged c.args.given.makes_all c.in_ok-graph.graph c.judged_graph-judged.result c.judged_graph-judged.ensures
     (passes_each by.inputs c.args.targets c.in_ok-graph.graph by.is_graph)
 
 pub listed-requires-clause-order : goal.listed-requires-clause-order
 listed-requires-clause-order g c =
     let (state, found, is) = c.in_ok-graph.ensures.graph in
-    let (times, now) = g.met.T.Tree.possible c.kept_graph.new.tree in
-    let by = is times now in
+    let (looks, now) = g.met.T.Tree.possible c.kept_graph.new.tree in
+    let by = is looks now in
     order_judged c.args.given.makes_all c.in_ok-graph.graph c.judged_graph-judged.result c.judged_graph-judged.ensures
     (order_below by.is_graph.inputs c.args.targets c.in_ok-graph.graph by.is_graph.is_graph)
 
@@ -36,10 +36,10 @@ returns-clause-tells g c =
     let definitions = c.args.given.definitions.now in
     let environment = c.args.given.environment.now in
     let seen = g.D.Disk.seen c.args.disk.now in
-    each_ok c.listed.result (g.T.Tree.allows c.kept_graph.new.tree) (λ times. Tells profile definitions environment c.args.targets c.args.given.makes_all c.args.given.goes_on times g.D.Disk.honest seen c.args.items.items c.args.given.shows.telling c.args.given.shows.recipes)
-    (λ times now.
-    told_result profile definitions environment c.args.targets c.args.given.makes_all c.args.given.goes_on times g.D.Disk.honest seen c.args.items.items c.keeps_state-keeping.result is_keeping state found
-    c.in_ok-graph.graph (is times now) c.judged_graph-judged.result c.judged_graph-judged.ensures c.counts_records-counting.result c.counts_records-counting.ensures c.args.given.shows.telling c.args.given.shows.recipes c.listed.result c.listed.ensures.listing c.listed.ensures.dropped c.listed.ensures.unmade)
+    each_ok c.listed.result (g.T.Tree.allows c.kept_graph.new.tree) (λ looks. Tells profile definitions environment c.args.targets c.args.given.makes_all c.args.given.goes_on looks g.D.Disk.honest seen c.args.items.items c.args.given.shows.telling c.args.given.shows.recipes)
+    (λ looks now.
+    told_result profile definitions environment c.args.targets c.args.given.makes_all c.args.given.goes_on looks g.D.Disk.honest seen c.args.items.items c.keeps_state-keeping.result is_keeping state found
+    c.in_ok-graph.graph (is looks now) c.judged_graph-judged.result c.judged_graph-judged.ensures c.counts_records-counting.result c.counts_records-counting.ensures c.args.given.shows.telling c.args.given.shows.recipes c.listed.result c.listed.ensures.listing c.listed.ensures.dropped c.listed.ensures.unmade)
 
 pub returns-clause-fault : goal.returns-clause-fault
 returns-clause-fault g c =
@@ -51,7 +51,7 @@ returns-clause-fault g c =
     let environment = c.args.given.environment.now in
     let seen = g.D.Disk.seen c.args.disk.now in
     let refuses = g.T.Tree.refuses c.kept_graph.new.tree in
-    each_err c.listed.result (g.T.Tree.allows c.kept_graph.new.tree) (λ times. IsPlanFault profile definitions environment c.args.targets c.args.given.makes_all c.args.given.goes_on times refuses g.D.Disk.honest seen c.args.items.items)
-    (λ times now.
-    recipes_result profile definitions environment c.args.targets c.args.given.makes_all c.args.given.goes_on times g.D.Disk.honest seen c.args.items.items c.keeps_state-keeping.result is_keeping state found
-    c.in_ok-graph.graph (is times now) c.judged_graph-judged.result c.judged_graph-judged.ensures c.counts_records-counting.result c.counts_records-counting.ensures refuses c.listed.result c.listed.ensures.fault)
+    each_err c.listed.result (g.T.Tree.allows c.kept_graph.new.tree) (λ looks. IsPlanFault profile definitions environment c.args.targets c.args.given.makes_all c.args.given.goes_on looks refuses g.D.Disk.honest seen c.args.items.items)
+    (λ looks now.
+    recipes_result profile definitions environment c.args.targets c.args.given.makes_all c.args.given.goes_on looks g.D.Disk.honest seen c.args.items.items c.keeps_state-keeping.result is_keeping state found
+    c.in_ok-graph.graph (is looks now) c.judged_graph-judged.result c.judged_graph-judged.ensures c.counts_records-counting.result c.counts_records-counting.ensures refuses c.listed.result c.listed.ensures.fault)

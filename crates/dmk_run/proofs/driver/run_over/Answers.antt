@@ -22,10 +22,10 @@ returns-in-Ok-planned-clause-makes g c =
     let seen = g.D.Disk.seen c.args.disk in
     let sides = now (g.D.Disk.moments c.make.result.1) in
     each_ok c.make.result.0 (g.T.Tree.allows c.planned.new.tree)
-    (λ times s. MakesItems profile definitions environment targets c.args.wishes.now.makes_all c.args.wishes.now.goes_on before times items true c.args.keeping g.D.Disk.honest seen s sides (tried_in c.make.result.2))
-    (λ times may.
-    let (graph, is_graph, all_made, is_judged) = c.in-Ok-planned.ensures.graph times may in
-    made_items profile definitions environment targets c.args.wishes.now.makes_all c.args.wishes.now.goes_on before times (tried_in c.make.result.2) items true c.args.keeping g.D.Disk.honest seen sides c.in-Ok.store.state
+    (λ looks s. MakesItems profile definitions environment targets c.args.wishes.now.makes_all c.args.wishes.now.goes_on before looks items true c.args.keeping g.D.Disk.honest seen s sides (tried_in c.make.result.2))
+    (λ looks may.
+    let (graph, is_graph, all_made, is_judged) = c.in-Ok-planned.ensures.graph looks may in
+    made_items profile definitions environment targets c.args.wishes.now.makes_all c.args.wishes.now.goes_on before looks (tried_in c.make.result.2) items true c.args.keeping g.D.Disk.honest seen sides c.in-Ok.store.state
     graph plan.graph plan.conduct.counts_records plan.conduct.keeps_state c.in-Ok.ensures.found is_graph all_made is_judged c.in-Ok-planned.ensures.records c.in-Ok-planned.ensures.keeping c.make.result.0 c.make.ensures.made)
 
 -- what is recorded by the plan is the state of the store that was opened

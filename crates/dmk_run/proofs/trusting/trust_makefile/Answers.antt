@@ -13,11 +13,11 @@ returns-clause-left g c =
     let items = c.in-Ok.items.items in
     let asked : keeps environment items ≡ true = sym (rw c.deref-2.ensures.value at c.keeps_state.ensures) ∙ c.if-not-keeps_state.false in
     if_ok c.trust_on.result.0 _ _
-    (λ found left honest kept world times text may. (
+    (λ found left honest kept world looks text may. (
       items,
-      subst (λ (defined : List Variable). AreItems world times options.makefiles (first_defined options.profile defined environment) items) c.deref.ensures.value
-          (c.in-Ok.ensures.items world times text (c.trust_on.ensures.times times may)),
+      subst (λ (defined : List Variable). AreItems world looks options.makefiles (first_defined options.profile defined environment) items) c.deref.ensures.value
+          (c.in-Ok.ensures.items world looks text (c.trust_on.ensures.looks looks may)),
       asked,
-      left honest times may,
+      left honest looks may,
     ))
     c.trust_on.ensures.left

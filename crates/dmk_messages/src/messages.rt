@@ -1,6 +1,6 @@
 //! Every text of the program but the option reader's. Texts that belong to a crate below are its own, by `Display`.
 ghost use Rattle.std.specs.Prelude.{◌≡◌, None, IfSome};
-ghost use Rattle.dmk_reading.specs.Messages.{fault_text};
+ghost use Rattle.dmk_messages.specs.Messages.{fault_text};
 
 use crate::fault::Fault;
 use st_disk::Which;
@@ -27,7 +27,7 @@ fn named_side(fault: &Fault) -> Option<Which>
 }
 
 impl fmt::Display for Message<'_> {
-    ghost use Rattle.dmk_reading.specs.Messages.{fault_text};
+    ghost use Rattle.dmk_messages.specs.Messages.{fault_text};
 
     ghost output = { λ message. fault_text message.fault.now };
 

@@ -1,9 +1,9 @@
 //! What goes out: the text of a listing, and one line with a fault or a note.
 ghost use Rattle.std.specs.Prelude.{◌≡◌, ◌≤◌, true, length, take, OnOk, OnErr, IfOk, IfErr};
 ghost use Rattle.std.specs.Io.KnownBytes.{Appends, Keeps};
-ghost use Rattle.dmk_reading.specs.Messages.{SaysFault, note_lines};
-ghost use Rattle.dmk_reading.specs.Output.{AppendsPart};
-ghost use Rattle.dmk_reading.specs.declared.fault.Fault.TheVariants as faults;
+ghost use Rattle.dmk_messages.specs.Messages.{SaysFault, note_lines};
+ghost use Rattle.dmk_messages.specs.Output.{AppendsPart};
+ghost use Rattle.dmk_messages.specs.declared.fault.Fault.TheVariants as faults;
 
 use crate::fault::Fault;
 use crate::messages::{Message, SOFT_EDGES_NOTE};

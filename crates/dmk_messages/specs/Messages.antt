@@ -5,9 +5,9 @@ use Rattle.mk_plan.specs.declared.fault.RecipeFault.TheVariants as recipe_fault
 use Rattle.mk_reader.specs.declared.fault.ReadFault.TheVariants as read_fault
 use Rattle.mk_rule_lines.specs.declared.fault.RuleFault.TheVariants as rule_fault
 use Rattle.st_file.specs.declared.fault.OpenFault.TheVariants as open_fault
-use Rattle.dmk_reading.specs.declared.fault.Fault.{Fault}
-use Rattle.dmk_reading.specs.declared.fault.Fault.TheVariants as fault
-use Rattle.dmk_reading.specs.declared.messages.TheConstants.{SOFT_EDGES_NOTE}
+use Rattle.dmk_messages.specs.declared.fault.Fault.{Fault}
+use Rattle.dmk_messages.specs.declared.fault.Fault.TheVariants as fault
+use Rattle.dmk_messages.specs.declared.messages.TheConstants.{SOFT_EDGES_NOTE}
 
 -- memory was wanted, in whichever stage
 abbrev pub is_of_memory : Fault → Bool

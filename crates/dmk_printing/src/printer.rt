@@ -4,9 +4,9 @@ ghost use Rattle.mk_eval.specs.Output.{World};
 
 use crate::status_line::StatusLine;
 use crate::streams::Streams;
-use crate::trusting::Trusted;
+use crate::trusted::Trusted;
 use bd_lists::Ended;
-use dmk_reading::{Message, print_fault, print_lines, print_note};
+use dmk_messages::{Message, print_fault, print_lines, print_note};
 use jb_closing::RunFault;
 use jb_recipe::{News, Say, Step};
 use mk_eval::Includes;
@@ -119,7 +119,7 @@ impl<'a, R: Wait, O: Write + Drop, E: Write + Drop> Printer<'a, R, O, E> {
     }
 
     /// Says that no target is taken, since the file of one can't be put on the disk.
-    pub(crate) fn not_on_disk(&self, error: io::Error) {
+    pub fn not_on_disk(&self, error: io::Error) {
         let mut streams = self.streams.lock(self.rt);
         let _ = writeln!(
             streams.err,
@@ -154,7 +154,7 @@ impl<'a, R: Wait, O: Write + Drop, E: Write + Drop> Printer<'a, R, O, E> {
     }
 
     /// Says what came of taking targets as they are.
-    pub(crate) fn trusted(&self, state: &str, trusted: Trusted) {
+    pub fn trusted(&self, state: &str, trusted: Trusted) {
         match trusted {
             Trusted::Unkept => self.of_state(
                 "note: no target is taken as it is: no state is kept",
@@ -183,7 +183,7 @@ impl<'a, R: Wait, O: Write + Drop, E: Write + Drop> Printer<'a, R, O, E> {
     }
 
     /// Says what there is to note of the makefiles that were read, unless it was said. A note that there is no memory for isn't said.
-    pub(crate) fn notes_of<I: Includes>(&self, alloc: Global, are_said: bool, includes: &mut I)
+    pub fn notes_of<I: Includes>(&self, alloc: Global, are_said: bool, includes: &mut I)
         ensures { (world : World) → I.allows includes.new world → I.allows includes.old world }
     {
         let notes = includes.take_notes(alloc);
@@ -197,12 +197,12 @@ impl<'a, R: Wait, O: Write + Drop, E: Write + Drop> Printer<'a, R, O, E> {
     }
 
     /// Says what became of a goal that was judged up to date.
-    pub(crate) fn lost(&self, goal: &[u8], became: &str) {
+    pub fn lost(&self, goal: &[u8], became: &str) {
         self.streams.lock(self.rt).note_goal(goal, became);
     }
 
     /// Says that a name has no file and that nothing makes it, as where a run is refused for it. Of each name it is said once.
-    pub(crate) fn unmade(&self, alloc: Global, unmade: Unmade) {
+    pub fn unmade(&self, alloc: Global, unmade: Unmade) {
         self.streams.lock(self.rt).unmade(alloc, unmade);
     }
 

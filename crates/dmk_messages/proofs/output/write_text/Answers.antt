@@ -1,7 +1,7 @@
 use Rattle.std.proofs.Common.{◌++◌, take}
 use Rattle.std.proofs.KnownBytes.{Appends-trans}
-use Rattle.dmk_reading.proofs.OutputLemmas.{front_moved}
-use Rattle.dmk_reading.proofs.output.write_text.Goals as goal
+use Rattle.dmk_messages.proofs.OutputLemmas.{front_moved}
+use Rattle.dmk_messages.proofs.output.write_text.Goals as goal
 
 pub loop-rest-preserved : goal.loop-rest-preserved
 loop-rest-preserved g c =

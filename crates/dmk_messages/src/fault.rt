@@ -1,7 +1,7 @@
 //! Why a run ends before it prints or answers what was asked for. The order is that in which faults are looked for.
 ghost use Rattle.std.specs.Prelude.{◌≡◌};
-ghost use Rattle.dmk_reading.specs.Messages.{is_of_memory};
-ghost use Rattle.dmk_reading.specs.declared.fault.Fault.TheVariants.{OutOfMemory, State};
+ghost use Rattle.dmk_messages.specs.Messages.{is_of_memory};
+ghost use Rattle.dmk_messages.specs.declared.fault.Fault.TheVariants.{OutOfMemory, State};
 
 use mk_plan::RecipeFault;
 use mk_reader::ReadFault;
@@ -44,7 +44,7 @@ impl Fault {
 }
 
 impl fmt::Display for Fault {
-    ghost use Rattle.dmk_reading.specs.Messages.{fault_text};
+    ghost use Rattle.dmk_messages.specs.Messages.{fault_text};
 
     ghost output = { fault_text };
 

@@ -1,0 +1,4 @@
+-- Messages: what is said of faults and of soft edges.
+pub mod Messages
+-- Output: what went out.
+pub mod Output
