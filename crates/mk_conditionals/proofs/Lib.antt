@@ -1,0 +1,5 @@
+mod ArgumentLemmas
+mod CutLemmas
+mod LineLemmas
+mod MachineLemmas
+mod SpellingLemmas

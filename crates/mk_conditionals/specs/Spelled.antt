@@ -1,5 +1,5 @@
 -- What a line says of conditionals, as it is read from its front (GNU make manual, "Syntax of Conditionals").
-use Rattle.std.specs.Prelude.{ℕ, Bool, true, false, not, ◌||◌, ◌==◌, List, [], ◌∷◌, take, length, Option, Some, None, codes, bytes_eq, if◌then◌else◌}
+use Rattle.std.specs.Prelude.{ℕ, Bool, true, false, ◌||◌, ◌==◌, List, [], ◌∷◌, take, length, Option, Some, None, codes, bytes_eq, if◌then◌else◌}
 use Rattle.byte_strings.specs.Blanks.{is_nonempty, trimmed_start, trimmed_end}
 use Rattle.mk_conditionals.specs.Cut.{front_word, behind_word, cut}
 use Rattle.mk_conditionals.specs.declared.directive.Question.{Question}
