@@ -1,4 +1,5 @@
 pub mod ChangedLemmas
+pub mod NumberLemmas
 pub mod SortedLemmas
 pub mod SpacedLemmas
 pub mod TextLemmas

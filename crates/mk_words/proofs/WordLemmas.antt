@@ -1,5 +1,5 @@
 -- The words of a text, one after the other.
-use Rattle.std.proofs.Common.{◌≡◌, ℕ, zero, suc, ◌+◌, ◌<◌, ◌≤◌, Bool, true, false, cond, not, List, [], ◌∷◌, length, take, drop, get_or, filter, refl, sym, ap, ◌∙◌, Some, ◌⊎◌, inl, inr, arith}
+use Rattle.std.proofs.Common.{◌≡◌, ℕ, zero, suc, ◌+◌, ◌-◌, ◌<◌, ◌≤◌, Bool, true, false, cond, not, List, [], ◌∷◌, length, take, drop, get_or, filter, refl, sym, ap, ◌∙◌, Some, ◌⊎◌, inl, inr, arith}
 use Rattle.std.specs.List.{prefix_len, position_or_len, before_first, after_first, slice_split}
 use Rattle.std.proofs.lemmas.List.{drop_more, drop_all, take_all, length-drop, length-take, get_or-drop, nil_from_length}
 use Rattle.std.proofs.lemmas.List.Splits.{slice_split_first, slice_split_none, slice_split-cons_yes}
@@ -105,6 +105,22 @@ pub behind_words-none : (n : ℕ) (text : List ℕ) → 0 < n → behind_word te
 behind_words-none zero text h e = absurd (omega (arith, h))
 behind_words-none (suc n) text h e = ap (behind_words n) e ∙ behind_words-empty n
 
+-- without a word a text is shorter
+length-behind_word : (text : List ℕ) → length (behind_word text) ≤ length text - 1
+unfolding behind_word
+length-behind_word text = at (cases_lt 0 (length (behind_spaces text)))
+  where
+    at : (0 < length (behind_spaces text)) ⊎ (length (behind_spaces text) ≤ 0) → length (drop (position_or_len is_space (behind_spaces text)) (behind_spaces text)) ≤ length text - 1
+    at (inl some) =
+        let first : 0 < position_or_len is_space (behind_spaces text) = positive (behind_spaces text) some (behind_spaces-first text some) in
+        omega (arith, length-drop (position_or_len is_space (behind_spaces text)) (behind_spaces text), length-behind_spaces text)
+    at (inr none) = omega (arith, length-drop (position_or_len is_space (behind_spaces text)) (behind_spaces text))
+
+-- nothing stands behind more words than there are bytes
+pub behind_words-all : (n : ℕ) (text : List ℕ) → length text ≤ n → behind_words n text ≡ []
+behind_words-all zero text h = nil_from_length text (omega (arith, h))
+behind_words-all (suc n) text h = behind_words-all n (behind_word text) (omega (arith, h, length-behind_word text))
+
 words_of-empty : words_of [] ≡ []
 unfolding words_of
 words_of-empty = refl
@@ -134,9 +150,12 @@ first_word-drop (suc n) [] = refl
 first_word-drop zero (w ∷ ws) = refl
 first_word-drop (suc n) (w ∷ ws) = first_word-drop n ws
 
+pub word-behind : (n : ℕ) (text : List ℕ) → first_word (words_of (behind_words n text)) ≡ get_or (words_of text) n []
+word-behind n text = ap first_word (words_of-behind_words n text) ∙ first_word-drop n (words_of text)
+
 -- a word by its number
 pub numbered-first : (number before : ℕ) (text front word : List ℕ) → number ≡ before + 1 → front ≡ behind_words before text → word ≡ first_word (words_of front) → Some word ≡ numbered_word number (words_of text)
 numbered-first number before text front word e at is =
     let more : number ≡ suc before = omega (arith, e) in
-    ap Some (is ∙ ap (λ t. first_word (words_of t)) at ∙ ap first_word (words_of-behind_words before text) ∙ first_word-drop before (words_of text))
+    ap Some (is ∙ ap (λ t. first_word (words_of t)) at ∙ word-behind before text)
     ∙ ap (λ n. numbered_word n (words_of text)) (sym more)

@@ -1,5 +1,6 @@
 -- Words that change by a pattern (GNU make manual, "Functions for String Substitution and Analysis").
-use Rattle.std.specs.Prelude.{ℕ, zero, suc, ◌-◌, ◌&&◌, not, if◌then◌else◌, Bool, true, false, List, [], ◌∷◌, ◌++◌, take, drop, length, map, filter, Option, Some, None, is_some, bytes_eq}
+use Rattle.std.specs.Prelude.{ℕ, zero, suc, ◌-◌, ◌&&◌, not, if◌then◌else◌, Bool, true, false, List, [], ◌∷◌, ◌++◌, take, drop, length, map, filter, Option, Some, None, is_some, slice_get, bytes_eq}
+use Rattle.std.specs.Option.{option_map_or}
 use Rattle.mk_words.specs.Words.{is_space, words_of, spaced}
 use Rattle.mk_words.specs.Patterns.{Pattern, pattern_of, stem_of}
 
@@ -35,9 +36,13 @@ exchanged from to (suc left) begins (b ∷ bs) = exchanged from to left false bs
 exchanged from to zero begins (b ∷ bs) =
     if begins && is_next from (b ∷ bs) then to ++ exchanged from to (length from - 1) false bs else b ∷ exchanged from to 0 (is_space b) bs
 
--- of no pattern the text stays (own: GNU make puts the replacement at the end of some texts)
+-- no word stands at the end of the text
+abbrev pub ends_open : List ℕ → Bool
+ends_open text = option_map_or is_space (slice_get text (length text - 1)) true
+
+-- no bytes are exchanged at the end of a text, where no word stands there (as GNU make 4.3 does it)
 abbrev pub exchanged_all : (from to text : List ℕ) → List ℕ
-exchanged_all [] to text = text
+exchanged_all [] to text = if ends_open text then text ++ to else text
 exchanged_all (b ∷ bs) to text = exchanged (b ∷ bs) to 0 true text
 
 -- words of the form front, `%`, behind change; where nothing is to stand in their place, they are left out

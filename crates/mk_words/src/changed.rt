@@ -1,8 +1,8 @@
 //! Words that change by a pattern.
-ghost use Rattle.std.specs.Prelude.{◌≡◌, ◌+◌, ◌<◌, ◌++◌, ◌∷◌, ◌&&◌, [], length, drop, true, false, not, is_some, map, filter, IfOk, OnOk, MatchOption};
+ghost use Rattle.std.specs.Prelude.{◌≡◌, ◌+◌, ◌<◌, ◌++◌, ◌∷◌, ◌&&◌, [], length, drop, true, false, not, is_some, map, filter, if◌then◌else◌, IfOk, OnOk, MatchOption};
 ghost use Rattle.mk_words.specs.Words.{words_of, spaced};
 ghost use Rattle.mk_words.specs.Patterns.{pattern_of, stem_of};
-ghost use Rattle.mk_words.specs.Changed.{filled, changed, changed_words, ends_word, is_next, exchanged, exchanged_all, patsubst_of};
+ghost use Rattle.mk_words.specs.Changed.{filled, changed, changed_words, ends_word, is_next, ends_open, exchanged, exchanged_all, patsubst_of};
 
 use crate::cursor::{Words, is_space};
 use crate::joined::{push_word, without_last};
@@ -123,6 +123,27 @@ fn exchanged(alloc: Global, from: &[u8], to: &[u8], text: &[u8]) -> Result<Vec<u
     Ok(out)
 }
 
+/// No word stands at the end of the text.
+fn ends_open(text: &[u8]) -> bool
+    ensures { result ≡ ends_open text.now }
+{
+    match text.last() {
+        None => true,
+        Some(byte) => is_space(*byte),
+    }
+}
+
+/// The text, with another one behind it where no word stands at its end.
+fn with_end(alloc: Global, text: &[u8], other: &[u8]) -> Result<Vec<u8>, AllocError>
+    ensures { IfOk result (λ v. v.items ≡ (if ends_open text.now then text.now ++ other.now else text.now)) }
+{
+    let mut out = Vec::from_slice(alloc, text)?;
+    if ends_open(text) {
+        out.extend_from_slice(other)?;
+    }
+    Ok(out)
+}
+
 /// Each word that is this one with the replacement in its place.
 fn exchanged_words(
     alloc: Global,
@@ -132,12 +153,12 @@ fn exchanged_words(
 ) -> Result<Vec<u8>, AllocError>
     ensures { IfOk result (λ v. v.items ≡ exchanged_all word.now (filled (pattern_of replacement.now) (37 ∷ [])) text.now) }
 {
-    if word.is_empty() {
-        return Vec::from_slice(alloc, text);
-    }
     let to = Pattern::of(alloc, replacement)?;
     let mut other = Vec::new(alloc);
     push_filled(&mut other, &to, b"%")?;
+    if word.is_empty() {
+        return with_end(alloc, text, other.as_slice());
+    }
     exchanged(alloc, word, other.as_slice(), text)
 }
 

@@ -35,16 +35,16 @@ fn behind_words(count: usize, text: &[u8]) -> &[u8]
     rest
 }
 
-/// `$(word NUMBER,TEXT)`, and none where the number is 0, which GNU make refuses.
-pub fn word(number: usize, text: &[u8]) -> Option<&[u8]>
+/// The word of this number, or nothing where there are fewer. There is no number 0.
+pub(crate) fn numbered_word(number: usize, text: &[u8]) -> Option<&[u8]>
     ensures { option_copied result ≡ numbered_word number (words_of text.now) }
 {
     let before = number.checked_sub(1)?;
     Some(first_word(behind_words(before, text)))
 }
 
-/// `$(wordlist FIRST,LAST,TEXT)`, and none where FIRST is 0. What stands between two of the words stays as it is.
-pub fn word_list(first: usize, last: usize, text: &[u8]) -> Option<&[u8]>
+/// The words from one number to another, with what stands between them. There is no number 0 to begin with.
+pub(crate) fn word_stretch(first: usize, last: usize, text: &[u8]) -> Option<&[u8]>
     ensures { option_copied result ≡ word_stretch first last text.now }
 {
     let before = first.checked_sub(1)?;

@@ -6,14 +6,16 @@ mod counted;
 mod cursor;
 mod joined;
 mod names;
+mod numbers;
 mod patterns;
 mod sorting;
 mod texts;
 
 pub use changed::patsubst;
-pub use counted::{first_word, last_word, word, word_count, word_list};
+pub use counted::{first_word, last_word, word_count};
 pub use joined::strip;
 pub use names::{add_prefix, add_suffix, basename, dir, join, notdir, suffix};
+pub use numbers::{NumberFault, word, word_list};
 pub use patterns::{filter, filter_out};
 pub use sorting::sort;
 pub use texts::{find_string, subst};

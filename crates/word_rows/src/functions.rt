@@ -1,7 +1,8 @@
 //! The functions, by the names that GNU make has for them.
 use mk_words::{
-    add_prefix, add_suffix, basename, dir, filter, filter_out, find_string, first_word, join,
-    last_word, notdir, patsubst, sort, strip, subst, suffix, word, word_count, word_list,
+    NumberFault, add_prefix, add_suffix, basename, dir, filter, filter_out, find_string,
+    first_word, join, last_word, notdir, patsubst, sort, strip, subst, suffix, word, word_count,
+    word_list,
 };
 use row_files::{Answered, Calls, Report, RowFault, Setup, Words, World, bytes};
 use std::alloc::{AllocError, Global};
@@ -37,11 +38,13 @@ fn argument(alloc: Global, words: &mut Words<'_>) -> Result<Vec<u8>, RowFault> {
     }
 }
 
-/// What a number of words doesn't name isn't said.
-fn say_found(out: &mut String, found: Option<&[u8]>) -> Result<(), AllocError> {
+/// The words that numbers name, or what is wrong with these.
+fn say_found(out: &mut String, found: Result<&[u8], NumberFault>) -> Result<(), AllocError> {
     match found {
-        Some(text) => bytes::say_all(out, text),
-        None => out.push_str("refused"),
+        Ok(text) => bytes::say_all(out, text),
+        Err(NumberFault::First) => out.push_str("first-is-no-number"),
+        Err(NumberFault::Second) => out.push_str("second-is-no-number"),
+        Err(NumberFault::Zero) => out.push_str("first-is-0"),
     }
 }
 
@@ -112,15 +115,16 @@ impl World for Functions {
                 write!(out, "{}", word_count(text.as_slice()))?;
             }
             "word" => {
-                let number = words.number()?;
+                let number = argument(alloc, words)?;
                 let text = argument(alloc, words)?;
-                say_found(out, word(number, text.as_slice()))?;
+                say_found(out, word(number.as_slice(), text.as_slice()))?;
             }
             "wordlist" => {
-                let first = words.number()?;
-                let last = words.number()?;
+                let first = argument(alloc, words)?;
+                let last = argument(alloc, words)?;
                 let text = argument(alloc, words)?;
-                say_found(out, word_list(first, last, text.as_slice()))?;
+                let found = word_list(first.as_slice(), last.as_slice(), text.as_slice());
+                say_found(out, found)?;
             }
             name => {
                 let text = made(alloc, name, words)?;

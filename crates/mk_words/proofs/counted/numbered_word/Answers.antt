@@ -1,6 +1,6 @@
 use Rattle.std.proofs.Common.{◌≡◌, ◌+◌, rules}
 use Rattle.mk_words.proofs.WordLemmas.{numbered-first}
-use Rattle.mk_words.proofs.counted.word.Goals as goal
+use Rattle.mk_words.proofs.counted.numbered_word.Goals as goal
 
 pub returns : goal.returns
 returns c =
