@@ -1,5 +1,5 @@
 -- Patterns with a `%` (GNU make manual, "Functions for String Substitution and Analysis").
-use Rattle.std.specs.Prelude.{ℕ, ◌+◌, ◌-◌, ◌/◌, ◌%◌, ◌==◌, if◌then◌else◌, Bool, not, List, [], ◌∷◌, ◌++◌, take, drop, length, replicate, Option, Some, None, is_some, bytes_eq}
+use Rattle.std.specs.Prelude.{ℕ, ◌+◌, ◌-◌, ◌/◌, ◌%◌, ◌==◌, ◌||◌, if◌then◌else◌, Bool, not, List, [], ◌∷◌, ◌++◌, take, drop, length, replicate, Option, Some, None, is_some, bytes_eq}
 use Rattle.std.specs.List.{list_any}
 
 -- what stands before the first `%`, and what stands behind it, where there is one
@@ -37,7 +37,7 @@ stem_of front behind word =
 
 -- the word has the form of a pattern
 abbrev pub fits_at : (front : List ℕ) → Option (List ℕ) → (word : List ℕ) → Bool
-fits_at front None word = bytes_eq front word
+fits_at front None word = bytes_eq word front
 fits_at front (Some behind) word = is_some (stem_of front behind word)
 
 abbrev pub fits : Pattern → (word : List ℕ) → Bool
@@ -45,3 +45,7 @@ fits pattern word = fits_at pattern.0 pattern.1 word
 
 abbrev pub fits_any : List Pattern → (word : List ℕ) → Bool
 fits_any patterns word = list_any (λ pattern. fits pattern word) patterns
+
+-- the word is one of these, or has the form of a pattern
+abbrev pub fits_parted : (literals : List (List ℕ)) (forms : List Pattern) (word : List ℕ) → Bool
+fits_parted literals forms word = list_any (bytes_eq word) literals || fits_any forms word

@@ -1,12 +1,13 @@
 //! Patterns with a `%`, and the words that fit them.
-ghost use Rattle.std.specs.Prelude.{◌≡◌, ◌++◌, ◌∷◌, ℕ, List, Option, [], length, map, filter, not, IfOk, OnOk};
+ghost use Rattle.std.specs.Prelude.{◌≡◌, ◌++◌, ◌∷◌, ◌||◌, ℕ, List, Option, [], length, map, filter, not, IfOk, OnOk};
 ghost use Rattle.std.specs.Option.{option_copied};
 ghost use Rattle.mk_words.specs.Words.{words_of, spaced};
-ghost use Rattle.mk_words.specs.Patterns.{backslashes, pattern_of, stem_of, fits, fits_any};
+ghost use Rattle.mk_words.specs.Patterns.{backslashes, pattern_of, stem_of, fits, fits_any, fits_parted};
 
 use crate::cursor::Words;
 use crate::joined::{push_word, without_last};
 use std::alloc::{AllocError, Global};
+use std::collections::BTreeSet;
 use std::marker::Model;
 
 /// What a word has to begin with, and what it ends with behind the `%`, where there is one.
@@ -76,21 +77,17 @@ impl<'a> Pattern<'a> {
         ensures { result ≡ fits self.now word.now }
     {
         match self.behind {
-            None => self.front.as_slice() == word,
+            None => word == self.front.as_slice(),
             Some(behind) => stem_of(self.front.as_slice(), behind, word).is_some(),
         }
     }
 }
 
-/// The patterns of words.
-fn patterns_of(alloc: Global, text: &[u8]) -> Result<Vec<Pattern<'_>>, AllocError>
-    ensures { IfOk result (λ v. v.items ≡ map pattern_of (words_of text.now)) }
-{
-    let mut patterns = Vec::new(alloc);
-    for word in Words::new(text) {
-        patterns.push(Pattern::of(alloc, word)?)?;
-    }
-    Ok(patterns)
+/// Patterns, of which those without a `%` are looked up.
+#[derive(Drop)]
+struct Patterns<'a> {
+    literals: BTreeSet<Vec<u8>>,
+    forms: Vec<Pattern<'a>>,
 }
 
 fn fits_any(patterns: &[Pattern<'_>], word: &[u8]) -> bool
@@ -104,14 +101,50 @@ fn fits_any(patterns: &[Pattern<'_>], word: &[u8]) -> bool
     false
 }
 
+impl<'a> Patterns<'a> {
+    /// One more.
+    fn add(&mut self, alloc: Global, text: &'a [u8]) -> Result<(), AllocError>
+        ensures { OnOk result ((word : List ℕ) → fits_parted (map (λ k. k.items) self.new.literals.keys) self.new.forms.items word ≡ (fits (pattern_of text.now) word || fits_parted (map (λ k. k.items) self.old.literals.keys) self.old.forms.items word)) }
+    {
+        let pattern = Pattern::of(alloc, text)?;
+        match pattern.behind {
+            None => {
+                self.literals.insert(pattern.front)?;
+            }
+            Some(_) => self.forms.push(pattern)?,
+        }
+        Ok(())
+    }
+
+    /// Those of words.
+    fn of(alloc: Global, text: &'a [u8]) -> Result<Patterns<'a>, AllocError>
+        ensures { IfOk result (λ v. (word : List ℕ) → fits_parted (map (λ k. k.items) v.literals.keys) v.forms.items word ≡ fits_any (map pattern_of (words_of text.now)) word) }
+    {
+        let mut patterns = Patterns {
+            literals: BTreeSet::new(alloc),
+            forms: Vec::new(alloc),
+        };
+        for word in Words::new(text) {
+            patterns.add(alloc, word)?;
+        }
+        Ok(patterns)
+    }
+
+    fn fits(&self, word: &[u8]) -> bool
+        ensures { result ≡ fits_parted (map (λ k. k.items) self.now.literals.keys) self.now.forms.items word.now }
+    {
+        self.literals.contains(word) || fits_any(self.forms.as_slice(), word)
+    }
+}
+
 /// `$(filter PATTERNS,TEXT)`
 pub fn filter(alloc: Global, patterns: &[u8], text: &[u8]) -> Result<Vec<u8>, AllocError>
     ensures { IfOk result (λ v. v.items ≡ spaced (filter (fits_any (map pattern_of (words_of patterns.now))) (words_of text.now))) }
 {
-    let patterns = patterns_of(alloc, patterns)?;
+    let patterns = Patterns::of(alloc, patterns)?;
     let mut out = Vec::new(alloc);
     for word in Words::new(text) {
-        if fits_any(patterns.as_slice(), word) {
+        if patterns.fits(word) {
             push_word(&mut out, word)?;
         }
     }
@@ -122,10 +155,10 @@ pub fn filter(alloc: Global, patterns: &[u8], text: &[u8]) -> Result<Vec<u8>, Al
 pub fn filter_out(alloc: Global, patterns: &[u8], text: &[u8]) -> Result<Vec<u8>, AllocError>
     ensures { IfOk result (λ v. v.items ≡ spaced (filter (λ word. not (fits_any (map pattern_of (words_of patterns.now)) word)) (words_of text.now))) }
 {
-    let patterns = patterns_of(alloc, patterns)?;
+    let patterns = Patterns::of(alloc, patterns)?;
     let mut out = Vec::new(alloc);
     for word in Words::new(text) {
-        if !fits_any(patterns.as_slice(), word) {
+        if !patterns.fits(word) {
             push_word(&mut out, word)?;
         }
     }
