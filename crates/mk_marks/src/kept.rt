@@ -22,7 +22,7 @@ fn no_marks<'e>() -> Marks<'e>
 
 impl<'e> Kept<'e> {
     /// This one for each file.
-    pub(crate) fn nothing(other: Mark) -> Kept<'e>
+    pub fn nothing(other: Mark) -> Kept<'e>
         ensures { result ≡ nothing_kept other }
     {
         Kept {
