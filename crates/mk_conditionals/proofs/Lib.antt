@@ -1,5 +1,6 @@
 mod ArgumentLemmas
 mod CutLemmas
+mod DefineLemmas
 mod LineLemmas
 mod MachineLemmas
 mod SpellingLemmas

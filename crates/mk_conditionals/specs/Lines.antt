@@ -24,6 +24,7 @@ abbrev pub stage_of : Bool → Stage
 stage_of true = Taken
 stage_of false = Waiting
 
+-- a conditional that is open, as it stands
 abbrev pub branch : (line : ℕ) (stage : Stage) (has_else : Bool) → Branch
 branch line stage has_else = record { line = line; stage = stage; has_else = has_else }
 
@@ -32,19 +33,23 @@ abbrev pub decided_by : {F : Type 0} → (line : ℕ) → List Branch → Result
 decided_by line nest (Ok holds) = Ok (branch line (stage_of holds) false ∷ nest)
 decided_by line nest (Err fault) = Err (faulty fault)
 
+-- items in front of others
 abbrev pub with_front : {I F : Type 0} → List I → Result (List I) (Why F) → Result (List I) (Why F)
 with_front front (Ok items) = Ok (front ++ items)
 with_front front (Err why) = Err why
 
+-- what comes behind a directive, with what is open then
 abbrev pub ThenNest : {I F : Type 0} → Result (List Branch) (Why F) → (List Branch → Result (List I) (Why F) → Type 0) → Result (List I) (Why F) → Type 0
 ThenNest (Err why) Rest outcome = outcome ≡ Err why
 ThenNest (Ok nest) Rest outcome = Rest nest outcome
 
+-- the end of lines, by what is missing there
 abbrev pub at_end : {I F : Type 0} → Option NestFault → Result (List I) (Why F)
 at_end None = Ok []
 at_end (Some fault) = Err (misplaced fault)
 
 module _ {W T A I F : Type 0} (after : W → List I → W) (Holds : W → T → Result Bool F → Type 0) (One : W → A → Result (List I) F → Type 0) where
+  -- a test is asked
   abbrev pub Asks : W → (line : ℕ) → List Branch → T → Result (List Branch) (Why F) → Type 0
   Asks world line nest test told = (holds : Result Bool F) × Holds world test holds × (told ≡ decided_by line nest holds)
 
@@ -62,6 +67,7 @@ module _ {W T A I F : Type 0} (after : W → List I → W) (Holds : W → T → 
   TurnsTo Passed world line nest None told = told ≡ Ok (branch line Passed true ∷ nest)
   TurnsTo Passed world line nest (Some test) told = told ≡ Ok (branch line Passed false ∷ nest)
 
+  -- an `else` behind the `else` of the same conditional is refused
   abbrev pub TurnsBehind : (has_else : Bool) → Stage → W → (line : ℕ) → List Branch → Option T → Result (List Branch) (Why F) → Type 0
   TurnsBehind true stage world line nest test told = told ≡ Err (misplaced SecondElse)
   TurnsBehind false stage world line nest test told = TurnsTo stage world line nest test told
@@ -74,6 +80,7 @@ module _ {W T A I F : Type 0} (after : W → List I → W) (Holds : W → T → 
   Steps world [] line Ends told = told ≡ Err (misplaced ExtraneousEndif)
   Steps world (b ∷ nest) line Ends told = told ≡ Ok nest
 
+  -- what comes behind a statement, in the world that its items leave
   abbrev pub Then : W → Result (List I) F → (W → Result (List I) (Why F) → Type 0) → Result (List I) (Why F) → Type 0
   Then world (Err fault) Rest outcome = outcome ≡ Err (faulty fault)
   Then world (Ok front) Rest outcome = (rest : Result (List I) (Why F)) × Rest (after world front) rest × (outcome ≡ with_front front rest)

@@ -7,6 +7,7 @@ use Rattle.mk_conditionals.specs.declared.branch.NestFault.{NestFault}
 use Rattle.mk_conditionals.specs.declared.directive.Directive.{Directive}
 use Rattle.mk_conditionals.specs.declared.directive.Directive.TheVariants.{Begins, Turns, Ends}
 
+-- what a call of a nest answers, as lines tell it
 abbrev pub placed : {A F : Type 0} → Result A NestFault → Result A (Why F)
 placed (Ok nest) = Ok nest
 placed (Err fault) = Err (misplaced fault)
@@ -18,14 +19,17 @@ Answered Holds true world test None = ⊥
 Answered Holds false world test (Some holds) = ⊥
 Answered Holds false world test None = Unit {0}
 
+-- what comes behind a test or a statement, unless that is refused
 abbrev pub given : {X Y G : Type 0} → Result X G → (X → Result Y (Why G)) → Result Y (Why G)
 given (Ok x) rest = rest x
 given (Err fault) rest = Err (faulty fault)
 
+-- what comes behind a directive, unless it is refused
 abbrev pub placed_then : {X Y G : Type 0} → Result X (Why G) → (X → Result Y (Why G)) → Result Y (Why G)
 placed_then (Ok x) rest = rest x
 placed_then (Err why) rest = Err why
 
+-- a test that was asked
 abbrev pub answer : {F : Type 0} → Result Bool F → Result (Option Bool) F
 answer (Ok is) = Ok (Some is)
 answer (Err fault) = Err fault
@@ -35,6 +39,7 @@ module _ {W T A I F : Type 0} (after : W → List I → W) (holds : W → T → 
   abbrev pub asked : (wanted : Bool) → W → T → Result (Option Bool) F
   asked wanted world test = if wanted then answer (holds world test) else Ok None
 
+  -- the call that a directive asks for
   abbrev pub stepped : W → List Branch → (line : ℕ) → Directive T → Result (List Branch) (Why F)
   stepped world nest line (Begins test) = given (asked (active nest) world test) (λ holds. Ok (first_branch line holds ∷ nest))
   stepped world nest line (Turns None) = placed (turned_last nest)

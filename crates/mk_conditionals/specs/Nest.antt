@@ -44,6 +44,11 @@ stage_at_last Passed = Passed
 abbrev pub last_branch : Branch → Branch
 last_branch b = record { line = b.line; stage = stage_at_last b.stage; has_else = true }
 
+-- the branch behind which an `else` may come
+abbrev pub turned_from : List Branch → Result Branch NestFault
+turned_from [] = Err ExtraneousElse
+turned_from (b ∷ bs) = if b.has_else then Err SecondElse else Ok b
+
 -- `else` with a test, by what that came to where it was asked
 abbrev pub turned_if : List Branch → (holds : Option Bool) → Result (List Branch) NestFault
 turned_if [] holds = Err ExtraneousElse

@@ -1,6 +1,6 @@
 -- What a line says of conditionals, as it is read from its front (GNU make manual, "Syntax of Conditionals").
-use Rattle.std.specs.Prelude.{ℕ, Bool, true, false, ◌||◌, ◌==◌, List, [], ◌∷◌, take, length, Option, Some, None, codes, bytes_eq, if◌then◌else◌}
-use Rattle.byte_strings.specs.Blanks.{is_nonempty, trimmed_start, trimmed_end}
+use Rattle.std.specs.Prelude.{ℕ, Bool, true, false, ◌||◌, ◌==◌, List, [], ◌∷◌, take, drop, length, Option, Some, None, codes, bytes_eq, if◌then◌else◌}
+use Rattle.byte_strings.specs.Blanks.{is_nonempty, first_word, trimmed_start, trimmed_end}
 use Rattle.mk_conditionals.specs.Cut.{front_word, behind_word, cut}
 use Rattle.mk_conditionals.specs.declared.directive.Question.{Question}
 use Rattle.mk_conditionals.specs.declared.directive.Question.TheVariants.{Equal, Defined, Invalid}
@@ -76,6 +76,11 @@ Tested = Condition × Bool
 abbrev pub compared : (negated : Bool) → Option Arguments → Tested
 compared negated None = (record { is_negated = negated; asked = invalid }, false)
 compared negated (Some found) = (record { is_negated = negated; asked = equal found.0 found.1 }, is_nonempty (trimmed_start found.2))
+
+-- the name that an expanded text is: what stands before the first blank, where nothing else stands behind it (GNU make 4.3)
+unfoldable pub tested_name : (expanded : List ℕ) → Option (List ℕ)
+tested_name expanded =
+    if is_nonempty (trimmed_start (drop (length (first_word expanded)) expanded)) then None else Some (first_word expanded)
 
 -- how many words there are is told by what the text expands to
 abbrev pub asked_for : (negated : Bool) → (rest : List ℕ) → Tested

@@ -1,5 +1,6 @@
 //! What holds of the definitions alone.
 ghost use Rattle.std.specs.Prelude.{◌≡◌, ◌↔◌, ℕ, Bool, true, List, ◌∷◌, Option, Some, None, Result, Ok, Err};
+ghost use Rattle.mk_conditionals.specs.Define.{AreWhole, open_behind};
 ghost use Rattle.mk_conditionals.specs.Lines.{Line, Why, Lines, Steps, faulty};
 ghost use Rattle.mk_conditionals.specs.Machine.{placed, Answered, read_in_turn};
 ghost use Rattle.mk_conditionals.specs.Nest.{active, wants_test, first_branch, turned_if, turned_last, ended};
@@ -13,6 +14,11 @@ use crate::reading::Reading;
 /// What the code reads of a line is what the line spells. So each line says one thing, and one alone.
 pub fn each_line_is_as_it_is_spelled()
     ensures { (text : List ℕ) (told : Option Said) → (said text ≡ told) ↔ Spells text told }
+{}
+
+/// In the body of a `define`, lines in which each `define` has its `endef` are passed over whole.
+pub fn inner_defines_are_passed_over()
+    ensures { (depth : ℕ) (lines : List (List ℕ)) → AreWhole lines → open_behind depth lines ≡ Some depth }
 {}
 
 /// Lines have one outcome, where tests and statements have.

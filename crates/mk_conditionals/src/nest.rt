@@ -1,7 +1,6 @@
 //! Conditionals that are open, one in the other, and whether lines count there.
-ghost use Rattle.std.specs.Prelude.{◌≡◌, Bool, List, [], ◌∷◌, IfOk, OnOk, OnErr, is_some, MatchResult, Ok, Err};
-ghost use Rattle.mk_conditionals.specs.Nest.{active, wants_test, first_branch, turned_if, turned_last, ended, missing, Changes};
-ghost use Rattle.mk_conditionals.specs.declared.branch.Branch.{Branch};
+ghost use Rattle.std.specs.Prelude.{◌≡◌, [], ◌∷◌, OnOk, OnErr, is_some};
+ghost use Rattle.mk_conditionals.specs.Nest.{active, wants_test, first_branch, turned_from, turned_if, turned_last, ended, missing, Changes};
 
 use crate::branch::{Branch, NestFault, Stage};
 use std::alloc::{AllocError, Global};
@@ -79,10 +78,9 @@ impl Nest {
         Ok(())
     }
 
-    /// `else` with a test. It was asked where `wants_test` says so, and nowhere else.
-    pub fn turn_if(&mut self, holds: Option<bool>) -> Result<(), NestFault>
-        requires { is_some holds ≡ wants_test self.old }
-        ensures { Changes self.old self.new result (turned_if self.old holds) }
+    /// The branch behind which an `else` may come.
+    fn turned_from(&self) -> Result<Branch, NestFault>
+        ensures { result ≡ turned_from self.now }
     {
         let Some(branch) = self.innermost else {
             return Err(NestFault::ExtraneousElse);
@@ -90,6 +88,15 @@ impl Nest {
         if branch.has_else {
             return Err(NestFault::SecondElse);
         }
+        Ok(branch)
+    }
+
+    /// `else` with a test. It was asked where `wants_test` says so, and nowhere else.
+    pub fn turn_if(&mut self, holds: Option<bool>) -> Result<(), NestFault>
+        requires { is_some holds ≡ wants_test self.old }
+        ensures { Changes self.old self.new result (turned_if self.old holds) }
+    {
+        let branch = self.turned_from()?;
         self.innermost = Some(Branch::first(branch.line, holds));
         Ok(())
     }
@@ -98,12 +105,7 @@ impl Nest {
     pub fn turn(&mut self) -> Result<(), NestFault>
         ensures { Changes self.old self.new result (turned_last self.old) }
     {
-        let Some(branch) = self.innermost else {
-            return Err(NestFault::ExtraneousElse);
-        };
-        if branch.has_else {
-            return Err(NestFault::SecondElse);
-        }
+        let branch = self.turned_from()?;
         self.innermost = Some(branch.last());
         Ok(())
     }

@@ -1,12 +1,12 @@
 //! What a line says of conditionals, read from its front.
 ghost use Rattle.std.specs.Prelude.{◌≡◌, None, Some, MatchOption};
 ghost use Rattle.mk_conditionals.specs.Cut.{front_word, behind_word};
-ghost use Rattle.mk_conditionals.specs.Spelled.{condition_of, said_by, arguments, compared, asked_for, tested, turned, is_sign_next, said};
+ghost use Rattle.mk_conditionals.specs.Spelled.{condition_of, said_by, arguments, compared, asked_for, tested, tested_name, turned, is_sign_next, said};
 
 use crate::arguments::arguments;
 use crate::cut::part_word;
 use crate::directive::{Directive, DirectiveLine, Question, Test};
-use byte_strings::trim_start;
+use byte_strings::{first_word, trim_start};
 
 fn compared(is_negated: bool, rest: &[u8]) -> (Test<'_>, bool)
     ensures { (condition_of result.0, result.1) ≡ compared is_negated (arguments rest.now) }
@@ -81,6 +81,21 @@ fn turned(rest: &[u8]) -> DirectiveLine<'_>
             directive: Directive::Turns(None),
             has_text_behind: !rest.is_empty(),
         },
+    }
+}
+
+/// The name that an expanded text of `ifdef` is: what stands before its first blank, which may be nothing. There is none where
+/// more stands behind.
+#[tactic(auto, unfolding(crate::specs::Spelled::tested_name))]
+pub fn tested_name(expanded: &[u8]) -> Option<&[u8]>
+    ensures { MatchOption result (tested_name expanded.now ≡ None) (λ name. tested_name expanded.now ≡ Some name.now) }
+{
+    let name = first_word(expanded);
+    let rest = expanded.get(name.len()..).unwrap_or(b"".as_slice());
+    if trim_start(rest).is_empty() {
+        Some(name)
+    } else {
+        None
     }
 }
 
