@@ -12,7 +12,8 @@ use Rattle.mk_words.specs.Counted.{stretch}
 abbrev pub number_by : (digits : List ℕ) → Option ℕ
 number_by digits = if list_all is_ascii_digit digits then Some (digits_value 10 digits) else None
 
--- the number that a text spells, which isn't empty: digits, with spaces around them. Spaces alone spell 0, as GNU make 4.3 reads them
+-- the number that a text spells, which isn't empty: digits with spaces around them. Spaces alone spell 0, as GNU make 4.3
+-- reads them
 abbrev pub number_of : (text : List ℕ) → Option ℕ
 number_of [] = None
 number_of (b ∷ bs) = number_by (before_spaces (behind_spaces (b ∷ bs)))

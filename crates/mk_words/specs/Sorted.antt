@@ -1,13 +1,14 @@
 -- Words in order (GNU make manual, "Functions for String Substitution and Analysis").
-use Rattle.std.specs.Prelude.{ℕ, List, [], ◌∷◌}
+use Rattle.std.specs.Prelude.{◌≡◌, ℕ, Bool, List, bytes_eq}
+use Rattle.std.specs.List.{list_any}
+use Rattle.std.specs.List.Sorted.{IsStrictlySortedBy}
 use Rattle.std.specs.Ordering.{nat_cmp}
 use Rattle.std.specs.Cmp.Lexicographic.{slice_cmp}
-use Rattle.std.specs.BTreeSet.{insert_key}
 
--- words in the order of their bytes, each once, put among others that stand so
-abbrev pub sorted_among : (those ws : List (List ℕ)) → List (List ℕ)
-sorted_among those [] = those
-sorted_among those (w ∷ ws) = sorted_among (insert_key (slice_cmp nat_cmp) those w) ws
+abbrev pub is_among : (ws : List (List ℕ)) (word : List ℕ) → Bool
+is_among ws word = list_any (bytes_eq word) ws
 
-abbrev pub sorted : List (List ℕ) → List (List ℕ)
-sorted ws = sorted_among [] ws
+-- the same words in the order of their bytes, each once
+pub record IsSortOf (ws sorted : List (List ℕ)) : Type 0 where
+  pub in_order : IsStrictlySortedBy (slice_cmp nat_cmp) sorted
+  pub same_words : (word : List ℕ) → is_among sorted word ≡ is_among ws word

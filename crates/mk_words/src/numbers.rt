@@ -52,7 +52,8 @@ fn number_of(text: &[u8]) -> Option<usize>
 
 /// `$(word NUMBER,TEXT)`
 pub fn word<'a>(number: &[u8], text: &'a [u8]) -> Result<&'a [u8], NumberFault>
-    ensures { MatchResult result (λ found. word_of number.now text.now ≡ Ok found.now) (λ fault. word_of number.now text.now ≡ Err fault) }
+    ensures { MatchResult result (λ found. word_of number.now text.now ≡ Ok found.now)
+        (λ fault. word_of number.now text.now ≡ Err fault) }
 {
     match number_of(number) {
         None => Err(NumberFault::First),
@@ -65,7 +66,8 @@ pub fn word<'a>(number: &[u8], text: &'a [u8]) -> Result<&'a [u8], NumberFault>
 
 /// `$(wordlist FIRST,LAST,TEXT)`. What stands between two of the words stays as it is.
 pub fn word_list<'a>(first: &[u8], last: &[u8], text: &'a [u8]) -> Result<&'a [u8], NumberFault>
-    ensures { MatchResult result (λ found. word_list_of first.now last.now text.now ≡ Ok found.now) (λ fault. word_list_of first.now last.now text.now ≡ Err fault) }
+    ensures { MatchResult result (λ found. word_list_of first.now last.now text.now ≡ Ok found.now)
+        (λ fault. word_list_of first.now last.now text.now ≡ Err fault) }
 {
     match (number_of(first), number_of(last)) {
         (None, _) => Err(NumberFault::First),

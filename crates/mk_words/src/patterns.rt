@@ -104,7 +104,9 @@ fn fits_any(patterns: &[Pattern<'_>], word: &[u8]) -> bool
 impl<'a> Patterns<'a> {
     /// One more.
     fn add(&mut self, alloc: Global, text: &'a [u8]) -> Result<(), AllocError>
-        ensures { OnOk result ((word : List ℕ) → fits_parted (map (λ k. k.items) self.new.literals.keys) self.new.forms.items word ≡ (fits (pattern_of text.now) word || fits_parted (map (λ k. k.items) self.old.literals.keys) self.old.forms.items word)) }
+        ensures { OnOk result ((word : List ℕ) → fits_parted (map (λ k. k.items) self.new.literals.keys) self.new.forms.items word
+            ≡ (fits (pattern_of text.now) word
+            || fits_parted (map (λ k. k.items) self.old.literals.keys) self.old.forms.items word)) }
     {
         let pattern = Pattern::of(alloc, text)?;
         match pattern.behind {
@@ -118,7 +120,8 @@ impl<'a> Patterns<'a> {
 
     /// Those of words.
     fn of(alloc: Global, text: &'a [u8]) -> Result<Patterns<'a>, AllocError>
-        ensures { IfOk result (λ v. (word : List ℕ) → fits_parted (map (λ k. k.items) v.literals.keys) v.forms.items word ≡ fits_any (map pattern_of (words_of text.now)) word) }
+        ensures { IfOk result (λ v. (word : List ℕ) → fits_parted (map (λ k. k.items) v.literals.keys) v.forms.items word
+            ≡ fits_any (map pattern_of (words_of text.now)) word) }
     {
         let mut patterns = Patterns {
             literals: BTreeSet::new(alloc),
