@@ -1,0 +1,44 @@
+//! What looks at the files of a node tell, as a verdict takes it.
+ghost use Rattle.std.specs.Prelude.{◌≡◌};
+ghost use Rattle.mk_seen.specs.Marks.{look_from, look_of, looks_beside};
+
+use mk_nodes::{FileLook, Graph};
+use mk_verdict::Look;
+
+pub(crate) fn look_from(file: Option<FileLook>) -> Look
+    ensures { result ≡ look_from file }
+{
+    let Some(file) = file else {
+        return Look::NoFile;
+    };
+    match file.size {
+        None => Look::Other,
+        Some(size) => Look::File {
+            time: file.time,
+            size,
+        },
+    }
+}
+
+/// What a look at a node tells.
+pub fn look_of(graph: &Graph, node: usize) -> Look
+    ensures { result ≡ look_of graph.now node }
+{
+    match graph.nodes.get(node) {
+        Some(node) => look_from(node.stamp.look()),
+        None => Look::NoFile,
+    }
+}
+
+/// What looks at the files tell that the recipe of a node makes beside it.
+pub(crate) fn looks_beside(graph: &Graph, node: usize) -> &[Option<FileLook>]
+    ensures { result.now ≡ looks_beside graph.now node }
+{
+    match graph.nodes.get(node) {
+        Some(node) => match node.group() {
+            Some(group) => group.looks.as_slice(),
+            None => &[],
+        },
+        None => &[],
+    }
+}
