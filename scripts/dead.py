@@ -41,6 +41,8 @@ WAITING_EXPORTS = {
         "SeenFiles", "entry_of", "explicit_of", "has_text_names", "is_kept", "is_later", "is_marked", "is_same", "leaves_all", "look_of",
         "made_beside", "made_of", "marks_of", "name_of", "noted_in", "seen_files", "stamp_of", "stem_of",
     },
+    # What dmk_run is to tell behind a goal that nothing makes.
+    "near_names": {"nearest"},
     "mk_wildcards": {"Brackets", "Element", "elements", "fits_name"},
     "row_files": {"hex_digit"},
     "st_compaction": {"compact_in"},

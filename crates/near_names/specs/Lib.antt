@@ -1,0 +1,2 @@
+-- Near: which names are near to another one.
+pub mod Near
