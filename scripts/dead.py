@@ -29,9 +29,7 @@ WAITING = {
 WAITING_EXPORTS = {
     "jb_flags": {"Jobs", "jobs_of", "push_quoted"},
     "jb_slots": {"Fifo", "FifoBank", "dry"},
-    "mk_conditionals": {
-        "BodyLine", "Directive", "DirectiveLine", "Nest", "NestFault", "Question", "Reading", "Test", "body_line", "directive_of", "tested_name",
-    },
+    "mk_conditionals": {"BodyLine", "DirectiveLine", "Reading", "body_line"},
     "mk_eval": {"MAX_INCLUDE_DEPTH"},
     "mk_graph": {"distinct_names", "order_nodes", "whole_plan"},
     "mk_macros": {"FUNCTIONS"},

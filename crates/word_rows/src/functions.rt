@@ -1,4 +1,5 @@
 //! The functions, by the names that GNU make has for them.
+use crate::conditionals::say_taken;
 use mk_words::{
     NumberFault, add_prefix, add_suffix, basename, dir, filter, filter_out, find_string,
     first_word, join, last_word, notdir, patsubst, sort, strip, subst, suffix, word, word_count,
@@ -110,6 +111,10 @@ fn made(alloc: Global, name: &str, words: &mut Words<'_>) -> Result<Vec<u8>, Row
 impl World for Functions {
     fn call(&mut self, alloc: Global, words: &mut Words<'_>, out: &mut String) -> Answered {
         match words.next() {
+            "lines" => {
+                let text = argument(alloc, words)?;
+                say_taken(alloc, text.as_slice(), out)?;
+            }
             "words" => {
                 let text = argument(alloc, words)?;
                 write!(out, "{}", word_count(text.as_slice()))?;

@@ -1,8 +1,9 @@
-//! Calls GNU make's functions of words and bytes as the rows of files say, and tells which answers differ.
+//! Calls GNU make's functions of words and bytes, and its conditionals, as the rows of files say, and tells which answers differ.
 //!
 //! `word_rows FILE..`; without a FILE the rows are those of standard input. cases/words/README.md has the language of rows.
 #![tactic(auto)]
 
+mod conditionals;
 mod functions;
 
 use functions::Functions;
