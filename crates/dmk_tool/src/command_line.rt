@@ -29,55 +29,93 @@ fn say(rt: HostRuntime, words: &Words, answer: clap::Error) -> Result<Request, W
     if !words.texts.iter().all(|word| is_text(word.as_str())) {
         return Err(WordsFault::NotText);
     }
-    let printed = answer.print(&rt);
-    if answer.use_stderr() {
+    let is_printed = answer.print(&rt).is_ok();
+    let is_mistake = answer.use_stderr();
+    drop(answer);
+    if is_mistake {
         return Ok(Request::Leave(2));
     }
-    match printed {
-        Ok(()) => Ok(Request::Leave(0)),
-        Err(_) => Err(WordsFault::Write),
+    if !is_printed {
+        return Err(WordsFault::Write);
     }
+    Ok(Request::Leave(0))
 }
 
 fn matches_of<'a>(alloc: Global, words: &'a [String]) -> Result<ArgMatches<'a>, clap::Error> {
-    let state = Arg::new(alloc, "state")
+    program(alloc)?.try_get_matches_from(words)
+}
+
+// The command goes from call to call, so that where one fails nothing is left to be let go.
+fn program<'a>(alloc: Global) -> Result<Command<'a>, AllocError> {
+    let command = Command::new(alloc, "dmk_tool").bin_name("dmk_tool")?;
+    let command = command
+        .version("0.2.0")
+        .about("Answers questions to the state that dmk keeps of its targets")
+        .after_help(AFTER)
+        .subcommand_required(true)
+        .arg(state(alloc))?;
+    let command = command.subcommand(targets(alloc))?;
+    let command = with(
+        command,
+        of_names(alloc, "commands", "Prints the recorded commands of targets"),
+    )?;
+    let command = with(
+        command,
+        of_names(
+            alloc,
+            "hidden",
+            "Prints what commands read beside what the makefile names",
+        ),
+    )?;
+    let command = with(
+        command,
+        of_names(
+            alloc,
+            "query",
+            "Prints what names were made of, and what was made of them",
+        ),
+    )?;
+    with(command, compdb(alloc))
+}
+
+// The command with this one of its own, if there was memory for it.
+fn with<'a>(
+    command: Command<'a>,
+    known: Result<Command<'a>, AllocError>,
+) -> Result<Command<'a>, AllocError> {
+    match known {
+        Ok(known) => command.subcommand(known),
+        Err(fault) => {
+            drop(command);
+            Err(fault)
+        }
+    }
+}
+
+fn state<'a>(alloc: Global) -> Arg<'a> {
+    Arg::new(alloc, "state")
         .long("state")
         .value_name("FILE")
         .help("The state file; its other side is FILE.2. A file that isn't there is an empty side")
         .action(ArgAction::Set)
         .global(true)
-        .default_value(DEFAULT_FILE);
+        .default_value(DEFAULT_FILE)
+}
+
+fn targets<'a>(alloc: Global) -> Command<'a> {
+    Command::new(alloc, "targets").about(
+        "Prints the names of the targets, and whether each is done",
+    )
+}
+
+fn compdb<'a>(alloc: Global) -> Result<Command<'a>, AllocError> {
     let all = Arg::new(alloc, "all")
         .long("all")
         .help("Commands that name no source too")
         .action(ArgAction::SetTrue);
-    let compdb = Command::new(alloc, "compdb")
+    Command::new(alloc, "compdb")
         .about("Prints compile_commands.json: the commands that name a source")
-        .arg(all)?;
-    let targets = Command::new(alloc, "targets").about(
-        "Prints the names of the targets, and whether each is done",
-    );
-    Command::new(alloc, "dmk_tool")
-        .bin_name("dmk_tool")?
-        .version("0.2.0")
-        .about("Answers questions to the state that dmk keeps of its targets")
-        .after_help(AFTER)
-        .subcommand_required(true)
-        .arg(state)?
-        .subcommand(targets)?
-        .subcommand(of_names(alloc, "commands", "Prints the recorded commands of targets")?)?
-        .subcommand(of_names(
-            alloc,
-            "hidden",
-            "Prints what commands read beside what the makefile names",
-        )?)?
-        .subcommand(of_names(
-            alloc,
-            "query",
-            "Prints what names were made of, and what was made of them",
-        )?)?
-        .subcommand(compdb)?
-        .try_get_matches_from(words)
+        .arg(all)
 }
 
 fn of_names<'a>(alloc: Global, name: &'a str, about: &'a str) -> Result<Command<'a>, AllocError> {
@@ -96,8 +134,8 @@ fn asked(alloc: Global, words: &Words, found: &ArgMatches<'_>) -> Result<Request
     if !is_text(file) {
         return Err(WordsFault::NotText);
     }
-    let question = question_of(alloc, words, name, found)?;
     let file = String::from_str(alloc, file)?;
+    let question = question_of(alloc, words, name, found)?;
     Ok(Request::Ask(Asked { file, question }))
 }
 
