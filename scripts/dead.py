@@ -29,6 +29,9 @@ WAITING = {
 WAITING_EXPORTS = {
     "jb_flags": {"Jobs", "jobs_of", "push_quoted"},
     "jb_slots": {"Fifo", "FifoBank", "dry"},
+    "bd_flusher": {"SiteIn"},
+    # What stands in front of the shell once the program's borrows let it.
+    "dmk_printing": {"Lending"},
     "mk_conditionals": {"BodyLine", "DirectiveLine", "Reading", "body_line"},
     "mk_eval": {"MAX_INCLUDE_DEPTH"},
     "mk_graph": {"distinct_names", "order_nodes", "whole_plan"},
@@ -43,7 +46,6 @@ WAITING_EXPORTS = {
     "near_names": {"nearest"},
     "mk_wildcards": {"Brackets", "Element", "elements", "fits_name"},
     "row_files": {"hex_digit"},
-    "st_compaction": {"compact_in"},
     "st_disk": {"Call"},
     "st_file": {
         "MAX_SIDE_BYTES", "RecordSink", "Side", "every_side_has_a_reading", "every_side_has_a_reading_in", "new_header", "one_reading_in",

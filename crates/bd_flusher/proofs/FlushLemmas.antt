@@ -2,15 +2,16 @@
 use Rattle.std.proofs.Common.{◌≡◌, ◌≢◌, ◌⊎◌, ℕ, ◌<◌, Bool, true, false, List, ◌++◌, length, Result, Ok, Err, IfErr, IsErrOf, refl, sym, ap, subst, ◌∙◌, inl, inr, arith, append-nil}
 use Rattle.st_disk.specs.Moments.{Moments, now, Throughout}
 use Rattle.st_disk.proofs.MomentLaws.{started, then_goes, throughout_map}
+use Rattle.st_records.specs.declared.version.Form.{Form}
 use Rattle.st_records.specs.declared.record.Record.{Record}
 use Rattle.st_state.specs.State.{StateMap, replay}
-use Rattle.st_recovery.specs.Stored.{AllRecover, AllRecoverEither}
+use Rattle.st_recovery.specs.Stored.{AllRecoverIn, AllRecoverEitherIn}
 use Rattle.st_file.specs.declared.commit_fault.CommitFault.{CommitFault}
 use Rattle.st_file.specs.declared.commit_fault.CommitFault.TheVariants as commits
 use Rattle.bd_flusher.specs.declared.fault.FlushFault.{FlushFault}
 use Rattle.bd_flusher.specs.declared.fault.FlushFault.TheVariants as faults
 use Rattle.bd_flusher.specs.Faults.{fault_of}
-use Rattle.bd_flusher.specs.Site.{Facts, IsSite, KeepsRecords, told_state, held_state}
+use Rattle.bd_flusher.specs.Site.{FactsIn, IsSiteIn, KeepsRecords, told_state, held_state}
 use Rattle.bd_flusher.specs.Flushing.{HasFlushed, Flushes}
 use Rattle.bd_flusher.proofs.ImageLemmas.{first_of_either}
 use Rattle.bd_flusher.proofs.SiteLemmas.{length_zero}
@@ -18,20 +19,23 @@ use Rattle.bd_flusher.proofs.SiteLemmas.{length_zero}
 -- ---- moments
 
 -- a compaction, and then a commit that may have come
-pub tidied : (m n : StateMap) {m0 m1 : Moments} → Throughout m0 m1 (AllRecover m) → Throughout m0 m1 (AllRecoverEither m n)
+pub tidied : {form : Form} (m n : StateMap) {m0 m1 : Moments} → Throughout m0 m1 (AllRecoverIn form m) → Throughout m0 m1 (AllRecoverEitherIn form m n)
 tidied m n so_far = throughout_map so_far (λ sides all. first_of_either m n sides all)
 
-pub then_committed : (m n : StateMap) {m0 m1 m2 : Moments} → Throughout m0 m1 (AllRecover m) → Throughout m1 m2 (AllRecoverEither m n) → Throughout m0 m2 (AllRecoverEither m n)
+pub then_committed : {form : Form} (m n : StateMap) {m0 m1 m2 : Moments} → Throughout m0 m1 (AllRecoverIn form m) → Throughout m1 m2 (AllRecoverEitherIn form m n) → Throughout m0 m2 (AllRecoverEitherIn form m n)
 then_committed m n so_far more = then_goes (tidied m n so_far) more
 
 -- the same of a site: its store has the state by what was told
-pub site_moments : {D : Type 0} {honest : Type 0} {moments : D → Moments} (s : Facts D) {m0 m1 : Moments} → IsSite honest moments s → Throughout m0 m1 (AllRecoverEither s.state (replay s.state s.held))
-    → Throughout m0 m1 (AllRecoverEither (told_state s) (held_state s))
-site_moments s {m0} {m1} is so_far = subst (λ (m : StateMap). Throughout m0 m1 (AllRecoverEither m (replay m s.held))) is.folded so_far
+pub site_moments : {D : Type 0} {honest : Type 0} {moments : D → Moments} (s : FactsIn D) {m0 m1 : Moments} → IsSiteIn honest moments s → Throughout m0 m1 (AllRecoverEitherIn s.newest s.state (replay s.state s.held))
+    → Throughout m0 m1 (AllRecoverEitherIn s.newest (told_state s) (held_state s))
+site_moments s {m0} {m1} is so_far = subst (λ (m : StateMap). Throughout m0 m1 (AllRecoverEitherIn s.newest m (replay m s.held))) is.folded so_far
 
--- a commit to the store that a compaction left, with the state that it had
-pub same_state : (m k : StateMap) (held : List Record) {m0 m1 : Moments} → k ≡ m → Throughout m0 m1 (AllRecoverEither k (replay k held)) → Throughout m0 m1 (AllRecoverEither m (replay m held))
-same_state m k held {m0} {m1} same so_far = subst (λ (n : StateMap). Throughout m0 m1 (AllRecoverEither n (replay n held))) same so_far
+-- a commit to the store that a compaction left, with the state and the form that it had
+pub same_state : (m k : StateMap) (form other : Form) (held : List Record) {m0 m1 : Moments} → k ≡ m → other ≡ form
+    → Throughout m0 m1 (AllRecoverEitherIn other k (replay k held)) → Throughout m0 m1 (AllRecoverEitherIn form m (replay m held))
+same_state m k form other held {m0} {m1} same forms so_far =
+    subst (λ (f : Form). Throughout m0 m1 (AllRecoverEitherIn f m (replay m held))) forms
+    (subst (λ (n : StateMap). Throughout m0 m1 (AllRecoverEitherIn other n (replay n held))) same so_far)
 
 -- ---- exits
 
@@ -109,12 +113,12 @@ commit_device_or_not commits.Dead = inr dead_not
 commit_device_or_not commits.OldVersion = inr old_not
 commit_device_or_not commits.GenerationsSpent = inr spent_not
 
-keeps_all : {D : Type 0} (s : Facts D) → KeepsRecords s s
-keeps_all s = record { opening = refl; state = refl; told = refl; tickets = refl; held = refl; ends = refl }
+keeps_all : {D : Type 0} (s : FactsIn D) → KeepsRecords s s
+keeps_all s = record { newest = refl; opening = refl; state = refl; told = refl; tickets = refl; held = refl; ends = refl }
 
 module _ {D : Type 0} (T : Type 0) (honest : Type 0) (moments : D → Moments) where
   -- it was refused, and the records are as before
-  pub refused : (old new : Facts D) (fault : FlushFault) → (honest → Throughout (moments old.disk) (moments new.disk) (AllRecoverEither (told_state old) (held_state old)))
+  pub refused : (old new : FactsIn D) (fault : FlushFault) → (honest → Throughout (moments old.disk) (moments new.disk) (AllRecoverEitherIn old.newest (told_state old) (held_state old)))
       → KeepsRecords old new → (fault ≡ faults.Device → new.dead ≡ true) → (fault ≡ faults.Device) ⊎ (new.dead ≡ old.dead) → old.dead ≡ false → 0 < length old.held
       → Flushes {T = T} honest moments old new (Err fault)
   refused old new fault so_far kept device others was_alive some = record {
@@ -130,7 +134,7 @@ module _ {D : Type 0} (T : Type 0) (honest : Type 0) (moments : D → Moments) w
   }
 
   -- before anything was called
-  pub refused_before : (s : Facts D) (fault : FlushFault) → IsSite honest moments s → fault ≢ faults.Device → Flushes {T = T} honest moments s s (Err fault)
+  pub refused_before : (s : FactsIn D) (fault : FlushFault) → IsSiteIn honest moments s → fault ≢ faults.Device → Flushes {T = T} honest moments s s (Err fault)
   refused_before s fault is not_device = record {
     any_moment = λ is_honest. started (moments s.disk) (is.recovers_either is_honest);
     done = λ is_honest. tt;
@@ -144,11 +148,12 @@ module _ {D : Type 0} (T : Type 0) (honest : Type 0) (moments : D → Moments) w
   }
 
   -- nothing was held
-  pub nothing_held : (s : Facts D) (x : T) → IsSite honest moments s → length s.held ≡ 0 → s.dead ≡ false → Flushes honest moments s s (Ok x)
+  pub nothing_held : (s : FactsIn D) (x : T) → IsSiteIn honest moments s → length s.held ≡ 0 → s.dead ≡ false → Flushes honest moments s s (Ok x)
   nothing_held s x is none alive = record {
     any_moment = λ is_honest. started (moments s.disk) (is.recovers_either is_honest);
     done = λ is_honest. is.recovers is_honest alive;
     ok = record {
+      newest = refl;
       opening = refl;
       told = sym (ap (λ l. s.told ++ l) (length_zero s.held none) ∙ append-nil s.told);
       tickets = length_zero s.tickets (is.each_ticket ∙ none);
@@ -167,8 +172,8 @@ module _ {D : Type 0} (T : Type 0) (honest : Type 0) (moments : D → Moments) w
       ok_err e = cc
 
   -- all that was held is told
-  pub flushed : (old new : Facts D) (x : T) → (honest → Throughout (moments old.disk) (moments new.disk) (AllRecoverEither (told_state old) (held_state old)))
-      → (honest → AllRecover (told_state new) (now (moments new.disk))) → HasFlushed old new → old.dead ≡ false → new.dead ≡ false → 0 < length old.held → Flushes honest moments old new (Ok x)
+  pub flushed : (old new : FactsIn D) (x : T) → (honest → Throughout (moments old.disk) (moments new.disk) (AllRecoverEitherIn old.newest (told_state old) (held_state old)))
+      → (honest → AllRecoverIn old.newest (told_state new) (now (moments new.disk))) → HasFlushed old new → old.dead ≡ false → new.dead ≡ false → 0 < length old.held → Flushes honest moments old new (Ok x)
   flushed old new x so_far all has was_alive alive some = record {
     any_moment = so_far;
     done = all;

@@ -1,18 +1,18 @@
 -- What is true of a site stays true of it.
 use Rattle.std.proofs.Common.{◌≡◌, ◌⊎◌, ℕ, suc, ◌+◌, ◌<◌, ◌^◌, Bool, true, false, List, [], ◌∷◌, ◌++◌, length, map, refl, sym, ap, subst, ◌∙◌, inl, inr, arith, length-append}
-use Rattle.std.proofs.lemmas.Option.{slice_get_within}
 use Rattle.std.specs.List.{AllByRecursion}
 use Rattle.st_disk.specs.declared.which.Which.{Which}
 use Rattle.st_disk.specs.Moments.{Moments, now, Throughout}
 use Rattle.st_disk.proofs.MomentLaws.{at_end}
-use Rattle.st_records.specs.declared.version.Version.{Version}
+use Rattle.st_records.specs.declared.version.Form.{Form}
 use Rattle.st_records.specs.declared.record.Record.{Record}
 use Rattle.st_state.specs.State.{StateMap, replay}
-use Rattle.st_recovery.specs.Stored.{AllRecover, AllRecoverEither}
+use Rattle.st_recovery.specs.Stored.{AllRecoverIn, AllRecoverEitherIn}
 use Rattle.st_recovery.proofs.StoredLemmas.{replay-append}
-use Rattle.bd_ledger.specs.Sheet.{IsWritable, AreWritable}
-use Rattle.bd_flusher.specs.Batches.{StandsAt, AreIncreasing, last_of}
-use Rattle.bd_flusher.specs.Site.{Facts, IsSite, facts, first_facts, told_state, held_state, holding}
+use Rattle.bd_ledger.specs.Sheet.{IsWritableIn, AreWritableIn}
+use Rattle.bd_flusher.specs.Batches.{AreIncreasing, last_of}
+use Rattle.bd_flusher.specs.Parts.{Parts}
+use Rattle.bd_flusher.specs.Site.{FactsIn, facts_in, first_facts_in, told_state, held_state, IsSiteIn, holding_in}
 use Rattle.bd_flusher.proofs.ListLemmas.{all_both}
 use Rattle.bd_flusher.proofs.BatchLemmas.{AreIncreasing-push, last_of-push}
 use Rattle.bd_flusher.proofs.ImageLemmas.{first_of_either, either_is_one}
@@ -31,9 +31,9 @@ each_record (n ∷ ns) = ap suc (each_record ns)
 
 module _ {D : Type 0} (honest : Type 0) (moments : D → Moments) where
   -- a site at first
-  pub first_site : (disk : D) (side : Which) (version : Version) (generation end : ℕ) (state : StateMap) → (honest → AllRecover state (now (moments disk)))
-      → IsSite honest moments (first_facts disk side version generation end state)
-  first_site disk side version generation end state all = record {
+  pub first_site : (disk : D) (side : Which) (form newest : Form) (generation end : ℕ) (state : StateMap) → (honest → AllRecoverIn newest state (now (moments disk)))
+      → IsSiteIn honest moments (first_facts_in disk side form newest generation end state)
+  first_site disk side form newest generation end state all = record {
     told_writable = tt;
     held_writable = tt;
     each_ticket = refl;
@@ -45,45 +45,47 @@ module _ {D : Type 0} (honest : Type 0) (moments : D → Moments) where
     recovers_either = λ is_honest. first_of_either state state (now (moments disk)) (all is_honest);
   }
 
-  -- its store has moved, and has the same state
-  pub site_with : (s : Facts D) (disk : D) (side : Which) (version : Version) (generation end : ℕ) (dead : Bool) (state : StateMap) (size : ℕ) → IsSite honest moments s → state ≡ s.state
-      → (honest → dead ≡ false → AllRecover (told_state s) (now (moments disk))) → (honest → AllRecoverEither (told_state s) (held_state s) (now (moments disk)))
-      → IsSite honest moments (facts disk side version generation end dead state s.opening s.told s.tickets s.held s.ends size)
-  site_with s disk side version generation end dead state size is same alive either = record {
-    told_writable = is.told_writable;
-    held_writable = is.held_writable;
+  -- its store has moved, and has the same state and writes the same form
+  pub site_with : (s : FactsIn D) (p : Parts D) (ends : List ℕ) (size : ℕ) → IsSiteIn honest moments s → p.newest ≡ s.newest → p.state ≡ s.state → ends ≡ s.ends
+      → (honest → p.dead ≡ false → AllRecoverIn s.newest (told_state s) (now (moments p.disk))) → (honest → AllRecoverEitherIn s.newest (told_state s) (held_state s) (now (moments p.disk)))
+      → IsSiteIn honest moments (facts_in p s.opening s.told s.tickets s.held ends size)
+  site_with s p ends size is newest same same_ends alive either = record {
+    told_writable = subst (λ (f : Form). AllByRecursion (IsWritableIn f) s.told) (sym newest) is.told_writable;
+    held_writable = subst (λ (f : Form). AllByRecursion (IsWritableIn f) s.held) (sym newest) is.held_writable;
     each_ticket = is.each_ticket;
     few = is.few;
     folded = same ∙ is.folded;
-    increasing = is.increasing;
-    last = is.last;
-    recovers = alive;
-    recovers_either = either;
+    increasing = subst (AreIncreasing 0) (sym same_ends) is.increasing;
+    last = ap (last_of 0) same_ends ∙ is.last;
+    recovers = λ is_honest still. subst (λ (f : Form). AllRecoverIn f (told_state s) (now (moments p.disk))) (sym newest) (alive is_honest still);
+    recovers_either = λ is_honest. subst (λ (f : Form). AllRecoverEitherIn f (told_state s) (held_state s) (now (moments p.disk))) (sym newest) (either is_honest);
   }
 
   -- what it held is told
-  pub flushed_site : (s : Facts D) (disk : D) (side : Which) (version : Version) (generation end : ℕ) (dead : Bool) (state : StateMap) (told : List Record) (ends : List ℕ) (size : ℕ)
-      → IsSite honest moments s → 0 < length s.held → state ≡ replay s.state s.held → told ≡ s.told ++ s.held → ends ≡ s.ends ++ length told ∷ []
-      → (honest → AllRecover state (now (moments disk))) → IsSite honest moments (facts disk side version generation end dead state s.opening told [] [] ends size)
-  flushed_site s disk side version generation end dead state told ends size is some folds grown one_more all =
+  pub flushed_site : (s : FactsIn D) (p : Parts D) (told : List Record) (tickets : List ℕ) (held : List Record) (ends : List ℕ) (size : ℕ)
+      → IsSiteIn honest moments s → 0 < length s.held → p.newest ≡ s.newest → p.state ≡ replay s.state s.held → told ≡ s.told ++ s.held → tickets ≡ [] → held ≡ [] → ends ≡ s.ends ++ length told ∷ []
+      → (honest → AllRecoverIn p.newest p.state (now (moments p.disk))) → IsSiteIn honest moments (facts_in p s.opening told tickets held ends size)
+  flushed_site s p told tickets held ends size is some newest folds grown no_tickets none one_more all =
       let long : length told ≡ length s.told + length s.held = ap length grown ∙ length-append s.told s.held in
-      let folded : state ≡ replay s.opening told =
+      let nothing : length held ≡ 0 = ap length none in
+      let folded : p.state ≡ replay s.opening told =
       folds ∙ ap (λ (m : StateMap). replay m s.held) is.folded ∙ sym (replay-append s.opening s.told s.held) ∙ ap (replay s.opening) (sym grown) in
-      let recovers : honest → AllRecover (replay s.opening told) (now (moments disk)) = λ is_honest. subst (λ (m : StateMap). AllRecover m (now (moments disk))) folded (all is_honest) in
+      let recovers : honest → AllRecoverIn p.newest (replay s.opening told) (now (moments p.disk)) = λ is_honest. subst (λ (m : StateMap). AllRecoverIn p.newest m (now (moments p.disk))) folded (all is_honest) in
       record {
-        told_writable = subst (AllByRecursion IsWritable) (sym grown) (all_both IsWritable s.told s.held is.told_writable is.held_writable);
-        held_writable = tt;
-        each_ticket = refl;
-        few = omega (arith, long, is.few);
+        told_writable = subst (λ (f : Form). AllByRecursion (IsWritableIn f) told) (sym newest)
+            (subst (AllByRecursion (IsWritableIn s.newest)) (sym grown) (all_both (IsWritableIn s.newest) s.told s.held is.told_writable is.held_writable));
+        held_writable = subst (AllByRecursion (IsWritableIn p.newest)) (sym none) tt;
+        each_ticket = ap length no_tickets ∙ sym nothing;
+        few = omega (arith, long, nothing, is.few);
         folded = folded;
         increasing = subst (AreIncreasing 0) (sym one_more) (AreIncreasing-push 0 s.ends (length told) is.increasing (omega (arith, is.last, long, some)));
         last = ap (last_of 0) one_more ∙ last_of-push 0 s.ends (length told);
         recovers = λ is_honest alive. recovers is_honest;
-        recovers_either = λ is_honest. first_of_either (replay s.opening told) (replay s.opening told) (now (moments disk)) (recovers is_honest);
+        recovers_either = λ is_honest. first_of_either (replay s.opening told) (replay (replay s.opening told) held) (now (moments p.disk)) (recovers is_honest);
       }
 
   -- it holds what was drained
-  pub holding_site : (s : Facts D) (notes : List (ℕ × Record)) → IsSite honest moments s → s.held ≡ [] → AreWritable notes → length s.told + length notes < 2 ^ 64 → IsSite honest moments (holding notes s)
+  holding_site : (s : FactsIn D) (notes : List (ℕ × Record)) → IsSiteIn honest moments s → s.held ≡ [] → AreWritableIn s.newest notes → length s.told + length notes < 2 ^ 64 → IsSiteIn honest moments (holding_in notes s)
   holding_site s notes is none writable few = record {
     told_writable = is.told_writable;
     held_writable = each_writable notes writable;
@@ -97,7 +99,7 @@ module _ {D : Type 0} (honest : Type 0) (moments : D → Moments) where
         either_is_one (told_state s) (held_state s) (replay (told_state s) (map (λ n. n.1) notes)) (now (moments s.disk)) (ap (replay (told_state s)) none) (is.recovers_either is_honest);
   }
     where
-      each_writable : (notes : List (ℕ × Record)) → AreWritable notes → AllByRecursion IsWritable (map (λ n. n.1) notes)
+      each_writable : (notes : List (ℕ × Record)) → AreWritableIn s.newest notes → AllByRecursion (IsWritableIn s.newest) (map (λ n. n.1) notes)
       each_writable [] writable = tt
       each_writable (n ∷ ns) writable = (writable.0, each_writable ns writable.1)
 
@@ -106,44 +108,40 @@ module _ {D : Type 0} (honest : Type 0) (moments : D → Moments) where
       both_long (n ∷ ns) = ap suc (both_long ns)
 
   -- so it does, of the lists that have come of them
-  pub taken_site : (s : Facts D) (notes : List (ℕ × Record)) (told : List Record) (tickets : List ℕ) (held : List Record) → IsSite honest moments s → s.held ≡ [] → AreWritable notes → length s.told + length notes < 2 ^ 64
-      → told ≡ s.told → tickets ≡ map (λ n. n.0) notes → held ≡ map (λ n. n.1) notes → IsSite honest moments (record s { told = told; tickets = tickets; held = held })
+  pub taken_site : (s : FactsIn D) (notes : List (ℕ × Record)) (told : List Record) (tickets : List ℕ) (held : List Record) → IsSiteIn honest moments s → s.held ≡ [] → AreWritableIn s.newest notes → length s.told + length notes < 2 ^ 64
+      → told ≡ s.told → tickets ≡ map (λ n. n.0) notes → held ≡ map (λ n. n.1) notes → IsSiteIn honest moments (record s { told = told; tickets = tickets; held = held })
   taken_site s notes told tickets held is none writable few same those these =
-      let all : holding notes s ≡ record s { told = told; tickets = tickets; held = held } = cc in
-      subst (IsSite honest moments) all (holding_site s notes is none writable few)
+      let all : holding_in notes s ≡ record s { told = told; tickets = tickets; held = held } = cc in
+      subst (IsSiteIn honest moments) all (holding_site s notes is none writable few)
 
 -- ---- what its methods ask for
 
--- a told ticket is below the last end
-pub told_below : (told : List Record) (ends : List ℕ) (ticket : ℕ) (note : Record) → last_of 0 ends ≡ length told → StandsAt told ticket note → ticket < last_of 0 ends
-told_below told ends ticket note last at = omega (arith, last, slice_get_within told ticket note at)
-
 -- what a compaction leaves of its store, whatever it answered
-pub tidied_site : {D : Type 0} {honest : Type 0} {moments : D → Moments} (s : Facts D) (disk : D) → honest → IsSite honest moments s → s.dead ≡ false → Throughout (moments s.disk) (moments disk) (AllRecover s.state)
-    → AllRecover (told_state s) (now (moments disk)) × AllRecoverEither (told_state s) (held_state s) (now (moments disk))
+pub tidied_site : {D : Type 0} {honest : Type 0} {moments : D → Moments} (s : FactsIn D) (disk : D) → honest → IsSiteIn honest moments s → s.dead ≡ false → Throughout (moments s.disk) (moments disk) (AllRecoverIn s.newest s.state)
+    → AllRecoverIn s.newest (told_state s) (now (moments disk)) × AllRecoverEitherIn s.newest (told_state s) (held_state s) (now (moments disk))
 tidied_site {moments = moments} s disk is_honest is alive so_far =
-    let all : AllRecover (told_state s) (now (moments disk)) = subst (λ (m : StateMap). AllRecover m (now (moments disk))) is.folded (at_end so_far) in
+    let all : AllRecoverIn s.newest (told_state s) (now (moments disk)) = subst (λ (m : StateMap). AllRecoverIn s.newest m (now (moments disk))) is.folded (at_end so_far) in
     (all, first_of_either (told_state s) (held_state s) (now (moments disk)) all)
 
 -- the same, where it may be that the site was dead, and nothing has changed
-pub tidied_or_dead : {D : Type 0} {honest : Type 0} {moments : D → Moments} (s : Facts D) (disk : D) (dead : Bool) → IsSite honest moments s
-    → (honest → s.dead ≡ false → Throughout (moments s.disk) (moments disk) (AllRecover s.state)) → (s.dead ≡ true → (disk ≡ s.disk) × (dead ≡ s.dead))
-    → (honest → dead ≡ false → AllRecover (told_state s) (now (moments disk))) × (honest → AllRecoverEither (told_state s) (held_state s) (now (moments disk)))
+pub tidied_or_dead : {D : Type 0} {honest : Type 0} {moments : D → Moments} (s : FactsIn D) (disk : D) (dead : Bool) → IsSiteIn honest moments s
+    → (honest → s.dead ≡ false → Throughout (moments s.disk) (moments disk) (AllRecoverIn s.newest s.state)) → (s.dead ≡ true → (disk ≡ s.disk) × (dead ≡ s.dead))
+    → (honest → dead ≡ false → AllRecoverIn s.newest (told_state s) (now (moments disk))) × (honest → AllRecoverEitherIn s.newest (told_state s) (held_state s) (now (moments disk)))
 tidied_or_dead {D = D} {honest = honest} {moments = moments} s disk dead is so_far same = by s.dead refl
   where
     by : (b : Bool) → s.dead ≡ b
-        → (honest → dead ≡ false → AllRecover (told_state s) (now (moments disk))) × (honest → AllRecoverEither (told_state s) (held_state s) (now (moments disk)))
+        → (honest → dead ≡ false → AllRecoverIn s.newest (told_state s) (now (moments disk))) × (honest → AllRecoverEitherIn s.newest (told_state s) (held_state s) (now (moments disk)))
     by false alive = (
       (λ is_honest still. (tidied_site s disk is_honest is alive (so_far is_honest alive)).0),
       (λ is_honest. (tidied_site s disk is_honest is alive (so_far is_honest alive)).1),
     )
     by true was_dead = let still = same was_dead in (
-      (λ is_honest alive. subst (λ (d : D). AllRecover (told_state s) (now (moments d))) (sym still.0) (is.recovers is_honest (sym still.1 ∙ alive))),
-      (λ is_honest. subst (λ (d : D). AllRecoverEither (told_state s) (held_state s) (now (moments d))) (sym still.0) (is.recovers_either is_honest)),
+      (λ is_honest alive. subst (λ (d : D). AllRecoverIn s.newest (told_state s) (now (moments d))) (sym still.0) (is.recovers is_honest (sym still.1 ∙ alive))),
+      (λ is_honest. subst (λ (d : D). AllRecoverEitherIn s.newest (told_state s) (held_state s) (now (moments d))) (sym still.0) (is.recovers_either is_honest)),
     )
 
 -- what a commit leaves of it, where it failed
-pub faulted_site : {D : Type 0} {honest : Type 0} {moments : D → Moments} (s : Facts D) (mid disk : D) → honest → IsSite honest moments s → Throughout (moments mid) (moments disk) (AllRecoverEither s.state (replay s.state s.held))
-    → AllRecoverEither (told_state s) (held_state s) (now (moments disk))
+pub faulted_site : {D : Type 0} {honest : Type 0} {moments : D → Moments} (s : FactsIn D) (mid disk : D) → honest → IsSiteIn honest moments s → Throughout (moments mid) (moments disk) (AllRecoverEitherIn s.newest s.state (replay s.state s.held))
+    → AllRecoverEitherIn s.newest (told_state s) (held_state s) (now (moments disk))
 faulted_site {moments = moments} s mid disk is_honest is so_far =
-    subst (λ (m : StateMap). AllRecoverEither m (replay m s.held) (now (moments disk))) is.folded (at_end so_far)
+    subst (λ (m : StateMap). AllRecoverEitherIn s.newest m (replay m s.held) (now (moments disk))) is.folded (at_end so_far)

@@ -9,7 +9,7 @@ use std::alloc::AllocError;
 use thiserror::Error;
 
 /// Why records aren't written. Of several the first of `Dead`, `OutOfTurn`, want of memory for what is told, the refusals of
-/// a side of version 1, and then those of the commit counts.
+/// a side of another form, and then those of the commit counts.
 #[derive(Clone, Copy, Debug, PartialEq, Eq, Error)]
 pub enum FlushFault {
     /// A call of the device failed. What is held may or may not be found after a power cut, and nothing more is written.
@@ -30,7 +30,8 @@ pub enum FlushFault {
     /// The record with this ticket wasn't there to be written.
     #[error("records out of turn")]
     Unknown(Ticket),
-    /// The side is of version 1 and has the greatest generation, so that it can't be written anew.
+    /// The side isn't of the form that is written and has the greatest generation, so that it can't be written anew; or the
+    /// board's records aren't of that form.
     #[error("old version")]
     OldVersion,
 }

@@ -1,39 +1,37 @@
 //! The value behind the site lock: a store, which of the submitted records it has, and which it is to have next.
 
-ghost use Rattle.std.specs.Prelude.{◌≡◌, ◌↔◌, ℕ, ◌+◌, ◌<◌, ◌^◌, false, IsTrue, IfOk, IfErr, IsOk, OnOk, OnErr, MatchOption, length};
+ghost use Rattle.std.specs.Prelude.{◌≡◌, ◌<◌, false, IfOk, IfErr, IsOk, OnOk, OnErr, length};
 ghost use Rattle.std.specs.FinMap as map;
 ghost use Rattle.bd_ledger.specs.Sheet.{drained, AreOf};
 ghost use Rattle.bd_flusher.specs.declared.fault.FlushFault.TheVariants as faults;
-ghost use Rattle.bd_flusher.specs.Batches.{StandsAt, AreIncreasing, last_of, IsInBatch};
-ghost use Rattle.bd_flusher.specs.Turns.{AreInTurn, IsOutOfTurn};
+ghost use Rattle.bd_flusher.specs.Batches.{StandsAt, IsInBatch};
 ghost use Rattle.bd_flusher.specs.Tidying.{TidyAnswer};
 ghost use Rattle.bd_flusher.specs.Flushing.{FlushAnswer};
 ghost use Rattle.bd_flusher.specs.Site.{IsSite, first_facts, holding};
 
+mod calls;
+mod over;
 mod receipt;
 mod records;
+mod site_in;
+mod waiting;
 
 use crate::FlushFault;
-use crate::same::is_same;
-use crate::tidying::tidy_store;
 use bd_ledger::Ticket;
 use bd_lists::Board;
+use calls::{flush_over, look_over, open_over, take_in_over, tidy_over};
+use over::SiteOver;
 pub use receipt::Receipt;
-use records::Records;
+pub use site_in::SiteIn;
 use st_disk::Disk;
 use st_records::Record;
 use st_recovery::Store;
-use st_state::State;
 use std::alloc::{AllocError, Global};
 use std::marker::Model;
 
 /// A store with the records that it was told since it was opened, and the batch that it is to be told next.
 pub struct Site<D: Disk + Drop> {
-    store: Store<D>,
-    opening: State,
-    records: Records,
-    /// The length of the open side when the site was made, or when it was last compacted.
-    size: usize,
+    over: SiteOver<Store<D>>,
 }
 
 impl<D: Disk + Drop> Model for Site<D> {
@@ -46,59 +44,20 @@ impl<D: Disk + Drop> Model for Site<D> {
 
     ghost coded = { Prim.hlevel (codes, state_code) };
 
-    ghost view = { λ s. facts s.store.log.disk s.store.log.side s.store.log.version s.store.log.generation s.store.log.end
-        s.store.log.dead s.store.state s.opening s.records.told.items s.records.tickets.items s.records.held.items
-        s.records.ends.items s.size };
+    ghost view = { λ s. facts s.over.store.log.disk s.over.store.log.side s.over.store.log.version s.over.store.log.generation
+        s.over.store.log.end s.over.store.log.dead s.over.store.state s.over.opening s.over.records.told.items
+        s.over.records.tickets.items s.over.records.held.items s.over.records.ends.items s.over.size };
 
-    ghost invariant = { λ s. IsSite D.honest D.moments (facts s.store.log.disk s.store.log.side s.store.log.version
-        s.store.log.generation s.store.log.end s.store.log.dead s.store.state s.opening s.records.told.items
-        s.records.tickets.items s.records.held.items s.records.ends.items s.size)
-        × (vec_len s.records.told + vec_len s.records.held ≤ vec_capacity s.records.told) };
+    ghost invariant = { λ s. IsSite D.honest D.moments (facts s.over.store.log.disk s.over.store.log.side s.over.store.log.version
+        s.over.store.log.generation s.over.store.log.end s.over.store.log.dead s.over.store.state s.over.opening
+        s.over.records.told.items s.over.records.tickets.items s.over.records.held.items s.over.records.ends.items s.over.size)
+        × (vec_len s.over.records.told + vec_len s.over.records.held ≤ vec_capacity s.over.records.told) };
 }
 
 impl<D: Disk + Drop> Drop for Site<D> {
     fn drop(self) {
-        let Site {
-            store: _,
-            opening: _,
-            records: _,
-            size: _,
-        } = self;
+        let Site { over: _ } = self;
     }
-}
-
-/// Whether the told records hold this one at this ticket.
-fn has(told: &[Record], ticket: Ticket, note: &Record) -> bool
-    ensures { IsTrue result ↔ StandsAt told.now ticket note.now }
-{
-    match told.get(ticket.number()) {
-        Some(there) => is_same(there, note),
-        None => false,
-    }
-}
-
-/// The number of the batch that has a told ticket.
-fn batch_of(ends: &[usize], ticket: usize) -> usize
-    requires increasing { AreIncreasing 0 ends.now }
-    requires told { ticket < last_of 0 ends.now }
-    ensures { IsInBatch 0 ends.now ticket result }
-{
-    ends.partition_point(|end| *end <= ticket)
-}
-
-/// The first ticket that isn't its turn, and the number whose turn it is. Tickets count up by one from `told` on.
-fn out_of_turn(tickets: &[Ticket], told: usize) -> Option<(Ticket, usize)>
-    requires { told + length tickets.now < 2 ^ 64 }
-    ensures { MatchOption result (AreInTurn told tickets.now) (λ found. IsOutOfTurn told tickets.now found.0 found.1) }
-{
-    let mut turn = told;
-    for ticket in tickets {
-        if ticket.number() != turn {
-            return Some((*ticket, turn));
-        }
-        turn += 1;
-    }
-    None
 }
 
 impl<D: Disk + Drop> Site<D> {
@@ -110,22 +69,9 @@ impl<D: Disk + Drop> Site<D> {
         ensures err { IfErr result (λ e. e.1 ≡ store) }
         ensures memory { OnErr result (0 < map.len store.state) }
     {
-        match store.state().copy(alloc) {
-            Ok(opening) => {
-                let size = store.log.end;
-                Ok(Site {
-                    store,
-                    opening,
-                    records: Records {
-                        told: Vec::new(alloc),
-                        tickets: Vec::new(alloc),
-                        held: Vec::new(alloc),
-                        ends: Vec::new(alloc),
-                    },
-                    size,
-                })
-            }
-            Err(fault) => Err((fault, store)),
+        match open_over(alloc, store) {
+            Ok(over) => Ok(Site { over }),
+            Err(refused) => Err(refused),
         }
     }
 
@@ -137,12 +83,13 @@ impl<D: Disk + Drop> Site<D> {
         ensures dead { result.log.dead ≡ self.dead }
         ensures state { result.state ≡ self.state }
     {
-        let Site {
+        let Site { over } = self;
+        let SiteOver {
             store,
             opening: _,
             records: _,
             size: _,
-        } = self;
+        } = over;
         store
     }
 
@@ -154,7 +101,7 @@ impl<D: Disk + Drop> Site<D> {
         ensures dead { result.now.log.dead ≡ self.now.dead }
         ensures state { result.now.state ≡ self.now.state }
     {
-        &self.store
+        &self.over.store
     }
 
     /// The records that the store was told, each at its ticket; and what is true of a site whenever its lock is free.
@@ -162,7 +109,7 @@ impl<D: Disk + Drop> Site<D> {
         ensures told { result.now ≡ self.now.told }
         ensures site { IsSite D.honest D.moments self.now }
     {
-        &self.records.told
+        &self.over.records.told
     }
 
     /// The receipt of a record that was told at this ticket, else the record again. It takes no memory.
@@ -171,15 +118,7 @@ impl<D: Disk + Drop> Site<D> {
         ensures ok { IfOk result (λ r. (r.ticket ≡ ticket) × (r.noted ≡ note) × IsInBatch 0 self.now.ends ticket r.batch) }
         ensures err { IfErr result (λ back. (back ≡ note) × (StandsAt self.now.told ticket note → ⊥)) }
     {
-        if !has(&self.records.told, ticket, &note) {
-            return Err(note);
-        }
-        let batch = batch_of(&self.records.ends, ticket.number());
-        Ok(Receipt {
-            ticket,
-            noted: note,
-            batch,
-        })
+        look_over(&self.over.records, ticket, note)
     }
 
     /// Takes in all that waits on the board to be written, in order, where no batch is held. Only want of memory keeps it
@@ -194,11 +133,7 @@ impl<D: Disk + Drop> Site<D> {
         ensures cause { IfErr result (λ fault. fault ≡ faults.OutOfMemory) }
         ensures memory { OnErr result (0 < length board.old.notes) }
     {
-        if !self.records.held.is_empty() {
-            return Ok(());
-        }
-        self.records.take_in(alloc, board)?;
-        Ok(())
+        take_in_over(alloc, &mut self.over, board)
     }
 
     /// Compacts the store where its side is of version 1, or longer than 2^20 bytes and than twice what it was when the site
@@ -206,7 +141,7 @@ impl<D: Disk + Drop> Site<D> {
     pub fn tidy(&mut self, alloc: Global) -> Result<(), FlushFault>
         ensures { TidyAnswer D.honest D.moments D.seen D.faults self.old self.new result }
     {
-        tidy_store(alloc, &mut self.store, &mut self.size)
+        tidy_over(alloc, &mut self.over)
     }
 
     /// Writes the held batch, after a compaction where one is due; then its records are told. Its cost is that of the batch,
@@ -215,28 +150,6 @@ impl<D: Disk + Drop> Site<D> {
     pub fn flush(&mut self, alloc: Global) -> Result<(), FlushFault>
         ensures { FlushAnswer D.honest D.moments D.seen D.faults self.old self.new result }
     {
-        if self.store.log.dead {
-            return Err(FlushFault::Dead);
-        }
-        if self.records.held.is_empty() {
-            return Ok(());
-        }
-        if let Some((ticket, turn)) = out_of_turn(&self.records.tickets, self.records.told.len()) {
-            return Err(FlushFault::OutOfTurn(ticket, turn));
-        }
-        self.write(alloc)
-    }
-
-    /// Writes a held batch that is in turn, after a compaction where one is due.
-    fn write(&mut self, alloc: Global) -> Result<(), FlushFault>
-        requires alive { self.old.dead ≡ false }
-        requires some { 0 < length self.old.held }
-        requires in_turn { AreInTurn (length self.old.told) self.old.tickets }
-        ensures { FlushAnswer D.honest D.moments D.seen D.faults self.old self.new result }
-    {
-        self.records.ends.reserve(1)?;
-        tidy_store(alloc, &mut self.store, &mut self.size)?;
-        self.records.write_to(alloc, &mut self.store)?;
-        Ok(())
+        flush_over(alloc, &mut self.over)
     }
 }

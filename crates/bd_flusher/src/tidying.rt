@@ -1,27 +1,25 @@
-//! When a store changes sides: its side is of version 1, or has grown long.
+//! When a store changes sides: its side isn't of the form that is written, or has grown long.
 
 ghost use Rattle.std.specs.Prelude.{◌≡◌, ◌≢◌, ◌⊎◌, ◌↔◌, ◌+◌, ◌-◌, ◌^◌, true, false, IsTrue, IsOk, IfErr, OnOk, IsErrOf};
 ghost use Rattle.st_disk.specs.Crash.{other};
 ghost use Rattle.st_disk.specs.Moments.{Throughout};
 ghost use Rattle.st_disk.specs.Faults.{Rises};
-ghost use Rattle.st_records.specs.declared.version.Version.TheVariants as versions;
 ghost use Rattle.st_state.specs.Keepable.{kept_records};
-ghost use Rattle.st_file.specs.Grown.{IsFull};
-ghost use Rattle.st_file.specs.Side.{HoldsUpTo};
+ghost use Rattle.st_file.specs.Grown.{IsFullIn};
+ghost use Rattle.st_file.specs.Side.{HoldsUpToIn};
 ghost use Rattle.st_file.specs.declared.commit_fault.CommitFault.{CommitFault};
 ghost use Rattle.st_file.specs.declared.commit_fault.CommitFault.TheVariants as commits;
-ghost use Rattle.st_recovery.specs.Stored.{AllRecover};
-ghost use Rattle.st_compaction.specs.Compacted.{HasChangedSides};
+ghost use Rattle.st_recovery.specs.Stored.{AllRecoverIn};
+ghost use Rattle.st_compaction.specs.Compacted.{HasChangedSidesIn};
 ghost use Rattle.bd_flusher.specs.declared.fault.FlushFault.TheVariants as faults;
 ghost use Rattle.bd_flusher.specs.Faults.{fault_of};
+ghost use Rattle.bd_flusher.specs.Parts.{Written};
 ghost use Rattle.bd_flusher.specs.Tidying.{IsLong};
 
 use crate::FlushFault;
-use st_compaction::compact;
+use crate::any_store::AnyStore;
 use st_disk::Disk;
 use st_file::{CommitFault, HEADER_BYTES};
-use st_records::Version;
-use st_recovery::Store;
 use std::alloc::Global;
 
 /// A side of no more bytes isn't compacted.
@@ -37,62 +35,59 @@ fn is_long(end: usize, size: usize) -> bool
     }
 }
 
-fn is_of_version_1(version: Version) -> bool
-    ensures { IsTrue result ↔ (version ≡ versions.One) }
-{
-    matches!(version, Version::One)
-}
-
-/// Compacts a store whose side is of version 1, or has grown long. Of a long side a refusal is passed over, unless it is the
-/// device's.
-pub(crate) fn tidy_store<D: Disk + Drop>(
+/// Compacts a store whose side isn't of the form that is written, or has grown long. Of a long side a refusal is passed over,
+/// unless it is the device's.
+pub(crate) fn tidy_store<D: Disk + Drop, S: AnyStore<D>>(
     alloc: Global,
-    store: &mut Store<D>,
+    store: &mut S,
     size: &mut usize,
 ) -> Result<(), FlushFault>
-    ensures any_moment { D.honest → store.old.log.dead ≡ false
-        → Throughout (D.moments store.old.log.disk) (D.moments store.new.log.disk) (AllRecover store.old.state) }
-    ensures state { store.new.state ≡ store.old.state }
-    ensures alive { OnOk result ((store.old.log.dead ≡ false) × (store.new.log.dead ≡ false)) }
-    ensures version { OnOk result (store.new.log.version ≡ versions.Two) }
-    ensures success { OnOk result (D.faults store.new.log.disk ≡ D.faults store.old.log.disk) }
-    ensures dead { IsErrOf result faults.Dead ↔ (store.old.log.dead ≡ true) }
+    ensures any_moment { D.honest → (S.parts_of store.old).dead ≡ false
+        → Throughout (D.moments (S.parts_of store.old).disk) (D.moments (S.parts_of store.new).disk) (AllRecoverIn (S.parts_of store.old).newest (S.parts_of store.old).state) }
+    ensures state { (S.parts_of store.new).state ≡ (S.parts_of store.old).state }
+    ensures newest { (S.parts_of store.new).newest ≡ (S.parts_of store.old).newest }
+    ensures alive { OnOk result (((S.parts_of store.old).dead ≡ false) × ((S.parts_of store.new).dead ≡ false)) }
+    ensures version { OnOk result (Written (S.parts_of store.new).form (S.parts_of store.new).newest) }
+    ensures success { OnOk result (D.faults (S.parts_of store.new).disk ≡ D.faults (S.parts_of store.old).disk) }
+    ensures dead { IsErrOf result faults.Dead ↔ ((S.parts_of store.old).dead ≡ true) }
     ensures device { IsErrOf result faults.Device
-        → (store.new.log.dead ≡ true) × Rises (D.faults store.old.log.disk) (D.faults store.new.log.disk) }
+        → ((S.parts_of store.new).dead ≡ true) × Rises (D.faults (S.parts_of store.old).disk) (D.faults (S.parts_of store.new).disk) }
     ensures unchanged { IfErr result (λ fault. fault ≢ faults.Device
-        → (store.new.log ≡ store.old.log) × (size.new ≡ size.old)) }
-    // What isn't the device's, nor an earlier one's, is told of a side of version 1 alone.
-    ensures cause { IfErr result (λ fault. fault ≢ faults.Device → fault ≢ faults.Dead → store.old.log.version ≡ versions.One) }
+        → (S.parts_of store.new ≡ S.parts_of store.old) × (size.new ≡ size.old)) }
+    // What isn't the device's, nor an earlier one's, is told of a side of another form alone.
+    ensures cause { IfErr result (λ fault. fault ≢ faults.Device → fault ≢ faults.Dead
+        → Written (S.parts_of store.old).form (S.parts_of store.old).newest → ⊥) }
     ensures told { IfErr result (λ told. (fault : CommitFault) × (told ≡ fault_of fault)) }
     ensures old_version { IsErrOf result faults.OldVersion
-        → (store.old.log.version ≡ versions.One) × (store.old.log.generation ≡ 2 ^ 64 - 1) }
-    ensures full { IsErrOf result faults.Full → IsFull HEADER_BYTES (kept_records store.old.state) }
+        → (Written (S.parts_of store.old).form (S.parts_of store.old).newest → ⊥) × ((S.parts_of store.old).generation ≡ 2 ^ 64 - 1) }
+    ensures full { IsErrOf result faults.Full → IsFullIn (S.parts_of store.old).newest HEADER_BYTES (kept_records (S.parts_of store.old).state) }
     // The store has gone on where it was, or on the other side, which holds its state alone and whose length is kept.
-    ensures compacted { OnOk result (((store.new.log ≡ store.old.log) × (size.new ≡ size.old))
-        ⊎ (HasChangedSides store.old.log.side store.new.log.side store.new.log.version store.old.log.generation
-        store.new.log.generation × (size.new ≡ store.new.log.end) × (D.honest → HoldsUpTo (D.seen store.new.log.disk
-        (other store.old.log.side)) versions.Two (store.old.log.generation + 1) (kept_records store.old.state) store.new.log.end))) }
-    ensures unneeded { store.old.log.dead ≡ false → store.old.log.version ≡ versions.Two
-        → (IsLong store.old.log.end size.old → ⊥)
-        → IsOk result × (store.new.log ≡ store.old.log) × (size.new ≡ size.old) }
+    ensures compacted { OnOk result (((S.parts_of store.new ≡ S.parts_of store.old) × (size.new ≡ size.old))
+        ⊎ (HasChangedSidesIn (S.parts_of store.old).newest (S.parts_of store.old).side (S.parts_of store.new).side (S.parts_of store.new).form
+        (S.parts_of store.old).generation (S.parts_of store.new).generation × (size.new ≡ (S.parts_of store.new).end)
+        × (D.honest → HoldsUpToIn (D.seen (S.parts_of store.new).disk (other (S.parts_of store.old).side)) (S.parts_of store.old).newest
+        ((S.parts_of store.old).generation + 1) (kept_records (S.parts_of store.old).state) (S.parts_of store.new).end))) }
+    ensures unneeded { (S.parts_of store.old).dead ≡ false → Written (S.parts_of store.old).form (S.parts_of store.old).newest
+        → (IsLong (S.parts_of store.old).end size.old → ⊥)
+        → IsOk result × (S.parts_of store.new ≡ S.parts_of store.old) × (size.new ≡ size.old) }
 {
-    if store.log.dead {
+    if store.has_failed() {
         return Err(FlushFault::Dead);
     }
-    let is_old = is_of_version_1(store.log.version);
-    if !is_old && !is_long(store.log.end, *size) {
+    let is_old = !store.is_written();
+    if !is_old && !is_long(store.end(), *size) {
         return Ok(());
     }
-    match compact(alloc, store) {
+    match store.change_sides(alloc) {
         Ok(()) => {
-            *size = store.log.end;
+            *size = store.end();
             Ok(())
         }
         Err(fault) => refusal(fault, is_old),
     }
 }
 
-/// What a refused compaction comes to: it is passed over, unless the device refused it or the side is of version 1.
+/// What a refused compaction comes to: it is passed over, unless the device refused it or the side isn't of the form that is written.
 fn refusal(fault: CommitFault, is_old: bool) -> Result<(), FlushFault>
     ensures passed_over { IsOk result ↔ ((is_old ≡ false) × (fault ≢ commits.Device)) }
     ensures told { IfErr result (λ told. told ≡ fault_of fault) }

@@ -5,6 +5,7 @@ use Rattle.mk_graph.specs.Edges.{has, times}
 use Rattle.st_records.specs.Parts.{target_of}
 use Rattle.st_records.specs.declared.record.Record.{Record}
 use Rattle.st_records.specs.declared.record.Record.TheVariants as records
+use Rattle.st_records.specs.declared.version.Form.{Form}
 use Rattle.bd_places.specs.declared.end.End.{End}
 use Rattle.bd_ledger.specs.declared.ledger.Ledger.TheInside.{Inside}
 use Rattle.bd_ledger.specs.declared.sent.Sent.{Sent}
@@ -14,7 +15,7 @@ use Rattle.bd_links.specs.declared.stand.Stand.TheVariants.{Waiting, Ready, Runn
 use Rattle.bd_ledger.specs.Ledger.{IsLedger}
 use Rattle.bd_places.specs.Placed.{Placed, nodes_of, placed_in, IsOpen}
 use Rattle.bd_places.specs.Settling.{Prerequisites, Standing, ended, gone_on, all_gone_on, is_doomed, can_go_on, users_of, looked_at, LooksOn, Settles, IsStanding}
-use Rattle.bd_ledger.specs.Sheet.{AreDistinct, sent_count, sent_with, last_ticket, is_kept, IsWritable, AreWritable, AreOf}
+use Rattle.bd_ledger.specs.Sheet.{AreDistinct, sent_count, sent_with, last_ticket, is_kept, IsWritableIn, AreWritableIn, AreOf}
 use Rattle.bd_links.specs.SixLists.{SixLists, code, moved}
 use Rattle.bd_links.proofs.ListLemmas.{without-none, apart}
 use Rattle.bd_places.proofs.StandingLemmas.{nowhere_else, none_from_has, below_from_has, IsStanding-ended, IsEachOnce-moved}
@@ -108,9 +109,10 @@ settle_ledger a is n end standing open_ places e settles = subst (λ (p : Placed
 
 -- ---- a node submits a record
 
-writable_more : (notes : List (ℕ × Record)) (n : ℕ × Record) → AreWritable notes → IsWritable n.1 → AreWritable (notes ++ n ∷ [])
-writable_more [] n all is = (is, tt)
-writable_more (m ∷ notes) n all is = (all.0, writable_more notes n all.1 is)
+writable_more : (form : Form) (notes : List (ℕ × Record)) (n : ℕ × Record) → AreWritableIn form notes → IsWritableIn form n.1
+    → AreWritableIn form (notes ++ n ∷ [])
+writable_more form [] n all is = (is, tt)
+writable_more form (m ∷ notes) n all is = (all.0, writable_more form notes n all.1 is)
 
 own_more : (names : List (List ℕ)) (past : List Sent) (nodes : List ℕ) (notes : List (ℕ × Record)) (n : ℕ) (what : Sent) (note : ℕ × Record)
     → AreOf names past nodes notes → times n nodes ≡ 0 → n < length past → last_ticket what ≡ Some note.0 → target_of note.1 ≡ get_or names n []
@@ -166,11 +168,11 @@ module _ (p : Placed) (is : IsStanding p.prerequisites (nodes_of p) p.standing) 
 
 -- the invariant field by field, once the node has submitted
 module _ (a : Inside) (is : IsLedger a) (standing : IsStanding a.places.prerequisites (nodes_of a.places) a.places.standing) (n : ℕ)
-    (runs : has a.places.standing.lists.running n ≡ true) (next : Inside)
+    (runs : has a.places.standing.lists.running n ≡ true) (next : Inside) (form : next.form ≡ a.form)
     (places : next.places ≡ placed_in n Unflushed a.places) (names : next.names ≡ a.names) (what : Sent)
     (sents : next.sent.items ≡ set a.sent.items n what) (turn : sent_count what ≡ sent_count (get_or a.sent.items n sent.Nothing) + 1)
     (ticket : ℕ) (note : Record) (notes : next.notes.items ≡ a.notes.items ++ (ticket, note) ∷ [])
-    (last : last_ticket what ≡ Some ticket) (target : target_of note ≡ get_or a.names.items n []) (writable : IsWritable note) (room : vec_capacity a.notes ≤ vec_capacity next.notes) (submitted : next.submitted ≡ a.submitted + 1) where
+    (last : last_ticket what ≡ Some ticket) (target : target_of note ≡ get_or a.names.items n []) (writable : IsWritableIn a.form note) (room : vec_capacity a.notes ≤ vec_capacity next.notes) (submitted : next.submitted ≡ a.submitted + 1) where
   nodes_same : nodes_of next.places ≡ nodes_of a.places
   nodes_same = ap nodes_of places
 
@@ -194,7 +196,8 @@ module _ (a : Inside) (is : IsLedger a) (standing : IsStanding a.places.prerequi
         (let below = runs_below a.places standing n runs in let l = is.sent in omega arith) last target))));
     notes = longer ∙ ap (λ k. k + 1) is.notes ∙ sym (one_more a.places standing n runs)
         ∙ ap (λ (p : Placed). length p.standing.lists.unflushed) (sym places);
-    writable = subst AreWritable (sym notes) (writable_more a.notes.items (ticket, note) is.writable writable);
+    writable = subst (λ (f : Form). AreWritableIn f next.notes.items) (sym form)
+        (subst (AreWritableIn a.form) (sym notes) (writable_more a.form a.notes.items (ticket, note) is.writable writable));
     room = let same = nodes_same in let enough = is.room in omega arith;
     few = subst (λ k. k + k < 0xFFFF_FFFF_FFFF_FFFF) (sym nodes_same) is.few;
     submitted =

@@ -1,8 +1,9 @@
 -- The board as contracts see it. Own.
 use Rattle.std.specs.Prelude.{◌≡◌, ℕ, ◌+◌, ◌<◌, Bool, true, false, List, [], ◌∷◌, ◌++◌, length, slice_index_or, slice_set, replicate, Option, Some, None}
 use Rattle.std.specs.List.{AllByRecursion}
-use Rattle.st_records.specs.Limits.{IsGood}
-use Rattle.st_records.specs.declared.version.Version.TheVariants.{Two}
+use Rattle.st_records.specs.Limits.{IsGoodIn}
+use Rattle.st_records.specs.declared.version.Form.{Form}
+use Rattle.st_records.specs.declared.version.Form.TheVariants.{Plain}
 use Rattle.st_records.specs.declared.record.Record.{Record}
 use Rattle.st_records.specs.declared.record.Record.TheVariants as records
 use Rattle.st_records.specs.Parts.{target_of}
@@ -16,9 +17,10 @@ use Rattle.bd_places.specs.Placed.{first_standing}
 use Rattle.bd_links.specs.SixLists.{moved, joined}
 use Rattle.bd_places.specs.Settling.{Prerequisites, Standing, Settles}
 
--- the nodes' prerequisites and names, where they stand and how they ended, what each has submitted, the records of Unflushed
--- in its order, each with its ticket, and how many submissions there were
+-- the form in which records are written, the nodes' prerequisites and names, where they stand and how they ended, what each has
+-- submitted, the records of Unflushed in its order, each with its ticket, and how many submissions there were
 pub record Sheet : Type 0 where
+  pub form : Form
   pub prerequisites : Prerequisites
   pub names : List (List ℕ)
   pub standing : Standing
@@ -83,14 +85,15 @@ is_kept (records.Done target commands hidden explicit) = false
 is_kept (records.Failed target status) = false
 is_kept (records.Kept target entry) = true
 
--- the record can be written: it is good in the newest version of the state file, and none that was kept
-pub record IsWritable (note : Record) : Type 0 where
-  pub good : IsGood Two note
+-- the record can be written where records of this form are: it is good in it, so a done one has marks just where the form has
+-- them, and none that was kept
+pub record IsWritableIn (form : Form) (note : Record) : Type 0 where
+  pub good : IsGoodIn form note
   pub fresh : is_kept note ≡ false
 
 -- so are all of these, each with its ticket
-abbrev pub AreWritable : List (ℕ × Record) → Type 0
-AreWritable notes = AllByRecursion (λ n. IsWritable n.1) notes
+abbrev pub AreWritableIn : Form → List (ℕ × Record) → Type 0
+AreWritableIn form notes = AllByRecursion (λ n. IsWritableIn form n.1) notes
 
 -- the ticket of the last record of a node that has submitted so much
 abbrev pub last_ticket : Sent → Option ℕ
@@ -107,8 +110,9 @@ AreOf names past (n ∷ nodes) (note ∷ notes) =
     (last_ticket (slice_index_or past n sent.Nothing) ≡ Some note.0) × (target_of note.1 ≡ slice_index_or names n []) × AreOf names past nodes notes
 
 -- the board of a graph at first: nobody has submitted anything
-abbrev pub first_sheet : Prerequisites → (names : List (List ℕ)) → Sheet
-first_sheet g names = record {
+abbrev pub first_sheet_in : Form → Prerequisites → (names : List (List ℕ)) → Sheet
+first_sheet_in form g names = record {
+  form = form;
   prerequisites = g;
   names = names;
   standing = first_standing g;
@@ -121,3 +125,14 @@ first_sheet g names = record {
 pub record SettlesOn (b : Sheet) (n : ℕ) (end : End) (c : Sheet) : Type 0 where
   pub rest : c ≡ record b { standing = c.standing }
   pub settles : Settles b.prerequisites n end b.standing c.standing
+
+-- ---- where records are written as in version 2
+
+abbrev pub IsWritable : Record → Type 0
+IsWritable = IsWritableIn Plain
+
+abbrev pub AreWritable : List (ℕ × Record) → Type 0
+AreWritable = AreWritableIn Plain
+
+abbrev pub first_sheet : Prerequisites → (names : List (List ℕ)) → Sheet
+first_sheet = first_sheet_in Plain

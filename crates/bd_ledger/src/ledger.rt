@@ -7,7 +7,7 @@ ghost use Rattle.bd_ledger.specs.declared.sent.Sent.TheVariants as sent;
 ghost use Rattle.bd_links.specs.declared.stand.Stand.TheVariants.{Running};
 ghost use Rattle.bd_places.specs.Placed.{waits_in, is_open, IsOpen};
 ghost use Rattle.bd_places.specs.Settling.{end_of, is_free, IsStanding};
-ghost use Rattle.bd_ledger.specs.Sheet.{first_sheet, nodes_on, name_of, AreDistinct, sent_by, relisted, drained, sent_with, sent_count, submits, IsWritable, AreWritable, AreOf, SettlesOn};
+ghost use Rattle.bd_ledger.specs.Sheet.{first_sheet_in, nodes_on, name_of, AreDistinct, sent_by, relisted, drained, sent_with, sent_count, submits, IsWritableIn, AreWritableIn, AreOf, SettlesOn};
 ghost use Rattle.bd_links.specs.SixLists.{code, list_in, StandsIn};
 
 use crate::{Sent, Ticket};
@@ -15,12 +15,13 @@ use bd_links::{Node, Stand};
 use bd_places::{End, Places};
 use byte_strings::ByteString;
 use mk_graph::Edges;
-use st_records::Record;
+use st_records::{Form, Record};
 use std::alloc::{AllocError, Global};
 use std::marker::Model;
 
 /// A board without the type of its receipts. No call takes memory.
 pub struct Ledger {
+    form: Form,
     places: Places,
     names: Vec<ByteString>,
     sent: Vec<Sent>,
@@ -44,6 +45,7 @@ impl Model for Ledger {
 impl Drop for Ledger {
     fn drop(self) {
         let Ledger {
+            form: _,
             places: _,
             names: _,
             sent: _,
@@ -105,9 +107,10 @@ fn hand_over(notes: &mut Vec<(Ticket, Record)>, records: &mut Vec<(Ticket, Recor
 }
 
 impl Ledger {
-    /// The nodes that wait for nothing in Ready, the others in Waiting.
+    /// The nodes that wait for nothing in Ready, the others in Waiting. Records of this form are submitted.
     pub fn new(
         alloc: Global,
+        form: Form,
         counted: Edges,
         hard: Edges,
         names: Vec<ByteString>,
@@ -117,16 +120,24 @@ impl Ledger {
         requires distinct { AreDistinct names.items }
         requires once { (u n : ℕ) → times n (row counted u) ≤ 1 }
         requires room { length counted + length counted + 6 ≤ usize.MAX }
-        ensures { IfOk result (λ l. l ≡ first_sheet (record { counted = counted; hard = hard }) names.items) }
+        ensures { IfOk result (λ l. l ≡ first_sheet_in form (record { counted = counted; hard = hard }) names.items) }
     {
         let nodes = counted.len();
         Ok(Ledger {
+            form,
             places: Places::new(alloc, counted, hard)?,
             names,
             sent: nothing_sent(alloc, nodes)?,
             notes: Vec::with_capacity(alloc, nodes)?,
             submitted: 0,
         })
+    }
+
+    /// The form of the records that are submitted.
+    pub fn form(&self) -> Form
+        ensures { result ≡ self.now.form }
+    {
+        self.form
     }
 
     /// The list of a node, if there is such a node.
@@ -216,11 +227,11 @@ impl Ledger {
         self.places.put(node, Stand::Running);
     }
 
-    /// A node of Running submits a record: a 'begun' first, then an end.
+    /// A node of Running submits a record of the ledger's form: a 'begun' first, then an end.
     pub fn submit(&mut self, node: Node, note: Record) -> Ticket
         requires runs { has self.old.standing.lists.running node ≡ true }
         requires own { target_of note ≡ name_of self.old node }
-        requires writable { IsWritable note }
+        requires writable { IsWritableIn self.old.form note }
         requires turn { sent_count (sent_with note self.old.submitted) ≡ sent_count (sent_by self.old node) + 1 }
         ensures ticket { result ≡ self.old.submitted }
         ensures submits { self.new ≡ submits node note self.old }
@@ -240,7 +251,7 @@ impl Ledger {
         ensures records { records.new.items ≡ records.old.items ++ self.old.notes }
         ensures capacity { vec_capacity records.new ≡ vec_capacity records.old }
         ensures own { AreOf self.old.names self.old.sent self.old.standing.lists.unflushed self.old.notes }
-        ensures writable { AreWritable self.old.notes }
+        ensures writable { AreWritableIn self.old.form self.old.notes }
     {
         if self.notes.is_empty() {
             return;

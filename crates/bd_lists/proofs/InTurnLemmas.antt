@@ -5,12 +5,13 @@ use Rattle.std.proofs.lemmas.List.{length-replicate, get_or-replicate}
 use Rattle.st_records.specs.declared.record.Record.{Record}
 use Rattle.st_records.specs.declared.record.Record.TheVariants as records
 use Rattle.st_records.specs.Parts.{target_of}
+use Rattle.st_records.specs.declared.version.Form.{Form}
 use Rattle.bd_ledger.specs.declared.sent.Sent.{Sent}
 use Rattle.bd_ledger.specs.declared.sent.Sent.TheVariants as sent
 use Rattle.bd_ledger.specs.Sheet.{Sheet, nodes_on, name_of, sent_by, AreDistinct, sent_with}
 use Rattle.bd_lists.specs.Admission.{Run, MaySend}
 use Rattle.bd_lists.specs.Board.{IsTaken}
-use Rattle.bd_lists.specs.InTurn.{HasTaken, none_yet, one_more, no_more, LackTarget, HaveOnlyBegun, IsInTurn}
+use Rattle.bd_lists.specs.InTurn.{HasTakenIn, none_yet, one_more, no_more, LackTarget, HaveOnlyBegun, IsInTurn}
 
 -- ---- places in a list that has one more at its end
 
@@ -171,14 +172,14 @@ module _ (nodes : ℕ) (names : List (List ℕ)) (past : List Sent) (submitted :
   }
 
 -- so it is of each board
-are_taken : (now : Sheet) (notes : List Record) → HasTaken now notes → AreTaken (nodes_on now) now.names now.sent now.submitted notes
-are_taken now notes (none_yet g names long distinct e) =
+are_taken : (form : Form) (now : Sheet) (notes : List Record) → HasTakenIn form now notes → AreTaken (nodes_on now) now.names now.sent now.submitted notes
+are_taken form now notes (none_yet g names long distinct e) =
     subst (λ (b : Sheet). AreTaken (nodes_on b) b.names b.sent b.submitted []) (sym e) (none_taken (length g.counted) names long distinct)
-are_taken now notes (one_more {before = before} {now = after} {notes = earlier} n note run taken is e) =
+are_taken form now notes (one_more {before = before} {now = after} {notes = earlier} n note run taken is e) =
     subst (λ (b : Sheet). AreTaken (nodes_on b) b.names b.sent b.submitted (earlier ++ note ∷ [])) (sym e)
-    (one_more_taken (nodes_on before) before.names before.sent before.submitted earlier (are_taken before earlier taken) n is.within note run is.own is.kind)
-are_taken now notes (no_more {before = before} {now = after} {notes = same} taken e) =
-    subst (λ (b : Sheet). AreTaken (nodes_on b) b.names b.sent b.submitted same) (sym e) (are_taken before same taken)
+    (one_more_taken (nodes_on before) before.names before.sent before.submitted earlier (are_taken form before earlier taken) n is.within note run is.own is.kind)
+are_taken form now notes (no_more {before = before} {now = after} {notes = same} taken e) =
+    subst (λ (b : Sheet). AreTaken (nodes_on b) b.names b.sent b.submitted same) (sym e) (are_taken form before same taken)
 
 -- ---- a record in its turn
 
@@ -201,12 +202,12 @@ module _ (nodes : ℕ) (names : List (List ℕ)) (past : List Sent) (submitted :
     only = λ place x at same. subst (λ (s : Sent). MayStand s place) begun (own_stands place x at (same ∙ own));
   }
 
-pub in_turn : (b : Sheet) (notes : List Record) (n : ℕ) (note : Record) (run : Option Run) → HasTaken b notes → IsTaken b n note run
+pub in_turn : (form : Form) (b : Sheet) (notes : List Record) (n : ℕ) (note : Record) (run : Option Run) → HasTakenIn form b notes → IsTaken b n note run
     → IsInTurn notes note run
-in_turn b notes n note run taken is = by note run is.own is.kind
+in_turn form b notes n note run taken is = by note run is.own is.kind
   where
     are : AreTaken (nodes_on b) b.names b.sent b.submitted notes
-    are = are_taken b notes taken
+    are = are_taken form b notes taken
 
     by : (x : Record) (with_run : Option Run) → target_of x ≡ name_of b n → MaySend (sent_by b n) x with_run → IsInTurn notes x with_run
     by (records.Begun target) with_run own may = begun_in_turn (nodes_on b) b.names b.sent b.submitted notes are n is.within target own may.0

@@ -4,6 +4,7 @@ use Rattle.mk_graph.specs.Edges.{has}
 use Rattle.st_records.specs.declared.record.Record.{Record}
 use Rattle.st_records.specs.declared.record.Record.TheVariants as records
 use Rattle.st_records.specs.Parts.{target_of}
+use Rattle.st_records.specs.declared.version.Form.{Form}
 use Rattle.bd_lists.specs.declared.board.Advanced.{Advanced}
 use Rattle.bd_lists.specs.declared.board.Advanced.TheVariants as advanced
 use Rattle.bd_lists.specs.declared.board.clearance.Spent.{Spent}
@@ -20,6 +21,10 @@ pub record IsTaken (b : Sheet) (n : ℕ) (note : Record) (run : Option Run) : Ty
   pub runs : has b.standing.lists.running n ≡ true
   pub own : target_of note ≡ name_of b n
   pub kind : MaySend (sent_by b n) note run
+
+-- and the record's form is that in which the board's are written
+abbrev pub IsTakenIn : Form → Sheet → ℕ → Record → Option Run → Type 0
+IsTakenIn form b n note run = (b.form ≡ form) × IsTaken b n note run
 
 -- what a submission hands out: the receipt of the run that came with it
 abbrev pub handed_out : {T : Type 0} → Option (Spent T) → Option T

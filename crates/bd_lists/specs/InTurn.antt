@@ -3,20 +3,22 @@ use Rattle.std.specs.Prelude.{◌≡◌, ℕ, List, [], ◌∷◌, ◌++◌, len
 use Rattle.st_records.specs.declared.record.Record.{Record}
 use Rattle.st_records.specs.declared.record.Record.TheVariants as records
 use Rattle.st_records.specs.Parts.{target_of}
+use Rattle.st_records.specs.declared.version.Form.{Form}
+use Rattle.st_records.specs.declared.version.Form.TheVariants.{Plain}
 use Rattle.bd_places.specs.Settling.{Prerequisites}
-use Rattle.bd_ledger.specs.Sheet.{Sheet, AreDistinct, first_sheet, submits}
+use Rattle.bd_ledger.specs.Sheet.{Sheet, AreDistinct, first_sheet_in, submits}
 use Rattle.bd_lists.specs.Admission.{Run}
 use Rattle.bd_lists.specs.Board.{IsTaken}
 
--- from a new board, of nodes with distinct names, calls have led to this one, and it has taken these records; a call that takes none
--- changes only where nodes stand and which records wait to be drained
-pub data HasTaken : (now : Sheet) → List Record → Type 0 where
+-- from a new board of records of this form, of nodes with distinct names, calls have led to this one, and it has taken these records;
+-- a call that takes none changes only where nodes stand and which records wait to be drained
+pub data HasTakenIn (form : Form) : (now : Sheet) → List Record → Type 0 where
   none_yet : {now : Sheet} (g : Prerequisites) (names : List (List ℕ)) → length names ≡ length g.counted → AreDistinct names
-      → now ≡ first_sheet g names → HasTaken now []
-  one_more : {before now : Sheet} {notes : List Record} (n : ℕ) (note : Record) (run : Option Run) → HasTaken before notes
-      → IsTaken before n note run → now ≡ submits n note before → HasTaken now (notes ++ note ∷ [])
-  no_more : {before now : Sheet} {notes : List Record} → HasTaken before notes
-      → now ≡ record before { standing = now.standing; notes = now.notes } → HasTaken now notes
+      → now ≡ first_sheet_in form g names → HasTakenIn form now []
+  one_more : {before now : Sheet} {notes : List Record} (n : ℕ) (note : Record) (run : Option Run) → HasTakenIn form before notes
+      → IsTaken before n note run → now ≡ submits n note before → HasTakenIn form now (notes ++ note ∷ [])
+  no_more : {before now : Sheet} {notes : List Record} → HasTakenIn form before notes
+      → now ≡ record before { standing = now.standing; notes = now.notes } → HasTakenIn form now notes
 
 -- none of the records is of the target
 abbrev pub LackTarget : List Record → (target : List ℕ) → Type 0
@@ -41,7 +43,15 @@ IsInTurn notes (records.Failed target status) run = HaveOnlyBegunOf notes target
 IsInTurn notes (records.Kept target entry) run = ⊥
 
 -- a board takes each record in its turn, whichever nodes submit: what one node's recipe came to never counts for another's
-abbrev pub EachInTurn : Type 0
-EachInTurn =
-    (b : Sheet) (notes : List Record) (n : ℕ) (note : Record) (run : Option Run) → HasTaken b notes → IsTaken b n note run
+abbrev pub EachInTurnIn : Form → Type 0
+EachInTurnIn form =
+    (b : Sheet) (notes : List Record) (n : ℕ) (note : Record) (run : Option Run) → HasTakenIn form b notes → IsTaken b n note run
     → IsInTurn notes note run
+
+-- ---- where records are written as in version 2
+
+abbrev pub HasTaken : (now : Sheet) → List Record → Type 0
+HasTaken = HasTakenIn Plain
+
+abbrev pub EachInTurn : Type 0
+EachInTurn = EachInTurnIn Plain

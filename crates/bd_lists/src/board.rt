@@ -1,17 +1,16 @@
-//! The board, and what it hands out.
+//! A board of records of some form, and what boards hand out.
 
 ghost use Rattle.std.specs.Prelude.{◌≡◌, ◌↔◌, ℕ, ◌+◌, ◌<◌, ◌≤◌, ◌++◌, true, false, IsTrue, MatchOption, IfOk, IfSome, IfErr, length, slice_get, vec_len, vec_capacity};
 ghost use Rattle.st_records.specs.declared.record.Record.{Record};
-ghost use Rattle.st_records.specs.Limits.{IsGood};
-ghost use Rattle.st_records.specs.declared.version.Version.TheVariants.{Two};
+ghost use Rattle.st_records.specs.Limits.{IsGoodIn};
 ghost use Rattle.mk_graph.specs.Edges.{row, times};
 ghost use Rattle.bd_places.specs.declared.end.End.TheVariants.{Abandoned};
 ghost use Rattle.bd_links.specs.declared.stand.Stand.TheVariants.{Running};
 ghost use Rattle.bd_lists.specs.Admission.{run_of};
-ghost use Rattle.bd_lists.specs.Board.{IsTaken, CanAdvance, Advances, IsUntouched, handed_out, end_noted};
+ghost use Rattle.bd_lists.specs.Board.{IsTaken, IsTakenIn, CanAdvance, Advances, IsUntouched, handed_out, end_noted};
 ghost use Rattle.bd_places.specs.Placed.{waits_in, IsOpen};
 ghost use Rattle.bd_places.specs.Settling.{end_of, is_free, IsStanding};
-ghost use Rattle.bd_ledger.specs.Sheet.{first_sheet, nodes_on, AreDistinct, relisted, drained, submits, is_kept, is_quiet, last_ticket, AreWritable, AreOf, SettlesOn};
+ghost use Rattle.bd_ledger.specs.Sheet.{first_sheet_in, nodes_on, AreDistinct, relisted, drained, submits, is_kept, is_quiet, last_ticket, AreWritableIn, AreOf, SettlesOn};
 ghost use Rattle.bd_links.specs.SixLists.{StandsIn};
 
 mod admission;
@@ -25,17 +24,17 @@ use bd_places::End;
 use byte_strings::ByteString;
 pub use clearance::{Clearance, Spent};
 use mk_graph::Edges;
-use st_records::Record;
+use st_records::{Form, Record};
 use std::alloc::{AllocError, Global};
 use std::marker::{Model, PhantomData};
 
-/// Where the nodes of a graph stand. T is the receipts' type. No call takes memory.
-pub struct Board<T> {
+/// A `Board` whose nodes submit records of this form.
+pub struct BoardIn<T> {
     ledger: Ledger,
     receipts: PhantomData<T>,
 }
 
-impl<T> Model for Board<T> {
+impl<T> Model for BoardIn<T> {
     ghost use Rattle.bd_ledger.specs.Sheet.{Sheet};
 
     ghost Value = { Sheet };
@@ -43,9 +42,9 @@ impl<T> Model for Board<T> {
     ghost view = { λ b. b.ledger };
 }
 
-impl<T> Drop for Board<T> {
+impl<T> Drop for BoardIn<T> {
     fn drop(self) {
-        let Board {
+        let BoardIn {
             ledger: _,
             receipts: _,
         } = self;
@@ -103,29 +102,36 @@ fn hand_out<T>(run: Option<Spent<T>>) -> Option<T>
     }
 }
 
-impl<T: Told> Board<T> {
-    /// The board of nodes with these names, no two of them alike, and these prerequisites: those that they wait for, each once,
-    /// and those without which they can't be made. Nodes that wait for nothing are in Ready, the others in Waiting.
+impl<T: Told> BoardIn<T> {
+    /// As `Board::of`, for records of a form.
     pub fn of(
         alloc: Global,
+        form: Form,
         counted: Edges,
         hard: Edges,
         names: Vec<ByteString>,
-    ) -> Result<Board<T>, AllocError>
+    ) -> Result<BoardIn<T>, AllocError>
         requires nodes { length hard ≡ length counted }
         requires names { length names.items ≡ length counted }
         requires distinct { AreDistinct names.items }
         requires once { (u n : ℕ) → times n (row counted u) ≤ 1 }
         requires room { length counted + length counted + 6 ≤ usize.MAX }
-        ensures { IfOk result (λ b. b ≡ first_sheet (record { counted = counted; hard = hard }) names.items) }
+        ensures { IfOk result (λ b. b ≡ first_sheet_in form (record { counted = counted; hard = hard }) names.items) }
     {
-        Ok(Board {
-            ledger: Ledger::new(alloc, counted, hard, names)?,
+        Ok(BoardIn {
+            ledger: Ledger::new(alloc, form, counted, hard, names)?,
             receipts: PhantomData,
         })
     }
 
-    /// The front of Ready goes to the end of Running.
+    /// The form of the records that nodes submit.
+    pub fn form(&self) -> Form
+        ensures { result ≡ self.now.form }
+    {
+        self.ledger.form()
+    }
+
+    /// As `Board::claim`.
     pub fn claim(&mut self) -> Option<Node>
         ensures first { result ≡ slice_get self.old.standing.lists.ready 0 }
         ensures moved { MatchOption result (self.new ≡ self.old) (λ n. self.new ≡ relisted n Running self.old) }
@@ -143,29 +149,28 @@ impl<T: Told> Board<T> {
             && may_send(self.ledger.sent(node), note, run)
     }
 
-    /// A node of Running submits a record, and goes to the end of Unflushed. A 'begun' comes first and with no run; an end
-    /// with the run of the node's 'begun', whose receipt is handed out; a 'done' where that run came to its end, with the
-    /// commands that were run. What isn't taken comes back, and nothing changes.
+    /// As `Board::submit`, of a record of a form: a board of another form takes none.
     pub fn submit(
         &mut self,
+        form: Form,
         node: Node,
         note: Record,
         run: Option<Spent<T>>,
     ) -> Result<(Ticket, Option<T>), (Record, Option<Spent<T>>)>
-        requires { IsGood Two note }
-        ensures ok { IfOk result (λ r. IsTaken self.old node note (run_of T.ticket_of run)
+        requires { IsGoodIn form note }
+        ensures ok { IfOk result (λ r. IsTakenIn form self.old node note (run_of T.ticket_of run)
             × (r.0 ≡ self.old.submitted) × (r.1 ≡ handed_out run) × (self.new ≡ submits node note self.old)) }
-        ensures err { IfErr result (λ r. (IsTaken self.old node note (run_of T.ticket_of run) → ⊥)
+        ensures err { IfErr result (λ r. (IsTakenIn form self.old node note (run_of T.ticket_of run) → ⊥)
             × (r.0 ≡ note) × (r.1 ≡ run) × (self.new ≡ self.old)) }
     {
-        if !self.takes(node, &note, &run) {
+        if self.form() != form || !self.takes(node, &note, &run) {
             return Err((note, run));
         }
         let ticket = self.ledger.submit(node, note);
         Ok((ticket, hand_out(run)))
     }
 
-    /// The list of a node, if there is such a node.
+    /// As `Board::stand`.
     pub fn stand(&self, node: Node) -> Option<Stand>
         ensures stand { MatchOption result (nodes_on self.now ≤ node) (λ s. (node < nodes_on self.now) × StandsIn self.now.standing.lists node s) }
         ensures standing { IsStanding self.now.prerequisites (nodes_on self.now) self.now.standing }
@@ -174,21 +179,21 @@ impl<T: Told> Board<T> {
         self.ledger.stand(node)
     }
 
-    /// How a node ended, if it has.
+    /// As `Board::end`.
     pub fn end(&self, node: Node) -> Option<End>
         ensures { result ≡ end_of self.now.standing node }
     {
         self.ledger.end(node)
     }
 
-    /// Whether Waiting or Ready holds a node.
+    /// As `Board::waits`.
     pub fn waits(&self) -> bool
         ensures { result ≡ waits_in self.now.standing.lists }
     {
         self.ledger.waits()
     }
 
-    /// How many nodes Unflushed holds.
+    /// As `Board::unflushed`.
     pub fn unflushed(&self) -> usize
         ensures nodes { result ≡ length self.now.standing.lists.unflushed }
         ensures notes { result ≡ length self.now.notes }
@@ -196,15 +201,14 @@ impl<T: Told> Board<T> {
         self.ledger.unflushed()
     }
 
-    /// All of Unflushed goes to the end of Flushing, and its records to the vector, each with its ticket. The vector
-    /// doesn't grow.
+    /// As `Board::drain`.
     pub fn drain(&mut self, records: &mut Vec<(Ticket, Record)>)
         requires { vec_len records.old + length self.old.standing.lists.unflushed ≤ vec_capacity records.old }
         ensures drained { self.new ≡ drained self.old }
         ensures records { records.new.items ≡ records.old.items ++ self.old.notes }
         ensures capacity { vec_capacity records.new ≡ vec_capacity records.old }
         ensures own { AreOf self.old.names self.old.sent self.old.standing.lists.unflushed self.old.notes }
-        ensures writable { AreWritable self.old.notes }
+        ensures writable { AreWritableIn self.old.form self.old.notes }
     {
         self.ledger.drain(records);
     }
@@ -218,8 +222,7 @@ impl<T: Told> Board<T> {
             && !is_kept(told.noted())
     }
 
-    /// The record of a node of Flushing was written, as its receipt tells. Its recipe may be run then, or it settles. Another
-    /// receipt comes back, and nothing changes.
+    /// As `Board::advance`.
     pub fn advance(&mut self, node: Node, told: T) -> Result<Advanced<T>, T>
         ensures ok { IfOk result (λ a. CanAdvance self.old node (T.ticket_of told) (T.noted_of told)
             × Advances self.old node told (end_noted (T.noted_of told)) a self.new) }
@@ -249,7 +252,7 @@ impl<T: Told> Board<T> {
             && is_quiet(end)
     }
 
-    /// A node of Running that has submitted nothing settles, where nothing had to be done.
+    /// As `Board::settle`.
     pub fn settle(&mut self, node: Node, end: End) -> bool
         ensures yes { IsTrue result → IsUntouched self.old node end × SettlesOn self.old node end self.new }
         ensures no { result ≡ false → (IsUntouched self.old node end → ⊥) × (self.new ≡ self.old) }
@@ -261,7 +264,7 @@ impl<T: Told> Board<T> {
         true
     }
 
-    /// A node of Waiting, Ready, Running or Flushing settles as abandoned.
+    /// As `Board::abandon`.
     pub fn abandon(&mut self, node: Node) -> bool
         ensures yes { IsTrue result → IsOpen self.old.standing.lists node × SettlesOn self.old node Abandoned self.new }
         ensures no { result ≡ false → (IsOpen self.old.standing.lists node → ⊥) × (self.new ≡ self.old) }

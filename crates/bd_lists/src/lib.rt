@@ -5,11 +5,13 @@
 mod board;
 mod exec;
 mod laws;
+mod plain_board;
 mod recipe;
 mod told;
 
-pub use board::{Advanced, Board, Clearance, Spent};
+pub use board::{Advanced, BoardIn, Clearance, Spent};
 pub use exec::{Ended, Exec, ExecFault};
-pub use laws::each_in_turn;
+pub use laws::{each_in_turn, each_in_turn_in};
+pub use plain_board::Board;
 pub use recipe::{Recipe, Variable};
 pub use told::Told;

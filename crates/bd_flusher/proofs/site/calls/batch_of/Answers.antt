@@ -2,7 +2,7 @@ use Rattle.std.proofs.Common.{ℕ, ◌<◌, ◌≤◌, leb, leb-true, leb-false,
 use Rattle.std.proofs.lemmas.Bool.{cases_lt}
 use Rattle.std.proofs.lemmas.List.Sorted.{IsPartitionPoint-from_clause, IsPartitionedBy-leb}
 use Rattle.bd_flusher.proofs.BatchLemmas.{placed, none_over, nondecreasing}
-use Rattle.bd_flusher.proofs.site.batch_of.Goals as goal
+use Rattle.bd_flusher.proofs.site.calls.batch_of.Goals as goal
 
 pub returns : goal.returns
 returns c =

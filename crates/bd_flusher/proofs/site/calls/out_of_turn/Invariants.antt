@@ -1,6 +1,6 @@
 use Rattle.std.proofs.Common.{◌≡◌, ◌+◌, take}
 use Rattle.bd_flusher.specs.Turns.{AreInTurn}
-use Rattle.bd_flusher.proofs.site.out_of_turn.Given as goal
+use Rattle.bd_flusher.proofs.site.calls.out_of_turn.Given as goal
 
 -- those so far are in turn, and the next one's turn is known
 abbrev pub invariant-loop-ticket : goal.invariant-loop-ticket

@@ -1,7 +1,7 @@
 use Rattle.std.proofs.Common.{◌≡◌, Some, slice_get, refl, ◌∙◌, arith, rules}
 use Rattle.std.proofs.lemmas.Option.{slice_get_read}
 use Rattle.bd_flusher.proofs.TurnLemmas.{one_more_in_turn, all_in_turn}
-use Rattle.bd_flusher.proofs.site.out_of_turn.Goals as goal
+use Rattle.bd_flusher.proofs.site.calls.out_of_turn.Goals as goal
 
 pub loop-ticket-preserved : goal.loop-ticket-preserved
 loop-ticket-preserved c =
