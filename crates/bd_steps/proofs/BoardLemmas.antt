@@ -1,5 +1,5 @@
 -- A board's calls, and what is done with its clearances, are steps.
-use Rattle.std.proofs.Common.{◌≡◌, ◌≢◌, ◌⊎◌, ℕ, zero, suc, ◌+◌, ◌<◌, ◌≤◌, Bool, true, false, ◌||◌, List, [], ◌∷◌, ◌++◌, length, get_or, take, drop, map, replicate, Option, Some, None, slice_get, slice_index_or, Contains, refl, sym, ap, subst, ◌∙◌, inl, inr, ⊎_elim, arith, length-append, length-set, length-drop, get_or-set_same, get_or-set_other}
+use Rattle.std.proofs.Common.{◌≡◌, ◌≢◌, ◌⊎◌, ℕ, zero, suc, ◌+◌, ◌<◌, ◌≤◌, Bool, true, false, ◌||◌, List, [], ◌∷◌, ◌++◌, length, get_or, drop, map, replicate, Option, Some, None, slice_get, slice_index_or, Contains, refl, sym, ap, subst, ◌∙◌, inl, inr, ⊎_elim, arith, length-append, length-set, length-drop, get_or-set_same, get_or-set_other}
 use Rattle.std.proofs.lemmas.Bool.{cases_eq}
 use Rattle.std.proofs.lemmas.List.{length-replicate, map-append}
 use Rattle.std.proofs.lemmas.Option.{slice_get_within}
@@ -7,32 +7,29 @@ use Rattle.mk_graph.specs.Edges.{has}
 use Rattle.mk_graph.proofs.WaitLemmas.{has-append}
 use Rattle.st_disk.specs.declared.which.Which.{Which}
 use Rattle.st_disk.specs.Moments.{Moments}
+use Rattle.st_records.specs.declared.version.Form.{Form}
 use Rattle.st_records.specs.declared.record.Record.{Record}
 use Rattle.st_records.specs.declared.record.Record.TheVariants as records
 use Rattle.st_records.specs.Parts.{target_of}
 use Rattle.bd_links.specs.declared.stand.Stand.TheVariants.{Running, Unflushed, Flushing}
-use Rattle.bd_links.specs.SixLists.{SixLists, list_in, moved}
 use Rattle.bd_places.specs.declared.end.End.{End}
-use Rattle.bd_places.specs.declared.end.End.TheVariants as end
 use Rattle.bd_places.specs.Settling.{Standing, IsStanding}
 use Rattle.bd_places.proofs.StandingLemmas.{below_from_has, has-moved_other}
 use Rattle.bd_ledger.specs.declared.sent.Sent.{Sent}
 use Rattle.bd_ledger.specs.declared.sent.Sent.TheVariants as sent
-use Rattle.bd_ledger.specs.Sheet.{Sheet, nodes_on, name_of, sent_by, sent_with, last_ticket, is_kept, relisted, drained, submits, SettlesOn}
+use Rattle.bd_ledger.specs.Sheet.{Sheet, nodes_on, name_of, sent_by, sent_with, last_ticket, is_kept, relisted, submits}
 use Rattle.bd_lists.specs.declared.board.Advanced.{Advanced}
 use Rattle.bd_lists.specs.Admission.{Run, MaySend}
 use Rattle.bd_lists.specs.Board.{CanAdvance, Advances, end_noted}
 use Rattle.bd_flusher.specs.declared.site.receipt.Receipt.{Receipt}
 use Rattle.bd_flusher.specs.Batches.{StandsAt}
 use Rattle.bd_flusher.specs.Turns.{AreInTurn}
-use Rattle.bd_flusher.specs.Site.{Facts}
 use Rattle.bd_flusher.proofs.ListLemmas.{none_is, some_is, at-push, at-push_last, at-push_cases, contains_first, contains_more}
 use Rattle.bd_steps.specs.Kind.{kind_of}
 use Rattle.bd_steps.specs.Kind as kinds
 use Rattle.bd_steps.specs.World.{World}
 use Rattle.bd_steps.specs.Event.{Event, submit, drain, compaction_call, commit_call, commit_end, look, advance, start, finish, something_else, power_cut, IsSilentFrom, HasEnded, MayCome, MayHappen, after}
-use Rattle.bd_steps.specs.Steps.{IsLeftBy}
-use Rattle.bd_steps.specs.Boards.{IsSent, IsPending, IsBoardBy, IsBoardOf, NewBoardIsOpened, HasEndedRun, SubmitsAreSteps, DrainsAreSteps, IsOut, IsAdvance, AdvancesAreSteps, ClaimsAreNoSteps, SettlingsAreNoSteps, IsBesideBoard, StepsKeepBoards, IsSpending, RecipesAreSteps, EndsAreSteps, IsOfRecipe, ClearancesStay}
+use Rattle.bd_steps.specs.Boards.{IsSent, IsPending, IsBoardBy, IsBoardOf, NewBoardIsOpenedIn, HasEndedRun, SubmitsAreSteps, DrainsAreStepsIn, IsOut, IsAdvance, AdvancesAreSteps, ClaimsAreNoSteps, SettlingsAreNoSteps, IsBesideBoard, StepsKeepBoards, RecipesAreSteps, EndsAreSteps, IsOfRecipe, ClearancesStay}
 use Rattle.bd_steps.proofs.RunLemmas.{takes_are_steps}
 use Rattle.bd_steps.proofs.MoveLemmas.{moved_under_way, moved_is_not, settles_under_way}
 
@@ -151,6 +148,7 @@ behind_submit b w n note run is lt own may =
     let next : b.submitted ≡ w.taken + length (map (λ (x : ℕ × Record). x.0) b.notes) =
     omega (arith, is.count, is.fewer, map_long (λ (x : ℕ × Record). x.0) b.notes, map_long (λ (x : ℕ × Record). x.1) b.notes, ap length is.waiting, length-drop w.taken w.submitted) in
     record {
+      own_form = is.own_form;
       own_names = is.own_names;
       each_node = length-set b.sent n (sent_with note b.submitted) ∙ is.each_node;
       count = omega (arith, is.count, length-append w.submitted (note ∷ []));
@@ -187,8 +185,9 @@ submits_are_steps = λ b w n note run is standing taken good over.
       behind_submit b w n note run is lt taken.own taken.kind,
     )
 
-pub new_board_is_opened : NewBoardIsOpened
-new_board_is_opened = λ g names opening sides own. record {
+pub new_board_is_opened : (form : Form) → NewBoardIsOpenedIn form
+new_board_is_opened = λ form g names opening sides own. record {
+  own_form = refl;
   own_names = own;
   each_node = length-replicate (length g.counted) sent.Nothing;
   count = refl;
@@ -210,7 +209,7 @@ or_cases false b e = inr e
 no_one : (n : ℕ) → has [] n ≡ true → ⊥
 no_one n e = true_false (sym e)
 
-pub drains_are_steps : {D : Type 0} (T : Type 0) (honest : Type 0) (moments : D → Moments) (seen : D → Which → List ℕ) (count : D → ℕ) → DrainsAreSteps moments
+pub drains_are_steps : {D : Type 0} (T : Type 0) (honest : Type 0) (moments : D → Moments) (seen : D → Which → List ℕ) (count : D → ℕ) → DrainsAreStepsIn moments
 drains_are_steps {D} T honest moments seen count = λ s b w left is none.
     let nothing : length s.held ≡ 0 = ap length none in
     let same : w.taken ≡ w.told = omega (arith, left.count, left.both, nothing) in
@@ -218,6 +217,7 @@ drains_are_steps {D} T honest moments seen count = λ s b w left is none.
       step.0,
       step.1,
       record {
+        own_form = is.own_form;
         own_names = is.own_names;
         each_node = is.each_node;
         count = is.count;
@@ -238,6 +238,7 @@ drains_are_steps {D} T honest moments seen count = λ s b w left is none.
 
 restands : (b : Sheet) (standing : Standing) (w : World) → IsBoardOf b w → ((n : ℕ) → IsPending (record b { standing = standing }) n → IsPending b n) → IsBoardOf (record b { standing = standing }) w
 restands b standing w is same = record {
+  own_form = is.own_form;
   own_names = is.own_names;
   each_node = is.each_node;
   count = is.count;
@@ -279,6 +280,7 @@ behind_advance : (b : Sheet) (w : World) (n : ℕ) (receipt : Receipt) → IsBoa
 behind_advance b w n receipt is lt last =
     let own = stands_for w.submitted (name_of b n) (sent_by b n) receipt.ticket (is.sent n lt) last in
     record {
+      own_form = is.own_form;
       own_names = is.own_names;
       each_node = is.each_node;
       count = is.count;
@@ -321,8 +323,9 @@ pub steps_keep_boards : StepsKeepBoards
 steps_keep_boards = λ b w event is beside may. by b w event is beside may
   where
     used_more : (b : Sheet) (w : World) (started ended : List ℕ) → IsBoardOf b w → ((ticket : ℕ) → Contains started ticket ⊎ Contains ended ticket → Contains w.cleared ticket)
-        → IsBoardBy b w.submitted w.taken w.cleared started ended
+        → IsBoardBy b w.form w.submitted w.taken w.cleared started ended
     used_more b w started ended is known = record {
+      own_form = is.own_form;
       own_names = is.own_names;
       each_node = is.each_node;
       count = is.count;

@@ -79,7 +79,7 @@ done_batch = record { is_open = lit< tt; filled = record { some = omega arith; g
 
 -- ---- small lists
 
-not_empty : (x : ℕ) → Contains [] x → ⊥
+pub not_empty : (x : ℕ) → Contains [] x → ⊥
 not_empty x c = absurd (omega (arith, c.1))
 
 only_one : (x y : ℕ) → Contains (x ∷ []) y → x ≡ y

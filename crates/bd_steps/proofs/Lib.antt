@@ -9,3 +9,4 @@ pub mod BoardLemmas
 pub mod MoveLemmas
 pub mod ExampleLemmas
 pub mod CompactedExample
+pub mod MarkedExample

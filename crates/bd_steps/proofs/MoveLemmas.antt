@@ -1,12 +1,11 @@
 -- No move of a board but a submission puts a node under those whose record is under way.
-use Rattle.std.proofs.Common.{◌≡◌, ◌⊎◌, ℕ, ◌+◌, Bool, true, false, List, [], ◌∷◌, filter, length, refl, sym, subst, ap, ◌∙◌, inl, inr, ⊎_elim}
+use Rattle.std.proofs.Common.{◌≡◌, ◌⊎◌, ℕ, ◌+◌, Bool, true, false, List, [], ◌∷◌, filter, length, refl, sym, ap, ◌∙◌, inl, inr, ⊎_elim}
 use Rattle.std.proofs.lemmas.Bool.{cases_eq}
 use Rattle.mk_graph.specs.Edges.{has}
 use Rattle.bd_links.specs.declared.stand.Stand.{Stand}
 use Rattle.bd_links.specs.declared.stand.Stand.TheVariants.{Ready, Unflushed, Flushing, Settled}
 use Rattle.bd_links.specs.SixLists.{SixLists, list_in, moved, same_stand}
 use Rattle.bd_places.specs.declared.end.End.{End}
-use Rattle.bd_places.specs.declared.end.End.TheVariants.{Abandoned}
 use Rattle.bd_places.specs.Settling.{Prerequisites, Standing, ended, gone_on, all_gone_on, is_doomed, can_go_on, users_of, looked_at, LooksOn, Settles}
 use Rattle.bd_places.proofs.StandingLemmas.{has-moved_other, has-moved_same}
 

@@ -4,21 +4,23 @@ use Rattle.std.specs.List.{AllByRecursion}
 use Rattle.st_disk.specs.declared.which.Which.{Which}
 use Rattle.st_disk.specs.Crash.{Sides}
 use Rattle.st_disk.specs.Moments.{Moments}
+use Rattle.st_records.specs.declared.version.Form.{Form}
 use Rattle.st_records.specs.declared.record.Record.{Record}
 use Rattle.st_records.specs.declared.record.Record.TheVariants as records
+use Rattle.st_records.specs.Limits.{IsGoodIn}
 use Rattle.st_records.specs.Parts.{target_of}
 use Rattle.st_state.specs.State.{StateMap, replay}
-use Rattle.st_recovery.specs.Stored.{AllRecover, AllRecoverEither}
+use Rattle.st_recovery.specs.Stored.{AllRecoverIn, AllRecoverEitherIn}
 use Rattle.bd_flusher.specs.declared.site.receipt.Receipt.{Receipt}
 use Rattle.bd_flusher.specs.Batches.{StandsAt}
 use Rattle.bd_steps.specs.Kind.{Kind, kind_of}
 use Rattle.bd_steps.specs.Kind as kinds
 use Rattle.bd_steps.specs.World.{World, state_after}
 use Rattle.bd_steps.specs.Event.{Event, submit, drain, compaction_call, commit_call, commit_end, look, advance, start, finish, something_else, power_cut, IsSilentFrom, HasEnded, MayCome, MayHappen, after}
-use Rattle.bd_flusher.specs.Site.{Facts}
+use Rattle.bd_flusher.specs.Site.{FactsIn}
 use Rattle.bd_steps.specs.Steps.{IsLeftBy, IsOfFlush}
 use Rattle.bd_steps.specs.Run.{IsRun, after_all}
-use Rattle.bd_steps.specs.Others.{IsOfOthers, IsInOrder, DontHinder, OthersDontHinder, Interleaves, nothing, own, another, InterleavedIsRun, FlushesAmongOthers}
+use Rattle.bd_steps.specs.Others.{IsOfOthers, IsInOrder, DontHinder, OthersDontHinder, Interleaves, nothing, own, another, InterleavedIsRun, FlushesAmongOthersIn}
 use Rattle.bd_flusher.proofs.ListLemmas.{take-front}
 use Rattle.bd_steps.proofs.RunLemmas.{flushes_are_runs}
 
@@ -61,9 +63,9 @@ other_cases P a b c d e (power_cut x y) is = absurd is
 fold_same : (w : World) (note : Record) (n : ℕ) → n ≤ length w.submitted → state_after (after w (submit note)) n ≡ state_after w n
 fold_same w note n there = ap (replay w.opening) (take-front w.submitted (note ∷ []) n there)
 
-either_same : {m n k l : StateMap} (sides : Sides) → m ≡ k → n ≡ l → AllRecoverEither m n sides → AllRecoverEither k l sides
-either_same {m} {n} {k} {l} sides first second all =
-    subst (λ (x : StateMap). AllRecoverEither x l sides) first (subst (λ (x : StateMap). AllRecoverEither m x sides) second all)
+either_same : (form : Form) {m n k l : StateMap} (sides : Sides) → m ≡ k → n ≡ l → AllRecoverEitherIn form m n sides → AllRecoverEitherIn form k l sides
+either_same form {m} {n} {k} {l} sides first second all =
+    subst (λ (x : StateMap). AllRecoverEitherIn form x l sides) first (subst (λ (x : StateMap). AllRecoverEitherIn form m x sides) second all)
 
 ended_same : (w w' : World) → w.submitted ≡ w'.submitted → w.ended ≡ w'.ended → (target : List ℕ) → HasEnded w target → HasEnded w' target
 ended_same w w' notes ended target has = record {
@@ -79,10 +81,10 @@ come_same w w' notes ended kinds.done target may = ended_same w w' notes ended t
 come_same w w' notes ended kinds.failed target may = ended_same w w' notes ended target may
 come_same w w' notes ended kinds.kept target may = may
 
-submit_same : (w w' : World) (note : Record) → w.submitted ≡ w'.submitted → w.ended ≡ w'.ended → MayHappen w (submit note) ↔ MayHappen w' (submit note)
-submit_same w w' note notes ended = (
-  λ may. (may.0, come_same w w' notes ended (kind_of note) (target_of note) may.1),
-  λ may. (may.0, come_same w' w (sym notes) (sym ended) (kind_of note) (target_of note) may.1),
+submit_same : (w w' : World) (note : Record) → w.submitted ≡ w'.submitted → w.ended ≡ w'.ended → w.form ≡ w'.form → MayHappen w (submit note) ↔ MayHappen w' (submit note)
+submit_same w w' note notes ended form = (
+  λ may. (subst (λ (f : Form). IsGoodIn f note) form may.0, come_same w w' notes ended (kind_of note) (target_of note) may.1),
+  λ may. (subst (λ (f : Form). IsGoodIn f note) (sym form) may.0, come_same w' w (sym notes) (sym ended) (kind_of note) (target_of note) may.1),
 )
 
 beside_submit : (w : World) (note : Record) → IsInOrder w → (mine : Event) → IsOfFlush mine → DontHinder w mine (submit note)
@@ -91,18 +93,18 @@ beside_submit w note order =
     let taken : state_after (after w (submit note)) w.taken ≡ state_after w w.taken = fold_same w note w.taken order.taken in
     own_cases (λ mine. DontHinder w mine (submit note))
     (λ sides failed. record {
-      first = (λ may. (may.0, subst (λ (m : StateMap). AllRecover m sides) (sym told) may.1), λ may. (may.0, subst (λ (m : StateMap). AllRecover m sides) told may.1));
-      second = submit_same w (after w (compaction_call sides failed)) note refl refl;
+      first = (λ may. (may.0, subst (λ (m : StateMap). AllRecoverIn w.form m sides) (sym told) may.1), λ may. (may.0, subst (λ (m : StateMap). AllRecoverIn w.form m sides) told may.1));
+      second = submit_same w (after w (compaction_call sides failed)) note refl refl refl;
       same = refl;
     })
     (λ sides failed. record {
-      first = (λ may. (may.0, may.1, either_same sides (sym told) (sym taken) may.2), λ may. (may.0, may.1, either_same sides told taken may.2));
-      second = submit_same w (after w (commit_call sides failed)) note refl refl;
+      first = (λ may. (may.0, may.1, either_same w.form sides (sym told) (sym taken) may.2), λ may. (may.0, may.1, either_same w.form sides told taken may.2));
+      second = submit_same w (after w (commit_call sides failed)) note refl refl refl;
       same = refl;
     })
     (record {
-      first = (λ may. (may.0, may.1, subst (λ (m : StateMap). AllRecover m w.sides) (sym taken) may.2), λ may. (may.0, may.1, subst (λ (m : StateMap). AllRecover m w.sides) taken may.2));
-      second = submit_same w (after w commit_end) note refl refl;
+      first = (λ may. (may.0, may.1, subst (λ (m : StateMap). AllRecoverIn w.form m w.sides) (sym taken) may.2), λ may. (may.0, may.1, subst (λ (m : StateMap). AllRecoverIn w.form m w.sides) taken may.2));
+      second = submit_same w (after w commit_end) note refl refl refl;
       same = refl;
     })
 
@@ -218,16 +220,17 @@ comes_among w order own_are are (another {mine} {others} {all} event is) n =
     )
 
 module _ {D : Type 0} (T : Type 0) (honest : Type 0) (moments : D → Moments) (seen : D → Which → List ℕ) (count : D → ℕ) where
-  in_order : (s : Facts D) (w : World) → IsLeftBy moments s w → IsInOrder w
+  in_order : (s : FactsIn D) (w : World) → IsLeftBy moments s w → IsInOrder w
   in_order s w left =
       let long : length (take w.taken w.submitted) ≡ w.taken = sym (ap length left.taken) ∙ length-append s.told s.held ∙ left.both in
       record { told = omega (arith, left.count, left.both); taken = take_there w.taken w.submitted long }
 
-  left_beside : (s : Facts D) (w : World) → IsLeftBy moments s w → (other : Event) → IsOfOthers other → IsLeftBy moments s (after w other)
+  left_beside : (s : FactsIn D) (w : World) → IsLeftBy moments s w → (other : Event) → IsOfOthers other → IsLeftBy moments s (after w other)
   left_beside s w left = other_cases (λ other. IsLeftBy moments s (after w other))
       (λ note.
       let order = in_order s w left in
       record {
+        form = left.form;
         opening = left.opening;
         told = left.told ∙ sym (take-front w.submitted (note ∷ []) w.told (omega (arith, order.told, order.taken)));
         count = left.count;
@@ -238,16 +241,16 @@ module _ {D : Type 0} (T : Type 0) (honest : Type 0) (moments : D → Moments) (
         sides = left.sides;
         running = left.running;
       })
-      (λ receipt. record { opening = left.opening; told = left.told; count = left.count; taken = left.taken; both = left.both; ends = left.ends; dead = left.dead; sides = left.sides; running = left.running })
-      (λ ticket. record { opening = left.opening; told = left.told; count = left.count; taken = left.taken; both = left.both; ends = left.ends; dead = left.dead; sides = left.sides; running = left.running })
-      (λ ticket. record { opening = left.opening; told = left.told; count = left.count; taken = left.taken; both = left.both; ends = left.ends; dead = left.dead; sides = left.sides; running = left.running })
+      (λ receipt. record { form = left.form; opening = left.opening; told = left.told; count = left.count; taken = left.taken; both = left.both; ends = left.ends; dead = left.dead; sides = left.sides; running = left.running })
+      (λ ticket. record { form = left.form; opening = left.opening; told = left.told; count = left.count; taken = left.taken; both = left.both; ends = left.ends; dead = left.dead; sides = left.sides; running = left.running })
+      (λ ticket. record { form = left.form; opening = left.opening; told = left.told; count = left.count; taken = left.taken; both = left.both; ends = left.ends; dead = left.dead; sides = left.sides; running = left.running })
       left
 
-  left_beside_all : (s : Facts D) (w : World) (others : List Event) → AllByRecursion IsOfOthers others → IsLeftBy moments s w → IsLeftBy moments s (after_all w others)
+  left_beside_all : (s : FactsIn D) (w : World) (others : List Event) → AllByRecursion IsOfOthers others → IsLeftBy moments s w → IsLeftBy moments s (after_all w others)
   left_beside_all s w [] are left = left
   left_beside_all s w (other ∷ others) are left = left_beside_all s (after w other) others are.1 (left_beside s w left other are.0)
 
-  pub flushes_among_others : FlushesAmongOthers T honest moments seen count
+  pub flushes_among_others : FlushesAmongOthersIn T honest moments seen count
   flushes_among_others = λ old new result w is_honest f left.
       let steps = flushes_are_runs T honest moments seen count old new result w is_honest f left in
       let order = in_order old w left in (

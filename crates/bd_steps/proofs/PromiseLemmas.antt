@@ -3,16 +3,17 @@ use Rattle.std.proofs.Common.{◌≡◌, ◌⊎◌, ℕ, ◌<◌, ◌≤◌, Lis
 use Rattle.std.proofs.Math.Logic.{∥∥₁_elim, ∥∥₁_map}
 use Rattle.std.proofs.Props.{props}
 use Rattle.std.specs.FinMap as map
+use Rattle.st_records.specs.declared.version.Form.{Form}
 use Rattle.st_records.specs.declared.record.Record.TheVariants as records
 use Rattle.st_state.specs.State.{StateMap}
-use Rattle.st_recovery.specs.Recovers.{Recovers, recovered}
-use Rattle.st_recovery.proofs.RecoversLemmas.{one_recovery}
+use Rattle.st_recovery.specs.Recovers.{RecoversIn, recovered}
+use Rattle.st_recovery.proofs.RecoversLemmas.{one_recovery_in}
 use Rattle.bd_flusher.specs.declared.site.receipt.Receipt.{Receipt}
 use Rattle.bd_flusher.specs.Batches.{StandsAt, IsInBatch}
 use Rattle.bd_steps.specs.World.{World, state_after}
 use Rattle.bd_steps.specs.OutOfDate.{IsRemadeBy, IsDoneOrRemade, IsCutOff, IsRemadeAtOnce}
 use Rattle.bd_steps.specs.OneBatch.{NamesItsBatch}
-use Rattle.bd_steps.specs.Interleavings.{Survives, KeepsPromise, EveryInterleaving, EachCutOff}
+use Rattle.bd_steps.specs.Interleavings.{Survives, KeepsPromise, EveryInterleavingIn, EachCutOffIn}
 use Rattle.bd_flusher.proofs.ListLemmas.{all_at, if_map}
 use Rattle.bd_flusher.proofs.BatchLemmas.{one_batch}
 use Rattle.bd_steps.proofs.HistoryLemmas.{stands_once, not_over}
@@ -23,8 +24,8 @@ recovered_is : (m n : StateMap) → recovered m ≡ recovered n → m ≡ n
 recovered_is m n e = cc
 
 -- a pair recovers one state
-one_state : (a b : List ℕ) (m n : StateMap) → Recovers a b m → Recovers a b n → m ≡ n
-one_state a b m n is other = recovered_is m n (one_recovery a b (recovered m) (recovered n) is other)
+one_state : (form : Form) (a b : List ℕ) (m n : StateMap) → RecoversIn form a b m → RecoversIn form a b n → m ≡ n
+one_state form a b m n is other = recovered_is m n (one_recovery_in form a b (recovered m) (recovered n) is other)
 
 -- ---- a prefix, and what is out of date by it
 
@@ -41,13 +42,13 @@ done_or_remade w n sound le ticket started =
           (λ k note after below at same. ((λ done. none k note after below at done same), sound.history.none_kept k note at)));
     }
 
-survives : (w : World) (a b : List ℕ) (n : ℕ) → IsSound w → (n ≡ w.told) ⊎ (n ≡ w.taken) → w.told ≤ n → Recovers a b (state_after w n) → Survives w a b
+survives : (w : World) (a b : List ℕ) (n : ℕ) → IsSound w → (n ≡ w.told) ⊎ (n ≡ w.taken) → w.told ≤ n → RecoversIn w.form a b (state_after w n) → Survives w a b
 survives w a b n sound which le is = record {
   n = n;
   prefix = record {
     told_or_taken = which;
     recovers = is;
-    only = λ m other. one_state a b m (state_after w n) other is;
+    only = λ m other. one_state w.form a b m (state_after w n) other is;
     acknowledged = λ ticket known.
         let given = all_at (IsGiven w.submitted w.told w.ends) w.receipts known.0 sound.given.receipts known.1 in
         omega (arith, given.0, known.2, le);
@@ -55,7 +56,7 @@ survives w a b n sound which le is = record {
   done_or_remade = done_or_remade w n sound le;
 }
 
-survives_either : (w : World) (a b : List ℕ) → IsSound w → Recovers a b (state_after w w.told) ⊎ Recovers a b (state_after w w.taken) → Survives w a b
+survives_either : (w : World) (a b : List ℕ) → IsSound w → RecoversIn w.form a b (state_after w w.told) ⊎ RecoversIn w.form a b (state_after w w.taken) → Survives w a b
 survives_either w a b sound (inl is) = survives w a b w.told sound (inl refl) (omega arith) is
 survives_either w a b sound (inr is) = survives w a b w.taken sound (inr refl) sound.counted.in_order is
 
@@ -76,13 +77,13 @@ names w sound receipt known =
 
 promised : (w : World) → IsSound w → KeepsPromise w
 promised w sound = record {
-  recovery = if_map (λ left. Either (state_after w w.told) (state_after w w.taken) left.0 left.1) (λ left. ∥ Survives w left.0 left.1 ∥₁)
+  recovery = if_map (λ left. Either w.form (state_after w w.told) (state_after w w.taken) left.0 left.1) (λ left. ∥ Survives w left.0 left.1 ∥₁)
       (λ left either. ∥∥₁_map either (λ is. survives_either w left.0 left.1 sound is)) w.left sound.left;
   receipts = names w sound;
 }
 
-pub every_interleaving : EveryInterleaving
-every_interleaving = λ opening sides events all run. promised _ (all_keep _ events (opened_sound opening sides all) run)
+pub every_interleaving_in : (form : Form) → EveryInterleavingIn form
+every_interleaving_in form = λ opening sides events all run. promised _ (all_keep _ events (opened_sound form opening sides all) run)
 
 -- ---- recipes that were cut off
 
@@ -100,15 +101,15 @@ still_begun w n sound le ticket target below begun going =
     ))
 
 cut_by : (w : World) (a b : List ℕ) → IsSound w → (ticket : ℕ) (target : List ℕ) → ticket < w.told → StandsAt w.submitted ticket (records.Begun target) → (Contains w.ended ticket → ⊥)
-    → Recovers a b (state_after w w.told) ⊎ Recovers a b (state_after w w.taken) → (m : StateMap) → Recovers a b m → IsUnfinished (map.get m target)
+    → RecoversIn w.form a b (state_after w w.told) ⊎ RecoversIn w.form a b (state_after w w.taken) → (m : StateMap) → RecoversIn w.form a b m → IsUnfinished (map.get m target)
 cut_by w a b sound ticket target below begun going (inl is) m other =
-    subst (λ (k : StateMap). IsUnfinished (map.get k target)) (one_state a b (state_after w w.told) m is other)
+    subst (λ (k : StateMap). IsUnfinished (map.get k target)) (one_state w.form a b (state_after w w.told) m is other)
     (still_begun w w.told sound (omega arith) ticket target below begun going)
 cut_by w a b sound ticket target below begun going (inr is) m other =
-    subst (λ (k : StateMap). IsUnfinished (map.get k target)) (one_state a b (state_after w w.taken) m is other)
+    subst (λ (k : StateMap). IsUnfinished (map.get k target)) (one_state w.form a b (state_after w w.taken) m is other)
     (still_begun w w.taken sound sound.counted.in_order ticket target below begun going)
 
-cut_off_at : (w : World) (a b : List ℕ) → IsSound w → Either (state_after w w.told) (state_after w w.taken) a b → (ticket : ℕ) → Contains w.started ticket → (Contains w.ended ticket → ⊥) → IsRemadeAtOnce w a b ticket
+cut_off_at : (w : World) (a b : List ℕ) → IsSound w → Either w.form (state_after w w.told) (state_after w w.taken) a b → (ticket : ℕ) → Contains w.started ticket → (Contains w.ended ticket → ⊥) → IsRemadeAtOnce w a b ticket
 cut_off_at w a b sound either ticket started going =
     let is = all_at (IsCleared w.submitted w.told) w.started ticket sound.given.started started in
     record {
@@ -120,9 +121,9 @@ cut_off_at w a b sound either ticket started going =
 
 cut_off : (w : World) → IsSound w → IsCutOff w
 cut_off w sound =
-    if_map (λ left. Either (state_after w w.told) (state_after w w.taken) left.0 left.1)
+    if_map (λ left. Either w.form (state_after w w.told) (state_after w w.taken) left.0 left.1)
     (λ left. (ticket : ℕ) → Contains w.started ticket → (Contains w.ended ticket → ⊥) → IsRemadeAtOnce w left.0 left.1 ticket)
     (λ left either. cut_off_at w left.0 left.1 sound either) w.left sound.left
 
-pub each_cut_off : EachCutOff
-each_cut_off = λ opening sides events all run. cut_off _ (all_keep _ events (opened_sound opening sides all) run)
+pub each_cut_off_in : (form : Form) → EachCutOffIn form
+each_cut_off_in form = λ opening sides events all run. cut_off _ (all_keep _ events (opened_sound form opening sides all) run)

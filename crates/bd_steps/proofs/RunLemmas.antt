@@ -1,46 +1,55 @@
 -- What a flush or a compaction does, whatever it answers, is a list of steps.
-use Rattle.std.proofs.Common.{◌≡◌, ◌≢◌, ◌⊎◌, ℕ, zero, suc, ◌+◌, ◌-◌, ◌<◌, ◌≤◌, Bool, true, false, List, [], ◌∷◌, ◌++◌, length, take, None, Some, slice_get, Result, Ok, Err, IsErrOf, refl, sym, ap, subst, ◌∙◌, inl, inr, arith, length-append, append-nil, take-append-drop, drop, map as list_map}
+use Rattle.std.proofs.Common.{◌≡◌, ◌⊎◌, ℕ, zero, suc, ◌+◌, ◌-◌, ◌<◌, ◌≤◌, Bool, true, false, List, [], ◌∷◌, ◌++◌, length, take, Result, Ok, Err, refl, sym, ap, subst, ◌∙◌, inl, inr, arith, length-append, append-nil, take-append-drop, drop, map as list_map}
 use Rattle.std.specs.List.{AllByRecursion}
 use Rattle.std.proofs.lemmas.Bool.{cases_lt}
 use Rattle.st_disk.specs.declared.which.Which.{Which}
 use Rattle.st_disk.specs.Crash.{Sides}
 use Rattle.st_disk.specs.Moments.{Moments, now, Throughout}
 use Rattle.st_disk.proofs.MomentLaws.{at_end}
+use Rattle.st_records.specs.declared.version.Form.{Form}
 use Rattle.st_records.specs.declared.record.Record.{Record}
 use Rattle.st_state.specs.State.{StateMap, replay}
-use Rattle.st_recovery.specs.Stored.{AllRecover, AllRecoverEither}
+use Rattle.st_recovery.specs.Stored.{AllRecoverIn, AllRecoverEitherIn}
 use Rattle.st_recovery.proofs.StoredLemmas.{replay-append}
 use Rattle.bd_flusher.specs.declared.fault.FlushFault.{FlushFault}
 use Rattle.bd_flusher.specs.declared.fault.FlushFault.TheVariants as faults
 use Rattle.bd_flusher.specs.Batches.{StandsAt, IsInBatch}
-use Rattle.bd_flusher.specs.Site.{Facts, KeepsRecords, told_state, held_state}
-use Rattle.bd_flusher.specs.Tidying.{TidyAnswer}
-use Rattle.bd_flusher.specs.Flushing.{Flushes, CompactsFirst, FlushAnswer}
+use Rattle.bd_flusher.specs.Site.{FactsIn, KeepsRecords, told_state, held_state}
+use Rattle.bd_flusher.specs.Tidying.{TidyAnswerIn}
+use Rattle.bd_flusher.specs.Flushing.{Flushes, CompactsFirst, FlushAnswerIn}
 use Rattle.bd_flusher.proofs.ListLemmas.{all_both, take-whole, at-take_back}
 use Rattle.bd_flusher.proofs.SiteLemmas.{some_or_none}
 use Rattle.bd_flusher.proofs.FlushLemmas.{device_or_not, not_both, err_is, dead_unchanged}
 use Rattle.bd_steps.specs.World.{World, state_after}
 use Rattle.bd_steps.specs.Event.{Event, compaction_call, commit_call, commit_end}
 use Rattle.bd_steps.specs.Run.{IsRun, after_all}
-use Rattle.bd_steps.specs.Steps.{IsLeftBy, IsOfFlush, AreCalls, Closes, is_told, nothing_done, compaction_refused, commit_refused, else_refused, AreInOrder, ComesBy, AreStepsOf, FlushesAreRuns, AreStepsOfTidying, TidyingsAreRuns, LooksAreSteps, TakesAreSteps, NewIsOpened}
+use Rattle.bd_steps.specs.Steps.{IsLeftBy, IsOfFlush, AreCalls, Closes, is_told, nothing_done, compaction_refused, commit_refused, else_refused, ComesBy, AreStepsOf, FlushesAreRunsIn, AreStepsOfTidying, TidyingsAreRunsIn, LooksAreStepsIn, TakesAreStepsIn, NewIsOpenedIn}
 use Rattle.bd_steps.proofs.CallLemmas.{run_append, after_all-append, take_past, calm, sides_after, calls, calls_run, calls_leave, sides_of_some, calls_own, calls_count, are_calls, moment_after}
 
 module _ {D : Type 0} (T : Type 0) (honest : Type 0) (moments : D → Moments) (seen : D → Which → List ℕ) (count : D → ℕ) where
   -- what was told, and what is held too, by the steps so far
-  told_by : (s : Facts D) (w : World) → IsLeftBy moments s w → told_state s ≡ state_after w w.told
+  told_by : (s : FactsIn D) (w : World) → IsLeftBy moments s w → told_state s ≡ state_after w w.told
   told_by s w left = ap (λ (m : StateMap). replay m s.told) left.opening ∙ ap (replay w.opening) left.told
 
-  held_by : (s : Facts D) (w : World) → IsLeftBy moments s w → held_state s ≡ state_after w w.taken
+  held_by : (s : FactsIn D) (w : World) → IsLeftBy moments s w → held_state s ≡ state_after w w.taken
   held_by s w left = sym (replay-append s.opening s.told s.held) ∙ ap (λ (m : StateMap). replay m (s.told ++ s.held)) left.opening ∙ ap (replay w.opening) left.taken
 
-  moments_by : (s : Facts D) (w : World) {m0 m1 : Moments} → IsLeftBy moments s w → Throughout m0 m1 (AllRecoverEither (told_state s) (held_state s))
-      → Throughout m0 m1 (AllRecoverEither (state_after w w.told) (state_after w w.taken))
+  moments_by : (s : FactsIn D) (w : World) {m0 m1 : Moments} → IsLeftBy moments s w → Throughout m0 m1 (AllRecoverEitherIn s.newest (told_state s) (held_state s))
+      → Throughout m0 m1 (AllRecoverEitherIn w.form (state_after w w.told) (state_after w w.taken))
   moments_by s w {m0} {m1} left so_far =
-      subst (λ (m : StateMap). Throughout m0 m1 (AllRecoverEither m (state_after w w.taken))) (told_by s w left)
-      (subst (λ (m : StateMap). Throughout m0 m1 (AllRecoverEither (told_state s) m)) (held_by s w left) so_far)
+      subst (λ (f : Form). Throughout m0 m1 (AllRecoverEitherIn f (state_after w w.told) (state_after w w.taken))) left.form
+      (subst (λ (m : StateMap). Throughout m0 m1 (AllRecoverEitherIn s.newest m (state_after w w.taken))) (told_by s w left)
+      (subst (λ (m : StateMap). Throughout m0 m1 (AllRecoverEitherIn s.newest (told_state s) m)) (held_by s w left) so_far))
+
+  -- the same of a compaction
+  told_moments : (s : FactsIn D) (w : World) {m0 m1 : Moments} → IsLeftBy moments s w → Throughout m0 m1 (AllRecoverIn s.newest (told_state s))
+      → Throughout m0 m1 (AllRecoverIn w.form (state_after w w.told))
+  told_moments s w {m0} {m1} left so_far =
+      subst (λ (f : Form). Throughout m0 m1 (AllRecoverIn f (state_after w w.told))) left.form
+      (subst (λ (m : StateMap). Throughout m0 m1 (AllRecoverIn s.newest m)) (told_by s w left) so_far)
 
   -- it has told all
-  at_ok : (old new : Facts D) (x : T) (w : World) → honest → Flushes honest moments old new (Ok x) → IsLeftBy moments old w → w.told < w.taken → 0 < length old.held
+  at_ok : (old new : FactsIn D) (x : T) (w : World) → honest → Flushes honest moments old new (Ok x) → IsLeftBy moments old w → w.told < w.taken → 0 < length old.held
       → IsRun (record w { sides = now (moments new.disk); dead = false }) (commit_end ∷ [])
       × IsLeftBy moments new (after_all (record w { sides = now (moments new.disk); dead = false }) (commit_end ∷ []))
   at_ok old new x w is_honest f left more some =
@@ -48,8 +57,9 @@ module _ {D : Type 0} (T : Type 0) (honest : Type 0) (moments : D → Moments) (
       let long : length new.told ≡ w.taken = ap length f.ok.told ∙ length-append old.told old.held ∙ left.both in
       let state : told_state new ≡ state_after w w.taken =
       ap (λ (m : StateMap). replay m new.told) (f.ok.opening ∙ left.opening) ∙ ap (replay w.opening) told in (
-        (left.running, (refl, more, subst (λ (m : StateMap). AllRecover m (now (moments new.disk))) state (f.done is_honest)), tt),
+        (left.running, (refl, more, subst (λ (form : Form). AllRecoverIn form (state_after w w.taken) (now (moments new.disk))) left.form (subst (λ (m : StateMap). AllRecoverIn old.newest m (now (moments new.disk))) state (f.done is_honest))), tt),
         record {
+          form = f.ok.newest ∙ left.form;
           opening = f.ok.opening ∙ left.opening;
           told = told;
           count = long;
@@ -63,9 +73,10 @@ module _ {D : Type 0} (T : Type 0) (honest : Type 0) (moments : D → Moments) (
       )
 
   -- it was refused
-  as_before : (old new : Facts D) (w : World) (dead : Bool) → KeepsRecords old new → IsLeftBy moments old w → new.dead ≡ dead
+  as_before : (old new : FactsIn D) (w : World) (dead : Bool) → KeepsRecords old new → IsLeftBy moments old w → new.dead ≡ dead
       → IsLeftBy moments new (record w { sides = now (moments new.disk); dead = dead })
   as_before old new w dead kept left is = record {
+    form = kept.newest ∙ left.form;
     opening = kept.opening ∙ left.opening;
     told = kept.told ∙ left.told;
     count = ap length kept.told ∙ left.count;
@@ -78,10 +89,10 @@ module _ {D : Type 0} (T : Type 0) (honest : Type 0) (moments : D → Moments) (
   }
 
   -- the steps, from what holds after all the calls that weren't refused
-  by_calls : (old new : Facts D) (result : Result T FlushFault) (w : World) (between : Moments) (n m : ℕ) (closing : List Event) → IsLeftBy moments old w → old.dead ≡ false → w.told < w.taken
+  by_calls : (old new : FactsIn D) (result : Result T FlushFault) (w : World) (between : Moments) (n m : ℕ) (closing : List Event) → IsLeftBy moments old w → old.dead ≡ false → w.told < w.taken
       → (moments old.disk).newest + n ≡ between.newest → between.newest + m ≡ (moments new.disk).newest
-      → Throughout (moments old.disk) between (AllRecover (state_after w w.told))
-      → Throughout between (moments new.disk) (AllRecoverEither (state_after w w.told) (state_after w w.taken))
+      → Throughout (moments old.disk) between (AllRecoverIn w.form (state_after w w.told))
+      → Throughout between (moments new.disk) (AllRecoverEitherIn w.form (state_after w w.told) (state_after w w.taken))
       → AllByRecursion IsOfFlush closing → Closes moments old new result closing
       → IsRun (calm w (now (moments new.disk))) closing → IsLeftBy moments new (after_all (calm w (now (moments new.disk))) closing)
       → (events : List Event) × AreStepsOf moments old new result w events
@@ -98,7 +109,7 @@ module _ {D : Type 0} (T : Type 0) (honest : Type 0) (moments : D → Moments) (
       let compacted : after_all (calm w w.sides) compaction ≡ calm w (now between) = calls_leave compaction_call (λ v s. refl) w w.sides at (suc o) n ∙ ap (calm w) to_mid in
       let committed : after_all (calm w (now between)) commit ≡ calm w (now (moments new.disk)) = calls_leave commit_call (λ v s. refl) w (now between) at (suc between.newest) m ∙ ap (calm w) to_new in
       let run_first : IsRun (calm w w.sides) compaction = calls_run compaction_call (λ v s. refl) w w.sides at (suc o) n left.running (λ before k le lt.
-      (refl, subst (AllRecover (state_after w w.told)) (sym (second.kept k (omega (arith, lt, moved)))) (first.each k (omega (arith, le)) (omega (arith, lt, moved))))) in
+      (refl, subst (AllRecoverIn w.form (state_after w w.told)) (sym (second.kept k (omega (arith, lt, moved)))) (first.each k (omega (arith, le)) (omega (arith, lt, moved))))) in
       let run_second : IsRun (calm w (now between)) commit = calls_run commit_call (λ v s. refl) w (now between) at (suc between.newest) m left.running (λ before k le lt.
       (refl, more, second.each k (omega (arith, le)) (omega (arith, lt, goes)))) in
       let run_behind : IsRun (calm w (now between)) (commit ++ closing) = run_append (calm w (now between)) commit closing run_second (subst (λ (v : World). IsRun v closing) (sym committed) run_closing) in
@@ -143,11 +154,11 @@ module _ {D : Type 0} (T : Type 0) (honest : Type 0) (moments : D → Moments) (
         },
       )
 
-  some_held : (old new : Facts D) (result : Result T FlushFault) (w : World) → honest → Flushes honest moments old new result → CompactsFirst honest moments seen old new → old.dead ≡ false → IsLeftBy moments old w → 0 < length old.held
+  some_held : (old new : FactsIn D) (result : Result T FlushFault) (w : World) → honest → Flushes honest moments old new result → CompactsFirst honest moments seen old new → old.dead ≡ false → IsLeftBy moments old w → 0 < length old.held
       → (events : List Event) × AreStepsOf moments old new result w events
   some_held old new result w is_honest f two alive left some =
       let between : Moments = moments two.between.disk in
-      let first : Throughout (moments old.disk) between (AllRecover (state_after w w.told)) = subst (λ (m : StateMap). Throughout (moments old.disk) between (AllRecover m)) (told_by old w left) (two.compaction is_honest) in
+      let first : Throughout (moments old.disk) between (AllRecoverIn w.form (state_after w w.told)) = told_moments old w left (two.compaction is_honest) in
       let second = moments_by old w left (two.commit is_honest) in
       let n : ℕ = between.newest - (moments old.disk).newest in
       let m : ℕ = (moments new.disk).newest - between.newest in
@@ -157,25 +168,25 @@ module _ {D : Type 0} (T : Type 0) (honest : Type 0) (moments : D → Moments) (
       by result f two.between.dead refl first second n m moved goes more
     where
       by : (result : Result T FlushFault) → Flushes honest moments old new result → (dead : Bool) → two.between.dead ≡ dead
-          → Throughout (moments old.disk) (moments two.between.disk) (AllRecover (state_after w w.told))
-          → Throughout (moments two.between.disk) (moments new.disk) (AllRecoverEither (state_after w w.told) (state_after w w.taken))
+          → Throughout (moments old.disk) (moments two.between.disk) (AllRecoverIn w.form (state_after w w.told))
+          → Throughout (moments two.between.disk) (moments new.disk) (AllRecoverEitherIn w.form (state_after w w.told) (state_after w w.taken))
           → (n m : ℕ) → (moments old.disk).newest + n ≡ (moments two.between.disk).newest → (moments two.between.disk).newest + m ≡ (moments new.disk).newest → w.told < w.taken
           → (events : List Event) × AreStepsOf moments old new result w events
       by (Ok x) f true dead first second n m moved goes more =
-          absurd (not_both new.dead (ap (λ (s : Facts D). s.dead) (two.refused dead) ∙ dead) f.alive.1)
+          absurd (not_both new.dead (ap (λ (s : FactsIn D). s.dead) (two.refused dead) ∙ dead) f.alive.1)
       by (Ok x) f false dead first second n m moved goes more =
           let end = at_ok old new x w is_honest f left more some in
           by_calls old new (Ok x) w (moments two.between.disk) n m (commit_end ∷ []) left alive more moved goes first second (tt, tt) (is_told some) end.0 end.1
       by (Err fault) f true dead first second n m moved goes more =
-          let new_dead : new.dead ≡ true = ap (λ (s : Facts D). s.dead) (two.refused dead) ∙ dead in
-          let disk : moments two.between.disk ≡ moments new.disk = ap (λ (s : Facts D). moments s.disk) (sym (two.refused dead)) in
+          let new_dead : new.dead ≡ true = ap (λ (s : FactsIn D). s.dead) (two.refused dead) ∙ dead in
+          let disk : moments two.between.disk ≡ moments new.disk = ap (λ (s : FactsIn D). moments s.disk) (sym (two.refused dead)) in
           let is_device : fault ≡ faults.Device = elim f.others [
             | inl device ↦ err_is {T = T} fault faults.Device device
             | inr same ↦ absurd (not_both new.dead new_dead (same ∙ alive))
           ] in
           by_calls old new (Err fault) w (moments two.between.disk) n m (compaction_call (now (moments new.disk)) true ∷ []) left alive more moved goes first second (tt, tt)
           (subst (λ (e : FlushFault). Closes {T = T} moments old new (Err e) (compaction_call (now (moments new.disk)) true ∷ [])) (sym is_device) compaction_refused)
-          (left.running, (refl, subst (λ (x : Moments). AllRecover (state_after w w.told) (now x)) disk (at_end first)), tt)
+          (left.running, (refl, subst (λ (x : Moments). AllRecoverIn w.form (state_after w w.told) (now x)) disk (at_end first)), tt)
           (as_before old new w true f.err left new_dead)
       by (Err fault) f false dead first second n m moved goes more = elim (device_or_not fault) [
         | inl device ↦
@@ -188,8 +199,8 @@ module _ {D : Type 0} (T : Type 0) (honest : Type 0) (moments : D → Moments) (
             by_calls old new (Err fault) w (moments two.between.disk) n m [] left alive more moved goes first second tt (else_refused other) tt (as_before old new w false f.err left still)
       ]
 
-  same_moments : {old new : Facts D} → new ≡ old → moments new.disk ≡ moments old.disk
-  same_moments same = ap (λ (s : Facts D). moments s.disk) same
+  same_moments : {old new : FactsIn D} → new ≡ old → moments new.disk ≡ moments old.disk
+  same_moments same = ap (λ (s : FactsIn D). moments s.disk) same
 
   none_between : (call : Sides → Bool → Event) (old new : Moments) → new ≡ old → AreCalls call old new []
   none_between call old new same = record {
@@ -197,7 +208,7 @@ module _ {D : Type 0} (T : Type 0) (honest : Type 0) (moments : D → Moments) (
     in_order = λ place lt. absurd (omega (arith, lt));
   }
 
-  nothing_changed : (old new : Facts D) (result : Result T FlushFault) (w : World) → new ≡ old → IsLeftBy moments old w → (events : List Event) × AreStepsOf moments old new result w events
+  nothing_changed : (old new : FactsIn D) (result : Result T FlushFault) (w : World) → new ≡ old → IsLeftBy moments old w → (events : List Event) × AreStepsOf moments old new result w events
   nothing_changed old new result w same left = (
     [],
     record {
@@ -213,7 +224,7 @@ module _ {D : Type 0} (T : Type 0) (honest : Type 0) (moments : D → Moments) (
         closes = nothing_done same;
       };
       run = tt;
-      left = subst (λ (s : Facts D). IsLeftBy moments s w) (sym same) left;
+      left = subst (λ (s : FactsIn D). IsLeftBy moments s w) (sym same) left;
       each_moment = λ k from_old to_new.
           let m : moments new.disk ≡ moments old.disk = same_moments same in
           let newest : (moments new.disk).newest ≡ (moments old.disk).newest = ap (λ (x : Moments). x.newest) m in
@@ -222,10 +233,10 @@ module _ {D : Type 0} (T : Type 0) (honest : Type 0) (moments : D → Moments) (
     },
   )
 
-  pub flushes_are_runs : FlushesAreRuns T honest moments seen count
+  pub flushes_are_runs : FlushesAreRunsIn T honest moments seen count
   flushes_are_runs = λ old new result w is_honest f left. by old new result w is_honest f left old.dead refl
     where
-      by : (old new : Facts D) (result : Result T FlushFault) (w : World) → honest → FlushAnswer honest moments seen count old new result → IsLeftBy moments old w
+      by : (old new : FactsIn D) (result : Result T FlushFault) (w : World) → honest → FlushAnswerIn honest moments seen count old new result → IsLeftBy moments old w
           → (b : Bool) → old.dead ≡ b → (events : List Event) × AreStepsOf moments old new result w events
       by old new result w is_honest f left true dead = nothing_changed old new result w (f.flushes.was_dead dead) left
       by old new result w is_honest f left false alive = elim (some_or_none old.held) [
@@ -235,8 +246,8 @@ module _ {D : Type 0} (T : Type 0) (honest : Type 0) (moments : D → Moments) (
 
   -- ---- a compaction alone
 
-  by_tidying : (old new : Facts D) (w : World) (n : ℕ) (refused : List Event) → IsLeftBy moments old w → old.dead ≡ false → (moments old.disk).newest + n ≡ (moments new.disk).newest
-      → Throughout (moments old.disk) (moments new.disk) (AllRecover (state_after w w.told))
+  by_tidying : (old new : FactsIn D) (w : World) (n : ℕ) (refused : List Event) → IsLeftBy moments old w → old.dead ≡ false → (moments old.disk).newest + n ≡ (moments new.disk).newest
+      → Throughout (moments old.disk) (moments new.disk) (AllRecoverIn w.form (state_after w w.told))
       → (refused ≡ []) ⊎ (refused ≡ compaction_call (now (moments new.disk)) true ∷ [])
       → IsRun (calm w (now (moments new.disk))) refused → IsLeftBy moments new (after_all (calm w (now (moments new.disk))) refused)
       → (events : List Event) × AreStepsOfTidying moments old new w events
@@ -262,7 +273,7 @@ module _ {D : Type 0} (T : Type 0) (honest : Type 0) (moments : D → Moments) (
         },
       )
 
-  nothing_tidied : (old new : Facts D) (w : World) → new ≡ old → IsLeftBy moments old w → (events : List Event) × AreStepsOfTidying moments old new w events
+  nothing_tidied : (old new : FactsIn D) (w : World) → new ≡ old → IsLeftBy moments old w → (events : List Event) × AreStepsOfTidying moments old new w events
   nothing_tidied old new w same left = (
     [],
     record {
@@ -272,37 +283,38 @@ module _ {D : Type 0} (T : Type 0) (honest : Type 0) (moments : D → Moments) (
       compacts = none_between compaction_call (moments old.disk) (moments new.disk) (same_moments same);
       at_most_one = inl refl;
       run = tt;
-      left = subst (λ (s : Facts D). IsLeftBy moments s w) (sym same) left;
+      left = subst (λ (s : FactsIn D). IsLeftBy moments s w) (sym same) left;
     },
   )
 
-  pub tidyings_are_runs : TidyingsAreRuns T honest moments seen count
+  pub tidyings_are_runs : TidyingsAreRunsIn T honest moments seen count
   tidyings_are_runs = λ old new result w is_honest t left. by old new result w is_honest t left old.dead refl
     where
-      by : (old new : Facts D) (result : Result T FlushFault) (w : World) → honest → TidyAnswer honest moments seen count old new result → IsLeftBy moments old w
+      by : (old new : FactsIn D) (result : Result T FlushFault) (w : World) → honest → TidyAnswerIn honest moments seen count old new result → IsLeftBy moments old w
           → (b : Bool) → old.dead ≡ b → (events : List Event) × AreStepsOfTidying moments old new w events
       by old new (Ok x) w is_honest t left true dead = absurd (not_both old.dead dead t.alive.0)
       by old new (Err fault) w is_honest t left true dead = nothing_tidied old new w (dead_unchanged {T = T} (Err fault) (new ≡ old) (t.dead.1 dead) t.unchanged) left
       by old new (Ok x) w is_honest t left false alive =
-          let so_far : Throughout (moments old.disk) (moments new.disk) (AllRecover (state_after w w.told)) = subst (λ (m : StateMap). Throughout (moments old.disk) (moments new.disk) (AllRecover m)) (told_by old w left) (t.any_moment is_honest alive) in
+          let so_far : Throughout (moments old.disk) (moments new.disk) (AllRecoverIn w.form (state_after w w.told)) = told_moments old w left (t.any_moment is_honest alive) in
           let n : ℕ = (moments new.disk).newest - (moments old.disk).newest in
           by_tidying old new w n [] left alive (omega (arith, so_far.no_fewer)) so_far (inl refl) tt (as_before old new w false t.records left t.alive.1)
       by old new (Err fault) w is_honest t left false alive = elim (device_or_not fault) [
         | inl device ↦
-            let so_far : Throughout (moments old.disk) (moments new.disk) (AllRecover (state_after w w.told)) = subst (λ (m : StateMap). Throughout (moments old.disk) (moments new.disk) (AllRecover m)) (told_by old w left) (t.any_moment is_honest alive) in
+            let so_far : Throughout (moments old.disk) (moments new.disk) (AllRecoverIn w.form (state_after w w.told)) = told_moments old w left (t.any_moment is_honest alive) in
             let n : ℕ = (moments new.disk).newest - (moments old.disk).newest in
             by_tidying old new w n (compaction_call (now (moments new.disk)) true ∷ []) left alive (omega (arith, so_far.no_fewer)) so_far (inr refl)
             (left.running, (refl, at_end so_far), tt) (as_before old new w true t.records left (t.device (ap Err device)).0)
         | inr other ↦ nothing_tidied old new w (t.unchanged other) left
       ]
 
-  pub looks_are_steps : LooksAreSteps moments
+  pub looks_are_steps : LooksAreStepsIn moments
   looks_are_steps = λ s w receipt left stands has.
       let back = at-take_back w.submitted w.told receipt.ticket receipt.noted (subst (λ (l : List Record). StandsAt l receipt.ticket receipt.noted) left.told stands) in
       (back.0, back.1, subst (λ (ends : List ℕ). IsInBatch 0 ends receipt.ticket receipt.batch) left.ends has)
 
-  pub new_is_opened : NewIsOpened moments
-  new_is_opened = λ disk side version generation end state. record {
+  pub new_is_opened : NewIsOpenedIn moments
+  new_is_opened = λ disk side form newest generation end state. record {
+    form = refl;
     opening = refl;
     told = refl;
     count = refl;
@@ -314,13 +326,14 @@ module _ {D : Type 0} (T : Type 0) (honest : Type 0) (moments : D → Moments) (
     running = refl;
   }
 
-  pub takes_are_steps : TakesAreSteps moments
+  pub takes_are_steps : TakesAreStepsIn moments
   takes_are_steps = λ s w notes left none are.
       let all : s.told ++ list_map (λ n. n.1) notes ≡ w.submitted = ap (λ l. s.told ++ l) are ∙ ap (λ l. l ++ drop w.told w.submitted) left.told ∙ take-append-drop w.told w.submitted in
       let nothing : length s.held ≡ 0 = ap length none in
       let long : length s.told + length (list_map (λ n. n.1) notes) ≡ length w.submitted = sym (length-append s.told (list_map (λ n. n.1) notes)) ∙ ap length all in (
         omega (arith, left.both, left.count, nothing),
         record {
+          form = left.form;
           opening = left.opening;
           told = left.told;
           count = left.count;

@@ -1,18 +1,19 @@
 -- What is true of a world, and that each step keeps it.
-use Rattle.std.proofs.Common.{◌≡◌, ◌⊎◌, ℕ, ◌<◌, ◌≤◌, List, [], ◌∷◌, ◌++◌, length, take, None, IfSome, refl, sym, ap, subst, inl, inr, arith, length-append}
+use Rattle.std.proofs.Common.{◌≡◌, ◌⊎◌, ℕ, ◌<◌, ◌≤◌, List, [], ◌∷◌, ◌++◌, length, take, None, IfSome, refl, sym, ap, subst, arith, length-append}
 use Rattle.std.specs.List.{AllByRecursion}
 use Rattle.st_disk.specs.Crash.{Sides}
+use Rattle.st_records.specs.declared.version.Form.{Form}
 use Rattle.st_records.specs.declared.record.Record.{Record}
 use Rattle.st_records.specs.declared.record.Record.TheVariants as records
 use Rattle.st_records.specs.Parts.{target_of}
 use Rattle.st_state.specs.State.{StateMap, replay}
-use Rattle.st_recovery.specs.Recovers.{Recovers}
-use Rattle.st_recovery.specs.Stored.{AllRecover, AllRecoverEither}
+use Rattle.st_recovery.specs.Recovers.{RecoversIn}
+use Rattle.st_recovery.specs.Stored.{AllRecoverIn, AllRecoverEitherIn}
 use Rattle.bd_flusher.specs.declared.site.receipt.Receipt.{Receipt}
 use Rattle.bd_flusher.specs.Batches.{StandsAt, AreIncreasing, last_of, IsInBatch}
 use Rattle.bd_steps.specs.Kind.{kind_of}
 use Rattle.bd_steps.specs.Kind as kinds
-use Rattle.bd_steps.specs.World.{World, opened, state_after}
+use Rattle.bd_steps.specs.World.{World, opened_in, state_after}
 use Rattle.bd_steps.specs.Event.{Event, submit, drain, compaction_call, commit_call, commit_end, look, advance, start, finish, something_else, power_cut, MayHappen, after}
 use Rattle.bd_steps.specs.Run.{IsRun, after_all}
 use Rattle.bd_flusher.proofs.ListLemmas.{none_is, all_map, all_at, at-push, take-front, if_none}
@@ -39,8 +40,8 @@ pub record AreTold (notes : List Record) (told : ℕ) (ends : List ℕ) (known :
   pub cleared : AllByRecursion (IsCleared notes told) may
   pub started : AllByRecursion (IsCleared notes told) run
 
-abbrev pub Either : (m n : StateMap) → (a b : List ℕ) → Type 0
-Either m n a b = ∥ Recovers a b m ⊎ Recovers a b n ∥₁
+abbrev pub Either : (form : Form) → (m n : StateMap) → (a b : List ℕ) → Type 0
+Either form m n a b = ∥ RecoversIn form a b m ⊎ RecoversIn form a b n ∥₁
 
 abbrev pub fold_of : StateMap → List Record → ℕ → StateMap
 fold_of opening notes n = replay opening (take n notes)
@@ -49,21 +50,21 @@ pub record IsSound (w : World) : Type 0 where
   pub counted : IsCounted w.submitted w.told w.taken w.ends
   pub history : IsHistory w.submitted
   pub over : EndsAreOver w.submitted w.ended
-  pub images : AllRecoverEither (state_after w w.told) (state_after w w.taken) w.sides
+  pub images : AllRecoverEitherIn w.form (state_after w w.told) (state_after w w.taken) w.sides
   pub given : AreTold w.submitted w.told w.ends w.receipts w.cleared w.started
-  pub left : IfSome w.left (λ left. Either (state_after w w.told) (state_after w w.taken) left.0 left.1)
+  pub left : IfSome w.left (λ left. Either w.form (state_after w w.told) (state_after w w.taken) left.0 left.1)
 
 -- ---- images
 
 -- one record more leaves the states as they are
-images-push : (opening : StateMap) (notes : List Record) (note : Record) (told taken : ℕ) (sides : Sides) → told ≤ length notes → taken ≤ length notes
-    → AllRecoverEither (fold_of opening notes told) (fold_of opening notes taken) sides
-    → AllRecoverEither (fold_of opening (notes ++ note ∷ []) told) (fold_of opening (notes ++ note ∷ []) taken) sides
-images-push opening notes note told taken sides told_there taken_there images =
+images-push : (form : Form) (opening : StateMap) (notes : List Record) (note : Record) (told taken : ℕ) (sides : Sides) → told ≤ length notes → taken ≤ length notes
+    → AllRecoverEitherIn form (fold_of opening notes told) (fold_of opening notes taken) sides
+    → AllRecoverEitherIn form (fold_of opening (notes ++ note ∷ []) told) (fold_of opening (notes ++ note ∷ []) taken) sides
+images-push form opening notes note told taken sides told_there taken_there images =
     let first : fold_of opening notes told ≡ fold_of opening (notes ++ note ∷ []) told = ap (replay opening) (sym (take-front notes (note ∷ []) told told_there)) in
     let second : fold_of opening notes taken ≡ fold_of opening (notes ++ note ∷ []) taken = ap (replay opening) (sym (take-front notes (note ∷ []) taken taken_there)) in
-    subst (λ (m : StateMap). AllRecoverEither m (fold_of opening (notes ++ note ∷ []) taken) sides) first
-    (subst (λ (m : StateMap). AllRecoverEither (fold_of opening notes told) m sides) second images)
+    subst (λ (m : StateMap). AllRecoverEitherIn form m (fold_of opening (notes ++ note ∷ []) taken) sides) first
+    (subst (λ (m : StateMap). AllRecoverEitherIn form (fold_of opening notes told) m sides) second images)
 
 -- ---- receipts and clearances
 
@@ -120,7 +121,7 @@ keeps w (submit note) running sound may = record {
   };
   history = history-push w note sound.history may.1;
   over = ends-push w note sound.over may.1;
-  images = images-push w.opening w.submitted note w.told w.taken w.sides (omega (arith, sound.counted.in_order, sound.counted.there)) sound.counted.there sound.images;
+  images = images-push w.form w.opening w.submitted note w.told w.taken w.sides (omega (arith, sound.counted.in_order, sound.counted.there)) sound.counted.there sound.images;
   given = told-push w.submitted note w.told w.ends w.receipts w.cleared w.started sound.given;
   left = if_none _ w.left running;
 }
@@ -222,8 +223,8 @@ pub all_keep : (w : World) (events : List Event) → IsSound w → IsRun w event
 all_keep w [] sound run = sound
 all_keep w (event ∷ events) sound run = all_keep (after w event) events (keeps w event run.0 sound run.1) run.2
 
-pub opened_sound : (opening : StateMap) (sides : Sides) → AllRecover opening sides → IsSound (opened opening sides)
-opened_sound opening sides all = record {
+pub opened_sound : (form : Form) (opening : StateMap) (sides : Sides) → AllRecoverIn form opening sides → IsSound (opened_in form opening sides)
+opened_sound form opening sides all = record {
   counted = record { in_order = omega arith; there = omega arith; increasing = tt; last = refl };
   history = record {
     none_kept = λ k note at is. absurd (nothing k note at);

@@ -1,12 +1,13 @@
 -- What a board's calls do, and what is done with its clearances, are steps. Own.
-use Rattle.std.specs.Prelude.{◌≡◌, ◌≢◌, ◌⊎◌, ℕ, ◌+◌, ◌<◌, ◌≤◌, true, List, [], length, drop, map as list_map, Option, Some, None, Contains}
+use Rattle.std.specs.Prelude.{◌≡◌, ◌⊎◌, ℕ, ◌+◌, ◌<◌, ◌≤◌, true, List, [], length, drop, map as list_map, Option, Some, None, Contains}
 use Rattle.mk_graph.specs.Edges.{has}
 use Rattle.st_disk.specs.Crash.{Sides}
 use Rattle.st_disk.specs.Moments.{Moments}
-use Rattle.st_records.specs.declared.version.Version.TheVariants.{Two}
+use Rattle.st_records.specs.declared.version.Form.{Form}
+use Rattle.st_records.specs.declared.version.Form.TheVariants.{Plain}
 use Rattle.st_records.specs.declared.record.Record.{Record}
 use Rattle.st_records.specs.declared.record.Record.TheVariants as records
-use Rattle.st_records.specs.Limits.{IsGood}
+use Rattle.st_records.specs.Limits.{IsGoodIn}
 use Rattle.st_records.specs.Parts.{target_of}
 use Rattle.st_state.specs.State.{StateMap}
 use Rattle.bd_links.specs.declared.stand.Stand.TheVariants.{Running}
@@ -14,16 +15,16 @@ use Rattle.bd_places.specs.declared.end.End.{End}
 use Rattle.bd_places.specs.Settling.{Prerequisites, IsStanding}
 use Rattle.bd_ledger.specs.declared.sent.Sent.{Sent}
 use Rattle.bd_ledger.specs.declared.sent.Sent.TheVariants as sent
-use Rattle.bd_ledger.specs.Sheet.{Sheet, nodes_on, name_of, sent_by, last_ticket, first_sheet, relisted, drained, submits, SettlesOn}
+use Rattle.bd_ledger.specs.Sheet.{Sheet, nodes_on, name_of, sent_by, last_ticket, first_sheet_in, relisted, drained, submits, SettlesOn}
 use Rattle.bd_lists.specs.declared.board.Advanced.{Advanced}
 use Rattle.bd_lists.specs.Admission.{Run}
 use Rattle.bd_lists.specs.Board.{IsTaken, CanAdvance, Advances, end_noted}
 use Rattle.bd_flusher.specs.declared.site.receipt.Receipt.{Receipt}
 use Rattle.bd_flusher.specs.Batches.{StandsAt}
 use Rattle.bd_flusher.specs.Turns.{AreInTurn}
-use Rattle.bd_flusher.specs.Site.{Facts, holding}
-use Rattle.bd_steps.specs.World.{World, opened}
-use Rattle.bd_steps.specs.Event.{Event, submit, drain, compaction_call, commit_call, commit_end, look, advance, start, finish, something_else, power_cut, IsSilentFrom, MayHappen, after}
+use Rattle.bd_flusher.specs.Site.{FactsIn, holding_in, Facts, in_form, holding}
+use Rattle.bd_steps.specs.World.{World, opened_in}
+use Rattle.bd_steps.specs.Event.{Event, submit, drain, advance, start, finish, power_cut, IsSilentFrom, MayHappen, after}
 use Rattle.bd_steps.specs.Steps.{IsLeftBy}
 
 -- what was submitted of the target of a node that has submitted so much: nothing; its 'begun' with this ticket and nothing since;
@@ -37,10 +38,11 @@ IsSent notes name (sent.End ticket) = (note : Record) × StandsAt notes ticket n
 abbrev pub IsPending : Sheet → ℕ → Type 0
 IsPending b n = (has b.standing.lists.unflushed n ≡ true) ⊎ (has b.standing.lists.flushing n ≡ true)
 
--- what waits on the board are the submitted records that weren't taken, each under its ticket, which count up to the number of
--- submissions; of each node was submitted what it says; and recipes were cleared with tickets with which somebody has gone on, and
--- started and ended with such as were cleared. No two nodes have one name
-pub record IsBoardBy (b : Sheet) (notes : List Record) (taken : ℕ) (cleared started ended : List ℕ) : Type 0 where
+-- the board's records have this form; what waits on it are the submitted records that weren't taken, each under its ticket,
+-- which count up to the number of submissions; of each node was submitted what it says; and recipes were cleared with tickets
+-- with which somebody has gone on, and started and ended with such as were cleared. No two nodes have one name
+pub record IsBoardBy (b : Sheet) (form : Form) (notes : List Record) (taken : ℕ) (cleared started ended : List ℕ) : Type 0 where
+  pub own_form : b.form ≡ form
   pub own_names : (m n : ℕ) → m < nodes_on b → n < nodes_on b → name_of b m ≡ name_of b n → m ≡ n
   pub each_node : length b.sent ≡ nodes_on b
   pub count : b.submitted ≡ length notes
@@ -54,14 +56,14 @@ pub record IsBoardBy (b : Sheet) (notes : List Record) (taken : ℕ) (cleared st
 
 -- the board is as the steps so far have left it
 abbrev pub IsBoardOf : Sheet → World → Type 0
-IsBoardOf b w = IsBoardBy b w.submitted w.taken w.cleared w.started w.ended
+IsBoardOf b w = IsBoardBy b w.form w.submitted w.taken w.cleared w.started w.ended
 
 -- a board that was just made is as an opened world before any step
-abbrev pub NewBoardIsOpened : Type 0
-NewBoardIsOpened =
+abbrev pub NewBoardIsOpenedIn : Form → Type 0
+NewBoardIsOpenedIn form =
     (g : Prerequisites) (names : List (List ℕ)) (opening : StateMap) (sides : Sides)
-    → ((m n : ℕ) → m < length g.counted → n < length g.counted → name_of (first_sheet g names) m ≡ name_of (first_sheet g names) n → m ≡ n)
-    → IsBoardOf (first_sheet g names) (opened opening sides)
+    → ((m n : ℕ) → m < length g.counted → n < length g.counted → name_of (first_sheet_in form g names) m ≡ name_of (first_sheet_in form g names) n → m ≡ n)
+    → IsBoardOf (first_sheet_in form g names) (opened_in form opening sides)
 
 -- the recipe of the run that comes with a record has ended
 abbrev pub HasEndedRun : World → Option Run → Type 0
@@ -72,14 +74,14 @@ HasEndedRun w (Some run) = Contains w.ended run.ticket
 abbrev pub SubmitsAreSteps : Type 0
 SubmitsAreSteps =
     (b : Sheet) (w : World) (n : ℕ) (note : Record) (run : Option Run)
-    → IsBoardOf b w → IsStanding b.prerequisites (nodes_on b) b.standing → IsTaken b n note run → IsGood Two note → HasEndedRun w run
+    → IsBoardOf b w → IsStanding b.prerequisites (nodes_on b) b.standing → IsTaken b n note run → IsGoodIn w.form note → HasEndedRun w run
     → MayHappen w (submit note) × IsBoardOf (submits n note b) (after w (submit note))
 
 -- where a site holds nothing, to take in what waits on the board is a step, and leaves both so
-abbrev pub DrainsAreSteps : {D : Type 0} → (D → Moments) → Type 0
-DrainsAreSteps {D} moments =
-    (s : Facts D) (b : Sheet) (w : World) → IsLeftBy moments s w → IsBoardOf b w → s.held ≡ []
-    → MayHappen w drain × IsLeftBy moments (holding b.notes s) (after w drain) × IsBoardOf (drained b) (after w drain)
+abbrev pub DrainsAreStepsIn : {D : Type 0} → (D → Moments) → Type 0
+DrainsAreStepsIn {D} moments =
+    (s : FactsIn D) (b : Sheet) (w : World) → IsLeftBy moments s w → IsBoardOf b w → s.held ≡ []
+    → MayHappen w drain × IsLeftBy moments (holding_in b.notes s) (after w drain) × IsBoardOf (drained b) (after w drain)
 
 -- the clearance with this ticket was handed out, and its recipe was neither started nor has it ended
 pub record IsOut (w : World) (ticket : ℕ) : Type 0 where
@@ -142,3 +144,13 @@ IsOfRecipe _ ticket = ⊥
 
 abbrev pub ClearancesStay : Type 0
 ClearancesStay = (w : World) (event : Event) (ticket : ℕ) → IsOut w ticket → (IsOfRecipe event ticket → ⊥) → IsOut (after w event) ticket
+
+-- ---- where records are written as in version 2
+
+abbrev pub NewBoardIsOpened : Type 0
+NewBoardIsOpened = NewBoardIsOpenedIn Plain
+
+abbrev pub DrainsAreSteps : {D : Type 0} → (D → Moments) → Type 0
+DrainsAreSteps {D} moments =
+    (s : Facts D) (b : Sheet) (w : World) → IsLeftBy moments (in_form s) w → IsBoardOf b w → s.held ≡ []
+    → MayHappen w drain × IsLeftBy moments (in_form (holding b.notes s)) (after w drain) × IsBoardOf (drained b) (after w drain)

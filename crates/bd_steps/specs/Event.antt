@@ -2,12 +2,11 @@
 -- of the device, or the start or end of a recipe; or a power cut. Own.
 use Rattle.std.specs.Prelude.{◌≡◌, ℕ, ◌+◌, ◌<◌, ◌≤◌, Bool, false, List, [], ◌∷◌, ◌++◌, length, Some, Contains}
 use Rattle.st_disk.specs.Crash.{Sides, IsCrashImage}
-use Rattle.st_records.specs.declared.version.Version.TheVariants.{Two}
 use Rattle.st_records.specs.declared.record.Record.{Record}
 use Rattle.st_records.specs.declared.record.Record.TheVariants as records
-use Rattle.st_records.specs.Limits.{IsGood}
+use Rattle.st_records.specs.Limits.{IsGoodIn}
 use Rattle.st_records.specs.Parts.{target_of}
-use Rattle.st_recovery.specs.Stored.{AllRecover, AllRecoverEither}
+use Rattle.st_recovery.specs.Stored.{AllRecoverIn, AllRecoverEitherIn}
 use Rattle.bd_flusher.specs.declared.site.receipt.Receipt.{Receipt}
 use Rattle.bd_flusher.specs.Batches.{StandsAt, IsInBatch}
 use Rattle.bd_steps.specs.Kind.{Kind, kind_of}
@@ -50,12 +49,12 @@ MayCome kinds.kept w target = ⊥
 
 -- the step may be made
 abbrev pub MayHappen : World → Event → Type 0
-MayHappen w (submit note) = IsGood Two note × MayCome (kind_of note) w (target_of note)
+MayHappen w (submit note) = IsGoodIn w.form note × MayCome (kind_of note) w (target_of note)
 MayHappen w drain = w.taken ≡ w.told
-MayHappen w (compaction_call sides failed) = (w.dead ≡ false) × AllRecover (state_after w w.told) sides
+MayHappen w (compaction_call sides failed) = (w.dead ≡ false) × AllRecoverIn w.form (state_after w w.told) sides
 MayHappen w (commit_call sides failed) =
-    (w.dead ≡ false) × (w.told < w.taken) × AllRecoverEither (state_after w w.told) (state_after w w.taken) sides
-MayHappen w commit_end = (w.dead ≡ false) × (w.told < w.taken) × AllRecover (state_after w w.taken) w.sides
+    (w.dead ≡ false) × (w.told < w.taken) × AllRecoverEitherIn w.form (state_after w w.told) (state_after w w.taken) sides
+MayHappen w commit_end = (w.dead ≡ false) × (w.told < w.taken) × AllRecoverIn w.form (state_after w w.taken) w.sides
 MayHappen w (look receipt) =
     (receipt.ticket < w.told) × StandsAt w.submitted receipt.ticket receipt.noted × IsInBatch 0 w.ends receipt.ticket receipt.batch
 MayHappen w (advance receipt) = Contains w.receipts receipt × (kind_of receipt.noted ≡ kinds.begun)

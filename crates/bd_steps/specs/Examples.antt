@@ -4,18 +4,19 @@ use Rattle.std.specs.Int.{w16, w64, to_le_bytes}
 use Rattle.std.specs.FinMap as map
 use Rattle.st_disk.specs.Crash.{Sides, settled}
 use Rattle.st_records.specs.declared.version.Version.TheVariants as versions
-use Rattle.st_records.specs.declared.record.Explicit.TheVariants.{Known}
+use Rattle.st_records.specs.declared.version.Form.TheVariants as forms
+use Rattle.st_records.specs.declared.record.Explicit.TheVariants.{Known, Marked}
 use Rattle.st_records.specs.declared.record.Phase.TheVariants as phases
 use Rattle.st_records.specs.declared.record.Entry.{Entry}
 use Rattle.st_records.specs.declared.record.Record.{Record}
 use Rattle.st_records.specs.declared.record.Record.TheVariants as records
 use Rattle.st_state.specs.State.{replay}
 use Rattle.st_file.specs.Layout.{magic}
-use Rattle.st_file.specs.Batch.{Batch, text_of}
+use Rattle.st_file.specs.Batch.{Batch, text_of, text_of_in}
 use Rattle.st_recovery.specs.Recovers.{Recovers}
 use Rattle.st_recovery.specs.Stored.{AllRecover}
 use Rattle.bd_flusher.specs.Batches.{StandsAt, IsInBatch}
-use Rattle.bd_steps.specs.World.{World, opened, state_after}
+use Rattle.bd_steps.specs.World.{World, opened_in, opened, state_after}
 use Rattle.bd_steps.specs.Event.{Event, compaction_call}
 use Rattle.bd_steps.specs.Run.{IsRun, after_all}
 use Rattle.bd_steps.specs.Acknowledged.{IsAcknowledged}
@@ -110,3 +111,23 @@ pub record SomeCompaction : Type 0 where
   pub events : List Event
   pub run : IsRun knows_b events
   pub goes_on : GoesOnBehindCompaction events (after_all knows_b events)
+
+-- ---- where records are written as in version 4
+
+-- that a is done, with marks of its files
+abbrev pub marked_a : Record
+marked_a = records.Done name_a [] [] (Marked [] (codes "marks"))
+
+-- the bytes of a side of version 4 and generation 1 with these batches and a closed gate behind them
+abbrev pub marked_side_of : List Batch → List ℕ
+marked_side_of batches = 1 ∷ (magic ++ (to_le_bytes w16 4 ++ (to_le_bytes w64 1 ++ (text_of_in forms.Marked batches ++ 0 ∷ []))))
+
+-- a store was opened that holds nothing and writes this form
+abbrev pub marked_at_first : World
+marked_at_first = opened_in forms.Marked map.empty (on_a (marked_side_of []))
+
+-- there is a run to a power cut in which that a was done, with its marks, is acknowledged
+abbrev pub SomeMarkedDone : Type 0
+SomeMarkedDone =
+    (events : List Event) × (IsRun marked_at_first events × (IsSome (after_all marked_at_first events).left
+    × (IsAcknowledged (after_all marked_at_first events) 1 × StandsAt (after_all marked_at_first events).submitted 1 marked_a)))

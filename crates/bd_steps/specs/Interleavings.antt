@@ -10,10 +10,12 @@
 -- else is committed.
 use Rattle.std.specs.Prelude.{ℕ, List, Contains, IfSome}
 use Rattle.st_disk.specs.Crash.{Sides}
+use Rattle.st_records.specs.declared.version.Form.{Form}
+use Rattle.st_records.specs.declared.version.Form.TheVariants.{Plain}
 use Rattle.st_state.specs.State.{StateMap}
-use Rattle.st_recovery.specs.Stored.{AllRecover}
+use Rattle.st_recovery.specs.Stored.{AllRecoverIn}
 use Rattle.bd_flusher.specs.declared.site.receipt.Receipt.{Receipt}
-use Rattle.bd_steps.specs.World.{World, opened}
+use Rattle.bd_steps.specs.World.{World, opened_in}
 use Rattle.bd_steps.specs.Event.{Event}
 use Rattle.bd_steps.specs.Run.{IsRun, after_all}
 use Rattle.bd_steps.specs.Prefix.{GivesPrefix}
@@ -32,14 +34,22 @@ pub record KeepsPromise (w : World) : Type 0 where
   pub recovery : IfSome w.left (λ left. ∥ Survives w left.0 left.1 ∥₁)
   pub receipts : (receipt : Receipt) → Contains w.receipts receipt → NamesItsBatch w receipt
 
--- it is so after any steps of any workers, whatever state was opened
-abbrev pub EveryInterleaving : Type 0
-EveryInterleaving =
-    (opening : StateMap) (sides : Sides) (events : List Event) → AllRecover opening sides
-    → IsRun (opened opening sides) events → KeepsPromise (after_all (opened opening sides) events)
+-- it is so after any steps of any workers, whatever state was opened, where records of this form are written
+abbrev pub EveryInterleavingIn : Form → Type 0
+EveryInterleavingIn form =
+    (opening : StateMap) (sides : Sides) (events : List Event) → AllRecoverIn form opening sides
+    → IsRun (opened_in form opening sides) events → KeepsPromise (after_all (opened_in form opening sides) events)
 
 -- beside it: the target of a recipe that was cut off is out of date, since its 'done' is submitted only after it ended
+abbrev pub EachCutOffIn : Form → Type 0
+EachCutOffIn form =
+    (opening : StateMap) (sides : Sides) (events : List Event) → AllRecoverIn form opening sides
+    → IsRun (opened_in form opening sides) events → IsCutOff (after_all (opened_in form opening sides) events)
+
+-- ---- where records are written as in version 2
+
+abbrev pub EveryInterleaving : Type 0
+EveryInterleaving = EveryInterleavingIn Plain
+
 abbrev pub EachCutOff : Type 0
-EachCutOff =
-    (opening : StateMap) (sides : Sides) (events : List Event) → AllRecover opening sides
-    → IsRun (opened opening sides) events → IsCutOff (after_all (opened opening sides) events)
+EachCutOff = EachCutOffIn Plain

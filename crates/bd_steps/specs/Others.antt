@@ -4,10 +4,10 @@ use Rattle.std.specs.List.{AllByRecursion}
 use Rattle.st_disk.specs.declared.which.Which.{Which}
 use Rattle.st_disk.specs.Moments.{Moments}
 use Rattle.bd_flusher.specs.declared.fault.FlushFault.{FlushFault}
-use Rattle.bd_flusher.specs.Site.{Facts}
+use Rattle.bd_flusher.specs.Site.{FactsIn, Facts, in_form}
 use Rattle.bd_steps.specs.World.{World}
 use Rattle.bd_steps.specs.Event.{Event, submit, advance, start, finish, something_else, MayHappen, after}
-use Rattle.bd_flusher.specs.Flushing.{FlushAnswer}
+use Rattle.bd_flusher.specs.Flushing.{FlushAnswerIn, FlushAnswer}
 use Rattle.bd_steps.specs.Steps.{IsLeftBy, IsOfFlush, ComesBy, AreStepsOf}
 use Rattle.bd_steps.specs.Run.{IsRun, after_all}
 
@@ -54,16 +54,25 @@ InterleavedIsRun =
 
 -- the steps may be made in their turn, they leave the site so, and what a power cut may leave at any moment of its flush, it may
 -- leave after some of them
-pub record AreAmong {D : Type 0} (moments : D → Moments) (old new : Facts D) (w : World) (all : List Event) : Type 0 where
+pub record AreAmong {D : Type 0} (moments : D → Moments) (old new : FactsIn D) (w : World) (all : List Event) : Type 0 where
   pub run : IsRun w all
   pub left : IsLeftBy moments new (after_all w all)
   pub each_moment : (k : ℕ) → (moments old.disk).newest ≤ k → k ≤ (moments new.disk).newest → ComesBy w all ((moments new.disk).at k)
 
 -- so whatever steps have left a site so, and whatever others do while it is flushed: what the flush does is some steps more, and
 -- they stay so among the others'
-abbrev pub FlushesAmongOthers : {D : Type 0} → (T : Type 0) → (honest : Type 0) → (D → Moments) → (D → Which → List ℕ) → (D → ℕ) → Type 0
-FlushesAmongOthers {D} T honest moments seen count =
-    (old new : Facts D) (result : Result T FlushFault) (w : World) → honest → FlushAnswer honest moments seen count old new result
+abbrev pub FlushesAmongOthersIn : {D : Type 0} → (T : Type 0) → (honest : Type 0) → (D → Moments) → (D → Which → List ℕ) → (D → ℕ) → Type 0
+FlushesAmongOthersIn {D} T honest moments seen count =
+    (old new : FactsIn D) (result : Result T FlushFault) (w : World) → honest → FlushAnswerIn honest moments seen count old new result
     → IsLeftBy moments old w → (mine : List Event) × (AreStepsOf moments old new result w mine
     × ((others all : List Event) → AllByRecursion IsOfOthers others → IsRun w others → Interleaves mine others all
     → AreAmong moments old new w all))
+
+-- ---- where version 2 is written
+
+abbrev pub FlushesAmongOthers : {D : Type 0} → (T : Type 0) → (honest : Type 0) → (D → Moments) → (D → Which → List ℕ) → (D → ℕ) → Type 0
+FlushesAmongOthers {D} T honest moments seen count =
+    (old new : Facts D) (result : Result T FlushFault) (w : World) → honest → FlushAnswer honest moments seen count old new result
+    → IsLeftBy moments (in_form old) w → (mine : List Event) × (AreStepsOf moments (in_form old) (in_form new) result w mine
+    × ((others all : List Event) → AllByRecursion IsOfOthers others → IsRun w others → Interleaves mine others all
+    → AreAmong moments (in_form old) (in_form new) w all))

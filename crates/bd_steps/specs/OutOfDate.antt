@@ -5,7 +5,7 @@ use Rattle.st_records.specs.declared.record.Record.{Record}
 use Rattle.st_records.specs.declared.record.Record.TheVariants as records
 use Rattle.st_records.specs.Parts.{target_of}
 use Rattle.st_state.specs.State.{StateMap}
-use Rattle.st_recovery.specs.Recovers.{Recovers}
+use Rattle.st_recovery.specs.Recovers.{RecoversIn}
 use Rattle.mk_verdict.specs.declared.verdict.Target.{Target}
 use Rattle.mk_verdict.specs.declared.verdict.Verdict.{Verdict}
 use Rattle.mk_verdict.specs.declared.verdict.Verdict.TheVariants.{UpToDate}
@@ -36,7 +36,7 @@ pub record IsDoneOrRemade (w : World) (n ticket : ℕ) : Type 0 where
 pub record IsRemadeAtOnce (w : World) (a b : List ℕ) (ticket : ℕ) : Type 0 where
   pub target : List ℕ
   pub begun : StandsAt w.submitted ticket (records.Begun target)
-  pub remade : (m : StateMap) → Recovers a b m → IsRemadeBy m target
+  pub remade : (m : StateMap) → RecoversIn w.form a b m → IsRemadeBy m target
 
 -- where a power cut came, each target whose recipe was started and hasn't ended is out of date
 abbrev pub IsCutOff : World → Type 0

@@ -1,7 +1,7 @@
 -- The first clause: recovery gives the state after some of the submitted records, from the first on.
 use Rattle.std.specs.Prelude.{◌≡◌, ◌⊎◌, ℕ, ◌<◌, List}
 use Rattle.st_state.specs.State.{StateMap}
-use Rattle.st_recovery.specs.Recovers.{Recovers}
+use Rattle.st_recovery.specs.Recovers.{RecoversIn}
 use Rattle.bd_steps.specs.Acknowledged.{IsAcknowledged}
 use Rattle.bd_steps.specs.World.{World, state_after}
 
@@ -9,6 +9,6 @@ use Rattle.bd_steps.specs.World.{World, state_after}
 -- too; and each acknowledged one is among them
 pub record GivesPrefix (w : World) (a b : List ℕ) (n : ℕ) : Type 0 where
   pub told_or_taken : (n ≡ w.told) ⊎ (n ≡ w.taken)
-  pub recovers : Recovers a b (state_after w n)
-  pub only : (m : StateMap) → Recovers a b m → m ≡ state_after w n
+  pub recovers : RecoversIn w.form a b (state_after w n)
+  pub only : (m : StateMap) → RecoversIn w.form a b m → m ≡ state_after w n
   pub acknowledged : (ticket : ℕ) → IsAcknowledged w ticket → ticket < n

@@ -5,6 +5,7 @@
 mod laws;
 
 pub use laws::{
-    board_calls_are_steps, cut_off, every_interleaving, flushes_are_runs, others_dont_hinder,
-    recipes_are_steps, some_interleavings,
+    board_calls_are_steps, board_calls_are_steps_in, cut_off, cut_off_in, every_interleaving,
+    every_interleaving_in, flushes_are_runs, flushes_are_runs_in, others_dont_hinder,
+    others_dont_hinder_in, recipes_are_steps, some_interleavings, some_interleavings_in,
 };

@@ -1,0 +1,5 @@
+use Rattle.bd_steps.proofs.PromiseLemmas.{each_cut_off_in}
+use Rattle.bd_steps.proofs.laws.cut_off_in.Goals as goal
+
+pub returns : goal.returns
+returns c = each_cut_off_in
