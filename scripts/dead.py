@@ -37,14 +37,15 @@ WAITING_EXPORTS = {
     "mk_graph": {"distinct_names", "order_nodes", "whole_plan"},
     "mk_macros": {"FUNCTIONS"},
     "mk_marks": {"mark_of"},
-    "mk_recipe": {"LineStatus", "Told", "Verdict", "outcome"},
-    "mk_seen": {
-        "SeenFiles", "entry_of", "explicit_of", "has_text_names", "is_kept", "is_later", "is_marked", "is_same", "leaves_all", "look_of",
-        "made_beside", "made_of", "marks_of", "name_of", "noted_in", "seen_files", "stamp_of", "stem_of",
+    "mk_pieces": {
+        "Arguments", "Function", "Message", "OfThree", "OfTwo", "OfVariable", "OfWords", "Piece", "Question", "Refused", "Use",
+        "function_named", "named", "next_piece",
     },
     # What dmk_run is to tell behind a goal that nothing makes.
     "near_names": {"nearest"},
     "mk_wildcards": {"Brackets", "Element", "elements", "fits_name"},
+    "mk_recipe": {"LineStatus", "Look", "Mark", "Prerequisite", "Told", "Verdict", "outcome"},
+    "mk_seen": {"SeenFiles", "look_of", "marks_of"},
     "row_files": {"hex_digit"},
     "st_disk": {"Call"},
     "st_file": {

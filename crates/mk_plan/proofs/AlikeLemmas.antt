@@ -1,5 +1,4 @@
 -- Graphs that say the same of each number pass their nodes in the same way.
-use mathlib.Core.Path.{fun_ext}
 use Rattle.std.specs.Prelude.{IsTrue, ◌&&◌, if◌then◌else◌, codes, encode_utf8_all}
 use Rattle.std.specs.List.{Any}
 use Rattle.std.specs.Option.{option_map_or}
@@ -7,12 +6,11 @@ use Rattle.std.proofs.Common.{◌≡◌, ◌∙◌, ◌⊎◌, ℕ, ℤ, Bool, t
 use Rattle.bstr.specs.Utf8.{lossy_chars}
 use Rattle.mk_graph.specs.Edges.{row}
 use Rattle.mk_graph.specs.Numbering.{all_added, name_at, has_name}
-use Rattle.mk_macros.specs.Ranks.{Defined, defined_by, meanings_of}
+use Rattle.mk_macros.specs.Ranks.{Defined, meanings_of}
 use Rattle.mk_macros.specs.declared.dynamic.Dynamic.TheVariants as dynamic
 use Rattle.mk_macros.specs.declared.dynamic.RecipeNames.{RecipeNames}
 use Rattle.mk_recipe.specs.declared.line.Line.{Line}
 use Rattle.mk_verdict.specs.Verdict.{IsLater, IsFirstReason, IsOutOfDate}
-use Rattle.mk_verdict.specs.declared.mark.Mark.TheVariants.{NotKept}
 use Rattle.mk_verdict.specs.declared.verdict.Reason.{Reason}
 use Rattle.mk_verdict.specs.declared.verdict.Target.{Target}
 use Rattle.mk_profile.specs.Profile.{is_wide}
@@ -23,57 +21,22 @@ use Rattle.mk_rule_lines.specs.Rules.{suffixes_of, is_default_rule}
 use Rattle.mk_rule_lines.specs.declared.rule_line.RuleLine.{RuleLine}
 use Rattle.mk_nodes.specs.Prerequisites.{distinct, hidden_in}
 use Rattle.mk_nodes.specs.declared.graph.Graph.{Graph}
+use Rattle.mk_marks.specs.declared.noted.Noted.{Noted}
+use Rattle.mk_seen.specs.Nodes.{stamp_of, made_of, entry_of, stem_of, source_of, is_marked}
 use Rattle.st_records.specs.declared.record.Entry.{Entry}
 use Rattle.mk_plan.specs.ExplicitWords.{once_of, first_of, is_implicit, source_word, stem_left, stem_word}
-use Rattle.mk_plan.specs.Nodes.{stamp_of, made_of, entry_of, hidden_of, stem_of, source_of, explicit_of, is_marked, IsNewer, AreNewer, nothing, named, left_out, EndsRemade}
+use Rattle.mk_plan.specs.Nodes.{IsNewer, AreNewer, nothing, named, left_out, EndsRemade}
 use Rattle.mk_plan.specs.PartWords.{once_in, written_in, row_in}
-use Rattle.mk_plan.specs.Parts.{language_of, is_part, recipe_of}
+use Rattle.mk_plan.specs.Parts.{language_of, is_part}
 use Rattle.mk_plan.specs.Recipe.{AreExpanded, AreNames, AreLinesIn, AreLinesOf}
-use Rattle.mk_plan.specs.Target.{Seen, seen_at, seen_hard, seen_of, IsTargetOf}
+use Rattle.mk_plan.specs.Target.{IsTargetOf}
 use Rattle.mk_plan.specs.Passage.{Passage, to_make, finished, commands_of}
 use Rattle.mk_plan.specs.Passing.{Passes, is_to_be_run, is_up_to_date, has_no_recipe, is_left}
 use Rattle.mk_plan.specs.Words.{in_wide, implied_names, written_of, order_only_words}
 use Rattle.mk_plan.specs.Why.{IsWhy, judged_names, words_by, gone_number}
 use Rattle.mk_plan.specs.declared.why.Why.{Why}
-
--- what a passing reads of a graph is the same of both
-pub record AreAlike (a b : Graph) : Type 0 where
-  pub names : a.names ≡ b.names
-  pub hard : a.hard ≡ b.hard
-  pub stamp : (n : ℕ) → stamp_of a n ≡ stamp_of b n
-  pub made : (n : ℕ) → made_of a n ≡ made_of b n
-  pub entry : (n : ℕ) → entry_of a n ≡ entry_of b n
-  pub hidden : (n : ℕ) → hidden_of a n ≡ hidden_of b n
-  pub stem : (n : ℕ) → stem_of a n ≡ stem_of b n
-  pub source : (n : ℕ) → source_of a n ≡ source_of b n
-  pub explicit : (n : ℕ) → explicit_of a n ≡ explicit_of b n
-  pub sources : (n : ℕ) → implied_names a n ≡ implied_names b n
-  pub order_only : (n : ℕ) → order_only_words a n ≡ order_only_words b n
-  pub implicit : (n : ℕ) → is_implicit a n ≡ is_implicit b n
-  pub recipe : (n : ℕ) → recipe_of a n ≡ recipe_of b n
-  pub lines : a.lines.items ≡ b.lines.items
-  pub dropped : a.soft_dropped ≡ b.soft_dropped
-  pub defined : defined_by a.macros ≡ defined_by b.macros
-
-turned : (a b : Graph) → AreAlike a b → AreAlike b a
-turned a b same = record {
-  names = sym same.names;
-  hard = sym same.hard;
-  stamp = λ n. sym (same.stamp n);
-  made = λ n. sym (same.made n);
-  entry = λ n. sym (same.entry n);
-  hidden = λ n. sym (same.hidden n);
-  stem = λ n. sym (same.stem n);
-  source = λ n. sym (same.source n);
-  explicit = λ n. sym (same.explicit n);
-  sources = λ n. sym (same.sources n);
-  order_only = λ n. sym (same.order_only n);
-  implicit = λ n. sym (same.implicit n);
-  recipe = λ n. sym (same.recipe n);
-  lines = sym same.lines;
-  dropped = sym same.dropped;
-  defined = sym same.defined;
-}
+use Rattle.mk_plan.proofs.SeenLemmas.{turned, same_noted, same_files, seen_in}
+pub use Rattle.mk_plan.proofs.SeenLemmas.{AreAlike}
 
 -- ---- what is newer, and what ends as remade
 
@@ -193,31 +156,15 @@ module _ (a b : Graph) (same : AreAlike a b) (marks : List Bool) (n : ℕ) where
   lines_in [] lines are = are
   lines_in (l ∷ parts) lines (own, rest, of_line, more, is) = (own, rest, part_in l own of_line, lines_in parts rest more, is)
 
-  abbrev seen_by : (is_hidden : Bool) (m : ℕ) (name : List ℕ) (stamp : Option ℤ) → Seen
-  seen_by is_hidden m name stamp =
-      record { name = name; stamp = stamp; is_hidden = is_hidden; has_rule = true; is_remade = is_marked marks m; mark = NotKept }
-
-  same_seen : (is_hidden : Bool) (h : Option ℕ) → seen_at a marks is_hidden h ≡ seen_at b marks is_hidden h
-  same_seen is_hidden None = refl
-  same_seen is_hidden (Some m) =
-      ap (λ ns. seen_by is_hidden m (name_at ns m) (stamp_of a m)) same.names ∙ ap (λ s. seen_by is_hidden m (name_at b.names m) s) (same.stamp m)
-
-  seen_in : seen_of a marks n ≡ seen_of b marks n
-  seen_in =
-      ap (λ h. map (seen_hard a marks) (row h n) ++ map (seen_at a marks true) (hidden_of a n)) same.hard
-      ∙ ap (λ hs. map (seen_hard a marks) (row b.hard n) ++ map (seen_at a marks true) hs) (same.hidden n)
-      ∙ ap (λ (f : ℕ → Seen). map f (row b.hard n) ++ map (seen_at a marks true) (hidden_of b n)) (fun_ext (λ m. same_seen false (Some m)))
-      ∙ ap (λ (f : Option ℕ → Seen). map (seen_hard b marks) (row b.hard n) ++ map f (hidden_of b n)) (fun_ext (λ h. same_seen true h))
-
   target_in : (lines : List Line) (target : Target) → IsTargetOf a marks n lines target → IsTargetOf b marks n lines target
   target_in lines target is = record {
     commands = is.commands;
     explicit = is.explicit ∙ same.explicit n;
     stamp = is.stamp ∙ same.made n;
-    prerequisites = is.prerequisites ∙ seen_in;
+    prerequisites = is.prerequisites ∙ seen_in a b same marks n;
     ordered = is.ordered ∙ ap not same.dropped;
-    source = is.source;
-    files = is.files;
+    source = is.source ∙ ap (λ (m : Noted). m.source_changed) (same_noted a b same marks n);
+    files = is.files ∙ same_files a b same marks n;
   }
 
   -- ---- reasons, and what is told

@@ -3,38 +3,42 @@ use Rattle.std.specs.Prelude.{IsSomeAnd, if◌then◌else◌, slice_get, is_none
 use Rattle.std.specs.Bool.{OnTrue}
 use Rattle.std.specs.List.{list_all}
 use Rattle.std.specs.Str.{bytes_eq, is_utf8}
-use Rattle.std.proofs.Common.{◌≡◌, ◌∙◌, ℕ, zero, suc, ℤ, Bool, true, false, not, ◌&&◌, ◌||◌, List, [], ◌∷◌, ◌++◌, map, Option, Some, None, refl, sym, ap, subst, arith, Result, Ok, Err, IfOk, ◌≢◌, ◌<◌, length, drop, get_or}
-use Rattle.std.proofs.Math.Seq.{drop-cons}
+use Rattle.std.proofs.Common.{◌≡◌, ◌∙◌, ℕ, zero, suc, ℤ, Bool, true, false, not, ◌&&◌, ◌||◌, List, [], ◌∷◌, ◌++◌, map, Option, Some, None, refl, sym, ap, subst, inl, inr, Result, Ok, Err, IfOk, ◌≢◌}
 use Rattle.std.proofs.lemmas.List.{append-nil}
 use Rattle.std.proofs.lemmas.List.Folds.{list_all-append, list_all-map}
 use Rattle.std.proofs.lemmas.Slice.Eq.{bytes_eq-Decides}
-use Rattle.std.proofs.lemmas.Str.{IsUtf8-from_ascii, is_utf8-from_IsUtf8}
 use Rattle.mk_graph.specs.Edges.{row}
 use Rattle.mk_graph.specs.Numbering.{name_at}
+use Rattle.mk_marks.specs.declared.kept.Kept.{Kept}
+use Rattle.mk_marks.specs.declared.noted.Noted.{Noted}
 use Rattle.mk_recipe.proofs.RecordedLemmas.{recorded_by}
 use Rattle.mk_recipe.specs.Line.{Records}
 use Rattle.mk_rule_lines.specs.Doubles.{double_lines}
 use Rattle.mk_rule_lines.specs.declared.rule_line.RuleLine.{RuleLine}
-use Rattle.mk_nodes.specs.Node.{explicit_in}
 use Rattle.mk_nodes.specs.declared.graph.Graph.{Graph}
-use Rattle.mk_verdict.proofs.ByTimesLemmas.{by_times}
-use Rattle.mk_verdict.proofs.ReasonLemmas.{is_later-decides, is_gone-decides, counts_as_remade-decides}
-use Rattle.mk_verdict.specs.ByTimes.{HasNoMarks, HoldsByTimes}
-use Rattle.mk_verdict.specs.Tests.{is_later, is_gone, counts_as_remade}
-use Rattle.mk_verdict.specs.Verdict.{HasFailed, IsLater, IsGone, IsRemade, NamesOthers, Holds}
+use Rattle.mk_verdict.proofs.MarkLemmas.{differs_decides}
+use Rattle.mk_verdict.proofs.ReasonLemmas.{is_newer-decides, is_changed-decides, is_gone-decides, counts_as_remade-decides}
+use Rattle.mk_verdict.specs.Marks.{mark_of, Differs}
+use Rattle.mk_verdict.specs.Tests.{is_newer, is_changed, is_replaced, is_gone, counts_as_remade}
+use Rattle.mk_verdict.specs.Verdict.{HasFailed, HasOtherNames, HasReplaced, IsGone, IsNewer, IsRemade, Holds}
+use Rattle.mk_verdict.specs.declared.mark.Look.{Look}
 use Rattle.mk_verdict.specs.declared.mark.Look.TheVariants.{NoFile}
+use Rattle.mk_verdict.specs.declared.mark.MadeFile.{MadeFile}
+use Rattle.mk_verdict.specs.declared.mark.Mark.{Mark}
 use Rattle.mk_verdict.specs.declared.verdict.Prerequisite.{Prerequisite}
 use Rattle.mk_verdict.specs.declared.verdict.Reason.{Reason}
 use Rattle.mk_verdict.specs.declared.verdict.Reason.TheVariants.{NoEntry, WasBegun, WasFailed, CommandsChanged, PrerequisitesChanged, Absent, TargetChanged, Newer, Changed, HiddenGone, Remade}
 use Rattle.mk_verdict.specs.declared.verdict.Target.{Target}
-use Rattle.mk_plan.specs.Finished.{leaves_hard, leaves_hidden, has_text_name, leaves_all, are_names_of, is_explicit, is_done, is_kept, PartGives}
-use Rattle.mk_plan.specs.Nodes.{node_at, stamp_of, made_of, entry_of, hidden_of, explicit_of, is_marked}
+use Rattle.mk_seen.proofs.MarkLemmas.{noted_at}
+use Rattle.mk_seen.specs.Leaving.{leaves_hard, leaves_hidden, leaves_made, leaves_prerequisites, has_text_name, leaves_all, is_explicit, is_done, is_kept}
+use Rattle.mk_seen.specs.Marks.{looks_made, with_marks, marks_behind, noted_in, noted_of, marks_of, made_file, files_of, hard_marked, hidden_marked}
+use Rattle.mk_seen.specs.Names.{are_same}
+use Rattle.mk_seen.specs.Nodes.{stamp_of, made_of, entry_of, hidden_of, explicit_of, is_marked}
+use Rattle.mk_seen.specs.Seen.{Seen, shown, seen_hard, seen_hidden, seen_of}
+use Rattle.mk_plan.specs.Finished.{PartGives}
 use Rattle.mk_plan.specs.Parts.{language_of, is_part, parts_of, recipe_line, recipe_of}
 use Rattle.mk_plan.specs.Passage.{finished}
 use Rattle.mk_plan.specs.Passing.{Passes, is_up_to_date}
-use Rattle.mk_plan.specs.TextNames.{HasTextNames}
-use Rattle.mk_plan.specs.Target.{Seen, shown, seen_at, seen_hard, seen_of}
-use Rattle.mk_plan.proofs.MarkLemmas.{has_no_marks}
 use Rattle.st_records.specs.declared.record.Entry.{Entry}
 use Rattle.st_records.specs.Parts.{names_recorded}
 use Rattle.st_records.specs.declared.record.Phase.{Phase}
@@ -73,10 +77,14 @@ all_both p q (x ∷ xs) e f =
     let (q_here, q_rest) = both (q x) (list_all q xs) f in
     both_true (p x && q x) (list_all (λ y. p y && q y) xs) (both_true (p x) (q x) p_here q_here) (all_both p q xs p_rest q_rest)
 
-all_unless : {X : Type 0} (keeping : Bool) (q : X → Bool) (xs : List X) → (not keeping || list_all q xs) ≡ true → list_all (λ x. not keeping || q x) xs ≡ true
-all_unless true q xs e = e
-all_unless false q [] e = refl
-all_unless false q (x ∷ xs) e = all_unless false q xs refl
+-- what each passes, each passes with its mark
+all_marked : {X : Type 0} (keeping : Bool) (q : X → Bool) (xs : List X) (kept : Kept) → (not keeping || list_all q xs) ≡ true →
+    list_all (λ ((x, mark) : X × Mark). not keeping || q x) (with_marks xs kept) ≡ true
+all_marked keeping q [] kept e = refl
+all_marked true q (x ∷ xs) kept e =
+    let (here, rest) = both (q x) (list_all q xs) e in
+    both_true (q x) _ here (all_marked true q xs _ rest)
+all_marked false q (x ∷ xs) kept e = all_marked false q xs _ refl
 
 -- ---- prerequisites
 
@@ -87,7 +95,7 @@ as_seen s = record {
   is_hidden = s.is_hidden;
   has_rule = s.has_rule;
   is_remade = s.is_remade;
-  look = NoFile;
+  look = s.look;
   mark = s.mark;
 }
 
@@ -95,76 +103,88 @@ shown_again : (seen : List Seen) → map shown (map as_seen seen) ≡ seen
 shown_again [] = refl
 shown_again (s ∷ seen) = ap (λ rest. s ∷ rest) (shown_again seen)
 
--- no reason comes of the prerequisite
+-- no reason comes of its file, and none of the prerequisite
+abbrev file_quiet : (keeping : Bool) (made : Option ℤ) → Prerequisite → Bool
+file_quiet keeping made p = not (is_newer keeping made p) && not (is_changed keeping p)
+
 abbrev quiet : (keeping orders : Bool) (made : Option ℤ) → Prerequisite → Bool
-quiet keeping orders made p = not (is_later p.stamp made) && (not (keeping && is_gone p) && not (counts_as_remade orders p))
+quiet keeping orders made p = file_quiet keeping made p && (not (keeping && is_gone p) && not (counts_as_remade orders p))
 
-hard_quiet : (later marked keeping orders : Bool) → (not later && not marked) ≡ true → (not later && (not (keeping && false) && not (marked && (orders || true)))) ≡ true
-hard_quiet true marked keeping orders e = absurd cc
-hard_quiet false true keeping orders e = absurd cc
-hard_quiet false false true orders e = refl
-hard_quiet false false false orders e = refl
+hard_quiet : (file marked keeping orders : Bool) → (file && not marked) ≡ true → (file && (not (keeping && false) && not (marked && (orders || true)))) ≡ true
+hard_quiet false marked keeping orders e = absurd cc
+hard_quiet true true keeping orders e = absurd cc
+hard_quiet true false true orders e = refl
+hard_quiet true false false orders e = refl
 
-hidden_quiet : (later absent text marked keeping orders : Bool) → (not later && ((not keeping || text) && not (marked && orders))) ≡ true →
-    (not later && (not (keeping && ((absent && false) || not text)) && not (marked && (orders || false)))) ≡ true
-hidden_quiet true absent text marked keeping orders e = absurd cc
-hidden_quiet false absent false marked true orders e = absurd cc
-hidden_quiet false absent text true keeping true e = grind arith
-hidden_quiet false true true true true false e = refl
-hidden_quiet false false true true true false e = refl
-hidden_quiet false absent text true false false e = refl
-hidden_quiet false true true false true orders e = refl
-hidden_quiet false false true false true orders e = refl
-hidden_quiet false absent text false false orders e = refl
+hidden_quiet : (file absent text marked keeping orders : Bool) → ((file && not (marked && orders)) && (not keeping || text)) ≡ true →
+    (file && (not (keeping && ((absent && false) || not text)) && not (marked && (orders || false)))) ≡ true
+hidden_quiet false absent text marked keeping orders e = absurd cc
+hidden_quiet true absent text true keeping true e = absurd cc
+hidden_quiet true absent false false true orders e = absurd cc
+hidden_quiet true absent false true true false e = absurd cc
+hidden_quiet true true true true true false e = refl
+hidden_quiet true false true true true false e = refl
+hidden_quiet true absent text true false false e = refl
+hidden_quiet true true true false true orders e = refl
+hidden_quiet true false true false true orders e = refl
+hidden_quiet true absent text false false orders e = refl
 
-in_turn : (a b c : Bool) → ((a && c) && b) ≡ true → (a && (b && c)) ≡ true
-in_turn a b c e =
-    let (first, second) = both (a && c) b e in
-    let (one, other) = both a c first in
-    both_true a (b && c) one (both_true b c second other)
+-- a hidden prerequisite that is gone
+abbrev gone : Mark → Seen
+gone mark = record { name = []; stamp = None; is_hidden = true; has_rule = false; is_remade = false; look = NoFile; mark = mark }
 
-gone_quiet : (keeping : Bool) → not keeping ≡ true → (not (keeping && true) && true) ≡ true
-gone_quiet true e = absurd cc
-gone_quiet false e = refl
+gone_quiet : (keeping orders : Bool) (made : Option ℤ) (mark : Mark) → (not keeping && (not keeping || true)) ≡ true →
+    quiet keeping orders made (as_seen (gone mark)) ≡ true
+gone_quiet true orders made mark e = absurd cc
+gone_quiet false orders made mark e = refl
 
-not_newer : (keeping orders : Bool) (made : Option ℤ) (p : Prerequisite) → quiet keeping orders made p ≡ true → IsLater p.stamp made → ⊥
-not_newer keeping orders made p is later =
-    apart (is_later p.stamp made) ((is_later-decides p.stamp made).1 later) (both (not (is_later p.stamp made)) (not (keeping && is_gone p) && not (counts_as_remade orders p)) is).0
+module _ (keeping orders : Bool) (made : Option ℤ) (p : Prerequisite) (is : quiet keeping orders made p ≡ true) where
+  of_file : (not (is_newer keeping made p) ≡ true) × (not (is_changed keeping p) ≡ true)
+  of_file = both (not (is_newer keeping made p)) (not (is_changed keeping p)) (both (file_quiet keeping made p) _ is).0
 
-not_gone : (keeping orders : Bool) (made : Option ℤ) (p : Prerequisite) → keeping ≡ true → quiet keeping orders made p ≡ true → IsGone p → ⊥
-not_gone keeping orders made p kept is gone =
-    let rest = (both (not (is_later p.stamp made)) (not (keeping && is_gone p) && not (counts_as_remade orders p)) is).1 in
-    apart (keeping && is_gone p) (both_true keeping (is_gone p) kept ((is_gone-decides p).1 gone))
-    (both (not (keeping && is_gone p)) (not (counts_as_remade orders p)) rest).0
+  of_rest : (not (keeping && is_gone p) ≡ true) × (not (counts_as_remade orders p) ≡ true)
+  of_rest = both (not (keeping && is_gone p)) (not (counts_as_remade orders p)) (both (file_quiet keeping made p) _ is).1
 
-not_remade : (keeping orders : Bool) (made : Option ℤ) (p : Prerequisite) → quiet keeping orders made p ≡ true → IsRemade orders p → ⊥
-not_remade keeping orders made p is remade =
-    let rest = (both (not (is_later p.stamp made)) (not (keeping && is_gone p) && not (counts_as_remade orders p)) is).1 in
-    apart (counts_as_remade orders p) ((counts_as_remade-decides orders p).1 remade)
-    (both (not (keeping && is_gone p)) (not (counts_as_remade orders p)) rest).1
+  not_newer : IsNewer keeping made p → ⊥
+  not_newer newer = apart (is_newer keeping made p) ((is_newer-decides keeping made p).1 newer) of_file.0
+
+  not_changed : Differs (mark_of keeping p.mark) p.look → ⊥
+  not_changed changed = apart (is_changed keeping p) ((is_changed-decides keeping p).1 changed) of_file.1
+
+  not_gone : keeping ≡ true → IsGone p → ⊥
+  not_gone kept gone_so = apart (keeping && is_gone p) (both_true keeping (is_gone p) kept ((is_gone-decides p).1 gone_so)) of_rest.0
+
+  not_remade : IsRemade orders p → ⊥
+  not_remade remade = apart (counts_as_remade orders p) ((counts_as_remade-decides orders p).1 remade) of_rest.1
+
+-- ---- files
+
+made_passes : (keeping : Bool) (made : Look × Mark) → leaves_made keeping made ≡ true → not (is_replaced keeping (made_file made)) ≡ true
+made_passes keeping (look, mark) e = e
+
+not_replaced : (keeping : Bool) (f : MadeFile) → not (is_replaced keeping f) ≡ true → Differs (mark_of keeping f.mark) f.look → ⊥
+not_replaced keeping f is differs = apart (is_replaced keeping f) ((differs_decides (mark_of keeping f.mark) f.look).1 differs) is
+
+none_replaced : (keeping : Bool) (made : List (Look × Mark)) → list_all (leaves_made keeping) made ≡ true → HasReplaced keeping (map made_file made) → ⊥
+none_replaced keeping made all (i, h) =
+    none_at (λ f. not (is_replaced keeping f)) (λ f. Differs (mark_of keeping f.mark) f.look) (not_replaced keeping) (map made_file made)
+    (list_all-map (λ f. not (is_replaced keeping f)) made_file made
+    ∙ all_weaker (leaves_made keeping) (λ m. not (is_replaced keeping (made_file m))) (made_passes keeping) made all) i h
 
 -- ---- names
 
-same_names : (graph : Graph) (nodes : List ℕ) (names : List (List ℕ)) → are_names_of graph nodes names ≡ true → names ≡ map (name_at graph.names) nodes
-same_names graph [] [] is = refl
-same_names graph [] (name ∷ names) is = absurd cc
-same_names graph (m ∷ nodes) [] is = absurd cc
-same_names graph (m ∷ nodes) (name ∷ names) is =
-    let (here, rest) = both (bytes_eq name (name_at graph.names m)) (are_names_of graph nodes names) is in
-    ap (λ n. n ∷ names) ((bytes_eq-Decides name (name_at graph.names m)).0 here) ∙ ap (λ ns. name_at graph.names m ∷ ns) (same_names graph nodes names rest)
-
--- fewer names than nodes
-pub too_few : (graph : Graph) (nodes : List ℕ) (i : ℕ) (left names : List (List ℕ)) → i < length nodes → left ≡ [] →
-    are_names_of graph (drop i nodes) left ≡ are_names_of graph nodes names → false ≡ are_names_of graph nodes names
-too_few graph nodes i left names within none so_far =
-    let here : are_names_of graph (get_or nodes i 0 ∷ drop (suc i) nodes) [] ≡ false = refl in
-    sym here ∙ ap (λ ns. are_names_of graph ns []) (sym (drop-cons nodes i 0 within))
-    ∙ ap (λ rest. are_names_of graph (drop i nodes) rest) (sym none) ∙ so_far
+same_names : (names recorded : List (List ℕ)) → are_same names recorded ≡ true → recorded ≡ names
+same_names [] [] is = refl
+same_names [] (r ∷ recorded) is = absurd cc
+same_names (name ∷ names) [] is = absurd cc
+same_names (name ∷ names) (r ∷ recorded) is =
+    let (here, rest) = both (bytes_eq r name) (are_same names recorded) is in
+    ap (λ n. n ∷ recorded) ((bytes_eq-Decides r name).0 here) ∙ ap (λ ns. name ∷ ns) (same_names names recorded rest)
 
 same_explicit : (graph : Graph) (n : ℕ) (explicit : Option (List (List ℕ))) (names : List (List ℕ)) → explicit ≡ Some names → is_explicit graph n explicit ≡ true → names ≡ explicit_of graph n
 same_explicit graph n None names known is = absurd cc
 same_explicit graph n (Some kept) names known is =
-    let same : kept ≡ names = cc in sym same ∙ same_names graph (explicit_in (node_at graph n) (row graph.hard n)) kept is
+    let same : kept ≡ names = cc in sym same ∙ same_names (explicit_of graph n) kept is
 
 done_is : (ph : Phase) → is_done ph ≡ true → ph ≡ phase.Done
 done_is phase.Begun e = absurd cc
@@ -197,46 +217,43 @@ module _ (keeping : Bool) (graph : Graph) (marks : List Bool) (n : ℕ) where
     stamp = made_of graph n;
     prerequisites = record { ref_ptr = (0, 0); now = prerequisites };
     orders_hidden = not graph.soft_dropped;
-    source_changed = false;
-    files = record { ref_ptr = (0, 0); now = [] };
+    source_changed = (noted_of graph n).source_changed;
+    files = record { ref_ptr = (0, 0); now = files_of graph n };
   }
-
-  no_marks : (commands : List (List ℕ)) → HasNoMarks (target_of commands)
-  no_marks commands = has_no_marks graph marks n (target_of commands) refl refl (shown_again (seen_of graph marks n))
 
   abbrev tests : Prerequisite → Bool
   tests = quiet keeping (not graph.soft_dropped) (made_of graph n)
 
-  hard_passes : (m : ℕ) → leaves_hard graph marks (made_of graph n) m ≡ true → tests (as_seen (seen_hard graph marks m)) ≡ true
-  hard_passes m e = hard_quiet (is_later (stamp_of graph m) (made_of graph n)) (is_marked marks m) keeping (not graph.soft_dropped) e
+  hard_passes : (hard : ℕ × Mark) → leaves_hard keeping graph marks (made_of graph n) hard ≡ true → tests (as_seen (seen_hard graph marks hard)) ≡ true
+  hard_passes (m, mark) e =
+      hard_quiet (file_quiet keeping (made_of graph n) (as_seen (seen_hard graph marks (m, mark)))) (is_marked marks m) keeping (not graph.soft_dropped) e
 
   -- the hidden prerequisite is no reason
-  abbrev leaves_whole : Option ℕ → Bool
-  leaves_whole hidden = leaves_hidden keeping graph marks (made_of graph n) hidden && (not keeping || has_text_name graph hidden)
+  abbrev leaves_whole : Option ℕ × Mark → Bool
+  leaves_whole hidden = leaves_hidden keeping graph marks (made_of graph n) hidden && (not keeping || has_text_name graph hidden.0)
 
-  hidden_passes : (hidden : Option ℕ) → leaves_whole hidden ≡ true → tests (as_seen (seen_at graph marks true hidden)) ≡ true
-  hidden_passes None e = gone_quiet keeping (both (not keeping) (not keeping || true) e).0
-  hidden_passes (Some m) e =
-      hidden_quiet (is_later (stamp_of graph m) (made_of graph n)) (is_none (stamp_of graph m)) (is_utf8 (name_at graph.names m)) (is_marked marks m)
-      keeping (not graph.soft_dropped)
-      (in_turn (not (is_later (stamp_of graph m) (made_of graph n))) (not keeping || is_utf8 (name_at graph.names m))
-      (not (is_marked marks m && not graph.soft_dropped)) e)
+  hidden_passes : (hidden : Option ℕ × Mark) → leaves_whole hidden ≡ true → tests (as_seen (seen_hidden graph marks hidden)) ≡ true
+  hidden_passes (None, mark) e = gone_quiet keeping (not graph.soft_dropped) (made_of graph n) mark e
+  hidden_passes (Some m, mark) e =
+      hidden_quiet (file_quiet keeping (made_of graph n) (as_seen (seen_hidden graph marks (Some m, mark)))) (is_none (stamp_of graph m))
+      (is_utf8 (name_at graph.names m)) (is_marked marks m) keeping (not graph.soft_dropped) e
 
-  all_pass : list_all (leaves_hard graph marks (made_of graph n)) (row graph.hard n) ≡ true →
-      list_all (leaves_hidden keeping graph marks (made_of graph n)) (hidden_of graph n) ≡ true →
+  all_pass : leaves_prerequisites keeping graph marks n (marks_of graph n) ≡ true →
       (not keeping || list_all (has_text_name graph) (hidden_of graph n)) ≡ true → list_all tests prerequisites ≡ true
-  all_pass hard hidden texts =
-      let hards : List Seen = map (seen_hard graph marks) (row graph.hard n) in
-      let hiddens : List Seen = map (seen_at graph marks true) (hidden_of graph n) in
+  all_pass leaves texts =
+      let (hard, hidden) = both (list_all (leaves_hard keeping graph marks (made_of graph n)) (hard_marked graph n)) _ leaves in
+      let hards : List Seen = map (seen_hard graph marks) (hard_marked graph n) in
+      let hiddens : List Seen = map (seen_hidden graph marks) (hidden_marked graph n) in
       let test : Seen → Bool = λ s. tests (as_seen s) in
       list_all-map tests as_seen (hards ++ hiddens) ∙ list_all-append test hards hiddens
       ∙ both_true (list_all test hards) (list_all test hiddens)
-      (list_all-map test (seen_hard graph marks) (row graph.hard n)
-      ∙ all_weaker (leaves_hard graph marks (made_of graph n)) (λ m. test (seen_hard graph marks m)) hard_passes (row graph.hard n) hard)
-      (list_all-map test (seen_at graph marks true) (hidden_of graph n)
-      ∙ all_weaker leaves_whole (λ m. test (seen_at graph marks true m)) hidden_passes (hidden_of graph n)
-      (all_both (leaves_hidden keeping graph marks (made_of graph n)) (λ m. not keeping || has_text_name graph m) (hidden_of graph n) hidden
-      (all_unless keeping (has_text_name graph) (hidden_of graph n) texts)))
+      (list_all-map test (seen_hard graph marks) (hard_marked graph n)
+      ∙ all_weaker (leaves_hard keeping graph marks (made_of graph n)) (λ h. test (seen_hard graph marks h)) hard_passes (hard_marked graph n) hard)
+      (list_all-map test (seen_hidden graph marks) (hidden_marked graph n)
+      ∙ all_weaker leaves_whole (λ h. test (seen_hidden graph marks h)) hidden_passes (hidden_marked graph n)
+      (all_both (leaves_hidden keeping graph marks (made_of graph n)) (λ (h : Option ℕ × Mark). not keeping || has_text_name graph h.0)
+      (hidden_marked graph n) hidden
+      (all_marked keeping (has_text_name graph) (hidden_of graph n) (marks_behind (row graph.hard n) (marks_of graph n)) texts)))
 
   module _ (entry : Entry) (at : entry_of graph n ≡ Some entry) (kept : is_kept graph n entry ≡ true) (leaves : leaves_all keeping graph marks n ≡ true) where
     of_entry : (P : Entry → Type 0) → IsSomeAnd (entry_of graph n) P → P entry
@@ -245,36 +262,44 @@ module _ (keeping : Bool) (graph : Graph) (marks : List Bool) (n : ℕ) where
     has_files : is_some (made_of graph n) ≡ true
     has_files = (both (is_some (made_of graph n)) _ leaves).0
 
+    of_files : list_all (leaves_made keeping) (with_marks (looks_made graph n) (noted_of graph n).kept) ≡ true
+    of_files = (both (list_all (leaves_made keeping) (with_marks (looks_made graph n) (noted_of graph n).kept)) _ (both (is_some (made_of graph n)) _ leaves).1).0
+
     passes : list_all tests prerequisites ≡ true
     passes =
-        let rest = (both (is_some (made_of graph n)) _ leaves).1 in
-        let (hard, others) = both (list_all (leaves_hard graph marks (made_of graph n)) (row graph.hard n)) _ rest in
-        let (hidden, texts) = both (list_all (leaves_hidden keeping graph marks (made_of graph n)) (hidden_of graph n)) _ others in
-        all_pass hard hidden texts
+        let rest = (both (list_all (leaves_made keeping) (with_marks (looks_made graph n) (noted_of graph n).kept)) _ (both (is_some (made_of graph n)) _ leaves).1).1 in
+        let (leave, texts) = both (leaves_prerequisites keeping graph marks n (marks_of graph n)) _ rest in
+        all_pass leave texts
 
     is_over : entry.phase ≡ phase.Done
-    is_over = done_is entry.phase (both (is_done entry.phase) (is_explicit graph n (names_recorded entry.explicit)) kept).0
+    is_over = done_is entry.phase (both (is_done entry.phase) _ kept).0
 
-    by_time : (reason : Reason) → Holds keeping (entry_of graph n) (target_of entry.commands) reason →
-        HoldsByTimes keeping (entry_of graph n) (target_of entry.commands) reason
-    by_time reason = (by_times keeping (entry_of graph n) (target_of entry.commands) reason (no_marks entry.commands)).0
+    of_names : (not (noted_in graph n entry).source_changed ≡ true) × (is_explicit graph n (names_recorded entry.explicit) ≡ true)
+    of_names = both (not (noted_in graph n entry).source_changed) (is_explicit graph n (names_recorded entry.explicit)) (both (is_done entry.phase) _ kept).1
+
+    same_source : (noted_of graph n).source_changed ≡ true → ⊥
+    same_source changed =
+        apart (noted_in graph n entry).source_changed (sym (ap (λ (m : Noted). m.source_changed) (noted_at graph n (Some entry) at)) ∙ changed) of_names.0
+
+    same_prerequisites : HasOtherNames (target_of entry.commands) entry → ⊥
+    same_prerequisites (inl changed) = same_source changed
+    same_prerequisites (inr (names, known, others)) = others (same_explicit graph n (names_recorded entry.explicit) names known of_names.1)
 
     no_reason : (reason : Reason) → Holds keeping (entry_of graph n) (target_of entry.commands) reason → ⊥
     no_reason NoEntry (k, none) = some_none entry (sym at ∙ none)
     no_reason WasBegun (k, h) = done_begun (sym is_over ∙ of_entry (λ e. e.phase ≡ phase.Begun) h)
     no_reason WasFailed (k, h) = let (status, is) = of_entry HasFailed h in done_failed status (sym is_over ∙ is)
     no_reason CommandsChanged (k, h) = of_entry (λ e. e.commands ≢ entry.commands) h refl
-    no_reason PrerequisitesChanged h =
-        let (names, known, others) = of_entry (NamesOthers (explicit_of graph n)) (by_time PrerequisitesChanged h).1 in
-        others (same_explicit graph n (names_recorded entry.explicit) names known (both (is_done entry.phase) (is_explicit graph n (names_recorded entry.explicit)) kept).1)
+    no_reason PrerequisitesChanged (k, h) = same_prerequisites (of_entry (HasOtherNames (target_of entry.commands)) h)
     no_reason Absent none = none_some (made_of graph n) has_files none
-    no_reason TargetChanged h = by_time TargetChanged h
+    no_reason TargetChanged h = none_replaced keeping (with_marks (looks_made graph n) (noted_of graph n).kept) of_files h
     no_reason (Newer i) h =
-        none_at tests (λ p. IsLater p.stamp (made_of graph n)) (λ p is. not_newer keeping (not graph.soft_dropped) (made_of graph n) p is) prerequisites passes i
-        (by_time (Newer i) h)
-    no_reason (Changed i) h = by_time (Changed i) h
+        none_at tests (IsNewer keeping (made_of graph n)) (λ p is. not_newer keeping (not graph.soft_dropped) (made_of graph n) p is) prerequisites passes i h
+    no_reason (Changed i) h =
+        none_at tests (λ p. Differs (mark_of keeping p.mark) p.look) (λ p is. not_changed keeping (not graph.soft_dropped) (made_of graph n) p is) prerequisites
+        passes i h
     no_reason (HiddenGone i) (k, h) =
-        none_at tests IsGone (λ p is. not_gone keeping (not graph.soft_dropped) (made_of graph n) p k is) prerequisites passes i h
+        none_at tests IsGone (λ p is. not_gone keeping (not graph.soft_dropped) (made_of graph n) p is k) prerequisites passes i h
     no_reason (Remade i) h =
         none_at tests (IsRemade (not graph.soft_dropped)) (λ p is. not_remade keeping (not graph.soft_dropped) (made_of graph n) p is) prerequisites passes i h
 
@@ -303,27 +328,16 @@ module _ (keeping : Bool) (graph : Graph) (marks : List Bool) (n : ℕ) where
       finished_so true gives = passed gives
       finished_so false gives = tt
 
-      pub finished_if : {E : Type 0} (commands : List (List ℕ)) → commands ≡ entry.commands → (got : Result Bool E) →
+      finished_if_kept : {E : Type 0} (commands : List (List ℕ)) → commands ≡ entry.commands → (got : Result Bool E) →
           IfOk got (λ so. OnTrue so (PartGives graph marks n l commands)) →
           IfOk got (λ so. OnTrue so (Passes keeping graph marks n false (finished (name_at graph.names n) ∷ [])))
-      finished_if commands same (Ok so) gives = finished_so so (subst (λ cs. OnTrue so (PartGives graph marks n l cs)) same gives)
-      finished_if commands same (Err e) gives = tt
+      finished_if_kept commands same (Ok so) gives = finished_so so (subst (λ cs. OnTrue so (PartGives graph marks n l cs)) same gives)
+      finished_if_kept commands same (Err e) gives = tt
 
--- ---- names that are all UTF-8
-
-text_at : (names : List (List ℕ)) → list_all is_utf8 names ≡ true → (n : ℕ) → is_utf8 (name_at names n) ≡ true
-text_at [] all n = is_utf8-from_IsUtf8 [] (IsUtf8-from_ascii [] (λ i. omega arith))
-text_at (name ∷ names) all zero = (both (is_utf8 name) (list_all is_utf8 names) all).0
-text_at (name ∷ names) all (suc n) = text_at names (both (is_utf8 name) (list_all is_utf8 names) all).1 n
-
-texts_at : (graph : Graph) → HasTextNames graph → (hidden : List (Option ℕ)) → list_all (has_text_name graph) hidden ≡ true
-texts_at graph texts [] = refl
-texts_at graph texts (None ∷ hidden) = texts_at graph texts hidden
-texts_at graph texts (Some m ∷ hidden) = both_true (is_utf8 (name_at graph.names m)) _ (text_at graph.names texts m) (texts_at graph texts hidden)
-
-or_true : (a b : Bool) → b ≡ true → true ≡ (a || b)
-or_true true b e = refl
-or_true false b e = sym e
-
-pub readable : (keeping : Bool) (graph : Graph) → HasTextNames graph → (hidden : List (Option ℕ)) → true ≡ (not keeping || list_all (has_text_name graph) hidden)
-readable keeping graph texts hidden = or_true (not keeping) (list_all (has_text_name graph) hidden) (texts_at graph texts hidden)
+  pub finished_if : {E : Type 0} (entry : Entry) → entry_of graph n ≡ Some entry → (is_kept graph n entry && leaves_all keeping graph marks n) ≡ true →
+      (l : RuleLine) → recipe_line graph n ≡ Some l → is_part (language_of graph) l ≡ false → (commands : List (List ℕ)) → commands ≡ entry.commands →
+      (got : Result Bool E) → IfOk got (λ so. OnTrue so (PartGives graph marks n l commands)) →
+      IfOk got (λ so. OnTrue so (Passes keeping graph marks n false (finished (name_at graph.names n) ∷ [])))
+  finished_if entry at no_reasons l first alone commands same got gives =
+      let (kept, leaves) = both (is_kept graph n entry) (leaves_all keeping graph marks n) no_reasons in
+      finished_if_kept entry at kept leaves l first alone commands same got gives

@@ -4,10 +4,10 @@ pub mod RecipeLemmas
 pub mod PartLemmas
 pub mod PassingLemmas
 pub mod KeptLemmas
-pub mod MarkLemmas
 pub mod FinishedLemmas
 pub mod SameLemmas
 pub mod SimpleLemmas
+pub mod SeenLemmas
 pub mod AlikeLemmas
 pub mod OneNodeLemmas
 pub mod TellingLemmas

@@ -11,7 +11,8 @@ use Rattle.mk_graph.specs.Numbering.{name_at}
 use Rattle.mk_verdict.specs.Tests.{is_later}
 use Rattle.mk_verdict.specs.Verdict.{IsLater}
 use Rattle.mk_nodes.specs.declared.graph.Graph.{Graph}
-use Rattle.mk_plan.specs.Nodes.{stamp_of, made_of, is_marked, IsNewer, AreNewer, nothing, named, left_out, EndsRemade}
+use Rattle.mk_seen.specs.Nodes.{stamp_of, made_of, is_marked}
+use Rattle.mk_plan.specs.Nodes.{IsNewer, AreNewer, nothing, named, left_out, EndsRemade}
 use Rattle.mk_plan.specs.Tests.{is_newer_word, newer_words, ends_remade}
 
 -- ---- times

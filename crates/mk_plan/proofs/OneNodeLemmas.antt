@@ -1,5 +1,5 @@
 -- By the same inputs and goals two graphs say the same of each number.
-use Rattle.std.specs.Prelude.{slice_get, option_map, is_some, option_and_then, option_to_list, unwrap_or}
+use Rattle.std.specs.Prelude.{slice_get, option_map, is_some, option_and_then, unwrap_or}
 use Rattle.std.specs.List.{list_all}
 use Rattle.std.specs.Option.{option_map_or}
 use Rattle.std.specs.FinMap as finmap
@@ -14,22 +14,24 @@ use Rattle.mk_graph.proofs.CycleLemmas.{closed_row}
 use Rattle.mk_macros.specs.Ranks.{defined_by, Defined}
 use Rattle.mk_profile.specs.declared.profile.Profile.{Profile}
 use Rattle.mk_rule_lines.specs.declared.rule_line.RuleLine.{RuleLine}
-use Rattle.mk_rule_lines.specs.Rules.{is_default_rule}
 use Rattle.mk_nodes.specs.Graph.{IsGraph, is_numbered, judged, judged_name, required_in}
 use Rattle.mk_nodes.specs.Node.{source_in, explicit_in, implied_in, hidden_in}
-use Rattle.mk_nodes.specs.Groups.{made_time}
+use Rattle.mk_nodes.specs.Groups.{made_beside, made_time}
 use Rattle.mk_nodes.specs.Look.{time_of}
-use Rattle.mk_nodes.specs.Prerequisites.{Inputs, hard_of, judged_of, distinct, implicit_source, made_from, source_name, recipe_of as rule_of, explicit_names, required_of}
+use Rattle.mk_nodes.specs.Prerequisites.{Inputs, hard_of, judged_of, distinct, implicit_source, made_from, source_name as source_of_rule, recipe_of as rule_of, explicit_names, required_of}
 use Rattle.mk_nodes.specs.declared.graph.Node.{Node}
 use Rattle.mk_nodes.specs.declared.graph.Graph.{Graph}
+use Rattle.mk_nodes.specs.declared.group.Group.{Group}
 use Rattle.mk_nodes.proofs.OneGraphLemmas.{one_names, one_count, one_hard, one_dropped, same_hidden}
-use Rattle.mk_plan.specs.Nodes.{node_at, stamp_of, made_in, made_of, hidden_of, stem_of, source_of, explicit_of}
+use Rattle.mk_verdict.specs.declared.mark.Look.TheVariants.{NoFile}
+use Rattle.mk_seen.specs.Marks.{look_from, look_of, looks_beside, source_name}
+use Rattle.mk_seen.specs.Nodes.{node_at, stamp_of, group_in, made_in, made_of, hidden_of, stem_of, source_of, explicit_of}
 use Rattle.mk_plan.specs.ExplicitWords.{is_implicit}
 use Rattle.mk_plan.specs.Known.{IsNodeOf}
 use Rattle.mk_plan.specs.Parts.{language_of, parts_of, recipe_of}
 use Rattle.mk_plan.specs.Words.{implied_names, order_only_words}
 use Rattle.mk_plan.proofs.KnownLemmas.{node_of_name}
-use Rattle.mk_plan.proofs.AlikeLemmas.{AreAlike}
+use Rattle.mk_plan.proofs.SeenLemmas.{AreAlike}
 use Rattle.st_records.specs.declared.record.Entry.{Entry}
 
 past_none : {A : Type 0} (xs : List A) (n : ℕ) → length xs ≤ n → slice_get xs n ≡ None
@@ -48,6 +50,12 @@ module _ (graph : Graph) (n : ℕ) (past : length graph.nodes.items ≤ n) where
   no_stamp : stamp_of graph n ≡ None
   no_stamp = ap (option_and_then (λ (node : Node). time_of node.stamp)) none
 
+  no_look : look_of graph n ≡ NoFile
+  no_look = ap (λ o. look_from (option_and_then (λ (node : Node). node.stamp) o)) none
+
+  none_beside : looks_beside graph n ≡ []
+  none_beside = ap (λ o. option_map_or (λ (g : Group). g.looks) (option_and_then group_in o) []) none
+
   no_made : made_of graph n ≡ None
   no_made = ap (option_and_then made_in) none
 
@@ -62,6 +70,9 @@ module _ (graph : Graph) (n : ℕ) (past : length graph.nodes.items ≤ n) where
 
   no_source : source_of graph n ≡ []
   no_source = ap (λ o. option_map_or (name_at graph.names) (source_in o (row graph.hard n)) []) none
+
+  no_source_name : source_name graph n ≡ None
+  no_source_name = ap (λ o. option_map (name_at graph.names) (source_in o (row graph.hard n))) none
 
   no_explicit : explicit_of graph n ≡ []
   no_explicit =
@@ -178,6 +189,12 @@ module _ (inputs : Inputs) (named : List (List ℕ)) (a b : Graph) (is_a : IsGra
     stamp =
         view_once (length a.nodes.items) (stamp_of a) (stamp_of b) (λ n. time_of (inputs.looks (name_at a.names n))) None (λ n inside. (known_a n inside).stamp)
         (λ n inside. (known_b n inside).stamp) (no_stamp a) (λ n past. no_stamp b n (past_b n past));
+    look =
+        view_once (length a.nodes.items) (look_of a) (look_of b) (λ n. look_from (inputs.looks (name_at a.names n))) NoFile (λ n inside. (known_a n inside).look)
+        (λ n inside. (known_b n inside).look) (no_look a) (λ n past. no_look b n (past_b n past));
+    beside =
+        view_once (length a.nodes.items) (looks_beside a) (looks_beside b) (λ n. map inputs.looks (made_beside inputs (name_at a.names n))) []
+        (λ n inside. (known_a n inside).beside) (λ n inside. (known_b n inside).beside) (none_beside a) (λ n past. none_beside b n (past_b n past));
     made =
         view_once (length a.nodes.items) (made_of a) (made_of b) (λ n. made_time inputs (name_at a.names n)) None (λ n inside. (known_a n inside).made)
         (λ n inside. (known_b n inside).made) (no_made a) (λ n past. no_made b n (past_b n past));
@@ -189,8 +206,12 @@ module _ (inputs : Inputs) (named : List (List ℕ)) (a b : Graph) (is_a : IsGra
         view_once (length a.nodes.items) (stem_of a) (stem_of b) (λ n. option_map_or (λ s. s.stem) (implicit_source inputs (name_at a.names n)) []) []
         (λ n inside. (known_a n inside).stem) (λ n inside. (known_b n inside).stem) (no_stem a) (λ n past. no_stem b n (past_b n past));
     source =
-        view_once (length a.nodes.items) (source_of a) (source_of b) (λ n. unwrap_or (source_name (implicit_source inputs (name_at a.names n))) []) []
+        view_once (length a.nodes.items) (source_of a) (source_of b) (λ n. unwrap_or (source_of_rule (implicit_source inputs (name_at a.names n))) []) []
         (λ n inside. (known_a n inside).source) (λ n inside. (known_b n inside).source) (no_source a) (λ n past. no_source b n (past_b n past));
+    source_named =
+        view_once (length a.nodes.items) (source_name a) (source_name b) (λ n. source_of_rule (implicit_source inputs (name_at a.names n))) None
+        (λ n inside. (known_a n inside).source_named) (λ n inside. (known_b n inside).source_named) (no_source_name a)
+        (λ n past. no_source_name b n (past_b n past));
     explicit =
         view_once (length a.nodes.items) (explicit_of a) (explicit_of b) (λ n. explicit_names inputs (name_at a.names n)) []
         (λ n inside. (known_a n inside).explicit) (λ n inside. (known_b n inside).explicit) (no_explicit a) (λ n past. no_explicit b n (past_b n past));

@@ -1,6 +1,6 @@
 -- The parts of a recipe that were expanded so far, and the words of a line with `::`.
 use Rattle.std.specs.Prelude.{Result, Ok, Err, IsErrAnd, IfErr}
-use Rattle.std.proofs.Common.{◌≡◌, ◌∙◌, ◌+◌, ◌<◌, ◌≤◌, ℕ, suc, add-one, get_or, length, Bool, true, false, cond, ◌&&◌, List, [], ◌∷◌, ◌++◌, map, filter, drop, Option, Some, None, inl, inr, refl, sym, ap, subst}
+use Rattle.std.proofs.Common.{◌≡◌, ◌∙◌, ◌+◌, ◌<◌, ◌≤◌, ℕ, suc, add-one, get_or, length, Bool, true, false, cond, ◌&&◌, List, [], ◌∷◌, ◌++◌, map, filter, drop, Some, None, inl, inr, refl, sym, ap, subst}
 use Rattle.std.proofs.Math.Seq.{drop-cons}
 use Rattle.std.proofs.lemmas.List.{append_assoc, append-nil, drop_all, drop-map}
 use Rattle.mk_graph.specs.Edges.{row}

@@ -10,7 +10,7 @@ use Rattle.mk_verdict.specs.declared.verdict.Verdict.TheVariants.{UpToDate, OutO
 use Rattle.mk_rule_lines.specs.declared.rule_line.RuleLine.{RuleLine}
 use Rattle.mk_nodes.specs.declared.graph.Graph.{Graph}
 use Rattle.st_records.specs.declared.record.Entry.{Entry}
-use Rattle.mk_plan.specs.Nodes.{entry_of}
+use Rattle.mk_seen.specs.Nodes.{entry_of}
 use Rattle.mk_plan.specs.Parts.{language_of, parts_of, recipe_line, recipe_of}
 use Rattle.mk_plan.specs.Passage.{to_make, finished, commands_of}
 use Rattle.mk_plan.specs.Tests.{ends_remade}

@@ -10,7 +10,6 @@ use Rattle.mk_rule_lines.specs.declared.fault.TextFault.{TextFault}
 use Rattle.mk_rule_lines.specs.declared.fault.TextPlace.{TextPlace}
 use Rattle.mk_plan.specs.Recipe.{IsExpandedLine, AreExpanded, IsLineFault, HasFirstFault, IsToldAt, place_in}
 use Rattle.mk_plan.specs.declared.fault.RecipeFault.{RecipeFault}
-use Rattle.mk_plan.specs.declared.fault.RecipeFault.TheVariants as fault
 
 -- these lines are what the first ones give: with what the others give they are what all give
 abbrev pub ExpandedSoFar : (meanings : Meanings) (recipe : List RecipeLine) (i : ℕ) (lines : List Line) → Type 0

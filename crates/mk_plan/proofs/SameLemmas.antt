@@ -18,30 +18,28 @@ use Rattle.mk_reader.specs.declared.item.RecipeLine.{RecipeLine}
 use Rattle.mk_recipe.specs.Line.{IsLine, IsExempt, IsAlwaysRun}
 use Rattle.mk_recipe.specs.declared.line.Line.{Line}
 use Rattle.mk_recipe.proofs.RecordedLemmas.{same_records}
-use Rattle.mk_verdict.specs.ByTimes.{HasNoMarks}
-use Rattle.mk_verdict.specs.Marks.{mark_of, IsTimed}
+use Rattle.mk_verdict.specs.Marks.{mark_of, Differs, IsTimed}
 use Rattle.mk_verdict.specs.Told.{name_in}
-use Rattle.mk_verdict.specs.Verdict.{IsLater, NamesOthers, Holds, IsFirstReason, IsOutOfDate}
+use Rattle.mk_verdict.specs.Verdict.{HasReplaced, IsLater, NamesOthers, Holds, IsFirstReason, IsOutOfDate}
 use Rattle.mk_verdict.specs.declared.verdict.Prerequisite.{Prerequisite}
 use Rattle.mk_verdict.specs.declared.verdict.Target.{Target}
 use Rattle.mk_verdict.specs.declared.verdict.Reason.{Reason}
 use Rattle.mk_verdict.specs.declared.verdict.Reason.TheVariants as reason
 use Rattle.mk_verdict.specs.declared.verdict.Verdict.TheVariants.{OutOfDate}
-use Rattle.mk_verdict.proofs.ByTimesLemmas.{by_times}
 use Rattle.mk_verdict.proofs.VerdictLemmas.{same_verdict}
 use Rattle.mk_rule_lines.specs.declared.rule_line.RuleLine.{RuleLine}
 use Rattle.mk_nodes.specs.declared.graph.Graph.{Graph}
 use Rattle.st_records.specs.declared.record.Entry.{Entry}
-use Rattle.mk_plan.specs.Nodes.{entry_of}
+use Rattle.mk_seen.specs.Nodes.{entry_of}
+use Rattle.mk_seen.specs.Seen.{Seen, shown}
 use Rattle.mk_plan.specs.PartWords.{row_in}
 use Rattle.mk_plan.specs.Parts.{recipe_of}
 use Rattle.mk_plan.specs.Recipe.{IsExpandedLine, AreExpanded, AreNames, recipe_meaning, AreLinesIn, AreLinesOf}
-use Rattle.mk_plan.specs.Target.{Seen, shown, IsTargetOf}
+use Rattle.mk_plan.specs.Target.{IsTargetOf}
 use Rattle.mk_plan.specs.Passage.{Passage, to_make, commands_of}
 use Rattle.mk_plan.specs.Passing.{Passes, is_to_be_run, is_up_to_date, has_no_recipe, is_left}
 use Rattle.mk_plan.specs.Why.{IsWhy, words_of}
 use Rattle.mk_plan.specs.declared.why.Why.{Why}
-use Rattle.mk_plan.proofs.MarkLemmas.{has_no_marks}
 use Rattle.mk_plan.proofs.NodeLemmas.{same_newer}
 
 -- ---- one meaning
@@ -165,7 +163,7 @@ prerequisite_alike P ps qs i same h =
 
 module _ (keeping : Bool) (entry : Option Entry) (a b : Target) (commands : a.commands.now ≡ b.commands.now) (explicit : a.explicit.now ≡ b.explicit.now)
     (stamp : a.stamp ≡ b.stamp) (prerequisites : map shown a.prerequisites.now ≡ map shown b.prerequisites.now)
-    (ordered : a.orders_hidden ≡ b.orders_hidden) (source : a.source_changed ≡ b.source_changed) (none : HasNoMarks a) where
+    (ordered : a.orders_hidden ≡ b.orders_hidden) (source : a.source_changed ≡ b.source_changed) (files : a.files.now ≡ b.files.now) where
   holds_alike : (r : Reason) → Holds keeping entry a r → Holds keeping entry b r
   holds_alike reason.NoEntry h = h
   holds_alike reason.WasBegun h = h
@@ -177,11 +175,12 @@ module _ (keeping : Bool) (entry : Option Entry) (a b : Target) (commands : a.co
         (subst (λ s. IsSomeAnd entry (λ e. IsTrue s ⊎ NamesOthers a.explicit.now e)) source h.1),
   )
   holds_alike reason.Absent h = sym stamp ∙ h
-  holds_alike reason.TargetChanged h = absurd ((by_times keeping entry a reason.TargetChanged none).0 h)
+  holds_alike reason.TargetChanged h = subst (HasReplaced keeping) files h
   holds_alike (reason.Newer i) h =
       subst (λ s. IsSomeAnd (slice_get b.prerequisites.now i) (λ p. IsTimed (mark_of keeping p.mark) × IsLater p.stamp s)) stamp
       (prerequisite_alike (λ s. IsTimed (mark_of keeping s.mark) × IsLater s.stamp a.stamp) a.prerequisites.now b.prerequisites.now i prerequisites h)
-  holds_alike (reason.Changed i) h = absurd ((by_times keeping entry a (reason.Changed i) none).0 h)
+  holds_alike (reason.Changed i) h =
+      prerequisite_alike (λ s. Differs (mark_of keeping s.mark) s.look) a.prerequisites.now b.prerequisites.now i prerequisites h
   holds_alike (reason.HiddenGone i) h = (
     h.0,
     prerequisite_alike
@@ -229,12 +228,12 @@ module _ (keeping : Bool) (graph : Graph) (marks : List Bool) (n : ℕ) (lines :
   there : (r : Reason) → Holds keeping (entry_of graph n) a r → Holds keeping (entry_of graph n) b r
   there =
       holds_alike keeping (entry_of graph n) a b commands (of_a.explicit ∙ sym of_b.explicit) (of_a.stamp ∙ sym of_b.stamp)
-      prerequisites (of_a.ordered ∙ sym of_b.ordered) (of_a.source ∙ sym of_b.source) (has_no_marks graph marks n a of_a.source of_a.files of_a.prerequisites)
+      prerequisites (of_a.ordered ∙ sym of_b.ordered) (of_a.source ∙ sym of_b.source) (of_a.files ∙ sym of_b.files)
 
   back : (r : Reason) → Holds keeping (entry_of graph n) b r → Holds keeping (entry_of graph n) a r
   back =
       holds_alike keeping (entry_of graph n) b a (sym commands) (of_b.explicit ∙ sym of_a.explicit) (of_b.stamp ∙ sym of_a.stamp)
-      (sym prerequisites) (of_b.ordered ∙ sym of_a.ordered) (of_b.source ∙ sym of_a.source) (has_no_marks graph marks n b of_b.source of_b.files of_b.prerequisites)
+      (sym prerequisites) (of_b.ordered ∙ sym of_a.ordered) (of_b.source ∙ sym of_a.source) (of_b.files ∙ sym of_a.files)
 
   out_of_date_alike : IsOutOfDate keeping (entry_of graph n) a → IsOutOfDate keeping (entry_of graph n) b
   out_of_date_alike (r, holds) = (r, there r holds)

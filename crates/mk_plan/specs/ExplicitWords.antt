@@ -1,7 +1,6 @@
 -- What `$<` and `$*` stand for in a recipe. POSIX make leaves open what they are in one of the target's own: there the strict profile
 -- has nothing, and the wide one what GNU make has.
-use Rattle.std.specs.Prelude.{ℕ, Bool, false, not, ◌&&◌, if◌then◌else◌, List, [], ◌∷◌, ◌++◌, map, flat_map, slice_get, slice_index_or, Option, Some, None, is_some, option_and_then, option_to_list}
-use Rattle.std.specs.Option.{option_map_or}
+use Rattle.std.specs.Prelude.{ℕ, Bool, not, ◌&&◌, if◌then◌else◌, List, [], ◌∷◌, ◌++◌, map, flat_map, slice_index_or, Option, Some, None, is_some, option_and_then, option_to_list}
 use Rattle.mk_graph.specs.Edges.{row}
 use Rattle.mk_graph.specs.Numbering.{name_at}
 use Rattle.mk_macros.specs.Words.{without_end}
@@ -11,7 +10,7 @@ use Rattle.mk_rule_lines.specs.Rules.{is_default_rule, suffixes_of}
 use Rattle.mk_rule_lines.specs.declared.rule_line.RuleLine.{RuleLine}
 use Rattle.mk_nodes.specs.declared.graph.Graph.{Graph}
 use Rattle.mk_reader.specs.Text.{is_empty}
-use Rattle.mk_plan.specs.Nodes.{node_at, source_of, stem_of}
+use Rattle.mk_seen.specs.Nodes.{node_at, source_of, stem_of}
 use Rattle.mk_plan.specs.Parts.{language_of, is_part}
 use Rattle.mk_plan.specs.Words.{implied_names}
 

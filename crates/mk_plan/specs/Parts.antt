@@ -9,7 +9,7 @@ use Rattle.mk_rule_lines.specs.Doubles.{double_lines}
 use Rattle.mk_rule_lines.specs.Rules.{told_file}
 use Rattle.mk_rule_lines.specs.declared.rule_line.RuleLine.{RuleLine}
 use Rattle.mk_nodes.specs.declared.graph.Graph.{Graph}
-use Rattle.mk_plan.specs.Nodes.{node_at}
+use Rattle.mk_seen.specs.Nodes.{node_at}
 
 -- the language of the makefile
 abbrev pub language_of : Graph → Profile

@@ -3,7 +3,7 @@ use Rattle.std.specs.Prelude.{ℕ, Bool, true, false, List, []}
 use Rattle.std.specs.Option.{option_map_or}
 use Rattle.mk_recipe.specs.declared.line.Line.{Line}
 use Rattle.mk_nodes.specs.declared.graph.Graph.{Graph}
-use Rattle.mk_plan.specs.Nodes.{entry_of}
+use Rattle.mk_seen.specs.Nodes.{entry_of}
 use Rattle.mk_plan.specs.declared.why.Why.{Why}
 
 -- the commands that the state has of node n

@@ -8,7 +8,8 @@ use Rattle.mk_verdict.specs.Verdict.{IsOutOfDate}
 use Rattle.mk_verdict.specs.declared.verdict.Target.{Target}
 use Rattle.mk_rule_lines.specs.declared.rule_line.RuleLine.{RuleLine}
 use Rattle.mk_nodes.specs.declared.graph.Graph.{Graph}
-use Rattle.mk_plan.specs.Nodes.{entry_of, EndsRemade}
+use Rattle.mk_seen.specs.Nodes.{entry_of}
+use Rattle.mk_plan.specs.Nodes.{EndsRemade}
 use Rattle.mk_plan.specs.Parts.{recipe_of}
 use Rattle.mk_plan.specs.Passage.{Passage, to_make, finished, is_listed, commands_of}
 use Rattle.mk_plan.specs.Recipe.{AreLinesOf, IsFaultOf}

@@ -5,7 +5,7 @@ use Rattle.mk_graph.specs.Edges.{row}
 use Rattle.mk_graph.specs.Numbering.{name_at}
 use Rattle.mk_verdict.specs.Tests.{is_later}
 use Rattle.mk_nodes.specs.declared.graph.Graph.{Graph}
-use Rattle.mk_plan.specs.Nodes.{stamp_of, made_of, is_marked}
+use Rattle.mk_seen.specs.Nodes.{stamp_of, made_of, is_marked}
 
 -- the prerequisite m is newer than the target n
 abbrev pub is_newer_word : Graph → (marks : List Bool) → (n m : ℕ) → Bool

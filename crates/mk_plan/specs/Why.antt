@@ -10,7 +10,7 @@ use Rattle.mk_verdict.specs.declared.verdict.Reason.{Reason}
 use Rattle.mk_verdict.specs.declared.verdict.Reason.TheVariants.{HiddenGone}
 use Rattle.mk_nodes.specs.Prerequisites.{distinct, hidden_in}
 use Rattle.mk_nodes.specs.declared.graph.Graph.{Graph}
-use Rattle.mk_plan.specs.Nodes.{entry_of}
+use Rattle.mk_seen.specs.Nodes.{entry_of}
 use Rattle.mk_plan.specs.declared.why.Why.{Why}
 
 -- the names of the prerequisites of node n as they are judged: the hard ones, then the hidden ones, gone or not

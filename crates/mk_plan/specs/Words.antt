@@ -9,7 +9,7 @@ use Rattle.mk_rule_lines.specs.Explicit.{explicit_of}
 use Rattle.mk_nodes.specs.Graph.{required_in}
 use Rattle.mk_nodes.specs.Node.{implied_in}
 use Rattle.mk_nodes.specs.declared.graph.Graph.{Graph}
-use Rattle.mk_plan.specs.Nodes.{node_at}
+use Rattle.mk_seen.specs.Nodes.{node_at}
 
 -- what the wide profile alone has
 abbrev pub in_wide : {A : Type 0} → Profile → (value : A) → Option A

@@ -6,11 +6,11 @@ ghost use Rattle.mk_reader.specs.Text.{is_empty};
 ghost use Rattle.mk_plan.specs.Words.{implied_names};
 ghost use Rattle.mk_plan.specs.ExplicitWords.{first_of, once_of, is_implicit, first_prerequisite, without_suffix, stem_left, has_words, lacks_source, source_word, stem_word};
 
-use crate::nodes::{name_of, source_of, stem_of};
 use crate::parts::is_part;
 use byte_strings::ByteStrings;
 use mk_nodes::Graph;
 use mk_rule_lines::{RuleLine, is_bar, is_default_rule, is_wait};
+use mk_seen::{name_of, source_of, stem_of};
 
 /// Whether an implicit rule makes a node.
 fn is_implicit(graph: &Graph, node: usize) -> bool

@@ -7,12 +7,13 @@ ghost use Rattle.mk_plan.specs.Parts.{language_of, is_part};
 ghost use Rattle.mk_plan.specs.PartTests.{newer_among};
 ghost use Rattle.mk_plan.specs.Recipe.{AreRecipeWords};
 
-use crate::nodes::{is_newer_word, name_of};
+use crate::nodes::is_newer_word;
 use crate::words::{RecipeWords, order_only_words};
 use byte_strings::ByteStrings;
 use mk_graph::Names;
 use mk_nodes::Graph;
 use mk_rule_lines::{RuleLine, names_in};
+use mk_seen::name_of;
 use std::alloc::{AllocError, Global};
 
 /// The prerequisites of a line, as they are written and each once.

@@ -7,9 +7,9 @@ ghost use Rattle.mk_rule_lines.specs.Explicit.{numbers_of};
 ghost use Rattle.mk_rule_lines.specs.Table.{named_at};
 ghost use Rattle.mk_plan.specs.Parts.{language_of, recipe_line, is_part, parts_of, file_of, line_place};
 
-use crate::nodes::name_of;
 use mk_nodes::Graph;
 use mk_rule_lines::{RuleLine, TargetTable, double_lines};
+use mk_seen::name_of;
 use std::alloc::{AllocError, Global};
 
 /// The first line whose recipe makes a node.

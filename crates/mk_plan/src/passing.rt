@@ -2,10 +2,10 @@
 ghost use Rattle.std.specs.Prelude.{◌≡◌, ◌<◌, ℕ, true, Some, length, map, IfOk, IfErr};
 ghost use Rattle.std.specs.List.{list_any};
 ghost use Rattle.mk_nodes.specs.declared.graph.Graph.{Graph as Plan};
+ghost use Rattle.mk_seen.specs.TextNames.{HasTextNames};
 ghost use Rattle.mk_plan.specs.Parts.{recipe_of, recipe_line};
 ghost use Rattle.mk_plan.specs.Passage.{is_listed};
 ghost use Rattle.mk_plan.specs.Passing.{Passes, IsFaultAt, is_remade, told_in};
-ghost use Rattle.mk_plan.specs.TextNames.{HasTextNames};
 
 use crate::fault::RecipeFault;
 use crate::finished::is_finished;

@@ -7,7 +7,6 @@ ghost use Rattle.mk_plan.specs.Recipe.{IsExpandedLine, AreExpanded, IsLineFault,
 
 use crate::explicit_words::{source_word, stem_word};
 use crate::fault::RecipeFault;
-use crate::nodes::name_of;
 use crate::part_words::{own_names, part_words};
 use crate::parts::is_part;
 use crate::words::{RecipeWords, as_words, explicit_names, recipe_words};
@@ -17,6 +16,7 @@ use mk_nodes::Graph;
 use mk_reader::RecipeLine;
 use mk_recipe::{Line, split_line};
 use mk_rule_lines::{RuleLine, TextFault, TextPlace};
+use mk_seen::name_of;
 use std::alloc::{AllocError, Global};
 
 /// What a line of a recipe gives.

@@ -6,11 +6,11 @@ ghost use Rattle.mk_macros.specs.Expansion.{Meanings};
 ghost use Rattle.mk_plan.specs.Finished.{GivesFirst, GivesCommands};
 ghost use Rattle.mk_plan.specs.Simple.{KeepsFirst, IsItsOwn};
 
-use crate::same::is_same;
 use byte_strings::Iter;
 use mk_macros::MAX_EXPANSION_BYTES;
 use mk_reader::RecipeLine;
 use mk_recipe::kept_of_expanded;
+use mk_seen::is_same;
 
 fn has_reference(text: &[u8]) -> bool
     ensures { result ≡ list_any (λ b. b == 36) text.now }

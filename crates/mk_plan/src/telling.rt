@@ -7,12 +7,12 @@ ghost use Rattle.mk_plan.specs.Passing.{told_in};
 ghost use Rattle.mk_plan.specs.Passage.{commands_of, to_make, finished};
 ghost use Rattle.mk_plan.specs.Telling.{about, change_lines, changes, difference, line_about, lines_about};
 
-use crate::nodes::{entry_of, name_of};
 use crate::passing::Passed;
 use crate::why::Why;
 use byte_strings::{ByteStrings, Iter};
 use mk_nodes::Graph;
 use mk_recipe::{Line, Reason, recorded};
+use mk_seen::{entry_of, name_of};
 use plain_text::to_plain;
 use std::alloc::{AllocError, Global};
 

@@ -10,10 +10,11 @@ ghost use Rattle.mk_plan.specs.Parts.{language_of, is_part};
 ghost use Rattle.mk_plan.specs.Recipe.{AreRecipeWords};
 ghost use Rattle.mk_plan.specs.Words.{in_wide, implied_names, written_of, order_only_words};
 
-use crate::nodes::{name_of, newer_words};
+use crate::nodes::newer_words;
 use byte_strings::ByteStrings;
 use mk_nodes::Graph;
 use mk_rule_lines::{RuleLine, TargetTable, explicit_of};
+use mk_seen::name_of;
 use std::alloc::{AllocError, Global};
 
 /// The words of the dynamic macros of a recipe that have more than one.

@@ -1,5 +1,4 @@
-use Rattle.std.proofs.Common.{◌+◌, List, map, sym, subst}
-use Rattle.mk_recipe.specs.declared.line.Line.{Line}
+use Rattle.std.proofs.Common.{◌+◌, map, sym, subst}
 use Rattle.mk_plan.specs.Recipe.{IsFaultOf}
 use Rattle.mk_plan.proofs.PartLemmas.{LinesSoFar, lines_more, lines_all, none_more, faulty_here, drop_mapped, none_mapped, handed_on}
 use Rattle.mk_plan.proofs.recipe.lines_of.Goals as goal

@@ -1,5 +1,5 @@
 use Rattle.std.proofs.Common.{map, refl, ap, ◌∙◌}
-use Rattle.mk_plan.specs.Target.{shown}
+use Rattle.mk_seen.specs.Seen.{shown}
 use Rattle.mk_plan.proofs.PassingLemmas.{judged_as}
 use Rattle.mk_plan.proofs.target.judge_node.Goals as goal
 
@@ -10,8 +10,8 @@ returns c =
       commands = c.in_ok-commands.ensures;
       explicit = c.in_ok-explicit.ensures;
       stamp = c.made_of.ensures;
-      prerequisites = ap (map shown) c.deref.ensures.value ∙ c.in_ok-prerequisites.ensures;
+      prerequisites = ap (map shown) c.deref.ensures.value ∙ c.in_ok-seen.ensures.prerequisites;
       ordered = refl;
-      source = refl;
-      files = refl;
+      source = c.in_ok-seen.ensures.source;
+      files = c.deref-2.ensures.value ∙ c.in_ok-seen.ensures.files;
     })

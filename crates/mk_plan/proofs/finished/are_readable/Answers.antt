@@ -1,6 +1,0 @@
-use Rattle.mk_plan.specs.Nodes.{hidden_of}
-use Rattle.mk_plan.proofs.FinishedLemmas.{readable}
-use Rattle.mk_plan.proofs.finished.are_readable.Goals as goal
-
-pub returns-then-texts : goal.returns-then-texts
-returns-then-texts c = readable c.args.keeping c.args.graph.now (c.requires.texts c.if-texts.true) (hidden_of c.args.graph.now c.args.node)
