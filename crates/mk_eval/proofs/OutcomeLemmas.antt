@@ -46,11 +46,12 @@ use Rattle.mk_eval.proofs.ListedLemmas.{text_plain}
 use Rattle.mk_wildcards.specs.Pattern.{has_wildcard}
 use Rattle.mk_wildcards.specs.Found.{Folders}
 use Rattle.mk_reader.specs.declared.item.Special.{Special}
-use Rattle.mk_eval.specs.Makefile.{Outcome, GivesItems, InOrder, behind, NamesIn, LineNames, cause_of, NamedItems, fixed_as, FixedItems, run_as, OutputItems, empty_as, KindItems, DefinitionItems, appends_fixed, ItemItems, StatementItems, FileItems, NoneFixed, IsListed as IsListedRule, RuleItems, SpecialItems, named_rule, with_item, unread_items, AnswerItems, IncludedItems, TextItems}
+use Rattle.mk_eval.specs.Makefile.{Outcome, GivesItems, InOrder, behind, NamesIn, LineNames, cause_of, NamedItems, fixed_as, FixedItems, run_as, OutputItems, empty_as, KindItems, DefinitionItems, appends_fixed, ItemItems, StatementItems, FileItems, NoneFixed, IsListed as IsListedRule, RuleItems, SpecialItems, named_rule, special_in, with_item, unread_items, AnswerItems, IncludedItems, TextItems}
 use Rattle.mk_eval.proofs.BehindLemmas.{IsListed, behind_listed, behind_language, behind_wide, behind_strict}
 use Rattle.mk_eval.proofs.MakefileLemmas.{items_passed_on}
 use Rattle.mk_eval.proofs.OrderLemmas.{IsOne, order_one, Some_of, order_some}
 use Rattle.mk_eval.proofs.RuleLemmas.{names_one, rule_one, rule_some, special_one, special_some}
+use Rattle.mk_eval.proofs.ShortLemmas.{first_short}
 
 and_false : (t : Bool) → (t && false) ≡ false
 and_false true = refl
@@ -247,7 +248,8 @@ rule_given : (world : World) (wide : Bool) (lines : Rule) (given : Defined) → 
 rule_given world true lines given none plain =
     let here = plain refl in
     let listed = rule_listed world lines given here.2 here.3 in
-    inr (inl (here.0, here.1, (gives lines.targets, targets_stand given lines.targets here.2.0, lines, listed, sym (ap (named_rule given.language lines) none))))
+    let named : special_in given.language (gives lines.targets) ≡ None = ap (special_name given.language) (first_short lines.targets here.2.2) ∙ none in
+    inr (inl (here.0, here.1, (gives lines.targets, targets_stand given lines.targets here.2.0, lines, listed, sym (ap (named_rule given.language lines) named))))
 rule_given world false lines given none plain = refl
 
 special_given : (world : World) (wide : Bool) (special : Special) (given : Defined) → (wide ≡ true → IsPlainText special.rule.targets × IsPlainText special.rule.prerequisites) →

@@ -2,6 +2,7 @@
 use Rattle.std.specs.Prelude.{ℕ, Bool, true, false, not, ◌&&◌, ◌||◌, List, [], ◌∷◌, length, map, nat_lt, Option, Some, None, bytes_eq, codes, if◌then◌else◌}
 use Rattle.byte_strings.specs.Blanks.{first_word, words}
 use Rattle.mk_profile.specs.declared.profile.Profile.TheVariants.{Posix}
+use Rattle.mk_short_names.specs.Short.{short_name}
 use Rattle.mk_reader.specs.Special.{special_name, is_refused}
 use Rattle.mk_reader.specs.declared.special.SpecialName.{SpecialName}
 use Rattle.mk_reader.specs.Text.{is_empty, ends_with}
@@ -49,10 +50,10 @@ abbrev pub or_other : Option SpecialName → Option Feature → Option Feature
 or_other None other = other
 or_other (Some name) other = Some (SpecialRule name)
 
--- the first such name among the targets, wherever it stands (GNU make manual, "Special Built-in Target Names")
+-- the first such name among the targets, wherever it stands, and with a `./` in front (GNU make manual, "Special Built-in Target Names")
 abbrev pub refused_among : (targets : List (List ℕ)) → Option Feature
 refused_among [] = None
-refused_among (word ∷ more) = or_other (refused_name (special_name Posix word)) (refused_among more)
+refused_among (word ∷ more) = or_other (refused_name (special_name Posix (short_name word))) (refused_among more)
 
 -- `&:` groups the targets before it (GNU make manual, "Rules with Grouped Targets")
 abbrev pub rule_refused : Rule → Option Feature

@@ -5,6 +5,7 @@ use Rattle.std.specs.List.{list_any, list_all}
 use Rattle.byte_strings.specs.Blanks.{is_blank, first_word, words}
 use Rattle.mk_profile.specs.Profile.{is_wide}
 use Rattle.mk_profile.specs.declared.profile.Profile.{Profile}
+use Rattle.mk_short_names.specs.Short.{short_name}
 use Rattle.mk_macros.specs.Expansion as expansion
 use Rattle.mk_macros.specs.Expansion.{gives, fails, ExpandsTo}
 use Rattle.mk_macros.specs.Ranks.{Defined, in_force, with_definition, with_mark, rule_meanings}
@@ -215,10 +216,10 @@ StaticItems world rule left right given outcome =
     WithText rule given rule.targets (λ targets. WithText rule given left (λ patterns. WithText rule given right (λ prerequisites.
     PatternItems rule (words (listed world.folders targets)) (words (renamed patterns)) (words (listed world.folders prerequisites))))) outcome
 
--- the special name that stands first among the targets of a rule line, which came to this; targets without an expansion name none, which
--- is told with the line
+-- the special name that stands first among the targets of a rule line, which came to this, a `./` in front of it dropped (GNU make); targets
+-- without an expansion name none, which is told with the line
 abbrev pub special_in : Profile → expansion.Outcome → Option SpecialName
-special_in profile (gives text) = special_name profile (first_word text)
+special_in profile (gives text) = special_name profile (short_name (first_word text))
 special_in profile (fails fault) = None
 
 -- what a rule gives that names this one

@@ -3,6 +3,7 @@ ghost use Rattle.std.specs.Prelude.{◌≡◌, map, IfOk};
 ghost use Rattle.byte_strings.specs.Blanks.{words};
 ghost use Rattle.mk_profile.specs.Profile.{is_wide};
 ghost use Rattle.mk_reader.specs.Special.{special_name};
+ghost use Rattle.mk_short_names.specs.Short.{short_name};
 ghost use Rattle.mk_profile.specs.declared.profile.Profile.TheVariants.{Posix};
 ghost use Rattle.mk_eval.specs.Judged.{searches, changes_recipes, macro_refused, definition_refused, opens_vpath, refused_name, refused_among, rule_refused, item_refused, statement_refused, at_line, judged, all_judged};
 
@@ -12,6 +13,7 @@ use mk_reader::{
     Cause, Definition, Directive, Feature, Item, Refusal, Rule, SpecialName, Statement, ends_with,
     is_refused, special_name,
 };
+use mk_short_names::short_name;
 use std::alloc::{AllocError, Global};
 
 /// Whether a text of `VPATH` has files looked for elsewhere. `.` says nothing.
@@ -58,11 +60,11 @@ fn opens_vpath(targets: &[u8]) -> bool
     word == b"vpath".as_slice() && word.len() < targets.len()
 }
 
-/// The special name that this word is, where the wide profile refuses it.
+/// The special name that this word is without a `./` in front, where the wide profile refuses it.
 fn refused_name(word: &[u8]) -> Option<SpecialName>
-    ensures { result ≡ refused_name (special_name Posix word.now) }
+    ensures { result ≡ refused_name (special_name Posix (short_name word.now)) }
 {
-    match special_name(Profile::Posix, word) {
+    match special_name(Profile::Posix, short_name(word)) {
         Some(name) => {
             if is_refused(Profile::Posix, name) {
                 Some(name)

@@ -16,9 +16,10 @@ use mk_macros::{Dynamic, Macros};
 use mk_reader::{
     Cause, Feature, Item, ReadFault, Rule, Special, SpecialName, is_refused, special_name,
 };
+use mk_short_names::short_name;
 use std::alloc::{AllocError, Global};
 
-/// The special name that stands first among the targets of a rule line, once they are expanded.
+/// The special name that stands first among the targets of a rule line, once they are expanded, without a `./` in front.
 fn special_of(
     alloc: Global,
     rule: &Rule,
@@ -29,10 +30,10 @@ fn special_of(
 {
     let text = rule.targets.as_slice();
     if !has_dollar(text) {
-        return Ok(special_name(macros.profile(), first_word(text)));
+        return Ok(special_name(macros.profile(), short_name(first_word(text))));
     }
     match macros.expand(alloc, text, &Dynamic::RuleLine) {
-        Ok(targets) => Ok(special_name(macros.profile(), first_word(&targets))),
+        Ok(targets) => Ok(special_name(macros.profile(), short_name(first_word(&targets)))),
         Err(fault) => {
             if ran_out(&fault) {
                 return Err(AllocError);
