@@ -32,12 +32,13 @@ pub const MACROS: [&[u8]; 3] = [b"SHELL", b".SHELLFLAGS", b"VPATH"];
 /// Macros by which a makefile tells GNU make what to do, and that say nothing here in any profile.
 pub const ASKING: [&[u8]; 2] = [b".DEFAULT_GOAL", b"MAKEFLAGS"];
 
-/// Macros that GNU make sets in each run, and that are empty here.
-pub const RUN: [&[u8]; 4] = [
+/// Macros that GNU make sets in each run, or for the midst of a line, and that are empty here.
+pub const RUN: [&[u8]; 5] = [
     b".DEFAULT_GOAL",
     b"MAKECMDGOALS",
     b"MAKEFILE_LIST",
     b"MAKELEVEL",
+    b"OUTPUT_OPTION",
 ];
 
 /// Commands that GNU make has built in as macros, and the wide profile hasn't.
