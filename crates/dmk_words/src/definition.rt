@@ -11,12 +11,37 @@ fn own_name(name: &[u8]) -> &[u8] {
     }
 }
 
+/// A name without the colons at its end, but so many at most.
+fn without_colons(name: &[u8], most: usize) -> &[u8] {
+    let mut front = name;
+    for _ in 0..most {
+        match front.split_last() {
+            Some((b':', before)) => front = before,
+            _ => break,
+        }
+    }
+    front
+}
+
+/// Whether a macro is named in front of the sign, if there is one: by something, and without a colon behind it.
+fn names_macro(name: &[u8]) -> bool {
+    let front = match name.split_last() {
+        Some((b'+' | b'?' | b'!', before)) => before,
+        _ => without_colons(name, 3),
+    };
+    !matches!(trim(front).last(), None | Some(b':'))
+}
+
 /// The name and the text that a word defines, where it holds a `=`. In the wide profile the blanks around a name, and those before the
-/// text, belong to neither (POSIX make, "Macro Definitions").
+/// text, belong to neither (POSIX make, "Macro Definitions"), and a word that names no macro is a target.
 pub(crate) fn definition_in(profile: Profile, word: &str) -> Option<(&[u8], &[u8])> {
     let (name, text) = word.split_once('=')?;
     if profile.is_wide() {
-        return Some((own_name(name.as_bytes()), trim_start(text.as_bytes())));
+        let name = own_name(name.as_bytes());
+        if !names_macro(name) {
+            return None;
+        }
+        return Some((name, trim_start(text.as_bytes())));
     }
     Some((name.as_bytes(), text.as_bytes()))
 }
