@@ -57,3 +57,16 @@ patsubst_at front (Some behind) replacement text = changed_words front behind re
 
 abbrev pub patsubst_of : (pattern : Pattern) (replacement text : List ℕ) → List ℕ
 patsubst_of pattern replacement text = patsubst_at pattern.0 pattern.1 replacement text
+
+-- each word that ends in these bytes has others in their place, as they stand
+abbrev pub changed_ends : (end to text : List ℕ) → List ℕ
+changed_ends end to text = spaced (map (changed [] end ([], Some to)) (words_of text))
+
+-- `FROM=TO` in a reference is `patsubst FROM,TO` of the value, and without a `%` in FROM `patsubst %FROM,%TO` (GNU make manual,
+-- "Substitution References")
+abbrev pub substitution_at : (front : List ℕ) → Option (List ℕ) → (to value : List ℕ) → List ℕ
+substitution_at front None to value = changed_ends front to value
+substitution_at front (Some behind) to value = changed_words front behind to value
+
+abbrev pub substitution_of : (from : Pattern) (to value : List ℕ) → List ℕ
+substitution_of from to value = substitution_at from.0 from.1 to value

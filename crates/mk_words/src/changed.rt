@@ -2,7 +2,7 @@
 ghost use Rattle.std.specs.Prelude.{◌≡◌, ◌+◌, ◌<◌, ◌++◌, ◌∷◌, ◌&&◌, [], length, drop, true, false, not, is_some, map, filter, if◌then◌else◌, IfOk, OnOk, MatchOption};
 ghost use Rattle.mk_words.specs.Words.{words_of, spaced};
 ghost use Rattle.mk_words.specs.Patterns.{pattern_of, stem_of};
-ghost use Rattle.mk_words.specs.Changed.{filled, changed, changed_words, ends_word, is_next, ends_open, exchanged, exchanged_all, patsubst_of};
+ghost use Rattle.mk_words.specs.Changed.{filled, changed, changed_words, ends_word, is_next, ends_open, exchanged, exchanged_all, patsubst_of, changed_ends, substitution_of};
 
 use crate::cursor::{Words, is_space};
 use crate::joined::{push_word, without_last};
@@ -177,5 +177,38 @@ pub fn patsubst(
     match behind {
         Some(behind) => changed_words(alloc, front, behind, replacement, text),
         None => exchanged_words(alloc, front, replacement, text),
+    }
+}
+
+/// The words that end in these bytes have others in their place, as they stand.
+fn changed_ends(alloc: Global, end: &[u8], to: &[u8], text: &[u8]) -> Result<Vec<u8>, AllocError>
+    ensures { IfOk result (λ v. v.items ≡ changed_ends end.now to.now text.now) }
+{
+    let to = Pattern {
+        front: Vec::new(alloc),
+        behind: Some(to),
+    };
+    let mut out = Vec::new(alloc);
+    for word in Words::new(text) {
+        push_changed(&mut out, b"", end, &to, word)?;
+    }
+    Ok(without_last(out))
+}
+
+/// `$(NAME:FROM=TO)`, of the name's value.
+pub fn substitution(
+    alloc: Global,
+    from: &[u8],
+    to: &[u8],
+    value: &[u8],
+) -> Result<Vec<u8>, AllocError>
+    ensures { IfOk result (λ v. v.items ≡ substitution_of (pattern_of from.now) to.now value.now) }
+{
+    let from = Pattern::of(alloc, from)?;
+    let behind = from.behind;
+    let front = from.front.as_slice();
+    match behind {
+        Some(behind) => changed_words(alloc, front, behind, to, value),
+        None => changed_ends(alloc, front, to, value),
     }
 }

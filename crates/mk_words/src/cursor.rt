@@ -6,7 +6,7 @@ ghost use Rattle.mk_words.specs.Words.{is_space, behind_spaces, before_spaces, b
 
 use std::marker::Model;
 
-pub(crate) fn is_space(byte: u8) -> bool
+pub fn is_space(byte: u8) -> bool
     ensures { result ≡ is_space byte }
 {
     byte == b' ' || b'\t' <= byte && byte <= b'\r'
@@ -24,7 +24,7 @@ fn leading_spaces(text: &[u8]) -> usize
 }
 
 #[tactic(auto, unfolding(crate::specs::Words::behind_spaces))]
-pub(crate) fn behind_spaces(text: &[u8]) -> &[u8]
+pub fn behind_spaces(text: &[u8]) -> &[u8]
     ensures { result.now ≡ behind_spaces text.now }
 {
     text.split_at(leading_spaces(text)).1
@@ -42,7 +42,7 @@ fn end_of_text(text: &[u8]) -> usize
 }
 
 #[tactic(auto, unfolding(crate::specs::Words::before_spaces))]
-pub(crate) fn before_spaces(text: &[u8]) -> &[u8]
+pub fn before_spaces(text: &[u8]) -> &[u8]
     ensures { result.now ≡ before_spaces text.now }
 {
     text.split_at(end_of_text(text)).0
@@ -61,7 +61,7 @@ fn word_len(text: &[u8]) -> usize
 }
 
 /// The first word of a text, and what stands behind it.
-pub(crate) fn next_word(text: &[u8]) -> Option<(&[u8], &[u8])>
+pub fn next_word(text: &[u8]) -> Option<(&[u8], &[u8])>
     ensures word { MatchOption result (words_of text.now ≡ []) (λ found. words_of text.now ≡ found.0.now ∷ words_of found.1.now) }
     ensures behind { MatchOption result (behind_word text.now ≡ []) (λ found. behind_word text.now ≡ found.1.now) }
     ensures shorter { IfSome result (λ found. length found.1.now < length text.now) }

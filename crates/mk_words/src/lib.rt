@@ -12,12 +12,13 @@ mod patterns;
 mod sorting;
 mod texts;
 
-pub use changed::patsubst;
+pub use changed::{patsubst, substitution};
 pub use counted::{first_word, last_word, word_count};
+pub use cursor::{before_spaces, behind_spaces, is_space, next_word};
 pub use joined::strip;
 pub use laws::one_order;
 pub use names::{add_prefix, add_suffix, basename, dir, join, notdir, suffix};
-pub use numbers::{NumberFault, word, word_list};
+pub use numbers::{NumberFault, number_by, word, word_list};
 pub use patterns::{filter, filter_out};
 pub use sorting::sort;
 pub use texts::{find_string, subst};

@@ -25,7 +25,7 @@ fn are_digits(text: &[u8]) -> bool
 }
 
 /// The number of digits. One that is larger than any number of words is the largest.
-fn number_by(digits: &[u8]) -> Option<usize>
+pub fn number_by(digits: &[u8]) -> Option<usize>
     ensures { result ≡ option_map (λ n. min n (2 ^ 64 - 1)) (number_by digits.now) }
 {
     if !are_digits(digits) {

@@ -1,0 +1,4 @@
+mod FrontLemmas
+mod OutcomeLemmas
+mod SomeOutcomeLemmas
+mod SortLemmas

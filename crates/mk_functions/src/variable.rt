@@ -1,0 +1,20 @@
+//! What is known of a variable beside its text.
+
+/// Whether a variable's text is expanded where the variable is referred to.
+#[derive(Clone, Copy)]
+pub enum Flavor {
+    Recursive,
+    Simple,
+}
+
+/// Where a variable comes from.
+#[derive(Clone, Copy)]
+pub enum Origin {
+    Default,
+    Environment,
+    EnvironmentOverride,
+    File,
+    CommandLine,
+    Override,
+    Automatic,
+}
