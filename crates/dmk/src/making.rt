@@ -17,7 +17,7 @@ use dmk_reading::{Options, value_of};
 use dmk_run::{Guard, Looks, Means, build_targets, trust_files};
 use dmk_words::{Later, handed_on};
 use jb_flags::{Handed, Handing};
-use jb_host::{BeforeLines, HOLDS, HostPlace, Shell, Stops};
+use jb_host::{BeforeLines, HOLDS, HostPlace, Shell, Stops, Writes};
 use jb_recipe::Place;
 use jb_slots::{Banks, FifoBanks};
 use mk_eval::Includes;
@@ -40,6 +40,7 @@ struct Outfit<'a, R: Wait> {
     handed: Option<Handed>,
     lock: LockPlace,
     printer: HostPrinter<'a, R>,
+    writes: Writes,
 }
 
 /// The files of this machine, looked at anew.
@@ -54,20 +55,31 @@ impl<'a> Looks<FileTree<HostFiles<'a>>> for HostLooks {
     }
 }
 
-/// A printer on the standard streams.
+/// Where what recipes write goes.
+fn writes_of(options: &Options, later: Later) -> Writes {
+    if later.writes_through(options) {
+        Writes::Through
+    } else {
+        Writes::Apart
+    }
+}
+
+/// A printer on the standard streams. Where recipes write on these too, no status line is drawn there.
 fn host_printer<'a, R: Wait>(
     rt: &'a R,
     host: HostRuntime,
     environment: &[Variable],
     is_silent: bool,
+    writes: Writes,
 ) -> Result<HostPrinter<'a, R>, AllocError> {
     let alloc = host.alloc();
+    let has_none = is_silent || writes == Writes::Through;
     Ok(Printer::new(
         rt,
         alloc,
         buffered(alloc, with_patience(host, host.stdout()))?,
         buffered(alloc, with_patience(host, host.stderr()))?,
-        status_columns(host, environment, is_silent),
+        status_columns(host, environment, has_none),
     ))
 }
 
@@ -87,7 +99,8 @@ fn outfit_of<'a, R: Wait>(
     let folder = SystemFolder::new(host, alloc, state)?;
     let reports = reports_path(host, options.profile, state)?;
     let pool = PoolPath::new(host, state, flags, usize::from(options.workers))?;
-    let printer = host_printer(rt, host, environment, options.is_silent)?;
+    let writes = writes_of(options, later);
+    let printer = host_printer(rt, host, environment, options.is_silent, writes)?;
     Ok(Outfit {
         folder,
         reports,
@@ -95,6 +108,7 @@ fn outfit_of<'a, R: Wait>(
         handed,
         lock,
         printer,
+        writes,
     })
 }
 
@@ -185,12 +199,13 @@ fn make_with<'a, R: Threads + Wait + Sync>(
         handed,
         lock,
         printer,
+        writes,
     } = outfit;
     let alloc = host.alloc();
     let is_usual = needs_usual_makefile(&options);
     let above = str::from_utf8(value_of(environment, HOLDS.as_bytes())).unwrap_or("");
     let mut guard = StateLock::new(host, lock, above, &before.held);
-    let shell = Shell::new(host, alloc, before, stops);
+    let shell = Shell::new(host, alloc, before, stops, writes);
     let exec = Handing {
         alloc,
         handed: handed.as_ref(),

@@ -2,6 +2,7 @@
 #![tactic(auto)]
 
 mod following;
+mod lending;
 mod news;
 mod printer;
 mod status_line;
@@ -9,5 +10,6 @@ mod streams;
 mod trusted;
 
 pub use following::followed;
+pub use lending::Lending;
 pub use printer::Printer;
 pub use trusted::Trusted;

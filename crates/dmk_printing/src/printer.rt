@@ -94,6 +94,16 @@ impl<'a, R: Wait, O: Write + Drop, E: Write + Drop> Printer<'a, R, O, E> {
         self.streams.lock(self.rt).is_over
     }
 
+    /// A line is run that writes on the two streams itself.
+    pub(crate) fn lend(&self) {
+        self.streams.lock(self.rt).lend();
+    }
+
+    /// It has ended.
+    pub(crate) fn take_back(&self) {
+        self.streams.lock(self.rt).take_back();
+    }
+
     /// Whether all lines and blocks went out.
     pub fn is_whole(&self) -> bool {
         self.streams.lock(self.rt).is_whole

@@ -24,6 +24,8 @@ pub(crate) struct Streams<O: Write + Drop, E: Write + Drop> {
     ends_err: bool,
     /// Where standard error is a terminal that shows one.
     pub(crate) status: Option<StatusLine>,
+    /// How many lines that run now write on both themselves.
+    lent: usize,
     /// The run is over.
     pub(crate) is_over: bool,
     /// It was told that a recipe wrote no report, and that job slots aren't used.
@@ -44,6 +46,7 @@ impl<O: Write + Drop, E: Write + Drop> Drop for Streams<O, E> {
             ends_out: _,
             ends_err: _,
             status: _,
+            lent: _,
             is_over: _,
             told_unreported: _,
             told_unused: _,
@@ -101,6 +104,7 @@ impl<O: Write + Drop, E: Write + Drop> Streams<O, E> {
             ends_out: true,
             ends_err: true,
             status,
+            lent: 0,
             is_over: false,
             told_unreported: false,
             told_unused: false,
@@ -119,6 +123,7 @@ impl<O: Write + Drop, E: Write + Drop> Streams<O, E> {
             ends_out: _,
             ends_err: _,
             status: _,
+            lent: _,
             is_over: _,
             told_unreported: _,
             told_unused: _,
@@ -134,9 +139,10 @@ impl<O: Write + Drop, E: Write + Drop> Streams<O, E> {
         }
     }
 
-    /// The status line is drawn. Behind a line that isn't ended it would stand in that one's place.
+    /// The status line is drawn. Behind a line that isn't ended it would stand in that one's place, so it would in that of what
+    /// others write.
     fn draw_status(&mut self) {
-        if !(self.ends_out && self.ends_err) {
+        if self.lent > 0 || !(self.ends_out && self.ends_err) {
             return;
         }
         if let Some(status) = &mut self.status {
@@ -206,6 +212,19 @@ impl<O: Write + Drop, E: Write + Drop> Streams<O, E> {
             self.ends_out = ends_line(self.ends_out, one.out.as_slice());
             self.ends_err = ends_line(self.ends_err, one.err.as_slice());
         }
+    }
+
+    /// A line is run that writes on the streams itself: whatever it writes, it counts as something that is printed.
+    pub(crate) fn lend(&mut self) {
+        self.go_on();
+        self.make_way();
+        self.lent = self.lent.saturating_add(1);
+    }
+
+    /// It has ended. What it wrote last is taken for a whole line.
+    pub(crate) fn take_back(&mut self) {
+        self.lent = self.lent.saturating_sub(1);
+        self.draw_status();
     }
 
     /// Something else than a failure is printed.

@@ -1,5 +1,6 @@
 //! The words of the command line, as `clap` reads them by the options that there are.
-use crate::option_table::{HELD, Role, Row, Takes, options};
+use crate::option_table::{Role, Row, Takes, options};
+use crate::output::Output;
 use crate::request::WordsFault;
 use clap::{Arg, ArgAction, ArgMatches, Command};
 use dmk_reading::MAX_WORKERS;
@@ -71,8 +72,9 @@ fn argument<'a>(
         Takes::NothingAfter(other) => flag(arg).overrides_with(other),
         Takes::Value(name) => Ok(arg.value_name(name).action(ArgAction::Set)),
         Takes::Values(name) => Ok(arg.value_name(name).action(ArgAction::Append)),
-        Takes::Perhaps(value) => Ok(
-            arg.num_args(0..=1)
+        Takes::Perhaps(name, value) => Ok(
+            arg.value_name(name)
+                .num_args(0..=1)
                 .default_missing_value(value)
                 .action(ArgAction::Append),
         ),
@@ -136,9 +138,9 @@ pub fn find<'w>(
 
 /// Why options that were found aren't followed: the first one of them.
 pub fn refusal(found: &ArgMatches<'_>) -> Option<WordsFault> {
-    let syncs = found.get_strs("sync").unwrap_or(&[]);
-    if syncs.iter().any(|how| *how != HELD) {
-        return Some(WordsFault::OtherSync);
+    let modes = found.get_strs("output").unwrap_or(&[]);
+    if modes.iter().any(|mode| Output::of(*mode).is_none()) {
+        return Some(WordsFault::OtherOutput);
     }
     for row in options() {
         match row.role {
@@ -149,4 +151,9 @@ pub fn refusal(found: &ArgMatches<'_>) -> Option<WordsFault> {
         }
     }
     None
+}
+
+/// How what recipes write is held together by the words: the last one counts.
+pub fn output_of(found: &ArgMatches<'_>) -> Option<Output> {
+    Output::of(*found.get_strs("output")?.last()?)
 }

@@ -2,7 +2,7 @@
 ghost use Rattle.std.specs.Prelude.{◌≡◌, false, IfOk};
 ghost use Rattle.dmk_reading.specs.Asked.{AsksToRun};
 
-use crate::arguments::{find, refusal};
+use crate::arguments::{find, output_of, refusal};
 use crate::definition::definition_in;
 use crate::environment::read_environment;
 use crate::flags::taken_words;
@@ -360,6 +360,7 @@ fn asked_of(alloc: Global, found: &ArgMatches<'_>, above: Above) -> Result<Asked
             names_state: found.contains_id("state"),
             trusts_files: found.contains_id("trusts_files"),
             has_jobs: named.is_some() || above.is_said,
+            output: output_of(found),
             hides_folder: found.contains_id("untold"),
             tells_folder: found.contains_id("told") && !found.contains_id("untold"),
             level: 0,

@@ -3,6 +3,8 @@
 ghost use Rattle.std.specs.Prelude.{◌≡◌, false, None, IfOk};
 ghost use Rattle.mk_profile.specs.Profile.{is_wide};
 
+use crate::option_table::HELD;
+use crate::output::Output;
 use crate::request::Later;
 use bd_lists::Variable;
 use byte_strings::ByteStrings;
@@ -16,6 +18,49 @@ const TAKEN: &[u8] = b"BSeiknqrstw";
 
 /// The long option that is taken, and handed on.
 const HIDES_FOLDER: &[u8] = b"--no-print-directory";
+
+/// How what recipes write is to be held together by what stands behind the option's letter; None where no such word does.
+fn output_by(word: &[u8]) -> Option<Output> {
+    if word.is_empty() {
+        return Output::of(HELD);
+    }
+    Output::of(str::from_utf8(word).ok()?)
+}
+
+/// How the letters of options have it held: a value takes what stands behind its letter.
+fn output_in(letters: &[u8]) -> Option<Output> {
+    let at = letters.iter().position(|letter| has_value(*letter))?;
+    output_by(letters[at..].strip_prefix(b"O")?)
+}
+
+/// How a long option has it held.
+fn long_output(word: &[u8]) -> Option<Output> {
+    match word.strip_prefix(b"--output-sync")? {
+        [b'=', word @ ..] => output_by(word),
+        [] => Output::of(HELD),
+        _ => None,
+    }
+}
+
+/// Appends the option by which what recipes write is held so, as makes have it.
+fn push_output(words: &mut Vec<u8>, output: Output) -> Result<(), AllocError> {
+    words.extend_from_slice(b"-O")?;
+    words.extend_from_slice(output.word().as_bytes())
+}
+
+/// Takes how what recipes write is to be held together, where that is said.
+fn take_output(
+    alloc: Global,
+    taken: &mut ByteStrings,
+    output: Option<Output>,
+) -> Result<(), AllocError> {
+    if let Some(output) = output {
+        let mut word = Vec::new(alloc);
+        push_output(&mut word, output)?;
+        taken.push(&word)?;
+    }
+    Ok(())
+}
 
 /// Appends the options of a word that are taken, as a word of the command line.
 fn push_options(alloc: Global, taken: &mut ByteStrings, letters: &[u8]) -> Result<(), AllocError> {
@@ -31,7 +76,7 @@ fn push_options(alloc: Global, taken: &mut ByteStrings, letters: &[u8]) -> Resul
     if word.len() > 1 {
         taken.push(&word)?;
     }
-    Ok(())
+    take_output(alloc, taken, output_in(letters))
 }
 
 /// The options and definitions of MAKEFLAGS, as words of the command line. The first word may be letters without a hyphen; behind `--` there
@@ -44,6 +89,7 @@ pub fn taken_words(alloc: Global, makeflags: &[u8]) -> Result<ByteStrings, Alloc
         match word.strip_prefix(b"-") {
             Some(b"-") => has_options = false,
             Some([b'-', ..]) if has_options && word == HIDES_FOLDER => taken.push(word)?,
+            Some([b'-', ..]) if has_options => take_output(alloc, &mut taken, long_output(word))?,
             Some([b'-', ..]) => {}
             Some(letters) if has_options => push_options(alloc, &mut taken, letters)?,
             None if word.contains(&b'=') => taken.push(word)?,
@@ -79,9 +125,13 @@ fn option_word(alloc: Global, options: &Options, later: Later) -> Result<Vec<u8>
     Ok(word)
 }
 
-/// The options that makes below are told: a word of letters, and a long one behind it (GNU make).
+/// The options that makes below are told: a word of letters, and behind it one with a value and a long one (GNU make).
 fn option_words(alloc: Global, options: &Options, later: Later) -> Result<Vec<u8>, AllocError> {
     let mut words = option_word(alloc, options, later)?;
+    if let Some(output) = later.output {
+        words.push(b' ')?;
+        push_output(&mut words, output)?;
+    }
     if later.hides_folder {
         words.push(b' ')?;
         words.extend_from_slice(HIDES_FOLDER)?;

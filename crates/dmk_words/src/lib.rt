@@ -9,6 +9,7 @@ mod flags;
 mod job_words;
 mod mistake;
 mod option_table;
+mod output;
 mod program;
 mod request;
 

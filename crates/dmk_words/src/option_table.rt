@@ -11,8 +11,8 @@ pub enum Takes {
     Value(&'static str),
     /// A value of this name, and all count.
     Values(&'static str),
-    /// A value or none, which stands for this one; all count.
-    Perhaps(&'static str),
+    /// A value of this name or none, which stands for the one behind it; all count.
+    Perhaps(&'static str, &'static str),
     /// How many recipes may run at once.
     Workers,
 }
@@ -47,7 +47,7 @@ const ASKING: &str = "Asking";
 
 const TELLING: &str = "What is told";
 
-/// GNU make's word for how what recipes write is held together here.
+/// How what recipes write is held together where -O doesn't say it (GNU make).
 pub const HELD: &str = "target";
 
 static OPTIONS: [Row; 33] = [
@@ -193,6 +193,16 @@ static OPTIONS: [Row; 33] = [
         ),
     },
     Row {
+        id: "output",
+        letter: Some('O'),
+        words: &["output", "output-sync"],
+        takes: Takes::Perhaps("MODE", HELD),
+        role: Role::Told(
+            TELLING,
+            "Print what recipes write in blocks when they end\n(block) or as it comes (through); MODE stands in\nthe same word",
+        ),
+    },
+    Row {
         id: "base",
         letter: Some('p'),
         words: &["print-data-base"],
@@ -248,13 +258,6 @@ static OPTIONS: [Row; 33] = [
         role: Role::Taken,
     },
     Row {
-        id: "sync",
-        letter: Some('O'),
-        words: &["output-sync"],
-        takes: Takes::Perhaps(HELD),
-        role: Role::Taken,
-    },
-    Row {
         id: "-t (--touch)",
         letter: Some('t'),
         words: &["touch"],
@@ -267,7 +270,7 @@ static OPTIONS: [Row; 33] = [
         id: "-l (--load-average)",
         letter: Some('l'),
         words: &["load-average", "max-load"],
-        takes: Takes::Perhaps(""),
+        takes: Takes::Perhaps("N", ""),
         role: Role::Refused(
             "how busy the machine is isn't looked at; -j N bounds how many recipes run",
         ),
@@ -318,7 +321,7 @@ static OPTIONS: [Row; 33] = [
         id: "--debug",
         letter: None,
         words: &["debug"],
-        takes: Takes::Perhaps(""),
+        takes: Takes::Perhaps("FLAGS", ""),
         role: Role::Refused("-d or --trace tells why targets are made"),
     },
     Row {

@@ -2,6 +2,7 @@
 ghost use Rattle.std.specs.Prelude.{◌≡◌, false};
 
 use crate::environment::given_in;
+use crate::output::Output;
 use bd_lists::Variable;
 use dmk_reading::Options;
 use mk_profile::Profile;
@@ -36,6 +37,8 @@ pub struct Later {
     pub trusts_files: bool,
     /// The words or MAKEFLAGS say how many recipes may run at once.
     pub has_jobs: bool,
+    /// How the words or MAKEFLAGS have what recipes write held together.
+    pub output: Option<Output>,
     /// The words or MAKEFLAGS say that no folder is told.
     pub hides_folder: bool,
     /// They say that it is.
@@ -72,8 +75,8 @@ pub enum WordsFault {
     /// An option of GNU make, and why it isn't followed.
     #[error("{0} isn't supported: {1}")]
     Unsupported(&'static str, &'static str),
-    #[error("-O isn't supported but for -Otarget: what a recipe writes is held until it ends")]
-    OtherSync,
+    #[error("--output takes block or through, or GNU make's words none, line, target or recurse")]
+    OtherOutput,
     #[error("--trust-files needs --posix")]
     TrustInStrict,
     #[error("--trust-files doesn't go with -n or -q, which record nothing")]

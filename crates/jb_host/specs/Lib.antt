@@ -1,3 +1,4 @@
 pub mod Folders
 pub mod Shell
 pub mod Syncs
+pub mod Writes

@@ -9,9 +9,11 @@ mod shared_syncs;
 mod shell;
 mod stops;
 mod surroundings;
+mod writes;
 
 pub use dry_shell::{DryShell, Written};
 pub use host_place::{HostPlace, folder_of};
 pub use laws::served_by_later_syncs;
 pub use shell::{BeforeLines, HOLDS, HeldLock, Shell};
 pub use stops::Stops;
+pub use writes::Writes;

@@ -6,6 +6,7 @@ ghost use Rattle.jb_host.specs.Shell.{started};
 
 use crate::stops::Stops;
 use crate::surroundings::Surroundings;
+use crate::writes::Writes;
 use bd_lists::{Clearance, Ended, Exec, ExecFault, Variable};
 use byte_strings::{ByteString, next_word};
 use jb_recipe::{Signal, Stopped};
@@ -58,7 +59,8 @@ impl BeforeLines {
 }
 
 /// Runs each line as `/bin/sh -c TEXT`, or by the shell that the makefile names, with empty standard input, in dmk's own
-/// environment and the recipe's variables. What it writes is collected. Nothing is claimed of the shell.
+/// environment and the recipe's variables. What it writes is collected, unless it shares dmk's own streams. Nothing is claimed of the
+/// shell.
 #[derive(Drop)]
 pub struct Shell<'a, R: Wait> {
     rt: HostRuntime,
@@ -67,6 +69,7 @@ pub struct Shell<'a, R: Wait> {
     /// Read when the first line is run; None where lines inherit dmk's own environment as it is.
     surroundings: OnceLock<Option<Surroundings>>,
     stops: &'a Stops<'a, R>,
+    writes: Writes,
 }
 
 /// A line's command can't be made: memory or a descriptor was refused, or a text isn't UTF-8.
@@ -205,6 +208,7 @@ impl<'a, R: Wait> Shell<'a, R> {
         alloc: Global,
         before: &'a BeforeLines,
         stops: &'a Stops<'a, R>,
+        writes: Writes,
     ) -> Shell<'a, R> {
         Shell {
             rt,
@@ -212,6 +216,7 @@ impl<'a, R: Wait> Shell<'a, R> {
             before,
             surroundings: OnceLock::new(),
             stops,
+            writes,
         }
     }
 
@@ -258,6 +263,14 @@ impl<'a, R: Wait> Shell<'a, R> {
             }
         }
         Ok(())
+    }
+
+    // What isn't set is collected.
+    fn set_output(&self, command: &mut Command, line: &Line) {
+        if self.writes.shares(line) {
+            command.stdout(Stdio::from(self.rt.stdout()));
+            command.stderr(Stdio::from(self.rt.stderr()));
+        }
     }
 
     // Why a line has no status is noted.
@@ -318,6 +331,7 @@ impl<T, R: Wait> Exec<T> for Shell<'_, R> {
     ) -> Result<Ended, ExecFault> {
         match self.command(line, env) {
             Ok(mut command) => {
+                self.set_output(&mut command, line);
                 let ended = self.ended_by(&mut command);
                 drop(command);
                 ended

@@ -1,0 +1,3 @@
+printf 'half, '
+sleep 1.2
+sh seen.sh whole

@@ -1,0 +1,26 @@
+//! Where what lines write goes.
+ghost use Rattle.std.specs.Prelude.{◌↔◌, IsTrue};
+ghost use Rattle.jb_host.specs.Writes.{IsShared};
+
+use mk_recipe::Line;
+
+/// Where what lines write goes.
+#[derive(Clone, Copy, Debug, PartialEq, Eq)]
+pub enum Writes {
+    /// It is collected, but for lines of the wide profile that may call make: of these nothing is held back.
+    Apart,
+    /// Each line writes on dmk's own standard output and error.
+    Through,
+}
+
+impl Writes {
+    /// Whether a line writes on dmk's own standard output and error.
+    pub fn shares(self, line: &Line) -> bool
+        ensures { IsTrue result ↔ IsShared self line.now }
+    {
+        match self {
+            Writes::Apart => line.is_always_run,
+            Writes::Through => true,
+        }
+    }
+}
