@@ -12,7 +12,7 @@ use dmk_host::{
     needs_usual_makefile, print_gnu_makefile, print_notes, print_reasons, reports_path,
     status_columns, with_patience,
 };
-use dmk_printing::{Printer, followed};
+use dmk_printing::{Lending, Printer, followed};
 use dmk_reading::{Options, value_of};
 use dmk_run::{Guard, Looks, Means, build_targets, trust_files};
 use dmk_words::{Later, handed_on};
@@ -112,6 +112,55 @@ fn outfit_of<'a, R: Wait>(
     })
 }
 
+/// Makes the targets, and answers the status. The printer's streams are lent to lines that write on them, so that nothing is
+/// printed beside what they write.
+fn make_lending<R, T, L, I, E, O, W, P, G, K, D>(
+    rt: &R,
+    alloc: Global,
+    means: &Means<'_, E, Printer<'_, R, O, W>, P>,
+    writes: Writes,
+    guard: &mut G,
+    options: Options,
+    looks: &L,
+    makefiles: &mut I,
+    banks: &mut K,
+    disk: D,
+) -> (u8, D)
+where
+    R: Threads + Wait + Sync,
+    T: Tree + Drop,
+    L: Looks<T>,
+    I: Includes,
+    E: Exec<Receipt> + Sync,
+    O: Write + Drop + Send,
+    W: Write + Drop + Send,
+    P: Place + Sync,
+    G: Guard,
+    K: Banks,
+    K::End: Drop + Send,
+    D: Disk + Drop + Send,
+    requires { AsksToRun options (value_in means.now.environment.now (codes "MAKEFLAGS")) }
+{
+    let lending = Lending {
+        printer: means.say,
+        writes,
+        exec: means.exec,
+    };
+    let means = Means {
+        key: means.key,
+        environment: means.environment,
+        pool: means.pool,
+        reports: means.reports,
+        exec: &lending,
+        say: means.say,
+        place: means.place,
+        shell: means.shell,
+    };
+    build_targets(
+        rt, alloc, &means, guard, options, looks, makefiles, banks, disk,
+    )
+}
+
 /// Takes targets as they are where their files are trusted, makes the targets, and answers the status. The state's disk comes back.
 ///
 /// The parts of this machine are of any types here: made concrete once, at the call.
@@ -119,6 +168,7 @@ fn make_over<R, T, L, I, E, O, W, P, Q, G, K, D>(
     rt: &R,
     alloc: Global,
     means: &Means<'_, E, Printer<'_, R, O, W>, P>,
+    writes: Writes,
     guard: &mut G,
     options: Options,
     trusted: Option<&Q>,
@@ -170,8 +220,8 @@ where
         ||
             requires { AsksToRun options (value_in means.now.environment.now (codes "MAKEFLAGS")) }
         {
-            build_targets(
-                rt, alloc, means, guard, options, looks, makefiles, banks, disk,
+            make_lending(
+                rt, alloc, means, writes, guard, options, looks, makefiles, banks, disk,
             )
         },
     )
@@ -232,6 +282,7 @@ fn make_with<'a, R: Threads + Wait + Sync>(
         rt,
         alloc,
         &means,
+        writes,
         &mut guard,
         options,
         trusts_files.then_some(&trusted),
