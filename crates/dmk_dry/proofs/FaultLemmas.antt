@@ -6,7 +6,8 @@ use Rattle.st_disk.specs.declared.which.Which.TheVariants as sides
 use Rattle.st_file.specs.declared.fault.OpenFault.{OpenFault}
 use Rattle.st_file.specs.declared.fault.OpenFault.TheVariants as open_fault
 use Rattle.st_state.specs.State.{StateMap}
-use Rattle.st_recovery.specs.Recovers.{RefusesWith}
+use Rattle.st_records.specs.declared.version.Form.{Form}
+use Rattle.st_recovery.specs.Recovers.{RefusesWithIn}
 use Rattle.dmk_dry.specs.Faults.{IsOpenFault, IsRunFault}
 use Rattle.dmk_messages.specs.declared.fault.Fault.{Fault}
 use Rattle.dmk_messages.specs.declared.fault.Fault.TheVariants.{OutOfMemory, NoMakefile, Read, State, Rules, Recipe, Write}
@@ -41,22 +42,22 @@ no_state Text (Ok x) fault f is meets none of = absurd is
 no_state Text (Err g) fault f is meets none of = let same : g ≡ State f = cc in none (subst Text (sym is ∙ same) meets)
 
 -- a pair of sides that is refused has the fault that is answered
-refused_pair : (seen : Which → List ℕ) (f : OpenFault) → RefusesWith (seen sides.A) (seen sides.B) f → IsOpenFault seen f
-refused_pair seen open_fault.Device refuses = tt
-refused_pair seen open_fault.OutOfMemory refuses = tt
-refused_pair seen (open_fault.NotState s) refuses = refuses
-refused_pair seen (open_fault.UnknownVersion s version) refuses = refuses
-refused_pair seen (open_fault.Damaged s place) refuses = refuses
-refused_pair seen open_fault.SameGeneration refuses = refuses
+refused_pair : (newest : Form) (seen : Which → List ℕ) (f : OpenFault) → RefusesWithIn newest (seen sides.A) (seen sides.B) f → IsOpenFault newest seen f
+refused_pair newest seen open_fault.Device refuses = tt
+refused_pair newest seen open_fault.OutOfMemory refuses = tt
+refused_pair newest seen (open_fault.NotState s) refuses = refuses
+refused_pair newest seen (open_fault.UnknownVersion s version) refuses = refuses
+refused_pair newest seen (open_fault.Damaged s place) refuses = refuses
+refused_pair newest seen open_fault.SameGeneration refuses = refuses
 
-open_fault_of : (seen : Which → List ℕ) (f : OpenFault) →
-    (f ≡ open_fault.Device) ⊎ ((f ≡ open_fault.OutOfMemory) ⊎ RefusesWith (seen sides.A) (seen sides.B) f) → IsOpenFault seen f
-open_fault_of seen f (inl is) = subst (IsOpenFault seen) (sym is) tt
-open_fault_of seen f (inr (inl is)) = subst (IsOpenFault seen) (sym is) tt
-open_fault_of seen f (inr (inr refuses)) = refused_pair seen f refuses
+open_fault_of : (newest : Form) (seen : Which → List ℕ) (f : OpenFault) →
+    (f ≡ open_fault.Device) ⊎ ((f ≡ open_fault.OutOfMemory) ⊎ RefusesWithIn newest (seen sides.A) (seen sides.B) f) → IsOpenFault newest seen f
+open_fault_of newest seen f (inl is) = subst (IsOpenFault newest seen) (sym is) tt
+open_fault_of newest seen f (inr (inl is)) = subst (IsOpenFault newest seen) (sym is) tt
+open_fault_of newest seen f (inr (inr refuses)) = refused_pair newest seen f refuses
 
-pub pair_refused : (seen : Which → List ℕ) (found : Result StateMap OpenFault) →
-    IfErr found (λ f. (f ≡ open_fault.Device) ⊎ ((f ≡ open_fault.OutOfMemory) ⊎ RefusesWith (seen sides.A) (seen sides.B) f)) →
-    IfErr found (IsOpenFault seen)
-pair_refused seen (Ok m) is = tt
-pair_refused seen (Err f) is = open_fault_of seen f is
+pub pair_refused : (newest : Form) (seen : Which → List ℕ) (found : Result StateMap OpenFault) →
+    IfErr found (λ f. (f ≡ open_fault.Device) ⊎ ((f ≡ open_fault.OutOfMemory) ⊎ RefusesWithIn newest (seen sides.A) (seen sides.B) f)) →
+    IfErr found (IsOpenFault newest seen)
+pair_refused newest seen (Ok m) is = tt
+pair_refused newest seen (Err f) is = open_fault_of newest seen f is

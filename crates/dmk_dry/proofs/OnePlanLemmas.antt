@@ -19,12 +19,13 @@ use Rattle.mk_plan.proofs.OneNodeLemmas.{one_graph}
 use Rattle.st_disk.specs.declared.which.Which.{Which}
 use Rattle.st_disk.specs.declared.which.Which.TheVariants as sides
 use Rattle.st_state.specs.State.{StateMap}
+use Rattle.st_records.specs.declared.version.Form.{Form}
 use Rattle.st_recovery.specs.Recovers.{recovered}
-use Rattle.st_recovery.proofs.RecoversLemmas.{one_recovery}
+use Rattle.st_recovery.proofs.RecoversLemmas.{one_recovery_in}
 use Rattle.bd_lists.specs.declared.recipe.Variable.{Variable}
 use Rattle.mk_profile.specs.declared.profile.Profile.{Profile}
 use Rattle.dmk_reading.specs.Definitions.{first_defined}
-use Rattle.dmk_reading.specs.Keeping.{keeps}
+use Rattle.dmk_reading.specs.Keeping.{keeps, kept_form}
 use Rattle.dmk_reading.specs.declared.makefiles.Makefiles.{Makefiles}
 use Rattle.dmk_reading.specs.Lost.{IsLost, is_one, stands_on}
 use Rattle.dmk_reading.specs.Passing.{Lists, at_end, behind, without, no_marks, IsListing}
@@ -103,11 +104,11 @@ judged_in false a b alike lose keeping count order listed lists = listing_in a b
 
 -- ---- one state
 
-state_once : (keeping : Bool) (honest : Type 0) (seen : Which → List ℕ) (m n : StateMap) → honest →
-    IsStateOn keeping honest seen m → IsStateOn keeping honest seen n → m ≡ n
-state_once true honest seen m n works of_m of_n =
-    let same : recovered m ≡ recovered n = one_recovery (seen sides.A) (seen sides.B) (recovered m) (recovered n) (of_m works) (of_n works) in cc
-state_once false honest seen m n works of_m of_n = of_m ∙ sym of_n
+state_once : (newest : Form) (keeping : Bool) (honest : Type 0) (seen : Which → List ℕ) (m n : StateMap) → honest →
+    IsStateOn newest keeping honest seen m → IsStateOn newest keeping honest seen n → m ≡ n
+state_once newest true honest seen m n works of_m of_n =
+    let same : recovered m ≡ recovered n = one_recovery_in newest (seen sides.A) (seen sides.B) (recovered m) (recovered n) (of_m works) (of_n works) in cc
+state_once newest false honest seen m n works of_m of_n = of_m ∙ sym of_n
 
 -- ---- one plan
 
@@ -159,7 +160,7 @@ module _ (profile : Profile) (definitions environment : List Variable) (targets 
       (x ≡ y) × (d ≡ e)
   planned_once of_x of_y =
       let keeping : Bool = keeps environment items in
-      let state = state_once keeping honest seen of_x.state of_y.state works of_x.is_state of_y.is_state in
+      let state = state_once (kept_form profile) keeping honest seen of_x.state of_y.state works of_x.is_state of_y.is_state in
       let of_b : IsGraphOf profile definitions environment targets looks items of_x.state of_y.graph
       = subst (λ m. IsGraphOf profile definitions environment targets looks items m of_y.graph) (sym state) of_y.is_graph.is_graph in (
         listing_once profile definitions environment targets looks items of_x.state of_x.graph of_y.graph of_x.is_graph.is_graph of_b all (all || keeping) x y of_x.lists of_y.lists,

@@ -15,7 +15,7 @@ use Rattle.mk_rules.specs.Limit.{node_limit}
 use Rattle.st_disk.specs.declared.which.Which.{Which}
 use Rattle.st_state.specs.State.{StateMap}
 use Rattle.dmk_reading.specs.Definitions.{first_defined}
-use Rattle.dmk_reading.specs.Keeping.{keeps}
+use Rattle.dmk_reading.specs.Keeping.{keeps, kept_form}
 use Rattle.dmk_reading.specs.Lost.{goes_without}
 use Rattle.dmk_dry.specs.AlwaysRun.{lines_run_always}
 use Rattle.dmk_reading.specs.Passing.{IsListing, lists_any}
@@ -49,9 +49,9 @@ judged_names false graph = refl
 
 module _ (profile : Profile) (definitions environment : List Variable) (targets : List (List ℕ)) (all goes_on : Bool) (looks : List ℕ → Option FileLook)
     (disk_honest : Type 0) (seen : Which → List ℕ) (items : List Item) (keeping : Bool) (is_keeping : keeping ≡ keeps environment items)
-    (state : StateMap) (found : IsStateOn keeping disk_honest seen state) where
-  kept : IsStateOn (keeps environment items) disk_honest seen state
-  kept = subst (λ k. IsStateOn k disk_honest seen state) is_keeping found
+    (state : StateMap) (found : IsStateOn (kept_form profile) keeping disk_honest seen state) where
+  kept : IsStateOn (kept_form profile) (keeps environment items) disk_honest seen state
+  kept = subst (λ k. IsStateOn (kept_form profile) k disk_honest seen state) is_keeping found
 
   pub rules_fault : (refuses : List ℕ → Type 0) (Allowed : (List ℕ → Option FileLook) → Type 0) → Allowed looks → (got : Fault) →
       ((got ≡ fault.OutOfMemory) ⊎ ((f : RuleFault) × (got ≡ fault.Rules f)

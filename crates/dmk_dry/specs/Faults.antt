@@ -13,9 +13,10 @@ use Rattle.st_disk.specs.declared.which.Which.TheVariants as sides
 use Rattle.st_file.specs.declared.fault.OpenFault.{OpenFault}
 use Rattle.st_file.specs.declared.fault.OpenFault.TheVariants as open_fault
 use Rattle.st_state.specs.State.{StateMap}
-use Rattle.st_recovery.specs.Recovers.{RefusesWith}
+use Rattle.st_records.specs.declared.version.Form.{Form}
+use Rattle.st_recovery.specs.Recovers.{RefusesWithIn}
 use Rattle.dmk_reading.specs.Definitions.{first_defined}
-use Rattle.dmk_reading.specs.Keeping.{keeps}
+use Rattle.dmk_reading.specs.Keeping.{keeps, kept_form}
 use Rattle.dmk_dry.specs.Listing.{IsListingFault}
 use Rattle.dmk_reading.specs.Planned.{AreItems, IsStateOn, judged_graph}
 use Rattle.dmk_dry.specs.Planned.{IsListedGraphOf}
@@ -27,10 +28,10 @@ use Rattle.dmk_reading.specs.Faults.{IsTextFault}
 use Rattle.mk_nodes.specs.declared.file_look.FileLook.{FileLook}
 
 -- the fault of the two sides; a device and want of memory say nothing of their bytes
-abbrev pub IsOpenFault : (seen : Which → List ℕ) → OpenFault → Type 0
-IsOpenFault seen open_fault.Device = Unit {0}
-IsOpenFault seen open_fault.OutOfMemory = Unit {0}
-IsOpenFault seen f = RefusesWith (seen sides.A) (seen sides.B) f
+abbrev pub IsOpenFault : (newest : Form) → (seen : Which → List ℕ) → OpenFault → Type 0
+IsOpenFault newest seen open_fault.Device = Unit {0}
+IsOpenFault newest seen open_fault.OutOfMemory = Unit {0}
+IsOpenFault newest seen f = RefusesWithIn newest (seen sides.A) (seen sides.B) f
 
 -- the fault of a plan for items that were read
 abbrev pub IsPlanFault : (profile : Profile) (definitions environment : List Variable) (targets : List (List ℕ)) (all goes_on : Bool) (looks : List ℕ → Option FileLook)
@@ -38,12 +39,12 @@ abbrev pub IsPlanFault : (profile : Profile) (definitions environment : List Var
     Fault → Type 0
 IsPlanFault profile definitions environment targets all goes_on looks refuses disk_honest seen items fault.OutOfMemory = Unit {0}
 IsPlanFault profile definitions environment targets all goes_on looks refuses disk_honest seen items (fault.State f) =
-    (keeps environment items ≡ true) × (disk_honest → IsOpenFault seen f)
+    (keeps environment items ≡ true) × (disk_honest → IsOpenFault (kept_form profile) seen f)
 IsPlanFault profile definitions environment targets all goes_on looks refuses disk_honest seen items (fault.Rules f) =
-    (state : StateMap) × IsStateOn (keeps environment items) disk_honest seen state
+    (state : StateMap) × IsStateOn (kept_form profile) (keeps environment items) disk_honest seen state
     × IsRuleFault (first_defined profile definitions environment) items looks (map.get state) refuses targets (node_limit profile) f
 IsPlanFault profile definitions environment targets all goes_on looks refuses disk_honest seen items (fault.Recipe f) =
-    (state : StateMap) × IsStateOn (keeps environment items) disk_honest seen state
+    (state : StateMap) × IsStateOn (kept_form profile) (keeps environment items) disk_honest seen state
     × ((graph : Graph) × IsListedGraphOf profile definitions environment targets goes_on looks items state graph × IsListingFault (all || keeps environment items) (judged_graph all graph) f)
 IsPlanFault profile definitions environment targets all goes_on looks refuses disk_honest seen items _ = ⊥
 

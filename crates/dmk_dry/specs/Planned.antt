@@ -10,7 +10,7 @@ use Rattle.mk_nodes.specs.declared.graph.Graph.{Graph}
 use Rattle.st_disk.specs.declared.which.Which.{Which}
 use Rattle.st_state.specs.State.{StateMap}
 use Rattle.dmk_reading.specs.Definitions.{first_defined}
-use Rattle.dmk_reading.specs.Keeping.{keeps}
+use Rattle.dmk_reading.specs.Keeping.{keeps, kept_form}
 use Rattle.dmk_dry.specs.AlwaysRun.{lines_run_always}
 use Rattle.dmk_reading.specs.Lost.{goes_without}
 use Rattle.dmk_reading.specs.Passing.{IsListing, lists_any}
@@ -35,7 +35,7 @@ pub record IsPlanned (profile : Profile) (definitions environment : List Variabl
     (disk_honest : Type 0) (seen : Which → List ℕ) (items : List Item)
     (plan : List Passage) (dropped : Bool) (unmade : List (List ℕ)) : Type 0 where
   pub state : StateMap
-  pub is_state : IsStateOn (keeps environment items) disk_honest seen state
+  pub is_state : IsStateOn (kept_form profile) (keeps environment items) disk_honest seen state
   pub graph : Graph
   pub is_graph : IsListedGraphOf profile definitions environment targets goes_on looks items state graph
   pub lists : IsListing (all || keeps environment items) (judged_graph all graph) plan

@@ -6,7 +6,7 @@ ghost use Rattle.mk_graph.specs.Numbering.{name_at};
 ghost use Rattle.mk_reader.specs.declared.item.Item.{Item as MakefileItem};
 ghost use Rattle.mk_plan.specs.Passage.{Passage};
 ghost use Rattle.dmk_reading.specs.Definitions.{first_defined};
-ghost use Rattle.dmk_reading.specs.Keeping.{keeps};
+ghost use Rattle.dmk_reading.specs.Keeping.{keeps, kept_form};
 ghost use Rattle.st_disk.specs.Faults.{Rises};
 ghost use Rattle.st_state.specs.State.{StateMap};
 ghost use Rattle.st_file.specs.declared.fault.OpenFault.{OpenFault as StateFault};
@@ -29,7 +29,7 @@ use bd_lists::Variable;
 use byte_strings::ByteStrings;
 use dmk_messages::Fault;
 use dmk_reading::{
-    Makefiles, goes_without, graph_of, items_of, judged_graph, keeps_state, unmade_names,
+    Makefiles, goes_without, graph_of, items_of, judged_graph, keeps_state, kept_form, unmade_names,
 };
 use mk_eval::Includes;
 use mk_nodes::Graph;
@@ -39,7 +39,7 @@ use mk_reader::Item;
 use mk_rule_lines::Unmade;
 use mk_rules::Tree;
 use st_disk::Disk;
-use st_records::HashKey;
+use st_records::{Form, HashKey};
 use st_state::State;
 use std::alloc::Global;
 use std::mem;
@@ -124,17 +124,18 @@ fn listed(alloc: Global, keeping: bool, shows: Shows, graph: Graph) -> Result<Dr
 fn kept_state<D: Disk>(
     alloc: Global,
     key: HashKey,
+    newest: Form,
     keeping: bool,
     disk: &mut D,
 ) -> Result<State, Fault>
-    ensures found { IfOk result (IsStateOn keeping D.honest (D.seen disk.old)) }
+    ensures found { IfOk result (IsStateOn newest keeping D.honest (D.seen disk.old)) }
     ensures fault { IfErr result (λ fault. (keeping ≡ true) × ((f : StateFault) × (fault ≡ faults.State f)
-        × (D.honest → IsOpenFault (D.seen disk.old) f))) }
+        × (D.honest → IsOpenFault newest (D.seen disk.old) f))) }
     ensures seen { D.honest → D.seen disk.new ≡ D.seen disk.old }
     ensures moments { D.honest → D.moments disk.new ≡ D.moments disk.old }
     ensures device { IsErrOf result (faults.State open_faults.Device) → Rises (D.faults disk.old) (D.faults disk.new) }
 {
-    match state_of(alloc, key, keeping, disk) {
+    match state_of(alloc, key, newest, keeping, disk) {
         Ok(state) => Ok(state),
         Err(fault) => Err(Fault::State(fault)),
     }
@@ -152,7 +153,7 @@ fn kept_graph<T: Tree, D: Disk>(
     items: Vec<Item>,
 ) -> Result<Graph, Fault>
     requires { keeping ≡ keeps given.environment.now items.items }
-    ensures graph { IfOk result (λ graph. (m : StateMap) × IsStateOn keeping D.honest (D.seen disk.old) m
+    ensures graph { IfOk result (λ graph. (m : StateMap) × IsStateOn (kept_form given.entry.profile) keeping D.honest (D.seen disk.old) m
         × ((looks : List ℕ → Option FileLook) → T.allows tree.new looks
         → IsListedGraphOf given.entry.profile given.entry.definitions.now given.entry.environment.now targets given.entry.goes_on looks items.items m graph)) }
     ensures fault { IfErr result (λ fault. (looks : List ℕ → Option FileLook) → T.allows tree.new looks
@@ -163,7 +164,8 @@ fn kept_graph<T: Tree, D: Disk>(
     ensures moments { D.honest → D.moments disk.new ≡ D.moments disk.old }
     ensures device { IsErrOf result (faults.State open_faults.Device) → Rises (D.faults disk.old) (D.faults disk.new) }
 {
-    let state = kept_state(alloc, key, keeping, disk)?;
+    let newest = kept_form(given.profile);
+    let state = kept_state(alloc, key, newest, keeping, disk)?;
     let without = goes_without(given.profile, given.goes_on);
     graph_of(
         alloc,

@@ -14,7 +14,8 @@ use Rattle.mk_nodes.specs.declared.graph.Graph.{Graph}
 use Rattle.st_disk.specs.declared.which.Which.{Which}
 use Rattle.st_disk.specs.declared.which.Which.TheVariants as sides
 use Rattle.st_state.specs.State.{StateMap}
-use Rattle.st_recovery.specs.Recovers.{Recovers}
+use Rattle.st_records.specs.declared.version.Form.{Form}
+use Rattle.st_recovery.specs.Recovers.{RecoversIn}
 use Rattle.dmk_reading.specs.Definitions.{first_defined}
 use Rattle.dmk_reading.specs.BuiltIn.{reads_rules, AreRules}
 use Rattle.dmk_reading.specs.Makefile.{IsUsualMakefile, AllItems}
@@ -22,15 +23,15 @@ use Rattle.dmk_reading.specs.declared.makefiles.Makefiles.{Makefiles}
 use Rattle.bd_lists.specs.declared.recipe.Variable.{Variable}
 use Rattle.mk_nodes.specs.declared.file_look.FileLook.{FileLook}
 
--- the state that a run goes by: what the two sides recover where state is kept, and else none
-abbrev pub IsStateOf : (keeping : Bool) (seen : Which → List ℕ) (m : StateMap) → Type 0
-IsStateOf true seen m = Recovers (seen sides.A) (seen sides.B) m
-IsStateOf false seen m = m ≡ map.empty
+-- the state that a run goes by: what the two sides recover where state is kept, read up to this newest form, and else none
+abbrev pub IsStateOf : (newest : Form) (keeping : Bool) (seen : Which → List ℕ) (m : StateMap) → Type 0
+IsStateOf newest true seen m = RecoversIn newest (seen sides.A) (seen sides.B) m
+IsStateOf newest false seen m = m ≡ map.empty
 
 -- so it is where the disk keeps its model. Where no state is kept there is none, whatever the disk does
-abbrev pub IsStateOn : (keeping : Bool) (disk_honest : Type 0) (seen : Which → List ℕ) (m : StateMap) → Type 0
-IsStateOn true disk_honest seen m = disk_honest → IsStateOf true seen m
-IsStateOn false disk_honest seen m = IsStateOf false seen m
+abbrev pub IsStateOn : (newest : Form) (keeping : Bool) (disk_honest : Type 0) (seen : Which → List ℕ) (m : StateMap) → Type 0
+IsStateOn newest true disk_honest seen m = disk_honest → IsStateOf newest true seen m
+IsStateOn newest false disk_honest seen m = IsStateOf newest false seen m
 
 -- the items are those of the makefile where none is named, by what the files hold and whether there is a file of a name, in
 -- its language and with what is defined before it

@@ -1,10 +1,12 @@
 //! Whether state is kept, and what the environment says else.
 ghost use Rattle.std.specs.Prelude.{◌≡◌, find, option_copied};
 ghost use Rattle.std.specs.List.{list_any};
-ghost use Rattle.dmk_reading.specs.Keeping.{is_named, is_keep_item, keeps, value_in};
+ghost use Rattle.dmk_reading.specs.Keeping.{is_named, is_keep_item, keeps, kept_form, value_in};
 
 use bd_lists::Variable;
+use mk_profile::Profile;
 use mk_reader::{Item, SpecialName};
+use st_records::Form;
 
 fn is_named(name: &[u8], variable: &Variable) -> bool
     ensures { result ≡ is_named name.now variable.now }
@@ -42,6 +44,15 @@ pub fn keeps_state(environment: &[Variable], items: &[Item]) -> bool
     ensures { result ≡ keeps environment.now items.now }
 {
     has_variable(environment, b"KEEP_STATE") || has_keep_item(items)
+}
+
+/// The form of the records that are written where state is kept, and the newest that is read.
+pub fn kept_form(profile: Profile) -> Form
+    ensures { result ≡ kept_form profile }
+{
+    match profile {
+        Profile::Strict | Profile::Posix => Form::Plain,
+    }
 }
 
 /// The first variable of a name.

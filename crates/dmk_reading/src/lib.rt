@@ -20,7 +20,7 @@ mod state_name;
 pub use base::base_of;
 pub use definitions::first_macros;
 pub use graph::{graph_of, judged_graph};
-pub use keeping::{keeps_state, value_of};
+pub use keeping::{keeps_state, kept_form, value_of};
 pub use laws::{one_makefile, one_reading_of_the_settings, plan_of_the_graph};
 pub use lost::{goes_without, is_lost, lost_nodes, nodes_on, unmade_names};
 pub use makefile::items_of;

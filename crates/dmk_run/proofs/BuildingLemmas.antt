@@ -8,12 +8,13 @@ use Rattle.st_disk.specs.Crash.{Sides}
 use Rattle.st_disk.specs.Moments.{Moments, now}
 use Rattle.st_records.specs.declared.record.Record.{Record}
 use Rattle.st_state.specs.State.{StateMap}
-use Rattle.st_recovery.specs.Stored.{AllRecover}
+use Rattle.st_records.specs.declared.version.Form.{Form}
+use Rattle.st_recovery.specs.Stored.{AllRecoverIn}
 use Rattle.mk_nodes.specs.declared.graph.Graph.{Graph}
 use Rattle.mk_nodes.specs.declared.graph.Node.{Node}
 use Rattle.bd_places.specs.declared.end.End.{End}
 use Rattle.bd_places.specs.declared.end.End.TheVariants as end
-use Rattle.bd_flusher.specs.Site.{Facts}
+use Rattle.bd_flusher.specs.Site.{FactsIn}
 use Rattle.bd_flusher.specs.declared.site.receipt.Receipt.{Receipt}
 use Rattle.jb_closing.specs.declared.fault.RunFault.{RunFault}
 use Rattle.jb_closing.specs.declared.report.Report.{Report}
@@ -29,7 +30,7 @@ use Rattle.dmk_reading.specs.Lost.{with_unmade}
 use Rattle.dmk_run.specs.Settled.{IsNoneToRun}
 use Rattle.dmk_run.proofs.DriverLemmas.{made_with}
 
-true_of : {told : List Record} {receipts : List Receipt} {wide narrow : Type 0} {sides : Sides} {name : List ℕ} → (narrow → wide) → IsTrueOf told receipts wide sides name → IsTrueOf told receipts narrow sides name
+true_of : {form : Form} {told : List Record} {receipts : List Receipt} {wide narrow : Type 0} {sides : Sides} {name : List ℕ} → (narrow → wide) → IsTrueOf form told receipts wide sides name → IsTrueOf form told receipts narrow sides name
 true_of implies is = record {
   note = is.note;
   last = is.last;
@@ -41,31 +42,37 @@ true_of implies is = record {
 }
 
 -- under a premise that says more it is true too
-are_true_of : {told : List Record} {receipts : List Receipt} {wide narrow : Type 0} {sides : Sides} (names : List (List ℕ)) (ends : List End) → (narrow → wide) → AreTrueOf told receipts wide sides names ends → AreTrueOf told receipts narrow sides names ends
+are_true_of : {form : Form} {told : List Record} {receipts : List Receipt} {wide narrow : Type 0} {sides : Sides} (names : List (List ℕ)) (ends : List End) → (narrow → wide) → AreTrueOf form told receipts wide sides names ends → AreTrueOf form told receipts narrow sides names ends
 are_true_of names ends implies are = λ node built.
     let (name, named, is) = are node built in (name, named, true_of implies is)
 
 -- the report of a site that isn't dead, as it is told of the store that comes back
-pub is_made : {D : Type 0} (honest : Type 0) (moments : D → Moments) (graph : Graph) (counting keeping : Bool) (found : Result Report RunFault) (told : Result Report RunFault) (site : Facts D) (disk : D) (m : StateMap)
-    → IfOk found (λ r. (receipts : List Receipt) × AreThoseOf site.told receipts × AreTrueOf site.told receipts (honest × (site.dead ≡ false)) (now (moments site.disk)) graph.names r.ends.items)
+pub is_made : {D : Type 0} (form : Form) (honest : Type 0) (moments : D → Moments) (graph : Graph) (counting keeping : Bool) (found : Result Report RunFault) (told : Result Report RunFault) (site : FactsIn D) (disk : D) (m : StateMap)
+    → IfOk found (λ r. (receipts : List Receipt) × AreThoseOf site.told receipts × AreTrueOf form site.told receipts (honest × (site.dead ≡ false)) (now (moments site.disk)) graph.names r.ends.items)
     → IfOk told (λ r. (given : Report) × (found ≡ Ok given) × IsTold graph counting keeping m given r)
-    → disk ≡ site.disk → (IsOk told → site.dead ≡ false) → (IsOk told → honest → AllRecover m (now (moments disk)))
-    → IfOk told (λ r. keeping ≡ true → IsMade graph honest (now (moments disk)) r.status r.ends.items)
-is_made {D} honest moments graph counting keeping found (Ok r) site disk m built (given, is, tells) same alive recovers = λ kept.
-    let said : (receipts : List Receipt) × AreThoseOf site.told receipts × AreTrueOf site.told receipts (honest × (site.dead ≡ false)) (now (moments site.disk)) graph.names given.ends.items =
-    IfOk-at_ok (λ (r : Report). (receipts : List Receipt) × AreThoseOf site.told receipts × AreTrueOf site.told receipts (honest × (site.dead ≡ false)) (now (moments site.disk)) graph.names r.ends.items) is built in
+    → disk ≡ site.disk → (IsOk told → site.dead ≡ false) → (IsOk told → honest → AllRecoverIn form m (now (moments disk)))
+    → IfOk told (λ r. keeping ≡ true → IsMade form graph honest (now (moments disk)) r.status r.ends.items)
+is_made {D} form honest moments graph counting keeping found (Ok r) site disk m built (given, is, tells) same alive recovers = λ kept.
+    let said : (receipts : List Receipt) × AreThoseOf site.told receipts × AreTrueOf form site.told receipts (honest × (site.dead ≡ false)) (now (moments site.disk)) graph.names given.ends.items =
+    IfOk-at_ok (λ (r : Report). (receipts : List Receipt) × AreThoseOf site.told receipts × AreTrueOf form site.told receipts (honest × (site.dead ≡ false)) (now (moments site.disk)) graph.names r.ends.items) is built in
     let (receipts, those, true_of_given) = said in
     record {
       told = site.told;
       receipts = receipts;
       are_those = those;
-      are_true = subst (λ (d : D). AreTrueOf site.told receipts honest (now (moments d)) graph.names r.ends.items) (sym same)
-          (subst (λ (e : List End). AreTrueOf site.told receipts honest (now (moments site.disk)) graph.names e) (sym tells.ends) (are_true_of graph.names given.ends.items (λ h. (h, alive refl)) true_of_given));
+      are_true = subst (λ (d : D). AreTrueOf form site.told receipts honest (now (moments d)) graph.names r.ends.items) (sym same)
+          (subst (λ (e : List End). AreTrueOf form site.told receipts honest (now (moments site.disk)) graph.names e) (sym tells.ends) (are_true_of graph.names given.ends.items (λ h. (h, alive refl)) true_of_given));
       left = m;
       recovers = recovers refl;
       known = tells.known kept;
     }
-is_made honest moments graph counting keeping found (Err fault) site disk m built tells same alive recovers = tt
+is_made form honest moments graph counting keeping found (Err fault) site disk m built tells same alive recovers = tt
+
+-- what holds where the run has a report holds where one is told
+pub where_told : (graph : Graph) (counting keeping : Bool) (m : StateMap) (found told : Result Report RunFault) (Holds : Type 0) → IfOk found (λ r. Holds)
+    → IfOk told (λ r. (given : Report) × (found ≡ Ok given) × IsTold graph counting keeping m given r) → IsOk told → Holds
+where_told graph counting keeping m found (Ok r) Holds holds (given, is, tells) ok = IfOk-at_ok (λ (g : Report). Holds) is holds
+where_told graph counting keeping m found (Err fault) Holds holds tells ok = cc
 
 -- a status of 0 was 0
 zero_told : (old new : ℕ) → (new ≡ old) ⊎ ((old ≡ 0) × (new ≡ 1)) → new ≡ 0 → old ≡ 0
@@ -116,10 +123,10 @@ nothing_tried graph = record {
 }
 
 -- nothing was told, and no node ended as built or failed
-pub none_made : (counting keeping : Bool) (graph : Graph) (m : StateMap) (honest : Type 0) (sides : Sides) → IsNoneToRun counting keeping graph m → (honest → AllRecover m sides)
-    → (status : ℕ) → status ≡ with_unmade graph.unmade.items 0 → (tried : Tried) → tried ≡ none_tried → HasMade graph counting keeping honest sides status tried
-none_made counting keeping graph m honest sides is recovers status comes tried nothing =
-    made_with graph counting keeping honest sides tried 0 status comes (up_to_date graph.nodes.items)
+pub none_made : (form : Form) (counting keeping : Bool) (graph : Graph) (m : StateMap) (honest : Type 0) (sides : Sides) → IsNoneToRun counting keeping graph m → (honest → AllRecoverIn form m sides)
+    → (status : ℕ) → status ≡ with_unmade graph.unmade.items 0 → (tried : Tried) → tried ≡ none_tried → HasMade form graph counting keeping honest sides status tried
+none_made form counting keeping graph m honest sides is recovers status comes tried nothing =
+    made_with form graph counting keeping honest sides tried 0 status comes (up_to_date graph.nodes.items)
     (subst (AreTried graph (up_to_date graph.nodes.items)) (sym nothing) (nothing_tried graph))
     (length-map graph.nodes.items _)
     (λ none. up_to_date_well graph.nodes.items) (λ none. inl is.listing)

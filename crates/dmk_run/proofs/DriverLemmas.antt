@@ -14,11 +14,13 @@ use Rattle.st_disk.specs.Crash.{Sides, IsCrashImage, writes_of}
 use Rattle.st_disk.specs.declared.which.Which.{Which}
 use Rattle.st_disk.specs.declared.which.Which.TheVariants as which
 use Rattle.st_state.specs.State.{StateMap, state_code}
-use Rattle.st_recovery.specs.Recovers.{Recovers, recovered}
-use Rattle.st_recovery.specs.Stored.{AllRecover}
-use Rattle.st_recovery.proofs.RecoversLemmas.{one_recovery}
+use Rattle.st_records.specs.declared.version.Form.{Form}
+use Rattle.st_recovery.specs.Recovers.{RecoversIn, recovered}
+use Rattle.st_recovery.specs.Stored.{AllRecoverIn}
+use Rattle.st_recovery.proofs.RecoversLemmas.{one_recovery_in}
 use Rattle.bd_lists.specs.declared.recipe.Variable.{Variable}
 use Rattle.bd_places.specs.declared.end.End.{End}
+use Rattle.dmk_reading.specs.Keeping.{kept_form}
 use Rattle.dmk_reading.specs.Planned.{IsGraphOf, IsStateOn, judged_graph}
 use Rattle.dmk_run.specs.InTurn.{IsParted}
 use Rattle.dmk_run.specs.Opened.{RecoversAsBefore}
@@ -35,42 +37,42 @@ pub never_parted : (got : Result ℕ Stop) (Left : Type 0) → IfErr got (λ sto
 never_parted (Ok status) Left never = tt
 never_parted (Err stop) Left never = λ parted. absurd (never parted)
 
-module _ {Disk : Type 0} (disk_honest : Type 0) (seen : Disk → Which → List ℕ) where
+module _ {Disk : Type 0} (newest : Form) (disk_honest : Type 0) (seen : Disk → Which → List ℕ) where
   -- a disk that is handed back recovers what it did
   pub same_as_before : (found left : Disk) (got : Result ℕ Stop) → left ≡ found →
-      IfErr got (λ stop. IsParted stop → RecoversAsBefore disk_honest (seen found) (seen left))
+      IfErr got (λ stop. IsParted stop → RecoversAsBefore newest disk_honest (seen found) (seen left))
   same_as_before found left (Ok status) same = tt
   same_as_before found left (Err stop) same = λ parted honest m is.
-      subst (λ d. Recovers (seen d which.A) (seen d which.B) m) same is
+      subst (λ d. RecoversIn newest (seen d which.A) (seen d which.B) m) same is
 
   -- and so does what is handed back of one that recovers nothing else
-  pub left_as_before : (found opened left : Disk) (got : Result ℕ Stop) → RecoversAsBefore disk_honest (seen found) (seen opened) →
+  pub left_as_before : (found opened left : Disk) (got : Result ℕ Stop) → RecoversAsBefore newest disk_honest (seen found) (seen opened) →
       IfErr got (λ stop. IsParted stop → left ≡ opened) →
-      IfErr got (λ stop. IsParted stop → RecoversAsBefore disk_honest (seen found) (seen left))
+      IfErr got (λ stop. IsParted stop → RecoversAsBefore newest disk_honest (seen found) (seen left))
   left_as_before found opened left (Ok status) before same = tt
   left_as_before found opened left (Err stop) before same = λ parted.
-      subst (λ d. RecoversAsBefore disk_honest (seen found) (seen d)) (sym (same parted)) before
+      subst (λ d. RecoversAsBefore newest disk_honest (seen found) (seen d)) (sym (same parted)) before
 
 same_state : (m n : StateMap) → recovered m ≡ recovered n → m ≡ n
 same_state m n e = cc
 
 -- a disk of which each pair recovers the state that was recovered before recovers no other one
-pub opened_as_before : (disk_honest : Type 0) (before now : Which → List ℕ) (sides : Sides) (state : StateMap) →
-    (disk_honest → Recovers (before which.A) (before which.B) state) → (disk_honest → AllRecover state sides) →
-    (disk_honest → (side : Which) → IsCrashImage (writes_of side sides) (now side)) → RecoversAsBefore disk_honest before now
-opened_as_before disk_honest before now sides state found all image = λ honest m is.
+pub opened_as_before : (newest : Form) (disk_honest : Type 0) (before now : Which → List ℕ) (sides : Sides) (state : StateMap) →
+    (disk_honest → RecoversIn newest (before which.A) (before which.B) state) → (disk_honest → AllRecoverIn newest state sides) →
+    (disk_honest → (side : Which) → IsCrashImage (writes_of side sides) (now side)) → RecoversAsBefore newest disk_honest before now
+opened_as_before newest disk_honest before now sides state found all image = λ honest m is.
     let same : m ≡ state = ∥∥₁_elim (all honest (now which.A) (now which.B) (image honest which.A) (image honest which.B)) (Coded-set state_code m state)
-    (λ own. same_state m state (one_recovery (now which.A) (now which.B) (recovered m) (recovered state) is own)) in
-    subst (Recovers (before which.A) (before which.B)) (sym same) (found honest)
+    (λ own. same_state m state (one_recovery_in newest (now which.A) (now which.B) (recovered m) (recovered state) is own)) in
+    subst (RecoversIn newest (before which.A) (before which.B)) (sym same) (found honest)
 
 no_value : false ≡ true → ⊥
 no_value is = cc
 
 -- two empty sides recover the empty state
-empty_state : (a b : List ℕ) (m : StateMap) → a ≡ [] → b ≡ [] → Recovers a b m → m ≡ map.empty
-empty_state a b m is_a is_b found =
-    same_state m map.empty (one_recovery [] [] (recovered m) (recovered map.empty)
-    (subst (λ x. Recovers x [] m) is_a (subst (λ y. Recovers a y m) is_b found)) (inl (tt, tt, refl)))
+empty_state : (newest : Form) (a b : List ℕ) (m : StateMap) → a ≡ [] → b ≡ [] → RecoversIn newest a b m → m ≡ map.empty
+empty_state newest a b m is_a is_b found =
+    same_state m map.empty (one_recovery_in newest [] [] (recovered m) (recovered map.empty)
+    (subst (λ x. RecoversIn newest x [] m) is_a (subst (λ y. RecoversIn newest a y m) is_b found)) (inl (tt, tt, refl)))
 
 -- what is so of a result is so of its value
 pub at_ok : {A E : Type 0} (P : A → Type 0) (got : Result A E) (x : A) → got ≡ Ok x → IfOk got P → P x
@@ -98,9 +100,9 @@ status_of_report unmade found (Ok s) (r, is, same) small =
 status_of_report unmade found (Err stop) is small = tt
 
 -- what is made at a status is made at another that is 0 only where that is
-made_at : (graph : Graph) (sound : Type 0) (sides : Sides) (ends : List End) (before after : ℕ) → (after ≡ 0 → before ≡ 0) →
-    IsMade graph sound sides before ends → IsMade graph sound sides after ends
-made_at graph sound sides ends before after implies is = record {
+made_at : (form : Form) (graph : Graph) (sound : Type 0) (sides : Sides) (ends : List End) (before after : ℕ) → (after ≡ 0 → before ≡ 0) →
+    IsMade form graph sound sides before ends → IsMade form graph sound sides after ends
+made_at form graph sound sides ends before after implies is = record {
   told = is.told;
   receipts = is.receipts;
   are_those = is.are_those;
@@ -111,10 +113,10 @@ made_at graph sound sides ends before after implies is = record {
 }
 
 -- so a run has made what it did that came to another status for names that nothing makes
-pub made_with : (graph : Graph) (counting keeping : Bool) (sound : Type 0) (sides : Sides) (tried : Tried) (before after : ℕ) → after ≡ with_unmade graph.unmade.items before →
+pub made_with : (form : Form) (graph : Graph) (counting keeping : Bool) (sound : Type 0) (sides : Sides) (tried : Tried) (before after : ℕ) → after ≡ with_unmade graph.unmade.items before →
     (ends : List End) → AreTried graph ends tried → length ends ≡ length graph.nodes.items → (before ≡ 0 → IsTrue (list_all ends_well ends)) →
-    (before ≡ 0 → IsBorneOut counting graph ends) → (keeping ≡ true → IsMade graph sound sides before ends) → HasMade graph counting keeping sound sides after tried
-made_with graph counting keeping sound sides tried before after is ends are all well borne made =
+    (before ≡ 0 → IsBorneOut counting graph ends) → (keeping ≡ true → IsMade form graph sound sides before ends) → HasMade form graph counting keeping sound sides after tried
+made_with form graph counting keeping sound sides tried before after is ends are all well borne made =
     let implies : after ≡ 0 → before ≡ 0 = λ none. zero_with graph.unmade.items before (sym is ∙ none) in
     record {
       ended = record {
@@ -123,34 +125,34 @@ made_with graph counting keeping sound sides tried before after is ends are all 
         unmade = λ other. none_with graph.unmade.items before (subst (λ s. s ≢ 2) is other);
         well = λ none. well (implies none);
         borne_out = λ none. borne (implies none);
-        made = λ kept. made_at graph sound sides ends before after implies (made kept);
+        made = λ kept. made_at form graph sound sides ends before after implies (made kept);
       };
       are_tried = are;
     }
 
 -- the status of a report is that of a graph that has ended, with what was tried by its ends
-pub has_made : (graph : Graph) (counting keeping : Bool) (sound : Type 0) (sides : Sides) (tried : Tried) (found : Result Report RunFault) (got : Result ℕ Stop)
+pub has_made : (form : Form) (graph : Graph) (counting keeping : Bool) (sound : Type 0) (sides : Sides) (tried : Tried) (found : Result Report RunFault) (got : Result ℕ Stop)
     → IfOk got (λ s. (r : Report) × (found ≡ Ok r) × (s ≡ with_unmade graph.unmade.items r.status) × AreTried graph r.ends.items tried)
     → IfOk found (λ r. length r.ends.items ≡ length graph.nodes.items)
     → IfOk found (λ r. r.status ≡ 0 → IsTrue (list_all ends_well r.ends.items)) → IfOk found (λ r. r.status ≡ 0 → IsBorneOut counting graph r.ends.items)
-    → IfOk found (λ r. keeping ≡ true → IsMade graph sound sides r.status r.ends.items) → IfOk got (λ s. HasMade graph counting keeping sound sides s tried)
-has_made graph counting keeping sound sides tried found (Ok s) (r, is, same, are) all well borne made =
-    made_with graph counting keeping sound sides tried r.status s same r.ends.items are
+    → IfOk found (λ r. keeping ≡ true → IsMade form graph sound sides r.status r.ends.items) → IfOk got (λ s. HasMade form graph counting keeping sound sides s tried)
+has_made form graph counting keeping sound sides tried found (Ok s) (r, is, same, are) all well borne made =
+    made_with form graph counting keeping sound sides tried r.status s same r.ends.items are
     (at_ok (λ r. length r.ends.items ≡ length graph.nodes.items) found r is all)
     (at_ok (λ r. r.status ≡ 0 → IsTrue (list_all ends_well r.ends.items)) found r is well)
     (at_ok (λ r. r.status ≡ 0 → IsBorneOut counting graph r.ends.items) found r is borne)
-    (at_ok (λ r. keeping ≡ true → IsMade graph sound sides r.status r.ends.items) found r is made)
-has_made graph counting keeping sound sides tried found (Err stop) is all well borne made = tt
+    (at_ok (λ r. keeping ≡ true → IsMade form graph sound sides r.status r.ends.items) found r is made)
+has_made form graph counting keeping sound sides tried found (Err stop) is all well borne made = tt
 
 module _ (profile : Profile) (definitions environment : List Variable) (targets : List (List ℕ)) (all goes_on : Bool) (before : Tried) (looks : List ℕ → Option FileLook) (tried : Tried) where
   -- so a graph of these items has
   pub made_items : (items : List Item) (stored keeping : Bool) (disk_honest : Type 0) (seen : Which → List ℕ) (sides : Sides) (state : StateMap)
-      (graph judged : Graph) (counted kept : Bool) → IsStateOn stored disk_honest seen state →
+      (graph judged : Graph) (counted kept : Bool) → IsStateOn (kept_form profile) stored disk_honest seen state →
       IsGraphOf profile definitions environment targets looks items state graph → (goes_without profile goes_on ≡ false → graph.unmade.items ≡ []) →
-      IsJudgedBehind before (all || keeping) (judged_graph all graph) judged → counted ≡ all || keeping → kept ≡ keeping → (got : Result ℕ Stop) →
-      IfOk got (λ s. HasMade judged counted kept disk_honest sides s tried) →
+      IsJudgedBehind before (all || keeping) (judged_graph all graph) judged → counted ≡ all || keeping → kept ≡ keeping → (form : Form) → form ≡ kept_form profile → (got : Result ℕ Stop) →
+      IfOk got (λ s. HasMade form judged counted kept disk_honest sides s tried) →
       IfOk got (λ s. MakesItems profile definitions environment targets all goes_on before looks items stored keeping disk_honest seen s sides tried)
-  made_items items stored keeping disk_honest seen sides state graph judged counted kept is_state is_graph all_made is_judged counts same (Ok s) made = record {
+  made_items items stored keeping disk_honest seen sides state graph judged counted kept is_state is_graph all_made is_judged counts same form is_form (Ok s) made = record {
     state = state;
     is_state = is_state;
     graph = graph;
@@ -158,9 +160,10 @@ module _ (profile : Profile) (definitions environment : List Variable) (targets 
     all_made = all_made;
     judged = judged;
     is_judged = is_judged;
-    made = subst (λ n. HasMade judged n keeping disk_honest sides s tried) counts (subst (λ k. HasMade judged counted k disk_honest sides s tried) same made);
+    made = subst (λ n. HasMade (kept_form profile) judged n keeping disk_honest sides s tried) counts (subst (λ k. HasMade (kept_form profile) judged counted k disk_honest sides s tried) same
+        (subst (λ (f : Form). HasMade f judged counted kept disk_honest sides s tried) is_form made));
   }
-  made_items items stored keeping disk_honest seen sides state graph judged counted kept is_state is_graph all_made is_judged counts same (Err stop) made = tt
+  made_items items stored keeping disk_honest seen sides state graph judged counted kept is_state is_graph all_made is_judged counts same form is_form (Err stop) made = tt
 
   -- over a disk in memory that was empty nothing of a state is known
   module _ (items : List Item) (memory_honest : Type 0) (memory : Which → List ℕ) (works : memory_honest)
@@ -170,7 +173,7 @@ module _ (profile : Profile) (definitions environment : List Variable) (targets 
         MakesItems profile definitions environment targets all goes_on before looks items false false disk_honest seen status sides tried
     without_state status run = record {
       state = run.state;
-      is_state = empty_state (memory which.A) (memory which.B) run.state a b (run.is_state works);
+      is_state = empty_state (kept_form profile) (memory which.A) (memory which.B) run.state a b (run.is_state works);
       graph = run.graph;
       is_graph = run.is_graph;
       all_made = run.all_made;

@@ -13,6 +13,7 @@ use Rattle.bd_places.specs.declared.end.End.{End}
 use Rattle.bd_lists.specs.declared.recipe.Variable.{Variable}
 use Rattle.dmk_reading.specs.Definitions.{first_defined}
 use Rattle.dmk_reading.specs.Keeping.{keeps}
+use Rattle.dmk_reading.specs.Keeping.{kept_form}
 use Rattle.dmk_reading.specs.Planned.{AreItems, IsStateOn}
 use Rattle.dmk_reading.specs.declared.makefiles.Makefiles.{Makefiles}
 use Rattle.dmk_reading.specs.declared.options.Options.{Options}
@@ -275,8 +276,8 @@ module _ {Source Tree Disk : Type 0} (Reads : Source → World → Type 0) (Allo
 
   -- a part that is made over a disk is made over one of which it recovers no other state
   module _ (options : Options) (disk_honest : Type 0) (seen : Disk → Which → List ℕ) (sides : Disk → Sides) (found opened : Disk)
-      (before : RecoversAsBefore disk_honest (seen found) (seen opened)) where
-    state_before : (stored : Bool) (m : StateMap) → IsStateOn stored disk_honest (seen opened) m → IsStateOn stored disk_honest (seen found) m
+      (before : RecoversAsBefore (kept_form options.profile) disk_honest (seen found) (seen opened)) where
+    state_before : (stored : Bool) (m : StateMap) → IsStateOn (kept_form options.profile) stored disk_honest (seen opened) m → IsStateOn (kept_form options.profile) stored disk_honest (seen found) m
     state_before true m is = λ honest. before honest m (is honest)
     state_before false m is = is
 

@@ -9,8 +9,9 @@ use Rattle.st_disk.specs.Moments.{Moments, Throughout}
 use Rattle.st_disk.proofs.MomentLaws.{then_goes, throughout_map}
 use Rattle.st_state.specs.State.{StateMap}
 use Rattle.st_file.specs.Side.{IsVoid}
-use Rattle.st_recovery.specs.Recovers.{Recovers}
-use Rattle.st_recovery.specs.Stored.{AllRecover, ArePossibleOrNew}
+use Rattle.st_records.specs.declared.version.Form.{Form}
+use Rattle.st_recovery.specs.Recovers.{RecoversIn}
+use Rattle.st_recovery.specs.Stored.{AllRecoverIn, ArePossibleOrNewIn}
 use Rattle.bd_flusher.specs.declared.fault.FlushFault.{FlushFault}
 use Rattle.bd_flusher.specs.declared.fault.FlushFault.TheVariants as refusals
 use Rattle.jb_closing.specs.declared.fault.RunFault.{RunFault}
@@ -19,21 +20,21 @@ use Rattle.dmk_run.specs.Opened.{RecoversAs, ArePossibleOrRecover, IsNotCompacte
 
 -- ---- what a power cut may leave
 
-possible_or_as : (seen : Which → List ℕ) (start : Sides) (a b : List ℕ) → (IsCrashImage start.a a × IsCrashImage start.b b) ⊎ (IsVoid (seen which.A) × (IsVoid (seen which.B) × Recovers a b map.empty))
-    → (IsCrashImage start.a a × IsCrashImage start.b b) ⊎ RecoversAs seen a b
-possible_or_as seen start a b (inl possible) = inl possible
-possible_or_as seen start a b (inr (void_a, (void_b, recovers))) = inr (map.empty, inl (void_a, void_b, refl), recovers)
+possible_or_as : (newest : Form) (seen : Which → List ℕ) (start : Sides) (a b : List ℕ) → (IsCrashImage start.a a × IsCrashImage start.b b) ⊎ (IsVoid (seen which.A) × (IsVoid (seen which.B) × RecoversIn newest a b map.empty))
+    → (IsCrashImage start.a a × IsCrashImage start.b b) ⊎ RecoversAs newest seen a b
+possible_or_as newest seen start a b (inl possible) = inl possible
+possible_or_as newest seen start a b (inr (void_a, (void_b, recovers))) = inr (map.empty, inl (void_a, void_b, refl), recovers)
 
 -- an opening
-pub opened_so : (seen : Which → List ℕ) (start : Sides) {m0 m1 : Moments} → Throughout m0 m1 (ArePossibleOrNew (seen which.A) (seen which.B) start) → Throughout m0 m1 (ArePossibleOrRecover seen start)
-opened_so seen start opened =
-    throughout_map opened (λ sides has. λ a b is_a is_b. ∣ possible_or_as seen start a b (has a b is_a is_b) ∣₁)
+pub opened_so : (newest : Form) (seen : Which → List ℕ) (start : Sides) {m0 m1 : Moments} → Throughout m0 m1 (ArePossibleOrNewIn newest (seen which.A) (seen which.B) start) → Throughout m0 m1 (ArePossibleOrRecover newest seen start)
+opened_so newest seen start opened =
+    throughout_map opened (λ sides has. λ a b is_a is_b. ∣ possible_or_as newest seen start a b (has a b is_a is_b) ∣₁)
 
 -- and then a compaction of the state that was found
-pub then_compacted : (seen : Which → List ℕ) (start : Sides) {m0 m1 m2 : Moments} (m : StateMap) → Throughout m0 m1 (ArePossibleOrNew (seen which.A) (seen which.B) start) → Recovers (seen which.A) (seen which.B) m
-    → Throughout m1 m2 (AllRecover m) → Throughout m0 m2 (ArePossibleOrRecover seen start)
-then_compacted seen start m opened found compacted =
-    then_goes (opened_so seen start opened) (throughout_map compacted (λ sides has. λ a b is_a is_b. ∥∥₁_map (has a b is_a is_b) (λ r. inr (m, found, r))))
+pub then_compacted : (newest : Form) (seen : Which → List ℕ) (start : Sides) {m0 m1 m2 : Moments} (m : StateMap) → Throughout m0 m1 (ArePossibleOrNewIn newest (seen which.A) (seen which.B) start) → RecoversIn newest (seen which.A) (seen which.B) m
+    → Throughout m1 m2 (AllRecoverIn newest m) → Throughout m0 m2 (ArePossibleOrRecover newest seen start)
+then_compacted newest seen start m opened found compacted =
+    then_goes (opened_so newest seen start opened) (throughout_map compacted (λ sides has. λ a b is_a is_b. ∥∥₁_map (has a b is_a is_b) (λ r. inr (m, found, r))))
 
 -- ---- refusals
 

@@ -11,45 +11,45 @@ use Rattle.mk_plan.specs.Passage.{Passage, to_make, commands_of}
 use Rattle.mk_plan.specs.Passing.{Passes, PassesUnlisted, IsFaultAt}
 use Rattle.mk_plan.specs.declared.fault.RecipeFault.TheVariants as fault
 use Rattle.mk_plan.specs.declared.why.Why.{Why}
-use Rattle.st_records.specs.Limits.{IsGood}
-use Rattle.st_records.specs.declared.version.Version.TheVariants.{Two}
-use Rattle.st_records.specs.declared.record.Explicit.TheVariants.{Known}
+use Rattle.st_records.specs.Limits.{IsGoodIn}
+use Rattle.st_records.specs.declared.version.Form.{Form}
+use Rattle.jb_recipe.specs.Noting.{said_in}
 use Rattle.st_records.specs.declared.record.Record.{Record}
 use Rattle.st_records.specs.declared.record.Record.TheVariants as records
 use Rattle.dmk_reading.specs.Passing.{no_marks}
 
 -- the record that the recipe of node n was run to its end with these commands: it names the prerequisites that the makefile names
 -- now, and no hidden ones
-abbrev pub done_of : Graph → (n : ℕ) → (commands : List (List ℕ)) → Record
-done_of graph n commands = records.Done (name_at graph.names n) commands [] (Known (explicit_of graph n))
+abbrev pub done_of : Form → Graph → (n : ℕ) → (commands : List (List ℕ)) → Record
+done_of form graph n commands = records.Done (name_at graph.names n) commands [] (said_in form (explicit_of graph n) [])
 
 -- what comes of node n, where the marks are those of the nodes before it that count as remade: whether it counts as remade, and the
 -- record with which it is taken
-pub data Takes (graph : Graph) (marks : List Bool) (n : ℕ) : (remade : Bool) → (note : Option Record) → Type 0 where
+pub data Takes (form : Form) (graph : Graph) (marks : List Bool) (n : ℕ) : (remade : Bool) → (note : Option Record) → Type 0 where
   -- by the times of files alone it isn't to be made, and the record has the commands with which it would be
   is_taken : (told : List Passage) (why : Why) (lines : List Line) (commands : List (List ℕ)) →
       Passes false graph marks n false told →
       Passes true graph marks n true (to_make (name_at graph.names n) why (commands_of graph n) lines ∷ []) →
-      Records lines commands → IsGood Two (done_of graph n commands) → Takes graph marks n false (Some (done_of graph n commands))
+      Records lines commands → IsGoodIn form (done_of form graph n commands) → Takes form graph marks n false (Some (done_of form graph n commands))
   -- so it is, but that record may not stand in a state
   cannot_be_recorded : (told : List Passage) (why : Why) (lines : List Line) (commands : List (List ℕ)) →
       Passes false graph marks n false told →
       Passes true graph marks n true (to_make (name_at graph.names n) why (commands_of graph n) lines ∷ []) →
-      Records lines commands → (IsGood Two (done_of graph n commands) → ⊥) → Takes graph marks n true None
+      Records lines commands → (IsGoodIn form (done_of form graph n commands) → ⊥) → Takes form graph marks n true None
   -- it is to be made by the times of files too
-  is_made : (told : List Passage) → Passes false graph marks n true told → Takes graph marks n true None
+  is_made : (told : List Passage) → Passes false graph marks n true told → Takes form graph marks n true None
   -- nothing is to be run for it: it has no recipe, or the state has it as up to date
-  has_nothing_to_run : (remade : Bool) → PassesUnlisted true graph marks n remade → Takes graph marks n remade None
+  has_nothing_to_run : (remade : Bool) → PassesUnlisted true graph marks n remade → Takes form graph marks n remade None
   -- a line of its recipe has no expansion, which is told when the run comes to it
-  is_faulty : (f : TextFault) → IsFaultAt graph marks n (fault.Macro f) → Takes graph marks n true None
+  is_faulty : (f : TextFault) → IsFaultAt graph marks n (fault.Macro f) → Takes form graph marks n true None
 
 -- the nodes are passed in this order, behind others whose marks these are, and these are the records of those that are taken
-pub data TakesAll (graph : Graph) : (marks : List Bool) → (order : List ℕ) → List Record → Type 0 where
-  at_end : {marks : List Bool} → TakesAll graph marks [] []
+pub data TakesAll (form : Form) (graph : Graph) : (marks : List Bool) → (order : List ℕ) → List Record → Type 0 where
+  at_end : {marks : List Bool} → TakesAll form graph marks [] []
   behind : {marks : List Bool} {n : ℕ} {order : List ℕ} {remade : Bool} {note : Option Record} {taken : List Record} →
-      Takes graph marks n remade note → TakesAll graph (slice_set marks n remade) order taken →
-      TakesAll graph marks (n ∷ order) (option_to_list note ++ taken)
+      Takes form graph marks n remade note → TakesAll form graph (slice_set marks n remade) order taken →
+      TakesAll form graph marks (n ∷ order) (option_to_list note ++ taken)
 
 -- the records of all targets of the graph that are taken as they are, in its order
-abbrev pub AreTaken : Graph → List Record → Type 0
-AreTaken graph taken = TakesAll graph (no_marks graph) graph.order.items taken
+abbrev pub AreTaken : Form → Graph → List Record → Type 0
+AreTaken form graph taken = TakesAll form graph (no_marks graph) graph.order.items taken

@@ -2,7 +2,7 @@
 ghost use Rattle.std.specs.Prelude.{◌≡◌, ◌⊎◌, ◌≤◌, true, false, length, Ok, Err, IfOk, IfErr, IsOk, IsTrue};
 ghost use Rattle.std.specs.List.{list_all};
 ghost use Rattle.st_disk.specs.Moments.{now};
-ghost use Rattle.st_recovery.specs.Stored.{AllRecover};
+ghost use Rattle.st_recovery.specs.Stored.{AllRecoverIn};
 ghost use Rattle.bd_flusher.specs.declared.fault.FlushFault.TheVariants as refusals;
 ghost use Rattle.jb_closing.specs.declared.fault.RunFault.TheVariants as run_faults;
 ghost use Rattle.jb_closing.specs.declared.report.Report.{Report as RunReport};
@@ -19,7 +19,7 @@ use crate::judging::are_judged;
 use crate::known::are_known_done;
 use crate::stop::Stop;
 use crate::unmade::with_unmade;
-use bd_flusher::{FlushFault, Receipt, Site};
+use bd_flusher::{FlushFault, Receipt, SiteIn};
 use bd_lists::Exec;
 use bd_places::End;
 use dmk_reading::value_of;
@@ -29,7 +29,7 @@ use jb_runner::{Parts, Slotting, run_slotted};
 use jb_slots::Banks;
 use mk_nodes::Graph;
 use st_disk::Disk;
-use st_recovery::Store;
+use st_recovery::StoreIn;
 use st_state::State;
 use std::alloc::{AllocError, Global};
 use std::sync::Wait;
@@ -39,10 +39,10 @@ use std::thread::Threads;
 #[derive(Drop)]
 pub struct Built<D: Disk + Drop> {
     pub found: Result<Report, RunFault>,
-    pub store: Store<D>,
+    pub store: StoreIn<D>,
 }
 
-fn dead<D: Disk + Drop>(store: Store<D>) -> Built<D>
+fn dead<D: Disk + Drop>(store: StoreIn<D>) -> Built<D>
     ensures found { result.found ≡ Err (run_faults.Flush refusals.Dead) }
     ensures store { result.store ≡ store }
 {
@@ -95,7 +95,7 @@ fn told<D: Disk + Drop>(
     counting: bool,
     keeps_state: bool,
     found: Result<Report, RunFault>,
-    closed: Store<D>,
+    closed: StoreIn<D>,
 ) -> Built<D>
     ensures store { result.store ≡ closed }
     ensures alive { IsOk result.found → closed.log.dead ≡ false }
@@ -147,7 +147,7 @@ pub fn build<R, D, E, S, P, K>(
     conduct: Conduct,
     workers: usize,
     banks: &mut K,
-    store: Store<D>,
+    store: StoreIn<D>,
 ) -> Built<D>
 where
     R: Threads + Wait + Sync,
@@ -159,14 +159,15 @@ where
     K::End: Drop + Send,
     // With a report the store isn't dead, so every pair of crash images recovers its state, and each built node is done there.
     ensures alive { IsOk result.found → result.store.log.dead ≡ false }
-    ensures recovers { IsOk result.found → D.honest → AllRecover result.store.state (now (D.moments result.store.log.disk)) }
+    ensures newest { IsOk result.found → result.store.newest ≡ conduct.form }
+    ensures recovers { IsOk result.found → D.honest → AllRecoverIn conduct.form result.store.state (now (D.moments result.store.log.disk)) }
     ensures ends { IfOk result.found (λ r. length r.ends.items ≡ length graph.now.nodes.items) }
     ensures status { IfOk result.found (λ r. r.status ≤ 2) }
     ensures well { IfOk result.found (λ r. r.status ≡ 0 → IsTrue (list_all ends_well r.ends.items)) }
     // No status of 0 is made up: a node that wasn't built needn't be.
     ensures borne_out { IfOk result.found (λ r. r.status ≡ 0 → IsBorneOut conduct.counts_records graph.now r.ends.items) }
     ensures made { IfOk result.found (λ r. conduct.keeps_state ≡ true
-        → IsMade graph.now D.honest (now (D.moments result.store.log.disk)) r.status r.ends.items) }
+        → IsMade conduct.form graph.now D.honest (now (D.moments result.store.log.disk)) r.status r.ends.items) }
     // A store that is handed in dead is told as one, and comes back as it was.
     ensures dead { store.log.dead ≡ true → result.found ≡ Err (run_faults.Flush refusals.Dead) }
     ensures untouched { store.log.dead ≡ true → result.store ≡ store }
@@ -178,7 +179,7 @@ where
         return dead(store);
     }
     tell_planned(alloc, conduct.counts_records, graph, means.say);
-    let site = match Site::new(alloc, store) {
+    let site = match SiteIn::new(alloc, store) {
         Ok(site) => site,
         Err((_, store)) => {
             drop(conduct);

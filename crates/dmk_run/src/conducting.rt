@@ -11,6 +11,7 @@ use jb_recipe::{Conduct, Makeflags};
 use mk_plan::Telling;
 use mk_profile::Profile;
 use mk_rule_lines::Settings;
+use st_records::Form;
 use std::alloc::{AllocError, Global};
 
 /// What the words of the command line ask of a run, beside makefile and targets.
@@ -53,9 +54,11 @@ impl Wishes<'_> {
     pub(crate) fn conduct(
         &self,
         alloc: Global,
+        form: Form,
         keeps_state: bool,
         definitions: Vec<Variable>,
     ) -> Result<Conduct, AllocError>
+        ensures form { IfOk result (λ c. c.form ≡ form) }
         ensures state { IfOk result (λ c. (c.keeps_state ≡ keeps_state) × (c.state_name ≡ self.now.reports.now)) }
         ensures records { IfOk result (λ c. c.counts_records ≡ self.now.makes_all || keeps_state) }
         ensures goes_on { IfOk result (λ c. c.goes_on ≡ self.now.goes_on) }
@@ -67,6 +70,7 @@ impl Wishes<'_> {
     {
         Ok(Conduct {
             keeps_state,
+            form,
             counts_records: self.makes_all || keeps_state,
             goes_on: self.goes_on,
             ignores_statuses: self.ignores_statuses,

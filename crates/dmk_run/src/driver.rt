@@ -2,7 +2,7 @@
 ghost use Rattle.std.specs.Prelude.{◌≡◌, ◌≢◌, ◌⊎◌, ◌≤◌, ℕ, true, false, List, Option, Ok, codes, unwrap_or, IfOk, IfErr};
 ghost use Rattle.mk_reader.specs.declared.item.Item.{Item as MakefileItem};
 ghost use Rattle.st_disk.specs.Moments.{now};
-ghost use Rattle.dmk_reading.specs.Keeping.{keeps, value_in};
+ghost use Rattle.dmk_reading.specs.Keeping.{keeps, kept_form, value_in};
 ghost use Rattle.dmk_reading.specs.Asked.{AsksToRun};
 ghost use Rattle.dmk_reading.specs.Definitions.{first_defined};
 ghost use Rattle.dmk_reading.specs.Planned.{AreItems};
@@ -26,7 +26,7 @@ use bd_lists::{Exec, Variable};
 use byte_strings::ByteString;
 use dmk_messages::{Fault, Message};
 use dmk_printing::Printer;
-use dmk_reading::{Makefiles, Options, items_of, keeps_state};
+use dmk_reading::{Makefiles, Options, items_of, keeps_state, kept_form};
 use jb_recipe::Place;
 use jb_slots::Banks;
 use mk_eval::Includes;
@@ -35,7 +35,7 @@ use mk_rules::Tree;
 use st_disk::Disk;
 use st_memory::MemDisk;
 use st_records::HashKey;
-use st_recovery::Store;
+use st_recovery::StoreIn;
 use std::alloc::Global;
 use std::io::Write;
 use std::sync::{OnceLock, Wait};
@@ -85,10 +85,15 @@ where
         → MakesItems goals.profile goals.definitions.items means.now.environment.now goals.targets wishes.now.makes_all wishes.now.goes_on
         (unwrap_or goals.behind none_tried) looks items.items true keeping D.honest (D.seen disk) s (now (D.moments result.1)) (tried_in result.2)) }
     ensures looks { (looks : List ℕ → Option FileLook) → T.allows tree.new looks → T.allows tree.old looks }
-    ensures parted { IfErr result.0 (λ stop. IsParted stop → RecoversAsBefore D.honest (D.seen disk) (D.seen result.1)) }
+    ensures parted { IfErr result.0 (λ stop. IsParted stop → RecoversAsBefore (kept_form goals.profile) D.honest (D.seen disk) (D.seen result.1)) }
     ensures let_go { K.serves banks.old ≡ false → K.serves banks.new ≡ false }
 {
-    let Store { log, state } = match open_store(alloc, means.key, disk) {
+    let newest = kept_form(goals.profile);
+    let StoreIn {
+        log,
+        state,
+        newest: _,
+    } = match open_store(alloc, means.key, newest, disk) {
         Ok(store) => store,
         Err((stop, disk)) => {
             drop(goals);
@@ -147,7 +152,7 @@ where
         D.honest (D.seen disk) s (now (D.moments result.1)) (tried_in result.2)) }
     ensures looks { (looks : List ℕ → Option FileLook) → T.allows tree.new looks → T.allows tree.old looks }
     ensures untouched { keeps means.now.environment.now items.items ≡ false → result.1 ≡ disk }
-    ensures parted { IfErr result.0 (λ stop. IsParted stop → RecoversAsBefore D.honest (D.seen disk) (D.seen result.1)) }
+    ensures parted { IfErr result.0 (λ stop. IsParted stop → RecoversAsBefore (kept_form goals.profile) D.honest (D.seen disk) (D.seen result.1)) }
     ensures let_go { K.serves banks.old ≡ false → K.serves banks.new ≡ false }
 {
     if keeps_state(means.environment, &items) {
@@ -201,7 +206,7 @@ where
     ensures untouched { (result.1 ≡ disk) ⊎ ((world : World) (looks : List ℕ → Option FileLook) → I.allows includes.new world → T.allows tree.new looks
         → (items : List MakefileItem) × AreItems world looks makefiles.now (first_defined goals.profile goals.definitions.items means.now.environment.now) items
         × (keeps means.now.environment.now items ≡ true)) }
-    ensures parted { IfErr result.0 (λ stop. IsParted stop → RecoversAsBefore D.honest (D.seen disk) (D.seen result.1)) }
+    ensures parted { IfErr result.0 (λ stop. IsParted stop → RecoversAsBefore (kept_form goals.profile) D.honest (D.seen disk) (D.seen result.1)) }
     ensures let_go { K.serves banks.old ≡ false → K.serves banks.new ≡ false }
 {
     match items_of(
@@ -329,7 +334,7 @@ where
         → (items : List MakefileItem) × AreItems world looks options.makefiles (first_defined options.profile options.definitions.items means.now.environment.now) items
         × (keeps means.now.environment.now items ≡ true)) }
     // Where the goals are to be made in parts, nothing was begun: the disk recovers no other state than before.
-    ensures parted { IfErr result.0 (λ stop. IsParted stop → RecoversAsBefore D.honest (D.seen disk) (D.seen result.1)) }
+    ensures parted { IfErr result.0 (λ stop. IsParted stop → RecoversAsBefore (kept_form options.profile) D.honest (D.seen disk) (D.seen result.1)) }
     // A pool that is served for the run is let go at its end.
     ensures let_go { K.serves banks.old ≡ false → K.serves banks.new ≡ false }
 {

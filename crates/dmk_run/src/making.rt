@@ -1,8 +1,9 @@
 //! What was planned, made over the log of a store whose state the plan holds.
 ghost use Rattle.std.specs.Prelude.{◌≡◌, ◌≤◌, false, IfOk, IfErr};
 ghost use Rattle.st_disk.specs.Moments.{now};
-ghost use Rattle.st_state.specs.Keepable.{AllCanBeKept};
-ghost use Rattle.st_recovery.specs.Stored.{IsStoredOn};
+ghost use Rattle.st_file.specs.Layout.{IsReadIn};
+ghost use Rattle.st_recovery.specs.Recovers.{IsMadeOf};
+ghost use Rattle.st_recovery.specs.Stored.{IsStoredOnIn};
 ghost use Rattle.dmk_run.specs.InTurn.{IsParted};
 ghost use Rattle.dmk_run.specs.Made.{HasMade, tried_in};
 ghost use Rattle.dmk_run.specs.Planned.{recorded_in};
@@ -23,8 +24,8 @@ use dmk_printing::Printer;
 use jb_recipe::Place;
 use jb_slots::Banks;
 use st_disk::Disk;
-use st_file::Log;
-use st_recovery::Store;
+use st_file::LogIn;
+use st_recovery::StoreIn;
 use std::alloc::Global;
 use std::io::Write;
 use std::mem;
@@ -44,7 +45,7 @@ fn make_listed<R, O, W, E, P, K, D>(
     is_part: bool,
     plan: Plan,
     banks: &mut K,
-    log: Log<D>,
+    log: LogIn<D>,
 ) -> (Result<u8, Stop>, D, Left)
 where
     R: Threads + Wait + Sync,
@@ -55,11 +56,12 @@ where
     K: Banks,
     K::End: Drop + Send,
     D: Disk + Drop + Send,
-    requires stored { D.honest → log.dead ≡ false → IsStoredOn (D.seen log.disk) (now (D.moments log.disk)) log.side
-        log.version log.generation log.end (recorded_in plan) }
-    requires keepable { AllCanBeKept (recorded_in plan) }
+    requires stored { D.honest → log.dead ≡ false → IsStoredOnIn plan.conduct.form (D.seen log.disk) (now (D.moments log.disk)) log.side
+        log.form log.generation log.end (recorded_in plan) }
+    requires is_read { IsReadIn plan.conduct.form log.form }
+    requires recorded { ∥ IsMadeOf log.form (recorded_in plan) ∥₁ }
     ensures status { IfOk result.0 (λ s. s ≤ 2) }
-    ensures made { IfOk result.0 (λ s. HasMade plan.graph plan.conduct.counts_records plan.conduct.keeps_state D.honest (now (D.moments result.1)) s
+    ensures made { IfOk result.0 (λ s. HasMade plan.conduct.form plan.graph plan.conduct.counts_records plan.conduct.keeps_state D.honest (now (D.moments result.1)) s
         (tried_in result.2)) }
     ensures parted { IfErr result.0 (λ stop. IsParted stop → result.1 ≡ log.disk) }
     ensures let_go { K.serves banks.old ≡ false → K.serves banks.new ≡ false }
@@ -78,9 +80,14 @@ where
         }
     };
     let workers = wishes.workers(&graph.settings);
-    let store = Store { log, state };
+    let newest = conduct.form;
+    let store = StoreIn { log, state, newest };
     let Built { found, store } = build(rt, alloc, means, &graph, conduct, workers, banks, store);
-    let Store { log, state } = store;
+    let StoreIn {
+        log,
+        state,
+        newest: _,
+    } = store;
     let (came_to, left) = came_to(alloc, is_part, &graph, found);
     mem::forget(graph);
     mem::forget(state);
@@ -96,7 +103,7 @@ pub(crate) fn make<R, O, W, E, P, K, D>(
     is_part: bool,
     plan: Plan,
     banks: &mut K,
-    log: Log<D>,
+    log: LogIn<D>,
 ) -> (Result<u8, Stop>, D, Left)
 where
     R: Threads + Wait + Sync,
@@ -108,11 +115,12 @@ where
     K::End: Drop + Send,
     D: Disk + Drop + Send,
     requires alive { log.dead ≡ false }
-    requires stored { D.honest → log.dead ≡ false → IsStoredOn (D.seen log.disk) (now (D.moments log.disk)) log.side
-        log.version log.generation log.end (recorded_in plan) }
-    requires keepable { AllCanBeKept (recorded_in plan) }
+    requires stored { D.honest → log.dead ≡ false → IsStoredOnIn plan.conduct.form (D.seen log.disk) (now (D.moments log.disk)) log.side
+        log.form log.generation log.end (recorded_in plan) }
+    requires is_read { IsReadIn plan.conduct.form log.form }
+    requires recorded { ∥ IsMadeOf log.form (recorded_in plan) ∥₁ }
     ensures status { IfOk result.0 (λ s. s ≤ 2) }
-    ensures made { IfOk result.0 (λ s. HasMade plan.graph plan.conduct.counts_records plan.conduct.keeps_state D.honest (now (D.moments result.1)) s
+    ensures made { IfOk result.0 (λ s. HasMade plan.conduct.form plan.graph plan.conduct.counts_records plan.conduct.keeps_state D.honest (now (D.moments result.1)) s
         (tried_in result.2)) }
     ensures parted { IfErr result.0 (λ stop. IsParted stop → result.1 ≡ log.disk) }
     ensures let_go { K.serves banks.old ≡ false → K.serves banks.new ≡ false }

@@ -5,6 +5,7 @@ ghost use Rattle.mk_rules.specs.Faults.{IsRuleFault};
 ghost use Rattle.mk_rules.specs.Limit.{node_limit};
 ghost use Rattle.mk_rule_lines.specs.declared.fault.RuleFault.{RuleFault as RulesFault};
 ghost use Rattle.mk_nodes.specs.declared.graph.Graph.{Graph as MadeGraph};
+ghost use Rattle.dmk_reading.specs.Keeping.{kept_form};
 ghost use Rattle.dmk_reading.specs.Definitions.{first_defined};
 ghost use Rattle.dmk_reading.specs.Planned.{IsGraphOf, judged_graph};
 ghost use Rattle.dmk_messages.specs.declared.fault.Fault.TheVariants as faults;
@@ -25,14 +26,14 @@ use bd_lists::Variable;
 use byte_strings::{ByteString, ByteStrings};
 use dmk_messages::Fault;
 use dmk_printing::Printer;
-use dmk_reading::{judged_graph, unmade_names};
+use dmk_reading::{judged_graph, kept_form, unmade_names};
 use jb_recipe::Conduct;
 use mk_nodes::Graph;
 use mk_profile::Profile;
 use mk_reader::Item;
 use mk_rule_lines::RuleFault;
 use mk_rules::Tree;
-use st_records::HashKey;
+use st_records::{Form, HashKey};
 use st_state::State;
 use std::alloc::{AllocError, Global};
 use std::io::Write;
@@ -101,17 +102,19 @@ fn to_forget(alloc: Global, all: bool, state: &State) -> Result<Option<State>, A
 fn prepared(
     alloc: Global,
     wishes: &Wishes<'_>,
+    form: Form,
     keeping: bool,
     definitions: Vec<Variable>,
     state: &State,
 ) -> Result<(Option<State>, Conduct), AllocError>
     ensures forgotten { IfOk result (λ made. wishes.now.makes_all ≡ true → made.0 ≡ Some state.now) }
     ensures none { IfOk result (λ made. wishes.now.makes_all ≡ false → made.0 ≡ None) }
+    ensures form { IfOk result (λ made. made.1.form ≡ form) }
     ensures keeping { IfOk result (λ made. made.1.keeps_state ≡ keeping) }
     ensures records { IfOk result (λ made. made.1.counts_records ≡ wishes.now.makes_all || keeping) }
     ensures definitions { IfOk result (λ made. made.1.definitions ≡ definitions) }
 {
-    let conduct = wishes.conduct(alloc, keeping, definitions)?;
+    let conduct = wishes.conduct(alloc, form, keeping, definitions)?;
     match to_forget(alloc, wishes.makes_all, state) {
         Ok(forgotten) => Ok((forgotten, conduct)),
         Err(error) => {
@@ -271,6 +274,7 @@ pub(crate) fn planned<R: Wait, T: Tree, O: Write + Drop, W: Write + Drop>(
         × IsJudgedBehind (unwrap_or goals.behind none_tried) (wishes.now.makes_all || keeping) (judged_graph wishes.now.makes_all graph) plan.graph) }
     ensures looks { (looks : List ℕ → Option FileLook) → T.allows tree.new looks → T.allows tree.old looks }
     ensures state { IfOk result (λ plan. recorded_in plan ≡ state) }
+    ensures form { IfOk result (λ plan. plan.conduct.form ≡ kept_form goals.profile) }
     ensures keeping { IfOk result (λ plan. plan.conduct.keeps_state ≡ keeping) }
     ensures records { IfOk result (λ plan. plan.conduct.counts_records ≡ wishes.now.makes_all || keeping) }
 {
@@ -280,7 +284,8 @@ pub(crate) fn planned<R: Wait, T: Tree, O: Write + Drop, W: Write + Drop>(
         targets,
         behind,
     } = goals;
-    let (forgotten, conduct) = match prepared(alloc, wishes, keeping, definitions, &state) {
+    let form = kept_form(profile);
+    let (forgotten, conduct) = match prepared(alloc, wishes, form, keeping, definitions, &state) {
         Ok(made) => made,
         Err(error) => {
             drop(items);

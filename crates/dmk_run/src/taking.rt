@@ -8,19 +8,18 @@ ghost use Rattle.mk_plan.specs.Passage.{Passage, to_make, commands_of};
 ghost use Rattle.mk_plan.specs.Passing.{Passes, IsFaultAt, is_remade, told_in};
 ghost use Rattle.mk_plan.specs.declared.fault.RecipeFault.TheVariants as faults;
 ghost use Rattle.mk_plan.specs.declared.why.Why.{Why as Cause};
-ghost use Rattle.st_records.specs.Limits.{IsGood, SaysExplicit};
+ghost use Rattle.st_records.specs.Limits.{IsGoodIn, SaysExplicitIn};
 ghost use Rattle.st_records.specs.Parts.{status_of};
-ghost use Rattle.st_records.specs.declared.version.Version.TheVariants.{Two};
 ghost use Rattle.dmk_run.specs.Taken.{done_of, Takes, AreTaken};
 
 use crate::stop::Stop;
 use byte_strings::{ByteString, ByteStrings};
 use dmk_messages::Fault;
-use jb_recipe::{Place, PlaceFault, is_writable};
+use jb_recipe::{Place, PlaceFault, is_writable, said_in};
 use mk_nodes::Graph;
 use mk_plan::{Passed, RecipeFault, explicit_of, name_of, pass};
 use mk_recipe::{Line, recorded};
-use st_records::{Explicit, Record};
+use st_records::{Form, Record};
 use std::alloc::{AllocError, Global};
 
 /// What comes of a node.
@@ -32,46 +31,52 @@ struct Found {
 }
 
 /// A record where it may stand in the state.
-fn writable(note: Record) -> Option<Record>
+fn writable(form: Form, note: Record) -> Option<Record>
     requires status { status_of note ≤ 256 }
-    requires explicit { SaysExplicit Two note }
-    ensures good { IfSome result (λ r. IsGood Two r) }
+    requires explicit { SaysExplicitIn form note }
+    ensures good { IfSome result (λ r. IsGoodIn form r) }
     ensures same { IfSome result (λ r. r ≡ note) }
-    ensures none { IfNone result (IsGood Two note → ⊥) }
+    ensures none { IfNone result (IsGoodIn form note → ⊥) }
 {
-    if is_writable(&note) { Some(note) } else { None }
+    if is_writable(form, &note) {
+        Some(note)
+    } else {
+        None
+    }
 }
 
 /// The record that a node's recipe was run to its end with these commands.
 fn done_of(
     alloc: Global,
+    form: Form,
     graph: &Graph,
     node: usize,
     commands: ByteStrings,
 ) -> Result<Record, AllocError>
     requires { node < length graph.now.nodes.items }
-    ensures { IfOk result (λ note. note ≡ done_of graph.now node commands) }
+    ensures { IfOk result (λ note. note ≡ done_of form graph.now node commands) }
 {
     Ok(Record::Done {
         target: ByteString::from_slice(alloc, name_of(graph, node))?,
         commands,
         hidden: ByteStrings::empty(alloc),
-        explicit: Explicit::Known(explicit_of(alloc, graph, node)?),
+        explicit: said_in(alloc, form, explicit_of(alloc, graph, node)?),
     })
 }
 
 /// That record, by the lines of the recipe.
 fn done_with(
     alloc: Global,
+    form: Form,
     graph: &Graph,
     node: usize,
     lines: &[Line],
 ) -> Result<Record, AllocError>
     requires { node < length graph.now.nodes.items }
-    ensures { IfOk result (λ note. (commands : List (List ℕ)) × Records lines.now commands × (note ≡ done_of graph.now node commands)) }
+    ensures { IfOk result (λ note. (commands : List (List ℕ)) × Records lines.now commands × (note ≡ done_of form graph.now node commands)) }
 {
     let commands = recorded(alloc, lines)?;
-    done_of(alloc, graph, node, commands)
+    done_of(alloc, form, graph, node, commands)
 }
 
 /// Whether a node is let be by the times of files alone.
@@ -93,6 +98,7 @@ fn is_let_be(alloc: Global, graph: &Graph, marks: &[bool], node: usize) -> Resul
 /// What comes of a node that is let be by the times of files, and whose recipe is to be run with these lines by what is recorded.
 fn found_left(
     alloc: Global,
+    form: Form,
     graph: &Graph,
     node: usize,
     lines: &[Line],
@@ -100,10 +106,10 @@ fn found_left(
     requires { node < length graph.now.nodes.items }
     ensures { IfOk result (λ found. (marks : List Bool) (why : Cause) → ((told : List Passage) × Passes false graph.now marks node false told)
         → Passes true graph.now marks node true (to_make (name_at graph.now.names node) why (commands_of graph.now node) lines.now ∷ [])
-        → Takes graph.now marks node found.is_remade found.note) }
+        → Takes form graph.now marks node found.is_remade found.note) }
 {
-    let note = done_with(alloc, graph, node, lines)?;
-    match writable(note) {
+    let note = done_with(alloc, form, graph, node, lines)?;
+    match writable(form, note) {
         Some(note) => Ok(Found {
             is_remade: false,
             note: Some(note),
@@ -118,6 +124,7 @@ fn found_left(
 /// What comes of a node whose recipe is to be run with these lines by what is recorded.
 fn found_of(
     alloc: Global,
+    form: Form,
     graph: &Graph,
     marks: &[bool],
     node: usize,
@@ -126,11 +133,11 @@ fn found_of(
     requires { node < length graph.now.nodes.items }
     ensures { IfOk result (λ found. (why : Cause)
         → Passes true graph.now marks.now node true (to_make (name_at graph.now.names node) why (commands_of graph.now node) lines.now ∷ [])
-        → Takes graph.now marks.now node found.is_remade found.note) }
+        → Takes form graph.now marks.now node found.is_remade found.note) }
 {
     let left = is_let_be(alloc, graph, marks, node)?;
     if left {
-        return found_left(alloc, graph, node, lines);
+        return found_left(alloc, form, graph, node, lines);
     }
     Ok(Found {
         is_remade: true,
@@ -141,6 +148,7 @@ fn found_of(
 /// What comes of a node that was passed so by what is recorded.
 fn found_by(
     alloc: Global,
+    form: Form,
     graph: &Graph,
     marks: &[bool],
     node: usize,
@@ -148,10 +156,10 @@ fn found_by(
 ) -> Result<Found, AllocError>
     requires { node < length graph.now.nodes.items }
     ensures { IfOk result (λ found. Passes true graph.now marks.now node (is_remade passed.now) (told_in graph.now node passed.now)
-        → Takes graph.now marks.now node found.is_remade found.note) }
+        → Takes form graph.now marks.now node found.is_remade found.note) }
 {
     match passed {
-        Passed::Listed(_why, lines) => found_of(alloc, graph, marks, node, lines),
+        Passed::Listed(_why, lines) => found_of(alloc, form, graph, marks, node, lines),
         Passed::Remade => Ok(Found {
             is_remade: true,
             note: None,
@@ -181,12 +189,18 @@ fn found_faulty(fault: RecipeFault) -> Result<Found, AllocError>
 }
 
 /// What comes of a node.
-fn take(alloc: Global, graph: &Graph, marks: &[bool], node: usize) -> Result<Found, AllocError>
+fn take(
+    alloc: Global,
+    form: Form,
+    graph: &Graph,
+    marks: &[bool],
+    node: usize,
+) -> Result<Found, AllocError>
     requires { node < length graph.now.nodes.items }
-    ensures { IfOk result (λ found. Takes graph.now marks.now node found.is_remade found.note) }
+    ensures { IfOk result (λ found. Takes form graph.now marks.now node found.is_remade found.note) }
 {
     match pass(alloc, true, graph, marks, node) {
-        Ok(passed) => found_by(alloc, graph, marks, node, &passed),
+        Ok(passed) => found_by(alloc, form, graph, marks, node, &passed),
         Err(fault) => found_faulty(fault),
     }
 }
@@ -201,14 +215,14 @@ fn add(records: &mut Vec<Record>, note: Option<Record>) -> Result<(), AllocError
 }
 
 /// The records of all targets that are taken as they are, in the graph's order.
-pub(crate) fn taken(alloc: Global, graph: &Graph) -> Result<Vec<Record>, AllocError>
+pub(crate) fn taken(alloc: Global, form: Form, graph: &Graph) -> Result<Vec<Record>, AllocError>
     requires { list_all (λ n. nat_lt n (length graph.now.nodes.items)) graph.now.order.items ≡ true }
-    ensures { IfOk result (λ records. AreTaken graph.now records.items) }
+    ensures { IfOk result (λ records. AreTaken form graph.now records.items) }
 {
     let mut marks = vec![in alloc; false; graph.len()]?;
     let mut records = Vec::new(alloc);
     for node in graph.order.as_slice() {
-        let found = take(alloc, graph, &marks, *node)?;
+        let found = take(alloc, form, graph, &marks, *node)?;
         marks[*node] = found.is_remade;
         add(&mut records, found.note)?;
     }
@@ -226,13 +240,14 @@ fn put_on_disk<P: Place>(place: &P, records: &[Record]) -> Result<(), PlaceFault
 /// The records of the targets that are taken as they are, whose files are on the disk.
 pub(crate) fn taken_on_disk<P: Place>(
     alloc: Global,
+    form: Form,
     graph: &Graph,
     place: &P,
 ) -> Result<Vec<Record>, Stop>
     requires { list_all (λ n. nat_lt n (length graph.now.nodes.items)) graph.now.order.items ≡ true }
-    ensures { IfOk result (λ records. AreTaken graph.now records.items) }
+    ensures { IfOk result (λ records. AreTaken form graph.now records.items) }
 {
-    let records = taken(alloc, graph)?;
+    let records = taken(alloc, form, graph)?;
     match put_on_disk(place, &records) {
         Ok(()) => Ok(records),
         Err(PlaceFault::OutOfMemory) => Err(Stop::Before(Fault::OutOfMemory)),

@@ -5,11 +5,11 @@ ghost use Rattle.std.specs.List.{list_all};
 ghost use Rattle.mk_eval.specs.Output.{World};
 ghost use Rattle.mk_reader.specs.declared.item.Item.{Item as MakefileItem};
 ghost use Rattle.st_disk.specs.Moments.{now, Throughout};
-ghost use Rattle.st_recovery.specs.Stored.{AllRecover};
+ghost use Rattle.st_recovery.specs.Stored.{AllRecoverIn};
 ghost use Rattle.st_records.specs.declared.record.Record.{Record as Step};
 ghost use Rattle.st_state.specs.State.{replay};
 ghost use Rattle.dmk_reading.specs.Definitions.{first_defined};
-ghost use Rattle.dmk_reading.specs.Keeping.{keeps};
+ghost use Rattle.dmk_reading.specs.Keeping.{keeps, kept_form};
 ghost use Rattle.dmk_reading.specs.Planned.{AreItems, IsGraphOf, IsWholeGraphOf};
 ghost use Rattle.dmk_run.specs.Taken.{AreTaken};
 ghost use Rattle.dmk_run.specs.Trusted.{AllRecoverTaken, AllRecoverOrTaken, ArePossibleOrTaken, IsLeft, LeavesState};
@@ -25,7 +25,7 @@ use crate::taking::taken_on_disk;
 use bd_flusher::FlushFault;
 use bd_lists::Variable;
 use dmk_printing::{Printer, Trusted};
-use dmk_reading::{Options, items_of, keeps_state};
+use dmk_reading::{Options, items_of, keeps_state, kept_form};
 use jb_closing::RunFault;
 use jb_recipe::Place;
 use mk_eval::Includes;
@@ -34,7 +34,7 @@ use mk_reader::Item;
 use mk_rules::Tree;
 use st_disk::Disk;
 use st_records::HashKey;
-use st_recovery::Store;
+use st_recovery::StoreIn;
 use st_state::State;
 use std::alloc::Global;
 use std::io::Write;
@@ -45,17 +45,17 @@ fn record_taken<P: Place, D: Disk + Drop>(
     alloc: Global,
     graph: &Graph,
     place: &P,
-    store: &mut Store<D>,
+    store: &mut StoreIn<D>,
 ) -> Result<usize, Stop>
     requires alive { store.old.log.dead ≡ false }
     requires order { list_all (λ n. nat_lt n (length graph.now.nodes.items)) graph.now.order.items ≡ true }
     ensures any_moment { D.honest → Throughout (D.moments store.old.log.disk) (D.moments store.new.log.disk)
-        (AllRecoverTaken graph.now store.old.state) }
-    ensures recovers { D.honest → OnOk result (AllRecover store.new.state (now (D.moments store.new.log.disk))) }
-    ensures taken { IfOk result (λ count. (steps : List Step) × AreTaken graph.now steps
+        (AllRecoverTaken store.old.newest graph.now store.old.state) }
+    ensures recovers { D.honest → OnOk result (AllRecoverIn store.old.newest store.new.state (now (D.moments store.new.log.disk))) }
+    ensures taken { IfOk result (λ count. (steps : List Step) × AreTaken store.old.newest graph.now steps
         × (store.new.state ≡ replay store.old.state steps) × (length steps ≡ count)) }
 {
-    let records = taken_on_disk(alloc, graph, place)?;
+    let records = taken_on_disk(alloc, store.newest, graph, place)?;
     match store.commit(alloc, &records) {
         Ok(()) => Ok(records.len()),
         Err(fault) => Err(Stop::Run(RunFault::Flush(FlushFault::from(fault)))),
@@ -109,15 +109,15 @@ fn trust_over<T: Tree, P: Place, D: Disk + Drop>(
     tree: &mut T,
     place: &P,
     items: Vec<Item>,
-    store: &mut Store<D>,
+    store: &mut StoreIn<D>,
 ) -> Result<Trusted, Stop>
     requires { store.old.log.dead ≡ false }
     ensures any_moment { D.honest → (looks : List ℕ → Option FileLook) → T.allows tree.new looks
-        → Throughout (D.moments store.old.log.disk) (D.moments store.new.log.disk) (AllRecoverOrTaken (IsWholeGraphOf
+        → Throughout (D.moments store.old.log.disk) (D.moments store.new.log.disk) (AllRecoverOrTaken store.old.newest (IsWholeGraphOf
         options.now.profile options.now.definitions.items environment.now options.now.targets looks items.items finmap.empty) store.old.state) }
-    ensures recovers { D.honest → OnOk result (AllRecover store.new.state (now (D.moments store.new.log.disk))) }
+    ensures recovers { D.honest → OnOk result (AllRecoverIn store.old.newest store.new.state (now (D.moments store.new.log.disk))) }
     ensures left { IfOk result (λ found. (looks : List ℕ → Option FileLook) → T.allows tree.new looks
-        → IsLeft (IsWholeGraphOf options.now.profile options.now.definitions.items environment.now options.now.targets looks items.items finmap.empty)
+        → IsLeft store.old.newest (IsWholeGraphOf options.now.profile options.now.definitions.items environment.now options.now.targets looks items.items finmap.empty)
         store.old.state store.new.state found) }
     ensures kept { IfOk result (λ found. found ≢ trusteds.Unkept) }
     ensures looks { (looks : List ℕ → Option FileLook) → T.allows tree.new looks → T.allows tree.old looks }
@@ -145,15 +145,16 @@ fn trust_on<T: Tree, P: Place, D: Disk + Drop>(
     disk: D,
 ) -> (Result<Trusted, Stop>, D)
     ensures any_moment { D.honest → (looks : List ℕ → Option FileLook) → T.allows tree.new looks
-        → Throughout (D.moments disk) (D.moments result.1) (ArePossibleOrTaken (IsWholeGraphOf options.now.profile options.now.definitions.items
+        → Throughout (D.moments disk) (D.moments result.1) (ArePossibleOrTaken (kept_form options.now.profile) (IsWholeGraphOf options.now.profile options.now.definitions.items
         environment.now options.now.targets looks items.items finmap.empty) (D.seen disk) (now (D.moments disk))) }
     ensures left { IfOk result.0 (λ found. D.honest → (looks : List ℕ → Option FileLook) → T.allows tree.new looks
-        → LeavesState (IsWholeGraphOf options.now.profile options.now.definitions.items environment.now options.now.targets looks items.items finmap.empty)
+        → LeavesState (kept_form options.now.profile) (IsWholeGraphOf options.now.profile options.now.definitions.items environment.now options.now.targets looks items.items finmap.empty)
         (D.seen disk) (now (D.moments result.1)) found) }
     ensures kept { IfOk result.0 (λ found. found ≢ trusteds.Unkept) }
     ensures looks { (looks : List ℕ → Option FileLook) → T.allows tree.new looks → T.allows tree.old looks }
 {
-    let mut store = match open_store(alloc, key, disk) {
+    let newest = kept_form(options.profile);
+    let mut store = match open_store(alloc, key, newest, disk) {
         Ok(store) => store,
         Err((stop, disk)) => return (Err(stop), disk),
     };
@@ -186,13 +187,13 @@ where
     ensures any_moment { D.honest → (world : World) (looks : List ℕ → Option FileLook) → I.allows includes.new world → T.allows tree.new looks
         → (result.1 ≡ disk) ⊎ ((items : List MakefileItem) × AreItems world looks options.now.makefiles
         (first_defined options.now.profile options.now.definitions.items environment.now) items × (keeps environment.now items ≡ true)
-        × Throughout (D.moments disk) (D.moments result.1) (ArePossibleOrTaken (IsWholeGraphOf options.now.profile options.now.definitions.items
+        × Throughout (D.moments disk) (D.moments result.1) (ArePossibleOrTaken (kept_form options.now.profile) (IsWholeGraphOf options.now.profile options.now.definitions.items
         environment.now options.now.targets looks items finmap.empty) (D.seen disk) (now (D.moments disk)))) }
     ensures left { IfOk result.0 (λ found. D.honest → found ≢ trusteds.Unkept
         → (world : World) (looks : List ℕ → Option FileLook) → I.allows includes.new world → T.allows tree.new looks
         → (items : List MakefileItem) × AreItems world looks options.now.makefiles
         (first_defined options.now.profile options.now.definitions.items environment.now) items × (keeps environment.now items ≡ true)
-        × LeavesState (IsWholeGraphOf options.now.profile options.now.definitions.items environment.now options.now.targets looks items finmap.empty)
+        × LeavesState (kept_form options.now.profile) (IsWholeGraphOf options.now.profile options.now.definitions.items environment.now options.now.targets looks items finmap.empty)
         (D.seen disk) (now (D.moments result.1)) found) }
     ensures unkept { IfOk result.0 (λ found. found ≡ trusteds.Unkept → (result.1 ≡ disk)
         × ((world : World) (looks : List ℕ → Option FileLook) → I.allows includes.new world → T.allows tree.new looks
@@ -253,14 +254,14 @@ where
     ensures any_moment { D.honest → (world : World) (looks : List ℕ → Option FileLook) → I.allows includes.new world → T.allows tree.new looks
         → (result.1 ≡ disk) ⊎ ((items : List MakefileItem) × AreItems world looks options.now.makefiles
         (first_defined options.now.profile options.now.definitions.items environment.now) items × (keeps environment.now items ≡ true)
-        × Throughout (D.moments disk) (D.moments result.1) (ArePossibleOrTaken (IsWholeGraphOf options.now.profile options.now.definitions.items
+        × Throughout (D.moments disk) (D.moments result.1) (ArePossibleOrTaken (kept_form options.now.profile) (IsWholeGraphOf options.now.profile options.now.definitions.items
         environment.now options.now.targets looks items finmap.empty) (D.seen disk) (now (D.moments disk)))) }
     // Of a state that knows of some target nothing changes; where nothing is known, all targets that are taken are recorded.
     ensures left { IfOk result.0 (λ found. D.honest → found ≢ trusteds.Unkept
         → (world : World) (looks : List ℕ → Option FileLook) → I.allows includes.new world → T.allows tree.new looks
         → (items : List MakefileItem) × AreItems world looks options.now.makefiles
         (first_defined options.now.profile options.now.definitions.items environment.now) items × (keeps environment.now items ≡ true)
-        × LeavesState (IsWholeGraphOf options.now.profile options.now.definitions.items environment.now options.now.targets looks items finmap.empty)
+        × LeavesState (kept_form options.now.profile) (IsWholeGraphOf options.now.profile options.now.definitions.items environment.now options.now.targets looks items finmap.empty)
         (D.seen disk) (now (D.moments result.1)) found) }
     ensures unkept { IfOk result.0 (λ found. found ≡ trusteds.Unkept → (result.1 ≡ disk)
         × ((world : World) (looks : List ℕ → Option FileLook) → I.allows includes.new world → T.allows tree.new looks

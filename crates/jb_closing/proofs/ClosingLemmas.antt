@@ -6,10 +6,11 @@ use Rattle.std.proofs.lemmas.Bool.{cases_lt}
 use Rattle.std.proofs.lemmas.Option.{slice_get_cases, slice_get_within}
 use Rattle.mk_graph.specs.Numbering.{name_at}
 use Rattle.st_disk.specs.Crash.{Sides}
+use Rattle.st_records.specs.declared.version.Form.{Form}
 use Rattle.st_records.specs.declared.record.Record.{Record}
 use Rattle.st_records.specs.Parts.{commands_of}
 use Rattle.st_state.specs.State.{StateMap, replay}
-use Rattle.st_recovery.specs.Stored.{AllRecover}
+use Rattle.st_recovery.specs.Stored.{AllRecoverIn}
 use Rattle.bd_places.specs.declared.end.End.{End}
 use Rattle.bd_places.specs.declared.end.End.TheVariants.{Built}
 use Rattle.bd_flusher.specs.declared.site.receipt.Receipt.{Receipt}
@@ -19,9 +20,9 @@ use Rattle.jb_closing.specs.Closing.{IsNamed, IsBuilt, IsDoneOnDisk, IsTrueOf, A
 use Rattle.jb_closing.proofs.LastLemmas.{last_done}
 
 -- every pair recovers the state by what was told: so in each the target is done with its last record's commands
-pub done_on_disk : (opening : StateMap) (told : List Record) (sides : Sides) (name : List ℕ) (note : Record)
-    → AllRecover (replay opening told) sides → IsLast told name note → IsDoneRecord note → IsDoneOnDisk name (commands_of note) sides
-done_on_disk opening told sides name note recovers last done = λ a b image_a image_b.
+pub done_on_disk : (newest : Form) (opening : StateMap) (told : List Record) (sides : Sides) (name : List ℕ) (note : Record)
+    → AllRecoverIn newest (replay opening told) sides → IsLast told name note → IsDoneRecord note → IsDoneOnDisk newest name (commands_of note) sides
+done_on_disk newest opening told sides name note recovers last done = λ a b image_a image_b.
     ∥∥₁_map (recovers a b image_a image_b) (λ r. (replay opening told, r, last_done opening told name note last done))
 
 -- a receipt of these that notes the record
@@ -47,10 +48,10 @@ receipt_of (r ∷ receipts) ticket note noted =
     found_by (nat_eq r.ticket ticket) r receipts ticket note (receipt_of receipts ticket note) noted
 
 -- what a report says of one built node
-pub true_of : (opening : StateMap) (told : List Record) (receipts : List Receipt) (sound : Type 0) (sides : Sides) (name : List ℕ)
-    → AreThoseOf told receipts → (sound → AllRecover (replay opening told) sides) → EndsDone told name
-    → IsTrueOf told receipts sound sides name
-true_of opening told receipts sound sides name agree recovers ends =
+pub true_of : (newest : Form) (opening : StateMap) (told : List Record) (receipts : List Receipt) (sound : Type 0) (sides : Sides) (name : List ℕ)
+    → AreThoseOf told receipts → (sound → AllRecoverIn newest (replay opening told) sides) → EndsDone told name
+    → IsTrueOf newest told receipts sound sides name
+true_of newest opening told receipts sound sides name agree recovers ends =
     let note = ends.0 in
     let last = ends.1 in
     let found = receipt_of receipts last.0 note (agree last.0 ∙ ap as_list (last.1).stands) in
@@ -61,16 +62,16 @@ true_of opening told receipts sound sides name agree recovers ends =
       receipt = found.0;
       gathered = found.1;
       notes = found.2;
-      on_disk = λ is_sound. done_on_disk opening told sides name note (recovers is_sound) last ends.2;
+      on_disk = λ is_sound. done_on_disk newest opening told sides name note (recovers is_sound) last ends.2;
     }
 
 -- and of all of them
-pub all_true : (opening : StateMap) (told : List Record) (receipts : List Receipt) (sound : Type 0) (sides : Sides)
-    (names : List (List ℕ)) (ends : List End) → AreThoseOf told receipts → (sound → AllRecover (replay opening told) sides)
-    → AllEndDone told names ends → AreTrueOf told receipts sound sides names ends
-all_true opening told receipts sound sides names ends agree recovers done = λ node built.
+pub all_true : (newest : Form) (opening : StateMap) (told : List Record) (receipts : List Receipt) (sound : Type 0) (sides : Sides)
+    (names : List (List ℕ)) (ends : List End) → AreThoseOf told receipts → (sound → AllRecoverIn newest (replay opening told) sides)
+    → AllEndDone told names ends → AreTrueOf newest told receipts sound sides names ends
+all_true newest opening told receipts sound sides names ends agree recovers done = λ node built.
     let at = done node built in
-    (at.0, at.1, true_of opening told receipts sound sides at.0 agree recovers at.2)
+    (at.0, at.1, true_of newest opening told receipts sound sides at.0 agree recovers at.2)
 
 -- ---- which node lacks a 'done'
 

@@ -1,10 +1,11 @@
 //! The site of a run once its workers have ended, and what a report says of its store.
-ghost use Rattle.std.specs.Prelude.{◌≡◌, ℕ, ◌<◌, List, length, false, IfOk, IfErr, MatchOption, IsTrue, ◌↔◌};
+ghost use Rattle.std.specs.Prelude.{◌≡◌, ◌≢◌, ℕ, ◌<◌, List, length, false, IfOk, IfErr, MatchOption, IsTrue, ◌↔◌};
 ghost use Rattle.st_disk.specs.Moments.{now};
 ghost use Rattle.st_state.specs.State.{replay};
 ghost use Rattle.mk_graph.specs.Numbering.{name_at};
 ghost use Rattle.mk_nodes.specs.Node.{EachHasOneNumber};
 ghost use Rattle.bd_places.specs.declared.end.End.TheVariants.{Built};
+ghost use Rattle.jb_closing.specs.declared.fault.RunFault.TheVariants.{OutOfMemory};
 ghost use Rattle.jb_closing.specs.Agreement.{AreThoseOf};
 ghost use Rattle.jb_closing.specs.Last.{IsLastPlace, ArePlaces, EndsDone};
 ghost use Rattle.jb_closing.specs.Closing.{AreTrueOf, LacksDoneAt, IsRefusedAt, IsReportFault, AllEndDone};
@@ -12,20 +13,20 @@ ghost use Rattle.jb_closing.specs.Closing.{AreTrueOf, LacksDoneAt, IsRefusedAt, 
 use crate::agreement::first_difference;
 use crate::last::{is_done, last_places};
 use crate::{Report, RunFault};
-use bd_flusher::{FlushFault, Receipt, Site};
+use bd_flusher::{FlushFault, Receipt, SiteIn};
 use bd_ledger::Ticket;
 use bd_places::End;
 use mk_graph::Names;
 use mk_nodes::Graph;
 use st_disk::Disk;
-use st_records::Record;
+use st_records::{Form, Record};
 use std::alloc::Global;
 
 /// What is left of a run: the site, out of its lock. Where no call of its device has failed, its store's map is the fold of the
 /// told records from the map with which it was opened.
 #[derive(Drop)]
 pub struct Closed<D: Disk + Drop> {
-    pub site: Site<D>,
+    pub site: SiteIn<D>,
 }
 
 /// Whether the last record at this place is a 'done'.
@@ -90,7 +91,7 @@ fn refused_at(
     requires { EachHasOneNumber names.now }
     ensures ok { IfOk result (λ found. MatchOption found (AreThoseOf told.now receipts.now × AllEndDone told.now names.now ends.now)
         (λ ticket. IsRefusedAt told.now receipts.now names.now ends.now ticket)) }
-    ensures fault { IfErr result (IsReportFault told.now receipts.now names.now ends.now) }
+    ensures fault { IfErr result (λ fault. fault ≡ OutOfMemory) }
 {
     if let Some(ticket) = first_difference(alloc, told, receipts)? {
         return Ok(Some(ticket));
@@ -104,7 +105,7 @@ fn refused_at(
 
 impl<D: Disk + Drop> Closed<D> {
     /// The site of a run whose workers have ended.
-    pub fn new(site: Site<D>) -> Closed<D>
+    pub fn new(site: SiteIn<D>) -> Closed<D>
         ensures site { result.site ≡ site }
         ensures folded { site.state ≡ replay site.opening site.told }
     {
@@ -114,21 +115,27 @@ impl<D: Disk + Drop> Closed<D> {
 
     /// The report, where the receipts are those of the told records, each ticket just once, and the last of them of each built
     /// node is a 'done'. Then each built node is done with that record's commands whatever power cut comes, if the disk keeps
-    /// its model and no call of it has failed.
+    /// its model and no call of it has failed. A site that writes another form than this is refused.
     pub fn report(
         &self,
         alloc: Global,
+        form: Form,
         graph: &Graph,
         report: Report,
         receipts: &[Receipt],
     ) -> Result<Report, RunFault>
         ensures same { IfOk result (λ r. r ≡ report) }
+        ensures form { IfOk result (λ r. self.now.site.newest ≡ form) }
         ensures receipts { IfOk result (λ r. AreThoseOf self.now.site.told receipts.now) }
-        ensures built { IfOk result (λ r. AreTrueOf self.now.site.told receipts.now
+        ensures built { IfOk result (λ r. AreTrueOf form self.now.site.told receipts.now
             (D.honest × (self.now.site.dead ≡ false)) (now (D.moments self.now.site.disk))
             graph.now.names r.ends.items) }
-        ensures fault { IfErr result (IsReportFault self.now.site.told receipts.now graph.now.names report.ends.items) }
+        ensures fault { IfErr result (IsReportFault (self.now.site.newest ≢ form) self.now.site.told receipts.now graph.now.names report.ends.items) }
     {
+        if self.site.store().newest != form {
+            drop(report);
+            return Err(RunFault::Flush(FlushFault::OldVersion));
+        }
         let told = self.site.told();
         match refused_at(alloc, told, receipts, &graph.names, &report.ends)? {
             None => Ok(report),

@@ -6,12 +6,15 @@ use crate::Makeflags;
 use bd_lists::Variable;
 use byte_strings::ByteString;
 use mk_plan::Telling;
+use st_records::Form;
 use std::alloc::{AllocError, Global};
 
 /// What the words of the command line and the environment say of a whole run.
 pub struct Conduct {
     /// State is kept from run to run, and recipes write reports.
     pub keeps_state: bool,
+    /// How the records of this run are written.
+    pub form: Form,
     /// What is recorded of targets counts, also that nothing is.
     pub counts_records: bool,
     /// What doesn't depend on a failed target is still made.
@@ -33,6 +36,7 @@ impl Drop for Conduct {
     fn drop(self) {
         let Conduct {
             keeps_state: _,
+            form: _,
             counts_records: _,
             goes_on: _,
             ignores_statuses: _,

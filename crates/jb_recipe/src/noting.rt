@@ -8,14 +8,14 @@ ghost use Rattle.mk_plan.specs.Nodes.{explicit_of, made_beside};
 ghost use Rattle.mk_plan.specs.Parts.{language_of};
 ghost use Rattle.mk_plan.specs.Passage.{to_make, commands_of};
 ghost use Rattle.mk_plan.specs.Telling.{lines_about};
-ghost use Rattle.st_records.specs.Limits.{IsGood, IsWithin, SaysExplicit};
+ghost use Rattle.st_records.specs.Limits.{IsGoodIn, IsWithinIn, SaysExplicitIn};
 ghost use Rattle.st_records.specs.Parts.{status_of};
-ghost use Rattle.st_records.specs.declared.version.Version.TheVariants.{Two};
 ghost use Rattle.st_records.specs.declared.record.Record.TheVariants as records;
 ghost use Rattle.jb_recipe.specs.Environment.{environment, report_path, last_value, NamesReport};
 ghost use Rattle.jb_recipe.specs.Noting.{known_of, removes};
 ghost use Rattle.jb_recipe.specs.Silence.{as_run};
 
+use crate::said::said_in;
 use crate::silence::as_run;
 use crate::{Conduct, environment};
 use bd_lists::{Recipe, Variable};
@@ -24,26 +24,30 @@ use mk_nodes::Graph;
 use mk_plan::{Why, explicit_of, made_beside, why_lines};
 use mk_profile::Profile;
 use mk_recipe::{Line, recorded};
-use st_records::{Explicit, Record};
+use st_records::{Form, Record};
 use std::alloc::{AllocError, Global};
 
-/// Whether a record may stand in the state.
-pub fn is_writable(note: &Record) -> bool
+/// Whether a record may stand in a state whose records have this form.
+pub fn is_writable(form: Form, note: &Record) -> bool
     requires status { status_of note.now ≤ 256 }
-    requires explicit { SaysExplicit Two note.now }
-    ensures { IsTrue result ↔ IsGood Two note.now }
+    requires explicit { SaysExplicitIn form note.now }
+    ensures { IsTrue result ↔ IsGoodIn form note.now }
 {
-    note.check().is_ok()
+    note.check_in(form).is_ok()
 }
 
-/// A record where it may stand in the state.
-pub(crate) fn writable(note: Record) -> Option<Record>
+/// A record where it may stand in a state whose records have this form.
+pub(crate) fn writable(form: Form, note: Record) -> Option<Record>
     requires status { status_of note ≤ 256 }
-    requires explicit { SaysExplicit Two note }
-    ensures good { IfSome result (λ r. IsGood Two r) }
+    requires explicit { SaysExplicitIn form note }
+    ensures good { IfSome result (λ r. IsGoodIn form r) }
     ensures same { IfSome result (λ r. r ≡ note) }
 {
-    if is_writable(&note) { Some(note) } else { None }
+    if is_writable(form, &note) {
+        Some(note)
+    } else {
+        None
+    }
 }
 
 /// What is needed to make a target: why it is made, its recipe, the record that goes first, what a 'done' will say beside the hidden
@@ -52,6 +56,8 @@ pub(crate) fn writable(note: Record) -> Option<Record>
 pub struct Plan {
     /// The lines that say why it is made, as many as are wanted.
     pub told: ByteStrings,
+    /// That of the records.
+    pub form: Form,
     pub begun: Record,
     pub recipe: Recipe,
     pub commands: ByteStrings,
@@ -65,7 +71,7 @@ pub struct Plan {
     pub profile: Profile,
     /// The target's file is removed where the recipe fails and has changed it.
     pub removes: bool,
-    ghost within: { IsWithin Two begun },
+    ghost within: { IsWithinIn form begun },
     ghost own: { begun ≡ records.Begun recipe.target },
     ghost named: { IfSome report (λ path. last_value (codes "SUNPRO_DEPENDENCIES") [] recipe.env.items ≡ path ++ 32 ∷ recipe.target) } by { Prim.hlevel props },
 }
@@ -95,6 +101,7 @@ fn known_of(alloc: Global, graph: &Graph, node: usize) -> Result<ByteStrings, Al
 // Whether a 'done' without hidden names may stand in the state.
 fn can_be_done(
     alloc: Global,
+    form: Form,
     target: &ByteString,
     commands: &ByteStrings,
     explicit: &ByteStrings,
@@ -103,9 +110,9 @@ fn can_be_done(
         target: target.copy(alloc)?,
         commands: commands.copy(alloc)?,
         hidden: ByteStrings::empty(alloc),
-        explicit: Explicit::Known(explicit.copy(alloc)?),
+        explicit: said_in(alloc, form, explicit.copy(alloc)?),
     };
-    Ok(is_writable(&note))
+    Ok(is_writable(form, &note))
 }
 
 /// What the records of a node say of it.
@@ -137,15 +144,15 @@ impl Noted {
     }
 
     // The 'begun'; None where it, or a 'done' without hidden names, may not stand in the state.
-    fn begun(&self, alloc: Global) -> Result<Option<Record>, AllocError>
-        ensures within { IfOk result (λ begun. IfSome begun (λ note. IsWithin Two note)) }
+    fn begun(&self, alloc: Global, form: Form) -> Result<Option<Record>, AllocError>
+        ensures within { IfOk result (λ begun. IfSome begun (λ note. IsWithinIn form note)) }
         ensures own { IfOk result (λ begun. IfSome begun (λ note. note ≡ records.Begun self.now.target)) }
     {
-        if !can_be_done(alloc, &self.target, &self.commands, &self.explicit)? {
+        if !can_be_done(alloc, form, &self.target, &self.commands, &self.explicit)? {
             return Ok(None);
         }
         let target = self.target.copy(alloc)?;
-        Ok(writable(Record::Begun { target }))
+        Ok(writable(form, Record::Begun { target }))
     }
 }
 
@@ -184,6 +191,7 @@ impl Plan {
         lines: Vec<Line>,
     ) -> Result<Option<Plan>, AllocError>
         requires { number < length graph.now.nodes.items }
+        ensures form { IfOk result (λ plan. IfSome plan (λ p. p.form ≡ conduct.now.form)) }
         ensures told { IfOk result (λ plan. IfSome plan (λ p. p.told ≡ lines_about conduct.now.telling
             (to_make (name_at graph.now.names number) why.now (commands_of graph.now number) lines.items))) }
         ensures target { IfOk result (λ plan. IfSome plan (λ p. p.recipe.target ≡ name_at graph.now.names number)) }
@@ -204,7 +212,8 @@ impl Plan {
     {
         let told = why_lines(alloc, conduct.telling, graph, number, why, &lines)?;
         let noted = Noted::of(alloc, graph, number, &lines)?;
-        let Some(begun) = noted.begun(alloc)? else {
+        let form = conduct.form;
+        let Some(begun) = noted.begun(alloc, form)? else {
             return Ok(None);
         };
         let target = noted.target.as_slice();
@@ -220,6 +229,7 @@ impl Plan {
         };
         Ok(Some(Plan {
             told,
+            form,
             begun,
             recipe,
             commands: noted.commands,

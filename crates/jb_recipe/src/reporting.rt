@@ -1,23 +1,22 @@
 //! How a target's recipe ended, as it is written.
-ghost use Rattle.std.specs.Prelude.{◌≡◌, ◌≤◌, None, IfOk, IfSome, OnOk, option_copied};
-ghost use Rattle.st_records.specs.Limits.{IsGood};
-ghost use Rattle.st_records.specs.declared.version.Version.TheVariants.{Two};
+ghost use Rattle.std.specs.Prelude.{◌≡◌, ◌≤◌, [], None, IfOk, IfSome, OnOk, option_copied};
+ghost use Rattle.st_records.specs.Limits.{IsGoodIn};
 ghost use Rattle.st_records.specs.declared.record.Record.TheVariants as records;
-ghost use Rattle.st_records.specs.declared.record.Explicit.TheVariants.{Known};
 ghost use Rattle.mk_recipe.specs.declared.line_status.Outcome.TheVariants.{Done};
 ghost use Rattle.bd_lists.specs.Running.{FailsInRange};
 ghost use Rattle.jb_recipe.specs.Environment.{NamesReport};
-ghost use Rattle.jb_recipe.specs.Noting.{IsEndOf};
+ghost use Rattle.jb_recipe.specs.Noting.{said_in, IsEndOf};
 
 use crate::elsewhere::tells_elsewhere;
 use crate::noting::{Plan, writable};
+use crate::said::said_in;
 use crate::{NotDone, Place, PlaceFault};
 use bd_flusher::Receipt;
 use bd_lists::{Clearance, Recipe};
 use byte_strings::{ByteString, ByteStrings};
 use mk_profile::Profile;
 use mk_recipe::{Outcome, read_report};
-use st_records::{Explicit, HashKey, Record};
+use st_records::{Form, HashKey, Record};
 use std::alloc::{AllocError, Global};
 use std::io;
 
@@ -30,6 +29,8 @@ const STOPPED: u32 = 256;
 /// What the record of a recipe's end says, but for what came of the recipe.
 #[derive(Drop)]
 pub struct EndNote {
+    /// That of the record.
+    form: Form,
     target: ByteString,
     commands: ByteStrings,
     explicit: ByteStrings,
@@ -57,10 +58,11 @@ pub struct Last {
 impl Plan {
     /// The 'begun', the recipe that it clears, what the record of its end will say, and the lines that say why it is run.
     pub fn apart(self, alloc: Global) -> Result<(Record, Recipe, EndNote, ByteStrings), AllocError>
-        ensures good { IfOk result (λ p. IsGood Two p.0) }
+        ensures good { IfOk result (λ p. IsGoodIn self.form p.0) }
         ensures own { IfOk result (λ p. p.0 ≡ records.Begun p.1.target) }
         ensures recipe { IfOk result (λ p. p.1 ≡ self.recipe) }
         ensures note { IfOk result (λ p. p.2 ≡ record {
+          form = self.form;
           target = self.recipe.target;
           commands = self.commands;
           explicit = self.explicit;
@@ -76,6 +78,7 @@ impl Plan {
     {
         let target = self.recipe.target.copy(alloc)?;
         let note = EndNote {
+            form: self.form,
             target,
             commands: self.commands,
             explicit: self.explicit,
@@ -90,12 +93,12 @@ impl Plan {
     }
 }
 
-fn failed(target: ByteString, status: u32) -> Option<Record>
+fn failed(form: Form, target: ByteString, status: u32) -> Option<Record>
     requires { status ≤ 256 }
-    ensures good { IfSome result (λ r. IsGood Two r) }
+    ensures good { IfSome result (λ r. IsGoodIn form r) }
     ensures note { IfSome result (λ r. r ≡ records.Failed target status) }
 {
-    writable(Record::Failed { target, status })
+    writable(form, Record::Failed { target, status })
 }
 
 /// The bytes of a report, which isn't left behind; None where there is none.
@@ -157,6 +160,7 @@ impl EndNote {
         requires own { clearance.now.told.noted ≡ records.Begun self.old.target }
         ensures gone { OnOk result (IfSome self.new.report (P.gone place.now)) }
         ensures report { self.new.report ≡ self.old.report }
+        ensures form { self.new.form ≡ self.old.form }
     {
         self.remove_report(place)?;
         let _of_before = place.stopped();
@@ -175,7 +179,7 @@ impl EndNote {
 
     /// The record of a recipe of which no line was run, since a report of an earlier run can't be removed.
     pub fn left(self, error: io::Error) -> Last
-        ensures good { IfSome result.record (λ r. IsGood Two r) }
+        ensures good { IfSome result.record (λ r. IsGoodIn self.form r) }
         ensures note { IfSome result.record (λ r. r ≡ records.Failed self.target 256) }
     {
         self.into_failed(NOT_TAKEN, Some(NotDone::NotRemoved(error)))
@@ -242,10 +246,11 @@ impl EndNote {
         self.report.is_some() && self.commands.iter().any(|command| tells_elsewhere(command))
     }
 
-    fn done(self, hidden: ByteStrings) -> Record
-        ensures { result ≡ records.Done self.target self.commands hidden (Known self.explicit) }
+    fn done(self, alloc: Global, hidden: ByteStrings) -> Record
+        ensures { result ≡ records.Done self.target self.commands hidden (said_in self.form self.explicit []) }
     {
         let EndNote {
+            form,
             target,
             commands,
             explicit,
@@ -260,17 +265,17 @@ impl EndNote {
             target,
             commands,
             hidden,
-            explicit: Explicit::Known(explicit),
+            explicit: said_in(alloc, form, explicit),
         }
     }
 
     fn into_failed(self, status: u32, not_done: Option<NotDone>) -> Last
         requires { status ≤ 256 }
-        ensures good { IfSome result.record (λ r. IsGood Two r) }
+        ensures good { IfSome result.record (λ r. IsGoodIn self.form r) }
         ensures note { IfSome result.record (λ r. r ≡ records.Failed self.target status) }
     {
         Last {
-            record: failed(self.target, status),
+            record: failed(self.form, self.target, status),
             not_done,
             unreported: false,
         }
@@ -316,18 +321,19 @@ impl EndNote {
         hidden: ByteStrings,
         unreported: bool,
     ) -> Result<Last, AllocError>
-        ensures good { IfOk result (λ l. IfSome l.record (λ note. IsGood Two note)) }
-        ensures end { IfOk result (λ l. IfSome l.record (λ note. IsEndOf Done self.target self.commands self.explicit note)) }
+        ensures good { IfOk result (λ l. IfSome l.record (λ note. IsGoodIn self.form note)) }
+        ensures end { IfOk result (λ l. IfSome l.record (λ note. IsEndOf self.form Done self.target self.commands self.explicit note)) }
     {
+        let form = self.form;
         let target = self.target.copy(alloc)?;
-        match writable(self.done(hidden)) {
+        match writable(form, self.done(alloc, hidden)) {
             Some(done) => Ok(Last {
                 record: Some(done),
                 not_done: None,
                 unreported,
             }),
             None => Ok(Last {
-                record: failed(target, NOT_TAKEN),
+                record: failed(form, target, NOT_TAKEN),
                 not_done: Some(NotDone::LongRecord),
                 unreported: false,
             }),
@@ -344,8 +350,8 @@ impl EndNote {
         outcome: Outcome,
     ) -> Result<Last, AllocError>
         requires { FailsInRange outcome }
-        ensures good { IfOk result (λ l. IfSome l.record (λ note. IsGood Two note)) }
-        ensures end { IfOk result (λ l. IfSome l.record (λ note. IsEndOf outcome self.target self.commands self.explicit note)) }
+        ensures good { IfOk result (λ l. IfSome l.record (λ note. IsGoodIn self.form note)) }
+        ensures end { IfOk result (λ l. IfSome l.record (λ note. IsEndOf self.form outcome self.target self.commands self.explicit note)) }
     {
         if let Outcome::Failed(status) = outcome {
             let _ = self.remove_report(place);

@@ -2,15 +2,15 @@
 
 use bd_flusher::Receipt;
 use bd_links::{Node, Stand};
-use bd_lists::Board;
+use bd_lists::BoardIn;
 
-fn waits(board: &Board<Receipt>, node: Node) -> bool {
+fn waits(board: &BoardIn<Receipt>, node: Node) -> bool {
     matches!(board.stand(node), Some(Stand::Waiting | Stand::Ready))
 }
 
 /// Abandons each node of Waiting and Ready. What settles with a node may bring another one to Ready, but only one that comes
 /// behind in this walk: those before have left Waiting.
-pub(crate) fn abandon_waiting(board: &mut Board<Receipt>, nodes: usize) {
+pub(crate) fn abandon_waiting(board: &mut BoardIn<Receipt>, nodes: usize) {
     for number in 0..nodes {
         let node = Node::new(number);
         if waits(board, node) {

@@ -1,7 +1,7 @@
 //! What a worker makes nodes with.
 
 use crate::desk::Clerk;
-use jb_recipe::{Conduct, News, Say};
+use jb_recipe::{News, Say};
 use jb_slots::{Bank, Slots};
 use mk_nodes::Graph;
 use st_disk::Disk;
@@ -12,7 +12,6 @@ use std::sync::{Mutex, Wait};
 #[derive(Drop)]
 pub(crate) struct Bench<'s, D: Disk + Drop, E, S, P> {
     pub(crate) graph: &'s Graph,
-    pub(crate) conduct: &'s Conduct,
     pub(crate) exec: &'s E,
     pub(crate) say: &'s S,
     pub(crate) place: &'s P,

@@ -1,17 +1,18 @@
 //! The board of a graph: it has copies of the graph's tables, and the edges that count.
 
 ghost use Rattle.std.specs.Prelude.{◌≡◌, ℕ, false, List, IfOk};
-ghost use Rattle.bd_ledger.specs.Sheet.{first_sheet};
+ghost use Rattle.bd_ledger.specs.Sheet.{first_sheet_in};
 ghost use Rattle.mk_graph.specs.Counted.{AreSets, joined};
 ghost use Rattle.mk_nodes.specs.Graph.{required_in, counting_in};
 ghost use Rattle.jb_runner.specs.InOrder.{HasAlso};
 
 use crate::in_order::edges_in_order;
 use bd_flusher::Receipt;
-use bd_lists::Board;
+use bd_lists::BoardIn;
 use byte_strings::ByteString;
 use mk_graph::{Names, counted_edges};
 use mk_nodes::Graph;
+use st_records::Form;
 use std::alloc::{AllocError, Global};
 
 /// The same names in order.
@@ -25,24 +26,24 @@ fn copy_names(alloc: Global, names: &Names) -> Result<Vec<ByteString>, AllocErro
     Ok(copied)
 }
 
-/// The board of a graph's nodes: those that wait for nothing are in Ready, the others in Waiting, in the order of their numbers.
+/// The board of a graph's nodes, whose records have this form: those that wait for nothing are in Ready, the others in Waiting, in the order of their numbers.
 /// No call of the board takes memory from then on.
-pub fn board_of(alloc: Global, graph: &Graph) -> Result<Board<Receipt>, AllocError>
+pub fn board_of(alloc: Global, form: Form, graph: &Graph) -> Result<BoardIn<Receipt>, AllocError>
     ensures { IfOk result (λ b. (counted : List (List ℕ)) × AreSets (counting_in graph.now) counted
-        × (b ≡ first_sheet (record { counted = counted; hard = required_in graph.now }) graph.now.names)) }
+        × (b ≡ first_sheet_in form (record { counted = counted; hard = required_in graph.now }) graph.now.names)) }
 {
     let counted = graph.counted_edges(alloc)?;
     let hard = graph.required_edges().copy(alloc)?;
     let names = copy_names(alloc, &graph.names)?;
-    Board::of(alloc, counted, hard, names)
+    BoardIn::of(alloc, form, counted, hard, names)
 }
 
 /// The board of a graph's nodes where one recipe is run at a time: beside what it waits for by the graph, each node waits for the one
 /// before it, depth first. So nodes become ready one by one, in the order in which the makefile names them.
-fn board_in_order(alloc: Global, graph: &Graph) -> Result<Board<Receipt>, AllocError>
+fn board_in_order(alloc: Global, form: Form, graph: &Graph) -> Result<BoardIn<Receipt>, AllocError>
     ensures { IfOk result (λ b. (more counted : List (List ℕ)) × (graph.now.soft_dropped ≡ false → HasAlso graph.now.soft more)
         × AreSets (joined (required_in graph.now) more) counted
-        × (b ≡ first_sheet (record { counted = counted; hard = required_in graph.now }) graph.now.names)) }
+        × (b ≡ first_sheet_in form (record { counted = counted; hard = required_in graph.now }) graph.now.names)) }
 {
     let required = graph.required_edges();
     let more = edges_in_order(
@@ -56,17 +57,18 @@ fn board_in_order(alloc: Global, graph: &Graph) -> Result<Board<Receipt>, AllocE
     drop(more);
     let hard = required.copy(alloc)?;
     let names = copy_names(alloc, &graph.names)?;
-    Board::of(alloc, counted, hard, names)
+    BoardIn::of(alloc, form, counted, hard, names)
 }
 
 /// The board of a run of so many workers: in the wide profile one worker makes nodes in order.
 pub(crate) fn board_for(
     alloc: Global,
+    form: Form,
     graph: &Graph,
     workers: usize,
-) -> Result<Board<Receipt>, AllocError> {
+) -> Result<BoardIn<Receipt>, AllocError> {
     if workers == 1 && graph.macros.profile().is_wide() {
-        return board_in_order(alloc, graph);
+        return board_in_order(alloc, form, graph);
     }
-    board_of(alloc, graph)
+    board_of(alloc, form, graph)
 }

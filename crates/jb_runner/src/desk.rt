@@ -4,10 +4,11 @@ ghost use Rattle.std.specs.Prelude.{◌≡◌, IfOk};
 ghost use Rattle.jb_runner.specs.Making.{IsHandedOut};
 
 use crate::abandoning::abandon_waiting;
-use bd_flusher::{Flusher, Receipt};
+use bd_flusher::{FlusherIn, Receipt};
 use bd_links::Node;
-use bd_lists::{Advanced, Board};
+use bd_lists::{Advanced, BoardIn};
 use bd_places::End;
+use jb_recipe::Conduct;
 use st_disk::Disk;
 use std::sync::atomic::{AtomicUsize, Ordering};
 use std::sync::{Condvar, Mutex, Wait};
@@ -41,17 +42,17 @@ impl Idlers {
 /// The board of a run.
 #[derive(Clone, Copy)]
 pub(crate) struct Desk<'s> {
-    pub(crate) board: &'s Mutex<Board<Receipt>>,
+    pub(crate) board: &'s Mutex<BoardIn<Receipt>>,
     pub(crate) idlers: &'s Idlers,
     pub(crate) nodes: usize,
-    /// Whether the run goes on behind a node that is lost or has failed.
-    pub(crate) goes_on: bool,
+    /// The form of its records, and whether the run goes on behind a node that is lost or has failed.
+    pub(crate) conduct: &'s Conduct,
 }
 
 /// The board of a run, with the site that its records are told to.
 #[derive(Drop)]
 pub(crate) struct Clerk<'s, D: Disk + Drop> {
-    pub(crate) flusher: &'s Flusher<D>,
+    pub(crate) flusher: &'s FlusherIn<D>,
     pub(crate) desk: Desk<'s>,
 }
 
@@ -92,7 +93,7 @@ impl Desk<'_> {
 
     /// Whether nothing is begun behind an end.
     pub(crate) fn ends_run(&self, failed: Option<u32>) -> bool {
-        failed.is_some() && !self.goes_on
+        failed.is_some() && !self.conduct.goes_on
     }
 
     /// Settles the node of an end. Without `-k` a failed target abandons all that waits, in the same holding of the lock: no further
@@ -126,7 +127,7 @@ impl Desk<'_> {
 
     /// A node can't be made: it is abandoned, unless its record is still to be drained. Without `-k` all that waits is too.
     pub(crate) fn lose<R: Wait>(&self, rt: &R, node: Node) {
-        self.abandon(rt, Some(node), !self.goes_on);
+        self.abandon(rt, Some(node), !self.conduct.goes_on);
     }
 
     /// The run ends: all that waits is abandoned, so that the other workers end with the nodes that they have.

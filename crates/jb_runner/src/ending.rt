@@ -1,7 +1,6 @@
 //! A target's recipe: its 'begun', the run, its 'done' or 'failed'.
 ghost use Rattle.std.specs.Prelude.{◌≡◌, ◌<◌, IfOk, IfSome};
-ghost use Rattle.st_records.specs.Limits.{IsGood};
-ghost use Rattle.st_records.specs.declared.version.Version.TheVariants.{Two};
+ghost use Rattle.st_records.specs.Limits.{IsGoodIn};
 ghost use Rattle.st_records.specs.declared.record.Record.TheVariants as records;
 ghost use Rattle.bd_lists.specs.Running.{FailsInRange};
 ghost use Rattle.jb_recipe.specs.Environment.{NamesReport};
@@ -119,7 +118,7 @@ impl<D: Disk + Drop> Clerk<'_, D> {
         begun: Record,
         shift: &mut Shift,
     ) -> Result<Begun, RunFault>
-        requires { IsGood Two begun }
+        requires { IsGoodIn self.now.desk.conduct.now.form begun }
         ensures { IfOk result (λ b. IsClearedFor begun b) }
     {
         let Ok(copy) = begun.copy(alloc) else {
@@ -220,7 +219,9 @@ impl<D: Disk + Drop, E: Exec<Receipt>, S: Say, P: Place> Bench<'_, D, E, S, P> {
         plan: Plan,
         bank: &mut B,
         shift: &mut Shift,
-    ) -> Result<(), RunFault> {
+    ) -> Result<(), RunFault>
+        requires { plan.form ≡ self.now.clerk.desk.conduct.now.form }
+    {
         let (begun, recipe, mut note, told) = plan.apart(alloc)?;
         match self.clerk.begin(rt, alloc, node, begun, shift) {
             Ok(Begun::Cleared(clearance)) => {
@@ -263,7 +264,8 @@ impl<D: Disk + Drop, E: Exec<Receipt>, S: Say, P: Place> Bench<'_, D, E, S, P> {
         note: EndNote,
         shift: &mut Shift,
     ) -> Result<(), RunFault>
-        requires { IfOk ran (λ r. FailsInRange r.spent.outcome) }
+        requires status { IfOk ran (λ r. FailsInRange r.spent.outcome) }
+        requires form { note.form ≡ self.now.clerk.desk.conduct.now.form }
     {
         match ran {
             Ok(ran) => self.end(rt, alloc, node, ran, note, shift),
@@ -285,7 +287,8 @@ impl<D: Disk + Drop, E: Exec<Receipt>, S: Say, P: Place> Bench<'_, D, E, S, P> {
         note: EndNote,
         shift: &mut Shift,
     ) -> Result<(), RunFault>
-        requires { FailsInRange ran.spent.outcome }
+        requires status { FailsInRange ran.spent.outcome }
+        requires form { note.form ≡ self.now.clerk.desk.conduct.now.form }
     {
         let spent = say_block(self.say, ran);
         let outcome = spent.outcome();
@@ -308,7 +311,7 @@ impl<D: Disk + Drop, E: Exec<Receipt>, S: Say, P: Place> Bench<'_, D, E, S, P> {
         spent: Spent<Receipt>,
         shift: &mut Shift,
     ) -> Result<(), RunFault>
-        requires { IfSome last.record (λ note. IsGood Two note) }
+        requires { IfSome last.record (λ note. IsGoodIn self.now.clerk.desk.conduct.now.form note) }
     {
         let Last {
             record,
@@ -336,7 +339,7 @@ impl<D: Disk + Drop, E: Exec<Receipt>, S: Say, P: Place> Bench<'_, D, E, S, P> {
         spent: Spent<Receipt>,
         shift: &mut Shift,
     ) -> Result<(), RunFault>
-        requires { IsGood Two last }
+        requires { IsGoodIn self.now.clerk.desk.conduct.now.form last }
     {
         let Ok(copy) = last.copy(alloc) else {
             drop(last);

@@ -7,7 +7,7 @@ use crate::bench::Bench;
 use crate::shift::Shift;
 use bd_flusher::Receipt;
 use bd_links::Node;
-use bd_lists::{Board, Exec};
+use bd_lists::{BoardIn, Exec};
 use bd_places::End;
 use byte_strings::ByteStrings;
 use jb_closing::RunFault;
@@ -28,19 +28,19 @@ pub(crate) fn is_remade(end: Option<End>) -> bool
 }
 
 /// Sets the mark of a node that was made anew. Another keeps its own: how a node ended never changes.
-fn mark_if_remade(marks: &mut Vec<bool>, board: &Board<Receipt>, node: usize) {
+fn mark_if_remade(marks: &mut Vec<bool>, board: &BoardIn<Receipt>, node: usize) {
     if node < marks.len() && is_remade(board.end(Node::new(node))) {
         marks[node] = true;
     }
 }
 
-fn mark_remade(marks: &mut Vec<bool>, board: &Board<Receipt>, nodes: &[u32]) {
+fn mark_remade(marks: &mut Vec<bool>, board: &BoardIn<Receipt>, nodes: &[u32]) {
     for node in nodes {
         mark_if_remade(marks, board, *node as usize);
     }
 }
 
-fn mark_hidden(marks: &mut Vec<bool>, board: &Board<Receipt>, hidden: HiddenNumbers<'_>) {
+fn mark_hidden(marks: &mut Vec<bool>, board: &BoardIn<Receipt>, hidden: HiddenNumbers<'_>) {
     for node in hidden {
         if let Some(node) = node {
             mark_if_remade(marks, board, node);
@@ -51,7 +51,7 @@ fn mark_hidden(marks: &mut Vec<bool>, board: &Board<Receipt>, hidden: HiddenNumb
 // All prerequisites that a claimed node counts have settled, so their ends are read in one holding of the lock.
 fn mark<R: Wait>(
     rt: &R,
-    board: &Mutex<Board<Receipt>>,
+    board: &Mutex<BoardIn<Receipt>>,
     graph: &Graph,
     marks: &mut Vec<bool>,
     number: usize,
@@ -110,7 +110,7 @@ impl<D: Disk + Drop, E: Exec<Receipt>, S: Say, P: Place> Bench<'_, D, E, S, P> {
         mark(rt, self.clerk.desk.board, self.graph, marks, number);
         match pass(
             alloc,
-            self.conduct.counts_records,
+            self.clerk.desk.conduct.counts_records,
             self.graph,
             marks.as_slice(),
             number,
@@ -145,7 +145,7 @@ impl<D: Disk + Drop, E: Exec<Receipt>, S: Say, P: Place> Bench<'_, D, E, S, P> {
 
     // A target that has a recipe and is up to date.
     fn finish<R: Wait>(&self, rt: &R, alloc: Global, node: Node) -> Result<(), RunFault> {
-        let telling = self.conduct.telling;
+        let telling = self.clerk.desk.conduct.telling;
         let told = told_lines(alloc, telling, self.graph, node.number(), &Passed::UpToDate)?;
         say_lines(self.say, &told);
         self.clerk.desk.settle(rt, node, End::UpToDate);
@@ -185,7 +185,14 @@ impl<D: Disk + Drop, E: Exec<Receipt>, S: Say, P: Place> Bench<'_, D, E, S, P> {
     {
         shift.make_room()?;
         let long = long_line(&lines);
-        let Some(plan) = Plan::of(alloc, self.graph, self.conduct, node.number(), why, lines)?
+        let Some(plan) = Plan::of(
+            alloc,
+            self.graph,
+            self.clerk.desk.conduct,
+            node.number(),
+            why,
+            lines,
+        )?
         else {
             self.not_recorded(rt, node, long, shift);
             return Ok(());

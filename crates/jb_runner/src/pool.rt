@@ -16,16 +16,16 @@ use crate::gate::{Gate, staying};
 use crate::shift::{Shift, let_go};
 use crate::shop::Shop;
 use crate::worker::work;
-use bd_flusher::{Flusher, Receipt, Site};
+use bd_flusher::{FlusherIn, Receipt, SiteIn};
 use bd_links::Node;
-use bd_lists::{Board, Exec};
+use bd_lists::{BoardIn, Exec};
 use bd_places::End;
 use jb_closing::{Closed, Report, RunFault};
 use jb_recipe::{Conduct, News, Place, Say};
 use jb_slots::Bank;
 use mk_nodes::Graph;
 use st_disk::Disk;
-use st_records::HashKey;
+use st_records::{Form, HashKey};
 use std::alloc::{AllocError, Global};
 use std::sync::{Mutex, Wait};
 use std::thread;
@@ -146,7 +146,7 @@ fn run_shop<R, D, E, S, P, B>(
     alloc: Global,
     shop: Shop<'_, D, E, S, P>,
     banks: Vec<B>,
-) -> (Shift, Site<D>, Board<Receipt>)
+) -> (Shift, SiteIn<D>, BoardIn<Receipt>)
 where
     R: Threads + Wait + Sync,
     D: Disk + Drop + Send,
@@ -162,7 +162,7 @@ where
 }
 
 /// How each node ended. A node that hasn't, which a fault alone leaves, counts as abandoned.
-fn ends_of(alloc: Global, board: &Board<Receipt>, nodes: usize) -> Result<Vec<End>, AllocError>
+fn ends_of(alloc: Global, board: &BoardIn<Receipt>, nodes: usize) -> Result<Vec<End>, AllocError>
     ensures each { IfOk result (λ ends. length ends.items ≡ nodes) }
     ensures end { IfOk result (λ ends. (node : ℕ) → node < nodes
         → slice_get ends.items node ≡ Some (unwrap_or (end_of board.now.standing node) Abandoned)) }
@@ -178,15 +178,17 @@ fn ends_of(alloc: Global, board: &Board<Receipt>, nodes: usize) -> Result<Vec<En
 fn close<D: Disk + Drop>(
     closed: &Closed<D>,
     alloc: Global,
+    form: Form,
     graph: &Graph,
-    board: &Board<Receipt>,
+    board: &BoardIn<Receipt>,
     crew: Shift,
 ) -> Result<Report, RunFault>
     ensures ends { IfOk result (λ r. length r.ends.items ≡ length graph.now.nodes.items) }
     ensures status { IfOk result (λ r. r.status ≤ 2) }
     ensures well { IfOk result (λ r. r.status ≡ 0 → IsTrue (list_all ends_well r.ends.items)) }
+    ensures newest { IfOk result (λ r. closed.now.site.newest ≡ form) }
     ensures built { IfOk result (λ r. AreThoseOf closed.now.site.told crew.receipts.items
-        × AreTrueOf closed.now.site.told crew.receipts.items (D.honest × (closed.now.site.dead ≡ false)) (now (D.moments closed.now.site.disk))
+        × AreTrueOf form closed.now.site.told crew.receipts.items (D.honest × (closed.now.site.dead ≡ false)) (now (D.moments closed.now.site.disk))
         graph.now.names r.ends.items) }
 {
     let Shift {
@@ -201,15 +203,16 @@ fn close<D: Disk + Drop>(
         return Err(fault);
     }
     let ends = ends_of(alloc, board, graph.len())?;
-    let report = closed.report(alloc, graph, Report::of(ends, status), &receipts);
+    let report = closed.report(alloc, form, graph, Report::of(ends, status), &receipts);
     drop(receipts);
     report
 }
 
-/// The run of a shop, and its closing report.
+/// The run of a shop whose records have this form, and its closing report.
 fn run_to_close<R, D, E, S, P, B>(
     rt: &R,
     alloc: Global,
+    form: Form,
     graph: &Graph,
     shop: Shop<'_, D, E, S, P>,
     banks: Vec<B>,
@@ -221,11 +224,11 @@ where
     S: Say + Sync,
     P: Place + Sync,
     B: Bank + Drop + Send,
-    ensures { ComesTo D.honest D.moments graph.now result.0 result.1.site }
+    ensures { ComesTo D.honest D.moments form graph.now result.0 result.1.site }
 {
     let (crew, site, board) = run_shop(rt, alloc, shop, banks);
     let closed = Closed::new(site);
-    let report = close(&closed, alloc, graph, &board, crew);
+    let report = close(&closed, alloc, form, graph, &board, crew);
     drop(board);
     (report, closed)
 }
@@ -241,7 +244,7 @@ pub fn run<R, D, E, S, P, B>(
     alloc: Global,
     graph: &Graph,
     conduct: &Conduct,
-    site: Site<D>,
+    site: SiteIn<D>,
     banks: Vec<B>,
     key: HashKey,
     exec: &E,
@@ -259,18 +262,21 @@ where
     ensures ends { IfOk result.0 (λ r. length r.ends.items ≡ length graph.now.nodes.items) }
     ensures status { IfOk result.0 (λ r. r.status ≤ 2) }
     ensures well { IfOk result.0 (λ r. r.status ≡ 0 → IsTrue (list_all ends_well r.ends.items)) }
+    ensures newest { IfOk result.0 (λ r. result.1.site.newest ≡ conduct.now.form) }
     ensures built { IfOk result.0 (λ r. (receipts : List Receipt) × AreThoseOf result.1.site.told receipts
-        × AreTrueOf result.1.site.told receipts (D.honest × (result.1.site.dead ≡ false)) (now (D.moments result.1.site.disk))
+        × AreTrueOf conduct.now.form result.1.site.told receipts (D.honest × (result.1.site.dead ≡ false)) (now (D.moments result.1.site.disk))
         graph.now.names r.ends.items) }
 {
-    let Ok(board) = board_for(alloc, graph, banks.len()) else {
+    let form = conduct.form;
+    let Ok(board) = board_for(alloc, form, graph, banks.len()) else {
         drop(banks);
         return (Err(RunFault::OutOfMemory), Closed::new(site));
     };
-    let flusher = Flusher {
+    let flusher = FlusherIn {
+        form,
         site: Mutex::new(site),
         board: Mutex::new(board),
     };
     let shop = Shop::new(graph, conduct, exec, say, place, key, flusher);
-    run_to_close(rt, alloc, graph, shop, banks)
+    run_to_close(rt, alloc, form, graph, shop, banks)
 }

@@ -4,7 +4,7 @@ ghost use Rattle.jb_closing.specs.Report.{ComesTo};
 
 use crate::serving::{is_one_word, served_flags};
 use crate::slotted::{Came, Parts, Slotting, no_memory, run_in_memory, run_over_pool};
-use bd_flusher::{Receipt, Site};
+use bd_flusher::{Receipt, SiteIn};
 use bd_lists::Exec;
 use jb_recipe::{Conduct, Makeflags, News, Place, Say};
 use jb_slots::Banks;
@@ -39,10 +39,10 @@ fn run_served<R, D, E, S, P, K>(
     alloc: Global,
     parts: &Parts<'_, E, S, P>,
     conduct: &Conduct,
-    site: Site<D>,
+    site: SiteIn<D>,
     slotting: Slotting<'_>,
     banks: &mut K,
-) -> Result<Came<D>, Site<D>>
+) -> Result<Came<D>, SiteIn<D>>
 where
     R: Threads + Wait + Sync,
     D: Disk + Drop + Send,
@@ -51,7 +51,7 @@ where
     P: Place + Sync,
     K: Banks,
     K::End: Drop + Send,
-    ensures came { IfOk result (λ came. ComesTo D.honest D.moments parts.now.graph.now came.0 came.1.site) }
+    ensures came { IfOk result (λ came. ComesTo D.honest D.moments conduct.now.form parts.now.graph.now came.0 came.1.site) }
     ensures let_go { K.serves banks.new ≡ false }
 {
     let came = run_over_pool(
@@ -74,7 +74,7 @@ fn run_unserved<R, D, E, S, P>(
     alloc: Global,
     parts: &Parts<'_, E, S, P>,
     conduct: &mut Conduct,
-    site: Site<D>,
+    site: SiteIn<D>,
     workers: usize,
 ) -> Came<D>
 where
@@ -83,7 +83,7 @@ where
     E: Exec<Receipt> + Sync,
     S: Say + Sync,
     P: Place + Sync,
-    ensures { ComesTo D.honest D.moments parts.now.graph.now result.0 result.1.site }
+    ensures { ComesTo D.honest D.moments conduct.old.form parts.now.graph.now result.0 result.1.site }
 {
     parts.say.tell(News::NotServed);
     conduct.makeflags = Makeflags::Removed;
@@ -104,7 +104,7 @@ pub(crate) fn run_as_server<R, D, E, S, P, K>(
     alloc: Global,
     parts: &Parts<'_, E, S, P>,
     conduct: &mut Conduct,
-    site: Site<D>,
+    site: SiteIn<D>,
     slotting: Slotting<'_>,
     banks: &mut K,
 ) -> Came<D>
@@ -116,7 +116,7 @@ where
     P: Place + Sync,
     K: Banks,
     K::End: Drop + Send,
-    ensures came { ComesTo D.honest D.moments parts.now.graph.now result.0 result.1.site }
+    ensures came { ComesTo D.honest D.moments conduct.old.form parts.now.graph.now result.0 result.1.site }
     ensures let_go { K.serves banks.old ≡ false → K.serves banks.new ≡ false }
 {
     let Ok(flags) = served_flags(alloc, slotting.workers, slotting.pool) else {

@@ -2,8 +2,8 @@
 
 use crate::bench::Bench;
 use crate::desk::{Clerk, Desk, Idlers};
-use bd_flusher::{Flusher, Receipt, Site};
-use bd_lists::Board;
+use bd_flusher::{FlusherIn, Receipt, SiteIn};
+use bd_lists::BoardIn;
 use jb_recipe::{Conduct, Say};
 use jb_slots::Slots;
 use mk_nodes::Graph;
@@ -22,7 +22,7 @@ pub(crate) struct Shop<'a, D: Disk + Drop, E, S, P> {
     pub place: &'a P,
     /// Hides from whoever writes reports which names collide in a table.
     pub key: HashKey,
-    pub flusher: Flusher<D>,
+    pub flusher: FlusherIn<D>,
     pub slots: Slots,
     idlers: Idlers,
     /// Whether the jobserver's fault was told.
@@ -54,7 +54,7 @@ impl<'a, D: Disk + Drop, E, S: Say, P> Shop<'a, D, E, S, P> {
         say: &'a S,
         place: &'a P,
         key: HashKey,
-        flusher: Flusher<D>,
+        flusher: FlusherIn<D>,
     ) -> Shop<'a, D, E, S, P> {
         Shop {
             graph,
@@ -71,7 +71,7 @@ impl<'a, D: Disk + Drop, E, S: Say, P> Shop<'a, D, E, S, P> {
     }
 
     /// The site and the board, out of their locks.
-    pub(crate) fn into_parts(self) -> (Site<D>, Board<Receipt>) {
+    pub(crate) fn into_parts(self) -> (SiteIn<D>, BoardIn<Receipt>) {
         let Shop {
             graph: _,
             conduct: _,
@@ -84,7 +84,11 @@ impl<'a, D: Disk + Drop, E, S: Say, P> Shop<'a, D, E, S, P> {
             idlers: _,
             complained: _,
         } = self;
-        let Flusher { site, board } = flusher;
+        let FlusherIn {
+            form: _,
+            site,
+            board,
+        } = flusher;
         (site.into_inner(), board.into_inner())
     }
 
@@ -94,7 +98,7 @@ impl<'a, D: Disk + Drop, E, S: Say, P> Shop<'a, D, E, S, P> {
             board: &self.flusher.board,
             idlers: &self.idlers,
             nodes: self.graph.len(),
-            goes_on: self.conduct.goes_on,
+            conduct: self.conduct,
         }
     }
 
@@ -102,7 +106,6 @@ impl<'a, D: Disk + Drop, E, S: Say, P> Shop<'a, D, E, S, P> {
     pub(crate) fn bench(&self) -> Bench<'_, D, E, S, P> {
         Bench {
             graph: self.graph,
-            conduct: self.conduct,
             exec: self.exec,
             say: self.say,
             place: self.place,

@@ -4,6 +4,7 @@ ghost use Rattle.std.specs.List.{list_all};
 ghost use Rattle.mk_nodes.specs.declared.graph.Graph.{Graph};
 ghost use Rattle.st_disk.specs.Moments.{now};
 ghost use Rattle.st_state.specs.State.{replay};
+ghost use Rattle.st_records.specs.declared.version.Form.{Form};
 ghost use Rattle.bd_flusher.specs.declared.site.receipt.Receipt.{Receipt};
 ghost use Rattle.jb_closing.specs.Agreement.{AreThoseOf};
 ghost use Rattle.jb_closing.specs.Closing.{AreTrueOf};
@@ -12,7 +13,7 @@ ghost use Rattle.jb_closing.specs.Report.{ends_well, ComesTo};
 use crate::run;
 use crate::served::run_as_server;
 use crate::serving::{Source, source_of};
-use bd_flusher::{Receipt, Site};
+use bd_flusher::{Receipt, SiteIn};
 use bd_lists::Exec;
 use jb_closing::{Closed, Report, RunFault};
 use jb_recipe::{Conduct, Makeflags, News, Place, Say};
@@ -48,8 +49,8 @@ pub struct Slotting<'a> {
 /// What a run comes to: its report or fault, and the closed site.
 pub(crate) type Came<D> = (Result<Report, RunFault>, Closed<D>);
 
-pub(crate) fn no_memory<D: Disk + Drop>(site: Site<D>) -> Came<D>
-    ensures { (graph : Graph) → ComesTo D.honest D.moments graph result.0 result.1.site }
+pub(crate) fn no_memory<D: Disk + Drop>(site: SiteIn<D>) -> Came<D>
+    ensures { (form : Form) (graph : Graph) → ComesTo D.honest D.moments form graph result.0 result.1.site }
 {
     (Err(RunFault::OutOfMemory), Closed::new(site))
 }
@@ -80,7 +81,7 @@ pub(crate) fn run_in_memory<R, D, E, S, P>(
     alloc: Global,
     parts: &Parts<'_, E, S, P>,
     conduct: &Conduct,
-    site: Site<D>,
+    site: SiteIn<D>,
     workers: usize,
     count: usize,
 ) -> Came<D>
@@ -90,7 +91,7 @@ where
     E: Exec<Receipt> + Sync,
     S: Say + Sync,
     P: Place + Sync,
-    ensures { ComesTo D.honest D.moments parts.now.graph.now result.0 result.1.site }
+    ensures { ComesTo D.honest D.moments conduct.now.form parts.now.graph.now result.0 result.1.site }
 {
     let Ok(pool) = memory_pool(alloc, count) else {
         return no_memory(site);
@@ -118,11 +119,11 @@ pub(crate) fn run_over_pool<R, D, E, S, P, K>(
     alloc: Global,
     parts: &Parts<'_, E, S, P>,
     conduct: &Conduct,
-    site: Site<D>,
+    site: SiteIn<D>,
     workers: usize,
     banks: &K,
     path: &[u8],
-) -> Result<Came<D>, Site<D>>
+) -> Result<Came<D>, SiteIn<D>>
 where
     R: Threads + Wait + Sync,
     D: Disk + Drop + Send,
@@ -131,7 +132,7 @@ where
     P: Place + Sync,
     K: Banks,
     K::End: Drop + Send,
-    ensures { IfOk result (λ came. ComesTo D.honest D.moments parts.now.graph.now came.0 came.1.site) }
+    ensures { IfOk result (λ came. ComesTo D.honest D.moments conduct.now.form parts.now.graph.now came.0 came.1.site) }
 {
     match banks.open(alloc, path, workers, parts.graph.len()) {
         Ok(Some(ends)) => Ok(run(
@@ -157,7 +158,7 @@ fn run_alone<R, D, E, S, P>(
     alloc: Global,
     parts: &Parts<'_, E, S, P>,
     conduct: &mut Conduct,
-    site: Site<D>,
+    site: SiteIn<D>,
 ) -> Came<D>
 where
     R: Threads + Wait + Sync,
@@ -165,7 +166,7 @@ where
     E: Exec<Receipt> + Sync,
     S: Say + Sync,
     P: Place + Sync,
-    ensures { ComesTo D.honest D.moments parts.now.graph.now result.0 result.1.site }
+    ensures { ComesTo D.honest D.moments conduct.old.form parts.now.graph.now result.0 result.1.site }
 {
     conduct.makeflags = Makeflags::Removed;
     run_in_memory(rt, alloc, parts, conduct, site, 1, 0)
@@ -177,7 +178,7 @@ fn run_as_client<R, D, E, S, P, K>(
     alloc: Global,
     parts: &Parts<'_, E, S, P>,
     conduct: &mut Conduct,
-    site: Site<D>,
+    site: SiteIn<D>,
     workers: usize,
     banks: &K,
     path: &[u8],
@@ -190,7 +191,7 @@ where
     P: Place + Sync,
     K: Banks,
     K::End: Drop + Send,
-    ensures { ComesTo D.honest D.moments parts.now.graph.now result.0 result.1.site }
+    ensures { ComesTo D.honest D.moments conduct.old.form parts.now.graph.now result.0 result.1.site }
 {
     conduct.makeflags = Makeflags::HandedOn;
     match run_over_pool(rt, alloc, parts, conduct, site, workers, banks, path) {
@@ -208,7 +209,7 @@ fn run_by_source<R, D, E, S, P, K>(
     alloc: Global,
     parts: &Parts<'_, E, S, P>,
     conduct: &mut Conduct,
-    site: Site<D>,
+    site: SiteIn<D>,
     slotting: Slotting<'_>,
     banks: &mut K,
 ) -> Came<D>
@@ -220,7 +221,7 @@ where
     P: Place + Sync,
     K: Banks,
     K::End: Drop + Send,
-    ensures came { ComesTo D.honest D.moments parts.now.graph.now result.0 result.1.site }
+    ensures came { ComesTo D.honest D.moments conduct.old.form parts.now.graph.now result.0 result.1.site }
     ensures let_go { K.serves banks.old ≡ false → K.serves banks.new ≡ false }
 {
     let workers = slotting.workers;
@@ -247,7 +248,7 @@ pub fn run_slotted<R, D, E, S, P, K>(
     alloc: Global,
     parts: &Parts<'_, E, S, P>,
     conduct: Conduct,
-    site: Site<D>,
+    site: SiteIn<D>,
     slotting: Slotting<'_>,
     banks: &mut K,
 ) -> (Result<Report, RunFault>, Closed<D>)
@@ -263,8 +264,9 @@ where
     ensures ends { IfOk result.0 (λ r. length r.ends.items ≡ length parts.now.graph.now.nodes.items) }
     ensures status { IfOk result.0 (λ r. r.status ≤ 2) }
     ensures well { IfOk result.0 (λ r. r.status ≡ 0 → IsTrue (list_all ends_well r.ends.items)) }
+    ensures newest { IfOk result.0 (λ r. result.1.site.newest ≡ conduct.form) }
     ensures built { IfOk result.0 (λ r. (receipts : List Receipt) × AreThoseOf result.1.site.told receipts
-        × AreTrueOf result.1.site.told receipts (D.honest × (result.1.site.dead ≡ false)) (now (D.moments result.1.site.disk))
+        × AreTrueOf conduct.form result.1.site.told receipts (D.honest × (result.1.site.dead ≡ false)) (now (D.moments result.1.site.disk))
         parts.now.graph.now.names r.ends.items) }
     ensures let_go { K.serves banks.old ≡ false → K.serves banks.new ≡ false }
 {

@@ -1,6 +1,5 @@
 //! Records on their way to the board.
-ghost use Rattle.st_records.specs.Limits.{IsGood};
-ghost use Rattle.st_records.specs.declared.version.Version.TheVariants.{Two};
+ghost use Rattle.st_records.specs.Limits.{IsGoodIn};
 
 use crate::desk::Desk;
 use crate::shift::Shift;
@@ -41,15 +40,15 @@ impl Desk<'_> {
         note: Record,
         run: Option<Spent<Receipt>>,
     ) -> Result<(Ticket, Option<Receipt>), (Record, Option<Spent<Receipt>>)>
-        requires { IsGood Two note }
+        requires { IsGoodIn self.now.conduct.now.form note }
     {
         let mut board = self.board.lock(rt);
-        board.submit(node, note, run)
+        board.submit(self.conduct.form, node, note, run)
     }
 
     /// The ticket of a 'begun'; None where it isn't taken.
     pub(crate) fn hand_in<R: Wait>(&self, rt: &R, node: Node, begun: Record) -> Option<Ticket>
-        requires { IsGood Two begun }
+        requires { IsGoodIn self.now.conduct.now.form begun }
     {
         let (ticket, none) = apart(self.submit(rt, node, begun, None));
         drop(none);
@@ -65,7 +64,7 @@ impl Desk<'_> {
         spent: Spent<Receipt>,
         shift: &mut Shift,
     ) -> Option<Ticket>
-        requires { IsGood Two last }
+        requires { IsGoodIn self.now.conduct.now.form last }
     {
         let (ticket, begun) = apart(self.submit(rt, node, last, Some(spent)));
         if let Some(begun) = begun {

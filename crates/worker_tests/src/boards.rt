@@ -5,22 +5,22 @@ ghost use Rattle.st_records.specs.declared.record.Record.TheVariants as records;
 ghost use Rattle.st_records.specs.declared.version.Version.TheVariants as versions;
 
 use crate::makefiles::{Asked, graph};
-use bd_flusher::{FlushFault, Flusher, Receipt, Site};
+use bd_flusher::{FlushFault, FlusherIn, Receipt, SiteIn};
 use bd_ledger::Ticket;
 use bd_links::Node;
-use bd_lists::Board;
+use bd_lists::BoardIn;
 use byte_strings::ByteString;
 use jb_runner::board_of;
 use st_disk::Disk;
-use st_records::Record;
+use st_records::{Form, Record};
 use st_state::State;
 use std::alloc::Global;
 use std::sync::Wait;
 use std::test::Fail;
 
-pub fn board(alloc: Global, asked: &Asked, state: &State) -> Result<Board<Receipt>, Fail> {
+pub fn board(alloc: Global, asked: &Asked, state: &State) -> Result<BoardIn<Receipt>, Fail> {
     let graph = graph(alloc, asked, state)?;
-    Ok(board_of(alloc, &graph)?)
+    Ok(board_of(alloc, Form::Plain, &graph)?)
 }
 
 /// That the recipe of a target is about to be run, where there is memory for it.
@@ -37,10 +37,10 @@ pub fn begun(alloc: Global, target: &[u8]) -> Option<Record>
 }
 
 /// Submits a 'begun' of a node. What isn't taken is let go.
-fn submit(board: &mut Board<Receipt>, node: Node, note: Record) -> Option<Ticket>
+fn submit(board: &mut BoardIn<Receipt>, node: Node, note: Record) -> Option<Ticket>
     requires { IsGood versions.Two note }
 {
-    match board.submit(node, note, None) {
+    match board.submit(Form::Plain, node, note, None) {
         Ok((ticket, _none)) => Some(ticket),
         Err((_note, run)) => {
             let _receipt = run.map(|spent| spent.give_up());
@@ -52,7 +52,7 @@ fn submit(board: &mut Board<Receipt>, node: Node, note: Record) -> Option<Ticket
 /// Claims the next node, whose target is this one, and submits its 'begun'.
 pub fn submitted(
     alloc: Global,
-    board: &mut Board<Receipt>,
+    board: &mut BoardIn<Receipt>,
     target: &[u8],
 ) -> Option<(Node, Ticket)> {
     let node = board.claim()?;
@@ -63,18 +63,18 @@ pub fn submitted(
 
 pub fn take_in<D: Disk + Drop>(
     alloc: Global,
-    site: &mut Site<D>,
-    board: &mut Board<Receipt>,
+    site: &mut SiteIn<D>,
+    board: &mut BoardIn<Receipt>,
 ) -> Result<(), FlushFault> {
     site.take_in(alloc, board)
 }
 
-pub fn flush<D: Disk + Drop>(alloc: Global, site: &mut Site<D>) -> Result<(), FlushFault> {
+pub fn flush<D: Disk + Drop>(alloc: Global, site: &mut SiteIn<D>) -> Result<(), FlushFault> {
     site.flush(alloc)
 }
 
 /// The receipt of a record that was told at this ticket.
-pub fn look<D: Disk + Drop>(site: &Site<D>, ticket: Ticket, note: Record) -> Result<Receipt, Fail>
+pub fn look<D: Disk + Drop>(site: &SiteIn<D>, ticket: Ticket, note: Record) -> Result<Receipt, Fail>
     ensures { IfOk result (λ r. r.noted ≡ note) }
 {
     match site.look(ticket, note) {
@@ -87,7 +87,7 @@ pub fn look<D: Disk + Drop>(site: &Site<D>, ticket: Ticket, note: Record) -> Res
 pub fn acknowledged<R: Wait, D: Disk + Drop>(
     rt: &R,
     alloc: Global,
-    flusher: &Flusher<D>,
+    flusher: &FlusherIn<D>,
     target: &[u8],
     ticket: Ticket,
 ) -> Result<usize, FlushFault> {

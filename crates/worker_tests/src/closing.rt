@@ -5,12 +5,13 @@ use crate::makefiles::{Asked, graph};
 use crate::runs::made;
 use crate::states::new_store;
 use crate::way::ALONE;
-use bd_flusher::{FlushFault, Receipt, Site};
+use bd_flusher::{FlushFault, Receipt, SiteIn};
 use bd_ledger::Ticket;
 use bd_places::End;
 use jb_closing::{Closed, Report, RunFault};
 use mk_nodes::Graph;
 use st_disk::Disk;
+use st_records::Form;
 use std::alloc::{AllocError, Global};
 use std::process::Abort;
 use std::test::Fail;
@@ -80,7 +81,11 @@ static ROWS: [Row; 8] = [
     },
 ];
 
-fn receipt<D: Disk + Drop>(alloc: Global, site: &Site<D>, ticket: usize) -> Result<Receipt, Fail> {
+fn receipt<D: Disk + Drop>(
+    alloc: Global,
+    site: &SiteIn<D>,
+    ticket: usize,
+) -> Result<Receipt, Fail> {
     let Some(note) = site.told().get(ticket) else {
         return Err("nothing was told there".into());
     };
@@ -89,7 +94,7 @@ fn receipt<D: Disk + Drop>(alloc: Global, site: &Site<D>, ticket: usize) -> Resu
 
 fn push_receipts<D: Disk + Drop>(
     alloc: Global,
-    site: &Site<D>,
+    site: &SiteIn<D>,
     tickets: &[usize],
     receipts: &mut Vec<Receipt>,
 ) -> Result<(), Fail> {
@@ -114,7 +119,7 @@ fn fault_of<D: Disk + Drop>(
     report: Report,
     receipts: &[Receipt],
 ) -> Option<RunFault> {
-    match closed.report(alloc, graph, report, receipts) {
+    match closed.report(alloc, Form::Plain, graph, report, receipts) {
         Ok(_report) => None,
         Err(fault) => Some(fault),
     }

@@ -4,12 +4,13 @@
 use crate::boards::{acknowledged, board, flush, submitted, take_in};
 use crate::makefiles::Asked;
 use crate::states::{opened, site_of};
-use bd_flusher::{FlushFault, Flusher, Receipt, Site};
+use bd_flusher::{FlushFault, FlusherIn, Receipt, SiteIn};
 use bd_ledger::Ticket;
-use bd_lists::Board;
+use bd_lists::BoardIn;
 use st_disk::Disk;
 use st_doubles::Fuse;
 use st_memory::MemDisk;
+use st_records::Form;
 use std::alloc::{AllocError, Global};
 use std::sync::{Mutex, Wait};
 use std::test::Fail;
@@ -41,7 +42,7 @@ fn roomy(alloc: Global) -> Result<Fuse<MemDisk>, AllocError> {
 }
 
 /// A site, and a board of two targets.
-fn pair<D: Disk + Drop>(alloc: Global, disk: D) -> Result<(Site<D>, Board<Receipt>), Fail> {
+fn pair<D: Disk + Drop>(alloc: Global, disk: D) -> Result<(SiteIn<D>, BoardIn<Receipt>), Fail> {
     let store = opened(alloc, disk)?;
     let board = board(alloc, &TWO, store.state())?;
     Ok((site_of(alloc, store)?, board))
@@ -50,8 +51,8 @@ fn pair<D: Disk + Drop>(alloc: Global, disk: D) -> Result<(Site<D>, Board<Receip
 /// Takes in, and once more where memory was refused: then nothing had changed.
 fn takes_in_all<D: Disk + Drop>(
     alloc: Global,
-    site: &mut Site<D>,
-    board: &mut Board<Receipt>,
+    site: &mut SiteIn<D>,
+    board: &mut BoardIn<Receipt>,
 ) -> bool {
     let waiting = board.unflushed();
     let first = take_in(alloc, site, board);
@@ -62,12 +63,12 @@ fn takes_in_all<D: Disk + Drop>(
 }
 
 /// How many calls the disk has left, and how many records are told.
-fn counts<D: Disk + Drop + Counted>(site: &Site<D>) -> (u64, usize) {
+fn counts<D: Disk + Drop + Counted>(site: &SiteIn<D>) -> (u64, usize) {
     (site.store().log.disk.calls_left(), site.told().len())
 }
 
 /// Flushes, and once more where memory was refused: then no call was made, and what was held is written.
-fn flushes_all<D: Disk + Drop + Counted>(alloc: Global, site: &mut Site<D>) -> bool {
+fn flushes_all<D: Disk + Drop + Counted>(alloc: Global, site: &mut SiteIn<D>) -> bool {
     let before = counts(site);
     let first = flush(alloc, site);
     if first != Err(FlushFault::OutOfMemory) {
@@ -79,8 +80,8 @@ fn flushes_all<D: Disk + Drop + Counted>(alloc: Global, site: &mut Site<D>) -> b
 /// Submits two records and writes them as one batch. How many are told then.
 fn written<D: Disk + Drop + Counted>(
     alloc: Global,
-    site: &mut Site<D>,
-    board: &mut Board<Receipt>,
+    site: &mut SiteIn<D>,
+    board: &mut BoardIn<Receipt>,
 ) -> Result<usize, Fail> {
     submitted(alloc, board, b"a").ok_or("nothing was submitted")?;
     submitted(alloc, board, b"b").ok_or("nothing was submitted")?;
@@ -103,9 +104,10 @@ fn a_batch_that_wanted_memory_is_written_again(rt: HostRuntime) -> Result<(), Fa
     Ok(())
 }
 
-fn flusher<D: Disk + Drop>(alloc: Global, disk: D) -> Result<Flusher<D>, Fail> {
+fn flusher<D: Disk + Drop>(alloc: Global, disk: D) -> Result<FlusherIn<D>, Fail> {
     let (site, board) = pair(alloc, disk)?;
-    Ok(Flusher {
+    Ok(FlusherIn {
+        form: Form::Plain,
         site: Mutex::new(site),
         board: Mutex::new(board),
     })
@@ -114,7 +116,7 @@ fn flusher<D: Disk + Drop>(alloc: Global, disk: D) -> Result<Flusher<D>, Fail> {
 /// The ticket of a flusher's next record.
 fn submitted_to<R: Wait + AllocGlobal, D: Disk + Drop>(
     rt: &R,
-    flusher: &Flusher<D>,
+    flusher: &FlusherIn<D>,
     target: &[u8],
 ) -> Result<Ticket, Fail> {
     match submitted(rt.alloc(), &mut flusher.board.lock(rt), target) {
@@ -126,7 +128,7 @@ fn submitted_to<R: Wait + AllocGlobal, D: Disk + Drop>(
 /// The batch of the first record, asked for once more where memory was refused.
 fn acknowledged_twice<R: Wait + AllocGlobal, D: Disk + Drop>(
     rt: &R,
-    flusher: &Flusher<D>,
+    flusher: &FlusherIn<D>,
     ticket: Ticket,
 ) -> Result<usize, FlushFault> {
     match acknowledged(rt, rt.alloc(), flusher, b"a", ticket) {
@@ -146,7 +148,7 @@ fn first_record<R: Wait + AllocGlobal, D: Disk + Drop>(
 
 fn first_record_of<R: Wait + AllocGlobal, D: Disk + Drop>(
     rt: &R,
-    flusher: &Flusher<D>,
+    flusher: &FlusherIn<D>,
 ) -> Result<(usize, Result<usize, FlushFault>), Fail> {
     let ticket = submitted_to(rt, flusher, b"a")?;
     Ok((ticket.number(), acknowledged_twice(rt, flusher, ticket)))
@@ -174,7 +176,7 @@ fn own_and_other<R: Wait + AllocGlobal, D: Disk + Drop>(
 
 fn own_and_other_of<R: Wait + AllocGlobal, D: Disk + Drop>(
     rt: &R,
-    flusher: &Flusher<D>,
+    flusher: &FlusherIn<D>,
 ) -> Result<TicketAndTold, Fail> {
     let ticket = submitted_to(rt, flusher, b"a")?;
     let own = acknowledged(rt, rt.alloc(), flusher, b"a", ticket);
@@ -201,7 +203,7 @@ fn told_again<R: Wait + AllocGlobal, D: Disk + Drop>(rt: &R, disk: D) -> Result<
 
 fn told_again_of<R: Wait + AllocGlobal, D: Disk + Drop>(
     rt: &R,
-    flusher: &Flusher<D>,
+    flusher: &FlusherIn<D>,
 ) -> Result<ToldAgain, Fail> {
     let ticket = submitted_to(rt, flusher, b"a")?;
     let first = acknowledged(rt, rt.alloc(), flusher, b"a", ticket);

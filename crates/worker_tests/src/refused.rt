@@ -9,16 +9,16 @@ use crate::fake::{Fake, Notes, TokenEnd};
 use crate::makefiles::Asked;
 use crate::states::{new_store, site_of};
 use crate::way::ALONE;
-use bd_flusher::{Receipt, Site};
+use bd_flusher::{Receipt, SiteIn};
 use bd_links::Node;
-use bd_lists::{Advanced, Board, Clearance, Recipe};
+use bd_lists::{Advanced, BoardIn, Clearance, Recipe};
 use byte_strings::ByteString;
 use jb_recipe::{Ran, Spoken, run_recipe};
 use jb_slots::{Slot, Slots};
 use mk_profile::Profile;
 use mk_recipe::split_line;
 use st_disk::Disk;
-use st_recovery::Store;
+use st_recovery::StoreIn;
 use std::alloc::Global;
 use std::process::Abort;
 use std::sync::Wait;
@@ -33,7 +33,7 @@ const ONE: Asked = Asked {
 const TARGET: &[u8] = b"x";
 
 fn advanced(
-    board: &mut Board<Receipt>,
+    board: &mut BoardIn<Receipt>,
     node: Node,
     receipt: Receipt,
 ) -> Result<Clearance<Receipt>, Fail>
@@ -48,8 +48,8 @@ fn advanced(
 
 fn written<D: Disk + Drop>(
     alloc: Global,
-    board: &mut Board<Receipt>,
-    site: &mut Site<D>,
+    board: &mut BoardIn<Receipt>,
+    site: &mut SiteIn<D>,
 ) -> Result<(), Fail> {
     take_in(alloc, site, board)?;
     flush(alloc, site)?;
@@ -59,8 +59,8 @@ fn written<D: Disk + Drop>(
 fn cleared_by<D: Disk + Drop>(
     alloc: Global,
     target: &[u8],
-    board: &mut Board<Receipt>,
-    site: &mut Site<D>,
+    board: &mut BoardIn<Receipt>,
+    site: &mut SiteIn<D>,
 ) -> Result<Clearance<Receipt>, Fail>
     ensures { IfOk result (λ c. c.told.noted ≡ records.Begun target.now) }
 {
@@ -81,7 +81,7 @@ fn cleared(alloc: Global, target: &[u8]) -> Result<Clearance<Receipt>, Fail>
 fn cleared_over<D: Disk + Drop>(
     alloc: Global,
     target: &[u8],
-    store: Store<D>,
+    store: StoreIn<D>,
 ) -> Result<Clearance<Receipt>, Fail>
     ensures { IfOk result (λ c. c.told.noted ≡ records.Begun target.now) }
 {

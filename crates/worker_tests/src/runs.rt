@@ -4,7 +4,7 @@ use crate::fake::{Fake, Notes, TokenEnd};
 use crate::makefiles::{Asked, graph};
 use crate::states::site_of;
 use crate::way::Way;
-use bd_flusher::Site;
+use bd_flusher::SiteIn;
 use bd_lists::Variable;
 use byte_strings::ByteString;
 use jb_closing::{Closed, Report, RunFault};
@@ -13,8 +13,8 @@ use jb_runner::run;
 use mk_nodes::Graph;
 use mk_plan::Telling;
 use st_disk::Disk;
-use st_records::HashKey;
-use st_recovery::Store;
+use st_records::{Form, HashKey};
+use st_recovery::StoreIn;
 use st_state::State;
 use std::alloc::{AllocError, Global};
 use std::sync::Wait;
@@ -83,7 +83,7 @@ type Ended<D> = (Result<Report, RunFault>, Closed<D>);
 fn run_by<R: Threads + Wait + Clock + Sync + Copy, D: Disk + Drop + Send>(
     rt: &R,
     given: Given<'_>,
-    site: Site<D>,
+    site: SiteIn<D>,
     ends: Vec<TokenEnd<'_, R>>,
     fake: &Fake<R>,
 ) -> Ended<D> {
@@ -95,7 +95,7 @@ fn run_by<R: Threads + Wait + Clock + Sync + Copy, D: Disk + Drop + Send>(
 fn run_over<R: Threads + Wait + Clock + Sync + Copy, D: Disk + Drop + Send>(
     rt: &R,
     given: Given<'_>,
-    store: Store<D>,
+    store: StoreIn<D>,
     fake: &Fake<R>,
 ) -> Result<Ended<D>, Fail> {
     let site = site_of(fake.alloc, store)?;
@@ -106,6 +106,7 @@ fn run_over<R: Threads + Wait + Clock + Sync + Copy, D: Disk + Drop + Send>(
 fn conduct(alloc: Global, way: &Way) -> Result<Conduct, AllocError> {
     Ok(Conduct {
         keeps_state: way.keeps_state,
+        form: Form::Plain,
         counts_records: way.keeps_state,
         goes_on: way.goes_on,
         ignores_statuses: false,
@@ -123,7 +124,7 @@ fn made_with<R: Threads + Wait + Clock + Sync + Copy, D: Disk + Drop + Send>(
     alloc: Global,
     given: Given<'_>,
     way: &Way,
-    store: Store<D>,
+    store: StoreIn<D>,
 ) -> Result<Came<D>, Fail> {
     let fake = Fake::new(*rt, alloc, way)?;
     let (report, closed) = run_over(rt, given, store, &fake)?;
@@ -139,7 +140,7 @@ fn made_by<R: Threads + Wait + Clock + Sync + Copy, D: Disk + Drop + Send>(
     alloc: Global,
     graph: &Graph,
     way: &Way,
-    store: Store<D>,
+    store: StoreIn<D>,
 ) -> Result<Came<D>, Fail> {
     let conduct = conduct(alloc, way)?;
     let given = Given {
@@ -156,7 +157,7 @@ pub fn made<R: Threads + Wait + Clock + Sync + Copy, D: Disk + Drop + Send>(
     alloc: Global,
     asked: &Asked,
     way: &Way,
-    store: Store<D>,
+    store: StoreIn<D>,
 ) -> Result<Came<D>, Fail> {
     let graph = graph(alloc, asked, store.state())?;
     made_by(rt, alloc, &graph, way, store)

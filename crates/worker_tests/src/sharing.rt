@@ -3,10 +3,11 @@
 use crate::boards::{acknowledged, board, submitted};
 use crate::makefiles::Asked;
 use crate::states::{opened, site_of};
-use bd_flusher::Flusher;
+use bd_flusher::FlusherIn;
 use bd_ledger::Ticket;
 use st_disk::{DeviceFault, Disk, Which};
 use st_memory::MemDisk;
+use st_records::Form;
 use std::alloc::Global;
 use std::sync::{Mutex, Wait};
 use std::test::Fail;
@@ -109,7 +110,7 @@ fn wait_for_sync<R: Wait + Clock>(rt: &R, gate: &Mutex<Gate>) {
 fn submit_one<R: Wait + Clock, D: Disk + Drop>(
     rt: &R,
     alloc: Global,
-    flusher: &Flusher<D>,
+    flusher: &FlusherIn<D>,
     gate: &Mutex<Gate>,
     target: &[u8],
 ) -> Option<()> {
@@ -122,7 +123,7 @@ fn submit_one<R: Wait + Clock, D: Disk + Drop>(
 fn batch_of<R: Wait + Clock, D: Disk + Drop>(
     rt: &R,
     alloc: Global,
-    flusher: &Flusher<D>,
+    flusher: &FlusherIn<D>,
     target: &[u8],
     ticket: usize,
 ) -> Option<usize> {
@@ -133,7 +134,7 @@ fn batch_of<R: Wait + Clock, D: Disk + Drop>(
 fn three_more<R: Wait + Clock, D: Disk + Drop>(
     rt: &R,
     alloc: Global,
-    flusher: &Flusher<D>,
+    flusher: &FlusherIn<D>,
     gate: &Mutex<Gate>,
 ) -> Option<[usize; 3]> {
     wait_for_sync(rt, gate);
@@ -151,7 +152,7 @@ fn waiting_flusher<'a, R: Wait + Clock>(
     rt: &'a R,
     alloc: Global,
     gate: &'a Mutex<Gate>,
-) -> Result<Flusher<Holding<'a, MemDisk, R>>, Fail> {
+) -> Result<FlusherIn<Holding<'a, MemDisk, R>>, Fail> {
     let disk = Holding {
         inner: MemDisk::new(alloc),
         rt,
@@ -161,7 +162,8 @@ fn waiting_flusher<'a, R: Wait + Clock>(
     let mut store = opened(alloc, disk)?;
     store.log.disk.armed = true;
     let board = board(alloc, &FOUR, store.state())?;
-    Ok(Flusher {
+    Ok(FlusherIn {
+        form: Form::Plain,
         site: Mutex::new(site_of(alloc, store)?),
         board: Mutex::new(board),
     })
@@ -191,7 +193,7 @@ fn shared<R: Threads + Wait + Clock + Sync>(
 fn joined<R: Threads + Wait + Clock + Sync, D: Disk + Drop + Send>(
     rt: &R,
     alloc: Global,
-    flusher: &Flusher<D>,
+    flusher: &FlusherIn<D>,
     gate: &Mutex<Gate>,
 ) -> Option<Batches> {
     let (_node, ticket) = submitted(alloc, &mut flusher.board.lock(rt), b"a")?;

@@ -1,35 +1,35 @@
 //! Stores, and their states as texts.
 
-use bd_flusher::Site;
+use bd_flusher::SiteIn;
 use byte_strings::{ByteString, Iter};
 use st_disk::Disk;
 use st_file::OpenFault;
 use st_memory::MemDisk;
-use st_records::{HashKey, PackedEntry, Phase};
-use st_recovery::{Store, open};
+use st_records::{Form, HashKey, PackedEntry, Phase};
+use st_recovery::{StoreIn, open_in};
 use st_state::{Listed, State};
 use std::alloc::{AllocError, Global};
 use std::test::Fail;
 
 /// The store of a disk.
-pub fn opened<D: Disk + Drop>(alloc: Global, disk: D) -> Result<Store<D>, OpenFault> {
-    match open(alloc, HashKey::fixed(), disk) {
+pub fn opened<D: Disk + Drop>(alloc: Global, disk: D) -> Result<StoreIn<D>, OpenFault> {
+    match open_in(alloc, HashKey::fixed(), Form::Plain, disk) {
         Ok(store) => Ok(store),
         Err((fault, _disk)) => Err(fault),
     }
 }
 
 /// A store on a new disk.
-pub fn new_store(alloc: Global) -> Result<Store<MemDisk>, Fail> {
+pub fn new_store(alloc: Global) -> Result<StoreIn<MemDisk>, Fail> {
     Ok(opened(alloc, MemDisk::new(alloc))?)
 }
 
 /// The site of a store.
-pub fn site_of<D: Disk + Drop>(alloc: Global, store: Store<D>) -> Result<Site<D>, Fail> {
+pub fn site_of<D: Disk + Drop>(alloc: Global, store: StoreIn<D>) -> Result<SiteIn<D>, Fail> {
     if store.is_dead() {
         return Err("the store is dead".into());
     }
-    match Site::new(alloc, store) {
+    match SiteIn::new(alloc, store) {
         Ok(site) => Ok(site),
         Err((fault, _store)) => Err(fault.into()),
     }

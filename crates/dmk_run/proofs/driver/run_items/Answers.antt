@@ -3,7 +3,7 @@ use Rattle.std.specs.Prelude.{unwrap_or}
 use Rattle.st_memory.specs.MemDisk.{memory_bytes, memory_moments}
 use Rattle.st_disk.specs.Moments.{now}
 use Rattle.mk_rule_lines.proofs.ResultLemmas.{if_ok}
-use Rattle.dmk_reading.specs.Keeping.{keeps}
+use Rattle.dmk_reading.specs.Keeping.{keeps, kept_form}
 use Rattle.dmk_reading.proofs.AllowedLemmas.{each_ok}
 use Rattle.dmk_run.specs.Behind.{none_tried}
 use Rattle.dmk_run.specs.Made.{MakesItems, tried_in}
@@ -38,4 +38,4 @@ returns-clause-makes g c =
     (if_ok c.run_over-found.result.0 _ _ (λ s made. made looks may) c.run_over-found.ensures.makes))
 
 pub returns-clause-parted : goal.returns-clause-parted
-returns-clause-parted g c = same_as_before g.D.Disk.honest (λ d. g.D.Disk.seen d) c.args.disk c.args.disk c.run_over-found.result.0 refl
+returns-clause-parted g c = same_as_before (kept_form c.args.goals.profile) g.D.Disk.honest (λ d. g.D.Disk.seen d) c.args.disk c.args.disk c.run_over-found.result.0 refl

@@ -1,9 +1,12 @@
 use Rattle.std.proofs.Common.{◌∙◌, refl, sym, subst, IfOk}
 use Rattle.mk_rule_lines.proofs.ResultLemmas.{if_ok}
 use Rattle.st_disk.specs.Moments.{now}
+use Rattle.mk_profile.specs.declared.profile.Profile.{Profile}
+use Rattle.dmk_reading.specs.Keeping.{kept_form}
 use Rattle.dmk_run.specs.Behind.{none_tried}
 use Rattle.dmk_run.specs.InTurn.{MakesPart, AreParts}
 use Rattle.dmk_run.specs.Made.{AddsTried}
+use Rattle.dmk_run.specs.Opened.{RecoversAsBefore}
 use Rattle.dmk_run.proofs.InTurnLemmas.{alone, with_lost, in_parts_over, made_before, before_of, leaves_both, passed_on, part_leaves, part_makes}
 use Rattle.dmk_run.proofs.in_turn.made_whole.Goals as goal
 
@@ -63,7 +66,8 @@ returns-in-Ok-in_parts-clause-in_turn g c =
     (λ names. (c.made_in_turn.result.1, names)) c.made_in_turn.result.0 (subst (AreParts c.args.options.now.targets) (sym c.deref-in-Ok-in_parts.ensures.value) c.in-Ok-in_parts.ensures)
     (made_before (λ source world. g.I.Includes.allows source world) (λ tree looks. g.T.Tree.allows tree looks) c.args.means.now.environment.now c.args.options.now
     g.D.Disk.honest (λ d. g.D.Disk.seen d) (λ d. now (g.D.Disk.moments d)) c.args.disk c.build_at_once-found.result.1
-    (before_of _ c.build_at_once-found.result.0 c.build_at_once-found.ensures.parted c.in-Err-made_or_ends.ensures.parted) none_tried)
+    (subst (λ (p : Profile). RecoversAsBefore (kept_form p) g.D.Disk.honest (g.D.Disk.seen c.args.disk) (g.D.Disk.seen c.build_at_once-found.result.1)) c.in-Ok.ensures.profile
+    (before_of _ c.build_at_once-found.result.0 c.build_at_once-found.ensures.parted c.in-Err-made_or_ends.ensures.parted)) none_tried)
     c.made_in_turn.ensures.in_turn
 
 pub returns-in-Ok-in_parts-clause-untouched : goal.returns-in-Ok-in_parts-clause-untouched

@@ -12,7 +12,7 @@ returns-clause-made g c =
     let log = c.args.log in
     let sides = now (g.D.Disk.moments log.disk) in
     rw c.disk_of-2.ensures
-    (none_made plan.conduct.counts_records plan.conduct.keeps_state plan.graph (recorded_in plan) g.D.Disk.honest sides (c.is_none_to_run.ensures c.if-not-is_none_to_run.false)
+    (none_made plan.conduct.form plan.conduct.counts_records plan.conduct.keeps_state plan.graph (recorded_in plan) g.D.Disk.honest sides (c.is_none_to_run.ensures c.if-not-is_none_to_run.false)
     (λ honest. all_recover log.side sides (c.requires.stored honest c.requires.alive)) c.with_unmade-status.result c.with_unmade-status.ensures.status
     (tried_in c.nothing-2.result) c.nothing-2.ensures)
 

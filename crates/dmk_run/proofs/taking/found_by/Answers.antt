@@ -4,10 +4,10 @@ use Rattle.dmk_run.proofs.TakingLemmas.{not_run}
 use Rattle.dmk_run.proofs.taking.found_by.Goals as goal
 
 pub returns-in-Remade : goal.returns-in-Remade
-returns-in-Remade c = λ passes. not_run c.args.graph.now c.args.marks.now c.args.node c.args.passed.now passed.Remade c.in-Remade.is refl passes
+returns-in-Remade c = λ passes. not_run c.args.form c.args.graph.now c.args.marks.now c.args.node c.args.passed.now passed.Remade c.in-Remade.is refl passes
 
 pub returns-in-UpToDate : goal.returns-in-UpToDate
-returns-in-UpToDate c = λ passes. not_run c.args.graph.now c.args.marks.now c.args.node c.args.passed.now passed.UpToDate c.in-UpToDate.is refl passes
+returns-in-UpToDate c = λ passes. not_run c.args.form c.args.graph.now c.args.marks.now c.args.node c.args.passed.now passed.UpToDate c.in-UpToDate.is refl passes
 
 pub returns-in-Left : goal.returns-in-Left
-returns-in-Left c = λ passes. not_run c.args.graph.now c.args.marks.now c.args.node c.args.passed.now passed.Left c.in-Left.is refl passes
+returns-in-Left c = λ passes. not_run c.args.form c.args.graph.now c.args.marks.now c.args.node c.args.passed.now passed.Left c.in-Left.is refl passes

@@ -5,5 +5,5 @@ use Rattle.dmk_run.proofs.taking.take.Goals as goal
 pub returns-in-Err : goal.returns-in-Err
 returns-in-Err c =
     if_ok c.found_faulty.result _ _
-    (λ found is. faulty_taken c.args.graph.now c.args.marks.now c.args.node c.in-Err.fault found.is_remade found.note c.in-Err.ensures.fault is)
+    (λ found is. faulty_taken c.args.form c.args.graph.now c.args.marks.now c.args.node c.in-Err.fault found.is_remade found.note c.in-Err.ensures.fault is)
     c.found_faulty.ensures

@@ -10,7 +10,7 @@ pub returns-in_err-records-clause-any_moment : goal.returns-in_err-records-claus
 returns-in_err-records-clause-any_moment g c = λ honest.
     let store = c.args.store.now in
     let moments = g.D.Disk.moments store.log.disk in
-    none_taken c.args.graph.now store.state (started moments (all_recover store.log.side (now moments) (store.stored honest c.requires.alive)))
+    none_taken c.args.store.now.newest c.args.graph.now store.state (started moments (all_recover store.log.side (now moments) (store.stored honest c.requires.alive)))
 
 pub commit-requires-clause-good : goal.commit-requires-clause-good
 commit-requires-clause-good g c = rw c.deref.ensures.value (taken_good c.in_ok-records.ensures)
@@ -20,10 +20,10 @@ commit-requires-clause-later g c = rw c.deref.ensures.value (taken_stand c.in_ok
 
 pub returns-in-Ok-clause-any_moment : goal.returns-in-Ok-clause-any_moment
 returns-in-Ok-clause-any_moment g c = λ honest.
-    batch_taken c.args.graph.now c.args.store.now.state c.in_ok-records.records.items c.in_ok-records.ensures
+    batch_taken c.args.store.now.newest c.args.graph.now c.args.store.now.state c.in_ok-records.records.items c.in_ok-records.ensures
     (rw c.deref.ensures.value at (c.commit.ensures.any_moment honest c.requires.alive))
 
 pub returns-clause-any_moment : goal.returns-clause-any_moment
 returns-clause-any_moment g c = λ honest.
-    batch_taken c.args.graph.now c.args.store.now.state c.in_ok-records.records.items c.in_ok-records.ensures
+    batch_taken c.args.store.now.newest c.args.graph.now c.args.store.now.state c.in_ok-records.records.items c.in_ok-records.ensures
     (rw c.deref.ensures.value at (c.commit.ensures.any_moment honest c.requires.alive))

@@ -14,7 +14,7 @@ returns-then-knows_any-clause-any_moment g c = λ honest looks may.
     let store = c.args.store.now in
     let moments = g.D.Disk.moments store.log.disk in
     let wanted = IsWholeGraphOf c.args.options.now.profile c.args.options.now.definitions.items c.args.environment.now c.args.options.now.targets looks c.args.items.items map.empty in
-    without_calls wanted store.state (started moments (all_recover store.log.side (now moments) (store.stored honest c.requires)))
+    without_calls store.newest wanted store.state (started moments (all_recover store.log.side (now moments) (store.stored honest c.requires)))
 
 pub returns-then-knows_any-clause-recovers : goal.returns-then-knows_any-clause-recovers
 returns-then-knows_any-clause-recovers g c = λ honest.
@@ -31,7 +31,7 @@ returns-in_err-graph-clause-any_moment g c = λ honest looks may.
     let store = c.args.store.now in
     let moments = g.D.Disk.moments store.log.disk in
     let wanted = IsWholeGraphOf c.args.options.now.profile c.args.options.now.definitions.items c.args.environment.now c.args.options.now.targets looks c.args.items.items map.empty in
-    without_calls wanted store.state (started moments (all_recover store.log.side (now moments) (store.stored honest c.requires)))
+    without_calls store.newest wanted store.state (started moments (all_recover store.log.side (now moments) (store.stored honest c.requires)))
 
 pub record_taken-taken-requires-clause-order : goal.record_taken-taken-requires-clause-order
 record_taken-taken-requires-clause-order g c =
@@ -45,7 +45,7 @@ returns-in_err-count-clause-any_moment g c = λ honest looks may.
     let options = c.args.options.now in
     let graph = c.in_ok-graph.graph in
     let none = sym c.state.ensures ∙ c.knows_any.ensures.no c.if-knows_any.false in
-    over_graph (IsWholeGraphOf options.profile options.definitions.items c.args.environment.now options.targets looks c.args.items.items map.empty)
+    over_graph store.newest (IsWholeGraphOf options.profile options.definitions.items c.args.environment.now options.targets looks c.args.items.items map.empty)
     graph store.state none
     (subst (λ m. IsWholeGraphOf options.profile options.definitions.items c.args.environment.now options.targets looks c.args.items.items m graph)
     (c.state-2.ensures ∙ none) (as_whole (c.in_ok-graph.ensures.graph looks may) c.in_ok-graph.ensures.made))
@@ -57,7 +57,7 @@ returns-clause-any_moment g c = λ honest looks may.
     let options = c.args.options.now in
     let graph = c.in_ok-graph.graph in
     let none = sym c.state.ensures ∙ c.knows_any.ensures.no c.if-knows_any.false in
-    over_graph (IsWholeGraphOf options.profile options.definitions.items c.args.environment.now options.targets looks c.args.items.items map.empty)
+    over_graph store.newest (IsWholeGraphOf options.profile options.definitions.items c.args.environment.now options.targets looks c.args.items.items map.empty)
     graph store.state none
     (subst (λ m. IsWholeGraphOf options.profile options.definitions.items c.args.environment.now options.targets looks c.args.items.items m graph)
     (c.state-2.ensures ∙ none) (as_whole (c.in_ok-graph.ensures.graph looks may) c.in_ok-graph.ensures.made))
@@ -71,7 +71,7 @@ returns-clause-left g c = λ looks may.
     let none = sym c.state.ensures ∙ c.knows_any.ensures.no c.if-knows_any.false in
     let (taken, are, is, counted) = c.in_ok-count.ensures.taken in (
       none,
-      of_taken (IsWholeGraphOf options.profile options.definitions.items c.args.environment.now options.targets looks c.args.items.items map.empty)
+      of_taken store.newest (IsWholeGraphOf options.profile options.definitions.items c.args.environment.now options.targets looks c.args.items.items map.empty)
           graph store.state c.record_taken-taken.new.store.state taken c.in_ok-count.count none
           (subst (λ m. IsWholeGraphOf options.profile options.definitions.items c.args.environment.now options.targets looks c.args.items.items m graph)
           (c.state-2.ensures ∙ none) (as_whole (c.in_ok-graph.ensures.graph looks may) c.in_ok-graph.ensures.made))

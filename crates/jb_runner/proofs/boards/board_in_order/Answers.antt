@@ -1,7 +1,7 @@
 use Rattle.std.proofs.Common.{◌≡◌, ℕ, false, List, length, sym, ap, subst, ◌∙◌, rules, arith}
 use Rattle.std.proofs.lemmas.Result.{IfOk-weaker}
 use Rattle.mk_graph.specs.Counted.{AreSets, joined}
-use Rattle.bd_ledger.specs.Sheet.{AreDistinct, first_sheet}
+use Rattle.bd_ledger.specs.Sheet.{AreDistinct, first_sheet_in}
 use Rattle.bd_lists.proofs.OnceLemmas.{times_once}
 use Rattle.mk_nodes.specs.Graph.{required_in}
 use Rattle.mk_graph.proofs.JoinLemmas.{length-joined}
@@ -43,8 +43,8 @@ returns c =
     let required : c.required_edges-required.result.now ≡ required_in graph = c.required_edges-required.ensures in
     let sets : AreSets (joined (required_in graph) more) counted = subst (λ (r : List (List ℕ)). AreSets (joined r more) counted) required c.in_ok-counted.ensures in
     IfOk-weaker c.of.result
-    (λ b. b ≡ first_sheet (record { counted = counted; hard = hard }) names)
+    (λ b. b ≡ first_sheet_in c.args.form (record { counted = counted; hard = hard }) names)
     (λ b. (more counted : List (List ℕ)) × (graph.soft_dropped ≡ false → HasAlso graph.soft more) × AreSets (joined (required_in graph) more) counted
-    × (b ≡ first_sheet (record { counted = counted; hard = required_in graph }) graph.names))
-    (λ b is. (more, counted, c.in_ok-more.ensures.also, sets, is ∙ same_board counted hard (required_in graph) names graph.names (c.in_ok-hard.ensures ∙ required) c.in_ok-names.ensures))
+    × (b ≡ first_sheet_in c.args.form (record { counted = counted; hard = required_in graph }) graph.names))
+    (λ b is. (more, counted, c.in_ok-more.ensures.also, sets, is ∙ same_board c.args.form counted hard (required_in graph) names graph.names (c.in_ok-hard.ensures ∙ required) c.in_ok-names.ensures))
     c.of.ensures

@@ -1,7 +1,7 @@
 use Rattle.std.proofs.Common.{◌≡◌, ℕ, List, length, sym, ap, subst, ◌∙◌, rules, arith}
 use Rattle.std.proofs.lemmas.Result.{IfOk-weaker}
 use Rattle.mk_graph.specs.Counted.{AreSets}
-use Rattle.bd_ledger.specs.Sheet.{AreDistinct, first_sheet}
+use Rattle.bd_ledger.specs.Sheet.{AreDistinct, first_sheet_in}
 use Rattle.bd_lists.proofs.OnceLemmas.{times_once}
 use Rattle.mk_nodes.specs.Graph.{required_in, counting_in}
 use Rattle.mk_graph.proofs.CountedLemmas.{length-counting}
@@ -41,7 +41,7 @@ returns c =
     let hard : List (List ℕ) = c.in_ok-hard.hard in
     let names : List (List ℕ) = c.in_ok-names.names.items in
     IfOk-weaker c.of.result
-    (λ b. b ≡ first_sheet (record { counted = counted; hard = hard }) names)
-    (λ b. (counted : List (List ℕ)) × AreSets (counting_in graph) counted × (b ≡ first_sheet (record { counted = counted; hard = required_in graph }) graph.names))
-    (λ b is. (counted, c.in_ok-counted.ensures, is ∙ same_board counted hard (required_in graph) names graph.names (c.in_ok-hard.ensures ∙ c.required_edges.ensures) c.in_ok-names.ensures))
+    (λ b. b ≡ first_sheet_in c.args.form (record { counted = counted; hard = hard }) names)
+    (λ b. (counted : List (List ℕ)) × AreSets (counting_in graph) counted × (b ≡ first_sheet_in c.args.form (record { counted = counted; hard = required_in graph }) graph.names))
+    (λ b is. (counted, c.in_ok-counted.ensures, is ∙ same_board c.args.form counted hard (required_in graph) names graph.names (c.in_ok-hard.ensures ∙ c.required_edges.ensures) c.in_ok-names.ensures))
     c.of.ensures
