@@ -33,6 +33,8 @@ WAITING_EXPORTS = {
     # What stands in front of the shell once the program's borrows let it.
     "dmk_printing": {"Lending"},
     "jb_flags": {"Jobs", "jobs_of", "push_quoted"},
+    # What jb_recipe is to look by.
+    "jb_marks": {"Before", "Earlier", "Known", "Left", "MemorySights", "Names", "Placed", "Recorded", "Sight", "Sights", "is_same", "look_behind"},
     "jb_slots": {"Fifo", "FifoBank", "dry"},
     "mk_conditionals": {"BodyLine", "DirectiveLine", "Reading", "body_line"},
     "mk_eval": {"MAX_INCLUDE_DEPTH"},

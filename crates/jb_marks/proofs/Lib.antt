@@ -1,0 +1,5 @@
+pub mod EachLemmas
+pub mod SameLemmas
+pub mod MarkLemmas
+pub mod DoneLemmas
+pub mod FindLemmas

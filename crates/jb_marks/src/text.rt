@@ -1,0 +1,34 @@
+//! The text of marks, where there is one.
+ghost use Rattle.std.specs.Prelude.{◌≡◌, true, false, ◌↔◌, ◌<◌, ◌^◌, ℕ, List, IsTrue, IfOk, IfSome, IfNone, length};
+ghost use Rattle.std.specs.Option.{option_copied};
+ghost use Rattle.st_marks.specs.Encoding.{FitsSource, IsText};
+
+use st_marks::{Mark, write_marks};
+use std::alloc::{AllocError, Global};
+
+/// A text has four bytes for the length of a name, and for how many marks there are.
+const LIMIT: usize = 1 << 32;
+
+fn fits_source(source: Option<&[u8]>) -> bool
+    ensures { IsTrue result ↔ FitsSource (option_copied source.entry) }
+{
+    match source {
+        Some(name) => name.len() < LIMIT,
+        None => true,
+    }
+}
+
+/// The text of these marks, of a target that has this source or none; None where no text can say them.
+pub(crate) fn text_of(
+    alloc: Global,
+    source: Option<&[u8]>,
+    marks: &[Mark],
+) -> Result<Option<Vec<u8>>, AllocError>
+    ensures some { IfOk result (λ text. IfSome text (λ t. IsText (option_copied source.entry) marks.now t.items)) }
+    ensures none { IfOk result (λ text. IfNone text ((t : List ℕ) → IsText (option_copied source.entry) marks.now t → ⊥)) }
+{
+    if !fits_source(source) || marks.len() >= LIMIT {
+        return Ok(None);
+    }
+    Ok(Some(write_marks(alloc, source, marks)?))
+}
