@@ -1,5 +1,5 @@
 -- The targets of a state, and what is told of one.
-use Rattle.std.specs.Prelude.{ℕ, Bool, List, [], ◌++◌, Option, None, Some, codes, is_some}
+use Rattle.std.specs.Prelude.{ℕ, Bool, List, [], ◌++◌, Option, None, Some, codes, is_some, map as list_map}
 use Rattle.std.specs.List.{flat_map}
 use Rattle.std.specs.FinMap as map
 use Rattle.st_records.specs.Parts.{names_known}
@@ -18,6 +18,10 @@ phase_word (phases.Failed status) = codes "failed"
 -- a name with how far its recipe came
 abbrev pub target_row : List ℕ × Entry → List ℕ
 target_row e = row (phase_word e.1.phase) e.0
+
+-- the names of the targets of a state, in byte order (own)
+abbrev pub target_names : StateMap → List (List ℕ)
+target_names m = list_map (λ e. e.0) (map.entries m)
 
 -- each target of a state, in byte order of the names (own)
 abbrev pub targets_text : StateMap → List ℕ

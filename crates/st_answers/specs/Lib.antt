@@ -8,3 +8,7 @@ pub mod Marks
 pub mod Users
 -- commands with the sources that they name
 pub mod Compilations
+-- names that are reached from others
+pub mod Reached
+-- the prerequisites of names, and the edges that are drawn of them
+pub mod Graph

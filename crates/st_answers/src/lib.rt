@@ -2,6 +2,7 @@
 #![tactic(auto)]
 
 mod compiling;
+mod drawing;
 mod line_text;
 mod of_marks;
 mod of_names;
@@ -9,5 +10,6 @@ mod of_targets;
 mod sources;
 
 pub use compiling::{Compilation, compilations};
-pub use of_names::query;
+pub use drawing::{Edge, Extent, edges_drawn, names_drawn, target_names};
+pub use of_names::{is_known, query};
 pub use of_targets::{commands, hidden, targets};

@@ -37,6 +37,14 @@ pub fn query(
     Ok(true)
 }
 
+/// Whether the state has a name, as a target or as what one was made of.
+pub fn is_known(state: &State, named: &Listed<'_>, name: &[u8]) -> bool
+    requires { named.now ≡ map.entries state.now }
+    ensures { result ≡ has_name state.now name.now }
+{
+    has_name(named, name, state.get(name))
+}
+
 fn has_name(named: &Listed<'_>, name: &[u8], known: Option<&PackedEntry>) -> bool
     ensures { result ≡ (is_some (option_copied known.entry) || list_any (stands_on name.now) named.now) }
 {
