@@ -5,16 +5,19 @@ _dmk_tool() {
     for ((at = 1; at < COMP_CWORD; at++)); do
         case ${COMP_WORDS[at]} in
             --state) state=${COMP_WORDS[++at]} ;;
+            --depth) ((at++)) ;;
             -*) ;;
             *) question=${question:-${COMP_WORDS[at]}} ;;
         esac
     done
     case $before,$word,$question in
         --state,*) mapfile -t COMPREPLY < <(compgen -f -- "$word") ;;
+        --depth,*) ;;
         *,-*,compdb) mapfile -t COMPREPLY < <(compgen -W '--all --state --help' -- "$word") ;;
+        *,-*,graph) mapfile -t COMPREPLY < <(compgen -W '--depth --hidden --state --help' -- "$word") ;;
         *,-*,*) mapfile -t COMPREPLY < <(compgen -W '--state --help --version' -- "$word") ;;
-        *,) mapfile -t COMPREPLY < <(compgen -W 'targets commands hidden query compdb help' -- "$word") ;;
-        *,commands | *,hidden | *,query)
+        *,) mapfile -t COMPREPLY < <(compgen -W 'targets commands hidden query compdb graph help' -- "$word") ;;
+        *,commands | *,hidden | *,query | *,graph)
             mapfile -t COMPREPLY < <(dmk_tool targets --state "$state" 2>/dev/null | cut -f 2- | grep "^$word") ;;
     esac
 }

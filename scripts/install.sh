@@ -63,6 +63,7 @@ placed() {
     echo "share/bash-completion/completions/dmk 644 completions/dmk.bash"
     echo "share/bash-completion/completions/dmk_tool 644 completions/dmk_tool.bash"
     echo "share/zsh/site-functions/_dmk 644 completions/_dmk"
+    echo "share/zsh/site-functions/_dmk_tool 644 completions/_dmk_tool"
     # What git doesn't know, as what an example has made, is no document. A tarball has no git, and all of it counts.
     local -a parts=(README.md CHANGELOG.md CONTRIBUTING.md docs examples crates/*/GUARANTEES.md cases/*/README.md)
     { git ls-files "${parts[@]}" 2>/dev/null | grep . || find "${parts[@]}" -type f 2>/dev/null; } |

@@ -1,4 +1,4 @@
-"""Reads a state beside runs that write it: `dmk -n`, `dmk_state` and `dmk_tool targets` in turn, while dmk makes 1,000 targets over
+"""Reads a state beside runs that write it: `dmk -n`, `dmk_state`, `dmk_tool targets` and `graph` in turn, while dmk makes 1,000 targets over
 a state that grows until it is compacted. Each answer must be that of a state that was: no fault and no note, and each target that
 was done at an earlier answer of the same build still done.
 
@@ -55,6 +55,19 @@ def done_by_answer(answer):
     return {name for phase, name in rows if phase == "done"}
 
 
+def done_by_graph(answer):
+    """The targets that `dmk_tool graph` draws as done; None where the answer is none of a state."""
+    if answer.returncode != 0 or answer.stderr:
+        return None
+    lines = answer.stdout.splitlines()
+    if lines[:3] != ['digraph ".make.state" {', "rankdir=LR", "node [shape=box]"] or lines[-1] != "}":
+        return None
+    nodes = [line.split(" ", 1) for line in lines[3:-1]]
+    if any(node[1:] not in ([], ["[color=orange]"]) for node in nodes):
+        return None
+    return {node[0].strip('"') for node in nodes if len(node) == 1}
+
+
 def done_by_plan(answer):
     """The targets that `dmk -n` doesn't list; None where the answer is none of a state."""
     if answer.returncode != 0 or answer.stderr:
@@ -89,7 +102,7 @@ def sides(folder):
 def main():
     answers = int(sys.argv[1]) if len(sys.argv) > 1 else 200
     readers = [((str(DMK), "-n"), done_by_plan), ((str(LISTER),), done_by_listing),
-               ((str(TOOL), "targets"), done_by_answer)]
+               ((str(TOOL), "targets"), done_by_answer), ((str(TOOL), "graph"), done_by_graph)]
     right, wrong, compactions = 0, [], 0
     with tempfile.TemporaryDirectory() as work:
         rounds = 0

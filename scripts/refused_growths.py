@@ -135,6 +135,7 @@ SWEEPS = [
     ("dmk_state", "a listing", listing_refused, STATE, [LISTER]),
     ("dmk_tool", "a query", listing_refused, STATE, [TOOL, "query", "t1.h"]),
     ("dmk_tool", "a database", listing_refused, STATE, [TOOL, "compdb"]),
+    ("dmk_tool", "a graph", listing_refused, STATE, [TOOL, "graph", "--hidden"]),
 ]
 
 

@@ -2,6 +2,7 @@
 
 ghost use Rattle.std.specs.Prelude.{◌≡◌, ◌⊎◌};
 
+use crate::drawing::{MAX_NAMES, drawing_of};
 use crate::json::database;
 use crate::request::{Asked, Question, Topic};
 use crate::streams::{tell, tell_of};
@@ -13,8 +14,8 @@ use st_programs::{Message, Refusal, read_state, standard_output};
 use st_records::HashKey;
 use st_state::State;
 use std::alloc::AllocError;
-use std::env;
 use std::io::Write;
+use std::{env, fmt};
 
 /// Why there is no answer, or not a whole one.
 #[derive(Clone, Copy)]
@@ -23,6 +24,24 @@ pub enum Fault {
     /// The working folder has no name, or one that isn't UTF-8.
     NoFolder,
     Write,
+    /// So many names would be drawn, and nothing was given that makes them fewer.
+    TooMany(usize),
+}
+
+/// The refusal of a graph, as the user reads it.
+#[derive(Clone, Copy)]
+struct TooMany {
+    names: usize,
+}
+
+impl fmt::Display for TooMany {
+    fn fmt<W: fmt::Write>(&self, f: &mut fmt::Formatter<W>) -> fmt::Result {
+        let names = self.names;
+        write!(
+            f,
+            "{names} names are too many for one graph ({MAX_NAMES} at most): name targets, or give --depth N"
+        )
+    }
 }
 
 impl From<AllocError> for Fault {
@@ -41,7 +60,7 @@ pub fn answer(rt: HostRuntime, asked: &Asked) -> u8
         Ok(state) => state,
         Err(refusal) => return refuse(rt, file, refusal),
     };
-    match write_answer(rt, &state, &asked.question) {
+    match write_answer(rt, file, &state, &asked.question) {
         Ok(true) => 0,
         Ok(false) => 1,
         Err(fault) => tell_fault(rt, file, fault),
@@ -70,8 +89,14 @@ fn tell_fault(rt: HostRuntime, file: &str, fault: Fault) -> u8
         Fault::OutOfMemory => tell_list_fault(rt, file, ListFault::Open(OpenFault::OutOfMemory)),
         Fault::Write => tell_list_fault(rt, file, ListFault::Write),
         Fault::NoFolder => tell(rt, "", &"the working folder has no name that is UTF-8"),
+        Fault::TooMany(names) => tell_too_many(rt, names),
     }
     2
+}
+
+fn tell_too_many(rt: HostRuntime, names: usize) {
+    let text = TooMany { names };
+    tell(rt, "", &text);
 }
 
 fn tell_list_fault(rt: HostRuntime, file: &str, fault: ListFault) {
@@ -80,12 +105,18 @@ fn tell_list_fault(rt: HostRuntime, file: &str, fault: ListFault) {
 }
 
 /// Writes the answer, and tells whether the state has all the names.
-fn write_answer(rt: HostRuntime, state: &State, question: &Question) -> Result<bool, Fault> {
+fn write_answer(
+    rt: HostRuntime,
+    file: &str,
+    state: &State,
+    question: &Question,
+) -> Result<bool, Fault> {
     let alloc = rt.alloc();
     let (text, found) = match question {
         Question::Targets => (targets(alloc, state)?, true),
         Question::Names(topic, names) => of_names(rt, state, *topic, names.as_slice())?,
         Question::Database { all } => (database_of(rt, state, *all)?, true),
+        Question::Graph(names, extent) => drawing_of(rt, file, state, names.as_slice(), *extent)?,
     };
     let mut out = standard_output(rt);
     if out.write_all(text.as_slice()).is_err() || out.flush().is_err() {

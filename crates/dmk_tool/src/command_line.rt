@@ -4,6 +4,7 @@ use crate::request::{Asked, Question, Request, Topic, WordsFault};
 use crate::words::{Words, is_text};
 use clap::error::ErrorKind;
 use clap::{Arg, ArgAction, ArgMatches, Command};
+use st_answers::Extent;
 use std::alloc::{AllocError, Global};
 
 const DEFAULT_FILE: &str = ".make.state";
@@ -75,7 +76,8 @@ fn program<'a>(alloc: Global) -> Result<Command<'a>, AllocError> {
             "Prints what names were made of, and what was made of them",
         ),
     )?;
-    with(command, compdb(alloc))
+    let command = with(command, compdb(alloc))?;
+    with(command, graph(alloc))
 }
 
 // The command with this one of its own, if there was memory for it.
@@ -118,6 +120,34 @@ fn compdb<'a>(alloc: Global) -> Result<Command<'a>, AllocError> {
         .arg(all)
 }
 
+fn graph<'a>(alloc: Global) -> Result<Command<'a>, AllocError> {
+    let command = Command::new(alloc, "graph").about(
+        "Prints what targets, or all, were made of as a graph in the language of Graphviz' dot",
+    );
+    let command = command.arg(depth(alloc))?;
+    let command = command.arg(counts_hidden(alloc))?;
+    let names = Arg::new(alloc, "TARGET")
+        .num_args(0..)
+        .action(ArgAction::Append);
+    command.arg(names)
+}
+
+fn depth<'a>(alloc: Global) -> Arg<'a> {
+    Arg::new(alloc, "depth")
+        .long("depth")
+        .value_name("N")
+        .help("Names that are no more than N edges away alone")
+        .value_parser(clap::value_parser!(u32))
+        .action(ArgAction::Set)
+}
+
+fn counts_hidden<'a>(alloc: Global) -> Arg<'a> {
+    Arg::new(alloc, "hidden")
+        .long("hidden")
+        .help("Hidden prerequisites too, with dashed edges")
+        .action(ArgAction::SetTrue)
+}
+
 fn of_names<'a>(alloc: Global, name: &'a str, about: &'a str) -> Result<Command<'a>, AllocError> {
     let names = Arg::new(alloc, "TARGET")
         .required(true)
@@ -150,17 +180,40 @@ fn question_of(
         "commands" => Topic::Commands,
         "hidden" => Topic::Hidden,
         "query" => Topic::Everything,
+        "graph" => {
+            let extent = extent_of(found);
+            return Ok(Question::Graph(names_in(alloc, words, found)?, extent));
+        }
         _ => {
             return Ok(Question::Database {
                 all: found.get_flag("all"),
             });
         }
     };
+    Ok(Question::Names(topic, names_in(alloc, words, found)?))
+}
+
+fn extent_of(found: &ArgMatches<'_>) -> Extent {
+    let depth = match found.get_str("depth") {
+        Some(depth) => depth.parse::<usize>().ok(),
+        None => None,
+    };
+    Extent {
+        depth,
+        hidden: found.get_flag("hidden"),
+    }
+}
+
+fn names_in(
+    alloc: Global,
+    words: &Words,
+    found: &ArgMatches<'_>,
+) -> Result<Vec<Vec<u8>>, AllocError> {
     let mut names = Vec::new(alloc);
     if let Some(texts) = found.get_strs("TARGET") {
         for text in texts {
             names.push(Vec::from_slice(alloc, words.named(*text))?)?;
         }
     }
-    Ok(Question::Names(topic, names))
+    Ok(names)
 }

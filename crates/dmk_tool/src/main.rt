@@ -3,6 +3,8 @@
 
 mod answers;
 mod command_line;
+mod dot;
+mod drawing;
 mod json;
 mod request;
 mod streams;

@@ -1,5 +1,6 @@
 //! What the words ask for.
 
+use st_answers::Extent;
 use std::alloc::{AllocError, AllocFailed};
 use thiserror::Error;
 
@@ -12,6 +13,8 @@ pub enum Question {
     Names(Topic, Vec<Vec<u8>>),
     /// A compilation database, with each command where `all` are wanted.
     Database { all: bool },
+    /// What is drawn from these names, or from all targets where there are none.
+    Graph(Vec<Vec<u8>>, Extent),
 }
 
 /// What is asked of a name.
