@@ -10,6 +10,7 @@ add_rows cases/words
 refuses 'another answer' $'row r\nwords a > 2\n'
 refuses 'a call that is not known' $'row r\nwordy a > 1\n'
 refuses 'a call with an argument too many' $'row r\nstrip a b > a\n'
+refuses 'another name of a depfile' $'row r\ndepfile a:\\20b > a\n'
 refuses 'bytes of one digit' $'row r\nstrip \\0 > a\n'
 refuses 'a setup, of which there is none' $'row r\nnode a:\nstrip a > a\n'
 tell_counts

@@ -1,5 +1,6 @@
 //! The functions, by the names that GNU make has for them.
 use crate::conditionals::say_taken;
+use crate::depfiles::{say_names, say_place};
 use mk_words::{
     NumberFault, add_prefix, add_suffix, basename, dir, filter, filter_out, find_string,
     first_word, join, last_word, notdir, patsubst, sort, strip, subst, suffix, word, word_count,
@@ -114,6 +115,15 @@ impl World for Functions {
             "lines" => {
                 let text = argument(alloc, words)?;
                 say_taken(alloc, text.as_slice(), out)?;
+            }
+            "depfile" => {
+                let text = argument(alloc, words)?;
+                say_names(alloc, text.as_slice(), out)?;
+            }
+            "depfile-of" => {
+                let pattern = argument(alloc, words)?;
+                let target = argument(alloc, words)?;
+                say_place(alloc, pattern.as_slice(), target.as_slice(), out)?;
             }
             "words" => {
                 let text = argument(alloc, words)?;
