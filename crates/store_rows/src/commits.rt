@@ -19,7 +19,10 @@ pub(crate) fn disk_over(rt: HostRuntime, file: &str) -> Result<FileDisk<SystemFo
 pub(crate) fn opened<D: Disk + Drop>(alloc: Global, disk: D) -> anyhow::Result<Store<D>> {
     match held::opened(alloc, disk) {
         Ok(store) => Ok(store),
-        Err((fault, _disk)) => Err(fault.into()),
+        Err((fault, disk)) => {
+            drop(disk);
+            Err(fault.into())
+        }
     }
 }
 
@@ -46,7 +49,9 @@ fn commit_to_disk<D: Disk + Drop>(
     target: ByteString,
 ) -> anyhow::Result<()> {
     let mut store = opened(alloc, disk)?;
-    commit_to(alloc, &mut store, target)
+    let committed = commit_to(alloc, &mut store, target);
+    drop(store);
+    committed
 }
 
 fn commit_to<D: Disk + Drop>(

@@ -6,8 +6,8 @@ use crate::system_calls::say_system;
 use crate::times::{commits_in_files, commits_in_memory, compaction_in_files};
 use row_files::RowFault;
 use st_disk::{Disk, FileDisk, SystemFolder};
+use std::fs;
 use std::process::ExitCode;
-use std::{fs, io};
 
 /// Answers `file ..`, `system ..`, `keys ..`, `commit ..` or `time ..`: the first word, and those behind it.
 pub fn call(rt: HostRuntime, name: &str, words: &[String]) -> anyhow::Result<ExitCode> {
@@ -116,14 +116,14 @@ fn say_call<D: Disk>(
     word: &str,
 ) -> Result<(), RowFault> {
     if word == "-" {
-        return made_meanwhile(fs::remove_file(&rt, file));
+        return is_made(fs::remove_file(&rt, file).is_ok());
     }
     match word.strip_prefix('=') {
-        Some(text) => made_meanwhile(fs::write(&rt, file, text)),
+        Some(text) => is_made(fs::write(&rt, file, text).is_ok()),
         None => make_call(said, disk, word),
     }
 }
 
-fn made_meanwhile(made: io::Result<()>) -> Result<(), RowFault> {
-    made.map_err(|_| RowFault::Word)
+fn is_made(is_made: bool) -> Result<(), RowFault> {
+    if is_made { Ok(()) } else { Err(RowFault::Word) }
 }

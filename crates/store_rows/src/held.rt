@@ -7,7 +7,7 @@ ghost use Rattle.st_records.specs.Limits.{IsGood, SaysExplicit};
 ghost use Rattle.st_records.specs.Parts.{status_of};
 ghost use Rattle.st_file.specs.Batch.{may_stand};
 
-use crate::notation::records_of;
+use record_rows::records_of;
 use row_files::RowFault;
 use st_compaction::compact;
 use st_disk::Disk;

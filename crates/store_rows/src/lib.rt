@@ -1,21 +1,18 @@
-//! Calls the state file's crates as the rows of a text say, and tells which answers differ; and calls of files of this machine.
+//! Calls disks, stores and, by `record_rows`, records and states as the rows of a text say, and tells which answers differ;
+//! and calls of files of this machine.
 //!
 //! cases/store/README.md has the language of rows.
 #![tactic(auto)]
 
-mod byte_calls;
 mod commits;
 mod disks;
 mod file_calls;
 mod folders;
 mod held;
 mod keys;
-mod notation;
 mod power_cuts;
 mod script;
-mod shown;
 mod sides;
-mod state_calls;
 mod store_calls;
 mod sweeps;
 mod system_calls;

@@ -1,6 +1,6 @@
 //! What a power cut leaves of a disk in memory.
 use crate::held::opened;
-use crate::shown::{say_once, say_state};
+use record_rows::{say_once, say_state};
 use row_files::RowFault;
 use st_disk::{Disk, Which};
 use st_memory::MemDisk;
@@ -42,8 +42,15 @@ pub(crate) fn after(alloc: Global, disk: &MemDisk, cut: Cut) -> Result<MemDisk, 
 /// The state of the store of a disk, or why it is refused.
 fn say_opened<D: Disk + Drop>(alloc: Global, said: &mut String, disk: D) -> Result<(), AllocError> {
     match opened(alloc, disk) {
-        Ok(store) => say_state(alloc, said, store.state()),
-        Err((fault, _disk)) => write!(said, "{fault:?}"),
+        Ok(store) => {
+            let answered = say_state(alloc, said, store.state());
+            drop(store);
+            answered
+        }
+        Err((fault, disk)) => {
+            drop(disk);
+            write!(said, "{fault:?}")
+        }
     }
 }
 

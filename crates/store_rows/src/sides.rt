@@ -1,13 +1,10 @@
 //! What the calls of a row are made of: two sides, and the store that is open over them.
-use crate::byte_calls::call_bytes;
 use crate::disks::call_disk;
 use crate::folders::call_folder;
 use crate::held::{Device, Held, MANY, device_of};
-use crate::state_calls::{batch, order, replay};
 use crate::store_calls::call_store;
 use row_files::bytes::read;
 use row_files::{Calls, Report, RowFault, Setup, Words, World};
-use st_disk::Which;
 use st_memory::MemDisk;
 use std::alloc::{AllocError, Global};
 
@@ -22,15 +19,32 @@ pub(crate) struct Sides {
     pub(crate) held: Held<Device>,
 }
 
-pub(crate) fn side_named(word: &str) -> Result<Which, RowFault> {
-    match word {
-        "A" => Ok(Which::A),
-        "B" => Ok(Which::B),
-        _ => Err(RowFault::Word),
-    }
-}
-
 impl Sides {
+    /// Takes what a side holds. Whether it is a side.
+    fn take_side(
+        &mut self,
+        alloc: Global,
+        name: &str,
+        words: &mut Words<'_>,
+    ) -> Result<bool, RowFault> {
+        match name {
+            "A" => self.a = read(alloc, words.next())?,
+            "B" => self.b = read(alloc, words.next())?,
+            _ => return Ok(false),
+        }
+        Ok(true)
+    }
+
+    /// Takes how many calls of the disk pass. Whether it is that.
+    fn take_limit(&mut self, name: &str, words: &mut Words<'_>) -> Result<bool, RowFault> {
+        match name {
+            "stop" => self.stop = words.number()? as u64,
+            "fail" => self.fail = words.number()? as u64,
+            _ => return Ok(false),
+        }
+        Ok(true)
+    }
+
     /// A disk of the sides that stops after so many calls, and fails one behind so many.
     pub(crate) fn device_at(
         &self,
@@ -56,14 +70,10 @@ impl<'a> Setup<'a> for Sides {
 
     fn takes(&mut self, alloc: Global, line: &'a str) -> Result<bool, RowFault> {
         let mut words = Words { rest: line };
-        match words.next() {
-            "A" => self.a = read(alloc, words.next())?,
-            "B" => self.b = read(alloc, words.next())?,
-            "stop" => self.stop = words.number()? as u64,
-            "fail" => self.fail = words.number()? as u64,
-            _ => return Ok(false),
-        }
-        Ok(words.rest.is_empty())
+        let name = words.next();
+        let is_taken = self.take_side(alloc, name, &mut words)?
+            || self.take_limit(name, &mut words)?;
+        Ok(is_taken && words.rest.is_empty())
     }
 
     fn are_met(
@@ -87,11 +97,7 @@ impl World for Sides {
             "disk" => call_disk(alloc, said, words),
             "folder" => call_folder(alloc, said, words),
             "store" => call_store(alloc, said, self, words),
-            "replay" => replay(alloc, said, words.rest),
-            "discard" => batch(alloc, said, words.rest, false),
-            "finish" => batch(alloc, said, words.rest, true),
-            "order" => order(alloc, said, words.rest),
-            name => call_bytes(alloc, said, name, words),
+            name => record_rows::call(alloc, said, name, words),
         }
     }
 }

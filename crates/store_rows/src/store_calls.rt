@@ -1,9 +1,9 @@
 //! Calls of two sides and of the store that is open over them.
 use crate::held::{Change, Held, OverMemory, changed, opened};
 use crate::power_cuts::say_cuts;
-use crate::shown::say_state;
-use crate::sides::{Sides, side_named};
+use crate::sides::Sides;
 use crate::sweeps::sweep;
+use record_rows::{say_state, side_named};
 use row_files::{RowFault, Words, bytes};
 use st_disk::Disk;
 use st_file::{CommitFault, Extent};
@@ -37,11 +37,23 @@ fn call_held<D: Disk + Drop + OverMemory>(
 ) -> Result<(), RowFault> {
     match name {
         "reopen" => reopen(alloc, said, held),
+        "bytes" | "cuts" | "refused" => ask_disk(alloc, said, held.device()?, name, words),
         "calls" => counted(alloc, said, held.store()?, words),
-        "bytes" => say_bytes(said, held.device()?, words),
-        "cuts" => say_cuts(alloc, said, "", held.device()?.memory()),
-        "refused" => Ok(say_refused(said, held.device()?)?),
         _ => change_or_ask(alloc, said, held.store()?, name, words.rest),
+    }
+}
+
+fn ask_disk<D: OverMemory>(
+    alloc: Global,
+    said: &mut String,
+    disk: &D,
+    name: &str,
+    words: &mut Words<'_>,
+) -> Result<(), RowFault> {
+    match name {
+        "bytes" => say_bytes(said, disk, words),
+        "cuts" => say_cuts(alloc, said, "", disk.memory()),
+        _ => Ok(say_refused(said, disk)?),
     }
 }
 
@@ -136,27 +148,26 @@ fn change_or_ask<D: Disk + Drop>(
     name: &str,
     rest: &str,
 ) -> Result<(), RowFault> {
-    if is_asked(alloc, said, store, name)? {
-        return Ok(());
+    match asked(alloc, said, store, name) {
+        Some(answered) => Ok(answered?),
+        None => change(alloc, said, store, name, rest),
     }
-    change(alloc, said, store, name, rest)
 }
 
-/// Answers a question. Whether it is one.
-fn is_asked<D: Disk + Drop>(
+/// Answers a question, where it is one.
+fn asked<D: Disk + Drop>(
     alloc: Global,
     said: &mut String,
     store: &Store<D>,
     name: &str,
-) -> Result<bool, AllocError> {
+) -> Option<Result<(), AllocError>> {
     match name {
-        "state" => say_state(alloc, said, store.state())?,
-        "log" => say_log(said, store)?,
-        "names" => write!(said, "{}", store.state().len())?,
-        "dead" => write!(said, "{}", store.is_dead())?,
-        _ => return Ok(false),
+        "state" => Some(say_state(alloc, said, store.state())),
+        "log" => Some(say_log(said, store)),
+        "names" => Some(write!(said, "{}", store.state().len())),
+        "dead" => Some(write!(said, "{}", store.is_dead())),
+        _ => None,
     }
-    Ok(true)
 }
 
 /// The open side, and what it has beside its records.

@@ -34,18 +34,25 @@ fn say_calls(
 
 fn say_call(said: &mut String, files: &mut SystemFolder, word: &str) -> Result<(), RowFault> {
     let answered = match word {
-        "find" => say_found(said, files.find(Which::A)),
+        "find" => say_found(said, files),
         "make" => say_made(said, files),
-        "len" => say_len(said, len(files)),
-        "name" => say_done(said, sync_name(files)),
-        "sync" => say_done(said, sync(files)),
+        "len" => say_len(said, files),
+        "name" => say_done(said, sync_name(files).is_ok()),
+        "sync" => say_done(said, sync(files).is_ok()),
         _ => return Err(RowFault::Word),
     };
     Ok(answered?)
 }
 
-fn say_found(said: &mut String, found: io::Result<Option<SystemFile>>) -> Result<(), AllocError> {
-    match found {
+fn say_file(said: &mut String, file: io::Result<SystemFile>) -> Result<(), AllocError> {
+    match file {
+        Ok(file) => said.push_str(file.folder()),
+        Err(_) => said.push('!'),
+    }
+}
+
+fn say_found(said: &mut String, files: &mut SystemFolder) -> Result<(), AllocError> {
+    match files.find(Which::A) {
         Ok(Some(file)) => said.push_str(file.folder()),
         Ok(None) => said.push_str("none"),
         Err(_) => said.push('!'),
@@ -54,21 +61,21 @@ fn say_found(said: &mut String, found: io::Result<Option<SystemFile>>) -> Result
 
 fn say_made(said: &mut String, files: &mut SystemFolder) -> Result<(), AllocError> {
     match files.find(Which::A) {
-        Ok(None) => say_found(said, files.create(Which::A).map(Some)),
+        Ok(None) => say_file(said, files.create(Which::A)),
         Ok(Some(_)) => said.push_str("there"),
         Err(_) => said.push('!'),
     }
 }
 
-fn say_len(said: &mut String, len: io::Result<usize>) -> Result<(), AllocError> {
-    match len {
+fn say_len(said: &mut String, files: &mut SystemFolder) -> Result<(), AllocError> {
+    match len(files) {
         Ok(len) => write!(said, "{len}"),
         Err(_) => said.push('!'),
     }
 }
 
-fn say_done(said: &mut String, done: io::Result<()>) -> Result<(), AllocError> {
-    said.push(if done.is_ok() { '+' } else { '!' })
+fn say_done(said: &mut String, is_done: bool) -> Result<(), AllocError> {
+    said.push(if is_done { '+' } else { '!' })
 }
 
 fn found(files: &mut SystemFolder) -> io::Result<SystemFile> {

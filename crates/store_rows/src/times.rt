@@ -30,7 +30,9 @@ pub(crate) fn commits_in_files(rt: HostRuntime, file: &str) -> anyhow::Result<u1
 
 fn median_of_commits<D: Disk + Drop>(rt: HostRuntime, disk: D) -> anyhow::Result<u128> {
     let mut store = opened(rt.alloc(), disk)?;
-    median(times_of_commits(rt, &mut store)?)
+    let times = times_of_commits(rt, &mut store);
+    drop(store);
+    median(times?)
 }
 
 fn times_of_commits<D: Disk + Drop>(
@@ -78,7 +80,9 @@ pub(crate) fn compaction_in_files(rt: HostRuntime, file: &str) -> anyhow::Result
 
 fn compaction_of<D: Disk + Drop>(rt: HostRuntime, disk: D) -> anyhow::Result<u128> {
     let mut store = opened(rt.alloc(), disk)?;
-    time_of_compaction(rt, &mut store)
+    let time = time_of_compaction(rt, &mut store);
+    drop(store);
+    time
 }
 
 fn time_of_compaction<D: Disk + Drop>(

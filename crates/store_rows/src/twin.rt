@@ -1,6 +1,6 @@
 //! A folder that writes its calls down and keeps no contract.
 use st_disk::{Folder, Which};
-use std::alloc::Global;
+use std::alloc::{AllocError, Global};
 use std::io;
 
 /// Both files are there with a length, or both are missing.
@@ -19,14 +19,17 @@ impl Twin {
         }
     }
 
-    fn note(&mut self, call: &str, side: Which) -> io::Result<()> {
+    fn write(&mut self, call: &str, side: Which) -> Result<(), AllocError> {
         self.log.push(' ')?;
         self.log.push_str(call)?;
         self.log.push(match side {
             Which::A => 'A',
             Which::B => 'B',
-        })?;
-        Ok(())
+        })
+    }
+
+    fn note(&mut self, call: &str, side: Which) -> io::Result<()> {
+        Ok(self.write(call, side)?)
     }
 }
 
@@ -57,27 +60,27 @@ impl Folder for Twin {
     ghost held_is_image = { λ _ honest _. absurd honest };
 
     fn find(&mut self, side: Which) -> io::Result<Option<Which>> {
-        self.note("find", side)?;
+        self.write("find", side)?;
         Ok(self.len.map(|_| side))
     }
 
     fn create(&mut self, side: Which) -> io::Result<Which> {
-        self.note("create", side)?;
+        self.write("create", side)?;
         Ok(side)
     }
 
     fn len(&mut self, file: &Which) -> io::Result<usize> {
-        self.note("len", *file)?;
+        self.write("len", *file)?;
         Ok(self.len.unwrap_or(0))
     }
 
     fn read_at(&mut self, file: &Which, buf: &mut [u8], _at: usize) -> io::Result<usize> {
-        self.note("read", *file)?;
+        self.write("read", *file)?;
         Ok(buf.len())
     }
 
     fn write_at(&mut self, file: &Which, bytes: &[u8], _at: usize) -> io::Result<usize> {
-        self.note("write", *file)?;
+        self.write("write", *file)?;
         Ok(bytes.len())
     }
 

@@ -65,22 +65,32 @@ fn entry_of(alloc: Global, phase: Phase, text: &str) -> Result<Entry, RowFault> 
     })
 }
 
-fn unkept(target: ByteString, entry: Entry) -> Record {
+fn done(target: ByteString, entry: Entry) -> Record {
     let Entry {
-        phase,
+        phase: _,
         commands,
         hidden,
         explicit,
     } = entry;
-    match phase {
-        Phase::Begun => Record::Begun { target },
-        Phase::Done => Record::Done {
-            target,
-            commands,
-            hidden,
-            explicit,
-        },
-        Phase::Failed(status) => Record::Failed { target, status },
+    Record::Done {
+        target,
+        commands,
+        hidden,
+        explicit,
+    }
+}
+
+fn unkept(target: ByteString, entry: Entry) -> Record {
+    match entry.phase {
+        Phase::Done => done(target, entry),
+        Phase::Begun => {
+            drop(entry);
+            Record::Begun { target }
+        }
+        Phase::Failed(status) => {
+            drop(entry);
+            Record::Failed { target, status }
+        }
     }
 }
 
@@ -123,7 +133,7 @@ fn push_records(alloc: Global, records: &mut Vec<Record>, text: &str) -> Result<
 }
 
 /// The records of a text, with `;` between them.
-pub(crate) fn records_of(alloc: Global, text: &str) -> Result<Vec<Record>, RowFault> {
+pub fn records_of(alloc: Global, text: &str) -> Result<Vec<Record>, RowFault> {
     let mut records = Vec::new(alloc);
     push_records(alloc, &mut records, text)?;
     Ok(records)

@@ -3,45 +3,16 @@ ghost use Rattle.std.specs.Prelude.{IfOk};
 ghost use Rattle.st_records.specs.declared.record.Record.TheVariants as records;
 ghost use Rattle.st_records.specs.Limits.{IsGoodIn};
 
-use crate::notation::record;
+use crate::measured::checked;
 use crate::shown::say_once;
-use crate::sides::side_named;
-use byte_strings::{ByteString, ByteStrings};
 use row_files::{RowFault, Words, bytes};
 use st_disk::Which;
 use st_file::{Extent, OpenFault, read_side, side_of};
 use st_records::{
-    DecodeFault, Entry, Event, Explicit, Form, PackedEntry, PackedRecord, Phase, Record,
-    append_kept_in, decode_in, room_after_kept_in,
+    DecodeFault, Event, Form, PackedEntry, PackedRecord, Record, append_kept_in, decode_in,
+    room_after_kept_in,
 };
 use std::alloc::{AllocError, Global};
-
-/// How many strings a list has, and how many bytes each of them.
-#[derive(Clone, Copy)]
-struct ListSize {
-    count: usize,
-    len: usize,
-}
-
-/// The bytes of a record's target, and the strings of its entry.
-#[derive(Clone, Copy)]
-struct RecordSize {
-    target: usize,
-    commands: ListSize,
-    hidden: ListSize,
-    explicit: ListSize,
-}
-
-/// A record that was read, let go by one call.
-struct Decoded {
-    note: Record,
-}
-
-impl Drop for Decoded {
-    fn drop(self) {
-        let Decoded { note: _ } = self;
-    }
-}
 
 /// What some bytes are read as.
 #[derive(Clone, Copy)]
@@ -57,6 +28,15 @@ enum Reading {
     Side(Which),
     /// How many records side A has, and where they end.
     Extent,
+}
+
+/// The side that a word names.
+pub fn side_named(word: &str) -> Result<Which, RowFault> {
+    match word {
+        "A" => Ok(Which::A),
+        "B" => Ok(Which::B),
+        _ => Err(RowFault::Word),
+    }
 }
 
 /// Answers `check ..`, `each ..`, and what is read of all bytes.
@@ -76,12 +56,18 @@ pub(crate) fn call_bytes(
 /// `decode VERSION`, `length VERSION`, `encode VERSION`, `keep VERSION`, `side SIDE` or `extent`.
 fn reading_of(name: &str, words: &mut Words<'_>) -> Result<Reading, RowFault> {
     match name {
-        "decode" => Ok(Reading::Record(version(words)?)),
-        "length" => Ok(Reading::Length(version(words)?)),
-        "encode" => Ok(Reading::Written(version(words)?)),
-        "keep" => Ok(Reading::Kept(version(words)?)),
         "side" => Ok(Reading::Side(side_named(words.next())?)),
         "extent" => Ok(Reading::Extent),
+        _ => reading_in(name, version(words)?),
+    }
+}
+
+fn reading_in(name: &str, form: Form) -> Result<Reading, RowFault> {
+    match name {
+        "decode" => Ok(Reading::Record(form)),
+        "length" => Ok(Reading::Length(form)),
+        "encode" => Ok(Reading::Written(form)),
+        "keep" => Ok(Reading::Kept(form)),
         _ => Err(RowFault::Word),
     }
 }
@@ -178,7 +164,9 @@ fn say_unpacked(
     len: usize,
 ) -> Result<(), AllocError> {
     let record = record.unpack(alloc)?;
-    write!(said, "{len}: {record:?}")
+    let answered = write!(said, "{len}: {record:?}");
+    drop(record);
+    answered
 }
 
 /// How many bytes a record has.
@@ -200,18 +188,17 @@ fn say_length(
 }
 
 /// The record in bytes of this form.
-fn good_of(alloc: Global, form: Form, bytes: &[u8]) -> Result<Decoded, DecodeFault>
-    ensures { IfOk result (λ d. IsGoodIn form d.note) }
+fn good_of(alloc: Global, form: Form, bytes: &[u8]) -> Result<Record, DecodeFault>
+    ensures { IfOk result (IsGoodIn form) }
 {
     let (packed, _len) = decode_in(alloc, form, bytes)?;
-    let note = packed.unpack(alloc)?;
-    Ok(Decoded { note })
+    Ok(packed.unpack(alloc)?)
 }
 
 fn encoded(alloc: Global, form: Form, bytes: &[u8]) -> Result<Vec<u8>, DecodeFault> {
-    let decoded = good_of(alloc, form, bytes)?;
-    let encoded = decoded.note.encode_in(alloc, form);
-    drop(decoded);
+    let note = good_of(alloc, form, bytes)?;
+    let encoded = note.encode_in(alloc, form);
+    drop(note);
     Ok(encoded?)
 }
 
@@ -250,7 +237,10 @@ fn kept_again(
     let (target, event) = record.into_parts();
     match event {
         Event::Kept(entry) => Ok(kept_bytes(alloc, form, target.as_slice(), &entry)?),
-        _ => Ok((Vec::new(alloc), None)),
+        event => {
+            drop(event);
+            Ok((Vec::new(alloc), None))
+        }
     }
 }
 
@@ -279,89 +269,4 @@ fn say_extent(alloc: Global, said: &mut String, bytes: &[u8]) -> Result<(), Allo
         Ok((None, _)) => said.push_str("void"),
         Err(fault) => write!(said, "{fault}"),
     }
-}
-
-/// So many bytes `x`.
-fn repeated(alloc: Global, count: usize) -> Result<ByteString, AllocError> {
-    Ok(ByteString::new(vec![in alloc; b'x'; count]?))
-}
-
-/// So many strings of so many bytes `x`.
-fn strings(alloc: Global, size: ListSize) -> Result<ByteStrings, AllocError> {
-    let string = repeated(alloc, size.len)?;
-    let mut strings = ByteStrings::empty(alloc);
-    push_times(&mut strings, string.as_slice(), size.count)?;
-    Ok(strings)
-}
-
-fn push_times(strings: &mut ByteStrings, string: &[u8], count: usize) -> Result<(), AllocError> {
-    for _ in 0..count {
-        strings.push(string)?;
-    }
-    Ok(())
-}
-
-fn list_size(words: &mut Words<'_>) -> Result<ListSize, RowFault> {
-    let count = words.number()?;
-    let len = words.number()?;
-    Ok(ListSize { count, len })
-}
-
-fn record_size(words: &mut Words<'_>) -> Result<RecordSize, RowFault> {
-    let target = words.number()?;
-    let commands = list_size(words)?;
-    let hidden = list_size(words)?;
-    let explicit = list_size(words)?;
-    Ok(RecordSize {
-        target,
-        commands,
-        hidden,
-        explicit,
-    })
-}
-
-fn entry(alloc: Global, size: RecordSize) -> Result<Entry, AllocError> {
-    let commands = strings(alloc, size.commands)?;
-    let hidden = strings(alloc, size.hidden)?;
-    let explicit = Explicit::Known(strings(alloc, size.explicit)?);
-    Ok(Entry {
-        phase: Phase::Done,
-        commands,
-        hidden,
-        explicit,
-    })
-}
-
-fn measured(alloc: Global, is_kept: bool, size: RecordSize) -> Result<Record, AllocError> {
-    let target = repeated(alloc, size.target)?;
-    let entry = entry(alloc, size)?;
-    Ok(record(is_kept, target, entry))
-}
-
-fn is_kept(word: &str) -> Result<bool, RowFault> {
-    match word {
-        "done" => Ok(false),
-        "kept" => Ok(true),
-        _ => Err(RowFault::Word),
-    }
-}
-
-/// `check done BYTES COMMANDS BYTES HIDDEN BYTES EXPLICIT BYTES`: what is said of a record of so many strings of so many
-/// bytes, its target first; and `check kept ..`.
-fn checked(alloc: Global, said: &mut String, words: &mut Words<'_>) -> Result<(), RowFault> {
-    let is_kept = is_kept(words.next())?;
-    let size = record_size(words)?;
-    Ok(say_checked(alloc, said, is_kept, size)?)
-}
-
-fn say_checked(
-    alloc: Global,
-    said: &mut String,
-    is_kept: bool,
-    size: RecordSize,
-) -> Result<(), AllocError> {
-    let record = measured(alloc, is_kept, size)?;
-    let checked = record.check();
-    drop(record);
-    write!(said, "{checked:?}")
 }

@@ -56,7 +56,7 @@ fn say_entries(said: &mut String, named: &Listed<'_>) -> Result<(), AllocError> 
 }
 
 /// Says what a state knows; of no names, `nothing`.
-pub(crate) fn say_state(alloc: Global, said: &mut String, state: &State) -> Result<(), AllocError> {
+pub fn say_state(alloc: Global, said: &mut String, state: &State) -> Result<(), AllocError> {
     let named = state.in_byte_order(alloc)?;
     if named.len() == 0 {
         return said.push_str("nothing");
@@ -65,7 +65,7 @@ pub(crate) fn say_state(alloc: Global, said: &mut String, state: &State) -> Resu
 }
 
 /// Says a text unless it is among those that were said, with ` or ` between them.
-pub(crate) fn say_once(said: &mut String, text: &str) -> Result<(), AllocError> {
+pub fn say_once(said: &mut String, text: &str) -> Result<(), AllocError> {
     for before in said.as_str().split(" or ") {
         if before == text {
             return Ok(());
