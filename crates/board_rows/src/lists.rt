@@ -82,11 +82,12 @@ impl Lists<'_> {
         };
         let (clearance, answer) = self.tell(node, Note { ticket, noted });
         if let Some(clearance) = clearance {
-            self.clearances.push(Cleared {
+            let cleared = Cleared {
                 node,
                 clearance,
                 target,
-            })?;
+            };
+            add(&mut self.clearances, cleared)?;
         }
         Ok(answer)
     }

@@ -10,10 +10,8 @@ pub(crate) struct Note {
 
 impl Drop for Note {
     fn drop(self) {
-        let Note {
-            ticket: _,
-            noted: _,
-        } = self;
+        let Note { ticket: _, noted } = self;
+        drop(noted);
     }
 }
 

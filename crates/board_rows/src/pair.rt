@@ -11,6 +11,7 @@ use crate::store::{OverMemory, known_after_cuts, recovered, site, write_recovere
 use bd_flusher::{FlushFault, Receipt, Site};
 use bd_ledger::Ticket;
 use bd_links::Node;
+use bd_lists::Board;
 use row_files::{Answered, RowFault, Words, World};
 use st_disk::{Disk, Which};
 use st_memory::MemDisk;
@@ -111,7 +112,10 @@ impl<D: Disk + Drop + OverMemory> Pair<'_, D> {
     fn batch(&self, ticket: Ticket, note: Record) -> Option<usize> {
         match looked(&self.site, ticket, note) {
             Ok(receipt) => Some(receipt.batch()),
-            Err(_) => None,
+            Err(note) => {
+                drop(note);
+                None
+            }
         }
     }
 
@@ -121,8 +125,7 @@ impl<D: Disk + Drop + OverMemory> Pair<'_, D> {
 
     /// Another site takes in what waits.
     fn take_elsewhere(&mut self, alloc: Global, out: &mut String) -> Answered {
-        let mut elsewhere = site(alloc, MemDisk::new(alloc))?;
-        write_answer(taken_in(alloc, &mut elsewhere, &mut self.desk.board), out)
+        take_into(alloc, MemDisk::new(alloc), &mut self.desk.board, out)
     }
 
     fn flush(&mut self, alloc: Global, out: &mut String) -> Answered {
@@ -160,6 +163,19 @@ impl<D: Disk + Drop + OverMemory> Pair<'_, D> {
         let (least, most) = known_after_cuts(alloc, self.memory())?;
         Ok(write!(out, "{least} to {most}")?)
     }
+}
+
+/// The site of a disk takes in what waits.
+fn take_into<D: Disk + Drop>(
+    alloc: Global,
+    disk: D,
+    board: &mut Board<Receipt>,
+    out: &mut String,
+) -> Answered {
+    let mut site = site(alloc, disk)?;
+    let answer = taken_in(alloc, &mut site, board);
+    drop(site);
+    write_answer(answer, out)
 }
 
 fn begun(alloc: Global, nodes: &Nodes<'_>, node: Node) -> Result<Record, RowFault>

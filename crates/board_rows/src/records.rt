@@ -87,10 +87,11 @@ pub(crate) fn read_good(
     ensures { IfOk result (IsGood Two) }
 {
     let note = read(alloc, target, words)?;
-    if !is_good(&note) {
-        return Err(RowFault::Word);
+    if is_good(&note) {
+        return Ok(note);
     }
-    Ok(note)
+    drop(note);
+    Err(RowFault::Word)
 }
 
 pub(crate) fn write_record(note: &Record, out: &mut String) -> Result<(), AllocError> {

@@ -59,17 +59,32 @@ pub(crate) fn site<D: Disk + Drop>(alloc: Global, disk: D) -> Result<Site<D>, Ro
 
 fn site_over<D: Disk + Drop>(alloc: Global, store: Store<D>) -> Result<Site<D>, RowFault> {
     if store.is_dead() {
+        drop(store);
         return Err(RowFault::NotOpen);
     }
     match Site::new(alloc, store) {
         Ok(site) => Ok(site),
-        Err((_fault, _store)) => Err(RowFault::OutOfMemory),
+        Err((_fault, store)) => {
+            drop(store);
+            Err(RowFault::OutOfMemory)
+        }
     }
 }
 
 /// How many targets a disk recovers.
-fn known(alloc: Global, disk: MemDisk) -> Result<usize, RowFault> {
-    Ok(opened(alloc, disk)?.state().len())
+fn known<D: Disk + Drop>(alloc: Global, disk: D) -> Result<usize, RowFault> {
+    let store = opened(alloc, disk)?;
+    let count = store.state().len();
+    drop(store);
+    Ok(count)
+}
+
+/// The targets that a disk recovers.
+fn write_known<D: Disk + Drop>(alloc: Global, disk: D, out: &mut String) -> Answered {
+    let store = opened(alloc, disk)?;
+    let written = write_state(alloc, store.state(), out);
+    drop(store);
+    Ok(written?)
 }
 
 /// What a power cut now leaves: each side as short, or as long, as may be.
@@ -85,13 +100,23 @@ fn cut(alloc: Global, disk: &MemDisk, longest: bool, fill: &[u8]) -> Result<MemD
     Ok(disk.power_cut(alloc, least_a, least_b, fill)?)
 }
 
+/// How many targets such a cut leaves known.
+fn known_after(
+    alloc: Global,
+    disk: &MemDisk,
+    longest: bool,
+    fill: &[u8],
+) -> Result<usize, RowFault> {
+    known(alloc, cut(alloc, disk, longest, fill)?)
+}
+
 /// The least and the greatest number of targets that a power cut now leaves known.
 pub(crate) fn known_after_cuts(alloc: Global, disk: &MemDisk) -> Result<(usize, usize), RowFault> {
     let mut least = usize::MAX;
     let mut most = 0;
     for fill in fills() {
-        let short = known(alloc, cut(alloc, disk, false, fill)?)?;
-        let long = known(alloc, cut(alloc, disk, true, fill)?)?;
+        let short = known_after(alloc, disk, false, fill)?;
+        let long = known_after(alloc, disk, true, fill)?;
         least = least.min(short).min(long);
         most = most.max(short).max(long);
     }
@@ -133,8 +158,7 @@ fn write_entry(
 
 /// What the bytes recover that are on the disk.
 pub(crate) fn write_recovered(alloc: Global, disk: &MemDisk, out: &mut String) -> Answered {
-    let again = opened(alloc, settled(alloc, disk)?)?;
-    Ok(write_state(alloc, again.state(), out)?)
+    write_known(alloc, settled(alloc, disk)?, out)
 }
 
 /// How many targets the bytes recover that are on the disk.
