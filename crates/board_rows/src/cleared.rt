@@ -87,12 +87,21 @@ fn write_run(
     asked: usize,
     out: &mut String,
 ) -> Result<(), AllocError> {
+    write_outcome(outcome, out)?;
+    write_statuses(ended, out)?;
+    write!(out, ", asked {asked}")
+}
+
+fn write_outcome(outcome: Outcome, out: &mut String) -> Result<(), AllocError> {
     match outcome {
-        Outcome::Done => out.push_str("done:")?,
-        Outcome::Failed(status) => write!(out, "failed {status}:")?,
+        Outcome::Done => out.push_str("done:"),
+        Outcome::Failed(status) => write!(out, "failed {status}:"),
     }
+}
+
+fn write_statuses(ended: &[Ended], out: &mut String) -> Result<(), AllocError> {
     for ended in ended {
         write!(out, " {}", ended.status)?;
     }
-    write!(out, ", asked {asked}")
+    Ok(())
 }

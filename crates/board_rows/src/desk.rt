@@ -61,11 +61,17 @@ impl<T: Told + Drop> Desk<'_, T> {
             "claim" => self.claim(out),
             "submit" => self.submit(alloc, words, out),
             "drain" => self.drain(alloc, out),
+            _ => self.call_on_node(name, words, out),
+        }
+    }
+
+    fn call_on_node(&mut self, name: &str, words: &mut Words<'_>, out: &mut String) -> Answered {
+        match name {
             "settle" => self.settle(words, out),
             "abandon" => self.abandon(words, out),
-            "empty" => self.write_emptied(out),
             "stand" => self.stand(words, out),
             "stands" => self.write_stands(out),
+            "empty" => self.write_emptied(out),
             _ => Err(RowFault::Word),
         }
     }

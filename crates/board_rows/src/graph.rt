@@ -25,12 +25,16 @@ fn short(number: usize) -> Result<u32, AllocError> {
     }
 }
 
+fn number_of(nodes: &Nodes<'_>, word: &str) -> Result<u32, RowFault> {
+    Ok(short(nodes.find(word)?.number())?)
+}
+
 /// The numbers of the named nodes.
 fn row(alloc: Global, nodes: &Nodes<'_>, names: &str) -> Result<Vec<u32>, RowFault> {
     let mut row = Vec::new(alloc);
     for word in names.split(' ') {
         if !word.is_empty() {
-            row.push(short(nodes.find(word)?.number())?)?;
+            add(&mut row, number_of(nodes, word)?)?;
         }
     }
     Ok(row)
@@ -53,6 +57,10 @@ impl Graph {
     pub(crate) fn add(&mut self, alloc: Global, nodes: &Nodes<'_>, line: &str) -> Answered {
         let (_name, edges) = line.split_once(':').ok_or(RowFault::Word)?;
         let (hard, soft) = edges.split_once('|').unwrap_or((edges, ""));
+        self.add_rows(alloc, nodes, hard, soft)
+    }
+
+    fn add_rows(&mut self, alloc: Global, nodes: &Nodes<'_>, hard: &str, soft: &str) -> Answered {
         add(&mut self.hard, row(alloc, nodes, hard)?)?;
         Ok(add(&mut self.soft, row(alloc, nodes, soft)?)?)
     }

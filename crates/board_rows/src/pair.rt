@@ -31,17 +31,29 @@ impl<D: Disk + Drop + OverMemory> World for Pair<'_, D> {
         match words.next() {
             "begin" => self.begin(alloc, words, out),
             "look" => self.look(alloc, words, out),
-            "take_in" => self.take_in(alloc, out),
-            "elsewhere" => self.take_elsewhere(alloc, out),
-            "flush" => self.flush(alloc, out),
-            "tidy" => self.tidy(alloc, out),
-            "told" => self.write_told(out),
-            name => self.ask(alloc, name, words, out),
+            name => self.change(alloc, name, words, out),
         }
     }
 }
 
 impl<D: Disk + Drop + OverMemory> Pair<'_, D> {
+    /// Answers a call that changes the site, or one of the others.
+    fn change(
+        &mut self,
+        alloc: Global,
+        name: &str,
+        words: &mut Words<'_>,
+        out: &mut String,
+    ) -> Answered {
+        match name {
+            "take_in" => self.take_in(alloc, out),
+            "elsewhere" => self.take_elsewhere(alloc, out),
+            "flush" => self.flush(alloc, out),
+            "tidy" => self.tidy(alloc, out),
+            _ => self.ask(alloc, name, words, out),
+        }
+    }
+
     /// Answers a call that only reads, or one of the board.
     fn ask(
         &mut self,
@@ -51,10 +63,23 @@ impl<D: Disk + Drop + OverMemory> Pair<'_, D> {
         out: &mut String,
     ) -> Answered {
         match name {
-            "side" => self.side(words, out),
+            "told" => self.write_told(out),
             "open" => self.open_side(out),
             "known" => self.write_known(out),
             "state" => self.write_state(alloc, out),
+            _ => self.ask_disk(alloc, name, words, out),
+        }
+    }
+
+    fn ask_disk(
+        &mut self,
+        alloc: Global,
+        name: &str,
+        words: &mut Words<'_>,
+        out: &mut String,
+    ) -> Answered {
+        match name {
+            "side" => self.side(words, out),
             "calls" => self.calls(out),
             "cut" => self.cut(alloc, out),
             "recovered" => self.write_recovered(alloc, out),
@@ -96,9 +121,13 @@ impl<D: Disk + Drop + OverMemory> Pair<'_, D> {
     }
 
     fn begin_next(&mut self, alloc: Global, out: &mut String) -> Answered {
-        let Some(node) = self.desk.claimed() else {
-            return Ok(out.push_str("none")?);
-        };
+        match self.desk.claimed() {
+            Some(node) => self.begin_node(alloc, node, out),
+            None => Ok(out.push_str("none")?),
+        }
+    }
+
+    fn begin_node(&mut self, alloc: Global, node: Node, out: &mut String) -> Answered {
         let note = begun(alloc, &self.desk.nodes, node)?;
         Ok(self.desk.hand_in(node, note, node, out)?)
     }

@@ -49,11 +49,8 @@ impl<'a> Setup<'a> for BoardSetup<'a> {
         let mut words = Words { rest: line };
         match words.next() {
             "node" => self.nodes.push(words.rest)?,
-            "chain" => self.chain = words.number()?,
-            "layers" => self.layers = words.number()?,
-            "long" => self.times = words.number()?,
             "site" => self.has_site = true,
-            name => return self.takes_disk(name, &mut words),
+            name => return self.takes_number(name, &mut words),
         }
         Ok(true)
     }
@@ -73,7 +70,26 @@ impl<'a> Setup<'a> for BoardSetup<'a> {
     }
 }
 
+/// The label of a node's line.
+fn label_of<'a>(line: &'a str) -> Result<&'a str, RowFault> {
+    match line.split_once(':') {
+        Some((label, _edges)) => Ok(label),
+        None => Err(RowFault::Word),
+    }
+}
+
 impl<'a> BoardSetup<'a> {
+    /// Takes a number of the graph, or a line of the disk.
+    fn takes_number(&mut self, name: &str, words: &mut Words<'_>) -> Result<bool, RowFault> {
+        match name {
+            "chain" => self.chain = words.number()?,
+            "layers" => self.layers = words.number()?,
+            "long" => self.times = words.number()?,
+            _ => return self.takes_disk(name, words),
+        }
+        Ok(true)
+    }
+
     /// Takes a line of the disk.
     fn takes_disk(&mut self, name: &str, words: &mut Words<'_>) -> Result<bool, RowFault> {
         match name {
@@ -96,20 +112,23 @@ impl<'a> BoardSetup<'a> {
     fn labels(&self, alloc: Global) -> Result<Vec<&'a str>, RowFault> {
         let mut labels = Vec::new(alloc);
         for line in &self.nodes {
-            let (label, _edges) = line.split_once(':').ok_or(RowFault::Word)?;
-            labels.push(label)?;
+            labels.push(label_of(line)?)?;
         }
         Ok(labels)
     }
 
     fn graph(&self, alloc: Global, nodes: &Nodes<'a>) -> Result<Graph, RowFault> {
         let mut graph = Graph::new(alloc);
+        self.fill(alloc, nodes, &mut graph)?;
+        Ok(graph)
+    }
+
+    fn fill(&self, alloc: Global, nodes: &Nodes<'a>, graph: &mut Graph) -> Answered {
         for line in &self.nodes {
             graph.add(alloc, nodes, line)?;
         }
         graph.add_chain(alloc, self.chain)?;
-        graph.add_layers(alloc, self.layers)?;
-        Ok(graph)
+        Ok(graph.add_layers(alloc, self.layers)?)
     }
 
     fn board<T: Told>(&self, alloc: Global, nodes: &Nodes<'a>) -> Result<Board<T>, RowFault> {
