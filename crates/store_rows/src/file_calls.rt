@@ -1,12 +1,9 @@
 //! Calls of files of this machine, and how long some take.
 use crate::commits::commit_name;
 use crate::keys::say_keys;
-use crate::script::make_call;
-use crate::system_calls::say_system;
 use crate::times::{commits_in_files, commits_in_memory, compaction_in_files};
+use disk_rows::{say_file, say_system};
 use row_files::RowFault;
-use st_disk::{Disk, FileDisk, SystemFolder};
-use std::fs;
 use std::process::ExitCode;
 
 /// Answers `file ..`, `system ..`, `keys ..`, `commit ..` or `time ..`: the first word, and those behind it.
@@ -81,49 +78,4 @@ fn print_said(
             Ok(ExitCode::from(2))
         }
     }
-}
-
-/// The answers of a disk over the file and the one with `.2` behind its name.
-fn say_file(
-    rt: HostRuntime,
-    said: &mut String,
-    file: &str,
-    calls: &[String],
-) -> Result<(), RowFault> {
-    let mut disk = FileDisk::new(SystemFolder::new(rt, rt.alloc(), file)?);
-    say_calls(rt, said, &mut disk, file, calls)
-}
-
-fn say_calls<D: Disk>(
-    rt: HostRuntime,
-    said: &mut String,
-    disk: &mut D,
-    file: &str,
-    calls: &[String],
-) -> Result<(), RowFault> {
-    for word in calls {
-        say_call(rt, said, disk, file, word.as_str())?;
-    }
-    Ok(())
-}
-
-// `=TEXT` has another make the file meanwhile, `-` another remove it.
-fn say_call<D: Disk>(
-    rt: HostRuntime,
-    said: &mut String,
-    disk: &mut D,
-    file: &str,
-    word: &str,
-) -> Result<(), RowFault> {
-    if word == "-" {
-        return is_made(fs::remove_file(&rt, file).is_ok());
-    }
-    match word.strip_prefix('=') {
-        Some(text) => is_made(fs::write(&rt, file, text).is_ok()),
-        None => make_call(said, disk, word),
-    }
-}
-
-fn is_made(is_made: bool) -> Result<(), RowFault> {
-    if is_made { Ok(()) } else { Err(RowFault::Word) }
 }

@@ -1,23 +1,18 @@
-//! Calls disks, stores and, by `record_rows`, records and states as the rows of a text say, and tells which answers differ;
-//! and calls of files of this machine.
+//! Calls stores and, by `record_rows` and `disk_rows`, all else of the state file as the rows of a text say, and tells which
+//! answers differ; and calls of files of this machine.
 //!
 //! cases/store/README.md has the language of rows.
 #![tactic(auto)]
 
 mod commits;
-mod disks;
 mod file_calls;
-mod folders;
 mod held;
 mod keys;
 mod power_cuts;
-mod script;
 mod sides;
 mod store_calls;
 mod sweeps;
-mod system_calls;
 mod times;
-mod twin;
 
 pub use file_calls::call;
 use sides::Sides;

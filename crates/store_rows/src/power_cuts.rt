@@ -1,17 +1,11 @@
-//! What a power cut leaves of a disk in memory.
+//! The states that a power cut may leave of a disk in memory.
 use crate::held::opened;
+use disk_rows::{Cut, after};
 use record_rows::{say_once, say_state};
 use row_files::RowFault;
-use st_disk::{Disk, Which};
+use st_disk::Disk;
 use st_memory::MemDisk;
 use std::alloc::{AllocError, Global};
-
-/// Each side as short, or as long, as it may be, and the bytes in each open place.
-#[derive(Clone, Copy)]
-pub(crate) enum Cut {
-    Shortest(&'static [u8]),
-    Longest(&'static [u8]),
-}
 
 static CUTS: [Cut; 6] = [
     Cut::Shortest(b"\x00"),
@@ -24,19 +18,6 @@ static CUTS: [Cut; 6] = [
 
 fn cuts() -> &'static [Cut] {
     &CUTS
-}
-
-/// What a cut leaves.
-pub(crate) fn after(alloc: Global, disk: &MemDisk, cut: Cut) -> Result<MemDisk, RowFault> {
-    let (least_a, greatest_a) = disk.extreme_lengths(Which::A);
-    let (least_b, greatest_b) = disk.extreme_lengths(Which::B);
-    if least_a > greatest_a || least_b > greatest_b {
-        return Err(RowFault::Word);
-    }
-    Ok(match cut {
-        Cut::Shortest(fill) => disk.power_cut(alloc, least_a, least_b, fill)?,
-        Cut::Longest(fill) => disk.power_cut(alloc, greatest_a, greatest_b, fill)?,
-    })
 }
 
 /// The state of the store of a disk, or why it is refused.

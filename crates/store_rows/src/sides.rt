@@ -1,8 +1,7 @@
 //! What the calls of a row are made of: two sides, and the store that is open over them.
-use crate::disks::call_disk;
-use crate::folders::call_folder;
 use crate::held::{Device, Held, MANY, device_of};
 use crate::store_calls::call_store;
+use disk_rows::{call_disk, call_folder};
 use row_files::bytes::read;
 use row_files::{Calls, Report, RowFault, Setup, Words, World};
 use st_memory::MemDisk;

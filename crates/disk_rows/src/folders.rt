@@ -34,7 +34,7 @@ impl Shown for MemFolder<MemDisk> {
 }
 
 /// Answers a call: which files the folder has, how many calls of it pass before one fails, and a script.
-pub(crate) fn call_folder(
+pub fn call_folder(
     alloc: Global,
     said: &mut String,
     words: &mut Words<'_>,

@@ -8,7 +8,7 @@ use std::io;
 ///
 /// `find` says in which folder the file stands, or `none`; `make` says `there` in place of the folder where it was found;
 /// `len` says its length, `name` and `sync` say `+`. A call that fails says `!`.
-pub(crate) fn say_system(
+pub fn say_system(
     rt: HostRuntime,
     said: &mut String,
     name: &str,

@@ -1,5 +1,5 @@
 //! Calls of single disks: one that stops, one that fails a call, and the disk in memory with what a power cut leaves of it.
-use crate::power_cuts::{Cut, after};
+use crate::cuts::{Cut, after};
 use crate::script::answers;
 use row_files::{RowFault, Words, bytes};
 use st_disk::Which;
@@ -29,11 +29,7 @@ fn unfilled() -> &'static [Cut] {
 }
 
 /// Answers a call: its kind, its numbers, what the disk holds at first (`-`: nothing), and a script.
-pub(crate) fn call_disk(
-    alloc: Global,
-    said: &mut String,
-    words: &mut Words<'_>,
-) -> Result<(), RowFault> {
+pub fn call_disk(alloc: Global, said: &mut String, words: &mut Words<'_>) -> Result<(), RowFault> {
     match words.next() {
         "stop" => stopped(alloc, said, words),
         "fail" => failing(alloc, said, words),
