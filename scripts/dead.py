@@ -25,8 +25,6 @@ WAITING = {
     "crates/st_records/proofs/Good.antt": {"fits_from_good"},
     "crates/st_recovery/proofs/MemoryLemmas.antt": {"comes_of_state"},
     "crates/mk_reader/proofs/SearchLemmas.antt": {"read_further"},
-    # What the loop of expansion is to name.
-    "crates/mk_functions/proofs/FrontLemmas.antt": {"end-by-length"},
 }
 WAITING_EXPORTS = {
     "bd_flusher": {"SiteIn"},
@@ -38,20 +36,17 @@ WAITING_EXPORTS = {
     "jb_slots": {"Fifo", "FifoBank", "dry"},
     "mk_conditionals": {"BodyLine", "DirectiveLine", "Reading", "body_line"},
     "mk_eval": {"MAX_INCLUDE_DEPTH"},
-    "mk_functions": {"Flavor", "MAX_CALLS", "MAX_VALUE", "Origin"},
+    "mk_functions": {
+        "Definitions", "Fault", "Flavor", "MAX_CALLS", "MAX_PIECES", "MAX_VALUE", "Origin", "Outside", "Stop", "Variable", "expand",
+    },
     "mk_graph": {"distinct_names", "order_nodes", "whole_plan"},
     "mk_macros": {"FUNCTIONS"},
     "mk_marks": {"mark_of"},
-    "mk_pieces": {
-        "Arguments", "Function", "Message", "OfThree", "OfTwo", "OfVariable", "OfWords", "Piece", "Question", "Refused", "Use",
-        "function_named", "named", "next_piece",
-    },
     "mk_recipe": {"LineStatus", "Look", "Mark", "Prerequisite", "Told", "Verdict", "outcome"},
     "mk_seen": {"SeenFiles", "look_of", "marks_of"},
     # What dmk_run is to tell behind a goal that nothing makes.
     "near_names": {"nearest"},
     "mk_wildcards": {"Brackets", "Element", "elements", "fits_name"},
-    "mk_words": {"before_spaces", "next_word", "number_by", "substitution"},
     "row_files": {"hex_digit"},
     "st_disk": {"Call"},
     "st_file": {

@@ -1,8 +1,7 @@
 -- What stands at the front of a text is shorter than the text, and what stands behind it ends the text.
-use Rattle.std.proofs.Common.{◌≡◌, ℕ, suc, ◌+◌, ◌-◌, ◌<◌, ◌≤◌, Bool, true, false, cond, ◌==◌, List, [], ◌∷◌, take, drop, length, position, Option, Some, None, is_some, refl, sym, ap, subst, ◌∙◌, ◌⊎◌, inl, inr, arith}
+use Rattle.std.proofs.Common.{◌≡◌, ℕ, suc, ◌+◌, ◌-◌, ◌<◌, ◌≤◌, Bool, true, false, cond, ◌==◌, List, [], ◌∷◌, take, drop, length, position, Option, Some, None, is_some, refl, sym, ap, subst, ◌∙◌, arith}
 use Rattle.std.proofs.Math.Seq.{drop-length}
-use Rattle.std.proofs.lemmas.List.{length-take, length-drop, drop-drop, nil_from_length}
-use Rattle.std.proofs.lemmas.Bool.{cases_lt}
+use Rattle.std.proofs.lemmas.List.{length-take, length-drop, drop-drop}
 use Rattle.std.specs.List.{prefix_len}
 use Rattle.mk_words.specs.Words.{is_space, behind_spaces}
 use Rattle.mk_pieces.specs.Brackets.{place_of, closing, is_parting, next_depth, with_byte, parted}
@@ -53,17 +52,6 @@ end-none text = (length text, sym (drop-length text))
 
 end-more : (b : ℕ) (rest text : List ℕ) → IsEnd rest text → IsEnd rest (b ∷ text)
 end-more b rest text (k, e) = (suc k, e)
-
-kept : (k : ℕ) (text : List ℕ) → (length text < k) ⊎ (k ≤ length text) → drop (length text - length (drop k text)) text ≡ drop k text
-kept k text (inr within) = let same : length text - length (drop k text) ≡ k = grind (arith, length-drop) in ap (λ n. drop n text) same
-kept k text (inl beyond) =
-    let none : length (drop k text) ≡ 0 = grind (arith, length-drop) in
-    let all : length text - length (drop k text) ≡ length text = omega (arith, none) in
-    ap (λ n. drop n text) all ∙ drop-length text ∙ sym (nil_from_length (drop k text) none)
-
--- how many bytes are left says which they are
-pub end-by-length : (rest text : List ℕ) → IsEnd rest text → drop (length text - length rest) text ≡ rest
-end-by-length rest text (k, e) = ap (λ r. drop (length text - length r) text) e ∙ kept k text (cases_lt (length text) k) ∙ sym e
 
 abbrev pub SizedPiece : ℕ → Piece → Type 0
 SizedPiece n (plain bytes) = Unit {0}

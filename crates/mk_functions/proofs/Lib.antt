@@ -1,4 +1,6 @@
 mod FrontLemmas
+mod ListLemmas
 mod OutcomeLemmas
 mod SomeOutcomeLemmas
 mod SortLemmas
+mod WaitingLemmas

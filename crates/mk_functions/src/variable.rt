@@ -18,3 +18,11 @@ pub enum Origin {
     Override,
     Automatic,
 }
+
+/// What a name stands for.
+#[derive(Clone, Copy)]
+pub struct Variable<'a> {
+    pub text: &'a [u8],
+    pub flavor: Flavor,
+    pub origin: Origin,
+}
