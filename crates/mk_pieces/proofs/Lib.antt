@@ -1,2 +1,4 @@
+mod ArgumentLemmas
 mod BracketLemmas
+mod NameLemmas
 mod TableLemmas

@@ -4,6 +4,8 @@
 mod arguments;
 mod brackets;
 mod function;
+pub mod laws;
+mod names;
 mod piece;
 
 pub use arguments::Arguments;

@@ -1,4 +1,4 @@
-use Rattle.std.proofs.Common.{◌≡◌, ◌∙◌, ◌+◌, ◌-◌, ◌≤◌, ◌∷◌, length, take, drop, Some, sym, ap, subst, arith}
+use Rattle.std.proofs.Common.{◌≡◌, ◌∙◌, ◌+◌, ◌-◌, ◌∷◌, length, take, drop, sym, ap, subst, arith}
 use Rattle.std.proofs.lemmas.List.{take_all, length-drop}
 use Rattle.mk_pieces.specs.Brackets.{parted}
 use Rattle.mk_pieces.proofs.BracketLemmas.{IsParted, is_cut}

@@ -1,4 +1,4 @@
-use Rattle.std.proofs.Common.{◌≡◌, ◌∙◌, ◌+◌, ◌-◌, ◌<◌, ◌≤◌, length, take, drop, Some, sym, ap, arith}
+use Rattle.std.proofs.Common.{◌≡◌, ◌∙◌, ◌-◌, length, take, drop, sym, ap, arith}
 use Rattle.std.proofs.lemmas.List.{take_all, length-drop, length-take}
 use Rattle.mk_words.specs.Words.{behind_spaces}
 use Rattle.mk_words.proofs.WordLemmas.{length-behind_spaces}
