@@ -86,8 +86,14 @@ of_three Subst from to text = given (substituted from to text)
 of_three PatSubst pattern replacement text = given (patsubst_of (pattern_of pattern) replacement text)
 of_three WordList first last text = counted (OfThree WordList) (word_list_of first last text)
 
--- what a function comes to, by the values of its arguments; further values are passed over. By `call` a function may have none, and then one
--- that needs none has no bytes. Those that don't expand all of their arguments can't be called so (own)
+-- values, each behind a comma and a space
+abbrev pub behind_commas : List (List ℕ) → List ℕ
+behind_commas [] = []
+behind_commas (text ∷ more) = 44 ∷ 32 ∷ (text ++ behind_commas more)
+
+-- what a function comes to, by the values of its arguments; further values are passed over, but by a message, of which they are a part. By
+-- `call` a function may have none, and then one that needs none has no bytes. Those that don't expand all of their arguments can't be
+-- called so (own)
 abbrev pub applied : Answers → Variables → Function → (values : List (List ℕ)) → Outcome
 applied answers variables (OfWords f) [] = gives []
 applied answers variables (OfWords f) (text ∷ more) = given (of_words f text)
@@ -97,7 +103,7 @@ applied answers variables (Asks question) [] = gives []
 applied answers variables (Asks question) (text ∷ more) = given (answers question text)
 applied answers variables (Says message) values = gives []
 applied answers variables Error [] = gives []
-applied answers variables Error (text ∷ more) = fails (told text)
+applied answers variables Error (text ∷ more) = fails (told (text ++ behind_commas more))
 applied answers variables (OfTwo f) (one ∷ other ∷ more) = of_two f one other
 applied answers variables (OfTwo f) _ = fails (too_few (OfTwo f))
 applied answers variables (OfThree f) (one ∷ two ∷ three ∷ more) = of_three f one two three

@@ -1,9 +1,9 @@
 //! Functions that are called with the values of their arguments. Further values are passed over.
-ghost use Rattle.std.specs.Prelude.{◌≡◌, [], IfOk};
+ghost use Rattle.std.specs.Prelude.{◌≡◌, ◌++◌, [], IfOk};
 ghost use Rattle.mk_functions.specs.Variables.{Variables};
 ghost use Rattle.mk_functions.specs.Scope.{variable_in};
 ghost use Rattle.mk_functions.specs.Outcome.{gives};
-ghost use Rattle.mk_functions.specs.Values.{Answers, applied};
+ghost use Rattle.mk_functions.specs.Values.{Answers, behind_commas, applied};
 ghost use Rattle.mk_functions.specs.Steps.{answers};
 ghost use Rattle.mk_functions.specs.Shown.{texts, step_of};
 ghost use Rattle.mk_functions.specs.Waiting.{site_at, stack_of};
@@ -65,6 +65,21 @@ fn ask<'a, O: Outside>(
     }
 }
 
+/// A message that further values are a part of, each behind a comma and a space.
+fn message_of(alloc: Global, first: &[u8], more: &[Vec<u8>]) -> Result<Vec<u8>, AllocError>
+    ensures { IfOk result (λ v. v.items ≡ first.now ++ behind_commas (texts more.now)) }
+{
+    let mut out = Vec::from_slice(alloc, first)?;
+    let mut left = more;
+    while let Some((text, others)) = left.split_first() {
+        out.push(b',')?;
+        out.push(b' ')?;
+        out.extend_from_slice(text.as_slice())?;
+        left = others;
+    }
+    Ok(out)
+}
+
 fn say<'a, O: Outside>(
     alloc: Global,
     outside: &mut O,
@@ -74,8 +89,9 @@ fn say<'a, O: Outside>(
     ensures step { IfOk result (λ s. (w : Answers) (variables : Variables) → step_of s ≡ answers (applied w variables (Function.Says message) (texts values.now))) }
     ensures narrows { (w : Answers) → O.allows outside.new w → O.allows outside.old w }
 {
-    if let Some(text) = values.first() {
-        outside.say(alloc, message, text.as_slice())?;
+    if let Some((text, more)) = values.split_first() {
+        let said = message_of(alloc, text.as_slice(), more)?;
+        outside.say(alloc, message, said.as_slice())?;
     }
     Ok(nothing(alloc))
 }
@@ -84,9 +100,12 @@ fn say<'a, O: Outside>(
 fn tell<'a>(alloc: Global, values: &[Vec<u8>]) -> Result<Step<'a>, AllocError>
     ensures { IfOk result (λ s. (w : Answers) (variables : Variables) → step_of s ≡ answers (applied w variables Function.Error (texts values.now))) }
 {
-    match values.first() {
+    match values.split_first() {
         None => Ok(nothing(alloc)),
-        Some(text) => Ok(Step::Fails(Fault::Told(Vec::from_slice(alloc, text.as_slice())?))),
+        Some((text, more)) => {
+            let told = message_of(alloc, text.as_slice(), more)?;
+            Ok(Step::Fails(Fault::Told(told)))
+        }
     }
 }
 
